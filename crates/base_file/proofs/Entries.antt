@@ -1,4 +1,4 @@
--- What a base that looks up keys keeps, and what its look-ups say of the messages.
+-- The invariant of a base with look-ups by key, and the answers of its look-ups.
 use Rattle.std.proofs.Common.{◌≡◌, ℕ, zero, suc, ◌≤◌, length, take, ◌||◌, Bool, true, false, cond, List, [], ◌∷◌, ◌++◌, map, refl, sym, ap, subst, ◌∙◌, Option, Some, None, is_some, Result, Ok, Err, not, if◌then◌else◌, arith, inl, inr}
 use Rattle.std.specs.Prelude.{IfOk, OnErr, bytes_eq, option_map, slice_get, unwrap_or}
 use Rattle.std.specs.Cmp.Lexicographic.{bytes_decides}
@@ -43,7 +43,7 @@ other_key b tag id (Some x) h =
     and_right (bytes_eq b.echo.tag tag) (bytes_eq x id)
     (false_from_ne_true (bytes_eq x id) (λ e. true≢false (sym ((bytes_decides id x).1 (sym ((bytes_decides x id).0 e))) ∙ h)))
 
--- where no message has the id, none is known by it
+-- if no message has the id, no key with it is known
 pub none_known : (base : List Filed) (tag id : List ℕ) → list_any (has_id id) base ≡ false → is_known base (ById tag id) ≡ false
 unfolding key_of
 none_known [] tag id h = refl
@@ -71,13 +71,13 @@ any_weaker p q weaker (x ∷ xs) h =
     let parts = or_parts (p x) (list_any p xs) h in
     or_from (q x) (list_any q xs) (weaker x parts.0) (any_weaker p q weaker xs parts.1)
 
--- the tag is one of those that pass none of
+-- if no tag passes, a tag that passes is not among them
 not_among : (p : List ℕ → Bool) (tag : List ℕ) (tags : List (List ℕ)) → p tag ≡ true → list_any p tags ≡ false → list_any (bytes_eq tag) tags ≡ false
 not_among p tag tags passes =
     any_weaker p (bytes_eq tag)
     (λ t fails. false_from_ne_true (bytes_eq tag t) (λ e. true≢false (sym passes ∙ ap p ((bytes_decides tag t).0 e) ∙ fails))) tags
 
--- where no message is known by the id in any of its tags, none has it
+-- if the id is not known with any tag, no message has it
 pub no_such_id : (id : List ℕ) (tags : List (List ℕ)) (base : List Filed) → AllByRecursion (HasTagIn tags) base
     → list_any (λ t. is_known base (ById t id)) tags ≡ false → list_any (has_id id) base ≡ false
 unfolding key_of
@@ -123,7 +123,7 @@ pub more_tags : (tags tags' : List (List ℕ)) → ((t : List ℕ) → list_any 
 more_tags tags tags' more [] h = tt
 more_tags tags tags' more (m ∷ base) h = (more m.echo.tag h.0, more_tags tags tags' more base h.1)
 
--- entries whose tags became more
+-- entries after the list of tags grew
 pub still_entries : (entries : List (Key × Filed)) (tags tags' : List (List ℕ)) (cursor purged : ℕ)
     → ((t : List ℕ) → list_any (bytes_eq t) tags ≡ true → list_any (bytes_eq t) tags' ≡ true) → AreEntries entries tags cursor purged → AreEntries entries tags' cursor purged
 still_entries entries tags tags' cursor purged more h = record {
@@ -189,7 +189,7 @@ messages_after entries entries' key m (Ok true) is = ap values_of is ∙ values_
 messages_after entries entries' key m (Ok false) is = ap values_of is
 messages_after entries entries' key m (Err e) is = tt
 
--- the tag of a message whose tag is among the tags is among them
+-- if the tags include those of all messages, they include the tag of each one
 pub tag_of_one : (tags : List (List ℕ)) (tag : List ℕ) (base : List Filed) → AllByRecursion (HasTagIn tags) base
     → list_any (λ m. bytes_eq tag m.echo.tag) base ≡ true → list_any (bytes_eq tag) tags ≡ true
 tag_of_one tags tag [] h some = absurd (true≢false (sym some))
@@ -200,7 +200,7 @@ tag_of_one tags tag (m ∷ base) h some = elim (cases_Bool (bytes_eq tag m.echo.
   | inr other ↦ tag_of_one tags tag base h.1 (ap (λ b. b || list_any (λ m. bytes_eq tag m.echo.tag) base) (sym other) ∙ some)
 ]
 
--- where an entry has a message that passes, one of the messages does
+-- if the message of an entry passes, one of the messages passes
 pub passes_at : (p : Filed → Bool) (entries : List (Key × Filed)) (i : ℕ) (key : Key) (m : Filed) → Some (key, m) ≡ slice_get entries i → p m ≡ true → list_any p (values_of entries) ≡ true
 passes_at p entries i key m is pass =
     let within = slice_get_within entries i (key, m) (sym is) in

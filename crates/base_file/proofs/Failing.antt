@@ -1,4 +1,4 @@
--- Why a base was not loaded, by what was taken of it.
+-- Why a call did not load a base, by the bytes that it consumed.
 use Rattle.std.proofs.Common.{◌≡◌, false, ℕ, ◌^◌, ◌<◌, ◌≤◌, List, [], ◌∷◌, ◌++◌, length, map, take, refl, sym, ap, subst, ◌∙◌, Option, Some, None, Result, Ok, Err, arith, inl, inr, true}
 use Rattle.std.specs.Prelude.{IfErr, IfOk, IfSome}
 use Rattle.std.specs.Io.KnownBytes.{Consumes}
@@ -115,7 +115,7 @@ message_cut version cursor number n messages b c fits within more many so came s
   cut = stops.cut;
 })
 
--- a damaged message stands in front of the rest
+-- a damaged message at the front of the remaining bytes
 message_damaged : (version : Version) (cursor number n : ℕ) (messages : List Filed) (a b c d : Option (List ℕ)) → number < 2 ^ 32 → cursor ≤ number → n < number → n ≡ length messages
     → Consumes a b (head_bytes version cursor number) → (so : HasTaken version cursor messages b c) → TakesDamaged version cursor messages c d
     → IfSome a (λ bytes. IsDamagedAt n bytes)
@@ -189,7 +189,7 @@ base_taken head base a b c first rest =
       },
     )
 
--- whatever else is so of the bytes is the answer
+-- an answer that describes the bytes is the only one
 pub only_answer : (old new : Option (List ℕ)) (r : Result Base BaseFault) (other : Result Loaded BaseFault)
     → IfOk r (λ base. TakesBase base.messages base.cursor old new) → IfErr r (FailsToLoad old new)
     → IfSome old (λ bytes. AreBytes bytes → LoadOf bytes other → AnswersLoad r other)

@@ -20,18 +20,18 @@ use Rattle.base_file.specs.declared.fault.BaseFault.{BaseFault}
 use Rattle.base_file.specs.declared.fault.BaseFault.TheVariants as fault
 use Rattle.base_file.specs.BaseFile.{AreSound, BaseOf, Begins, EndsInside, IsDamagedAt, IsNoBase, LoadOf, Loaded, head_bytes, is_damaged, is_front, magic}
 
--- the messages and what follows them, or a fault
+-- the messages and the bytes after them, or a fault
 abbrev Messages : Type 0
 Messages = Result (List Filed × List ℕ) BaseFault
 
--- the answer where this message, if a whole one stands there, comes after the earlier ones
+-- the answer if this message is whole and follows the earlier ones
 judged : Version → ℕ → List Filed → (List Filed → List ℕ → Messages) → Option (Stored × List ℕ) → Messages
 judged version cursor earlier more None = Err (fault.Truncated (length earlier))
 judged version cursor earlier more (Some found) =
     cond (is_damaged version cursor earlier found.0) (Err (fault.Damaged (length earlier)))
     (more (earlier ++ message_in version found.0 ∷ []) found.1)
 
--- so many messages, read one by one after the earlier ones
+-- this many messages, read one by one after the earlier ones
 messages_in : Version → ℕ → List Filed → ℕ → List ℕ → Messages
 messages_in version cursor earlier zero bytes = Ok (earlier, bytes)
 messages_in version cursor earlier (suc n) bytes =
@@ -45,7 +45,7 @@ finished bytes cursor (Err refused) = Err refused
 version_of : List ℕ → Version
 version_of bytes = cond (starts_with nat_eq (magic First) (take 8 bytes)) First Second
 
--- what the bytes are
+-- the outcome of loading the bytes
 pub load_outcome : List ℕ → Result Loaded BaseFault
 load_outcome bytes =
     cond (is_front bytes)
@@ -76,7 +76,7 @@ sound_front version cursor earlier (s ∷ later) more rest sizes sound =
     ∙ sound_front version cursor next later more rest sizes.1 sound.1
     ∙ ap (λ (now : List Filed). messages_in version cursor now more rest) (append_assoc earlier (message_in version s ∷ []) (map (message_in version) later))
 
--- what a head tells of the bytes that begin with it
+-- the facts that a head gives about the bytes that begin with it
 record HeadTells (version : Version) (cursor number : ℕ) (rest bytes : List ℕ) : Type 0 where
   front : is_front bytes ≡ true
   room : 16 ≤ length bytes
@@ -104,7 +104,7 @@ head_tells Second cursor number rest = record {
   behind = refl;
 }
 
--- what the bytes are, behind their head
+-- the outcome of the bytes after their head
 behind_head : (version : Version) (cursor number : ℕ) (rest bytes : List ℕ) → cursor ≤ number → bytes ≡ head_bytes version cursor number ++ rest
     → load_outcome bytes ≡ finished bytes cursor (messages_in version cursor [] number rest)
 unfolding load_outcome
@@ -225,7 +225,7 @@ no_base_is bytes (inr h) = elim (cases_Bool (is_front bytes)) [
   | inr other ↦ sym (no_front bytes other)
 ]
 
--- whatever is so of the bytes is the outcome
+-- an answer that describes the bytes is the outcome
 pub only_outcome : (bytes : List ℕ) → AreBytes bytes → (answer : Result Loaded BaseFault) → LoadOf bytes answer → answer ≡ load_outcome bytes
 only_outcome bytes are (Ok found) h = base_is bytes found h.0 h.1
 only_outcome bytes are (Err fault.NotBase) h = no_base_is bytes h
@@ -239,7 +239,7 @@ only_outcome bytes are (Err (fault.Write n)) h = absurd h
 only_outcome bytes are (Err fault.Memory) h = absurd h
 only_outcome bytes are (Err fault.TooMany) h = absurd h
 
--- one more message that may stand after the earlier ones
+-- one more message that may follow the earlier ones
 pub sound_more : (version : Version) (cursor : ℕ) (earlier : List Filed) (all : List Stored) (s : Stored) → AreSound version cursor earlier all
     → is_damaged version cursor (earlier ++ map (message_in version) all) s ≡ false → AreSound version cursor earlier (all ++ s ∷ [])
 sound_more version cursor earlier [] s h new =
@@ -278,13 +278,13 @@ begins_more version cursor number all s left rest bytes b e size fine = record {
       ∙ ap (λ bs. head_bytes version cursor number ++ bs) (bytes_more version all s rest);
 }
 
--- what the rest of a base is to be answered with, behind sound messages
+-- the answer for the rest of a base, after sound messages
 abbrev Rest : Version → ℕ → ℕ → List ℕ → ℕ → Type 0
 Rest version cursor number bytes more =
     (all : List Stored) (rest : List ℕ) → Begins version cursor number all rest bytes → number ≡ length all + more → AreBytes rest
     → LoadOf bytes (finished bytes cursor (messages_in version cursor (map (message_in version) all) more rest))
 
--- the whole base, where no message is left
+-- the whole base, if no message remains
 pub whole_loads : (version : Version) (cursor number : ℕ) (bytes : List ℕ) (all : List Stored) (rest : List ℕ) → Begins version cursor number all rest bytes → number ≡ length all
     → LoadOf bytes (Ok (map (message_in version) all, cursor, length bytes - length rest))
 whole_loads version cursor number bytes all rest b many =
@@ -316,7 +316,7 @@ none_left : (version : Version) (cursor number : ℕ) (bytes : List ℕ) → Res
 unfolding messages_in finished
 none_left version cursor number bytes all rest b count are = whole_loads version cursor number bytes all rest b (omega arith)
 
--- one message more, where one stands there
+-- one more message, if the bytes have one
 one_left : (version : Version) (cursor number more : ℕ) (bytes : List ℕ) → Rest version cursor number bytes more → (all : List Stored) (rest : List ℕ)
     → Begins version cursor number all rest bytes → number ≡ length all + suc more → AreBytes rest → (found : Stored × List ℕ) → Stands version rest found.0 found.1
     → LoadOf bytes (finished bytes cursor (judged version cursor (map (message_in version) all) (λ now left. messages_in version cursor now more left) (Some found)))
@@ -447,7 +447,7 @@ has_head v bytes are room is =
       number_fits = fits;
     }
 
--- the outcome is so of the bytes
+-- the outcome describes the bytes
 pub outcome_loads : (bytes : List ℕ) → AreBytes bytes → LoadOf bytes (load_outcome bytes)
 outcome_loads bytes are =
     let P : Result Loaded BaseFault → Type 0 = LoadOf bytes in

@@ -15,7 +15,7 @@ use Rattle.base_file.proofs.Saved.{not_damaged, size_at, stored_says}
 use Rattle.base_file.proofs.SavedAgain.{stored_at_back}
 use Rattle.base_file.proofs.Verdicts.{known_damaged, wrong_damaged}
 
--- a message in front of bytes, and what follows it, are the only ones
+-- a message at the front of bytes is unique, and so are the bytes after it
 only_front : (s t : Stored) (rest more : List ℕ) → IsStored Second s → IsStored Second t → stored_bytes Second s ++ rest ≡ stored_bytes Second t ++ more → (s ≡ t) × (rest ≡ more)
 only_front s t rest more size size' same =
     let one : Some (s, rest) ≡ Some (t, more) = sym (stored_again Second s rest size) ∙ ap (stored_in Second) same ∙ stored_again Second t more size' in
@@ -52,13 +52,13 @@ none_wrong s bytes cursor size same at wrong m alone =
     let right : MayStandAlone s = subst MayStandAlone (sym one) alone.alone in
     true≢false (sym (wrong_damaged Second (cursor_alone s) 0 [] s refl (ap (λ (n : ℕ). is_wrong Second n 0 s) (sym at) ∙ wrong)) ∙ right)
 
--- nor are bytes behind which others follow
+-- bytes with more bytes after a message are no message alone
 pub none_longer : (s : Stored) (bytes rest : List ℕ) → IsStored Second s → bytes ≡ stored_bytes Second s ++ rest → 0 < length rest → (m : Filed) → IsStoredAlone m bytes → ⊥
 none_longer s bytes rest size same more m alone =
     let none : rest ≡ [] = (only_front s alone.s rest [] size alone.size (sym same ∙ alone.same ∙ sym (append-nil (stored_bytes Second alone.s)))).1 in
     omega (arith, more, ap length none)
 
--- nor those that end inside one
+-- bytes that end inside a message are no message alone
 pub none_cut : (bytes : List ℕ) → AreBytes bytes → StopsIn Second bytes → (m : Filed) → IsStoredAlone m bytes → ⊥
 none_cut bytes are stops m alone =
     let read : stored_in Second bytes ≡ Some (alone.s, []) =
@@ -81,7 +81,7 @@ form_alone s cursor place true is right =
 form_alone s cursor place false is right =
     cond-false (has_tag Second s.kind) (not (is_short Second 0 0 (message_in Second s))) (is_short Second 0 0 (message_in Second s)) is
 
--- a message of a base may stand alone
+-- each message of a base may be alone in one
 pub stands_alone : (s : Stored) (cursor : ℕ) (earlier : List Filed) → is_damaged Second cursor earlier s ≡ false → MayStandAlone s
 unfolding is_damaged
 stands_alone s cursor earlier h =

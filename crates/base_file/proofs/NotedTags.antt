@@ -22,7 +22,7 @@ passes_later : (b c : Bool) → c ≡ true → (b || c) ≡ true
 passes_later true c h = refl
 passes_later false c h = h
 
--- what passes of some keys and a new one passes of those, or the new one does
+-- if an element passes after an insertion, it is a new or an old one
 inserted : {K : Type 0} (p : K → Bool) (order : K → K → Ordering) (ks : List K) (k : K)
     → list_any p (insert_key order ks k) ≡ true → (p k ≡ true) ⊎ (list_any p ks ≡ true)
 inserted p order [] k h = either_passes (p k) false h

@@ -11,7 +11,7 @@ use Rattle.base_file.proofs.Loading.{only_outcome}
 two_loads : (bytes : List ℕ) → AreBytes bytes → (a b : Result Loaded BaseFault) → LoadOf bytes a → LoadOf bytes b → a ≡ b
 two_loads bytes are a b h g = only_outcome bytes are a h ∙ sym (only_outcome bytes are b g)
 
-pub same_ok : (x y : Loaded) (a b : Result Loaded BaseFault) → a ≡ Ok x → b ≡ Ok y → a ≡ b → x ≡ y
+same_ok : (x y : Loaded) (a b : Result Loaded BaseFault) → a ≡ Ok x → b ≡ Ok y → a ≡ b → x ≡ y
 same_ok x y a b h g e = cc
 
 pub only_base : (base other : List Filed) (cursor at : ℕ) (bytes : List ℕ) → AreBytes bytes → BaseOf base cursor bytes → BaseOf other at bytes

@@ -1,4 +1,4 @@
--- A base file judged in pieces: what a judgement says of all its bytes.
+-- Judging a base file in pieces, and the result for all its bytes.
 use Rattle.std.proofs.Common.{◌≡◌, ℕ, ◌-◌, ◌≤◌, Bool, false, List, [], ◌∷◌, ◌++◌, length, map, take, drop, refl, sym, ap, ◌∙◌, Result, Ok, Err, arith}
 use Rattle.std.specs.Prelude.{IfOk}
 use Rattle.std.proofs.lemmas.List.{append_assoc, drop-append-le, length-append, length-map, take-append-drop, take-append-le, take_at}
@@ -80,7 +80,7 @@ in_front : (version : Version) (cursor place : ℕ) (rest piece more : List ℕ)
 in_front version cursor place rest piece more s size within same e =
     sym (take-append-drop size rest) ∙ ap (λ bs. bs ++ drop size rest) (ap (take size) e ∙ take-append-le size piece more within ∙ sym same)
 
--- a message that may come next, behind sound ones
+-- a message that may be next, after sound ones
 pub next_begins : (version : Version) (cursor number place : ℕ) (all : List Stored) (rest piece more bytes : List ℕ) (key : Key) (size : ℕ) (short : Bool)
     → Begins version cursor number all rest bytes → place ≡ length all → rest ≡ piece ++ more → (j : IsJudged version cursor place piece (next.Sound key size short))
     → is_known (map (message_in version) all) key ≡ false → Begins version cursor number (all ++ j.s ∷ []) (drop size rest) bytes

@@ -74,7 +74,7 @@ place_split all i cursor m at =
     ap (λ l. l ++ (map stub_of (drop (i + 1) (take cursor all)) ++ drop cursor all)) (front_more all i m at)
     ∙ append_assoc (take i all) (m ∷ []) (map stub_of (drop (i + 1) (take cursor all)) ++ drop cursor all)
 
--- and once it is a stub too
+-- the same list after that message became a stub
 pub place_joined : (all : List Filed) (i cursor : ℕ) (m : Filed) → slice_get all i ≡ Some m → i < cursor
     → from_place all i cursor ≡ take i all ++ stub_of m ∷ (map stub_of (drop (i + 1) (take cursor all)) ++ drop cursor all)
 place_joined all i cursor m at before =
@@ -151,7 +151,7 @@ last_same {X} (a ∷ xs) (b ∷ ys) x y h =
     let more = last_same xs ys x y rest in
     (λ i. front i ∷ more.0 i, more.1)
 
--- what is known of the message before the place that is reached
+-- the message before the current place
 module _ (all now : List Filed) (k cursor : ℕ) (m : Filed) (some : 0 < k) (before : k ≤ cursor) (within : cursor ≤ length all)
     (is : now ≡ from_place all k cursor) (at : slice_get now (k - 1) ≡ Some m) where
   here : k ≡ (k - 1) + 1

@@ -1,4 +1,4 @@
--- What is saved of a base is a base file of it.
+-- The saved bytes of a base are a base file of it.
 use Rattle.std.proofs.Common.{◌≡◌, ◌≢◌, ℕ, suc, codes, ◌+◌, ◌^◌, ◌<◌, ◌≤◌, ◌==◌, ◌&&◌, ◌||◌, not, nat_lt, nat_le, Bool, true, false, cond, List, [], ◌∷◌, ◌++◌, length, map, refl, sym, ap, subst, ◌∙◌, Option, Some, None, Ok, arith, lit<}
 use Rattle.std.specs.Prelude.{bytes_eq, is_some, is_none, unwrap_or, ⊤}
 use Rattle.std.specs.Cmp.Lexicographic.{pointwise, bytes_decides}
@@ -43,7 +43,7 @@ told_is true (Some a) = refl
 told_is false None = refl
 told_is false (Some a) = refl
 
--- a message that is stored in short: it has an id and nothing that a purge takes
+-- a message that a base stores in short form: it has an id, and a purge changes nothing
 record IsShort (m : Filed) : Type 0 where
   id : List ℕ
   has : msgid_of m.echo.kept ≡ Some id
@@ -71,7 +71,7 @@ short_of m h =
       path = nil_from_length m.echo.path (eqb-true (length m.echo.path) 0 p2.1);
     }
 
--- short says what it is to say
+-- short form means what it should
 abbrev IsFormOf : Bool → Filed → Type 0
 IsFormOf true m = IsShort m
 IsFormOf false m = ⊤
@@ -94,7 +94,7 @@ echo_back false m is h =
     cond-false (has_tag Second (kind_of false m.sender)) (bare [] (text_of m.echo)) (echo_of (text_of m.echo)) (tagged false m.sender)
     ∙ written_back m.echo is
 
--- what is stored says the message
+-- the stored form gives the message back
 stored_back : (short : Bool) (m : Filed) → IsEcho m.echo → IsFormOf short m → message_in Second (stored_as short m) ≡ m
 unfolding message_in
 stored_back short m is h =
@@ -134,7 +134,7 @@ text_right e is =
     (not_from_true (bytes_eq (text_of (echo_of (text_of e))) (text_of e))
     ((bytes_decides (text_of (echo_of (text_of e))) (text_of e)).1 (ap text_of (written_back e is)))))
 
--- the end of bytes that may stand in a line
+-- the end of bytes that a line may contain
 plain_end : (front back : List ℕ) → Plain (front ++ back) → list_all is_line_byte back ≡ true
 plain_end [] [] h = refl
 plain_end [] (b ∷ back) h =
@@ -173,7 +173,7 @@ form_right cursor place false m is e h =
     cond-false (has_tag Second (kind_of false m.sender)) (not (is_short Second cursor place (message_in Second (stored_as false m)))) (is_short Second cursor place (message_in Second (stored_as false m))) (tagged false m.sender)
     ∙ (ap (is_short Second cursor place) (stored_back false m is h) ∙ e)
 
--- a message that stands in a base after the earlier ones is not damaged
+-- a message that follows the earlier ones in a base is not damaged
 stored_right : (cursor : ℕ) (earlier : List Filed) (m : Filed) → IsFiled m → is_known earlier (key_of m) ≡ false → (short : Bool) → is_short Second cursor (length earlier) m ≡ short
     → is_damaged Second cursor earlier (stored_as short m) ≡ false
 unfolding is_damaged
@@ -186,7 +186,7 @@ stored_right cursor earlier m h new short e =
     (or_from (has_wrong_form Second cursor (length earlier) (stored_as short m)) _ (form_right cursor (length earlier) short m h.is_echo e form)
     (ap (λ (x : Filed). is_known earlier (key_of x)) (stored_back short m h.is_echo form) ∙ new)))))
 
--- what is stored at a place says the message
+-- the stored form at a place gives the message
 pub stored_says : (cursor place : ℕ) (m : Filed) → IsEcho m.echo → message_in Second (stored_at cursor place m) ≡ m
 unfolding stored_at
 stored_says cursor place m is =
@@ -274,7 +274,7 @@ all_sizes cursor place (m ∷ later) all enough =
     let parts = and_parts (is_short_enough (stored_at cursor place m)) (list_all is_short_enough (stored_from cursor (place + 1) later)) enough in
     (size_at cursor place m all.0 parts.0, all_sizes cursor (place + 1) later all.1 parts.1)
 
--- a base that is not too large is read back from what is saved of it
+-- a base that is not too large loads from its saved bytes
 pub saved_is_base : (base : List Filed) (cursor : ℕ) → IsBase base cursor → is_countable base cursor ≡ true → BaseOf base cursor (saved_bytes base cursor)
 unfolding saved_bytes is_countable
 saved_is_base base cursor h few =

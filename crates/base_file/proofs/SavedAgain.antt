@@ -57,7 +57,7 @@ form_back true true h = refl
 form_back true false h = sym h
 form_back false short h = h
 
--- what is stored of the message is what stood there
+-- storing a loaded message gives the bytes that it had
 stored_as_back : (s : Stored) → IsStored Second s → is_other_kind Second s.kind ≡ false → has_wrong_sender s ≡ false → has_wrong_last Second s ≡ false
     → stored_as (has_tag Second s.kind) (message_in Second s) ≡ s
 unfolding message_in
@@ -118,7 +118,7 @@ second_by First cursor number rest bytes whole front =
     two_marks n one two = omega arith
 second_by Second cursor number rest bytes whole front = refl
 
--- what is saved again, and that four bytes count it
+-- the bytes of the second save, which four bytes can count
 pub record SavesAgain (base : List Filed) (cursor : ℕ) (bytes : List ℕ) : Type 0 where
   pub countable : is_countable base cursor ≡ true
   pub same : saved_bytes base cursor ≡ bytes

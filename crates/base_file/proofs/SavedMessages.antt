@@ -62,7 +62,7 @@ all_parts cursor i all m at =
     sym (ap (flat_map (stored_bytes Second)) (from_parts cursor i all m at)
     ∙ flat_map-append (stored_bytes Second) (stored_from cursor 0 (take i all)) (stored_at cursor i m ∷ stored_from cursor (i + 1) (drop (suc i) all)))
 
--- each message is short enough where all are
+-- each message is short enough if all are
 pub enough_here : (cursor i : ℕ) (all : List Filed) (m : Filed) → slice_get all i ≡ Some m → list_all is_short_enough (stored_from cursor 0 all) ≡ true
     → is_short_enough (stored_at cursor i m) ≡ true
 enough_here cursor i all m at enough =

@@ -1,4 +1,4 @@
--- A message that has tag and id in place of the text.
+-- A message with tag and id instead of the text.
 use Rattle.std.proofs.Common.{◌≡◌, ℕ, ◌<◌, ◌==◌, ◌&&◌, ◌||◌, not, nat_lt, Bool, true, false, List, [], ◌∷◌, length, refl, sym, ap, subst, ◌∙◌, Some, arith}
 use Rattle.std.specs.Prelude.{bytes_eq, is_some}
 use Rattle.std.specs.Cmp.Lexicographic.{bytes_decides, pointwise}
@@ -37,7 +37,7 @@ bare_text : (version : Version) (s : Stored) → has_tag version s.kind ≡ true
 unfolding message_in
 bare_text version s tagged = cond-true (has_tag version s.kind) (bare s.tag s.last) (echo_of s.last) tagged
 
--- and its id is the one that stands last
+-- its id is the last field
 last_is_id : (version : Version) (s : Stored) → has_tag version s.kind ≡ true → has_wrong_field version s ≡ false
     → msgid_of (message_in version s).echo.kept ≡ Some s.last
 last_is_id version s tagged right =
@@ -47,7 +47,7 @@ last_is_id version s tagged right =
     ap (λ (e : EchoText). msgid_of e.kept) (bare_text version s tagged)
     ∙ id_told s.last (or_parts (not (is_tag s.tag)) (is_wrong_id s.last) both).1
 
--- so its key is of the tag and this id
+-- its key has the tag and this id
 pub short_key : (version : Version) (s : Stored) → has_tag version s.kind ≡ true → has_wrong_field version s ≡ false
     → key_of (message_in version s) ≡ ById (message_in version s).echo.tag s.last
 unfolding key_of
@@ -74,7 +74,7 @@ short_once_scanned Second s tagged right cursor place =
     ∙ ap (λ b. nat_lt place cursor && b) (bare_is_stub Second s tagged right)
     ∙ and_true (nat_lt place cursor)
 
--- a message that was found with what stands last, where it has tag and id in place of the text
+-- the found message and its last field, if it has tag and id instead of the text
 pub found_short : (version : Version) (s : Stored) (with_tag : Bool) (p : Filed × List ℕ) → with_tag ≡ has_tag version s.kind → with_tag ≡ true
     → UnlessWrong (has_wrong_field version s) (message_in version s, s.last) (Some p)
     → IsShortOnceScanned version p.0 × (key_of p.0 ≡ ById p.0.echo.tag p.1)

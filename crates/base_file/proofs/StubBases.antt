@@ -29,7 +29,7 @@ all_drop zero base h = h
 all_drop (suc n) [] h = tt
 all_drop (suc n) (m ∷ base) h = all_drop n base h.1
 
--- the keys of a base are those that it had
+-- a purge changes no key
 pub purged_keys : (n : ℕ) (base : List Filed) → map key_of (map stub_of (take n base) ++ drop n base) ≡ map key_of base
 purged_keys zero base = refl
 purged_keys (suc n) [] = refl
@@ -67,7 +67,7 @@ new_by_keys earlier earlier' (x ∷ base) (y ∷ base') e k h =
     map_append earlier x ∙ (λ i. e i ++ same.0 i ∷ []) ∙ sym (map_append earlier' y) in
     (same_known earlier earlier' (key_of x) (key_of y) e same.0 h.0, new_by_keys (earlier ++ x ∷ []) (earlier' ++ y ∷ []) base base' longer same.1 h.1)
 
--- a base whose first messages became stubs is a base
+-- a base remains one if its first messages become stubs
 pub stubs_keep : (base : List Filed) (cursor : ℕ) → IsBase base cursor → IsBase (map stub_of (take cursor base) ++ drop cursor base) cursor
 stubs_keep base cursor h = record {
   each = all_append IsFiled (map stub_of (take cursor base)) (drop cursor base) (stubs_filed (take cursor base) (all_take cursor base h.each)) (all_drop cursor base h.each);
@@ -103,7 +103,7 @@ stubs_front zero base = tt
 stubs_front (suc n) [] = tt
 stubs_front (suc n) (m ∷ base) = ((stub_told (stub_of m)).1 (stub_of_stub m), stubs_front n base)
 
--- entries whose first messages became stubs
+-- entries after their first messages became stubs
 pub stub_entries : (entries later : List (Key × Filed)) (tags : List (List ℕ)) (cursor purged : ℕ) → AreEntries entries tags cursor purged → keys_of later ≡ keys_of entries
     → values_of later ≡ map stub_of (take cursor (values_of entries)) ++ drop cursor (values_of entries) → AreEntries later tags cursor cursor
 stub_entries entries later tags cursor purged h keys values =

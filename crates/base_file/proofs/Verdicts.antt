@@ -1,4 +1,4 @@
--- Whether a stored message may stand next in a base, test after test.
+-- The tests that decide if a stored message may be next in a base.
 use Rattle.std.proofs.Common.{◌≡◌, ◌==◌, ℕ, ◌||◌, not, Bool, true, false, List, [], ◌∷◌, length, refl, sym, ap, subst, ◌∙◌, Option, Some}
 use Rattle.std.specs.Prelude.{bytes_eq, is_none}
 use Rattle.std.specs.List.{list_all, list_any}
@@ -21,7 +21,7 @@ use Rattle.base_file.specs.BaseFile.{has_wrong_form, has_wrong_last, has_wrong_s
 use Rattle.base_file.specs.Loading.{UnlessWrong, is_wrong, said_last, wrong_last}
 use Rattle.base_file.proofs.Loaded.{filed_with, right_last}
 
--- a text that says an echo is wrong where it is not the one that is written
+-- a text that parses is wrong if the tosser writes it in another way
 pub text_wrong : (text : List ℕ) (e : EchoText) (dropped : ℕ) → list_any is_zero text ≡ false → EchoOf text e dropped → is_wrong_text text ≡ not (bytes_eq (text_of e) text)
 text_wrong text e dropped zero says =
     let read : not (is_none (text_refusal text)) ≡ false = ap (λ o. not (is_none o)) (says_accepted text e dropped says) in
@@ -43,7 +43,7 @@ bare_made tag id kept seen path right fine one no_seen no_path =
     let P : EchoText → Type 0 = IsEcho in
     subst P (λ i. record { tag = tag; kept = one' i; seen = seen' i; path = path' i }) made
 
--- a message whose fields are not wrong
+-- a message with correct fields
 pub message_made : (version : Version) (s : Stored) (sender : Option Address) (echo : EchoText) → IsStored version s → has_wrong_string s ≡ false → sender ≡ sender_in s
     → UnlessWrong (has_wrong_last version s) (said_last (has_tag version s.kind) s.tag s.last) (Some echo)
     → IsFiled (record { sender = sender; date = s.date; to_name = s.to_name; from_name = s.from_name; subject = s.subject; echo = echo })
@@ -75,7 +75,7 @@ damaged_by version cursor earlier s =
     regrouped (is_other_kind version s.kind) (has_wrong_sender s) (has_wrong_string s) (has_wrong_last version s)
     (has_wrong_form version cursor (length earlier) s) (is_known earlier (key_of (message_in version s)))
 
--- it is damaged where it is wrong, and else where an earlier message has its key
+-- a message is damaged if it is wrong, or if an earlier message has its key
 pub wrong_damaged : (version : Version) (cursor place : ℕ) (earlier : List Filed) (s : Stored) → place ≡ length earlier → is_wrong version cursor place s ≡ true
     → is_damaged version cursor earlier s ≡ true
 wrong_damaged version cursor place earlier s at_end wrong =
@@ -90,7 +90,7 @@ known_damaged version cursor place earlier s m known at_end right told is =
     ∙ ap (λ x. is_known earlier (key_of x)) (sym told)
     ∙ is
 
--- what stands after the subject, where its parts are named in another way
+-- the bytes after the subject, with other names for their parts
 pub last_said : (version : Version) (s : Stored) (with_tag : Bool) (last : List ℕ) (o : Option EchoText) (echo : EchoText) → with_tag ≡ has_tag version s.kind → last ≡ s.last
     → o ≡ Some echo → UnlessWrong (wrong_last with_tag s.tag last) (said_last with_tag s.tag last) o
     → UnlessWrong (has_wrong_last version s) (said_last (has_tag version s.kind) s.tag s.last) (Some echo)
@@ -98,6 +98,6 @@ last_said version s with_tag last o echo tagged same is h =
     let P : Bool → List ℕ → Option EchoText → Type 0 = λ t l x. UnlessWrong (wrong_last t s.tag l) (said_last t s.tag l) x in
     subst (P (has_tag version s.kind) s.last) is (subst (λ l. P (has_tag version s.kind) l o) same (subst (λ t. P t last o) tagged h))
 
--- what is found is the value, and not wrong
+-- the found value is correct
 pub found_right : {X : Type 0} (wrong : Bool) (x y : X) (o : Option X) → o ≡ Some y → UnlessWrong wrong x o → (wrong ≡ false) × (y ≡ x)
 found_right wrong x y o is h = subst (UnlessWrong wrong x) is h

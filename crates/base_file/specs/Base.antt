@@ -4,22 +4,22 @@ use Rattle.std.specs.List.{AllByRecursion, list_any}
 use Rattle.echo_filed.specs.declared.key.Key.{Key}
 use Rattle.echo_filed.specs.Filed.{Filed, IsFiled, key_of, same_key}
 
--- whether a message of the base has the key
+-- A message of the base has the key.
 abbrev pub is_known : List Filed → Key → Bool
 is_known base key = list_any (λ m. same_key (key_of m) key) base
 
--- no message has a key that one before it has
+-- No message has the key of an earlier one.
 abbrev pub AreNew : List Filed → List Filed → Type 0
 AreNew earlier [] = ⊤
 AreNew earlier (m ∷ later) = (is_known earlier (key_of m) ≡ false) × AreNew (earlier ++ m ∷ []) later
 
--- the rules of each base and its cursor
+-- The rules for each base and its cursor.
 pub record IsBase (base : List Filed) (cursor : ℕ) : Type 0 where
   pub each : AllByRecursion IsFiled base
   pub new : AreNew [] base
   pub within : cursor ≤ length base
 
--- a base: the messages in order of filing, and the cursor
+-- A base: the messages in order of filing, and the cursor.
 pub record Base : Type 0 where
   pub messages : List Filed
   pub cursor : ℕ

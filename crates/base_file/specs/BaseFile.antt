@@ -14,49 +14,49 @@ use Rattle.base_file.specs.declared.fault.BaseFault.{BaseFault}
 use Rattle.base_file.specs.declared.fault.BaseFault.TheVariants as fault
 use Rattle.base_file.specs.Base.{is_known}
 
--- the first bytes of a base
+-- The first bytes of a base file.
 abbrev pub magic : Version → List ℕ
 magic First = codes "ECHOBAS1"
 magic Second = codes "ECHOBAS2"
 
--- a first byte that the version does not have
+-- A first byte that the version does not have.
 abbrev pub is_other_kind : Version → ℕ → Bool
 is_other_kind First kind = nat_lt 1 kind
 is_other_kind Second kind = nat_lt 3 kind
 
--- a posted message with a sender
+-- A posted message with a sender.
 abbrev pub has_wrong_sender : Stored → Bool
 has_wrong_sender s = is_posted s.kind && not ((s.zone == 0) && ((s.net == 0) && (s.node == 0)))
 
--- bytes that are too many or hold a 00
+-- The bytes are too many or contain a 00.
 abbrev pub is_no_string : ℕ → List ℕ → Bool
 is_no_string most s = nat_lt most (length s) || list_any is_zero s
 
--- a name or the subject has 00 or is too long
+-- A name or the subject contains a 00 or is too long.
 abbrev pub has_wrong_string : Stored → Bool
 has_wrong_string s = is_no_string max_name s.to_name || (is_no_string max_name s.from_name || is_no_string max_subject s.subject)
 
--- a text with a 00, one that is no echomail, or one that is not written so
+-- The text contains a 00, is no echomail, or differs from the text that the tosser writes for it.
 abbrev pub is_wrong_text : List ℕ → Bool
 is_wrong_text text =
     list_any is_zero text || (not (is_none (text_refusal text)) || not (bytes_eq (text_of (echo_of text)) text))
 
--- an empty id, or one with 00 or 0D, or with a blank at an end
+-- The id is empty, contains 00 or 0D, or has a blank at an end.
 abbrev pub is_wrong_id : List ℕ → Bool
 is_wrong_id id = (length id == 0) || (not (list_all is_line_byte id) || not (bytes_eq (trimmed id) id))
 
--- the bytes after the subject are not right for a message
+-- The bytes after the subject do not fit a message.
 abbrev pub has_wrong_last : Version → Stored → Bool
 has_wrong_last version s =
     if has_tag version s.kind then not (is_tag s.tag) || is_wrong_id s.last else is_wrong_text s.last
 
--- the message has the text where tag and id should be, or the other way round
+-- The message has the text where tag and id should be, or the reverse.
 abbrev pub has_wrong_form : Version → ℕ → ℕ → Stored → Bool
 has_wrong_form version cursor place s =
     if has_tag version s.kind then not (is_short version cursor place (message_in version s))
     else is_short version cursor place (message_in version s)
 
--- the message must not come in a base after the earlier ones
+-- The message must not follow the earlier ones in a base.
 unfoldable pub is_damaged : Version → ℕ → List Filed → Stored → Bool
 is_damaged version cursor earlier s =
     is_other_kind version s.kind
@@ -65,17 +65,17 @@ is_damaged version cursor earlier s =
     || (has_wrong_last version s
     || (has_wrong_form version cursor (length earlier) s || is_known earlier (key_of (message_in version s))))))
 
--- each may come after those before it
+-- Each message may follow those before it.
 abbrev pub AreSound : Version → ℕ → List Filed → List Stored → Type 0
 AreSound version cursor earlier [] = ⊤
 AreSound version cursor earlier (s ∷ later) =
     (is_damaged version cursor earlier s ≡ false) × AreSound version cursor (earlier ++ message_in version s ∷ []) later
 
--- the first 16 bytes: the version, the cursor and the number of messages
+-- The first 16 bytes: the version, the cursor and the number of messages.
 unfoldable pub head_bytes : Version → ℕ → ℕ → List ℕ
 head_bytes version cursor number = magic version ++ (long cursor ++ long number)
 
--- head and messages: the first messages of a base, which may have more
+-- The head and the first messages of a base, which may have more.
 pub record Begins (version : Version) (cursor number : ℕ) (all : List Stored) (rest bytes : List ℕ) : Type 0 where
   pub number_fits : number < 2 ^ 32
   pub cursor_within : cursor ≤ number
@@ -83,22 +83,22 @@ pub record Begins (version : Version) (cursor number : ℕ) (all : List Stored) 
   pub sound : AreSound version cursor [] all
   pub whole : bytes ≡ head_bytes version cursor number ++ (flat_map (stored_bytes version) all ++ rest)
 
--- the bytes are a base of these messages and this cursor, of either version
+-- The bytes are a base of these messages and this cursor, in either version.
 pub record BaseOf (base : List Filed) (cursor : ℕ) (bytes : List ℕ) : Type 0 where
   pub version : Version
   pub all : List Stored
   pub begins : Begins version cursor (length all) all [] bytes
   pub messages : base ≡ map (message_in version) all
 
--- the first eight bytes, or fewer if fewer came, begin a base file
+-- The first eight bytes, or fewer at the end of the input, begin a base file.
 abbrev pub is_front : List ℕ → Bool
 is_front bytes = starts_with nat_eq (magic First) (take 8 bytes) || starts_with nat_eq (magic Second) (take 8 bytes)
 
--- no base begins so, or the cursor is past the number of messages
+-- The bytes do not begin a base, or the cursor is past the number of messages.
 abbrev pub IsNoBase : List ℕ → Type 0
 IsNoBase bytes = (is_front bytes ≡ false) ⊎ ((16 ≤ length bytes) × (long_at 12 bytes < long_at 8 bytes))
 
--- after this many whole messages more bytes come, and the input ends inside a message
+-- After n whole messages the input ends inside a message.
 pub record EndsInside (n : ℕ) (bytes : List ℕ) : Type 0 where
   pub version : Version
   pub cursor : ℕ
@@ -114,7 +114,7 @@ pub record EndsInside (n : ℕ) (bytes : List ℕ) : Type 0 where
   pub some : 0 < length missing
   pub cut : stored_bytes version next ≡ rest ++ missing
 
--- after this many sound messages comes one that is not
+-- After n sound messages, a damaged one follows.
 pub record IsDamagedAt (n : ℕ) (bytes : List ℕ) : Type 0 where
   pub version : Version
   pub cursor : ℕ
@@ -128,7 +128,7 @@ pub record IsDamagedAt (n : ℕ) (bytes : List ℕ) : Type 0 where
   pub size : IsStored version next
   pub damaged : is_damaged version cursor (map (message_in version) all) next ≡ true
 
--- the bytes have this fault
+-- The bytes have this fault.
 abbrev pub BaseFaultOf : List ℕ → BaseFault → Type 0
 BaseFaultOf bytes fault.NotBase = IsNoBase bytes
 BaseFaultOf bytes (fault.Truncated n) =
@@ -136,29 +136,29 @@ BaseFaultOf bytes (fault.Truncated n) =
 BaseFaultOf bytes (fault.Damaged n) = IsDamagedAt n bytes
 BaseFaultOf bytes _ = ⊥
 
--- the parts of a base file: the messages, the cursor, and their length in bytes
+-- The parts of a base file: the messages, the cursor, and their length in bytes.
 abbrev pub Loaded : Type 0
 Loaded = List Filed × ℕ × ℕ
 
--- the right answer of reading a base: the first bytes are this base, or the bytes have this fault
+-- The correct answer of reading a base: the first bytes are this base, or the bytes have this fault.
 abbrev pub LoadOf : List ℕ → Result Loaded BaseFault → Type 0
 LoadOf bytes (Ok found) = (found.2 ≤ length bytes) × BaseOf found.0 found.1 (take found.2 bytes)
 LoadOf bytes (Err refused) = BaseFaultOf bytes refused
 
--- the stored form of a message at this place
+-- The stored form of a message at this place.
 unfoldable pub stored_at : ℕ → ℕ → Filed → Stored
 stored_at cursor place m = stored_as (is_short Second cursor place m) m
 
--- the messages from a place on
+-- The messages from a place on.
 abbrev pub stored_from : ℕ → ℕ → List Filed → List Stored
 stored_from cursor place [] = []
 stored_from cursor place (m ∷ later) = stored_at cursor place m ∷ stored_from cursor (place + 1) later
 
--- the saved bytes of a base
+-- The saved bytes of a base.
 unfoldable pub saved_bytes : List Filed → ℕ → List ℕ
 saved_bytes base cursor =
     head_bytes Second cursor (length base) ++ flat_map (stored_bytes Second) (stored_from cursor 0 base)
 
--- and so of each message, and four bytes count the messages
+-- Four bytes can count the messages, and the text or id of each.
 unfoldable pub is_countable : List Filed → ℕ → Bool
 is_countable base cursor = nat_lt (length base) (2 ^ 32) && list_all is_short_enough (stored_from cursor 0 base)

@@ -9,21 +9,21 @@ use Rattle.echo_filed.specs.Filed.{Filed, key_of}
 use Rattle.echo_filed.specs.Stubs.{is_stub}
 use Rattle.base_file.specs.Base.{IsBase}
 
--- the tag of the message is among these
+-- The tag of the message is in the list.
 abbrev pub HasTagIn : List (List ℕ) → Filed → Type 0
 HasTagIn tags m = list_any (bytes_eq m.echo.tag) tags ≡ true
 
--- each key of the ordered list is one of the tags
+-- Each key of the ordered list is one of the tags.
 abbrev pub AreAmong : {K : Type 0} → (K → List ℕ) → List K → List K → Type 0
 AreAmong tag_of sorted tags =
     (tag : List ℕ) → list_any (λ k. is_eq (slice_cmp nat_cmp tag (tag_of k))) sorted ≡ true → list_any (bytes_eq tag) (map tag_of tags) ≡ true
 
--- this many messages from the front were scanned and are stubs
+-- The first `purged` messages were scanned and are stubs.
 pub record ArePurged (messages : List Filed) (cursor purged : ℕ) : Type 0 where
   pub within : purged ≤ cursor
   pub stubs : AllByRecursion (λ m. is_stub m ≡ true) (take purged messages)
 
--- the messages are a base, each has its key, its tag is among the tags, and the first ones are purged
+-- The messages are a base. Each has its key, its tag is among the tags, and the first ones are purged.
 pub record AreEntries (entries : List (Key × Filed)) (tags : List (List ℕ)) (cursor purged : ℕ) : Type 0 where
   pub is_base : IsBase (values_of entries) cursor
   pub own_keys : keys_of entries ≡ map key_of (values_of entries)

@@ -21,78 +21,77 @@ use Rattle.base_file.specs.declared.base.loading.Head.{Head}
 use Rattle.base_file.specs.Base.{Base}
 use Rattle.base_file.specs.BaseFile.{AreSound, BaseFaultOf, BaseOf, Loaded, has_wrong_form, has_wrong_last, has_wrong_sender, has_wrong_string, head_bytes, is_damaged, is_front, is_other_kind, is_wrong_id, is_wrong_text, magic}
 
--- the value, or none where it is wrong
+-- The value, or `None` if it is wrong.
 abbrev pub UnlessWrong : {X : Type 0} → Bool → X → Option X → Type 0
 UnlessWrong wrong x None = wrong ≡ true
 UnlessWrong wrong x (Some found) = (wrong ≡ false) × (found ≡ x)
 
--- the bytes after the subject are wrong, and the tag and text in them
+-- A test that finds wrong bytes after the subject, and the text that these bytes give.
 abbrev pub wrong_last : Bool → List ℕ → List ℕ → Bool
 wrong_last with_tag tag last = if with_tag then not (is_tag tag) || is_wrong_id last else is_wrong_text last
 
 abbrev pub said_last : Bool → List ℕ → List ℕ → EchoText
 said_last with_tag tag last = if with_tag then bare tag last else echo_of last
 
--- the first byte, the sender or a string is wrong, or the bytes after the subject are
+-- The first byte, the sender or a string is wrong, or the bytes after the subject are wrong.
 abbrev pub has_wrong_front : Version → Stored → Bool
 has_wrong_front version s = is_other_kind version s.kind || (has_wrong_sender s || has_wrong_string s)
 
 abbrev pub has_wrong_field : Version → Stored → Bool
 has_wrong_field version s = has_wrong_front version s || has_wrong_last version s
 
--- tag and id are not where they should be, or are where the text should be
+-- The message has tag and id where it should have the text, or the reverse.
 abbrev pub wrong_form : Version → ℕ → ℕ → Bool → Filed → Bool
 wrong_form version cursor place with_tag m =
     if with_tag then not (is_short version cursor place m) else is_short version cursor place m
 
--- or a field is wrong
+-- The form or a field is wrong.
 abbrev pub is_wrong : Version → ℕ → ℕ → Stored → Bool
 is_wrong version cursor place s = has_wrong_field version s || has_wrong_form version cursor place s
 
--- a scanned message has tag and id instead of the text
+-- A scanned message has tag and id instead of the text.
 abbrev pub IsShortOnceScanned : Version → Filed → Type 0
 IsShortOnceScanned version m = (cursor place : ℕ) → is_short version cursor place m ≡ nat_lt place cursor
 
--- the message with its key, or none where it is wrong
+-- The message with its key, or `None` if it is wrong.
 abbrev pub Judges : Bool → Filed → Option (Key × Filed) → Type 0
 Judges wrong m None = wrong ≡ true
 Judges wrong m (Some found) = (wrong ≡ false) × (found.0 ≡ key_of m) × (found.1 ≡ m)
 
--- the fault of a field that was not read, after this many whole messages
+-- The fault of an incomplete field, after this many whole messages.
 abbrev pub fault_behind : Broken → ℕ → BaseFault
 fault_behind broken.Cut messages = fault.Truncated messages
 fault_behind broken.Device messages = fault.Read
 fault_behind broken.Memory messages = fault.Memory
 
--- the version that the bytes begin, or why there is none
+-- The version that the bytes begin, or why they begin no version.
 abbrev pub IsVersion : List ℕ → Result Version BaseFault → Type 0
 IsVersion front (Ok version) = front ≡ magic version
 IsVersion front (Err fault.NotBase) = is_front front ≡ false
 IsVersion front (Err (fault.Truncated n)) = (n ≡ 0) × (is_front front ≡ true) × (length front < 8)
 IsVersion front (Err _) = ⊥
 
--- the bytes that came before the device failed end too early for a base: inside its first eight bytes, or inside a
--- message
+-- Before the device failed, it gave too few bytes for a base: they end in the first eight bytes or inside a message.
 abbrev pub IsUnfinished : List ℕ → Type 0
 IsUnfinished came = (length came < 8) ⊎ ((n : ℕ) × BaseFaultOf came (fault.Truncated n))
 
--- the fault of these bytes, or that the device failed, or out of memory
+-- The fault of these bytes, a failure of the device, or out of memory.
 abbrev pub LoadFault : List ℕ → BaseFault → Type 0
 LoadFault bytes fault.Read = Unit {0}
 LoadFault bytes fault.Memory = Unit {0}
 LoadFault bytes answered = BaseFaultOf bytes answered
 
--- why no base was read: a fault of the bytes; where the device failed, of those that came before
+-- Why the call read no base: the bytes have a fault. If the device failed, it is one of the bytes before that.
 pub record FailsToLoad (old new : Option (List ℕ)) (answered : BaseFault) : Type 0 where
   pub wrong : IfSome old (λ bytes. LoadFault bytes answered)
   pub inside : answered ≡ fault.Read → Came old new IsUnfinished
 
--- the first bytes of a version were consumed
+-- The call consumed the first bytes of a version.
 abbrev pub ReadsVersion : Option (List ℕ) → Option (List ℕ) → Result Version BaseFault → Type 0
 ReadsVersion old new (Ok version) = Consumes old new (magic version)
 ReadsVersion old new (Err answered) = FailsToLoad old new answered
 
--- the head of a base file was consumed
+-- The call consumed the head of a base file.
 pub record TakesHead (head : Head) (old new : Option (List ℕ)) : Type 0 where
   pub number_fits : head.number < 2 ^ 32
   pub cursor_within : head.cursor ≤ head.number
@@ -102,7 +101,7 @@ abbrev pub ReadsHead : Option (List ℕ) → Option (List ℕ) → Result Head B
 ReadsHead old new (Ok head) = TakesHead head old new
 ReadsHead old new (Err answered) = FailsToLoad old new answered
 
--- a message came that may be next, and was appended
+-- The call consumed a message that may be next, and appended it.
 pub record TakesNextStored (version : Version) (cursor : ℕ) (base base' : List Filed) (old new : Option (List ℕ)) : Type 0 where
   pub next : Stored
   pub size : IsStored version next
@@ -110,14 +109,14 @@ pub record TakesNextStored (version : Version) (cursor : ℕ) (base base' : List
   pub took : Consumes old new (stored_bytes version next)
   pub filed : base' ≡ base ++ message_in version next ∷ []
 
--- a message came that is damaged
+-- The call consumed a damaged message.
 pub record TakesDamaged (version : Version) (cursor : ℕ) (base : List Filed) (old new : Option (List ℕ)) : Type 0 where
   pub next : Stored
   pub size : IsStored version next
   pub damaged : is_damaged version cursor base next ≡ true
   pub took : Consumes old new (stored_bytes version next)
 
--- the bytes consumed after the messages of the base
+-- The bytes consumed after the messages of the base.
 abbrev pub TakesStored : {A : Type 0} → Version → ℕ → List Filed → List Filed → Option (List ℕ) → Option (List ℕ) → Result A BaseFault → Type 0
 TakesStored version cursor base base' old new (Ok _) = TakesNextStored version cursor base base' old new
 TakesStored version cursor base base' old new (Err (fault.Truncated n)) = (n ≡ length base) × Came old new (StopsIn version) × IsAtEnd new
@@ -126,7 +125,7 @@ TakesStored version cursor base base' old new (Err fault.Read) = Came old new (S
 TakesStored version cursor base base' old new (Err fault.Memory) = Unit {0}
 TakesStored version cursor base base' old new (Err _) = ⊥
 
--- after the head of a base file all messages were consumed, and they are the base's
+-- After the head of a base file the call consumed all messages, and the base has them.
 pub record TakesAll (head : Head) (base : Base) (old new : Option (List ℕ)) : Type 0 where
   pub all : List Stored
   pub many : length all ≡ head.number
@@ -135,7 +134,7 @@ pub record TakesAll (head : Head) (base : Base) (old new : Option (List ℕ)) : 
   pub took : Consumes old new (flat_map (stored_bytes head.version) all)
   pub messages : base.messages ≡ map (message_in head.version) all
 
--- why they were not: these messages came, and then one that was cut or is damaged
+-- Why it did not: some messages arrived, then one that was cut or damaged.
 abbrev pub FailsBehindHead : Head → Option (List ℕ) → Option (List ℕ) → BaseFault → Type 0
 FailsBehindHead head old new answered =
     (old' : Option (List ℕ)) → Consumes old' old (head_bytes head.version head.cursor head.number) → head.number < 2 ^ 32 → head.cursor ≤ head.number → FailsToLoad old' new answered
@@ -144,17 +143,17 @@ abbrev pub TakesMessages : {A : Type 0} → Head → Base → Option (List ℕ) 
 TakesMessages head base old new (Ok _) = TakesAll head base old new
 TakesMessages head base old new (Err answered) = FailsBehindHead head old new answered
 
--- just the bytes of this base were consumed
+-- The call consumed exactly the bytes of this base.
 abbrev pub TakesBase : List Filed → ℕ → Option (List ℕ) → Option (List ℕ) → Type 0
 TakesBase messages cursor old new = Came old new (BaseOf messages cursor)
 
--- the count of failures rose where the device failed, and only there
+-- The count of failures rose if the device failed, and only then.
 abbrev pub CountsLoad : {A : Type 0} → Result A BaseFault → ℕ → ℕ → Type 0
 CountsLoad (Err fault.Read) old new = Failed old new
 CountsLoad (Err _) old new = new ≡ old
 CountsLoad (Ok _) old new = new ≡ old
 
--- the answer of loading, unless the device failed or memory ran out
+-- The answer of loading, unless the device failed or memory ran out.
 abbrev pub AnswersLoad : Result Base BaseFault → Result Loaded BaseFault → Type 0
 AnswersLoad (Ok base) other = (n : ℕ) × (other ≡ Ok (base.messages, base.cursor, n))
 AnswersLoad (Err fault.Read) other = Unit {0}

@@ -1,4 +1,4 @@
--- A base file judged in pieces.
+-- Judging a base file in pieces.
 use Rattle.std.specs.Prelude.{◌≡◌, ℕ, ◌^◌, ◌<◌, ◌≤◌, Bool, true, false, List, ◌++◌, length, take, drop}
 use Rattle.echo_filed.specs.declared.key.Key.{Key}
 use Rattle.echo_filed.specs.declared.stored.Version.{Version}
@@ -14,30 +14,30 @@ use Rattle.base_file.specs.declared.piece.Next.TheVariants as next
 use Rattle.base_file.specs.BaseFile.{IsNoBase, head_bytes, is_front}
 use Rattle.base_file.specs.Loading.{is_wrong}
 
--- the bytes begin with this head
+-- The bytes begin with this head.
 pub record BeginsWith (head : Head) (bytes : List ℕ) : Type 0 where
   pub number_fits : head.number < 2 ^ 32
   pub cursor_within : head.cursor ≤ head.number
   pub whole : bytes ≡ head_bytes head.version head.cursor head.number ++ drop 16 bytes
 
--- no base begins so, or a beginning of a head is all
+-- No base begins with these bytes, or they are only a part of a head.
 abbrev pub IsHeadFault : List ℕ → BaseFault → Type 0
 IsHeadFault bytes fault.NotBase = IsNoBase bytes
 IsHeadFault bytes (fault.Truncated n) = (n ≡ 0) × (is_front bytes ≡ true) × (length bytes < 16)
 IsHeadFault bytes _ = ⊥
 
--- what is told of a message that is not wrong by itself: its key, and whether a scan makes it short
+-- The facts about a message with correct fields: its key, and whether a scan makes it short.
 pub record TellsOf (version : Version) (s : Stored) (key : Key) (short : Bool) : Type 0 where
   pub own : key ≡ key_of (message_in version s)
   pub shortens : short ≡ is_short Second 1 0 (message_in version s)
 
--- the judgement of a message of so many bytes
+-- The judgement of a message with this many bytes.
 abbrev pub JudgesOne : Version → ℕ → ℕ → Stored → ℕ → Next → Type 0
 JudgesOne version cursor place s size (next.Sound key count short) = (is_wrong version cursor place s ≡ false) × (count ≡ size) × TellsOf version s key short
 JudgesOne version cursor place s size next.Damaged = is_wrong version cursor place s ≡ true
 JudgesOne version cursor place s size next.Cut = ⊥
 
--- a whole message is in front, and has this judgement
+-- A whole message is at the front, and has this judgement.
 pub record IsJudged (version : Version) (cursor place : ℕ) (bytes : List ℕ) (judgement : Next) : Type 0 where
   pub s : Stored
   pub fits : IsStored version s
@@ -46,7 +46,7 @@ pub record IsJudged (version : Version) (cursor place : ℕ) (bytes : List ℕ) 
   pub same : stored_bytes version s ≡ take size bytes
   pub judges : JudgesOne version cursor place s size judgement
 
--- what is in front of the bytes
+-- The judgement of the front of the bytes.
 abbrev pub IsNext : Version → ℕ → ℕ → List ℕ → Next → Type 0
 IsNext version cursor place bytes (next.Sound key size short) = IsJudged version cursor place bytes (next.Sound key size short)
 IsNext version cursor place bytes next.Damaged = IsJudged version cursor place bytes next.Damaged

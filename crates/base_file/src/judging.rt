@@ -9,7 +9,7 @@ ghost use Rattle.echo_filed.specs.declared.key.Key.TheVariants.{ById};
 ghost use Rattle.echo_filed.specs.Filed.{key_of};
 ghost use Rattle.echo_filed.specs.Stubs.{bare};
 ghost use Rattle.echo_filed.specs.Stored.{IsStored, is_posted, message_in};
-ghost use Rattle.base_file.specs.BaseFile.{has_wrong_last, has_wrong_sender, has_wrong_string, is_damaged, is_no_string, is_other_kind, is_wrong_id, is_wrong_text};
+ghost use Rattle.base_file.specs.BaseFile.{has_wrong_last, has_wrong_sender, has_wrong_string, is_no_string, is_other_kind, is_wrong_id, is_wrong_text};
 ghost use Rattle.base_file.specs.Loading.{IsShortOnceScanned, Judges, UnlessWrong, has_wrong_field, has_wrong_front, is_wrong, said_last, wrong_form, wrong_last};
 
 use echo_addr::{Address, Items};

@@ -10,7 +10,7 @@ use disk_io::{Broken, are_bytes};
 use echo_filed::{Key, StoredMessage, is_short, read_stored};
 use std::alloc::{AllocError, Global};
 
-/// What stands in front of a piece of a base file.
+/// The front of a piece of a base file.
 #[derive(Drop)]
 pub enum Next {
     /// A message that no rule refuses by itself: its key, how many bytes it has, and whether it is stored with tag and

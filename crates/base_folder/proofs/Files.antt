@@ -45,11 +45,11 @@ stored_whole : (cursor i : ℕ) (all : List Filed) (file : List ℕ) → i ≡ l
 stored_whole cursor i all file many is =
     is ∙ ap (λ (l : List Filed). head_bytes Second cursor (length all) ++ stored_all cursor l) (take_all i all (omega arith)) ∙ saved_parts cursor all
 
--- none stand behind the head at first
+-- at first no message follows the head
 stored_none : (cursor : ℕ) (all : List Filed) (head : List ℕ) → head ≡ head_bytes Second cursor (length all) → head ≡ head_bytes Second cursor (length all) ++ stored_all cursor (take 0 all)
 stored_none cursor all head is = is ∙ sym (append-nil (head_bytes Second cursor (length all)))
 
--- the head, the messages before one, that one, and those behind it
+-- the head, the earlier messages, one message, and the later ones
 file_parts : (cursor i : ℕ) (all : List Filed) (m : Filed) → slice_get all i ≡ Some m
     → (head_bytes Second cursor (length all) ++ stored_all cursor (take i all)) ++ (stored_bytes Second (stored_at cursor i m) ++ flat_map (stored_bytes Second) (stored_from cursor (i + 1) (drop (suc i) all)))
     ≡ saved_bytes all cursor
@@ -113,11 +113,11 @@ pub file_sent : (a b : Option (List ℕ)) (cursor i : ℕ) (all : List Filed) �
 file_sent a b cursor i all many sent =
     subst (λ (l : List ℕ). Appends a b l) (stored_whole cursor i all (head_bytes Second cursor (length all) ++ stored_all cursor (take i all)) many refl) sent
 
--- four bytes do not count so many messages
+-- four bytes can't count so many messages
 pub too_many : (cursor : ℕ) (all : List Filed) → 2 ^ 32 ≤ length all → is_countable all cursor ≡ false
 too_many cursor all many = sym (not_countable cursor all many)
 
--- nor one that is so long
+-- a base with a message that is too long can't be counted
 too_long : (cursor i : ℕ) (all : List Filed) (m : Filed) → slice_get all i ≡ Some m → is_short_enough (stored_at cursor i m) ≡ false → is_countable all cursor ≡ false
 unfolding is_countable
 too_long cursor i all m at long =
@@ -133,7 +133,7 @@ file_fault base i m first before now (fault.Truncated n) at less is = absurd is
 file_fault base i m first before now (fault.Damaged n) at less is = absurd is
 file_fault base i m first before now (fault.Write n) at less is = absurd is
 
--- and one of which the messages, or the cursor, are
+-- and neither can a base with too many messages or too great a cursor
 pub too_great : (base : Base) (count cursor : ℕ) → count ≡ length base.messages → cursor ≡ base.cursor → base.cursor ≤ length base.messages → (2 ^ 32 ≤ count) ⊎ (2 ^ 32 ≤ cursor) → is_countable base.messages base.cursor ≡ false
 too_great base count cursor many at within (inl past) = too_many base.cursor base.messages (omega (arith, many, past))
 too_great base count cursor many at within (inr past) = too_many base.cursor base.messages (omega (arith, within, at, past))

@@ -1,4 +1,4 @@
--- A folder filled with the messages of a base, one after another.
+-- A folder filled with the messages of a base, in order.
 use Rattle.std.proofs.Common.{◌≡◌, ◌+◌, ℕ, List, [], Some, length, take, false, inl, inr, ⊎_elim, Bool, Err, refl, sym, subst, ◌∙◌, arith}
 use Rattle.std.specs.Prelude.{IsErrOf, slice_get}
 use Rattle.std.proofs.lemmas.List.{length-take-le, take_all}
@@ -79,7 +79,7 @@ adds_outside path here d e f at one two = outside_twice path d e f one (subst (�
 pub commits_run : (path here : List ℕ) (d e : DiskState) (before now : BaseBytes) → here ≡ path → LeavesOnly d e (IsBeforeOrAfter here d before now) → LeavesOnly d e (IsBeforeOrAfter path d before now)
 commits_run path here d e before now at run = subst (λ (p : List ℕ). LeavesOnly d e (IsBeforeOrAfter p d before now)) at run
 
--- a folder at rest keeps the base that was committed
+-- a folder at rest keeps the committed base
 pub filled_is_kept : (keyed : ℕ → ℕ → List ℕ → ℕ) (path : List ℕ) (d : DiskState) (f : Folder) (base : Base) → path_of f ≡ path → IsAtRest d (path_of f) f.end → HoldsBase keyed (committed_by d f) base → IsKept keyed path d base
 filled_is_kept keyed path d f base at rest holds =
     subst (λ (p : List ℕ). IsKept keyed p d base) at
@@ -88,7 +88,7 @@ filled_is_kept keyed path d f base at rest holds =
       stays = λ c left. record { bytes = committed_by d f; stands = rest_stands d (path_of f) f.end rest c left; holds = holds };
     })
 
--- what a crash leaves of a folder that was opened, and of one that was filled then
+-- the files that a crash leaves while a folder is opened and then filled
 pub opened_run : (keyed : ℕ → ℕ → List ℕ → ℕ) (path : List ℕ) (d e : DiskState) (first next : Base) → LeavesOnly d e (StandsForBaseOrWasLeft keyed path d first) → LeavesOnly d e (StandsForOneOfOrWasLeft keyed path d first next)
 opened_run keyed path d e first next run =
     weaker_run d e (StandsForBaseOrWasLeft keyed path d first) (StandsForOneOfOrWasLeft keyed path d first next) run
@@ -132,7 +132,7 @@ unfilled_as_caused strange path files store.TooMany why is = subst (λ (w : Open
 pub full_at : {D : Type 0} (state : D → DiskState) (keyed : ℕ → ℕ → List ℕ → ℕ) (path at : List ℕ) (base : Base) → path ≡ at → IsFilledFull state keyed path base → IsFilledFull state keyed at base
 full_at state keyed path at base same full = record { disk = full.disk; folder = full.folder; at = full.at ∙ same; full = full.full }
 
--- a folder that is opened is not too much
+-- opening a folder never reports too much
 pub never_many : {T : Type 0} (strange : Bool) (path : List ℕ) (files : Files) (why : OpenError) → IsWrong strange path files why → IsErrOf {T = T} (Err why) (unread.Wrong fault.TooMany) → ⊥
 never_many strange path files why was is = let same : why ≡ unread.Wrong fault.TooMany = cc (is) in subst (λ (w : OpenError). IsWrong strange path files w) same was
 

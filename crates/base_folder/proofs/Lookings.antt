@@ -1,4 +1,4 @@
--- A folder that is looked at can be read, and what is wrong with it. The log goes on meanwhile.
+-- A folder after a look: it is readable, or it has a fault. Its log may grow during the look.
 use Rattle.std.proofs.Common.{◌≡◌, ◌∙◌, ◌-◌, ap, ℕ, Bool, List, length, take, drop, Result, Ok, Err, sym, subst, arith}
 use Rattle.std.specs.Result.{IfErr, IfOk, IsErrAnd}
 use Rattle.disk_io.specs.Disk.{DiskState, Files, Honestly}
@@ -26,29 +26,29 @@ use Rattle.base_folder.specs.declared.open_error.OpenError.{OpenError}
 use Rattle.base_folder.specs.declared.open_error.OpenError.TheVariants as unread
 use Rattle.base_folder.proofs.Wrongs.{one_end}
 
--- an error that was handed on as it is
+-- an error passed on unchanged
 pub err_is : {T E : Type 0} (P : E → Type 0) (e : E) (r : Result T E) → IsErrAnd r (λ x. x ≡ e) → P e → IfErr r P
 err_is P e (Ok x) same is = absurd same
 err_is P e (Err x) same is = subst P (sym same) is
 
--- what is said of a result, where it is known
+-- a clause about a known result
 pub at_ok : {T E : Type 0} (P : T → Type 0) (r : Result T E) (x : T) → r ≡ Ok x → IfOk r P → P x
 at_ok P r x is was = subst (λ (q : Result _ _). IfOk q P) is was
 
 pub at_err : {T E : Type 0} (P : E → Type 0) (r : Result T E) (e : E) → r ≡ Err e → IfErr r P → P e
 at_err P r e is was = subst (λ (q : Result _ _). IfErr q P) is was
 
--- logs with the same bytes end alike
+-- logs with the same bytes have the same end
 pub same_end : (before after : Log) → IsRead before → IsRead after → before.bytes.items ≡ after.bytes.items → before.end ≡ after.end
 same_end before after one two same = one_end after.bytes.items before.end after.end (subst (λ (l : List ℕ). ReadsAll l before.end) same one) two
 
--- and nothing stands between the two ends
+-- no bytes are between two equal ends
 pub none_between : (first last : ℕ) (log : List ℕ) → first ≡ last → length (take (last - first) (drop first log)) ≡ 0
 none_between first last log same =
     let none : last - first ≡ 0 = omega (arith, same) in
     ap (λ (n : ℕ). length (take n (drop first log))) none
 
--- a folder with this log can be read after looks, where it has messages
+-- a folder with this log and messages is readable after looks
 pub looked_at : (path : List ℕ) (d e : DiskState) (log : Log) (folder : Folder) → ChangesNothing d e → IsRead log → IsFresh path folder → folder.end ≡ log.end → folder.keys ≡ log.end.told.keys
     → Honestly d (IsLogIn path d.seen log) → Honestly e (StandsFor path (base_at d path log.end.told) d.seen) → IsLookedAt e folder
 looked_at path d e log folder quiet read fresh same keys is stands =
@@ -85,7 +85,7 @@ unseen_by keyed strange path files unread.Device wrong = tt
 unseen_by keyed strange path files unread.Raced wrong = wrong
 unseen_by keyed strange path files (unread.NotOwner address) wrong = wrong
 
--- and so is a damaged message of the base for which the files stand
+-- and so is a damaged message of the base that the files represent
 pub unseen_message : (keyed : ℕ → ℕ → List ℕ → ℕ) (strange : Bool) (path : List ℕ) (files : Files) (bytes : BaseBytes) (why : OpenError) → ((b : BaseBytes) → StandsFor path b files → bytes ≡ b)
     → IsUnvouched keyed bytes why → IsUnseen keyed strange path files why
 unseen_message keyed strange path files bytes (unread.Wrong (fault.Damaged n)) one none = λ b stands. subst (λ (x : BaseBytes). HasNone keyed x n) (one b stands) none

@@ -37,7 +37,7 @@ use Rattle.base_folder.specs.Unopened.{HaveRoom, OpensOnly}
 use Rattle.base_folder.specs.Wrong.{IsToldBy}
 use Rattle.base_folder.proofs.Wrongs.{one_end}
 
--- what a crash leaves after the looks
+-- the files that a crash leaves after the looks
 pub looked_run : (keyed : ℕ → ℕ → List ℕ → ℕ) (path : List ℕ) (d e : DiskState) (base : Base) → ChangesNothing d e → LeavesOnly d e (StandsForBaseOrWasLeft keyed path d base)
 looked_run keyed path d e base quiet = weaker_run d e d.may_leave (StandsForBaseOrWasLeft keyed path d base) quiet.run (λ c left. inr left)
 
@@ -50,7 +50,7 @@ opened_run_since keyed path d e f base quiet opening =
     (λ alone. inl (record { outside = λ m out named flushed. alone.outside m out (quiet.named m (λ h. h) named) (quiet.flushed m (λ h. h) flushed) ∙ quiet.seen m; stands = alone.stands }))
     (λ left. inr (quiet.no_more c left)) or)
 
--- a folder that was claimed holds the same base: its key changes only where it has no message
+-- a claimed folder holds the same base, since its key changes only without messages
 pub claimed_same : (keyed : ℕ → ℕ → List ℕ → ℕ) → HaveRoom keyed → (d : DiskState) (f g : Folder) (base : Base) → IsOpen d f → g ≡ with_mark f g.told.mark → (0 < f.keys → SameKey f.told.mark g.told.mark)
     → (f.told.mark.owner ≢ 0 → g ≡ f) → HoldsBase keyed (held_by d f) base → HoldsBase keyed (held_by d g) base
 claimed_same keyed fits d f g base opened only key kept holds =
@@ -74,7 +74,7 @@ claimed_same keyed fits d f g base opened only key kept holds =
 pub claimed_opened : (d : DiskState) (f g : Folder) → g ≡ with_mark f g.told.mark → IsOpen d f → IsOpen d g
 claimed_opened d f g only opened = subst (λ (x : Folder). IsOpen d x) (sym only) (claimed_open d f g.told.mark opened)
 
--- and what was committed last is so still
+-- the committed base is unchanged
 pub claimed_committed : (keyed : ℕ → ℕ → List ℕ → ℕ) (d : DiskState) (f g : Folder) (base : Base) → g ≡ with_mark f g.told.mark → f.told ≡ f.end.told → IsWritten f → HoldsBase keyed (held_by d f) base
     → HoldsBase keyed (committed_by d g) base
 claimed_committed keyed d f g base only settled written holds =
@@ -82,23 +82,23 @@ claimed_committed keyed d f g base only settled written holds =
     let last : held_by d f ≡ committed_by d f = written_held d f written ∙ (λ i. base_at d (path_of f) (settled i)) in
     subst (λ (b : BaseBytes). HoldsBase keyed b base) (last ∙ sym same) holds
 
--- a log tells one thing
+-- a log has only one last record
 pub one_told : (strange : Bool) (log : List ℕ) (a b : CommitRecord) → IsToldBy strange log a → IsToldBy strange log b → a ≡ b
 one_told strange log a b one other = sym one.is ∙ ap (λ (e : End). e.told) (one_end log one.end other.end one.log.reads other.log.reads) ∙ other.is
 
--- a folder that is nobody's or this system's is no other's
+-- a folder without an owner, or with this system as owner, has no other owner
 pub not_other : (own : Address) (mark : FolderIdentity) (address : Address) → (mark.owner ≡ 0) ⊎ (mark.owner ≡ number_of own) → IsMarkOfOther own mark address → ⊥
 not_other own mark address (inl none) other = other.claimed none
 not_other own mark address (inr ours) other = other.other ours
 
--- a log tells of this owner that it is another system's, or not
+-- the owner in the log decides if the folder belongs to another system
 pub told_other : (own : Address) (strange : Bool) (path : List ℕ) (files : Files) (told : CommitRecord) (address : Address) → IsToldBy strange (bytes_in (files (log_of path))) told → (told.mark.owner ≡ 0) ⊎ (told.mark.owner ≡ number_of own)
     → IsOfOther own strange path files address → ⊥
 told_other own strange path files told address by ours other =
     let same = one_told strange (bytes_in (files (log_of path))) other.told told other.log by in
     not_other own told.mark address ours (subst (λ (t : CommitRecord). IsMarkOfOther own t.mark address) same other.mark)
 
--- a folder that is another system's is refused, and nothing is changed
+-- a folder of another system is refused and unchanged
 pub other_left : (own : Address) (mark : FolderIdentity) (old new : DiskState) (e : OpenError) → ChangesNothing old new → IsOtherOwner own mark e → IsLeftAlone old new e
 other_left own mark old new (unread.NotOwner address) quiet is = quiet
 other_left own mark old new unread.Memory quiet is = tt
@@ -120,7 +120,7 @@ other_cause own mark e before now (Ok x) same later is = absurd same
 other_cause own mark e before now (Err x) same later is =
     record { later = later; failed = λ was. let device : x ≡ unread.Device = cc (was) in absurd (subst (λ (y : OpenError). IsOtherOwner own mark y) (sym same ∙ device) is) }
 
--- the files stand for the same before looks, and after them
+-- the files represent the same base before looks and after them
 pub stood_before : (d e : DiskState) (path : List ℕ) (told : CommitRecord) → ChangesNothing d e → StandsFor path (base_at e path told) e.seen → StandsFor path (base_at d path told) d.seen
 stood_before d e path told quiet stands =
     let same : e.seen ≡ d.seen = λ i m. quiet.seen m i in
@@ -129,18 +129,18 @@ stood_before d e path told quiet stands =
 pub stood_since : (d e : DiskState) (path : List ℕ) (told : CommitRecord) → ChangesNothing d e → StandsFor path (base_at d path told) d.seen → StandsFor path (base_at e path told) e.seen
 stood_since d e path told quiet stands = subst (λ (b : BaseBytes). StandsFor path b e.seen) (sym (base_quiet d e path told quiet)) (stands_quiet d e path (base_at d path told) quiet stands)
 
--- what the log tells is the base for which the files stand
+-- the files represent the base that the log describes
 pub base_is : (path : List ℕ) (base : BaseBytes) (d e : DiskState) (log : Log) → ChangesNothing d e → IsLogIn path d.seen log → IsRead log → StandsFor path base d.seen → base_at e path log.end.told ≡ base
 base_is path base d e log quiet is read stands =
     base_found log.bytes.items log.end read path d.seen is base stands e (quiet.seen (messages_of path log.end.told.number)) (quiet.seen (keys_of path log.end.told.number))
 
--- a folder that was opened after looks holds the base for which its files stood
+-- a folder opened after looks holds the base that its files represented
 pub opened_holds : (keyed : ℕ → ℕ → List ℕ → ℕ) (path : List ℕ) (d e f : DiskState) (log : Log) (folder : Folder) (base : Base) (stands : StandsForBase keyed path base d.seen) → ChangesNothing d e → IsLogIn path d.seen log → IsRead log
     → held_by f folder ≡ base_at e path log.end.told → HoldsBase keyed (held_by f folder) base
 opened_holds keyed path d e f log folder base stands quiet is read found =
     subst (λ (b : BaseBytes). HoldsBase keyed b base) (sym (found ∙ base_is path stands.bytes d e log quiet is read stands.stands)) stands.holds
 
--- and what a crash leaves meanwhile
+-- the files that a crash leaves during the opening
 pub opening_run : (keyed : ℕ → ℕ → List ℕ → ℕ) (path : List ℕ) (d e f : DiskState) (log : Log) (base : Base) (stands : StandsForBase keyed path base d.seen) → ChangesNothing d e → IsLogIn path d.seen log → IsRead log
     → LeavesOnly e f (StandsOrWasLeft path e (base_at e path log.end.told)) → LeavesOnly d f (StandsForBaseOrWasLeft keyed path d base)
 opening_run keyed path d e f log base stands quiet is read run =
@@ -151,7 +151,7 @@ opening_run keyed path d e f log base stands quiet is read run =
 pub claimed_named : (f g : Folder) → g ≡ with_mark f g.told.mark → IsNamed f → IsNamed g
 claimed_named f g only named = subst (λ (x : Folder). IsNamed x) (sym only) named
 
--- as a run: looks, and what opening does behind them
+-- a run of looks, followed by opening
 pub looked_only : (path : List ℕ) (d e : DiskState) → ChangesNothing d e → OpensOnly path d e
 looked_only path d e quiet = record { any_moment = λ honest keyed base stands. looked_run keyed path d e base quiet; outside = outside_quiet path d e quiet }
 

@@ -54,7 +54,7 @@ looked_sees keyed d f base looked honest holds =
           (cases_lt 0 f.keys);
     }
 
--- what was looked at can be read after more looks, and holds the same base
+-- a folder after a look is readable after more looks, and holds the same base
 pub looked_quiet : (d e : DiskState) (f : Folder) → ChangesNothing d e → IsLookedAt d f → IsLookedAt e f
 looked_quiet d e f quiet looked = record {
   written = looked.written;
@@ -65,7 +65,7 @@ looked_quiet d e f quiet looked = record {
 pub sees_quiet : (keyed : ℕ → ℕ → List ℕ → ℕ) (d e : DiskState) (f : Folder) (base : Base) → ChangesNothing d e → SeesBase keyed d f base → SeesBase keyed e f base
 sees_quiet keyed d e f base quiet sees = record { holds = subst (λ (b : BaseBytes). HoldsBase keyed b base) (sym (held_quiet d e f quiet)) sees.holds; count = sees.count }
 
--- the first number that is asked for, or behind the last message
+-- the first requested number, or the one after the last message
 module _ (first count begin : ℕ) (within : first < count → begin ≡ first) (behind : count ≤ first → begin ≡ count) where
   pub not_past : begin ≤ first
   not_past = ⊎_elim (λ (h : first < count). omega (arith, within h)) (λ (h : count ≤ first). omega (arith, behind h, h)) (cases_lt first count)

@@ -1,4 +1,4 @@
--- What is wrong with a folder, and what is not.
+-- The faults of a folder, and a folder without faults.
 use Rattle.std.proofs.Common.{◌≡◌, ◌∙◌, ℕ, Bool, List, length, sym, ap, ⊎_elim}
 use Rattle.std.proofs.lemmas.Bool.{true≢false}
 use Rattle.disk_io.specs.Disk.{Files, bytes_in}
@@ -19,7 +19,7 @@ one_end log one other first next =
     let told : one.told ≡ other.told = sym first.reads.told ∙ ap last_told same ∙ next.reads.told in
     λ i. record { gate = gate i; told = told i }
 
--- a folder with this log, whose files stand for a base, has nothing wrong
+-- a folder with this log has no fault if its files represent a base
 pub sound_by : (strange : Bool) (path : List ℕ) (files : Files) (end : End) (base : BaseBytes) → IsFolderLog strange (bytes_in (files (log_of path))) end → StandsFor path base files → IsSound strange path files
 sound_by strange path files end base log stands =
     let bytes = bytes_in (files (log_of path)) in

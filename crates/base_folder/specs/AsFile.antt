@@ -11,19 +11,19 @@ use Rattle.echo_filed.specs.Stored.{Stored, is_short_enough}
 use Rattle.base_folder.specs.declared.unsent.UnsentFile.{UnsentFile}
 use Rattle.base_folder.specs.declared.unsent.UnsentFile.TheVariants as unsent
 
--- No memory, four bytes cannot count the parts of the base to be saved, or a read failed.
+-- Memory ran out, four bytes can't count the parts of the base, or a read failed.
 abbrev pub IsFileFault : Base → ℕ → ℕ → BaseFault → Type 0
 IsFileFault base before now fault.Memory = Unit {0}
 IsFileFault base before now fault.TooMany = is_countable base.messages base.cursor ≡ false
 IsFileFault base before now fault.Read = Failed before now
 IsFileFault base before now _ = ⊥
 
--- One of these while the device that takes the file did not fail, or that device failed.
+-- Such a fault, and the device that takes the file did not fail, or that device failed.
 abbrev pub IsSendFault : Base → ℕ → ℕ → ℕ → ℕ → UnsentFile → Type 0
 IsSendFault base before now old new (unsent.Messages why) = IsFileFault base before now why × (new ≡ old)
 IsSendFault base before now old new unsent.Device = Failed old new
 
--- No memory, or four bytes do not count the message.
+-- Memory ran out, or four bytes can't count the message.
 abbrev pub IsTooLong : Stored → BaseFault → Type 0
 IsTooLong s fault.Memory = Unit {0}
 IsTooLong s fault.TooMany = is_short_enough s ≡ false
@@ -34,7 +34,7 @@ abbrev pub IsMessageFault : Stored → ℕ → ℕ → BaseFault → Type 0
 IsMessageFault s before now fault.Read = Failed before now
 IsMessageFault s before now why = IsTooLong s why
 
--- The fault of the message of this number, which was not read.
+-- The fault of the message of this number, which could not be read.
 abbrev pub file_cause : StoreError → ℕ → BaseFault
 file_cause error.Memory i = fault.Memory
 file_cause error.TooMany i = fault.Memory

@@ -1,4 +1,4 @@
--- Why a command does not fetch a message of a base.
+-- Why a command can't fetch a message of a base.
 use Rattle.std.specs.Prelude.{◌≡◌, ◌⊎◌, ℕ, List}
 use Rattle.disk_io.specs.Device.{Failed}
 use Rattle.cmd_status.specs.declared.fault.Fault.{Fault}
@@ -10,6 +10,6 @@ abbrev pub CannotRead : List ℕ → ℕ → ℕ → Fault → Type 0
 CannotRead path before after (CannotUse shown) = (shown.now ≡ path) × Failed before after
 CannotRead path before after _ = ⊥
 
--- No memory, or a read failed.
+-- Memory ran out, or a read failed.
 abbrev pub IsUnread : List ℕ → ℕ → ℕ → Fault → Type 0
 IsUnread path before after fault = IsOutOfMemory fault ⊎ CannotRead path before after fault

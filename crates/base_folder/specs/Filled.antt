@@ -1,4 +1,4 @@
--- A base folder that is filled with messages.
+-- Filling a base folder with messages.
 use Rattle.std.specs.Prelude.{◌≡◌, ◌≤◌, ◌⊎◌, ℕ, Bool, List, [], false, length, take, Some, slice_get}
 use Rattle.base_file.specs.Base.{Base, is_known}
 use Rattle.echo_filed.specs.Filed.{Filed, key_of}
@@ -16,24 +16,24 @@ use Rattle.base_folder.specs.OpenError.{IsWrong}
 use Rattle.base_folder.specs.declared.open_error.OpenError.{OpenError}
 use Rattle.base_folder.specs.declared.open_error.OpenError.TheVariants as unread
 
--- Each base that was held, and does not know the message, is held with it at its end.
+-- If the old bytes hold a base without the message's key, the new bytes hold it with the message at its end.
 abbrev pub HoldsMore : (ℕ → ℕ → List ℕ → ℕ) → BaseBytes → BaseBytes → Filed → Type 0
 HoldsMore keyed old new m = (base : Base) → HoldsBase keyed old base → is_known base.messages (key_of m) ≡ false → HoldsBase keyed new (with_message base m)
 
--- So many of the messages are held, from the front, and this cursor.
+-- The bytes hold the first n messages, under this cursor.
 abbrev pub HoldsFront : (ℕ → ℕ → List ℕ → ℕ) → BaseBytes → List Filed → ℕ → ℕ → Type 0
 HoldsFront keyed bytes messages n cursor = HoldsBase keyed bytes (record { messages = take n messages; cursor = cursor })
 
--- From one message of these up to another one or to their end.
+-- A range of these messages: its start is not after its end, and its end not after the last message.
 pub record IsRangeOf (messages : List Filed) (from to : ℕ) : Type 0 where
   pub order : from ≤ to
   pub within : to ≤ length messages
 
--- The files hold the base from before or the other one, and nothing outside the folder has changed.
+-- The files represent the base before or the other one, and everything outside the folder is unchanged.
 abbrev pub StandsForOneOf : (ℕ → ℕ → List ℕ → ℕ) → List ℕ → DiskState → Base → Base → Files → Type 0
 StandsForOneOf keyed path old first next c = StandsForBaseAlone keyed path old first c ⊎ StandsForBaseAlone keyed path old next c
 
--- Or it is what a crash might have left before.
+-- The same, or files that a crash might have left before.
 abbrev pub StandsForOneOfOrWasLeft : (ℕ → ℕ → List ℕ → ℕ) → List ℕ → DiskState → Base → Base → Files → Type 0
 StandsForOneOfOrWasLeft keyed path old first next c = StandsForOneOf keyed path old first next c ⊎ old.may_leave c
 
@@ -41,12 +41,12 @@ StandsForOneOfOrWasLeft keyed path old first next c = StandsForOneOf keyed path 
 abbrev pub no_messages : Base
 no_messages = record { messages = []; cursor = 0 }
 
--- The files hold this base, and so they do after any crash.
+-- The files represent this base, and after any crash they still do.
 pub record IsKept (keyed : ℕ → ℕ → List ℕ → ℕ) (path : List ℕ) (disk : DiskState) (base : Base) : Type 0 where
   pub seen : StandsForBase keyed path base disk.seen
   pub stays : (c : Files) → disk.may_leave c → StandsForBase keyed path base c
 
--- The folder holds the first messages of a base, and has no room for the next one of them.
+-- The folder holds the first messages of a base, and has no room for the next one.
 pub record LacksNext (keyed : ℕ → ℕ → List ℕ → ℕ) (disk : DiskState) (folder : Folder) (messages : List Filed) : Type 0 where
   pub place : ℕ
   pub cursor : ℕ
@@ -55,21 +55,21 @@ pub record LacksNext (keyed : ℕ → ℕ → List ℕ → ℕ) (disk : DiskStat
   pub is : slice_get messages place ≡ Some message
   pub lacks : HasRoomFor folder message → ⊥
 
--- The folder of this path had no room for the next message of a base, or was full with all of them.
+-- The folder at this path had no room for the next message of a base, or was full with all of them.
 pub record IsFilledFull {D : Type 0} (state : D → DiskState) (keyed : ℕ → ℕ → List ℕ → ℕ) (path : List ℕ) (base : Base) : Type 0 where
   pub disk : D
   pub folder : Folder
   pub at : path_of folder ≡ path
   pub full : LacksNext keyed (state disk) folder base.messages ⊎ (HoldsBase keyed (held_by (state disk) folder) base × IsFull folder)
 
--- A fault of the store, as one of the folder.
+-- A fault of the store as a fault of the folder.
 abbrev pub unfilled_cause : StoreError → OpenError
 unfilled_cause error.Memory = unread.Memory
 unfilled_cause error.Device = unread.Device
 unfilled_cause error.Damaged = unread.Memory
 unfilled_cause error.TooMany = unread.Wrong fault.TooMany
 
--- Four bytes do not count what it is to be filled with, or something is wrong with it.
+-- The base is too large to count, or the folder has a fault.
 abbrev pub IsUnfilled : Bool → List ℕ → Files → OpenError → Type 0
 IsUnfilled strange path files (unread.Wrong fault.TooMany) = Unit {0}
 IsUnfilled strange path files why = IsWrong strange path files why

@@ -1,4 +1,4 @@
--- A base folder that was looked at.
+-- A base folder after a look.
 use Rattle.std.specs.Prelude.{◌≡◌, ◌≤◌, ◌<◌, ◌/◌, ℕ, Bool, List, length, take}
 use Rattle.disk_io.specs.Disk.{DiskState, Files, bytes_in}
 use Rattle.base_file.specs.declared.fault.BaseFault.TheVariants as base
@@ -15,33 +15,33 @@ use Rattle.base_folder.specs.declared.looking.LookedFolder.{LookedFolder}
 use Rattle.base_folder.specs.declared.open_error.OpenError.{OpenError}
 use Rattle.base_folder.specs.declared.open_error.OpenError.TheVariants as unread
 
--- The log was read to the end of its last record, which is among its bytes.
+-- The log was read to the end of its last record, and the bytes include that record.
 pub record IsReadWhole (log : Log) : Type 0 where
   pub read : IsRead log
   pub within : log.end.gate ≤ length log.bytes.items
 
--- Each message from this number on has the digest of its entry.
+-- Each message from this number on has the digest in its entry.
 abbrev pub AreVouched : (ℕ → ℕ → List ℕ → ℕ) → DiskState → ℕ → Folder → Type 0
 AreVouched keyed disk first folder = (i : ℕ) → first ≤ i → i < folder.keys / 16 → IsVouched keyed (held_by disk folder) i
 
--- If one is said to be damaged, none under this number has the digest of its entry.
+-- If the fault is a damaged message, no message of this number has the digest in its entry.
 abbrev pub IsUnvouched : (ℕ → ℕ → List ℕ → ℕ) → BaseBytes → OpenError → Type 0
 IsUnvouched keyed bytes (unread.Wrong (base.Damaged n)) = HasNone keyed bytes n
 IsUnvouched keyed bytes unread.Memory = Unit {0}
 IsUnvouched keyed bytes unread.Device = Unit {0}
 IsUnvouched keyed bytes _ = ⊥
 
--- A message is damaged, if that is why, or something is wrong with the folder.
+-- The fault is a damaged message of the base, or a fault of the folder.
 abbrev pub IsUnseen : (ℕ → ℕ → List ℕ → ℕ) → Bool → List ℕ → Files → OpenError → Type 0
 IsUnseen keyed strange path files (unread.Wrong (base.Damaged n)) = (bytes : BaseBytes) → StandsFor path bytes files → HasNone keyed bytes n
 IsUnseen keyed strange path files why = IsWrong strange path files why
 
--- The logs that were read before the messages and after them are the log of this folder.
+-- The logs read before the messages and after them are the log of this folder.
 pub record HasLogs (path : List ℕ) (files : Files) (seen : LookedFolder) : Type 0 where
   pub log : seen.log.items ≡ bytes_in (files (log_of path))
   pub reread : seen.reread.items ≡ bytes_in (files (log_of path))
 
--- A log goes on from what it was: it begins with the same records.
+-- A log extends an earlier one: it begins with the same records.
 pub record GoesOn (before after : List ℕ) : Type 0 where
   pub first : End
   pub read : ReadsAll before first

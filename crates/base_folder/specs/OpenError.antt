@@ -13,24 +13,24 @@ use Rattle.base_folder.specs.Wrong.{IsCutShort, IsNoFolder}
 use Rattle.base_folder.specs.declared.open_error.OpenError.{OpenError}
 use Rattle.base_folder.specs.declared.open_error.OpenError.TheVariants as unread
 
--- A disk's fault.
+-- The error for a fault of the disk.
 abbrev pub unread_cause : DiskError → OpenError
 unread_cause disk.Memory = unread.Memory
 unread_cause disk.Device = unread.Device
 
--- The error of the message of this number, which was not read.
+-- The error of the message of this number, which could not be read.
 abbrev pub unread_message : StoreError → ℕ → OpenError
 unread_message store.Damaged i = unread.Wrong (base.Damaged i)
 unread_message store.Device i = unread.Device
 unread_message store.Memory i = unread.Memory
 unread_message store.TooMany i = unread.Memory
 
--- A failure of the device is answered only where its count of failures rose.
+-- A call reports a failure of the device only if the count of failures rose.
 pub record HasUnreadCause {T : Type 0} (before now : ℕ) (result : Result T OpenError) : Type 0 where
   pub later : before ≤ now
   pub failed : IsErrOf result unread.Device → Failed before now
 
--- How it is reported of the base with this path.
+-- The reported fault for the base with this path.
 abbrev pub IsToldAs : List ℕ → OpenError → Fault → Type 0
 IsToldAs path unread.Memory told = told ≡ fault.OutOfMemory
 IsToldAs path unread.Device (fault.CannotUse shown) = shown.now ≡ path
@@ -40,7 +40,7 @@ IsToldAs path unread.Raced _ = ⊥
 IsToldAs path (unread.Wrong why) told = told ≡ fault.Base why
 IsToldAs path (unread.NotOwner address) told = told ≡ fault.NotOwner address
 
--- The files are those of no base folder, or of one that is cut short, if that is why.
+-- The files belong to no base folder, or to one that is cut short, if that is the fault.
 abbrev pub IsWrong : Bool → List ℕ → Files → OpenError → Type 0
 IsWrong strange path files (unread.Wrong base.NotBase) = IsNoFolder strange path files
 IsWrong strange path files (unread.Wrong (base.Truncated n)) = IsCutShort strange path files n

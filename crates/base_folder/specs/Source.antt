@@ -1,4 +1,4 @@
--- Messages that are read one by one, wherever they are kept.
+-- A source of messages that are read one by one.
 use Rattle.std.specs.Prelude.{◌≡◌, ◌/◌, ℕ, List, length, Option}
 use Rattle.disk_io.specs.Disk.{DiskState}
 use Rattle.base_file.specs.Base.{Base}
@@ -8,8 +8,8 @@ use Rattle.base_folder_store.specs.Opened.{held_by}
 use Rattle.base_folder_store.specs.Vouched.{IsLookedAt}
 use Rattle.base_folder_store.specs.declared.folder.Folder.{Folder}
 
--- Whether every answer so far showed the messages as they are, whether one may be read, how many there are, the base that they are,
--- the current one, and how often the device failed.
+-- A source: whether its answers were honest and it may be read, the number of messages, their base, the current
+-- message, and the failures of the device.
 pub record SourceState : Type 1 where
   pub is_honest : Type 0
   pub is_ready : Type 0
@@ -18,7 +18,7 @@ pub record SourceState : Type 1 where
   pub at_hand : Option Filed
   pub failures : ℕ
 
--- A look: another message may be the current one.
+-- A look at the source changes only the current message.
 pub record LooksAt (old new : SourceState) : Type 0 where
   pub honest : new.is_honest → old.is_honest
   pub ready : old.is_ready → new.is_ready

@@ -1,4 +1,4 @@
--- A base folder after it was opened.
+-- A base folder after opening it.
 use Rattle.std.specs.Prelude.{◌≡◌, ◌<◌, ◌^◌, ℕ, List}
 use Rattle.base_file.specs.Base.{Base}
 use Rattle.base_log.specs.Moments.{KeepsOutside}
@@ -11,16 +11,16 @@ use Rattle.base_folder_store.specs.State.{IsUsable}
 use Rattle.base_folder_store.specs.declared.folder.Folder.{Folder}
 use Rattle.base_folder.specs.Ours.{HasGivenKey, number_of}
 
--- eight bytes have room for each digest
+-- Each digest fits in eight bytes.
 abbrev pub HaveRoom : (ℕ → ℕ → List ℕ → ℕ) → Type 0
 HaveRoom keyed = (first second : ℕ) (bytes : List ℕ) → keyed first second bytes < 2 ^ 64
 
--- the folder holds the base, and that was committed last
+-- The folder holds the base, which is also the last commit.
 pub record HasOpened (keyed : ℕ → ℕ → List ℕ → ℕ) (disk : DiskState) (base : Base) (folder : Folder) : Type 0 where
   pub held : HoldsBase keyed (held_by disk folder) base
   pub committed : HoldsBase keyed (committed_by disk folder) base
 
--- A run that opens a folder: a crash at any time leaves the same base, or what a crash might have left before. Nothing outside the folder has changed.
+-- Opening a folder: a crash leaves the same base, or files that it might have left before. The rest of the disk is unchanged.
 pub record OpensOnly (path : List ℕ) (old new : DiskState) : Type 0 where
   pub any_moment : Honestly new ((keyed : ℕ → ℕ → List ℕ → ℕ) (base : Base) → StandsForBase keyed path base old.seen → LeavesOnly old new (StandsForBaseOrWasLeft keyed path old base))
   pub outside : KeepsOutside path old new

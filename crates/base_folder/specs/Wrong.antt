@@ -8,23 +8,23 @@ use Rattle.base_log.specs.declared.log.End.{End}
 use Rattle.base_log.specs.declared.log.CommitRecord.{CommitRecord}
 use Rattle.base_store.specs.Keys.{place_behind}
 
--- No base folder has a log of this size with this end of its records, whatever a crash left. Its files have no digit, its keys are not
--- sixteen bytes a message, or the cursor is after the last one. Or more than a closed gate and a record follow.
+-- Even after a crash, no base folder has such a log. Its number is no digit, its keys are not sixteen bytes a message,
+-- or its cursor is after the last one. Or more than a closed gate and a record follow.
 abbrev pub is_no_log : ℕ → End → Bool
 is_no_log size end =
     nat_lt 9 end.told.number || (not (end.told.keys % 16 == 0) || (nat_lt (end.told.keys / 16) end.told.cursor || nat_lt (end.gate + 51) size))
 
--- It is such a log, or has no record, and the folder has files that no base folder has.
+-- It is such a log, or it has no record and the folder has files that no base folder has.
 abbrev pub is_foreign : Bool → ℕ → End → Bool
 is_foreign strange size end = is_no_log size end || (strange && (end.gate == 0))
 
--- This is the log of no base folder.
+-- No base folder has this log.
 pub record IsNoLog (strange : Bool) (log : List ℕ) : Type 0 where
   pub end : End
   pub reads : ReadsAll log end
   pub foreign : is_foreign strange (length log) end ≡ true
 
--- The folder is none: its log is that of none, or is gone while other files have bytes.
+-- It is no base folder: no base folder has its log, or the log is gone while other files have bytes.
 abbrev pub IsNoFolder : Bool → List ℕ → Files → Type 0
 IsNoFolder strange path files = IsNoLog strange (bytes_in (files (log_of path))) ⊎ IsLost path files
 
@@ -33,30 +33,30 @@ pub record IsFolderLog (strange : Bool) (log : List ℕ) (end : End) : Type 0 wh
   pub reads : ReadsAll log end
   pub own : is_foreign strange (length log) end ≡ false
 
--- And this is the last of its records.
+-- The same, and this is its last record.
 pub record IsToldBy (strange : Bool) (bytes : List ℕ) (told : CommitRecord) : Type 0 where
   pub end : End
   pub log : IsFolderLog strange bytes end
   pub is : end.told ≡ told
 
--- So many messages, from the front, end within the existing bytes, of all that the log counts. The next one does not.
+-- Of all messages that the log counts, exactly the first n end within the existing bytes.
 pub record AreWhole (keys : List ℕ) (all there n : ℕ) : Type 0 where
   pub whole : (i : ℕ) (messages : List ℕ) → length messages ≡ all → i < n → place_behind messages keys i ≤ there
   pub next : (messages : List ℕ) → length messages ≡ all → n < length keys / 16 → there < place_behind messages keys n
 
--- The folder's own log or one of its files is cut short, so that they hold no base. So many messages are whole, of those that the log
--- counts.
+-- The log or a file of the folder is cut short, so that they hold no base. Of the messages that the log counts, the
+-- first n are whole.
 pub record IsCutShort (strange : Bool) (path : List ℕ) (files : Files) (n : ℕ) : Type 0 where
   pub end : End
   pub log : IsFolderLog strange (bytes_in (files (log_of path))) end
   pub broken : IsBroken path files
   pub whole : AreWhole (take end.told.keys (bytes_in (files (keys_of path end.told.number)))) end.told.messages (length (bytes_in (files (messages_of path end.told.number)))) n
 
--- nothing of that is wrong with it
+-- The folder has no such fault.
 pub record IsSound (strange : Bool) (path : List ℕ) (files : Files) : Type 0 where
   pub folder : IsNoFolder strange path files → ⊥
   pub whole : (n : ℕ) → IsCutShort strange path files n → ⊥
 
--- a folder without files
+-- A folder without files.
 abbrev pub HasNoFiles : List ℕ → Files → Type 0
 HasNoFiles path files = (m : List ℕ) → IsIn path m → files m ≡ None

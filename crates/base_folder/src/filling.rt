@@ -1,5 +1,5 @@
 //! A base folder filled with the messages of a base.
-ghost use Rattle.std.specs.Prelude.{◌≡◌, ◌≢◌, ◌<◌, ◌+◌, ℕ, List, IfErr, IsErrOf, OnOk, Some, length, slice_get};
+ghost use Rattle.std.specs.Prelude.{◌≡◌, ◌≢◌, ◌<◌, ◌+◌, ℕ, IfErr, IsErrOf, OnOk, Some, length, slice_get};
 ghost use Rattle.base_file.specs.Base as model;
 ghost use Rattle.base_file.specs.Base.{IsBase};
 ghost use Rattle.disk_io.specs.Disk.{Honestly};

@@ -1,4 +1,4 @@
--- What is known of the base for which the files of a folder stand.
+-- Facts about the base that the files of a folder represent.
 use Rattle.std.proofs.Common.{◌≡◌, ℕ, List, length, sym, ◌∙◌, ap, subst, arith, inl, inr, ⊎_elim}
 use Rattle.disk_io.specs.Disk.{DiskState}
 use Rattle.disk_io.specs.Runs.{ChangesNothing, LeavesOnly}
@@ -40,12 +40,12 @@ open_quiet d e folder quiet was = record {
   keys = was.keys;
 }
 
--- and each message where its entry tells
+-- each message remains at the place in its entry
 pub told_quiet : (d e : DiskState) (folder : Folder) (base : List Filed) → ChangesNothing d e → StandWhereTold base (held_by d folder).messages (held_by d folder).keys
     → StandWhereTold base (held_by e folder).messages (held_by e folder).keys
 told_quiet d e folder base quiet told = subst (λ (b : BaseBytes). StandWhereTold base b.messages b.keys) (sym (held_quiet d e folder quiet)) told
 
--- what opening left is open
+-- opening leaves an open folder
 pub opened_is : (d e : DiskState) (path : List ℕ) (end : End) (folder : Folder) → ChangesNothing d e → IsAtRest d path end → path_of folder ≡ path → AreNames folder.names end.told.number → folder.end ≡ end → folder.told ≡ end.told
     → folder.keys ≡ end.told.keys → IsWritten folder → IsOpen e folder
 opened_is d e path end folder quiet rest at names same_end same_told keys none =
@@ -58,6 +58,6 @@ opened_is d e path end folder quiet rest at names same_end same_told keys none =
       keys = let told = ap (λ (t : CommitRecord). t.keys) same_told in let wait = ap (λ (l : List ℕ). length l) none.keys in omega (arith, keys, told, wait);
     }
 
--- it holds what its record tells
+-- the opened folder has the bytes that its record counts
 pub opened_bytes : (d e : DiskState) (path : List ℕ) (folder : Folder) (told : CommitRecord) (bytes : BaseBytes) → ChangesNothing d e → path_of folder ≡ path → folder.told ≡ told → base_at d path told ≡ bytes → IsWritten folder → held_by e folder ≡ bytes
 opened_bytes d e path folder told bytes quiet at same_told same none = written_held e folder none ∙ (λ i. base_at e (at i) (same_told i)) ∙ base_quiet d e path told quiet ∙ same

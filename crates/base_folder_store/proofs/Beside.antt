@@ -1,4 +1,4 @@
--- A base folder, and beside its files those that are made in their place.
+-- A base folder while a call makes new files that replace its own.
 use Rattle.std.proofs.Common.{◌≡◌, ◌≢◌, ◌/◌, ℕ, List, length, sym, ap, subst, ◌∙◌, arith}
 use Rattle.disk_io.specs.Disk.{DiskState}
 use Rattle.disk_io.specs.Runs.{ChangesNothing}
@@ -19,11 +19,11 @@ use Rattle.base_folder_store.proofs.Legible.{keys_all, legible_open, legible_sam
 use Rattle.base_folder_store.proofs.Staged.{committed_staged}
 use Rattle.base_folder_store.proofs.Waits.{written_held}
 
--- what was committed is the same
+-- the committed base is the same
 pub committed_beside : (d : DiskState) (f g : Folder) → IsBesideIn f g → committed_by d g ≡ committed_by d f
 committed_beside d f g beside = λ i. base_at d (beside.path i) (beside.end i).told
 
--- where its two files are as they were, it can be read still
+-- a folder with unchanged files remains readable
 readable_same : (d e : DiskState) (f : Folder) → e.seen (messages_of (path_of f) f.end.told.number) ≡ d.seen (messages_of (path_of f) f.end.told.number)
     → e.seen (keys_of (path_of f) f.end.told.number) ≡ d.seen (keys_of (path_of f) f.end.told.number) → IsReadable d f → IsReadable e f
 readable_same d e f messages keys was = record {
@@ -53,18 +53,18 @@ readable_beside d e f g beside same was =
 pub rest_readable : (d : DiskState) (f : Folder) → IsOpen d f → f.end.told ≡ f.told → IsWritten f → IsReadable d f
 rest_readable d f opened told none = record { legible = legible_open d f opened; told = told; written = none }
 
--- and one at rest is open
+-- a folder at rest is open
 pub rest_open : (d e : DiskState) (f : Folder) → IsOpen d f → IsAtRest e (path_of f) f.end → f.end.told ≡ f.told → IsOpen e f
 rest_open d e f opened rest told = record { names = opened.names; staged = committed_staged e (path_of f) f.end f.told rest told; keys = opened.keys }
 
--- it holds what was committed
+-- the folder has the committed bytes
 pub rest_held : (d : DiskState) (f : Folder) → f.end.told ≡ f.told → IsWritten f → held_by d f ≡ committed_by d f
 rest_held d f told none = written_held d f none ∙ ap (λ (t : CommitRecord). base_at d (path_of f) t) (sym told)
 
 pub readable_held : (d : DiskState) (f : Folder) → IsReadable d f → held_by d f ≡ committed_by d f
 readable_held d f readable = rest_held d f readable.told readable.written
 
--- each message stands where its entry tells
+-- each message is at the place in its entry
 pub told_readable : (keyed : ℕ → ℕ → List ℕ → ℕ) (d : DiskState) (f : Folder) (base : Base) → IsReadable d f → HoldsBase keyed (committed_by d f) base
     → StandWhereTold base.messages (held_by d f).messages (held_by d f).keys
 told_readable keyed d f base readable holds =
@@ -77,7 +77,7 @@ many_readable keyed d f base readable holds =
     let long = keys_all d f readable.legible in
     omega (arith, many, long)
 
--- under another cursor it is open still
+-- with another cursor it is still open
 pub cursor_open : (d : DiskState) (f : Folder) (cursor : ℕ) → IsOpen d f → IsOpen d (record f { told = record f.told { cursor = cursor } })
 cursor_open d f cursor was = record {
   names = was.names;

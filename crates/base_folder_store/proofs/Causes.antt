@@ -1,4 +1,4 @@
--- What reads answer, carried from one to the next.
+-- The answers of reads, carried from one to the next.
 use Rattle.std.proofs.Common.{◌≡◌, ◌<◌, ◌≤◌, ◌-◌, ◌^◌, ℕ, List, inl, inr, Result, Ok, Err, ap, sym, subst, ◌∙◌, arith, ⊎_elim}
 use Rattle.std.proofs.lemmas.Bool.{cases_lt}
 use Rattle.disk_io.specs.Device.{Failed}
@@ -12,7 +12,7 @@ use Rattle.base_folder_store.specs.Answers.{Answers, HasReadCause}
 use Rattle.base_folder_store.specs.Held.{HoldsBase}
 use Rattle.base_folder_store.specs.Left.{HasPurgeCause}
 
--- where an error was handed on
+-- the call passes on an error
 pub answers_error : {T U : Type 0} (P : T → Type 0) (Q : U → Type 0) (e : StoreError) (r : Result U StoreError) → IsErrAnd r (λ x. x ≡ e) → Answers {T = T} P (Err e) → Answers Q r
 answers_error P Q e (Ok x) same was = absurd same
 answers_error P Q e (Err error.Damaged) same was = subst (λ (y : StoreError). Answers P (Err y)) (sym same) was
@@ -20,7 +20,7 @@ answers_error P Q e (Err error.Memory) same was = tt
 answers_error P Q e (Err error.Device) same was = tt
 answers_error P Q e (Err error.TooMany) same was = tt
 
--- what an answer gives
+-- a consequence of a fact about an answer
 pub answers_give : {T : Type 0} (P Q : T → Type 0) → ((x : T) → P x → Q x) → (r : Result T StoreError) → Answers P r → Answers Q r
 answers_give P Q gives (Ok x) was = gives x was
 answers_give P Q gives (Err error.Damaged) was = absurd was
@@ -28,7 +28,7 @@ answers_give P Q gives (Err error.Memory) was = tt
 answers_give P Q gives (Err error.Device) was = tt
 answers_give P Q gives (Err error.TooMany) was = tt
 
--- and where one that is no damage was handed on
+-- the call passes on an error other than damage
 pub answers_whole : {T U : Type 0} (Q : U → Type 0) (e : StoreError) (r : Result U StoreError) → IsErrAnd r (λ x. x ≡ e) → (IsErrOf {T = T} (Err e) error.Damaged → ⊥) → Answers Q r
 answers_whole Q e (Ok x) same none = absurd same
 answers_whole Q e (Err error.Damaged) same none = absurd (none (ap (λ (x : StoreError). Err x) (sym same)))
@@ -36,7 +36,7 @@ answers_whole Q e (Err error.Memory) same none = tt
 answers_whole Q e (Err error.Device) same none = tt
 answers_whole Q e (Err error.TooMany) same none = tt
 
--- an error that was handed on as it is
+-- an error passed on unchanged
 pub handed_on : {T U E : Type 0} (e f : E) (r : Result T E) → IsErrAnd r (λ x. x ≡ e) → IsErrOf r f → IsErrOf {T = U} (Err e) f
 handed_on e f (Ok x) same is = absurd same
 handed_on {E = E} e f (Err x) same is =
@@ -44,7 +44,7 @@ handed_on {E = E} e f (Err x) same is =
     let inside : x ≡ f = cc (is) in
     ap (λ (y : E). Err y) (sym first ∙ inside)
 
--- why a purge failed in a call whose error was handed on
+-- why a purge failed, if it passes on the error of another call
 pub purge_cause : {T U : Type 0} (disk : DiskState) (bytes : BaseBytes) (before now : ℕ) (e : StoreError) (r : Result U StoreError) → IsErrAnd r (λ x. x ≡ e) → HasReadCause {T = T} before now (Err e)
     → Honestly disk (IsErrOf {T = T} (Err e) error.Damaged → (keyed : ℕ → ℕ → List ℕ → ℕ) (base : Base) → HoldsBase keyed bytes base → ⊥) → HasPurgeCause disk bytes before now r
 purge_cause disk bytes before now e r same cause damaged = record {
@@ -67,17 +67,17 @@ failed_since first before now order failed =
     (cases_lt first before))
     failed
 
--- what two clauses say of one value
+-- two clauses about one value
 pub ok_both : {T E : Type 0} (P Q R : T → Type 0) → ((x : T) → P x → Q x → R x) → (r : Result T E) → IfOk r P → IfOk r Q → IfOk r R
 ok_both P Q R gives (Ok x) p q = gives x p q
 ok_both P Q R gives (Err e) p q = tt
 
--- what two clauses say where there is a value
+-- two clauses about a value, if there is one
 pub done_both : {T E P Q R : Type 0} → (P → Q → R) → (r : Result T E) → OnOk r P → OnOk r Q → OnOk r R
 done_both gives (Ok x) p q = gives p q
 done_both gives (Err e) p q = tt
 
--- what holds anyway holds at an error
+-- a fact without a condition also holds at an error
 pub at_error : {T E P : Type 0} (r : Result T E) → P → OnErr r P
 at_error (Ok x) p = tt
 at_error (Err e) p = p
@@ -86,7 +86,7 @@ pub on_ok_from : {T E P : Type 0} (r : Result T E) → P → OnOk r P
 on_ok_from (Ok x) p = p
 on_ok_from (Err e) p = tt
 
--- nothing is said of a value where an error was handed on
+-- at a passed error, no clause about a value applies
 pub on_ok_none : {T E : Type 0} (P : Type 0) (e : E) (r : Result T E) → IsErrAnd r (λ x. x ≡ e) → OnOk r P
 on_ok_none P e (Ok x) same = absurd same
 on_ok_none P e (Err x) same = tt

@@ -68,12 +68,12 @@ claimed_holds keyed fits d f mark base opened free holds =
       cursor = holds.cursor;
     }
 
--- what a claim answers of the folder
+-- the answer of a claim about the folder
 pub record IsClaim (f g : Folder) (mark : FolderIdentity) (result : Bool) : Type 0 where
   pub claimed : result ≡ true → IsUnclaimed f × (g ≡ with_mark f mark)
   pub refused : result ≡ false → (IsUnclaimed f → ⊥) × (g ≡ f)
 
--- what is so of the folder as it was and of one that was unclaimed, with the mark
+-- a fact about the old folder, and about an unclaimed one with the mark, holds after the claim
 pub by_claim : (P : Folder → Type 0) (f g : Folder) (mark : FolderIdentity) (result : Bool) → IsClaim f g mark result → P f → (IsUnclaimed f → P (with_mark f mark)) → P g
 by_claim P f g mark true claim was is = let c = claim.claimed refl in subst P (sym c.1) (is c.0)
 by_claim P f g mark false claim was is = subst P (sym (claim.refused refl).1) was

@@ -1,4 +1,4 @@
--- What a purge leaves of a base folder has room where the folder had it.
+-- A purged base has room in a folder that had room for the base.
 use Rattle.std.proofs.Common.{◌≡◌, ◌+◌, ◌*◌, ◌/◌, ◌^◌, ◌<◌, ◌≤◌, ℕ, nat_lt, List, [], ◌∷◌, ◌++◌, length, take, ap, inl, inr, arith, length-append}
 use Rattle.std.specs.List.{AllByRecursion, flat_map}
 use Rattle.std.proofs.lemmas.Bool.{cond-true, lt-ltb}
@@ -33,7 +33,7 @@ entries_few : (all : List Stored) → AllByRecursion (IsStored Second) all → 1
 entries_few [] sizes = omega arith
 entries_few (s ∷ all) sizes = omega (arith, stored_some s sizes.0, entries_few all sizes.1, length-append (stored_bytes Second s) (flat_map (stored_bytes Second) all))
 
--- so eight bytes count the entries where they count the messages
+-- if eight bytes count the messages, they count the entries
 keys_few : (keyed : ℕ → ℕ → List ℕ → ℕ) (bytes : BaseBytes) (base : Base) → HoldsBase keyed bytes base → 16 * length base.messages < 2 ^ 64
 keys_few keyed bytes base holds =
     let files = holds.files in
@@ -45,7 +45,7 @@ reaches messages keys i s has =
     let ends = place_behind messages keys i in
     omega (arith, has.begins, ap (λ (l : List ℕ). length l) has.bytes, length-drop (place_at keys i) (take ends messages), length-take-le ends messages has.ends)
 
--- what is left of one message more has no more bytes
+-- one more purged message has no more bytes than before
 pub shorter_more : (base : List Filed) (was held now : BaseBytes) (place number : ℕ) (bytes : List ℕ) (s : Stored) → StandWhereTold base was.messages was.keys → HasBytesOf was.messages was.keys place s
     → length held.messages ≤ place_at was.keys place → length bytes ≤ length (stored_bytes Second s) → now ≡ with_stored held bytes number → place + 1 < length base → length now.messages ≤ place_at was.keys (place + 1)
 shorter_more base was held now place number bytes s told has less shorter staged within =

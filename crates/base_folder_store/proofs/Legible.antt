@@ -1,4 +1,4 @@
--- A folder whose files can be read.
+-- A folder with readable files.
 use Rattle.std.proofs.Common.{◌≡◌, ◌≤◌, ◌+◌, ℕ, List, length, sym, ap, subst, arith, length-append}
 use Rattle.std.proofs.lemmas.List.{length-take-le}
 use Rattle.std.specs.Prelude.{IsSome}
@@ -24,7 +24,7 @@ legible_open d f opened = record {
   keys = opened.keys;
 }
 
--- where its two files are as they were, it can be read still
+-- a folder with unchanged files remains readable
 pub legible_same : (d e : DiskState) (f : Folder) → e.seen (messages_of (path_of f) f.told.number) ≡ d.seen (messages_of (path_of f) f.told.number)
     → e.seen (keys_of (path_of f) f.told.number) ≡ d.seen (keys_of (path_of f) f.told.number) → IsLegible d f → IsLegible e f
 legible_same d e f messages keys was = record {
@@ -43,11 +43,11 @@ legible_quiet d e f quiet was = legible_same d e f (quiet.seen (messages_of (pat
 pub held_quiet : (d e : DiskState) (f : Folder) → ChangesNothing d e → held_by e f ≡ held_by d f
 held_quiet d e f quiet = ap (λ (b : BaseBytes). and_waiting b f.waiting) (base_quiet d e (path_of f) f.told quiet)
 
--- so many bytes of the keys count
+-- the number of counted bytes of the keys
 pub keys_count : (d : DiskState) (path : List ℕ) (end : End) (told : CommitRecord) → IsStaged d path end told → length (base_at d path told).keys ≡ told.keys
 keys_count d path end told staged = length-take-le told.keys (bytes_in (d.seen (keys_of path told.number))) staged.keys_long
 
--- so many bytes the keys have
+-- the number of bytes of all keys
 pub keys_all : (d : DiskState) (f : Folder) → IsLegible d f → length (held_by d f).keys ≡ f.keys
 keys_all d f legible =
     let written : length (base_at d (path_of f) f.told).keys ≡ f.told.keys = length-take-le f.told.keys (bytes_in (d.seen (keys_of (path_of f) f.told.number))) legible.keys_long in
@@ -55,7 +55,7 @@ keys_all d f legible =
     let sum = legible.keys in
     omega (arith, written, all, sum)
 
--- and so many the messages
+-- the number of bytes of all messages
 pub messages_all : (d : DiskState) (f : Folder) → IsLegible d f → length (held_by d f).messages ≡ next_place f
 messages_all d f legible =
     let written : length (base_at d (path_of f) f.told).messages ≡ f.told.messages = length-take-le f.told.messages (bytes_in (d.seen (messages_of (path_of f) f.told.number))) legible.messages_long in

@@ -7,12 +7,12 @@ use Rattle.base_store.specs.Keys.{digest_at}
 use Rattle.base_file.specs.Alone.{IsStoredAlone}
 use Rattle.base_folder_store.specs.Answers.{HaveDigest, IsStoredOf}
 
--- none passes
+-- no element passes
 pub none_passes : {X : Type 0} (test : X → Bool) (xs : List X) → ((i : ℕ) (d : X) → i < length xs → test (get_or xs i d) ≡ false) → list_any test xs ≡ false
 none_passes test [] each = refl
 none_passes test (x ∷ xs) each = or_from (test x) (list_any test xs) (each 0 x (omega arith)) (none_passes test xs (λ i d within. each (suc i) d (omega arith)))
 
--- a message whose entry has another digest does not pass
+-- a message with another digest in its entry does not pass
 pub other_digest : (test : Filed → Bool) (digest : ℕ) (base : List Filed) (keys : List ℕ) → HaveDigest test digest base keys → (j : ℕ) (d : Filed) → j < length base → digest_at keys j ≢ digest
     → test (get_or base j d) ≡ false
 other_digest test digest base keys have j d within other = false_from_ne_true (test (get_or base j d)) (λ passes. other (have j d within passes))
@@ -37,7 +37,7 @@ passed_on test digest base keys below place many have behind others fails j d fr
     (λ (h : below ≤ j). behind j d h inside)
     (cases_lt j below)
 
--- where all from a number on fail, and none before has the digest, none passes
+-- no message passes if all from a number on fail and no earlier one has the digest
 pub none_found : (test : Filed → Bool) (digest : ℕ) (base : List Filed) (keys : List ℕ) (below : ℕ) → length keys ≡ 16 * length base → HaveDigest test digest base keys
     → ((j : ℕ) (d : Filed) → below ≤ j → j < length base → test (get_or base j d) ≡ false) → ((j : ℕ) → j < below → j < length keys / 16 → digest_at keys j ≢ digest) → list_any test base ≡ false
 none_found test digest base keys below many have behind others =

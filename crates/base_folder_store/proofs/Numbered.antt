@@ -1,4 +1,4 @@
--- A message stands where the entry of its number tells.
+-- A message is at the place in the entry of its number.
 use Rattle.std.proofs.Common.{◌≡◌, ℕ, ◌≤◌, ◌<◌, ◌+◌, ◌-◌, ◌*◌, ◌/◌, List, ◌++◌, length, min, take, drop, nat_lt, sym, ◌∙◌, ap, subst, arith, ⊎_elim, length-append, length-drop}
 use Rattle.std.proofs.lemmas.Bool.{cases_lt, cond-false, cond-true, le-ltb, lt-ltb}
 use Rattle.std.proofs.lemmas.List.{drop-append-le, drop-drop, length-take-le, take-append-drop, take-append-le}
@@ -34,7 +34,7 @@ piece_place keys from piece i is within =
     ∙ ap (λ (l : List ℕ). from_le_bytes w64 (take 8 l)) (drop-append-le (16 * i) piece is.rest (omega (arith, inside)))
     ∙ ap (λ (l : List ℕ). from_le_bytes w64 l) (take-append-le 8 (drop (16 * i) piece) is.rest (omega (arith, long, inside)))
 
--- two entries tell where the first message begins and ends, or one where it is the last
+-- two entries give the start and the end of the first message, or one entry if it is the last
 module _ (messages keys piece : List ℕ) (place : ℕ) (is : IsPieceOf keys place piece) (inside : place < length keys / 16) (two : length piece / 16 ≡ min 2 (length keys / 16 - place)) where
   begins_there : place_at piece 0 ≡ place_at keys place
   begins_there =
@@ -71,7 +71,7 @@ module _ (messages keys piece : List ℕ) (place : ℕ) (is : IsPieceOf keys pla
       let none : place + 0 ≡ place = omega arith in
       sym (piece_digest keys place piece 0 is some) ∙ ap (digest_at keys) none
 
--- what was read of the keys is a piece of them
+-- the bytes read from the keys are a piece of them
 pub piece_long : (keys piece : List ℕ) (from to : ℕ) → 16 * to ≤ length keys → piece ≡ drop (16 * from) (take (16 * to) keys) → length piece ≡ 16 * to - 16 * from
 piece_long keys piece from to within is =
     ap (λ (l : List ℕ). length l) is ∙ length-drop (16 * from) (take (16 * to) keys) ∙ ap (λ (n : ℕ). n - 16 * from) (length-take-le (16 * to) keys within)
@@ -90,7 +90,7 @@ piece_of keys piece from to order within is =
       even = omega (arith, long, order);
     }
 
--- so is what an index holds of them
+-- the index's copy of the keys is also such a piece
 pub piece_held : (keys : List ℕ) (index : Index) (items : List ℕ) (from to : ℕ) → IsIndexOf keys index → from ≤ to → 16 * to ≤ length (entries_of index)
     → items ≡ drop (16 * from) (take (16 * to) (entries_of index)) → IsPieceOf keys from items
 piece_held keys index items from to is order within held =

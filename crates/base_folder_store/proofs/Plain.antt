@@ -1,4 +1,4 @@
--- What the first two lines of a text tell plainly.
+-- The facts that the first two lines of a text give without parsing.
 use Rattle.std.proofs.Common.{◌≡◌, ℕ, ◌<◌, ◌≤◌, ◌==◌, nat_lt, true, false, List, ◌∷◌, ◌++◌, length, map, take, drop, get_or, Option, Some, refl, sym, ap, ◌∙◌, arith}
 use Rattle.std.specs.List.{filter, find}
 use Rattle.std.proofs.lemmas.Bool.{and_from, cond-false, cond-true, lt-ltb, ne_eqb, or_from}
@@ -37,7 +37,7 @@ plain_id line id later front rest some =
     ap (λ (l : List ℕ). msgid_of (kept_of (l ∷ later))) (sym (take-append-drop 7 line) ∙ ap (λ (l : List ℕ). l ++ drop 7 line) front)
     ∙ id_in_front (drop 7 line) id later rest some
 
--- the names of a stored message stand behind 27 bytes
+-- the names of a stored message come after 27 bytes
 pub strings_in : (s : Stored) (bytes : List ℕ) → IsStored Second s → bytes ≡ stored_bytes Second s
     → drop 27 bytes ≡ after_length s.to_name ++ (after_length s.from_name ++ (after_length s.subject ++ last_bytes Second s))
 unfolding stored_bytes
@@ -45,19 +45,19 @@ strings_in s bytes size is =
     ap (λ (l : List ℕ). drop 27 l) is
     ∙ drop_at s.date (after_length s.to_name ++ (after_length s.from_name ++ (after_length s.subject ++ last_bytes Second s))) 20 size.date_len
 
--- its first byte tells whether it has its text
+-- its first byte shows that it has its text
 pub whole_in : (s : Stored) (bytes : List ℕ) → bytes ≡ stored_bytes Second s → get_or bytes 0 0 ≤ 1 → has_tag Second s.kind ≡ false
 unfolding stored_bytes
 whole_in s bytes is small =
     let first : get_or bytes 0 0 ≡ s.kind = ap (λ (l : List ℕ). get_or l 0 0) is in
     or_from (s.kind == 2) (s.kind == 3) (ne_eqb s.kind 2 (λ (e : s.kind ≡ 2). omega (arith, first, small, e))) (ne_eqb s.kind 3 (λ (e : s.kind ≡ 3). omega (arith, first, small, e)))
 
--- the text stands behind its length
+-- the text comes after its length
 pub last_in : (s : Stored) (last : List ℕ) → has_tag Second s.kind ≡ false → last ≡ last_bytes Second s → drop 4 last ≡ s.last
 last_in s last whole is =
     ap (λ (l : List ℕ). drop 4 l) (is ∙ cond-false (has_tag Second s.kind) (after_length s.tag ++ after_long_length s.last) (after_long_length s.last) whole)
 
--- what the message says that has such a text
+-- the parsed text of such a message
 echo_is : (s : Stored) (text : List ℕ) → has_tag Second s.kind ≡ false → text ≡ s.last → (message_in Second s).echo ≡ echo_of text
 unfolding message_in
 echo_is s text whole is = cond-false (has_tag Second s.kind) _ (echo_of s.last) whole ∙ ap echo_of (sym is)

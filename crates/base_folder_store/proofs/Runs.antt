@@ -1,4 +1,4 @@
--- Runs of calls on an open base folder, one after another.
+-- Sequences of calls on an open base folder.
 use Rattle.std.proofs.Common.{◌≡◌, inl, inr, ⊎_elim, List, ℕ, Result, ◌∙◌, subst}
 use Rattle.disk_io.specs.Disk.{DiskState, Honestly}
 use Rattle.disk_io.specs.Runs.{ChangesNothing}
@@ -12,7 +12,7 @@ use Rattle.base_folder_store.specs.Opened.{IsOpen, committed_by, path_of}
 use Rattle.base_folder_store.specs.declared.folder.Folder.{Folder}
 use Rattle.base_folder_store.proofs.Staged.{nothing_left, outside_same}
 
--- nothing was called
+-- a run without calls
 pub run_none : (d : DiskState) (f : Folder) → Honestly d (IsOpen d f) → StagesOnly (path_of f) (committed_by d f) d d
 run_none d f opened = record { any_moment = λ honest. nothing_left d f (opened honest); outside = outside_same (path_of f) d }
 
@@ -39,7 +39,7 @@ run_twice path here d e f base now at one there same =
       outside = outside_twice path d e f kept two.outside;
     }
 
--- what stages commits nothing
+-- a run that only stages commits nothing
 pub run_staged : (path : List ℕ) (d e : DiskState) (first next : BaseBytes) → StagesOnly path first d e → CommitsOnly path first next d e
 run_staged path d e first next one = record {
   any_moment = λ honest. weaker_run d e (StandsAlone path d first) (IsBeforeOrAfter path d first next) (one.any_moment honest) (λ c left. record { outside = left.outside; stands = inl left.stands });

@@ -1,4 +1,4 @@
--- What a store over a base folder answers of the base that it holds.
+-- The answers of a store over a base folder about its base.
 use Rattle.std.proofs.Common.{◌≡◌, ◌<◌, ◌/◌, ◌^◌, ◌++◌, ℕ, false, true, List, length, get_or, Option, Some, None, sym, ap, subst, ◌∙◌, arith}
 use Rattle.std.specs.Prelude.{bytes_eq, option_map, slice_get, unwrap_or}
 use Rattle.std.specs.Cmp.Lexicographic.{bytes_decides}
@@ -34,7 +34,7 @@ key_digest keyed bytes base key number holds is i d within passes =
     ∙ ap (digest_by keyed bytes.mark) (of_key m ∙ ap digested_key ((same_key_decides (key_of m) key).0 passes))
     ∙ sym is
 
--- what a digest is taken of where a message has an id
+-- the digest of a message with an id covers the id
 id_digested : (m : Filed) (id : List ℕ) (has : Option (List ℕ)) → unwrap_or (option_map (bytes_eq id) has) false ≡ true → digested_with m has ≡ id
 id_digested m id None h = absurd (cc)
 id_digested m id (Some x) h = sym ((bytes_decides id x).0 h)

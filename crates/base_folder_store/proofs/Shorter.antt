@@ -1,4 +1,4 @@
--- What a purge leaves of a stored message has no more bytes than it had.
+-- A purged stored message has no more bytes than before.
 use Rattle.std.proofs.Common.{◌≡◌, ℕ, ◌+◌, ◌-◌, ◌^◌, ◌≤◌, ◌&&◌, nat_lt, Bool, true, false, List, [], ◌∷◌, ◌++◌, length, map, drop, refl, sym, ap, subst, ◌∙◌, Option, Some, None, inl, inr, arith, length-append}
 use Rattle.std.specs.Prelude.{filter, find, is_some, unwrap_or}
 use Rattle.std.specs.List.{flat_map, prefix_len, suffix_len}
@@ -30,7 +30,7 @@ in_line line =
     let front = drop (prefix_len is_blank rest) rest in
     omega (arith, length-drop (prefix_len is_feed line) line, length-drop (length msgid_word) fed, length-drop (prefix_len is_blank rest) rest, length-take (length front - suffix_len is_blank front) front)
 
--- nor than all lines
+-- the id has no more bytes than all lines
 in_lines : (p q : List ℕ → Bool) (f : List ℕ → List ℕ) → ((line : List ℕ) → length (f line) ≤ length line) → (kept : List (List ℕ)) (id : List ℕ) → find p (map f (filter q kept)) ≡ Some id
     → length id ≤ length (flat_map ended kept)
 in_lines p q f short [] id found = absurd (cc)
@@ -103,7 +103,7 @@ stub_is m id has = ap (stub_with m) has
 front_same : (short : Bool) (m : Filed) (id : List ℕ) → length (front_bytes (stored_as true (stub_with m (Some id)))) ≡ length (front_bytes (stored_as short m))
 front_same short m id = refl
 
--- with an id it is saved in short
+-- with an id it is saved in short form
 with_id : (short : Bool) (m : Filed) (id : List ℕ) → msgid_of m.echo.kept ≡ Some id → IsLess short m (stub_with m (Some id))
 unfolding stored_at
 with_id short m id has =
@@ -152,7 +152,7 @@ unfolding stub_of
 less_of cursor m None is = subst (λ (o : Option (List ℕ)). IsLess (is_short Second cursor 0 m) m (stub_with m o)) (sym is) (without_id cursor m is)
 less_of cursor m (Some id) is = subst (λ (o : Option (List ℕ)). IsLess (is_short Second cursor 0 m) m (stub_with m o)) (sym is) (with_id (is_short Second cursor 0 m) m id is)
 
--- what a purge leaves of a message that stands alone
+-- the purged form of a single message
 pub record LeavesLess (s : Stored) : Type 0 where
   pub few : is_short_enough (stored_at 1 0 (stub_of (message_in Second s))) ≡ true
   pub less : length (stored_bytes Second (stored_at 1 0 (stub_of (message_in Second s)))) ≤ length (stored_bytes Second s)

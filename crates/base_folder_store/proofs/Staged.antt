@@ -1,4 +1,4 @@
--- What staging and committing leave of an open base folder.
+-- An open base folder after staging and after a commit.
 use Rattle.std.proofs.Common.{◌≡◌, ◌<◌, ◌+◌, ◌^◌, ℕ, List, ◌++◌, length, refl, sym, ap, subst, ◌∙◌, arith, length-append}
 use Rattle.std.proofs.lemmas.List.{append_assoc, length-take-le}
 use Rattle.disk_io.specs.Disk.{DiskState, bytes_in}
@@ -19,7 +19,7 @@ use Rattle.base_folder_store.specs.declared.folder.Folder.{Folder}
 use Rattle.base_folder_store.proofs.Legible.{keys_count}
 use Rattle.base_folder_store.proofs.Waits.{written_held}
 
--- nothing outside has changed where nothing was called
+-- without a call, everything outside is unchanged
 pub outside_same : (path : List ℕ) (d : DiskState) → KeepsOutside path d d
 outside_same path d = record {
   seen = λ m out. refl;
@@ -33,15 +33,15 @@ outside_same path d = record {
 pub names_kept : (f g : Folder) → g.names ≡ f.names → g.told ≡ f.told → IsNamed f → IsNamed g
 names_kept f g names told was = subst (λ (t : CommitRecord). AreNames g.names t.number) (sym told) (subst (λ (n : Names). AreNames n f.told.number) (sym names) was)
 
--- so many bytes of the messages count
+-- the number of counted bytes of the messages
 pub messages_count : (d : DiskState) (path : List ℕ) (end : End) (told : CommitRecord) → IsStaged d path end told → length (base_at d path told).messages ≡ told.messages
 messages_count d path end told staged = length-take-le told.messages (bytes_in (d.seen (messages_of path told.number))) staged.messages_long
 
--- what was committed is staged
+-- a committed record is also staged
 pub committed_staged : (d : DiskState) (path : List ℕ) (after : End) (told : CommitRecord) → IsAtRest d path after → after.told ≡ told → IsStaged d path after told
 committed_staged d path after told rest is = subst (λ (t : CommitRecord). IsStaged d path after t) is (rest_staged d path after after.told.cursor after.told.mark rest)
 
--- the folder with one message more that waits, and its entry
+-- the folder with one more waiting message, and its entry
 module _ (d : DiskState) (f g : Folder) (bytes : List ℕ) (digest : ℕ) (was : IsOpen d f) (more : OneMoreWaits f g bytes digest) where
   regrouped : and_keys (and_messages (base_at d (path_of f) f.told) (f.waiting.messages.items ++ bytes)) (f.waiting.keys.items ++ entry (next_place f) digest) ≡ and_keys (and_messages (held_by d f) bytes) (entry (next_place f) digest)
   regrouped = λ i. record {
@@ -109,11 +109,11 @@ module _ (d e : DiskState) (f g : Folder) (bytes one : List ℕ) (was : IsOpen d
         omega (arith, keys, was_keys, wait, had, more, now, before);
   }
 
--- nothing is committed where nothing was called
+-- without a call, no commit
 pub nothing_left : (d : DiskState) (f : Folder) → IsOpen d f → LeavesOnly d d (StandsAlone (path_of f) d (committed_by d f))
 nothing_left d f was = no_call d (StandsAlone (path_of f) d (committed_by d f)) (λ c left. record { outside = λ m out named flushed. d.on_disk m named flushed c left; stands = was.staged.stands c left })
 
--- what was committed is open, and is what was held
+-- the committed folder is open, and its base is the one held before
 pub committed_open : (d e : DiskState) (f g : Folder) → IsOpen d f → g.names ≡ f.names → g.told ≡ f.told → g.keys ≡ f.keys → g.waiting ≡ f.waiting → IsAtRest e (path_of f) g.end → g.end.told ≡ f.told → IsOpen e g
 committed_open d e f g was names told keys wait rest is =
     let path : path_of g ≡ path_of f = ap (λ (n : Names). folder_of n) names in

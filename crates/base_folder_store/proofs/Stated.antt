@@ -46,7 +46,7 @@ same_folder d e keyed f g h k path = record {
 pub beside : (d e : DiskState) (keyed : ℕ → ℕ → List ℕ → ℕ) (f g : Folder) (h k : Option Filed) → KeepsOutside (path_of f) d e → KeepsBeside (state_of d keyed f h) (state_of e keyed g k)
 beside d e keyed f g h k kept = record { seen = kept.seen; named = kept.named; flushed = kept.flushed; alone = kept.alone; honest = kept.honest }
 
--- what was staged is not committed
+-- staging commits nothing
 pub stages : (d e : DiskState) (keyed : ℕ → ℕ → List ℕ → ℕ) (f g : Folder) (h k : Option Filed) → path_of g ≡ path_of f → StagesOnly (path_of f) (committed_by d f) d e → CommitsNothing (state_of d keyed f h) (state_of e keyed g k)
 stages d e keyed f g h k path run = record {
   any_moment = λ honest base is.
@@ -56,7 +56,7 @@ stages d e keyed f g h k path run = record {
   same = same_folder d e keyed f g h k path;
 }
 
--- the store goes on where the folder is still open, and what was committed is so still
+-- the store allows further calls if the folder is still open and its committed base is unchanged
 pub went_on : {T : Type 0} (d e : DiskState) (keyed : ℕ → ℕ → List ℕ → ℕ) (f g : Folder) (h k : Option Filed) (r : Result T StoreError) → StaysOpen f g e r → Honestly e (OnOk r (committed_by e g ≡ committed_by d f))
     → KeepsOutside (path_of f) d e → OnOk r (GoesOn (state_of d keyed f h) (state_of e keyed g k))
 went_on d e keyed f g h k (Ok done) stays same kept = record {
@@ -66,12 +66,12 @@ went_on d e keyed f g h k (Ok done) stays same kept = record {
 }
 went_on d e keyed f g h k (Err failed) stays same kept = tt
 
--- calls may be made where the folder is still open
+-- the store allows calls if the folder is still open
 pub usable_after : {T : Type 0} (e : DiskState) (g : Folder) (r : Result T StoreError) → IsNamed g → Honestly e (OnOk r (IsOpen e g)) → OnOk r (IsUsable e g)
 usable_after e g (Ok done) named opened = record { named = named; opened = opened }
 usable_after e g (Err failed) named opened = tt
 
--- what was held is committed
+-- the base held before is committed
 pub committed : {T : Type 0} (d e : DiskState) (keyed : ℕ → ℕ → List ℕ → ℕ) (f g : Folder) (h k : Option Filed) (r : Result T StoreError) → StaysOpen f g e r → IsAcknowledged d e f g r → KeepsOutside (path_of f) d e
     → OnOk r (Commits (state_of d keyed f h) (state_of e keyed g k))
 committed d e keyed f g h k (Ok ok) stays done kept = record {
@@ -98,7 +98,7 @@ may_commit d e keyed f g h k path run = record {
   same = same_folder d e keyed f g h k path;
 }
 
--- where a base is held, an answer is not that a message is damaged
+-- if the folder holds a base, the answer is not damage
 pub not_damaged : {T : Type 0} (P : T → Type 0) (r : Result T StoreError) → Answers P r → IsErrOf r error.Damaged → ⊥
 not_damaged P (Ok value) was is = absurd (cc)
 not_damaged P (Err error.Damaged) was is = was
@@ -115,12 +115,12 @@ read_cause s t P before now r cause answers = record {
   damaged = λ honest is base keeps. not_damaged (P base) r (answers honest base keeps) is;
 }
 
--- the answer where there is one
+-- the answer, if there is one
 pub answered : {T : Type 0} (P : T → Type 0) (r : Result T StoreError) → Answers P r → IfOk r P
 answered P (Ok value) was = was
 answered P (Err e) was = tt
 
--- why a read failed whose error was handed on
+-- why a call failed that passes on the error of a read
 pub handed_cause : {T U : Type 0} (s t : StoreState) (P : Base → T → Type 0) (before now : ℕ) (e : StoreError) → HasReadCause {T = T} before now (Err e)
     → Honestly t.disk ((base : Base) → s.keeps base → Answers (P base) (Err e)) → HasStoreCause {T = U} s t before now (Err e)
 handed_cause {T} {U} s t P before now e cause answers = record {
@@ -129,7 +129,7 @@ handed_cause {T} {U} s t P before now e cause answers = record {
   damaged = λ honest is base keeps. not_damaged (P base) (Err e) (answers honest base keeps) (ap (λ (x : StoreError). Err x) (same_error {T = U} (Err e) e error.Damaged refl is));
 }
 
--- a message that is not there is damage where no base is held
+-- a missing message is damage if the folder holds no base
 pub none_there : {T : Type 0} (s : StoreState) (now place count : ℕ) → Honestly s.disk ((base : Base) → s.keeps base → place < length base.messages)
     → Honestly s.disk ((base : Base) → s.keeps base → count ≡ length base.messages) → count ≤ place → HasStoreCause {T = T} s s now now (Err error.Damaged)
 none_there s now place count within many past = record {

@@ -1,4 +1,4 @@
--- The messages of a base folder as a purge leaves them, one after another.
+-- The messages of a base folder after a purge, in order.
 use Rattle.std.proofs.Common.{◌≡◌, ◌<◌, ◌≤◌, ◌+◌, ◌^◌, ℕ, zero, suc, not, nat_lt, ◌&&◌, Bool, true, false, List, [], ◌∷◌, ◌++◌, length, map, take, drop, get_or, refl, sym, ap, subst, ◌∙◌, arith, count_by, append_assoc, lit<, if◌then◌else◌}
 use Rattle.std.specs.List.{AllByRecursion}
 use Rattle.std.proofs.lemmas.Bool.{ltb-false, ltb-true}
@@ -42,13 +42,13 @@ left_at (suc n) (m ∷ ms) zero d false within below = absurd (omega (arith, bel
 left_at (suc n) (m ∷ ms) (suc i) d scanned within below =
     left_at n ms i d scanned (omega arith) (record { yes = λ is. let more = below.yes is in omega arith; no = λ is. let less = below.no is in omega arith })
 
--- one of the messages may stand in a base
+-- each message of a base follows the rules of a filed one
 filed_at : (base : List Filed) (i : ℕ) (d : Filed) → i < length base → AllByRecursion IsFiled base → IsFiled (get_or base i d)
 filed_at [] i d within each = absurd (omega (arith, within))
 filed_at (m ∷ base) zero d within each = each.0
 filed_at (m ∷ base) (suc i) d within each = filed_at base i d (omega arith) each.1
 
--- and its key is that of none before it
+-- no earlier message has its key
 pub new_at : (earlier base : List Filed) (i : ℕ) (d : Filed) → i < length base → AreNew earlier base → is_known (earlier ++ take i base) (key_of (get_or base i d)) ≡ false
 new_at earlier [] i d within new = absurd (omega (arith, within))
 new_at earlier (m ∷ base) zero d within new = subst (λ (l : List Filed). is_known l (key_of m) ≡ false) (sym (append-nil earlier)) new.0
@@ -66,16 +66,16 @@ as_many base =
       length-drop base.cursor base.messages,
     )
 
--- so many are the first ones
+-- the number of the first messages
 pub first_many : (base : Base) (place : ℕ) → place < length base.messages → length (first_left base place).messages ≡ place
 first_many base place within = length-take-le place (purged base).messages (omega (arith, as_many base, within))
 
--- what is left of a message has its digest
+-- a purged message has the same digest
 same_digested : (scanned : Bool) (m : Filed) → digested (left_if scanned m) ≡ digested m
 same_digested true m = of_key (stub_of m) ∙ ap digested_key (stub_keeps_key m) ∙ sym (of_key m)
 same_digested false m = refl
 
--- of no message none is left
+-- without messages nothing changes
 pub left_none : (keyed : ℕ → ℕ → List ℕ → ℕ) (old held : BaseBytes) (base : Base) → HoldsBase keyed old base → held ≡ record { messages = []; keys = []; cursor = 0; mark = old.mark } → HoldsBase keyed held (first_left base 0)
 left_none keyed old held base holds is =
     subst (λ (b : BaseBytes). HoldsBase keyed b (first_left base 0)) (sym is) (record {

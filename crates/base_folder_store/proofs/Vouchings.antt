@@ -3,6 +3,6 @@ use Rattle.std.proofs.Common.{◌≡◌, ◌∙◌, ℕ, nat_eq, sym}
 use Rattle.std.specs.Prelude.{◌↔◌, IsTrue}
 use Rattle.std.proofs.lemmas.Bool.{eq-eqb, eqb-true}
 
--- two numbers are told apart as what they are equal to
+-- a test of two numbers decides equality of their values
 pub same_number : (a b x y : ℕ) → a ≡ x → b ≡ y → IsTrue (nat_eq a b) ↔ (x ≡ y)
 same_number a b x y at behind = (λ h. sym at ∙ eqb-true a b h ∙ behind, λ h. eq-eqb a b (at ∙ h ∙ sym behind))

@@ -1,4 +1,4 @@
--- What waits to be written, behind what is.
+-- The written bytes, and the waiting bytes after them.
 use Rattle.std.proofs.Common.{◌≡◌, ◌<◌, ◌≤◌, ◌+◌, ◌-◌, ◌++◌, ℕ, min, List, [], length, take, drop, sym, ap, ◌∙◌, arith, length-append, ⊎_elim}
 use Rattle.std.proofs.lemmas.Bool.{cases_lt}
 use Rattle.std.proofs.lemmas.List.{append-nil, drop-append-le, drop_all, length-take-le, take-append-le, take_all}
@@ -11,18 +11,18 @@ use Rattle.base_folder_store.specs.declared.folder.Folder.{Folder}
 nothing_more : (b : BaseBytes) → and_keys (and_messages b []) [] ≡ b
 nothing_more b = λ i. record { messages = append-nil b.messages i; keys = append-nil b.keys i; cursor = b.cursor; mark = b.mark }
 
--- where nothing waits, what is written is all that it holds
+-- if no bytes wait, the folder has exactly the written bytes
 pub written_held : (d : DiskState) (f : Folder) → IsWritten f → held_by d f ≡ base_at d (path_of f) f.told
 written_held d f none = (λ i. and_keys (and_messages (base_at d (path_of f) f.told) (none.messages i)) (none.keys i)) ∙ nothing_more (base_at d (path_of f) f.told)
 
--- so many bytes are written, and wait behind them
+-- the number of bytes written, then waiting
 pub count_across : (file waiting : List ℕ) (written : ℕ) → written ≤ length file → length (take written file ++ waiting) ≡ written + length waiting
 count_across file waiting written room =
     let front = length-take-le written file room in
     let all = length-append (take written file) waiting in
     omega (arith, front, all)
 
--- a part of what is written, and of what waits behind it
+-- a part that extends from the written bytes into the waiting ones
 pub part_across : (xs ys : List ℕ) (n begins ends first last from to : ℕ) → length xs ≡ n → begins ≤ ends → first ≡ min begins n → last ≡ min ends n → from ≡ begins - n → to ≡ ends - n
     → drop first (take last xs) ++ drop from (take to ys) ≡ drop begins (take ends (xs ++ ys))
 part_across xs ys n begins ends first last from to long order is_first is_last is_from is_to =

@@ -1,4 +1,4 @@
--- What is known of a store, where its calls ask for one thing more.
+-- A store with one more premise for its calls.
 use Rattle.std.proofs.Common.{Result, Ok, Err}
 use Rattle.std.specs.Prelude.{OnOk}
 use Rattle.disk_io.proofs.Moments.{weaker_run}

@@ -9,28 +9,28 @@ use Rattle.base_log.specs.Standing.{BaseBytes, and_keys, and_messages}
 use Rattle.base_store.specs.Keys.{entry}
 use Rattle.base_folder_store.specs.declared.folder.Folder.{Folder}
 
--- The bytes of one message more, with its entry.
+-- The bytes with one more message, and its entry.
 abbrev pub with_stored : BaseBytes → List ℕ → ℕ → BaseBytes
 with_stored base bytes digest = and_keys (and_messages base bytes) (entry (length base.messages) digest)
 
--- Where a message begins that is put behind those that are written and those that wait.
+-- The place of a message after all written and waiting ones.
 abbrev pub next_place : Folder → ℕ
 next_place folder = folder.told.messages + length folder.waiting.messages.items
 
--- Eight bytes do not count its messages, its keys, or its log with one record more.
+-- Eight bytes can't count its messages, its keys, or its log with one record more.
 abbrev pub IsFull : Folder → Type 0
 IsFull folder = ((2 ^ 64 ≤ next_place folder) ⊎ (2 ^ 64 ≤ folder.told.keys + length folder.waiting.keys.items)) ⊎ (2 ^ 64 ≤ folder.end.gate + 51)
 
--- Eight bytes do not count its messages with so many bytes more, or its keys with an entry more.
+-- Eight bytes can't count its messages with this many bytes more, or its keys with an entry more.
 abbrev pub LacksRoom : Folder → ℕ → Type 0
 LacksRoom folder bytes = ((2 ^ 64 ≤ next_place folder + bytes) ⊎ (2 ^ 64 ≤ folder.keys + 16)) ⊎ (2 ^ 64 ≤ folder.told.keys + length folder.waiting.keys.items + 16)
 
--- Eight bytes count its messages and its keys with one message more, and four bytes the text of that.
+-- Eight bytes can count its messages and its keys with one message more. Four bytes can count the text of that message.
 pub record HasRoomFor (folder : Folder) (m : Filed) : Type 0 where
   pub text : is_short_enough (stored_as false m) ≡ true
   pub room : LacksRoom folder (length (stored_bytes Second (stored_as false m))) → ⊥
 
--- One message more waits to be written, with its entry.
+-- One more message waits to be written, with its entry.
 pub record OneMoreWaits (old new : Folder) (bytes : List ℕ) (digest : ℕ) : Type 0 where
   pub names : new.names ≡ old.names
   pub end : new.end ≡ old.end
@@ -40,6 +40,6 @@ pub record OneMoreWaits (old new : Folder) (bytes : List ℕ) (digest : ℕ) : T
   pub entries : new.waiting.keys.items ≡ old.waiting.keys.items ++ entry (next_place old) digest
   pub fits : next_place old + length bytes < 2 ^ 64
 
--- All but the two files of that number is as it was.
+-- All files but the two of that number are unchanged.
 abbrev pub SameBesideBoth : List ℕ → ℕ → Files → Files → Type 0
 SameBesideBoth path number old new = (m : List ℕ) → m ≢ messages_of path number → m ≢ keys_of path number → new m ≡ old m

@@ -1,4 +1,4 @@
--- What reads of a base folder answer.
+-- The answers of reads of a base folder.
 use Rattle.std.specs.Prelude.{◌≡◌, ◌≤◌, ◌<◌, ℕ, Bool, true, List, length, slice_index_or, Result, Ok, Err, IsErrOf}
 use Rattle.disk_io.specs.Device.{Failed}
 use Rattle.base_file.specs.Alone.{MayStandAlone}
@@ -9,18 +9,18 @@ use Rattle.base_store.specs.Keys.{digest_at}
 use Rattle.base_store.specs.declared.store_error.StoreError.{StoreError}
 use Rattle.base_store.specs.declared.store_error.StoreError.TheVariants as error
 
--- The value is so, or the device failed or memory was refused: nothing is damaged.
+-- The value has P, or the device failed, or memory ran out. The answer is never damage.
 abbrev pub Answers : {T : Type 0} → (T → Type 0) → Result T StoreError → Type 0
 Answers P (Ok value) = P value
 Answers P (Err error.Damaged) = ⊥
 Answers P (Err _) = Unit {0}
 
--- A failure of the device is answered only where its count of failures rose.
+-- A call reports a failure of the device only if the count of failures rose.
 pub record HasReadCause {T : Type 0} (before now : ℕ) (result : Result T StoreError) : Type 0 where
   pub later : before ≤ now
   pub failed : IsErrOf result error.Device → Failed before now
 
--- The bytes are those of the message of this number, as it is stored.
+-- The bytes are those of the message of this number, in its stored form.
 pub record IsStoredOf (messages : List Filed) (place : ℕ) (bytes : List ℕ) : Type 0 where
   pub s : Stored
   pub size : IsStored Second s

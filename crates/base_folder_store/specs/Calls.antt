@@ -1,4 +1,4 @@
--- What calls on an open base folder do.
+-- The effects of calls on an open base folder.
 use Rattle.std.specs.Prelude.{◌≡◌, ◌≤◌, ℕ, List, Result, IsErrOf, OnOk}
 use Rattle.disk_io.specs.Device.{Failed}
 use Rattle.disk_io.specs.Disk.{DiskState, Files, Honestly}
@@ -15,31 +15,31 @@ use Rattle.base_folder_store.specs.Added.{SameBesideBoth}
 use Rattle.base_folder_store.specs.Opened.{IsNamed, IsOpen, IsWritten, committed_by, held_by, path_of}
 use Rattle.base_folder_store.specs.declared.folder.Folder.{Folder}
 
--- It keeps its path, its owner and its key. It is open still, unless the call failed.
+-- The folder keeps its path, its owner and its key. It is still open, unless the call failed.
 pub record StaysOpen {T : Type 0} (old new : Folder) (disk : DiskState) (result : Result T StoreError) : Type 0 where
   pub named : IsNamed new
   pub opened : Honestly disk (OnOk result (IsOpen disk new))
   pub path : path_of new ≡ path_of old
   pub mark : new.told.mark ≡ old.told.mark
 
--- It has the same files, and no other file has changed. What was committed last is the same.
+-- The folder has the same files, and no other file has changed. The last commit is the same.
 pub record StaysInFiles (old new : Folder) (before after : Files) : Type 0 where
   pub end : new.end ≡ old.end
   pub number : new.told.number ≡ old.told.number
   pub beside : SameBesideBoth (path_of old) old.told.number before after
 
--- A run that commits at most once: a crash at any time leaves the base from before or the one after. Nothing outside the folder has changed.
+-- A run that commits at most once: a crash leaves the base before or the one after. Everything outside the folder is unchanged.
 pub record CommitsOnly (path : List ℕ) (first next : BaseBytes) (old new : DiskState) : Type 0 where
   pub any_moment : Honestly new (LeavesOnly old new (IsBeforeOrAfter path old first next))
   pub outside : KeepsOutside path old new
 
--- Nothing waits any more. It holds what it held, and has committed what it had, unless the call failed.
+-- No bytes wait any more. The folder has the same base and the same committed base, unless the call failed.
 pub record IsWrittenOut {T : Type 0} (before after : DiskState) (old new : Folder) (result : Result T StoreError) : Type 0 where
   pub written : OnOk result (IsWritten new)
   pub held : Honestly after (OnOk result (held_by after new ≡ held_by before old))
   pub same : Honestly after (OnOk result (committed_by after new ≡ committed_by before old))
 
--- What was held is held and committed, in files at rest, unless the call failed.
+-- The base held before is now also committed, in files at rest, unless the call failed.
 pub record IsAcknowledged {T : Type 0} (before after : DiskState) (old new : Folder) (result : Result T StoreError) : Type 0 where
   pub written : OnOk result (IsWritten new)
   pub told : OnOk result (new.end.told ≡ new.told)
@@ -47,7 +47,7 @@ pub record IsAcknowledged {T : Type 0} (before after : DiskState) (old new : Fol
   pub committed : Honestly after (OnOk result (committed_by after new ≡ held_by before old))
   pub settled : Honestly after (OnOk result (IsAtRest after (path_of new) new.end))
 
--- Both files have these bytes more, which no record counts. What was committed last is the same.
+-- Both files have these bytes more, which no record counts yet. The last commit is the same.
 pub record StagesBoth (path : List ℕ) (before after : DiskState) (end : End) (told more : CommitRecord) (bytes keys : List ℕ) : Type 0 where
   pub staged : Honestly after (IsStaged after path end more)
   pub added : Honestly after (base_at after path more ≡ and_keys (and_messages (base_at before path told) bytes) keys)
@@ -55,7 +55,7 @@ pub record StagesBoth (path : List ℕ) (before after : DiskState) (end : End) (
   pub number : more.number ≡ told.number
   pub mark : more.mark ≡ told.mark
 
--- A failure of the device is answered only where its count of failures rose, and damage never.
+-- A call reports a failure of the device only if the count of failures rose, and it never reports damage.
 pub record HasWriteCause {T : Type 0} (before now : ℕ) (result : Result T StoreError) : Type 0 where
   pub later : before ≤ now
   pub failed : IsErrOf result error.Device → Failed before now

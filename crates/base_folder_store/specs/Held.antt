@@ -1,4 +1,4 @@
--- Which base a base folder holds.
+-- The base that a base folder holds.
 use Rattle.std.specs.Prelude.{◌≡◌, ◌⊎◌, ℕ, List}
 use Rattle.disk_io.specs.Disk.{DiskState, Files}
 use Rattle.base_log.specs.Moments.{SameOutside}
@@ -7,26 +7,26 @@ use Rattle.base_log.specs.declared.log.FolderIdentity.{FolderIdentity}
 use Rattle.base_file.specs.Base.{Base}
 use Rattle.base_store.specs.Keys.{FolderStandsFor}
 
--- the digest by the key that a mark has
+-- The digest under the key in a mark.
 abbrev pub digest_by : (ℕ → ℕ → List ℕ → ℕ) → FolderIdentity → List ℕ → ℕ
 digest_by keyed mark = keyed mark.first mark.second
 
--- The bytes of the two files, and the cursor, are those of this base. The digests in the keys are by the key that the folder keeps.
+-- The bytes of the two files and the cursor are those of this base. The digests in the keys use the key of the folder.
 pub record HoldsBase (keyed : ℕ → ℕ → List ℕ → ℕ) (bytes : BaseBytes) (base : Base) : Type 0 where
   pub files : FolderStandsFor (digest_by keyed bytes.mark) base.messages base.cursor bytes.messages bytes.keys
   pub cursor : bytes.cursor ≡ base.cursor
 
--- The files of the folder hold this base, whatever a crash made of them.
+-- The files of the folder represent this base, also after a crash.
 pub record StandsForBase (keyed : ℕ → ℕ → List ℕ → ℕ) (path : List ℕ) (base : Base) (c : Files) : Type 0 where
   pub bytes : BaseBytes
   pub stands : StandsFor path bytes c
   pub holds : HoldsBase keyed bytes base
 
--- And nothing outside the folder has changed.
+-- The same, and everything outside the folder is unchanged.
 pub record StandsForBaseAlone (keyed : ℕ → ℕ → List ℕ → ℕ) (path : List ℕ) (old : DiskState) (base : Base) (c : Files) : Type 0 where
   pub outside : SameOutside path old c
   pub stands : StandsForBase keyed path base c
 
--- Or it is what a crash might have left before.
+-- The same, or files that a crash might have left before.
 abbrev pub StandsForBaseOrWasLeft : (ℕ → ℕ → List ℕ → ℕ) → List ℕ → DiskState → Base → Files → Type 0
 StandsForBaseOrWasLeft keyed path old base c = StandsForBaseAlone keyed path old base c ⊎ old.may_leave c

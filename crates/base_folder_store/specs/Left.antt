@@ -1,4 +1,4 @@
--- What a purge leaves of a base folder, message by message.
+-- A purge of a base folder, message by message.
 use Rattle.std.specs.Prelude.{◌≡◌, ◌≢◌, ◌≤◌, ◌<◌, ◌^◌, ℕ, Bool, true, false, not, ◌&&◌, List, length, take, count_by, Result, IsErrOf}
 use Rattle.disk_io.specs.Device.{Failed}
 use Rattle.disk_io.specs.Disk.{DiskState, Honestly}
@@ -19,62 +19,62 @@ use Rattle.base_folder_store.specs.Opened.{IsLegible, IsNamed, IsOpen, IsWritten
 use Rattle.base_folder_store.specs.declared.folder.Folder.{Folder}
 use Rattle.base_folder_store.specs.declared.leaving.Left.{Left}
 
--- A message that was scanned becomes its stub, another stays.
+-- A scanned message becomes its stub, and any other message stays.
 abbrev pub left_if : Bool → Filed → Filed
 left_if true m = stub_of m
 left_if false m = m
 
--- The first messages of a base as a purge leaves them, under no cursor yet.
+-- The first messages of a base after a purge, with the cursor still at 0.
 abbrev pub first_left : Base → ℕ → Base
 first_left base count = record { messages = take count (purged base).messages; cursor = 0 }
 
--- How many of the first messages a purge changes.
+-- The number of the first messages that a purge changes.
 abbrev pub changed_in : Base → ℕ → ℕ
 changed_in base count = count_by (λ m. not (is_stub m)) (take count (take base.cursor base.messages))
 
--- One folder with its committed files and, under another number, with those that are made in their place.
+-- A folder with its committed files, and the same folder with the new files that will replace them, under another number.
 pub record IsBesideIn (folder next : Folder) : Type 0 where
   pub path : path_of next ≡ path_of folder
   pub end : next.end ≡ folder.end
   pub number : next.told.number ≢ folder.end.told.number
   pub mark : next.told.mark ≡ folder.end.told.mark
 
--- The messages that were committed are there to be read, and no others wait.
+-- The committed messages are readable, and no others wait.
 pub record IsReadable (disk : DiskState) (folder : Folder) : Type 0 where
   pub legible : IsLegible disk folder
   pub told : folder.end.told ≡ folder.told
   pub written : IsWritten folder
 
--- One can be read, and the other one takes what a purge leaves of it.
+-- The folder is readable, and `next` takes its purged messages.
 pub record ArePaired (disk : DiskState) (folder next : Folder) : Type 0 where
   pub readable : Honestly disk (IsReadable disk folder)
   pub beside : IsBesideIn folder next
   pub named : IsNamed next
 
--- The bytes are what a purge leaves of a stored message, and are no more than it had. It is reported whether that is another message.
+-- The bytes are a stored message after a purge, with no more bytes than before. `changed` shows if the purge changed it.
 pub record IsLeftOf (scanned : Bool) (s : Stored) (left : Left) : Type 0 where
   pub stored : IsStoredAlone (left_if scanned (message_in Second s)) left.bytes.items
   pub shorter : length left.bytes.items ≤ length (stored_bytes Second s)
   pub changed : left.changed ≡ (scanned && not (is_stub (message_in Second s)))
 
--- What a purge leaves of the first messages of a base is held, and has no more bytes than they had.
+-- The bytes have the first messages of a base after a purge, with no more bytes than before.
 pub record HoldsLeft (keyed : ℕ → ℕ → List ℕ → ℕ) (base : Base) (was : BaseBytes) (place : ℕ) (held : BaseBytes) : Type 0 where
   pub left : HoldsBase keyed held (first_left base place)
   pub shorter : place < length base.messages → length held.messages ≤ place_at was.keys place
 
--- The folder is purged up to the message of this number: the other one holds what is left of those before it. Eight bytes count the messages.
+-- The folder is purged up to this number: `next` has the purged messages before it. Eight bytes can count the messages.
 pub record IsPurgedTo (disk : DiskState) (folder next : Folder) (place : ℕ) : Type 0 where
   pub paired : ArePaired disk folder next
   pub opened : Honestly disk (IsOpen disk next)
   pub few : next_place folder < 2 ^ 64
   pub left : Honestly disk ((keyed : ℕ → ℕ → List ℕ → ℕ) (base : Base) → HoldsBase keyed (committed_by disk next) base → HoldsLeft keyed base (committed_by disk next) place (held_by disk next))
 
--- One message more is held, and eight bytes still count the messages.
+-- The folder has one message more, and eight bytes can still count the messages.
 pub record IsStagedFew (before after : DiskState) (old new : Folder) (bytes : List ℕ) (digest : ℕ) : Type 0 where
   pub staged : held_by after new ≡ with_stored (held_by before old) bytes digest
   pub fits : length (held_by after new).messages < 2 ^ 64
 
--- A failure of the device is answered only where its count of failures rose. On an honest disk, damage is answered only where these bytes hold no base.
+-- A device failure is reported only if its count rose. On an honest disk, damage is reported only if the bytes hold no base.
 pub record HasPurgeCause {T : Type 0} (disk : DiskState) (bytes : BaseBytes) (before now : ℕ) (result : Result T StoreError) : Type 0 where
   pub later : before ≤ now
   pub failed : IsErrOf result error.Device → Failed before now

@@ -1,4 +1,4 @@
--- A base folder that is open.
+-- An open base folder.
 use Rattle.std.specs.Prelude.{◌≡◌, ◌≤◌, ◌<◌, ◌+◌, ℕ, List, [], length, IsSome}
 use Rattle.disk_io.specs.Disk.{DiskState, Honestly, bytes_in}
 use Rattle.base_log.specs.Names.{AreNames, folder_of, keys_of, messages_of}
@@ -9,24 +9,24 @@ use Rattle.base_log.specs.declared.log.Log.{Log}
 use Rattle.base_folder_store.specs.declared.folder.Folder.{Folder}
 use Rattle.base_folder_store.specs.declared.waiting.Waiting.{Waiting}
 
--- Its path.
+-- The path of the folder.
 abbrev pub path_of : Folder → List ℕ
 path_of folder = folder_of folder.names
 
--- With the messages and the keys that wait to be written behind them.
+-- The bytes with the waiting messages and keys after them.
 abbrev pub and_waiting : BaseBytes → Waiting → BaseBytes
 and_waiting base waiting = and_keys (and_messages base waiting.messages.items) waiting.keys.items
 
--- The bytes that it holds, with those not yet committed.
+-- The bytes of the folder, with those not yet committed.
 abbrev pub held_by : DiskState → Folder → BaseBytes
 held_by disk folder = and_waiting (base_at disk (path_of folder) folder.told) folder.waiting
 
--- Nothing waits to be written.
+-- No bytes wait to be written.
 pub record IsWritten (folder : Folder) : Type 0 where
   pub messages : folder.waiting.messages.items ≡ []
   pub keys : folder.waiting.keys.items ≡ []
 
--- Its files are there, and are as long as its record says; so many bytes of keys are in them and wait.
+-- Its files exist and are as long as its record says. Its count of keys includes those in the file and those that wait.
 pub record IsLegible (disk : DiskState) (folder : Folder) : Type 0 where
   pub names : AreNames folder.names folder.told.number
   pub messages_there : IsSome (disk.seen (messages_of (path_of folder) folder.told.number))
@@ -35,28 +35,28 @@ pub record IsLegible (disk : DiskState) (folder : Folder) : Type 0 where
   pub keys_long : folder.told.keys ≤ length (bytes_in (disk.seen (keys_of (path_of folder) folder.told.number)))
   pub keys : folder.keys ≡ folder.told.keys + length folder.waiting.keys.items
 
--- It has the paths of its files.
+-- The folder has the paths of its files.
 abbrev pub IsNamed : Folder → Type 0
 IsNamed folder = AreNames folder.names folder.told.number
 
--- The files are as it knows them.
+-- The files agree with the folder's record of them.
 pub record IsOpen (disk : DiskState) (folder : Folder) : Type 0 where
   pub names : IsNamed folder
   pub staged : IsStaged disk (path_of folder) folder.end folder.told
   pub keys : folder.keys ≡ folder.told.keys + length folder.waiting.keys.items
 
--- The bytes that were committed last.
+-- The bytes of the last commit.
 abbrev pub committed_by : DiskState → Folder → BaseBytes
 committed_by disk folder = base_at disk (path_of folder) folder.end.told
 
--- A log that was read of a folder which holds a base.
+-- The log of a folder that holds a base, after reading it.
 pub record IsLogOfBase (disk : DiskState) (path : List ℕ) (log : Log) : Type 0 where
   pub digit : log.end.told.number < 10
   pub read : IsRead log
   pub same : Honestly disk (IsLogIn path disk.seen log)
   pub stands : Honestly disk (StandsFor path (base_at disk path log.end.told) disk.seen)
 
--- It was opened at this path, and nothing was added since.
+-- The folder was opened at this path, and no message was added since.
 pub record IsFresh (at : List ℕ) (folder : Folder) : Type 0 where
   pub named : IsNamed folder
   pub path : path_of folder ≡ at

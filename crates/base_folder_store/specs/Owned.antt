@@ -3,19 +3,19 @@ use Rattle.std.specs.Prelude.{◌≡◌, ℕ, nat_eq, if◌then◌else◌, Optio
 use Rattle.base_log.specs.declared.log.FolderIdentity.{FolderIdentity}
 use Rattle.base_folder_store.specs.declared.folder.Folder.{Folder}
 
--- None if no system has claimed it.
+-- The owner, or `None` if no system has claimed the folder.
 abbrev pub owner_of : FolderIdentity → Option ℕ
 owner_of mark = if nat_eq mark.owner 0 then None else Some mark.owner
 
--- No system has claimed it, and no digest was taken by its key.
+-- No system has claimed the folder, and no digest uses its key.
 pub record IsUnclaimed (folder : Folder) : Type 0 where
   pub owner : folder.told.mark.owner ≡ 0
   pub keys : folder.keys ≡ 0
 
--- the folder with this mark, which the next commit records
+-- The folder with this mark, which the next commit records.
 abbrev pub with_mark : Folder → FolderIdentity → Folder
 with_mark folder mark = record folder { told = record folder.told { mark = mark } }
 
--- with another owner and the same key
+-- The folder with another owner and the same key.
 abbrev pub with_owner : Folder → ℕ → Folder
 with_owner folder owner = with_mark folder (record folder.told.mark { owner = owner })

@@ -12,12 +12,12 @@ use Rattle.base_folder_store.specs.Opened.{IsNamed, IsOpen, committed_by, held_b
 use Rattle.base_folder_store.specs.declared.folder.Folder.{Folder}
 use Rattle.base_folder_store.specs.declared.read_ahead.Buffers.{Buffers}
 
--- It has the paths of its files, and where the disk was honest these are as it knows them.
+-- The folder has the paths of its files, and if the disk was honest, these agree with its record of them.
 pub record IsUsable (disk : DiskState) (folder : Folder) : Type 0 where
   pub named : IsNamed folder
   pub opened : Honestly disk (IsOpen disk folder)
 
--- What an open base folder is as a store: a call that fails in the middle of a change is not taken back.
+-- An open base folder as a store. It does not undo a call that fails in the middle of a change.
 abbrev pub state_of : DiskState → (ℕ → ℕ → List ℕ → ℕ) → Folder → Option Filed → StoreState
 state_of disk keyed folder message = record {
   disk = disk;
@@ -34,11 +34,11 @@ state_of disk keyed folder message = record {
   shown = λ honest usable base is. record { bytes = committed_by disk folder; stands = (usable.opened honest).staged.shown; holds = is };
 }
 
--- Where the disk was honest, the index is one of the folder's keys, and the buffers are parts of what the folder holds.
+-- If the disk was honest, the index is one of the folder's keys, and the buffers are parts of the folder's bytes.
 abbrev pub IsCached : DiskState → Folder → Index → Buffers → Type 0
 IsCached disk folder index buffers = Honestly disk (IsIndexOf (held_by disk folder).keys index × AreParts (held_by disk folder).messages (held_by disk folder).keys buffers)
 
--- A store to which calls may be made only where this is so too.
+-- The store, with one more premise for its calls.
 abbrev pub where_so : StoreState → Type 0 → StoreState
 where_so s so = record {
   disk = s.disk;

@@ -1,4 +1,4 @@
--- A message that is read under its number, and the digest of its entry.
+-- A message that is read by its number, and the digest in its entry.
 use Rattle.std.specs.Prelude.{◌≡◌, ◌<◌, ℕ, List}
 use Rattle.disk_io.specs.Disk.{DiskState, Honestly}
 use Rattle.echo_filed.specs.Stored.{IsStored, Stored, message_in}
@@ -10,13 +10,13 @@ use Rattle.base_folder_store.specs.Held.{digest_by}
 use Rattle.base_folder_store.specs.Opened.{IsLegible, IsWritten}
 use Rattle.base_folder_store.specs.declared.folder.Folder.{Folder}
 
--- It is read and never changed: nothing waits, and where the disk was honest its messages can be read.
+-- The folder is only read: no bytes wait, and if the disk was honest its messages are readable.
 pub record IsLookedAt (disk : DiskState) (folder : Folder) : Type 0 where
   pub written : IsWritten folder
   pub keys : folder.keys ≡ folder.told.keys
   pub legible : Honestly disk (0 < folder.keys → IsLegible disk folder)
 
--- These bytes have the message of this number, which is stored so.
+-- These bytes have the message of this number in this stored form.
 pub record IsThere (bytes : BaseBytes) (i : ℕ) (s : Stored) : Type 0 where
   pub size : IsStored Second s
   pub alone : MayStandAlone s
@@ -26,10 +26,10 @@ pub record IsThere (bytes : BaseBytes) (i : ℕ) (s : Stored) : Type 0 where
 abbrev pub HasDigest : (ℕ → ℕ → List ℕ → ℕ) → BaseBytes → ℕ → Stored → Type 0
 HasDigest keyed bytes i s = digest_at bytes.keys i ≡ digest_by keyed bytes.mark (digested (message_in Second s))
 
--- A message under this number has the digest of its entry.
+-- Any message of this number has the digest in its entry.
 abbrev pub IsVouched : (ℕ → ℕ → List ℕ → ℕ) → BaseBytes → ℕ → Type 0
 IsVouched keyed bytes i = (s : Stored) → IsThere bytes i s → HasDigest keyed bytes i s
 
--- None has it.
+-- No message of this number has the digest in its entry.
 abbrev pub HasNone : (ℕ → ℕ → List ℕ → ℕ) → BaseBytes → ℕ → Type 0
 HasNone keyed bytes i = (s : Stored) → IsThere bytes i s → HasDigest keyed bytes i s → ⊥

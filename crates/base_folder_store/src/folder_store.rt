@@ -22,7 +22,7 @@ use std::marker::PhantomData;
 /// A base folder on a disk. After a call that failed in the middle of a change, open it again.
 ///
 /// Look-ups of expected messages take one pass over its keys, piece by piece. Of the others, the first ones of a run
-/// each take a pass, and the rest use an index that is kept in memory. Messages are read ahead, many by one call.
+/// each take a pass, and the rest use an index in memory. One read serves many messages that are fetched in order.
 #[derive(Drop)]
 pub struct FolderStore<D: Disk, H: Digest> {
     alloc: Global,

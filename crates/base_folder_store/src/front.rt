@@ -1,5 +1,5 @@
 //! The first two lines of a stored message: its tag and its id, if they are there plainly.
-ghost use Rattle.std.specs.Prelude.{◌≡◌, ◌++◌, ◌<◌, ◌^◌, ℕ, List, Some, false, IfSome, IsTrue};
+ghost use Rattle.std.specs.Prelude.{◌≡◌, ◌++◌, ◌<◌, ℕ, List, Some, false, IfSome, IsTrue};
 ghost use Rattle.echo_text.specs.Echo.{msgid_of};
 ghost use Rattle.echo_text.specs.Lines.{area_tag, first_line, later_lines, lines};
 ghost use Rattle.echo_text.specs.Tail.{kept_of};

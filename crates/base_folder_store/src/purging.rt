@@ -95,7 +95,7 @@ impl Folder {
         Ok(left.changed)
     }
 
-    // Stages what is left of a message. That is not more than there was, so too many bytes are damage.
+    // Stages the purged form of a message. It has no more bytes than before, so too many bytes are damage.
     fn stage_left<D: Disk>(
         &mut self,
         disk: &mut D,

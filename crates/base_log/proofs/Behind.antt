@@ -1,4 +1,4 @@
--- What a crash leaves while more is written behind the bytes that count.
+-- The files that a crash leaves while a call writes after the counted bytes.
 use Rattle.std.proofs.Common.{◌≡◌, ◌≢◌, ◌≤◌, inl, inr, ℕ, ◌+◌, min, List, [], ◌∷◌, ◌++◌, length, take, drop, Option, refl, sym, ◌∙◌, ap, subst, arith, append_assoc, length-append, length-take}
 use Rattle.std.proofs.lemmas.Bool.{cases_eq}
 use Rattle.std.proofs.lemmas.List.{take_at, take-take, take-append-le}
@@ -52,7 +52,7 @@ AreThere-kept : (path : List ℕ) (bodies : List (List ℕ)) (a c : Files) → (
 AreThere-kept path [] a c m k was = tt
 AreThere-kept path (body ∷ bodies) a c m k was = (m was.0, k was.1)
 
--- the log stays where another file of the folder changes
+-- a change of another file of the folder keeps the log
 pub log_kept : (d e : DiskState) (path file : List ℕ) (end : End) → log_of path ≢ file → KeepsOthers d e file → IsLogAt d path end → IsLogAt e path end
 log_kept d e path file end ne kept was = record {
   bodies = was.bodies;

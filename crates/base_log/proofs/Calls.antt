@@ -1,4 +1,4 @@
--- Calls that change one file, and what they keep.
+-- Calls that change one file, and the facts that they keep.
 use Rattle.std.proofs.Common.{ℕ, List}
 use Rattle.disk_io.specs.Disk.{DiskState, Files}
 use Rattle.disk_io.specs.Runs.{ChangesAt, NoPath, ThisPath}

@@ -1,4 +1,4 @@
--- A log with no record stands for no message, whatever the other files are.
+-- A log without records represents no message, with any other files.
 use Rattle.std.proofs.Common.{◌≡◌, ◌≢◌, ◌≤◌, inl, inr, ⊎_elim, ℕ, List, [], ◌∷◌, length, Option, refl, sym, ◌∙◌, ap, subst, arith}
 use Rattle.disk_io.specs.Disk.{DiskState, Files, bytes_in, IsIn}
 use Rattle.disk_io.specs.Steps.{TornMaking, TornWrite, ChangesFile}
@@ -43,7 +43,7 @@ no_record path base a c stands was now ended =
 pub new_log : (path : List ℕ) (c : Files) → IsNew path c → IsLog [] (bytes_in (c (log_of path)))
 new_log path c new = record { rest = bytes_in (c (log_of path)); parts = refl; sizes = tt; ends = inl (omega (arith, new.log)) }
 
--- ---- a run that changes nothing, and one after it
+-- ---- a run that changes nothing, and the run after it
 
 pub stands_quiet : (d0 d1 : DiskState) (path : List ℕ) (base : BaseBytes) → ChangesNothing d0 d1 → StandsFor path base d0.seen → StandsFor path base d1.seen
 stands_quiet d0 d1 path base quiet stands =
@@ -53,7 +53,7 @@ stands_quiet d0 d1 path base quiet stands =
 pub was_left : (d0 d1 : DiskState) (path : List ℕ) (base : BaseBytes) → ChangesNothing d0 d1 → LeavesOnly d0 d1 (StandsOrWasLeft path d0 base)
 was_left d0 d1 path base quiet = weaker_run d0 d1 d0.may_leave (StandsOrWasLeft path d0 base) quiet.run (λ c left. inr left)
 
--- what stands alone seen from a later state does so seen from the first
+-- a base with unchanged surroundings, seen from a later state, is one from the first state
 pub alone_since : (d0 d1 : DiskState) (path : List ℕ) (base : BaseBytes) (c : Files) → KeepsOutside path d0 d1 → StandsAlone path d1 base c → StandsAlone path d0 base c
 alone_since d0 d1 path base c kept alone = record {
   outside = λ m out named flushed. alone.outside m out (kept.named m out named) (kept.flushed m out flushed) ∙ kept.seen m out;
@@ -65,14 +65,14 @@ pub chained_alone : (d0 d1 d2 : DiskState) (path : List ℕ) (base : BaseBytes) 
 chained_alone d0 d1 d2 path base first kept second =
     then_run d0 d1 d2 (StandsOrWasLeft path d0 base) (StandsAlone path d1 base) first second (λ c alone. inl (alone_since d0 d1 path base c kept alone))
 
--- a quiet call, and what a run after it may leave
+-- a quiet call, then a run
 pub chained_quiet : (d0 d1 d2 : DiskState) (path : List ℕ) (base : BaseBytes) → ChangesNothing d0 d1 → KeepsOutside path d0 d1
     → LeavesOnly d1 d2 (StandsOrWasLeft path d1 base) → LeavesOnly d0 d2 (StandsOrWasLeft path d0 base)
 chained_quiet d0 d1 d2 path base quiet kept second =
     then_run d0 d1 d2 (StandsOrWasLeft path d0 base) (StandsOrWasLeft path d1 base) (was_left d0 d1 path base quiet) second
     (λ c or. ⊎_elim (λ alone. inl (alone_since d0 d1 path base c kept alone)) (λ left. inr (quiet.no_more c left)) or)
 
--- ---- a new folder, whose files were put on the disk as they are, gets a log
+-- ---- a new folder gets a log, after its files were put on the disk
 
 making_short : (before after : Option (List ℕ)) → TornMaking before after → length (bytes_in before) ≤ 1 → length (bytes_in after) ≤ 1
 making_short before after (inl same) short = subst (λ f. length (bytes_in f) ≤ 1) (sym same) short
@@ -100,7 +100,7 @@ module _ (d0 d1 : DiskState) (path : List ℕ) (base : BaseBytes) (quiet : Chang
     };
   })
 
-  -- the log changes, and has no more than one byte still
+  -- the log changes, and still has at most one byte
   new_changed : (a c : Files) → NewAlone a → ((m : List ℕ) → m ≢ log_of path → c m ≡ a m) → length (bytes_in (c (log_of path))) ≤ 1 → NewAlone c
   new_changed a c was same short = record {
     outside = λ m out is flushed. same m (outside_log path m out) ∙ was.outside m out is flushed;
@@ -144,10 +144,10 @@ module _ (d0 d1 : DiskState) (path : List ℕ) (base : BaseBytes) (quiet : Chang
         let short : length (bytes_in (c (log_of path))) ≤ 1 = omega (arith, (from.2.within is_named).no_longer, was.is.log) in
         new_changed from.0 c was (λ m ne. from.2.beside m ne (inl is_named)) short))
 
--- ---- the two files of a folder whose log has no record
+-- ---- the two files of a folder with an empty log
 
 module _ (d0 : DiskState) (path : List ℕ) (on : IsOnDisk d0 (log_of path)) where
-  -- the log as it was, and nothing outside the folder has changed
+  -- the log is unchanged, and so is everything outside the folder
   pub record LogAlone (c : Files) : Type 0 where
     pub log : c (log_of path) ≡ d0.seen (log_of path)
     pub outside : SameOutside path d0 c

@@ -1,4 +1,4 @@
--- What a crash leaves at each moment of a commit.
+-- The files that a crash leaves at each time of a commit.
 use Rattle.std.proofs.Common.{◌≡◌, ◌≢◌, ◌≤◌, ◌⊎◌, inl, inr, ℕ, ◌+◌, List, [], ◌∷◌, ◌++◌, length, get_or, take, drop, sym, ◌∙◌, ap, subst, arith, append_assoc, length-append}
 use Rattle.std.proofs.lemmas.Bool.{cases_eq}
 use Rattle.std.proofs.lemmas.Nat.{from_le_bytes-to_le_bytes_8}
@@ -32,11 +32,11 @@ told_by-body_of told fits = λ i. record {
   };
 }
 
--- a path outside the folder is none of its log
+-- a path outside the folder is not the path of its log
 pub outside_log : (path m : List ℕ) → (IsIn path m → ⊥) → m ≢ log_of path
 outside_log path m out is = out (subst (λ (l : List ℕ). IsIn path l) (sym is) (log_in path))
 
--- what is outside stays where one file of the folder changes
+-- a change of one file of the folder leaves everything outside unchanged
 pub outside_kept : (path file : List ℕ) (d e : DiskState) → IsIn path file → KeepsOthers d e file → KeepsOutside path d e
 outside_kept path file d e inside kept =
     let other : (m : List ℕ) → (IsIn path m → ⊥) → m ≢ file = λ m out is. out (subst (λ (l : List ℕ). IsIn path l) (sym is) inside) in
@@ -102,7 +102,7 @@ module _ (d0 : DiskState) (path : List ℕ) (end : End) (told : CommitRecord) (s
   abbrev pub P : Files → Type 0
   P = IsBeforeOrAfter path d0 first next
 
-  -- the base from before, where the log has its closed gate still
+  -- the base before, while the log still has its closed gate
   before_log : (a c : Files) (gate : ℕ) (rest : List ℕ) → StandsFor path first a → ((m : List ℕ) → m ≢ log_of path → c m ≡ a m) → (old : List ℕ) → bytes_in (a (log_of path)) ≡ opened bodies ++ closed ∷ old
       → gate ≢ 1 → bytes_in (c (log_of path)) ≡ opened bodies ++ gate ∷ rest → StandsFor path first c
   before_log a c gate rest stands same old was shut now =
@@ -114,7 +114,7 @@ module _ (d0 : DiskState) (path : List ℕ) (end : End) (told : CommitRecord) (s
   pub run_at_first : LeavesOnly d0 d0 P
   run_at_first = no_call d0 P (λ c left. record { outside = λ m out named flushed. d0.on_disk m named flushed c left; stands = inl (staged.stands c left) })
 
-  -- the two files are on the disk; behind the closed gate of the log stands a tail
+  -- the two files are on the disk, and a tail follows the closed gate of the log
   pub record Ready (d : DiskState) (tail : List ℕ) : Type 0 where
     pub run : LeavesOnly d0 d P
     pub stands : (c : Files) → d.may_leave c → StandsFor path first c

@@ -1,4 +1,4 @@
--- What a crash leaves outside a folder while its files change.
+-- The files outside a folder that a crash leaves while its files change.
 use Rattle.std.proofs.Common.{◌≢◌, ℕ, List, Option, inr, refl, sym, ◌∙◌, subst}
 use Rattle.disk_io.specs.Disk.{DiskState, IsIn}
 use Rattle.disk_io.specs.Runs.{ChangesAt, ChangesNothing, LeavesOnly, OneStepOn}

@@ -1,4 +1,4 @@
--- The bytes of a log: records, the gate behind them, and what a torn write leaves of both.
+-- The bytes of a log: its records, the gate after them, and both after a torn write.
 use Rattle.std.proofs.Common.{◌≡◌, ◌≢◌, ◌≤◌, inl, inr, ℕ, ◌+◌, List, [], ◌∷◌, ◌++◌, length, get_or, take, drop, min, Option, refl, sym, ◌∙◌, ap, subst, arith, append_assoc, length-append, take-append-drop}
 use Rattle.std.proofs.lemmas.List.{take_at, drop_at, drop-drop, get_or_at, drop_more, append-nil}
 use Rattle.disk_io.specs.Disk.{bytes_in}
@@ -51,13 +51,13 @@ one_log xs ys bytes a b = same_bodies xs ys a.rest b.rest a.sizes b.sizes a.ends
 
 -- ---- the writes of a commit: in front are the records
 
--- what stood before a write within the file
+-- a write within the file keeps the bytes before it
 pub kept_before : (at count : ℕ) (old new : Option (List ℕ)) → TornWrite at count old new → at ≤ length (bytes_in old) → take at (bytes_in new) ≡ take at (bytes_in old)
 kept_before at count old new torn within =
     let same : min at (length (bytes_in old)) ≡ at = omega arith in
     subst (λ (n : ℕ). take n (bytes_in new) ≡ take at (bytes_in old)) same torn.before
 
--- what stands behind a place, and behind so much more
+-- the bytes after a place, and those after a longer front
 just_behind : (front : List ℕ) (gate : ℕ) (rest : List ℕ) → drop (length front + 1) (front ++ gate ∷ rest) ≡ rest
 just_behind front gate rest =
     ap (λ (l : List ℕ). drop (length front + 1) l) (sym (append_assoc front (gate ∷ []) rest)) ∙ drop_at (front ++ gate ∷ []) rest (length front + 1) (omega (arith, length-append front (gate ∷ [])))
@@ -70,7 +70,7 @@ up_to front gate rest =
     ap (λ (l : List ℕ). take (length front + 1) l) (sym (append_assoc front (gate ∷ []) rest))
     ∙ take_at (front ++ gate ∷ []) rest (length front + 1) (omega (arith, length-append front (gate ∷ [])))
 
--- the closed gate stays where a record behind it is cut short
+-- a torn record after the closed gate keeps the gate
 pub torn_record : (front : List ℕ) (gate : ℕ) (tail : List ℕ) (count : ℕ) (old new : Option (List ℕ)) → TornWrite (length front + 1) count old new → bytes_in old ≡ front ++ gate ∷ tail
     → bytes_in new ≡ front ++ gate ∷ drop (length front + 1) (bytes_in new)
 torn_record front gate tail count old new torn is =

@@ -30,7 +30,7 @@ module _ (path : List ℕ) (n number : ℕ) (other : number ≢ n) (d0 d1 d2 : D
   pub keys_seen : d2.seen (keys_of path n) ≡ d0.seen (keys_of path n)
   keys_seen = two.beside (keys_of path n) (λ is. other (sym (keys_of-injective path n number is))) ∙ one.beside (keys_of path n) (keys_not_messages path n number)
 
--- a crash meanwhile leaves the files that count
+-- a crash during the calls leaves the files that count
 module _ (d0 : DiskState) (path : List ℕ) (end : End) (rest : IsAtRest d0 path end) (number : ℕ) (other : number ≢ end.told.number) (d1 : DiskState) (one : Made d0 d1 (messages_of path number)) where
   pub messages_run : LeavesOnly d0 d1 (FilesAlone d0 path end rest)
   messages_run =
@@ -42,7 +42,7 @@ module _ (d0 : DiskState) (path : List ℕ) (end : End) (rest : IsAtRest d0 path
       let named = one.named (keys_of path number) (keys_not_messages path number number) (rest.log.named (keys_of path number) (keys_in path number)) in
       alone_changed d0 path end rest TornMaking d1 d2 (keys_of path number) (keys_beside path end.told.number number other) named messages_run two
 
--- the same where the log alone counts
+-- the same if only the log counts
 module _ (d0 : DiskState) (path : List ℕ) (on : IsOnDisk d0 (log_of path)) (named : AreNamed path d0) (number : ℕ) (d1 : DiskState) (one : Made d0 d1 (messages_of path number)) where
   pub log_first : LeavesOnly d0 d1 (LogAlone d0 path on)
   log_first =

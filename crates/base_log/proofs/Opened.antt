@@ -1,4 +1,4 @@
--- What a log that was read says of the files of a folder.
+-- The files of a folder, as the log describes them.
 use Rattle.std.proofs.Common.{◌≡◌, ◌≢◌, ◌≤◌, ◌<◌, ◌⊎◌, inl, inr, ⊎_elim, ℕ, List, [], ◌∷◌, ◌++◌, length, get_or, take, Option, Some, None, refl, sym, ◌∙◌, ap, subst, arith, length-append}
 use Rattle.std.proofs.lemmas.List.{get_or_at}
 use Rattle.std.specs.Prelude.{IsSome}
@@ -45,7 +45,7 @@ pub some_there : (f : Option (List ℕ)) → 0 < length (bytes_in f) → IsSome 
 some_there None some = absurd (omega (arith, some))
 some_there (Some bytes) some = refl
 
--- a log at whose front its gate is has no record
+-- a log with its gate at the front has no record
 pub none_at : (d : DiskState) (path : List ℕ) (end : End) → IsLogAt d path end → end.gate ≡ 0 → IsLog [] (bytes_in (d.seen (log_of path))) × IsShutAt 0 (bytes_in (d.seen (log_of path)))
 none_at d path end at none =
     let empty : at.bodies ≡ [] = no_bodies at.bodies at.sizes (omega (arith, none, at.gate)) in
@@ -99,7 +99,7 @@ files_settled d e path end log quiet digit has m_alone k_alone m_flushed k_flush
       };
     }
 
--- files that are the same but for the log
+-- files that differ only in the log
 pub files_beside : (d e : DiskState) (path : List ℕ) (told : CommitRecord) → KeepsButOne d e (log_of path) → HasFiles path d.seen told → HasFiles path e.seen told
 files_beside d e path told kept has =
     let m = kept.seen (messages_of path told.number) (messages_not_log path told.number) in
@@ -111,7 +111,7 @@ files_beside d e path told kept has =
       keys_long = subst (λ f. told.keys ≤ length (bytes_in f)) (sym k) has.keys_long;
     }
 
--- files that are lost stand for no base
+-- lost files represent no base
 pub lost_none : (path : List ℕ) (files : Files) (base : BaseBytes) → IsLost path files → StandsFor path base files → ⊥
 lost_none path files base lost stands =
     ⊎_elim (λ shut. absurd (omega (arith, shut.0, ap length lost.log))) (λ new. lost.some new.empty) stands.ended
@@ -166,7 +166,7 @@ module _ (bytes : List ℕ) (end : End) (reads : ReadsAll bytes end) where
         named = named;
       }
 
-  -- files with this log, and what they stand for
+  -- files with this log, and the base that they represent
   module _ (path : List ℕ) (files : Files) (is : bytes ≡ bytes_in (files (log_of path))) where
     log_in_files : IsLog bodies (bytes_in (files (log_of path)))
     log_in_files = subst (λ (l : List ℕ). IsLog bodies l) is read_log
@@ -197,7 +197,7 @@ module _ (bytes : List ℕ) (end : End) (reads : ReadsAll bytes end) where
             keys_long = omega (arith, end_tells.keys_long, front_long base.keys (bytes_in (files (keys_of path end.told.number))) end_tells.keys);
           }
 
-      -- what the files begin with, as they are seen where they are the same
+      -- the shown files have this base if they begin as these files do
       pub base_found : (d : DiskState) → d.seen (messages_of path end.told.number) ≡ files (messages_of path end.told.number) → d.seen (keys_of path end.told.number) ≡ files (keys_of path end.told.number)
           → base_at d path end.told ≡ base
       base_found d m k =
@@ -214,7 +214,7 @@ module _ (bytes : List ℕ) (end : End) (reads : ReadsAll bytes end) where
     pub new_few : IsNew path files → end.gate < 50
     new_few new = omega (arith, new.log, ap length is, within)
 
-    -- why they stand for none
+    -- why they represent no base
     broken_by : length bytes ≢ 0 → ((base : BaseBytes) → StandsFor path base files → ⊥) → IsBroken path files
     broken_by some none = record { logged = λ lost. some (ap length is ∙ ap length lost.log); none = none }
 
@@ -229,7 +229,7 @@ module _ (bytes : List ℕ) (end : End) (reads : ReadsAll bytes end) where
     pub not_new : length bytes ≢ 0 → (IsShutAt end.gate bytes → ⊥) → (IsNew path files → ⊥) → IsBroken path files
     not_new some ajar old = broken_by some (λ base stands. ⊎_elim ajar old (end_shut base stands))
 
-  -- files as they are seen, and the base for which they stand
+  -- the shown files, and the base that they represent
   module _ (d : DiskState) (path : List ℕ) (is : bytes ≡ bytes_in (d.seen (log_of path))) where
     abbrev pub seen : BaseBytes
     seen = base_at d path end.told

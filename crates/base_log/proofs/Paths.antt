@@ -1,4 +1,4 @@
--- The files of a folder are in it, and have paths of their own.
+-- The files of a folder are in it, and their paths differ.
 use Rattle.std.proofs.Common.{◌≡◌, ◌≢◌, ℕ, zero, suc, ◌+◌, List, [], ◌∷◌, ◌++◌, get_or, refl, sym, ap, arith, All}
 use Rattle.std.proofs.lemmas.List.{append_cancel_left}
 use Rattle.disk_io.specs.Disk.{IsIn}
@@ -23,14 +23,14 @@ keys_not_log path n is = log_not_keys path n (sym is)
 pub keys_not_messages : (path : List ℕ) (n m : ℕ) → keys_of path n ≢ messages_of path m
 keys_not_messages path n m is = messages_not_keys path m n (sym is)
 
--- the digit tells the files of two numbers apart
+-- the digit separates the files of two numbers
 pub messages_of-injective : (path : List ℕ) (n m : ℕ) → messages_of path n ≡ messages_of path m → n ≡ m
 messages_of-injective path n m is = omega (arith, ap (λ (l : List ℕ). get_or l 9 0) (append_cancel_left path (MESSAGES.now ++ (48 + n) ∷ []) (MESSAGES.now ++ (48 + m) ∷ []) is))
 
 pub keys_of-injective : (path : List ℕ) (n m : ℕ) → keys_of path n ≡ keys_of path m → n ≡ m
 keys_of-injective path n m is = omega (arith, ap (λ (l : List ℕ). get_or l 5 0) (append_cancel_left path (KEYS.now ++ (48 + n) ∷ []) (KEYS.now ++ (48 + m) ∷ []) is))
 
--- no slash stands in a name
+-- names without a slash
 plain_log : All (λ b. b ≢ 47) LOG.now
 plain_log zero d lt is = omega (arith, is)
 plain_log (suc zero) d lt is = omega (arith, is)

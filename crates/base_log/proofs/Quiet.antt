@@ -24,7 +24,7 @@ base_quiet d e path told quiet = λ i. record {
 pub seen_quiet : (d e : DiskState) → ChangesNothing d e → e.seen ≡ d.seen
 seen_quiet d e quiet = λ i m. quiet.seen m i
 
--- the log is where it was
+-- the log is unchanged
 pub log_quiet : (d e : DiskState) (path : List ℕ) (end : End) → ChangesNothing d e → IsLogAt d path end → IsLogAt e path end
 log_quiet d e path end quiet was = record {
   bodies = was.bodies;
@@ -39,7 +39,7 @@ log_quiet d e path end quiet was = record {
   named = λ m inside. quiet.named m (λ h. h) (was.named m inside);
 }
 
--- what is staged is so still
+-- a staged record remains staged
 pub staged_quiet : (d e : DiskState) (path : List ℕ) (end : End) (told : CommitRecord) → ChangesNothing d e → IsStaged d path end told → IsStaged e path end told
 staged_quiet d e path end told quiet was =
     let messages = quiet.seen (messages_of path told.number) in
@@ -60,10 +60,10 @@ staged_quiet d e path end told quiet was =
       keys_behind = was.keys_behind;
     }
 
--- what is not there is so still, and has no bytes that may come back
+-- a missing file remains missing, and its bytes can't return
 pub gone_quiet : (d e : DiskState) (path : List ℕ) → ChangesNothing d e → StayGone path d → StayGone path e
 gone_quiet d e path quiet was m inside none = quiet.flushed m (λ h. h) (was m inside (sym (quiet.seen m) ∙ none))
 
--- what is new is so still
+-- a new folder remains new
 pub new_quiet : (d e : DiskState) (path : List ℕ) → ChangesNothing d e → IsNew path d.seen → IsNew path e.seen
 new_quiet d e path quiet was = subst (λ (f : Files). IsNew path f) (sym (seen_quiet d e quiet)) was

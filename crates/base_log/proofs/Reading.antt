@@ -48,7 +48,7 @@ told_fields bytes at m k c mark m_is k_is c_is mark_is =
 
 -- ---- records
 
--- a record stands in front of what follows it
+-- a record at the front of longer bytes
 record_in_front : (rest : List ℕ) → 50 ≤ length rest → get_or rest 0 0 ≡ 1 → rest ≡ 1 ∷ take 49 (drop 1 rest) ++ drop 50 rest
 record_in_front rest long is =
     drop_more rest 0 0 (omega arith)

@@ -1,4 +1,4 @@
--- A base folder at rest, where a file that does not count is removed.
+-- A base folder at rest, from which a call removes a file that does not count.
 use Rattle.std.proofs.Common.{◌≡◌, ◌≢◌, ◌≤◌, ℕ, List, Option, Some, None, length, refl, sym, ◌∙◌, ap, subst}
 use Rattle.std.specs.Prelude.{IsSome}
 use Rattle.disk_io.specs.Disk.{DiskState, bytes_in, IsIn}
@@ -19,7 +19,7 @@ pub not_there : (f : Option (List ℕ)) → (IsSome f → ⊥) → f ≡ None
 not_there None none = refl
 not_there (Some bytes) none = absurd (none refl)
 
--- a call that changes nothing changes no other file
+-- a call without a change keeps all other files
 pub but_one_quiet : (d e : DiskState) (file : List ℕ) → ChangesNothing d e → KeepsButOne d e file
 but_one_quiet d e file quiet = record {
   seen = λ m ne. quiet.seen m;
@@ -47,7 +47,7 @@ on_disk_but_one d e file other kept ne on = record {
   alone = kept.alone file ne on.alone;
 }
 
--- what is outside the folder is as it was
+-- everything outside the folder is unchanged
 pub outside_but_one : (path : List ℕ) (d e : DiskState) (file : List ℕ) → IsIn path file → KeepsButOne d e file → KeepsOutside path d e
 outside_but_one path d e file inside kept =
     let other : (m : List ℕ) → (IsIn path m → ⊥) → m ≢ file = λ m out is. out (subst (λ (l : List ℕ). IsIn path l) (sym is) inside) in
@@ -88,7 +88,7 @@ pub base_beside : (d e : DiskState) (path : List ℕ) (end : End) (file : List �
 base_beside d e path end file beside same =
     same_base d e path end (same (messages_of path end.told.number) beside.not_messages) (same (keys_of path end.told.number) beside.not_keys)
 
--- what a crash leaves meanwhile
+-- the files that a crash leaves during the calls
 module _ (d0 : DiskState) (path : List ℕ) (end : End) (rest : IsAtRest d0 path end) where
   pub looked_run : (d1 : DiskState) → ChangesNothing d0 d1 → LeavesOnly d0 d1 (StandsAlone path d0 (base_at d0 path end.told))
   looked_run d1 quiet = alone_run d0 path end rest d1 (then_nothing d0 d0 d1 (FilesAlone d0 path end rest) (alone_first d0 path end rest) quiet)

@@ -1,4 +1,4 @@
--- A base folder at rest, beside whose files others are made.
+-- A base folder at rest, in which a call makes other files.
 use Rattle.std.proofs.Common.{◌≡◌, inl, ℕ, List, Option, take, sym, ◌∙◌, subst}
 use Rattle.disk_io.specs.Disk.{DiskState, Files, bytes_in, IsIn}
 use Rattle.disk_io.specs.Steps.{ChangesFile}
@@ -12,7 +12,7 @@ use Rattle.base_log.specs.declared.log.End.{End}
 use Rattle.base_log.proofs.Rested.{rest_same}
 
 module _ (d0 : DiskState) (path : List ℕ) (end : End) (rest : IsAtRest d0 path end) where
-  -- the files that count are as they were, and so is what is outside the folder
+  -- the files that count are unchanged, and so is everything outside the folder
   pub record FilesAlone (c : Files) : Type 0 where
     pub log : c (log_of path) ≡ d0.seen (log_of path)
     pub messages : c (messages_of path end.told.number) ≡ d0.seen (messages_of path end.told.number)

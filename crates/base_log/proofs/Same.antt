@@ -1,4 +1,4 @@
--- Files that stand for a base, before and after a change that leaves it.
+-- Files that represent a base, before and after a change that keeps it.
 use Rattle.std.proofs.Common.{◌≡◌, ◌≢◌, ◌≤◌, ◌<◌, inl, ℕ, List, [], ◌∷◌, length, take, sym, ap, subst, arith, length-take, refl}
 use Rattle.std.specs.Prelude.{IsSome}
 use Rattle.disk_io.specs.Disk.{DiskState, Files, bytes_in}
@@ -38,7 +38,7 @@ front_taken n bytes le =
 pub front_long : (front bytes : List ℕ) → IsFrontOf front bytes → length front ≤ length bytes
 front_long front bytes is = omega (arith, ap length is, length-take (length front) bytes)
 
--- the base that is seen, where the files are as they are seen
+-- the shown base, if the files are as shown
 pub TellsBase-seen : (told : CommitRecord) (path : List ℕ) (d : DiskState) (c : Files) → told.number < 10 → told.messages ≤ length (bytes_in (d.seen (messages_of path told.number)))
     → told.keys ≤ length (bytes_in (d.seen (keys_of path told.number))) → c (messages_of path told.number) ≡ d.seen (messages_of path told.number)
     → c (keys_of path told.number) ≡ d.seen (keys_of path told.number) → TellsBase told path (base_at d path told) c
@@ -52,7 +52,7 @@ TellsBase-seen told path d c digit m_long k_long m k = record {
   keys = subst (λ f. IsFrontOf (base_at d path told).keys (bytes_in f)) (sym k) (front_taken told.keys (bytes_in (d.seen (keys_of path told.number))) k_long);
 }
 
--- what a base's files tell by these records, which are those of their log
+-- the facts about a base by these records, which are those of its log
 pub tells_by : (path : List ℕ) (base : BaseBytes) (c : Files) (bodies : List (List ℕ)) → StandsFor path base c → IsLog bodies (bytes_in (c (log_of path))) → AreThere path bodies c × TellsBase (last_told bodies) path base c
 tells_by path base c bodies stands log =
     let same : stands.bodies ≡ bodies = one_log stands.bodies bodies (bytes_in (c (log_of path))) stands.log log in

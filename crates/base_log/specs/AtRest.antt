@@ -1,4 +1,4 @@
--- A base folder between two commits, and in one.
+-- A base folder between two commits, and during one.
 use Rattle.std.specs.Prelude.{◌≡◌, ◌≢◌, ◌<◌, ◌≤◌, ℕ, List, ◌∷◌, ◌++◌, length, IsSome}
 use Rattle.disk_io.specs.Disk.{DiskState, Files, Honestly, bytes_in, IsIn}
 use Rattle.disk_io.specs.Synced.{IsOnDisk}
@@ -22,7 +22,7 @@ pub record IsLogAt (disk : DiskState) (path : List ℕ) (end : End) : Type 0 whe
   pub on_disk : IsOnDisk disk (log_of path)
   pub named : (m : List ℕ) → IsIn path m → disk.is_named m
 
--- the log is at its end, and what its last record counts is on the disk
+-- The log is at its end, and the bytes that its last record counts are on the disk.
 pub record IsAtRest (disk : DiskState) (path : List ℕ) (end : End) : Type 0 where
   pub log : IsLogAt disk path end
   pub digit : end.told.number < 10
@@ -31,8 +31,8 @@ pub record IsAtRest (disk : DiskState) (path : List ℕ) (end : End) : Type 0 wh
   pub messages_on : IsOnDisk disk (messages_of path end.told.number)
   pub keys_on : IsOnDisk disk (keys_of path end.told.number)
 
--- This record is written but not yet committed. Each crash leaves the base of the log, which is also the one seen, and the files have the
--- bytes of the next one.
+-- This record is written but not yet committed. Each crash leaves the base of the log, which reads also show. The files
+-- have the bytes of the next base.
 pub record IsStaged (disk : DiskState) (path : List ℕ) (end : End) (told : CommitRecord) : Type 0 where
   pub log : IsLogAt disk path end
   pub stands : (c : Files) → disk.may_leave c → StandsFor path (base_at disk path end.told) c
@@ -44,7 +44,7 @@ pub record IsStaged (disk : DiskState) (path : List ℕ) (end : End) (told : Com
   pub keys_alone : disk.is_alone (keys_of path told.number)
   pub messages_long : told.messages ≤ length (bytes_in (disk.seen (messages_of path told.number)))
   pub keys_long : told.keys ≤ length (bytes_in (disk.seen (keys_of path told.number)))
-  -- in the files that count it is behind what counts
+  -- In the files that count, the new bytes follow the counted ones.
   pub messages_behind : told.number ≡ end.told.number → end.told.messages ≤ told.messages
   pub keys_behind : told.number ≡ end.told.number → end.told.keys ≤ told.keys
 
@@ -58,7 +58,7 @@ pub record IsStagedBy (disk : DiskState) (all : Names) (end : End) (told : Commi
   pub names : AreNames all told.number
   pub staged : Honestly disk (IsStaged disk (folder_of all) end told)
 
--- What was committed last is the first base, and what the other record counts is the next one.
+-- The first base is the committed one, and the next base has the bytes that the other record counts.
 pub record HoldsNext (disk : DiskState) (path : List ℕ) (committed : CommitRecord) (first next : BaseBytes) (more : CommitRecord) : Type 0 where
   pub added : base_at disk path more ≡ next
   pub same : base_at disk path committed ≡ first

@@ -7,27 +7,27 @@ use Rattle.base_log.specs.declared.names.Names.{Names}
 use Rattle.base_log.specs.declared.staging.GrowingFile.{GrowingFile}
 use Rattle.base_log.specs.declared.staging.GrowingFile.TheVariants as file
 
--- its path among the names
+-- The path of the file among the names.
 abbrev pub path_in : Names → GrowingFile → List ℕ
 path_in names file.Messages = names.messages.items
 path_in names file.Keys = names.keys.items
 
--- its path in a folder
+-- The path of the file in a folder.
 abbrev pub file_of : List ℕ → ℕ → GrowingFile → List ℕ
 file_of path number file.Messages = messages_of path number
 file_of path number file.Keys = keys_of path number
 
--- how many of its bytes a record counts
+-- The number of bytes of the file that a record counts.
 abbrev pub counted : CommitRecord → GrowingFile → ℕ
 counted told file.Messages = told.messages
 counted told file.Keys = told.keys
 
--- a record that counts more of its bytes
+-- The record, with more bytes of the file counted.
 abbrev pub with_more : CommitRecord → GrowingFile → ℕ → CommitRecord
 with_more told file.Messages more = record told { messages = told.messages + more }
 with_more told file.Keys more = record told { keys = told.keys + more }
 
--- a base with more of its bytes behind them
+-- The base, with more bytes at the end of the file.
 abbrev pub and_bytes : BaseBytes → GrowingFile → List ℕ → BaseBytes
 and_bytes base file.Messages bytes = and_messages base bytes
 and_bytes base file.Keys bytes = and_keys base bytes

@@ -1,10 +1,10 @@
--- The log of a base folder: what its records tell, and where they end.
+-- The log of a base folder: its records, and their end.
 use Rattle.std.specs.Prelude.{◌≡◌, ◌≢◌, ◌<◌, ◌⊎◌, ◌^◌, ℕ, List, [], ◌∷◌, ◌++◌, length, take, drop, slice_index}
 use Rattle.std.specs.Int.{w64, from_le_bytes, to_le_bytes}
 use Rattle.base_log.specs.declared.log.FolderIdentity.{FolderIdentity}
 use Rattle.base_log.specs.declared.log.CommitRecord.{CommitRecord}
 
--- The bytes of records, one after another: an open gate, and the body of the record.
+-- The bytes of records in order. Each one is an open gate and the body of the record.
 abbrev pub opened : List (List ℕ) → List ℕ
 opened [] = []
 opened (body ∷ bodies) = 1 ∷ body ++ opened bodies
@@ -50,7 +50,7 @@ told_by body = record {
   mark = mark_by (drop 25 body);
 }
 
--- The bytes of a record behind its gate.
+-- The bytes of a record after its gate.
 abbrev pub body_of : CommitRecord → List ℕ
 body_of told = to_le_bytes w64 told.messages ++ to_le_bytes w64 told.keys ++ to_le_bytes w64 told.cursor ++ told.number ∷ []
     ++ to_le_bytes w64 told.mark.owner ++ to_le_bytes w64 told.mark.first ++ to_le_bytes w64 told.mark.second
@@ -64,11 +64,11 @@ pub record FitsRecord (told : CommitRecord) : Type 0 where
   pub first : told.mark.first < 2 ^ 64
   pub second : told.mark.second < 2 ^ 64
 
--- Of a log with no record.
+-- The record of an empty log.
 abbrev pub nothing_told : CommitRecord
 nothing_told = record { messages = 0; keys = 0; cursor = 0; number = 0; mark = no_mark }
 
--- The last record counts.
+-- Only the last record counts.
 abbrev pub last_told : List (List ℕ) → CommitRecord
 last_told [] = nothing_told
 last_told (body ∷ []) = told_by body

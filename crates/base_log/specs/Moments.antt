@@ -1,22 +1,22 @@
--- What a crash may leave at the moments of a commit.
+-- The files that a crash may leave during a commit.
 use Rattle.std.specs.Prelude.{◌≡◌, ◌⊎◌, ℕ, List}
 use Rattle.disk_io.specs.Disk.{DiskState, Files, Honestly, IsIn}
 use Rattle.disk_io.specs.Runs.{LeavesOnly, OneStepOn}
 use Rattle.base_log.specs.Standing.{BaseBytes, StandsFor}
 
--- The files outside the folder that were on the disk are as they were.
+-- The files outside the folder that were on the disk are unchanged.
 abbrev pub SameOutside : List ℕ → DiskState → Files → Type 0
 SameOutside path old c = (m : List ℕ) → (IsIn path m → ⊥) → old.is_named m → old.is_flushed m → c m ≡ old.seen m
 
--- What a path outside the folder that was on the disk leads to is the same, or none still.
+-- Each path outside the folder that was on the disk leads to the same file, or still to no file.
 abbrev pub SameNamedOutside : List ℕ → DiskState → Files → Files → Type 0
 SameNamedOutside path old before after = (m : List ℕ) → (IsIn path m → ⊥) → old.is_named m → after m ≡ before m
 
--- There a crash at any moment leaves what one might have left before.
+-- Outside the folder, a crash at any time leaves only files that it might have left before.
 abbrev pub LeavesOutside : List ℕ → DiskState → DiskState → Type 0
 LeavesOutside path old new = LeavesOnly old new (OneStepOn (SameNamedOutside path old) old)
 
--- Outside the folder the files seen and the files on the disk are unchanged.
+-- Outside the folder, the shown files and the files on the disk are unchanged.
 pub record KeepsOutside (path : List ℕ) (old new : DiskState) : Type 0 where
   pub seen : (m : List ℕ) → (IsIn path m → ⊥) → new.seen m ≡ old.seen m
   pub named : (m : List ℕ) → (IsIn path m → ⊥) → old.is_named m → new.is_named m
@@ -24,17 +24,17 @@ pub record KeepsOutside (path : List ℕ) (old new : DiskState) : Type 0 where
   pub alone : (m : List ℕ) → (IsIn path m → ⊥) → old.is_alone m → new.is_alone m
   pub honest : new.is_honest → old.is_honest
 
--- This base, and nothing outside it has changed.
+-- The files represent this base, and everything outside the folder is unchanged.
 pub record StandsAlone (path : List ℕ) (old : DiskState) (base : BaseBytes) (c : Files) : Type 0 where
   pub outside : SameOutside path old c
   pub stands : StandsFor path base c
 
--- The base from before or the one after, and nothing outside it has changed.
+-- The files represent the base before or the base after, and everything outside the folder is unchanged.
 pub record IsBeforeOrAfter (path : List ℕ) (old : DiskState) (first next : BaseBytes) (c : Files) : Type 0 where
   pub outside : SameOutside path old c
   pub stands : StandsFor path first c ⊎ StandsFor path next c
 
--- A run that commits nothing: a crash at any time leaves this base. Nothing outside the folder has changed.
+-- A run that commits nothing: a crash at any time leaves this base. Everything outside the folder is unchanged.
 pub record StagesOnly (path : List ℕ) (base : BaseBytes) (old new : DiskState) : Type 0 where
   pub any_moment : Honestly new (LeavesOnly old new (StandsAlone path old base))
   pub outside : KeepsOutside path old new

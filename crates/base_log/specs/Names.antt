@@ -1,4 +1,4 @@
--- The files of a base folder. A folder's path ends in a slash, or is empty.
+-- The files of a base folder. The path of a folder ends with a slash, or is empty.
 use Rattle.std.specs.Prelude.{◌≡◌, ◌≢◌, ℕ, ◌+◌, List, [], ◌∷◌, ◌++◌}
 use Rattle.disk_io.specs.Disk.{IsIn}
 use Rattle.base_log.specs.declared.names.TheConstants.{LOG, MESSAGES, KEYS}
@@ -7,7 +7,7 @@ use Rattle.base_log.specs.declared.names.Names.{Names}
 abbrev pub log_of : List ℕ → List ℕ
 log_of path = path ++ LOG.now
 
--- The files of that number have a digit at the end of their names.
+-- The files of a number have it as a digit at the end of their names.
 abbrev pub messages_of : List ℕ → ℕ → List ℕ
 messages_of path number = path ++ (MESSAGES.now ++ (48 + number) ∷ [])
 

@@ -1,4 +1,4 @@
--- What opening a base folder asks and leaves.
+-- The premises and effects of opening a base folder.
 use Rattle.std.specs.Prelude.{◌≡◌, ◌≢◌, ◌≤◌, ◌<◌, ◌⊎◌, ℕ, List, [], length, None, Result, IsErrOf, IsSome}
 use Rattle.disk_io.specs.Device.{Failed}
 use Rattle.disk_io.specs.Disk.{DiskState, Files, IsIn, bytes_in}
@@ -13,12 +13,12 @@ use Rattle.base_log.specs.Names.{log_of, messages_of, keys_of}
 use Rattle.base_log.specs.Standing.{BaseBytes, IsNew}
 use Rattle.base_log.specs.Moments.{StandsAlone}
 
--- A disk's fault, as a fault of a folder.
+-- A fault of the disk as a fault of a folder.
 abbrev pub folder_cause : DiskError → FolderError
 folder_cause disk.Memory = folder.Memory
 folder_cause disk.Device = folder.Device
 
--- Each path in the folder leads on the disk to what it leads to now.
+-- For each path in the folder, the disk has the entry that the path has now.
 abbrev pub AreNamed : List ℕ → DiskState → Type 0
 AreNamed path disk = (m : List ℕ) → IsIn path m → disk.is_named m
 
@@ -26,16 +26,16 @@ AreNamed path disk = (m : List ℕ) → IsIn path m → disk.is_named m
 abbrev pub AreAlone : List ℕ → DiskState → Type 0
 AreAlone path disk = (m : List ℕ) → IsIn path m → disk.is_alone m
 
--- This base with all else as it was, or what a crash might have left before.
+-- This base with everything else unchanged, or files that a crash might have left before.
 abbrev pub StandsOrWasLeft : List ℕ → DiskState → BaseBytes → Files → Type 0
 StandsOrWasLeft path old base c = StandsAlone path old base c ⊎ old.may_leave c
 
--- A failure of the device is answered only where its count of failures rose.
+-- A call reports a failure of the device only if the count of failures rose.
 pub record HasFolderCause {T : Type 0} (before now : ℕ) (result : Result T FolderError) : Type 0 where
   pub later : before ≤ now
   pub failed : IsErrOf result folder.Device → Failed before now
 
--- The other files are as they were, and their paths.
+-- The other files and their paths are unchanged.
 pub record KeepsButOne (old new : DiskState) (file : List ℕ) : Type 0 where
   pub seen : (m : List ℕ) → m ≢ file → new.seen m ≡ old.seen m
   pub named : (m : List ℕ) → m ≢ file → old.is_named m → new.is_named m
@@ -56,7 +56,7 @@ pub record AreFlushed (path : List ℕ) (disk : DiskState) : Type 0 where
   pub messages : (n : ℕ) → n < 10 → disk.is_flushed (messages_of path n)
   pub keys : (n : ℕ) → n < 10 → disk.is_flushed (keys_of path n)
 
--- A missing file has no bytes that may come back.
+-- A missing file has no bytes that may return.
 abbrev pub StayGone : List ℕ → DiskState → Type 0
 StayGone path disk = (m : List ℕ) → IsIn path m → disk.seen m ≡ None → disk.is_flushed m
 
@@ -65,7 +65,7 @@ pub record AreGone (disk : DiskState) (path : List ℕ) (number : ℕ) : Type 0 
   pub messages : disk.seen (messages_of path number) ≡ None
   pub keys : disk.seen (keys_of path number) ≡ None
 
--- The folder is new. The disk has each path as it is, and no bytes of a missing file.
+-- The folder is new. The disk has the current entry of each path, and no bytes of a missing file.
 pub record IsNewFolder (path : List ℕ) (disk : DiskState) : Type 0 where
   pub named : AreNamed path disk
   pub gone : StayGone path disk
@@ -78,7 +78,7 @@ pub record HasBareLog (path : List ℕ) (disk : DiskState) : Type 0 where
   pub none : IsLog [] (bytes_in (disk.seen (log_of path)))
   pub shut : IsShutAt 0 (bytes_in (disk.seen (log_of path)))
 
--- The two files of the number 0 exist, and each has one path. Each path is on the disk.
+-- The two files of the number 0 exist, each under a single path. Each path is on the disk.
 pub record HasFirstFiles (path : List ℕ) (disk : DiskState) : Type 0 where
   pub messages : IsSome (disk.seen (messages_of path 0))
   pub keys : IsSome (disk.seen (keys_of path 0))

@@ -1,4 +1,4 @@
--- How a log is read.
+-- Reading a log.
 use Rattle.std.specs.Prelude.{◌≡◌, ℕ, List, ◌++◌, length}
 use Rattle.disk_io.specs.Disk.{DiskState, Files, Honestly, bytes_in}
 use Rattle.base_log.specs.Names.{log_of}
@@ -6,7 +6,7 @@ use Rattle.base_log.specs.Log.{opened, AreBodies, EndsHere, last_told}
 use Rattle.base_log.specs.declared.log.End.{End}
 use Rattle.base_log.specs.declared.log.Log.{Log}
 
--- The records of a log up to a place, and the rest after it.
+-- The records of a log up to a place, and the bytes after it.
 pub record ReadsTo (bytes : List ℕ) (end : End) (rest : List ℕ) : Type 0 where
   pub bodies : List (List ℕ)
   pub parts : bytes ≡ opened bodies ++ rest
@@ -14,7 +14,7 @@ pub record ReadsTo (bytes : List ℕ) (end : End) (rest : List ℕ) : Type 0 whe
   pub gate : end.gate ≡ length (opened bodies)
   pub told : last_told bodies ≡ end.told
 
--- All of its records.
+-- The reading includes all of its records.
 pub record ReadsAll (bytes : List ℕ) (end : End) : Type 0 where
   pub rest : List ℕ
   pub reads : ReadsTo bytes end rest
@@ -24,11 +24,11 @@ pub record ReadsAll (bytes : List ℕ) (end : End) : Type 0 where
 abbrev pub IsRead : Log → Type 0
 IsRead log = ReadsAll log.bytes.items log.end
 
--- It is that of the folder.
+-- The bytes are those of the folder's log.
 abbrev pub IsLogIn : List ℕ → Files → Log → Type 0
 IsLogIn path files log = log.bytes.items ≡ bytes_in (files (log_of path))
 
--- It was read of the folder to the end of its records.
+-- The folder's log, read to the end of its records.
 pub record IsLogRead (disk : DiskState) (path : List ℕ) (log : Log) : Type 0 where
   pub same : Honestly disk (IsLogIn path disk.seen log)
   pub read : IsRead log

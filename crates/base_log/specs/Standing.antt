@@ -1,4 +1,4 @@
--- The base that the files of a base folder hold.
+-- The base that the files of a base folder represent.
 use Rattle.std.specs.Prelude.{◌≡◌, ◌<◌, ◌≤◌, ◌⊎◌, ℕ, List, [], ◌∷◌, ◌++◌, length, take, IsSome}
 use Rattle.disk_io.specs.Disk.{DiskState, Files, bytes_in}
 use Rattle.base_log.specs.Names.{log_of, messages_of, keys_of}
@@ -13,24 +13,24 @@ pub record BaseBytes : Type 0 where
   pub cursor : ℕ
   pub mark : FolderIdentity
 
--- With more messages behind them.
+-- The base with more messages at its end.
 abbrev pub and_messages : BaseBytes → List ℕ → BaseBytes
 and_messages base bytes = record { messages = base.messages ++ bytes; keys = base.keys; cursor = base.cursor; mark = base.mark }
 
--- With more keys behind them.
+-- The base with more keys at its end.
 abbrev pub and_keys : BaseBytes → List ℕ → BaseBytes
 and_keys base bytes = record { messages = base.messages; keys = base.keys ++ bytes; cursor = base.cursor; mark = base.mark }
 
 abbrev pub IsFrontOf : List ℕ → List ℕ → Type 0
 IsFrontOf front bytes = take (length front) bytes ≡ front
 
--- Both files of the number are there, where there is a record.
+-- If there is a record, both files of its number exist.
 abbrev pub AreThere : List ℕ → List (List ℕ) → Files → Type 0
 AreThere path [] files = Unit {0}
 AreThere path (body ∷ bodies) files =
     IsSome (files (messages_of path (last_told (body ∷ bodies)).number)) × IsSome (files (keys_of path (last_told (body ∷ bodies)).number))
 
--- A record has the lengths of this base, and the files of its number begin with it.
+-- A record has the lengths of this base, and the files of its number begin with the base.
 pub record TellsBase (told : CommitRecord) (path : List ℕ) (base : BaseBytes) (files : Files) : Type 0 where
   pub messages_long : told.messages ≡ length base.messages
   pub keys_long : told.keys ≡ length base.keys
@@ -45,7 +45,7 @@ pub record HasNoBytes (path : List ℕ) (files : Files) : Type 0 where
   pub messages : (n : ℕ) → n < 10 → bytes_in (files (messages_of path n)) ≡ []
   pub keys : (n : ℕ) → n < 10 → bytes_in (files (keys_of path n)) ≡ []
 
--- The folder is new: its log has no more than the first gate, which a crash may have torn.
+-- The folder is new: its log has at most the first gate, which a crash may have torn.
 pub record IsNew (path : List ℕ) (files : Files) : Type 0 where
   pub log : length (bytes_in (files (log_of path))) ≤ 1
   pub empty : HasNoBytes path files
@@ -54,8 +54,8 @@ pub record IsNew (path : List ℕ) (files : Files) : Type 0 where
 abbrev pub IsEnded : List ℕ → List (List ℕ) → Files → Type 0
 IsEnded path bodies files = IsShutAt (length (opened bodies)) (bytes_in (files (log_of path))) ⊎ IsNew path files
 
--- The files hold this base, whatever a crash made of them. Bytes after the last record with an open gate do not count, and neither do bytes
--- of the other files past its lengths.
+-- The files represent this base, also after a crash. Bytes after the last record with an open gate do not count.
+-- Neither do bytes of the other files past the lengths in that record.
 pub record StandsFor (path : List ℕ) (base : BaseBytes) (files : Files) : Type 0 where
   pub bodies : List (List ℕ)
   pub log : IsLog bodies (bytes_in (files (log_of path)))
@@ -63,17 +63,17 @@ pub record StandsFor (path : List ℕ) (base : BaseBytes) (files : Files) : Type
   pub there : AreThere path bodies files
   pub tells : TellsBase (last_told bodies) path base files
 
--- There are messages or keys, and no byte of a log.
+-- The log is empty, but there are messages or keys.
 pub record IsLost (path : List ℕ) (files : Files) : Type 0 where
   pub log : bytes_in (files (log_of path)) ≡ []
   pub some : HasNoBytes path files → ⊥
 
--- There is a log, or nothing else, and the files hold no base.
+-- The files represent no base, and they are not lost.
 pub record IsBroken (path : List ℕ) (files : Files) : Type 0 where
   pub logged : IsLost path files → ⊥
   pub none : (base : BaseBytes) → StandsFor path base files → ⊥
 
--- The base of so many bytes, as they are seen now.
+-- The base that the shown files have by the lengths of a record.
 abbrev pub base_at : DiskState → List ℕ → CommitRecord → BaseBytes
 base_at disk path told = record {
   messages = take told.messages (bytes_in (disk.seen (messages_of path told.number)));

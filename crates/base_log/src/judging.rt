@@ -3,7 +3,7 @@ ghost use Rattle.std.specs.Prelude.{◌≡◌, ◌≤◌, ◌<◌, ◌↔◌, le
 ghost use Rattle.disk_io.specs.Disk.{Honestly, bytes_in};
 ghost use Rattle.disk_io.specs.Runs.{ChangesNothing, HasCause};
 ghost use Rattle.base_log.specs.Log.{IsShutAt};
-ghost use Rattle.base_log.specs.Names.{AreNames, folder_of, log_of, keys_of, messages_of};
+ghost use Rattle.base_log.specs.Names.{AreNames, folder_of};
 ghost use Rattle.base_log.specs.Opening.{HasFiles, HasFolderCause};
 ghost use Rattle.base_log.specs.Reading.{IsLogIn, IsRead};
 ghost use Rattle.base_log.specs.Standing.{HasNoBytes, IsBroken, IsLost, StandsFor, base_at};

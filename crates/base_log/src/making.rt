@@ -1,6 +1,6 @@
 //! The log of a folder that is new, and the first files of messages and of keys.
-ghost use Rattle.std.specs.Prelude.{◌≡◌, ◌∷◌, [], ℕ, List, None, OnOk};
-ghost use Rattle.disk_io.specs.Disk.{Honestly, IsIn, bytes_in};
+ghost use Rattle.std.specs.Prelude.{◌≡◌, ◌∷◌, [], None, OnOk};
+ghost use Rattle.disk_io.specs.Disk.{Honestly, bytes_in};
 ghost use Rattle.disk_io.specs.Runs.{ChangesNothing, LeavesOnly, HasCause};
 ghost use Rattle.disk_io.specs.Synced.{IsOnDisk};
 ghost use Rattle.base_log.specs.Names.{AreNames, folder_of, log_of, messages_of, keys_of};

@@ -1,4 +1,4 @@
--- Why calls of a store failed, one after another.
+-- Why a sequence of calls of a store failed.
 use Rattle.std.proofs.Common.{◌≡◌, ◌≤◌, ℕ, inl, inr, Result, Ok, Err, refl, ◌∙◌, ap, arith}
 use Rattle.std.proofs.Math.Nat.{eq-or-lt_of_le}
 use Rattle.disk_io.specs.Device.{Failed}
@@ -8,7 +8,7 @@ use Rattle.base_store.specs.Store.{StoreState, HasStoreCause}
 use Rattle.base_store.specs.declared.store_error.StoreError.{StoreError}
 use Rattle.base_store.specs.declared.store_error.StoreError.TheVariants as error
 
--- nothing failed
+-- a call without a failure
 pub no_cause : {T : Type 0} (old new : StoreState) (before now : ℕ) (value : T) → before ≤ now → HasStoreCause old new before now (Ok value)
 no_cause old new before now value later = record { later = later; failed = λ e. absurd (cc); damaged = λ honest e base h. cc }
 
@@ -23,7 +23,7 @@ failed_since before mid now le (inr (full, same)) = elim (eq-or-lt_of_le le) [
 pub same_error : {T : Type 0} (r : Result T StoreError) (e f : StoreError) → r ≡ Err e → r ≡ Err f → e ≡ f
 same_error r e f one other = cc
 
--- the failure of a call after others, of which the store holds a base where it held one
+-- the failure of a call after others that kept a base in the store
 pub cause_after : {A T : Type 0} (old mid new : StoreState) (before between now : ℕ) (r : Result A StoreError) (e : StoreError) → before ≤ between
     → Honestly new.disk ((base : Base) → old.keeps base → (next : Base) × mid.keeps next) → r ≡ Err e → HasStoreCause mid new between now r → HasStoreCause {T = T} old new before now (Err e)
 cause_after {A} {T} old mid new before between now r e le holds is cause =

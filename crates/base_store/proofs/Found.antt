@@ -32,7 +32,7 @@ piece_within keys from piece is =
     let long : length (drop (16 * from) keys) ≡ length piece + length is.rest = ap (λ (l : List ℕ). length l) is.behind ∙ length-append piece is.rest in
     omega (arith, within, even, behind, long)
 
--- more keys behind them change nothing
+-- more keys at the end change nothing
 found_stays : (keys more : List ℕ) (expected : Expected) → AreFound keys expected → AreFound (keys ++ more) expected
 found_stays keys more expected are =
     let within = are.within in
@@ -55,7 +55,7 @@ index_stays keys more index is = record {
   found = found_stays keys more index.expected is.found;
 }
 
--- what a pass over a piece adds
+-- a pass over a piece adds the expected messages of the piece
 pub found_more : (keys piece : List ℕ) (from : ℕ) (old new : Expected) → old.passed ≡ from → new.passed ≡ from + length piece / 16 → ((d : ℕ) → is_expected new d ≡ is_expected old d) → IsPieceOf keys from piece → AreFound keys old
     → ((p : Place) → Contains old.places.items p → Contains new.places.items p)
     → ((i : ℕ) → i < length piece / 16 → is_expected old (digest_at piece i) ≡ true → Contains new.places.items (place_in piece from i))
@@ -86,7 +86,7 @@ found_more keys piece from old new at passed same is was kept found only =
           (only p there);
     }
 
--- and what it has where it was cut short
+-- the messages that it found before an early end
 pub found_some : (keys piece : List ℕ) (from : ℕ) (old new : Expected) → new.passed ≡ old.passed → ((d : ℕ) → is_expected new d ≡ is_expected old d) → IsPieceOf keys from piece → AreFound keys old
     → ((p : Place) → Contains old.places.items p → Contains new.places.items p)
     → ((p : Place) → Contains new.places.items p → Contains old.places.items p ⊎ IsPlaceIn piece from p) → AreFound keys new
@@ -108,7 +108,7 @@ found_some keys piece from old new passed same is was kept only =
           (only p there);
     }
 
--- the messages of the piece up to a number whose flags are set
+-- the expected messages of the piece before number `end` are in the list
 abbrev pub HasAllSet : List Bool → List Bool → List ℕ → ℕ → ℕ → List Place → Type 0
 HasAllSet low high piece from end places = (i : ℕ) → i < end → are_set low high (digest_at piece i) ≡ true → Contains places (place_in piece from i)
 
@@ -153,7 +153,7 @@ seen_more places digest below i last place inside at is from low was = record {
       (cases_lt k i);
 }
 
--- of no places nothing is wrong
+-- an empty list of found messages is correct
 pub found_none : (keys : List ℕ) (expected : Expected) → expected.passed ≡ 0 → expected.places.items ≡ [] → AreFound keys expected
 found_none keys expected passed none =
     let short = ap (λ (l : List Place). length l) none in
@@ -171,7 +171,7 @@ pub record IsFrontOf (keys own heads before : List ℕ) : Type 0 where
   pub even : 16 * (length own / 16) ≡ length own
   pub chains : AreChains own heads before
 
--- an index that took a piece to its keys, or none
+-- an index that took a piece into its keys, or failed to
 pub kept_more : {T E : Type 0} (r : Result T E) (keys piece more : List ℕ) (from : ℕ) (index : Index) → more ≡ (if is_ok r then index.keys.items ++ piece else index.keys.items) → length index.keys.items / 16 ≡ from → IsPieceOf keys from piece
     → IsIndexOf keys index → IsFrontOf keys more index.heads.items index.before.items
 kept_more (Ok done) keys piece more from index items at is was =
@@ -202,7 +202,7 @@ pub none_map : {A P Q : Type 0} (r : Option A) → (P → Q) → IfNone r P → 
 none_map (Some x) gives was = tt
 none_map None gives was = gives was
 
--- so many keys it has then
+-- the number of keys after that
 pub taken_size : {T E : Type 0} (r : Result T E) (own piece more : List ℕ) (from : ℕ) {count : ℕ} → count ≡ length more / 16 → more ≡ (if is_ok r then own ++ piece else own) → length own / 16 ≡ from → 16 * (length own / 16) ≡ length own
     → OnOk r (count ≡ from + length piece / 16)
 taken_size (Ok done) own piece more from counts items at even = let long = ap (λ (l : List ℕ). length l) items ∙ length-append own piece in omega (arith, counts, long, at, even)

@@ -1,4 +1,4 @@
--- An index of keys, extended and gone along.
+-- Extending an index of keys, and following its chains.
 use Rattle.std.proofs.Common.{◌≡◌, ◌≢◌, ℕ, ◌+◌, ◌*◌, ◌<◌, ◌≤◌, List, [], ◌++◌, length, min, take, drop, get_or, sym, ap, subst, ◌∙◌, arith, ⊎_elim, length-append, length-drop}
 use Rattle.std.proofs.lemmas.Bool.{cases_lt}
 use Rattle.std.proofs.lemmas.List.{drop-append-le, take-append-le}
@@ -40,7 +40,7 @@ pub record IsReached (keys heads before : List ℕ) (digest below next : ℕ) : 
   pub has : (i : ℕ) → next ≡ i + 1 → head_of (length heads) (digest_at keys i) ≡ head_of (length heads) digest
   pub passed : (j : ℕ) → next ≤ j → j < length before → j < below → digest_at keys j ≢ digest
 
--- it goes on to the last one before a message that is not the one
+-- if this message has another digest, the search goes to the one before it in the chain
 reached_before : (keys heads before : List ℕ) (digest below next place : ℕ) → next ≡ place + 1 → ((place < below) × (digest_at keys place ≡ digest) → ⊥) → AreChains keys heads before
     → IsReached keys heads before digest below next → IsReached keys heads before digest below (get_or before place 0)
 reached_before keys heads before digest below next place at other are was =
@@ -65,7 +65,7 @@ reached_next keys heads before digest below next place earlier at earlier_is oth
     let same : get_or before place 0 ≡ earlier = let low = last.within in omega arith in
     subst (λ (n : ℕ). IsReached keys heads before digest below n) same (reached_before keys heads before digest below next place at other are was)
 
--- of no keys there are none
+-- without keys there are no chains
 pub no_chains : (keys heads before : List ℕ) → heads ≡ [] → before ≡ [] → AreChains keys heads before
 no_chains keys heads before no_heads none =
     let few = ap (λ (l : List ℕ). length l) no_heads in

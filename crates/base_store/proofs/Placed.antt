@@ -1,4 +1,4 @@
--- Each message stands where its entry tells.
+-- Each message is at the place in its entry.
 use Rattle.std.proofs.Common.{◌≡◌, ◌<◌, ◌≤◌, ◌+◌, ◌*◌, ◌/◌, ◌^◌, nat_lt, ℕ, zero, suc, List, [], ◌∷◌, ◌++◌, length, map, take, drop, get_or, refl, sym, ◌∙◌, ap, subst, arith, append_assoc, length-append}
 use Rattle.std.proofs.Math.Seq.{drop-append_seam, take-append_seam, take-append-add}
 use Rattle.std.proofs.lemmas.Bool.{cond-false, cond-true, le-ltb, lt-ltb}
@@ -13,11 +13,11 @@ use Rattle.echo_filed.specs.declared.stored.Version.TheVariants.{Second}
 use Rattle.base_file.specs.Alone.{MayStandAlone}
 use Rattle.base_store.specs.Keys.{FolderStandsFor, HasBytesOf, StandsAt, StandWhereTold, digested, entry, keys_from, place_at, place_behind}
 
--- the bytes of messages, one after another
+-- the bytes of the messages in order
 abbrev pub bytes_of : List Stored → List ℕ
 bytes_of all = flat_map (stored_bytes Second) all
 
--- what stands before a message and behind it
+-- the messages before and after one message
 record Parts (all : List Stored) (i : ℕ) : Type 0 where
   before : List Stored
   s : Stored
@@ -87,7 +87,7 @@ cut_out front here rest =
     ap (λ (l : List ℕ). drop (length front) l) (take-append-add front (here ++ rest) (length here) ∙ ap (λ (l : List ℕ). front ++ l) (take-append_seam here rest))
     ∙ drop-append_seam front here
 
--- so many bytes up to a message, and through it
+-- the number of bytes up to a message, and through it
 bytes_through : (before : List Stored) (s : Stored) → length (bytes_of (before ++ (s ∷ []))) ≡ length (bytes_of before) + length (stored_bytes Second s)
 bytes_through before s =
     ap (λ (l : List ℕ). length l) (flat_map-append (stored_bytes Second) before (s ∷ []) ∙ ap (λ (l : List ℕ). bytes_of before ++ l) (append-nil (stored_bytes Second s)))

@@ -1,4 +1,4 @@
--- Calls of a store, one after another.
+-- Sequences of calls of a store.
 use Rattle.std.proofs.Common.{ℕ, List, ◌∙◌, refl}
 use Rattle.disk_io.specs.Disk.{DiskState, Files}
 use Rattle.disk_io.specs.Runs.{ChangesNothing}
@@ -16,7 +16,7 @@ same_twice old mid new first second = record {
   undoes = (λ h. first.undoes.0 (second.undoes.0 h), λ h. second.undoes.1 (first.undoes.1 h));
 }
 
--- no call changes nothing
+-- no call, no change
 pub quiet_disk : (d : DiskState) → ChangesNothing d d
 quiet_disk d = record {
   seen = λ m. refl;
@@ -80,7 +80,7 @@ beside_twice old mid new same first second =
       honest = λ is. first.honest (second.honest is);
     }
 
--- what a crash leaves of the later calls, as it stood before the first one
+-- the files that a crash leaves of the later calls, compared with those before the first call
 stood_before : (old mid : StoreState) (base : Base) (c : Files) → IsSameStore old mid → KeepsBeside old mid → LeavesCommitted mid base c → LeavesCommitted old base c
 stood_before old mid base c same kept stood = record {
   beside = λ m other named flushed.
@@ -88,7 +88,7 @@ stood_before old mid base c same kept stood = record {
   stands = (same.stands base c).0 stood.stands;
 }
 
--- calls that commit nothing, after such that went on
+-- calls that commit nothing, one sequence after another
 pub commits_none : (old mid new : StoreState) → CommitsNothing old mid → GoesOn old mid → CommitsNothing mid new → CommitsNothing old new
 commits_none old mid new first on second = record {
   any_moment = λ honest base is.

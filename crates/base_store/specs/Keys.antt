@@ -1,4 +1,4 @@
--- The keys of a base folder: for each message its place, and a digest of its key.
+-- The keys of a base folder: the place of each message, and a digest of its key.
 use Rattle.std.specs.Prelude.{◌≡◌, ℕ, ◌+◌, ◌*◌, ◌/◌, ◌<◌, ◌≤◌, ◌^◌, nat_lt, List, [], ◌∷◌, ◌++◌, length, map, take, drop, if◌then◌else◌, Option, Some, None, slice_index_or}
 use Rattle.std.specs.Int.{w64, from_le_bytes, to_le_bytes}
 use Rattle.std.specs.List.{AllByRecursion, flat_map}
@@ -11,7 +11,7 @@ use Rattle.echo_filed.specs.declared.stored.Version.TheVariants.{Second}
 use Rattle.base_file.specs.Base.{IsBase}
 use Rattle.base_file.specs.Alone.{MayStandAlone}
 
--- the digested bytes: the id, which is the same in every area, or else the parts of the whole key
+-- The bytes that the digest covers: the id, which is the same in every area, or else all parts of the key.
 abbrev pub digested_with : Filed → Option (List ℕ) → List ℕ
 digested_with m (Some id) = id
 digested_with m None = m.echo.tag ++ (m.date ++ (m.to_name ++ (m.from_name ++ (m.subject ++ flat_map ended m.echo.kept))))
@@ -19,21 +19,21 @@ digested_with m None = m.echo.tag ++ (m.date ++ (m.to_name ++ (m.from_name ++ (m
 abbrev pub digested : Filed → List ℕ
 digested m = digested_with m (msgid_of m.echo.kept)
 
--- the same, of a key
+-- The same for a key.
 abbrev pub digested_key : Key → List ℕ
 digested_key (ById tag id) = id
 digested_key (ByContent tag date to_name from_name subject kept) = tag ++ (date ++ (to_name ++ (from_name ++ (subject ++ flat_map ended kept))))
 
--- sixteen bytes for a message: where it begins in the file of messages, and its digest, low byte first
+-- Sixteen bytes for a message: its place in the file of messages, and its digest, low byte first.
 abbrev pub entry : ℕ → ℕ → List ℕ
 entry place digest = to_le_bytes w64 place ++ to_le_bytes w64 digest
 
--- the entries of the messages that are stored from a place on
+-- The entries of the messages from a place on.
 abbrev pub keys_from : (List ℕ → ℕ) → ℕ → List Stored → List ℕ
 keys_from digest place [] = []
 keys_from digest place (s ∷ later) = entry place (digest (digested (message_in Second s))) ++ keys_from digest (place + length (stored_bytes Second s)) later
 
--- The two files of a folder with these messages, which are stored as in a base file. The digest is any function of eight bytes.
+-- The two files of a folder with these messages, stored as in a base file. The digest is any function with results of eight bytes.
 pub record FolderStandsFor (digest : List ℕ → ℕ) (base : List Filed) (cursor : ℕ) (messages keys : List ℕ) : Type 0 where
   pub all : List Stored
   pub sizes : AllByRecursion (IsStored Second) all
@@ -45,36 +45,36 @@ pub record FolderStandsFor (digest : List ℕ → ℕ) (base : List Filed) (curs
   pub digests : (bytes : List ℕ) → digest bytes < 2 ^ 64
   pub holds : IsBase base cursor
 
--- where the message of this number begins
+-- The place of the message of this number.
 abbrev pub place_at : List ℕ → ℕ → ℕ
 place_at keys i = from_le_bytes w64 (take 8 (drop (16 * i) keys))
 
--- and its digest
+-- The digest of the message of this number.
 abbrev pub digest_at : List ℕ → ℕ → ℕ
 digest_at keys i = from_le_bytes w64 (take 8 (drop (16 * i + 8) keys))
 
--- the piece has whole entries of the keys, from the message of this number on
+-- The piece has whole entries of the keys, from the message of this number on.
 pub record IsPieceOf (keys : List ℕ) (from : ℕ) (piece : List ℕ) : Type 0 where
   pub rest : List ℕ
   pub within : 16 * from ≤ length keys
   pub behind : drop (16 * from) keys ≡ piece ++ rest
   pub even : 16 * (length piece / 16) ≡ length piece
 
--- each message has its entry
+-- Each message has its digest in its entry.
 abbrev pub TellsEach : (List ℕ → ℕ) → List Filed → List ℕ → Type 0
 TellsEach digest base keys = (i : ℕ) (d : Filed) → i < length base → digest_at keys i ≡ digest (digested (slice_index_or base i d))
 
--- the place where the next message begins, or the messages end
+-- The place of the next message, or the end of the messages.
 abbrev pub place_behind : List ℕ → List ℕ → ℕ → ℕ
 place_behind messages keys i = if nat_lt (i + 1) (length keys / 16) then place_at keys (i + 1) else length messages
 
--- the bytes of a message lie from the place in its entry to the next one's
+-- The bytes of a message extend from the place in its entry to the place of the next one.
 pub record HasBytesOf (messages keys : List ℕ) (i : ℕ) (s : Stored) : Type 0 where
   pub begins : place_at keys i ≤ place_behind messages keys i
   pub ends : place_behind messages keys i ≤ length messages
   pub bytes : drop (place_at keys i) (take (place_behind messages keys i) messages) ≡ stored_bytes Second s
 
--- the message of this number, in its stored form
+-- The message of this number, in its stored form.
 pub record StandsAt (base : List Filed) (messages keys : List ℕ) (i : ℕ) : Type 0 where
   pub s : Stored
   pub size : IsStored Second s
@@ -82,7 +82,7 @@ pub record StandsAt (base : List Filed) (messages keys : List ℕ) (i : ℕ) : T
   pub is : (d : Filed) → slice_index_or base i d ≡ message_in Second s
   pub bytes : HasBytesOf messages keys i s
 
--- each message is at the place in its entry
+-- Each message is at the place in its entry.
 pub record StandWhereTold (base : List Filed) (messages keys : List ℕ) : Type 0 where
   pub many : length keys ≡ 16 * length base
   pub each : (i : ℕ) → i < length base → StandsAt base messages keys i

@@ -3,6 +3,6 @@ use Rattle.std.specs.Prelude.{ℕ, ◌%◌, ◌^◌, List}
 use Rattle.std.specs.Int.{w64, to_le_bytes}
 use Rattle.std.specs.Hash.DefaultHasher as sip
 
--- the answer for the two halves of a key, low byte first, and the bytes: a number of eight bytes
+-- The digest of the bytes under the two halves of a key, low byte first: a number of eight bytes.
 abbrev pub sip_digest : ℕ → ℕ → List ℕ → ℕ
 sip_digest first second bytes = sip.finish (sip.write (sip.write (sip.write sip.initial (to_le_bytes w64 first)) (to_le_bytes w64 second)) bytes) % 2 ^ 64

@@ -1,4 +1,4 @@
--- The messages of a store, and how its calls change them.
+-- The messages of a store, and the effects of its calls on them.
 use Rattle.std.specs.Prelude.{◌≡◌, ◌≤◌, ◌⊎◌, ◌↔◌, ℕ, List, [], ◌∷◌, ◌++◌, length, map, take, drop, Option, None, Result, IsErrOf}
 use Rattle.disk_io.specs.Device.{Failed}
 use Rattle.disk_io.specs.Disk.{DiskState, Files, Honestly}
@@ -11,58 +11,57 @@ use Rattle.base_store.specs.declared.store_error.StoreError.TheVariants as error
 use Rattle.disk_io.specs.declared.disk_error.DiskError.{DiskError}
 use Rattle.disk_io.specs.declared.disk_error.DiskError.TheVariants as disk_error
 
--- a disk's fault, as a fault of a store
+-- The fault of a disk as a fault of a store.
 abbrev pub store_cause : DiskError → StoreError
 store_cause disk_error.Memory = error.Memory
 store_cause disk_error.Device = error.Device
 
--- a store between two calls
+-- A store between two calls.
 pub record StoreState : Type 1 where
-  -- the disk that it is on, with the other files there
+  -- The disk with the files of the store and all others.
   pub disk : DiskState
-  -- calls are allowed: none has failed in the middle of a change
+  -- No call has failed in the middle of a change, so calls are allowed.
   pub is_ready : Type 0
-  -- it holds these messages under this cursor, committed or not
+  -- It holds these messages under this cursor, committed or not.
   pub keeps : Base → Type 0
-  -- this base was committed last
+  -- This base is the last committed one.
   pub committed : Base → Type 0
-  -- the message that was fetched last
+  -- The current message, fetched last.
   pub at_hand : Option Filed
-  -- files that a crash left represent this base
+  -- Files that a crash left represent this base.
   pub stands : Base → Files → Type 0
-  -- the paths that belong to it
+  -- The paths that belong to the store.
   pub is_own : List ℕ → Type 0
-  -- a call that fails in the middle of a change takes it back
+  -- A call that fails in the middle of a change undoes it.
   pub undoes : Type 0
-  -- a number in its files does not count what it holds
+  -- A number in its files can't count its content.
   pub is_full : Type 0
-  -- the numbers in its files count this message too
+  -- The numbers in its files can count this message too.
   pub has_room : Filed → Type 0
-  -- a crash now leaves the base that was committed last
+  -- A crash now leaves the base that was committed last.
   pub stays : Honestly disk (is_ready → (base : Base) → committed base → (c : Files) → disk.may_leave c → stands base c)
-  -- and it is the base that is seen
+  -- Reads also show this base.
   pub shown : Honestly disk (is_ready → (base : Base) → committed base → stands base disk.seen)
 
--- one message more at the end
+-- The base with one message more at its end.
 abbrev pub with_message : Base → Filed → Base
 with_message base message = record { messages = base.messages ++ message ∷ []; cursor = base.cursor }
 
--- the cursor at the end
+-- The base with the cursor at its end.
 abbrev pub all_scanned : Base → Base
 all_scanned base = record { messages = base.messages; cursor = length base.messages }
 
--- the scanned messages as a purge leaves them
+-- The base with its scanned messages as a purge leaves them.
 abbrev pub purged : Base → Base
 purged base = record { messages = map stub_of (take base.cursor base.messages) ++ drop base.cursor base.messages; cursor = base.cursor }
 
--- files represent the same bases as before, the same paths belong to the store, and it undoes failed changes if it
--- did before
+-- Files represent the same bases, the same paths belong to the store, and it undoes failed changes exactly if it did before.
 pub record IsSameStore (old new : StoreState) : Type 0 where
   pub stands : (base : Base) (c : Files) → new.stands base c ↔ old.stands base c
   pub own : (m : List ℕ) → new.is_own m ↔ old.is_own m
   pub undoes : new.undoes ↔ old.undoes
 
--- a look at the store: nothing has changed but the current message
+-- A look at the store changes only the current message.
 pub record LooksOn (old new : StoreState) : Type 0 where
   pub ready : new.is_ready
   pub keeps : (base : Base) → old.keeps base → new.keeps base
@@ -71,21 +70,21 @@ pub record LooksOn (old new : StoreState) : Type 0 where
   pub quiet : ChangesNothing old.disk new.disk
   pub same : IsSameStore old new
 
--- other files that were on the disk are unchanged
+-- Other files that were on the disk are unchanged.
 abbrev pub SameBesideStore : StoreState → Files → Type 0
 SameBesideStore old c = (m : List ℕ) → (old.is_own m → ⊥) → old.disk.is_named m → old.disk.is_flushed m → c m ≡ old.disk.seen m
 
--- a crash left the base that was committed before, and no other file has changed
+-- A crash left the base committed before, and no other file has changed.
 pub record LeavesCommitted (old : StoreState) (base : Base) (c : Files) : Type 0 where
   pub beside : SameBesideStore old c
   pub stands : old.stands base c
 
--- or the one that is being committed
+-- A crash left that base or the one being committed, and no other file has changed.
 pub record LeavesEither (old : StoreState) (first next : Base) (c : Files) : Type 0 where
   pub beside : SameBesideStore old c
   pub stands : old.stands first c ⊎ old.stands next c
 
--- other files that were seen and on the disk are so still
+-- Other files show the same bytes, and those on the disk remain there.
 pub record KeepsBeside (old new : StoreState) : Type 0 where
   pub seen : (m : List ℕ) → (old.is_own m → ⊥) → new.disk.seen m ≡ old.disk.seen m
   pub named : (m : List ℕ) → (old.is_own m → ⊥) → old.disk.is_named m → new.disk.is_named m
@@ -93,47 +92,47 @@ pub record KeepsBeside (old new : StoreState) : Type 0 where
   pub alone : (m : List ℕ) → (old.is_own m → ⊥) → old.disk.is_alone m → new.disk.is_alone m
   pub honest : new.disk.is_honest → old.disk.is_honest
 
--- until the next commit a crash leaves the base that was committed before
+-- Until the next commit, a crash leaves the base committed before.
 pub record CommitsNothing (old new : StoreState) : Type 0 where
   pub any_moment : Honestly new.disk ((base : Base) → old.committed base → LeavesOnly old.disk new.disk (LeavesCommitted old base))
   pub beside : KeepsBeside old new
   pub same : IsSameStore old new
 
--- a crash leaves the base that was committed before, or the one that the store holds
+-- A crash leaves the base committed before, or the one that the store holds.
 pub record MayCommit (old new : StoreState) : Type 0 where
   pub any_moment : Honestly new.disk ((first next : Base) → old.committed first → old.keeps next → LeavesOnly old.disk new.disk (LeavesEither old first next))
   pub beside : KeepsBeside old new
   pub same : IsSameStore old new
 
--- the store goes on, and the committed base is the same
+-- The store allows further calls, and the committed base is the same.
 pub record GoesOn (old new : StoreState) : Type 0 where
   pub ready : new.is_ready
   pub committed : Honestly new.disk ((base : Base) → old.committed base → new.committed base)
   pub honest : new.disk.is_honest → old.disk.is_honest
 
--- the held base is committed
+-- The store committed the base that it holds.
 pub record Commits (old new : StoreState) : Type 0 where
   pub ready : new.is_ready
   pub keeps : Honestly new.disk ((base : Base) → old.keeps base → new.keeps base)
   pub committed : Honestly new.disk ((base : Base) → old.keeps base → new.committed base)
   pub honest : new.disk.is_honest → old.disk.is_honest
 
--- the committed base is the same, or the held base is now committed
+-- The committed base is the same, or it is now the base that the store holds.
 abbrev pub KeepsOrCommits : StoreState → StoreState → Type 0
 KeepsOrCommits old new = ((base : Base) → old.committed base → new.committed base) ⊎ ((base : Base) → old.keeps base → new.committed base)
 
--- a store that undoes failed changes still holds its base
+-- A store that undoes failed changes still holds its base.
 abbrev pub Undoes : StoreState → StoreState → Type 0
 Undoes old new = Honestly new.disk (old.undoes → (base : Base) → old.keeps base → new.keeps base)
 
--- A failure of the device is answered only where its count of failures rose. On an honest disk, damage is answered
--- only of a store that holds no base.
+-- The store reports a failure of the device only if the count of failures rose. On an honest disk it reports damage
+-- only if it holds no base.
 pub record HasStoreCause {T : Type 0} (old new : StoreState) (before now : ℕ) (result : Result T StoreError) : Type 0 where
   pub later : before ≤ now
   pub failed : IsErrOf result error.Device → Failed before now
   pub damaged : Honestly new.disk (IsErrOf result error.Damaged → (base : Base) → old.keeps base → ⊥)
 
--- of a store that is on no disk
+-- The disk of a store without files.
 abbrev pub no_disk : DiskState
 no_disk = record {
   seen = λ m. None;

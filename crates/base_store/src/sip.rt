@@ -1,5 +1,4 @@
 //! Digests by SipHash.
-ghost use Rattle.std.specs.Prelude.{◌≡◌, ◌<◌, ◌^◌, ℕ, List};
 ghost use Rattle.std.proofs.Common.{arith};
 ghost use Rattle.base_store.specs.Sip.{sip_digest};
 

@@ -1,4 +1,4 @@
--- What `check --all` answers, from what its parts do.
+-- The answer of `check --all`, from those of its parts.
 use Rattle.std.proofs.Common.{◌≡◌, ◌+◌, ◌++◌, ◌<◌, ◌∙◌, ◌∷◌, [], ap, append-nil, append_assoc, arith, Bool, Contains, Err, get_or, length, List, map, Ok, Option, refl, Result, suc, subst, sym, take, zero, ℕ}
 use Rattle.std.specs.List.{AllByRecursion}
 use Rattle.std.specs.Prelude.{if◌then◌else◌}
@@ -24,7 +24,7 @@ use Rattle.cmd_check.specs.CheckingAll.{AreAreasChecked, CheckAllAnswers, IsAllC
 use Rattle.cmd_check.specs.Further.{IsVerdictShown, areas_line}
 use Rattle.cmd_check.proofs.Checks.{one_reading}
 
--- where no verdict is a no it is a yes
+-- a verdict that is not counted as a no is a yes
 none_is_yes : (v : Verdict) → no_count v ≡ 0 → IsYes v
 none_is_yes (Yes systems links) none = tt
 none_is_yes (No fault) none = absurd cc
@@ -93,7 +93,7 @@ module _ (files : List LinkFile) (list : Option (List Line)) (more : Bool) where
       let pushed = area_pushed (map bytes (take k all)) tag noes one first old new before last in
       subst (λ t. Pushes (AreAreasChecked files list more t (noes + one)) first new) (ap (λ t. map bytes (take k all) ++ t ∷ []) own ∙ sym tags) pushed
 
-  -- where no verdict is a no each area is in order, and where each area is tidy no verdict is a no
+  -- no verdict is a no exactly if each area is tidy
   in_order : (tags : List (List ℕ)) (noes : ℕ) (lines : List ℕ) → AreAreasChecked files list more tags noes lines → noes ≡ 0
       → AllByRecursion (λ tag. Tidy files tag × RunsAreOrderly files tag) tags
   in_order [] noes lines checked is = tt
@@ -115,7 +115,7 @@ module _ (files : List LinkFile) (list : Option (List Line)) (more : Bool) where
       let rest_none = all_yes tags checked.rest_no checked.rest_lines checked.is_rest tidy.1 in
       omega (arith, both, first_none, rest_none)
 
--- what holds of each of some tags holds of one of them
+-- a property of each of some tags holds of one of them
 of_tag : (P : List ℕ → Type 0) (tags : List (List ℕ)) (tag : List ℕ) → AllByRecursion P tags → Contains tags tag → P tag
 of_tag P tags tag all there = subst P there.2 (All-from_recursion P tags all there.0 tag there.1)
 
@@ -124,7 +124,7 @@ each_tag P tags each =
     recursion_from_All P tags
     (λ k d within. let tag : List ℕ = get_or tags k d in let there : get_or tags k tag ≡ tag = get_or_default tags k tag d within in each tag (k, within, there))
 
--- 0 where no verdict is a no, and only there
+-- the status is 0 exactly if no verdict is a no
 status_good : (noes : ℕ) → verdicts_status noes ≡ Good → noes ≡ 0
 status_good zero good = refl
 status_good (suc n) good =
@@ -162,7 +162,7 @@ were_checked nodelist list more inputs files tags noes areas none front lines st
       orderly = λ good tag carried. (in_all good tag carried).1;
     }
 
--- a 0 is so of each run in each area
+-- a 0 holds for each run in each area
 pub headline_of_all : (nodelist : Option (List ℕ)) (more : Bool) (inputs : List (List ℕ)) (stopped : Option Fault) (old new : Output)
     (answer : Result Status Fault) → CheckAllAnswers nodelist more inputs stopped old new answer → answer ≡ Ok Good
     → (links : List LinkFile) → AreLinkFiles inputs links → (tag : List ℕ) → IsCarried links tag → Tidy links tag × RunsAreOrderly links tag

@@ -1,4 +1,4 @@
--- Tags that are gathered in order, from the areas of link files.
+-- Tags gathered in order from the areas of link files.
 use Rattle.std.proofs.Common.{◌≡◌, ◌+◌, ◌<◌, ◌∙◌, ◌||◌, ◌↔◌, ◌∷◌, [], arith, Bool, Contains, Err, IfOk, IsTrue, List, None, Ok, Result, Some, ℕ, ap, false, inl, inr, length, map, refl, sym, take, true}
 use Rattle.std.specs.Prelude.{bytes_eq, find, is_some, option_map, slice_get}
 use Rattle.std.specs.List.{AllByRecursion, list_any}
@@ -34,7 +34,7 @@ either_turned true false = refl
 either_turned false true = refl
 either_turned false false = refl
 
--- what passes of some keys and a new one
+-- a key passes among some keys and a new one
 any_inserted : {K : Type 0} (p : K → Bool) (order : K → K → Ordering) (ks : List K) (k : K) → ((x : K) → order k x ≡ Equal → p k ≡ p x)
     → list_any p (insert_key order ks k) ≡ (p k || list_any p ks)
 any_inserted p order [] k same = refl
@@ -56,7 +56,7 @@ module _ {K : Type 0} (bytes : K → List ℕ) where
       ∙ either_turned (is_eq (tag_order other (bytes k))) (has_tag bytes ks other)
       ∙ ap (λ b. has_tag bytes ks other || b) (is_eq-slice_cmp other (bytes k) ∙ ap (bytes_eq other) is)
 
-  -- a tag that was there
+  -- a tag that is already a key
   pub tag_there : (ks : List K) (tag other : List ℕ) → has_tag bytes ks tag ≡ true → has_tag bytes ks other ≡ (has_tag bytes ks other || bytes_eq other tag)
   tag_there ks tag other there = by (bytes_eq other tag) (λ same. ap (has_tag bytes ks) ((bytes_decides other tag).0 same) ∙ there)
     where
@@ -68,7 +68,7 @@ module _ {K : Type 0} (bytes : K → List ℕ) where
   any_tag [] tag = refl
   any_tag (k ∷ ks) tag = ap (λ b. b || has_tag bytes ks tag) (is_eq-slice_cmp tag (bytes k)) ∙ ap (λ b. bytes_eq tag (bytes k) || b) (any_tag ks tag)
 
-  -- a tag is one of the keys where it is found
+  -- a tag is one of the keys exactly if it is found
   pub among_tags : (ks : List K) (tag : List ℕ) → Contains (map bytes ks) tag ↔ IsTrue (has_tag bytes ks tag)
   among_tags ks tag = (
     λ there. any_tag ks tag ∙ list_any-from_Contains nat_list_eq_equiv tag (map bytes ks) there,
@@ -85,7 +85,7 @@ module _ {K : Type 0} (bytes : K → List ℕ) where
   tags_ascend [] ascend = tt
   tags_ascend (k ∷ ks) ascend = (below_all (bytes k) ks ascend.0, tags_ascend ks ascend.1)
 
--- an item is found where one passes
+-- an item is found exactly if one passes
 found_any : {X : Type 0} (p : X → Bool) (xs : List X) → is_some (find p xs) ≡ list_any p xs
 found_any p [] = refl
 found_any p (x ∷ xs) = elim (cases_Bool (p x)) [
@@ -98,7 +98,7 @@ either_regrouped true b c = refl
 either_regrouped false b c = refl
 
 module _ {K : Type 0} (bytes : K → List ℕ) (first : List K) where
-  -- the keys at first, and the tags of so many areas
+  -- the keys at first, and the tags of the areas
   pub record HaveTags (areas : List Area) (keys : List K) : Type 0 where
     pub so : (tag : List ℕ) → has_tag bytes keys tag ≡ (has_tag bytes first tag || list_any (λ area. bytes_eq area.tag tag) areas)
 

@@ -1,4 +1,4 @@
--- Link files of assumed systems, behind others.
+-- Link files of assumed systems, after other files.
 use Rattle.std.proofs.Common.{◌≡◌, ℕ, ◌+◌, ◌<◌, ◌++◌, ◌∙◌, ◌∷◌, ◌⊎◌, [], ap, append-nil, append_assoc, Bool, Err, false, get_or, inl, inr, length, List, None, Ok, Option, refl, Result, subst, sym, take, true}
 use Rattle.std.proofs.lemmas.List.{take_more}
 use Rattle.echo_addr.specs.declared.address.Address.{Address}
@@ -24,7 +24,7 @@ pub not_so : (b : Bool) → b ≡ false → b ≡ true → ⊥
 not_so true is h = cc
 not_so false is h = cc
 
--- the items after nothing
+-- the items after an empty list
 pub behind_none : {X : Type 0} (none all more : List X) → none ≡ [] → all ≡ none ++ more → all ≡ more
 behind_none none all more nothing whole = whole ∙ ap (λ n. n ++ more) nothing
 
@@ -51,7 +51,7 @@ module _ (files : List LinkFile) (tag : List ℕ) where
     whole = pushed ∙ ap (λ l. l ++ text ∷ []) before.whole ∙ append_assoc old before.texts (text ∷ []);
   }
 
-  -- where some file has the area
+  -- if some file has the area
   pub assumed_added : (assumed : List Address) (old new : List (List ℕ)) → IsCarried files tag → AddsEach files tag assumed old new → AddsAssumed files tag assumed old new
   assumed_added assumed old new carried each = record {
     texts = each.texts;
@@ -59,7 +59,7 @@ module _ (files : List LinkFile) (tag : List ℕ) where
     whole = each.whole;
   }
 
-  -- and where none has it
+  -- and if no file has it
   pub nothing_added : (assumed : List Address) (old : List (List ℕ)) → (IsCarried files tag → ⊥) → AddsAssumed files tag assumed old old
   nothing_added assumed old nowhere = record {
     texts = [];
@@ -81,7 +81,7 @@ text_read texts k text file old mid new inside is before read pushed = record {
   whole = pushed ∙ ap (λ l. l ++ file ∷ []) before.whole ∙ append_assoc old before.files (file ∷ []);
 }
 
--- files that are read behind others
+-- files read after others
 pub both_read : (inputs texts : List (List ℕ)) (links others : List LinkFile) → AreLinkFiles inputs links → AreLinkFiles texts others
     → AreLinkFiles (inputs ++ texts) (links ++ others)
 both_read [] texts [] others are more = more
@@ -89,7 +89,7 @@ both_read [] texts (l ∷ ls) others are more = absurd are
 both_read (b ∷ bs) texts [] others are more = absurd are
 both_read (b ∷ bs) texts (l ∷ ls) others are more = (are.0, both_read bs texts ls others are.1 more)
 
--- the files behind those that are known
+-- the files after the known ones
 others_of : (inputs texts : List (List ℕ)) (links all : List LinkFile) → AreLinkFiles inputs links → AreLinkFiles (inputs ++ texts) all
     → (others : List LinkFile) × (all ≡ links ++ others) × AreLinkFiles texts others
 others_of [] texts [] all are both = (all, refl, both)
@@ -125,7 +125,7 @@ text_refused nodelist tag t inputs shown texts links assumed fault are raised as
   fault_is = subst (λ (x : List (List ℕ)). IsLinkFault x fault) same refused;
 }))
 
--- a 0 is so of each run
+-- a 0 holds for each run
 pub headline_assuming : (nodelist : Option (List ℕ)) (more : Bool) (tag : List ℕ) (inputs : List (List ℕ)) (assumed : List Address) (stopped : Option Fault) (old new : Output)
     (answer : Result Status Fault) → CheckAssumingAnswers nodelist more tag inputs assumed stopped old new answer → answer ≡ Ok Good
     → (links : List LinkFile) → AreLinkFiles inputs links → IsPromisedAssuming links (upper tag) assumed

@@ -1,4 +1,4 @@
--- What `check` answers, from what its parts do.
+-- The answer of `check`, from those of its parts.
 use Rattle.std.proofs.Common.{◌≡◌, ℕ, Bool, List, [], ◌∷◌, Option, Result, Ok, Err, refl, sym, ap, subst, ◌∙◌}
 use Rattle.cmd_status.specs.Devices.{Output}
 use Rattle.echo_links.specs.Links.{LinkFile, upper}
@@ -25,7 +25,7 @@ pub yes_is_good : (v : Verdict) → IsYes v → verdict_status v ≡ Good
 yes_is_good (Yes systems links) is_yes = refl
 yes_is_good (No f) is_yes = absurd is_yes
 
--- what holds of files and a tag holds of the same ones
+-- a property of files and a tag holds of equal ones
 pub of_same : (P : List LinkFile → List ℕ → Type 0) (f g : List LinkFile) (t u : List ℕ) → f ≡ g → t ≡ u → P f t → P g u
 of_same P f g t u same_files same_tag holds =
     subst (λ (x : List ℕ). P g x) same_tag (subst (λ (x : List LinkFile). P x t) same_files holds)
@@ -65,7 +65,7 @@ one_reading (bytes ∷ inputs) (x ∷ a) [] p q = absurd q
 one_reading (bytes ∷ inputs) (x ∷ a) (y ∷ b) p q =
     ap (λ f. f ∷ a) (p.0.1 ∙ sym q.0.1) ∙ ap (λ l. y ∷ l) (one_reading inputs a b p.1 q.1)
 
--- a 0 is so of each run
+-- a 0 holds for each run
 pub headline : (nodelist : Option (List ℕ)) (more : Bool) (tag : List ℕ) (inputs : List (List ℕ)) (stopped : Option Fault) (old new : Output)
     (answer : Result Status Fault) → CheckAnswers nodelist more tag inputs stopped old new answer → answer ≡ Ok Good
     → (links : List LinkFile) → AreLinkFiles inputs links → Tidy links (upper tag) × RunsAreOrderly links (upper tag)

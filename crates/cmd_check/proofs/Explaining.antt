@@ -15,7 +15,7 @@ use Rattle.cmd_check.specs.Checking.{IsCheckVerdict}
 use Rattle.cmd_check.proofs.Checks.{of_same}
 use Rattle.cmd_check.specs.Explained.{IsExplained, IsFoundFirst}
 
--- what link files that were read say is what their bytes say
+-- the link files that were read are those of their bytes
 pub given_files : (inputs : List (List ℕ)) (files : List LinkFile) → AreLinkFiles inputs files → files_of inputs ≡ files
 given_files [] [] are = refl
 given_files (bytes ∷ inputs) [] are = absurd are
@@ -23,7 +23,7 @@ given_files [] (file ∷ files) are = absurd are
 given_files (bytes ∷ inputs) (file ∷ files) are =
     ap (λ (fs : List LinkFile). file_of bytes ∷ fs) (given_files inputs files are.1) ∙ ap (λ (f : LinkFile). f ∷ files) (sym are.0.1)
 
--- what follows from the fault of a no, where it is the one that is named
+-- a property of the fault of a no, if it is the first fault
 of_no : (v : Verdict) (First Of : NetFault → Type 0) → IfNo v First → IfNo v (λ fault. First fault → Of fault) → IfNo v Of
 of_no (Yes systems links) First Of is more = tt
 of_no (No fault) First Of is more = more is

@@ -1,4 +1,4 @@
--- What `picture --why` answers, from what its parts do.
+-- The answer of `picture --why`, from those of its parts.
 use Rattle.std.proofs.Common.{◌≡◌, ℕ, List, Option, refl, sym, ap, ◌∙◌}
 use Rattle.echo_links.specs.Links.{LinkFile, upper}
 use Rattle.echo_net.specs.declared.drawing.Crossing.{Crossing}

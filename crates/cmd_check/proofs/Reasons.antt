@@ -1,4 +1,4 @@
--- What `why` answers, from what its parts do.
+-- The answer of `why`, from those of its parts.
 use Rattle.std.specs.Prelude.{codes, Contains, ◌↔◌}
 use Rattle.std.specs.List.{flat_map}
 use Rattle.std.specs.List.Sorted.{IsStrictlySortedBy}
@@ -21,7 +21,7 @@ use Rattle.cmd_check.proofs.Checks.{good_is_yes, of_same, yes_is_good}
 use Rattle.cmd_check.proofs.Explaining.{was_explained}
 use Rattle.echo_net.proofs.Drawings.{held_again}
 
--- lines that were added to none
+-- lines added to none
 pub were_pushed : (P : List ℕ → Type 0) (none lines : List ℕ) → none ≡ [] → Pushes P none lines → P lines
 were_pushed P none lines nothing pushed = subst P (sym (alone none lines pushed.lines nothing pushed.whole)) pushed.are
 

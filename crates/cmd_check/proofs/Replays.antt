@@ -1,4 +1,4 @@
--- What `replay` answers, from what its parts do.
+-- The answer of `replay`, from those of its parts.
 use Rattle.std.proofs.Common.{◌≡◌, ℕ, List, [], ◌++◌, length, map, sym, ap, ◌∙◌, Ok}
 use Rattle.std.proofs.lemmas.List.{length-map}
 use Rattle.echo_links.specs.Links.{LinkFile}
@@ -34,7 +34,7 @@ was_replayed script inputs events files world systems lines status script-of are
       status_is = good;
     }
 
--- lines behind no others
+-- lines after no other lines
 pub world_alone : (systems : ℕ) (world : WorldState) (none lines : List ℕ) → none ≡ []
     → ((run : Run) → IsWorldOf world run → length run.systems ≡ systems → lines ≡ none ++ replay_lines (map (λ (s : System). s.file) run.systems) run)
     → AreWorldLines systems world lines

@@ -1,4 +1,4 @@
--- Systems without a link file that are judged as if they listed exactly those who list them.
+-- Systems without a link file, judged as if they listed exactly the systems that list them.
 use Rattle.std.specs.Prelude.{◌≡◌, ◌↔◌, ℕ, Contains, List, [], ◌∷◌, ◌++◌, codes, filter, map, Result}
 use Rattle.std.specs.List.{flat_map}
 use Rattle.std.specs.List.Sorted.{IsStrictlySortedBy}
@@ -16,7 +16,7 @@ use Rattle.cmd_status.specs.Inputs.{AreLinkFiles}
 abbrev pub listing : List LinkFile → List ℕ → Address → List Address
 listing files tag a = map (λ file. file.system) (filter (λ file. is_link file tag a) files)
 
--- A link, after those before it.
+-- A link as a word of the AREA line, after a blank.
 abbrev pub link_word : Address → List ℕ
 link_word link = codes " " ++ address_text link
 
@@ -25,14 +25,14 @@ abbrev pub assumed_text : List ℕ → Address → List Address → List ℕ
 assumed_text tag a links =
     codes "SYSTEM " ++ (address_text a ++ (codes "\nAREA " ++ (tag ++ (flat_map link_word links ++ codes "\n"))))
 
--- The link file of an assumed system: its links are exactly those who list it, ascending, each once.
+-- The link file of an assumed system: its links are exactly the systems that list it, ascending, each once.
 pub record IsAssumed (files : List LinkFile) (tag : List ℕ) (a : Address) (text : List ℕ) : Type 0 where
   pub links : List Address
   pub ascending : IsStrictlySortedBy address_order links
   pub members : (b : Address) → Contains links b ↔ Contains (listing files tag a) b
   pub whole : text ≡ assumed_text tag a links
 
--- One for each of the systems, in order.
+-- A link file for each of the systems, in order.
 abbrev pub AreEachAssumed : List LinkFile → List ℕ → List Address → List (List ℕ) → Type 0
 AreEachAssumed files tag [] [] = Unit {0}
 AreEachAssumed files tag (a ∷ assumed) (text ∷ texts) = IsAssumed files tag a text × AreEachAssumed files tag assumed texts
@@ -43,19 +43,19 @@ pub record AreAssumed (files : List LinkFile) (tag : List ℕ) (assumed : List A
   pub carried : IsCarried files tag → AreEachAssumed files tag assumed texts
   pub nowhere : (¬ IsCarried files tag) → texts ≡ []
 
--- One for each of the systems was appended to other files.
+-- A link file for each of the systems joins other files.
 pub record AddsEach (files : List LinkFile) (tag : List ℕ) (assumed : List Address) (old new : List (List ℕ)) : Type 0 where
   pub texts : List (List ℕ)
   pub are : AreEachAssumed files tag assumed texts
   pub whole : new ≡ old ++ texts
 
--- Those of the assumed systems were appended.
+-- The link files of the assumed systems join other files.
 pub record AddsAssumed (files : List LinkFile) (tag : List ℕ) (assumed : List Address) (old new : List (List ℕ)) : Type 0 where
   pub texts : List (List ℕ)
   pub are : AreAssumed files tag assumed texts
   pub whole : new ≡ old ++ texts
 
--- The inputs are link files, and those of the assumed systems were appended.
+-- The inputs are link files, and those of the assumed systems join them.
 pub record Assumes (tag : List ℕ) (assumed : List Address) (old new : List (List ℕ)) : Type 0 where
   pub files : List LinkFile
   pub are_files : AreLinkFiles old files

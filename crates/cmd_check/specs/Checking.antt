@@ -1,4 +1,4 @@
--- What `check` answers.
+-- The answer of `check`.
 use Rattle.std.specs.Prelude.{◌≡◌, ℕ, ◌↔◌, Bool, List, Option, None, Result}
 use Rattle.cmd_status.specs.Devices.{Output}
 use Rattle.echo_links.specs.Links.{LinkFile, upper}
@@ -48,7 +48,7 @@ pub record IsChecked (nodelist : Option (List ℕ)) (more : Bool) (tag : List �
   pub tidy : (status ≡ Good) ↔ Tidy files (upper tag)
   pub orderly : status ≡ Good → RunsAreOrderly files (upper tag)
 
--- the right result of checking an area
+-- The right result of checking an area.
 abbrev pub CheckAnswers : Option (List ℕ) → Bool → List ℕ → List (List ℕ) → Option Fault → Output → Output → Result Status Fault → Type 0
 CheckAnswers nodelist more tag inputs stopped old new answer =
     Answers (λ lines status. IsChecked nodelist more tag inputs lines status × (stopped ≡ None)) (IsFirstFaultGiven nodelist inputs stopped) old new answer

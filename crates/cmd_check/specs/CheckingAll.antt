@@ -1,4 +1,4 @@
--- What `check --all` answers.
+-- The answer of `check --all`.
 use Rattle.std.specs.Prelude.{◌≡◌, ◌↔◌, ◌+◌, ◌==◌, ℕ, Bool, List, [], ◌∷◌, ◌++◌, length, Option, None, Result, if◌then◌else◌}
 use Rattle.cmd_status.specs.Devices.{Output}
 use Rattle.echo_links.specs.Links.{LinkFile}
@@ -16,13 +16,13 @@ use Rattle.cmd_check.specs.AreaTags.{AreAllTags}
 use Rattle.cmd_check.specs.Checking.{IsCheckVerdict, RunsAreOrderly}
 use Rattle.cmd_check.specs.Further.{IsVerdictShown, areas_line}
 
--- How many of one verdict are a no.
+-- 1 for a no, 0 for a yes.
 abbrev pub no_count : Verdict → ℕ
 no_count (Yes systems links) = 0
 no_count (No fault) = 1
 
--- The lines of `check` on an area of these files, and how many verdicts are a no. If none is, every run is orderly in
--- it.
+-- The lines of `check` on an area of these files, and the number of verdicts that are a no. If it is 0, every run is
+-- orderly in the area.
 pub record IsAreaChecked (files : List LinkFile) (list : Option (List Line)) (more : Bool) (tag : List ℕ) (noes : ℕ) (lines : List ℕ) : Type 0 where
   pub verdict : Verdict
   pub is_verdict : IsCheckVerdict files tag verdict
@@ -30,7 +30,7 @@ pub record IsAreaChecked (files : List LinkFile) (list : Option (List Line)) (mo
   pub counted : noes ≡ no_count verdict
   pub orderly : noes ≡ 0 → RunsAreOrderly files tag
 
--- Lines of one kind and then of another, and how many verdicts of both are a no.
+-- Lines of one kind and then of another, and the number of verdicts of both that are a no.
 pub record AreJoined (First Rest : ℕ → List ℕ → Type 0) (noes : ℕ) (lines : List ℕ) : Type 0 where
   pub first_no : ℕ
   pub rest_no : ℕ
@@ -41,7 +41,7 @@ pub record AreJoined (First Rest : ℕ → List ℕ → Type 0) (noes : ℕ) (li
   pub both : noes ≡ first_no + rest_no
   pub whole : lines ≡ first_lines ++ rest_lines
 
--- The lines of `check` on each of these areas, one after another, and how many verdicts are a no.
+-- The lines of `check` on each of these areas, one after another, and the number of verdicts that are a no.
 abbrev pub AreAreasChecked : List LinkFile → Option (List Line) → Bool → List (List ℕ) → ℕ → List ℕ → Type 0
 AreAreasChecked files list more [] noes lines = (noes ≡ 0) × (lines ≡ [])
 AreAreasChecked files list more (tag ∷ tags) noes lines = AreJoined (IsAreaChecked files list more tag) (AreAreasChecked files list more tags) noes lines
@@ -51,7 +51,7 @@ abbrev pub verdicts_status : ℕ → Status
 verdicts_status noes = if noes == 0 then Good else Differs
 
 -- The link files and the nodelist have no fault. These are the lines of the verdict on each area that a file has,
--- ascending by tag, and their count if it is asked for. The status is 0 exactly if each of these areas is tidy. Then
+-- ascending by tag, and their count if it is requested. The status is 0 exactly if each of these areas is tidy. Then
 -- every run is orderly in each.
 pub record IsAllChecked (nodelist : Option (List ℕ)) (more : Bool) (inputs : List (List ℕ)) (lines : List ℕ) (status : Status) : Type 0 where
   pub files : List LinkFile
@@ -68,7 +68,7 @@ pub record IsAllChecked (nodelist : Option (List ℕ)) (more : Bool) (inputs : L
   pub tidy : (status ≡ Good) ↔ ((tag : List ℕ) → IsCarried files tag → Tidy files tag)
   pub orderly : status ≡ Good → (tag : List ℕ) → IsCarried files tag → RunsAreOrderly files tag
 
--- the right result of checking all areas
+-- The right result of checking all areas.
 abbrev pub CheckAllAnswers : Option (List ℕ) → Bool → List (List ℕ) → Option Fault → Output → Output → Result Status Fault → Type 0
 CheckAllAnswers nodelist more inputs stopped old new answer =
     Answers (λ lines status. IsAllChecked nodelist more inputs lines status × (stopped ≡ None)) (IsFirstFaultGiven nodelist inputs stopped) old new answer

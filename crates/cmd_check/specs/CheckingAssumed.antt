@@ -1,4 +1,4 @@
--- What `check --assume` answers.
+-- The answer of `check --assume`.
 use Rattle.std.specs.Prelude.{◌≡◌, ◌⊎◌, ℕ, Bool, List, ◌++◌, Option, None, Result}
 use Rattle.std.specs.List.{flat_map}
 use Rattle.echo_addr.specs.declared.address.Address.{Address}
@@ -27,7 +27,7 @@ pub record IsCheckedAssuming (nodelist : Option (List ℕ)) (more : Bool) (tag :
   pub are_assumed : AreAssumed files (upper tag) assumed texts
   pub checked : IsCheckedWith nodelist more tag (inputs ++ texts) assumed lines status
 
--- What a 0 promises: with the files of the assumed systems the area is tidy, and every run is orderly in it.
+-- The promise of a 0: with the files of the assumed systems the area is tidy, and every run is orderly in it.
 pub record IsPromisedAssuming (files : List LinkFile) (tag : List ℕ) (assumed : List Address) : Type 0 where
   pub texts : List (List ℕ)
   pub are_assumed : AreAssumed files tag assumed texts
@@ -36,7 +36,7 @@ pub record IsPromisedAssuming (files : List LinkFile) (tag : List ℕ) (assumed 
   pub tidy : Tidy (files ++ others) tag
   pub orderly : RunsAreOrderly (files ++ others) tag
 
--- Further link files were read, after others.
+-- Further link files are read after others.
 pub record ReadsMore (texts : List (List ℕ)) (old new : List LinkFile) : Type 0 where
   pub files : List LinkFile
   pub are : AreLinkFiles texts files

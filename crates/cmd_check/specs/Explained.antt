@@ -14,7 +14,7 @@ pub record IsExplained (files : List LinkFile) (tag : List ℕ) (verdict : Verdi
   pub exact : IfNo verdict (λ fault. AlwaysHarms fault → FindsHarm found)
   pub nowhere : IfNo verdict (λ fault. LeadsNowhere files fault → FindsSome found)
 
--- A run is found where it is promised, if the fault is the first.
+-- A run is found if it is promised and the fault is the first.
 pub record IsFoundFirst (files : List LinkFile) (tag : List ℕ) (verdict : Verdict) (found : Option Shown) : Type 0 where
   pub shown : IfSome found (IsShown files tag)
   pub exact : IfNo verdict (λ fault. IsFirstFault files tag fault → AlwaysHarms fault → FindsHarm found)

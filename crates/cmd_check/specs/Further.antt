@@ -13,7 +13,7 @@ use Rattle.cmd_print.specs.Checked.{AbsencesShown, CheckShown, verdict_line}
 abbrev pub also_line : NetFault → List ℕ
 also_line fault = codes "also " ++ (fault_text fault ++ codes "\n")
 
--- The lines of the faults that the verdict does not name; none if they are not asked for.
+-- The lines of the faults that the verdict does not name; no line if they are not requested.
 abbrev pub FurtherShown : List LinkFile → List ℕ → Bool → Verdict → List ℕ → Type 0
 FurtherShown files tag false verdict lines = lines ≡ []
 FurtherShown files tag true verdict lines =
@@ -27,13 +27,13 @@ pub record IsMoreShown (files : List LinkFile) (tag : List ℕ) (list : Option (
   pub shown : AbsencesShown files tag list absent
   pub whole : lines ≡ verdict_line tag verdict ++ (also ++ absent)
 
--- The lines of the verdict on an area, with further faults if they are asked for.
+-- The lines of the verdict on an area, with further faults if they are requested.
 abbrev pub IsVerdictShown : List LinkFile → List ℕ → Option (List Line) → Bool → Verdict → List ℕ → Type 0
 IsVerdictShown files tag list false verdict lines = CheckShown files tag list verdict lines
 IsVerdictShown files tag list true verdict lines = IsMoreShown files tag list verdict lines
 
--- The last line: how many areas there are, and how many of them have a yes and a no. It is empty if it is not asked
--- for.
+-- The last line: the number of areas, and the numbers of those with a yes and with a no. It is empty if it is not
+-- requested.
 abbrev pub areas_line : Bool → ℕ → ℕ → List ℕ
 areas_line false areas noes = []
 areas_line true areas noes =

@@ -1,4 +1,4 @@
--- What `picture` answers.
+-- The answer of `picture`.
 use Rattle.std.specs.Prelude.{◌≡◌, ℕ, ◌↔◌, List, [], Option, None, Result}
 use Rattle.cmd_status.specs.Devices.{Output}
 use Rattle.echo_links.specs.Links.{LinkFile, upper}
@@ -28,12 +28,12 @@ pub record IsPictured (tag : List ℕ) (inputs : List (List ℕ)) (lines : List 
   pub status_is : status ≡ verdict_status verdict
   pub tidy : (status ≡ Good) ↔ Tidy files (upper tag)
 
--- the right result of printing a drawn area
+-- The right result of printing a drawn area.
 abbrev pub PrintsPicture : List ℕ → Verdict → Drawing → List Crossing → Output → Output → Result Status Fault → Type 0
 PrintsPicture tag verdict drawing crossings old new answer =
     Answers (λ lines status. (lines ≡ picture_lines tag verdict drawing crossings) × (status ≡ verdict_status verdict)) (λ fault. ⊥) old new answer
 
--- the right result of drawing an area
+-- The right result of drawing an area.
 abbrev pub PictureAnswers : List ℕ → List (List ℕ) → Option Fault → Output → Output → Result Status Fault → Type 0
 PictureAnswers tag inputs stopped old new answer =
     Answers (λ lines status. IsPictured tag inputs lines status × (stopped ≡ None)) (IsFirstFaultGiven None inputs stopped) old new answer

@@ -1,4 +1,4 @@
--- What `picture --why` answers.
+-- The answer of `picture --why`.
 use Rattle.std.specs.Prelude.{◌≡◌, ℕ, ◌↔◌, List, Option, None, Result}
 use Rattle.cmd_status.specs.Devices.{Output}
 use Rattle.echo_links.specs.Links.{LinkFile, upper}
@@ -35,12 +35,12 @@ pub record IsPicturedWhy (tag : List ℕ) (inputs : List (List ℕ)) (lines : Li
   pub status_is : status ≡ verdict_status verdict
   pub tidy : (status ≡ Good) ↔ Tidy files (upper tag)
 
--- the labelled links are those of a found run
+-- The labelled links are those of a found run.
 abbrev pub AreCrossings : List (List ℕ) → List ℕ → Verdict → List Crossing → Type 0
 AreCrossings inputs tag verdict crossings =
     (found : Option Shown) × IsFoundFirst (files_of inputs) tag verdict found × (crossings ≡ found_crossings (files_of inputs) tag found)
 
--- the right result of drawing an area with its harm
+-- The right result of drawing an area with its harm.
 abbrev pub PictureWhyAnswers : List ℕ → List (List ℕ) → Option Fault → Output → Output → Result Status Fault → Type 0
 PictureWhyAnswers tag inputs stopped old new answer =
     Answers (λ lines status. IsPicturedWhy tag inputs lines status × (stopped ≡ None)) (IsFirstFaultGiven None inputs stopped) old new answer

@@ -1,4 +1,4 @@
--- What `why` answers.
+-- The answer of `why`.
 use Rattle.std.specs.Prelude.{◌≡◌, ℕ, ◌↔◌, List, Option, None, Result}
 use Rattle.cmd_status.specs.Devices.{Output}
 use Rattle.echo_links.specs.Links.{LinkFile, upper}

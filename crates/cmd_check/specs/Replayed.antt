@@ -1,4 +1,4 @@
--- What `replay` prints.
+-- The lines of `replay`.
 use Rattle.std.specs.Prelude.{ℕ, ◌+◌, Bool, List, [], ◌∷◌, ◌++◌, codes, decimal, if◌then◌else◌, length}
 use Rattle.std.specs.List.{flat_map}
 use Rattle.echo_addr.specs.declared.address.Address.{Address}
@@ -12,7 +12,7 @@ abbrev pub area_counts_line : Address → List ℕ → ℕ → ℕ → List ℕ
 area_counts_line a tag filed waiting =
     codes "system " ++ (address_text a ++ (codes " " ++ (tag ++ (codes " filed " ++ (decimal filed ++ (codes " waiting " ++ (decimal waiting ++ codes "\n")))))))
 
--- The line of an area of the system of an index.
+-- The line of an area of the system with an index.
 abbrev pub area_state_line : Run → ℕ → Address → Area → List ℕ
 area_state_line run i a area = area_counts_line a area.tag (filed_at run i area.tag) (waiting_at run i area.tag)
 

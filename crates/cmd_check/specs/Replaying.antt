@@ -1,4 +1,4 @@
--- What `replay` answers.
+-- The answer of `replay`.
 use Rattle.std.specs.Prelude.{◌≡◌, ℕ, ◌⊎◌, List, length, map, Option, Some, None, Result, Ok, Err}
 use Rattle.cmd_status.specs.Devices.{Output}
 use Rattle.echo_links.specs.Links.{LinkFile}
@@ -36,7 +36,7 @@ IsFirstFaultReplayed script inputs stopped fault =
     ⊎ (((events : List Event) × ScriptOf script (Ok events) × IsLinkFault inputs fault)
     ⊎ ((events : List Event) × (files : List LinkFile) × ScriptOf script (Ok events) × AreLinkFiles inputs files × (stopped ≡ Some fault)))
 
--- The lines are those of each run of so many systems that the net shows.
+-- The lines are those of each run of this many systems that the net shows.
 abbrev pub AreWorldLines : ℕ → WorldState → List ℕ → Type 0
 AreWorldLines systems world lines =
     (run : Run) → IsWorldOf world run → length run.systems ≡ systems → lines ≡ replay_lines (map (λ (s : System). s.file) run.systems) run

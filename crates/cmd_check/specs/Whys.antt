@@ -1,4 +1,4 @@
--- What `why` prints.
+-- The lines of `why`.
 use Rattle.std.specs.Prelude.{◌≡◌, ℕ, ◌↔◌, Contains, List, [], ◌∷◌, ◌++◌, codes, decimal, slice_get, Option, Some, None}
 use Rattle.std.specs.List.{flat_map}
 use Rattle.std.specs.List.Sorted.{IsStrictlySortedBy}
@@ -54,7 +54,7 @@ named_in (Yes systems links) found = []
 named_in (No fault) None = []
 named_in (No fault) (Some shown) = shown.poster ∷ flat_map scanning shown.moves
 
--- The same, ascending, each once.
+-- These systems, ascending, each once.
 pub record AreNamed (verdict : Verdict) (found : Option Shown) (systems : List ℕ) : Type 0 where
   pub ascending : IsStrictlySortedBy nat_cmp systems
   pub members : (system : ℕ) → Contains systems system ↔ Contains (named_in verdict found) system
@@ -68,12 +68,12 @@ path_text (Some path) = codes " " ++ printed_word path
 abbrev pub named_line : ℕ → Address → Option (List ℕ) → List ℕ
 named_line system address path = codes "; " ++ (decimal system ++ (codes " is " ++ (address_text address ++ (path_text path ++ codes "\n"))))
 
--- The same for a file. It is empty for a number without a file.
+-- The line for a file; it is empty for a number without a file.
 abbrev pub who_of : ℕ → Option LinkFile → Option (List ℕ) → List ℕ
 who_of system None path = []
 who_of system (Some file) path = named_line system file.system path
 
--- The same from the link files and their paths.
+-- The line for a number, from the link files and their paths.
 abbrev pub who_line : List LinkFile → List (List ℕ) → ℕ → List ℕ
 who_line files paths system = who_of system (slice_get files system) (slice_get paths system)
 

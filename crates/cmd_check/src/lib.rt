@@ -1,5 +1,5 @@
-//! The commands of `echonet` that judge an area of a net or try one out, as functions over bytes in and a sink out,
-//! for standard output. Each returns its status or a fault, and writes no file.
+//! The commands of `echonet` that judge an area of a net or try one out. They are functions from bytes to a sink for
+//! standard output. Each returns its status or a fault, and writes no file.
 //!
 //! The contract for the program: a command that ends well wrote only its lines, and a 0 of `check` holds for every
 //! run on these link files. A command refuses an input exactly if that has the fault. Standard output failed exactly

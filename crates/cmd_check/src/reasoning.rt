@@ -17,8 +17,8 @@ use std::alloc::Global;
 use std::hash::RandomState;
 
 /// `why TAG LINKS...`: prints the verdict of `check` on the area of the tag, its letters made upper case, as a note.
-/// If that is no and a run is found, it prints the harm and the events of a run on these link files that does harm.
-/// They are a script for `replay`. Before the events a note for each system in them has its address and the path of
+/// After a no it looks for a run on these link files that does harm. If there is one, it prints the harm and the
+/// events. They are a script for `replay`. Before the events a note for each system in them has its address and the path of
 /// its file. A file after the last path has none.
 ///
 /// By V3, V5, V7 and V8 a run is found that breaks the promise. By V4 it is one of any kind if no file has the

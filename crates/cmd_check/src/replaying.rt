@@ -1,5 +1,5 @@
 //! What `replay` answers.
-ghost use Rattle.std.specs.Prelude.{◌≡◌, ◌⊎◌, ℕ, List, None, Ok, IfErr, IfOk};
+ghost use Rattle.std.specs.Prelude.{◌⊎◌, ℕ, List, None, Ok, IfErr, IfOk};
 ghost use Rattle.cmd_status.specs.Devices.{output_of};
 ghost use Rattle.cmd_status.specs.Ended.{IsOutOfMemory};
 ghost use Rattle.cmd_status.specs.Inputs.{AreLinkFiles};
@@ -16,8 +16,8 @@ use model_run::Event;
 use std::alloc::Global;
 use std::hash::RandomState;
 
-/// `replay SCRIPT LINKS...`: prints how many messages each system of the net has filed in each of its areas, and how
-/// many wait there, after the events of the script. Then it prints how many packets were made and not delivered, and
+/// `replay SCRIPT LINKS...`: replays the events of the script. Then it prints how many messages each system of the net
+/// has filed in each of its areas, and how many wait there; how many packets were made and not delivered; and
 /// whether the net has settled. For a faulty input nothing is printed. The first fault is returned, that of the
 /// script before those of link files. `stopped` is why no further file was read, and comes last. Look-ups go by the
 /// hasher, and `told` receives each event after it happened.

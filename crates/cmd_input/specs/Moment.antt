@@ -3,16 +3,16 @@ use Rattle.std.specs.Prelude.{◌≡◌, ℕ, ◌+◌, ◌*◌, ◌/◌, ◌%◌
 use Rattle.jiff_core.specs.Calendar.{IsCivilDate, days_from_civil}
 use Rattle.model_steps.specs.declared.stamp.Stamp.{Stamp}
 
--- the seconds of a day, without leap seconds.
+-- The seconds of a day, without leap seconds.
 abbrev pub seconds_a_day : ℕ
 seconds_a_day = 24 * 60 * 60
 
--- the seconds of the day that have passed.
+-- The seconds of the day that have passed.
 abbrev pub second_of_day : Stamp → ℕ
 second_of_day s = s.hour * 3600 + (s.minute * 60 + s.second)
 
--- The stamp of the second this many seconds after 1970 began. Its date is that of the last day that began by then.
--- Its time is how much of that day has passed.
+-- The stamp of the second this many seconds after 1970 began. Its date is that of the last day that began by then, and
+-- its time is the part of that day that has passed.
 pub record IsMomentAt (seconds : ℕ) (s : Stamp) : Type 0 where
   pub date : IsCivilDate (pos s.year) s.month s.day
   pub days : days_from_civil (pos s.year) s.month s.day ≡ pos (seconds / seconds_a_day)

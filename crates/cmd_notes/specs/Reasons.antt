@@ -1,4 +1,4 @@
--- The notes that say in words why a command stopped, or what it made.
+-- The notes that say in words why a command stopped, or which files it made.
 use Rattle.std.specs.Prelude.{ℕ, List, ◌++◌, codes, decimal}
 use Rattle.echo_addr.specs.Address.{address_text}
 use Rattle.echo_charset.specs.Words.{printed_word}
@@ -35,7 +35,7 @@ complaint (fault.BadTag number) = codes "bad tag"
 complaint (fault.NameTooLong number) = codes "long name"
 complaint fault.Memory = codes "no memory for"
 
--- What a line may have there.
+-- The expected form or the limit, by the fault.
 abbrev pub expectation : LinkFault → List ℕ
 expectation (fault.UnknownWord number) = codes "expected SYSTEM, NAME or AREA"
 expectation (fault.BadAddress number) = codes "expected zone:net/node"
@@ -71,7 +71,7 @@ state_words state.Unfinished = codes "has packets of a stopped scan"
 abbrev pub path_reason : PathState → List ℕ
 path_reason found = printed_word found.path.now ++ (codes ": " ++ state_words found.state)
 
--- Which packet of a toss it is: its number from 1, how many there are, and its path.
+-- The packet of a toss: its number from 1, the number of packets, and its path.
 abbrev pub packet_words : PacketPlace → List ℕ
 packet_words place =
     codes "packet " ++ (decimal place.number ++ (codes " of " ++ (decimal place.packets ++ (codes ", " ++ (printed_word place.path.now ++ codes ": it ")))))
@@ -110,7 +110,7 @@ abbrev pub long_reason : LongField → List ℕ
 long_reason long =
     field_name long.field ++ (codes " is " ++ (decimal long.length ++ (codes " bytes long, " ++ (decimal long.most ++ codes " are allowed"))))
 
--- What a word of the command line is to be, and what it may look like.
+-- The fault of a word of the command line, and its expected form.
 abbrev pub form_complaint : WordForm → List ℕ
 form_complaint form.Stamp = codes "bad stamp '"
 form_complaint form.Serial = codes "bad serial '"

@@ -1,4 +1,4 @@
--- What is answered of a base in memory, of which no read fails.
+-- Answers for a base in memory, where no read fails.
 use Rattle.std.proofs.Common.{ℕ, List, Result, Ok, Err, Some, inl, inr}
 use Rattle.base_file.specs.Base.{Base}
 use Rattle.base_folder.proofs.Fetchings.{never_read}

@@ -1,4 +1,4 @@
--- A packet that is made again, as an answer.
+-- A packet made again, as an answer.
 use Rattle.std.proofs.Common.{◌≡◌, ℕ, zero, suc, ◌<◌, ◌++◌, List, [], ◌∷◌, Option, Some, Result, Ok, Err, ◌∙◌, inl, inr, refl, subst, arith, slice_get, length}
 use Rattle.base_file.specs.Base.{Base}
 use Rattle.base_folder.proofs.Fetchings.{never_read}
@@ -13,7 +13,7 @@ use Rattle.cmd_status.specs.Inputs.{IsBaseGiven}
 use Rattle.echo_toss.specs.Exports.{IsResentAt}
 use Rattle.cmd_numbered.specs.Resending.{IsMadeOf, ResendAnswers, ResendsReading, copies_at}
 
--- the messages were those of a base file, of which no read fails
+-- the messages were those of a base file, where no read fails
 pub of_base_file : (file : LinkFile) (stamp : Stamp) (area : List ℕ) (to : Address) (first : ℕ) (path bytes : List ℕ) (base : Base) (result : Result Packet Fault)
     → IsBaseGiven (Some bytes) base.messages base.cursor → ResendsReading stamp (IsMadeOf file stamp area to first base) path 0 0 result → ResendAnswers file stamp area to first bytes result
 of_base_file file stamp area to first path bytes base (Ok packet) given made = record {
@@ -32,7 +32,7 @@ found_at [] i within = absurd (omega (arith, within))
 found_at (x ∷ xs) zero within = (x, refl)
 found_at (x ∷ xs) (suc i) within = found_at xs i (omega (arith, within))
 
--- the copy of the message that is at hand was added
+-- the copy of the fetched message is added
 pub added_at : (file : LinkFile) (area : List ℕ) (to : Address) (messages : List Filed) (i : ℕ) (hand : Option Filed) (old new : List Message)
     → i < length messages → hand ≡ slice_get messages i → new ≡ old ++ copies_at file area to hand → IsResentAt file area to messages i old new
 added_at file area to messages i hand old new within here grown =

@@ -1,4 +1,4 @@
--- The message of a base that has an id: what it gives to a mail that answers it, and whether it was posted here.
+-- The message of a base with an id: the parts that a mail answering it takes, and whether it was posted here.
 use Rattle.std.specs.Prelude.{◌≡◌, ℕ, zero, suc, ◌&&◌, not, bytes_eq, Bool, false, List, ◌∷◌, codes, length, take, if◌then◌else◌, slice_get, Option, Some, None, is_some, Result}
 use Rattle.std.specs.List.{prefix_len}
 use Rattle.std.specs.Option.{option_map}
@@ -23,12 +23,12 @@ is_id_of id (Some own) = bytes_eq own id
 abbrev pub has_id : Filed → List ℕ → Bool
 has_id m id = is_id_of id (msgid_of m.echo.kept)
 
--- One more message, if it has the id, else the one found before.
+-- The later message if it has the id, else the one found before.
 abbrev pub last_at : List ℕ → Option Filed → Option Filed → Option Filed
 last_at id None before = before
 last_at id (Some m) before = if has_id m id then Some m else before
 
--- The last of the first so many messages that has it.
+-- The last of the first `n` messages with the id.
 abbrev pub last_with : List ℕ → List Filed → ℕ → Option Filed
 last_with id base zero = None
 last_with id base (suc n) = last_at id (slice_get base n) (last_with id base n)
@@ -40,7 +40,7 @@ charset_word = 1 ∷ codes "CHRS:"
 abbrev pub label_name : List ℕ → List ℕ
 label_name label = take (prefix_len (λ b. not (is_blank b)) label) label
 
--- The charset of a label, none if it is unknown; without a label it is CP437.
+-- The charset of a label; none if it is unknown, CP437 without a label.
 abbrev pub charset_named : Option (List ℕ) → Option Charset
 charset_named None = Some Cp437
 charset_named (Some label) = named (label_name label)
@@ -48,15 +48,15 @@ charset_named (Some label) = named (label_name label)
 abbrev pub charset_of : Filed → Option Charset
 charset_of m = charset_named (first_after charset_word m.echo.kept)
 
--- What a mail takes from a message that it answers.
+-- The parts that a mail takes from the message that it answers.
 abbrev pub answered_as : Filed → Answered
 answered_as m = record { tag = m.echo.tag; charset = charset_of m }
 
--- This is what the last message of a base with the id gives, if there is one.
+-- These are the parts from the last message of a base with the id, if there is one.
 abbrev pub IsAnswered : List ℕ → Base → Option Answered → Type 0
 IsAnswered id base found = found ≡ option_map answered_as (last_with id base.messages (length base.messages))
 
--- The right answer if that message of a base file is looked for.
+-- The right answer of the search for this message in a base file.
 abbrev pub AnsweredAnswers : List ℕ → List ℕ → Result (Option Answered) Fault → Type 0
 AnsweredAnswers id file answer = AnswersFile (IsAnswered id) file answer
 
@@ -70,10 +70,10 @@ abbrev pub is_found_as : List ℕ → PostedWords → Option Filed → Bool
 is_found_as tag words None = false
 is_found_as tag words (Some m) = has_words tag words m
 
--- This is whether the last message of a base with the id was posted here under these words.
+-- The answer says whether the last message of a base with the id was posted here under these words.
 abbrev pub IsPostedAs : PostedWords → Base → Bool → Type 0
 IsPostedAs words base posted = posted ≡ is_found_as (upper words.tag.now) words (last_with words.id.now base.messages (length base.messages))
 
--- The right answer if that is asked of a base file.
+-- The right answer of this question for a base file.
 abbrev pub PostedAnswers : PostedWords → List ℕ → Result Bool Fault → Type 0
 PostedAnswers words file answer = AnswersFile (IsPostedAs words) file answer

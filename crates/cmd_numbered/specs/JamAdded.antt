@@ -1,4 +1,4 @@
--- Messages of a base that are added to a JAM base: which ones, their numbers, and their bytes in its files.
+-- Messages of a base that are added to a JAM base: their choice, their numbers, and their bytes in its files.
 use Rattle.std.specs.Prelude.{◌≡◌, ℕ, zero, suc, ◌+◌, ◌&&◌, not, nat_lt, max, Bool, false, is_some, List, [], ◌∷◌, ◌++◌, length, if◌then◌else◌, slice_get, Option, Some, None, Result}
 use Rattle.echo_filed.specs.Filed.{Filed}
 use Rattle.echo_links.specs.Links.{upper}
@@ -15,7 +15,7 @@ use Rattle.cmd_numbered.specs.declared.adding.JamExport.{JamExport}
 use Rattle.cmd_numbered.specs.Numbered.{is_exported}
 use Rattle.cmd_numbered.specs.Reading.{AnswersFile}
 
--- The bytes added to headers, texts and index; the numbers that the messages have in their base; how many subfields are cut.
+-- The bytes added to headers, texts and index; the numbers of the messages in their base; the number of cut subfields.
 pub record Added : Type 0 where
   pub headers : List ℕ
   pub texts : List ℕ
@@ -35,7 +35,7 @@ added_in a = record {
 abbrev pub nothing_added : Added
 nothing_added = record { headers = []; texts = []; index = []; messages = []; cuts = 0 }
 
--- One message more, scanned or not, after the end of the JAM base and the messages added before.
+-- One more message, scanned or not, after the end of the JAM base and the messages added before.
 abbrev pub with_message : Bool → JamEnd → ℕ → Filed → Added → Added
 with_message scanned end i m a = record {
   headers = a.headers ++ header_of scanned m (end.number + length a.messages) (end.texts + length a.texts);
@@ -45,7 +45,7 @@ with_message scanned end i m a = record {
   cuts = a.cuts + cuts_of m;
 }
 
--- Whether an id, if there is one, is that of a message of the JAM base.
+-- Whether a message of the JAM base has the id, if there is an id.
 abbrev pub is_known : List ℕ → List ℕ → Option (List ℕ) → Bool
 is_known headers index None = false
 is_known headers index (Some id) = has_id headers index id
@@ -54,43 +54,43 @@ is_known headers index (Some id) = has_id headers index id
 abbrev pub is_written_there : List ℕ → List ℕ → Filed → Bool
 is_written_there headers index m = not (is_some m.sender) && is_known headers index (msgid_of m.echo.kept)
 
--- Whether the message of this number is added: one that is exported, and that the JAM base does not have from an editor.
+-- Whether the message with this number is added: it is exported, and the JAM base does not have it from an editor.
 abbrev pub is_added : List ℕ → ℕ → ℕ → List ℕ → List ℕ → ℕ → Filed → Bool
 is_added area first cursor headers index i m = is_exported area first cursor i m && not (is_written_there headers index m)
 
--- The message of this number more, if it is added; those before the cursor were scanned.
+-- The message with this number, if it is added. Messages before the cursor were scanned.
 abbrev pub added_at : List ℕ → ℕ → ℕ → List ℕ → List ℕ → JamEnd → ℕ → Option Filed → Added → Added
 added_at area first cursor headers index end i None a = a
 added_at area first cursor headers index end i (Some m) a =
     if is_added area first cursor headers index i m then with_message (nat_lt i cursor) end i m a else a
 
--- The first so many messages.
+-- The first `n` messages.
 abbrev pub added_of : List ℕ → ℕ → ℕ → List ℕ → List ℕ → JamEnd → List Filed → ℕ → Added
 added_of area first cursor headers index end base zero = nothing_added
 added_of area first cursor headers index end base (suc n) =
     added_at area first cursor headers index end n (slice_get base n) (added_of area first cursor headers index end base n)
 
--- Whether the message of this number, exported before, is the last message of the JAM base, with its header at this place.
+-- Whether the message with this number was exported before as the JAM base's last message, with its header at this place.
 abbrev pub is_last_jam : List ℕ → ℕ → ℕ → List ℕ → Option ℕ → List ℕ → ℕ → Option Filed → Bool
 is_last_jam area first cursor headers None text i m = false
 is_last_jam area first cursor headers (Some place) text i None = false
 is_last_jam area first cursor headers (Some place) text i (Some m) = is_exported area first cursor i m && is_same headers place text m
 
--- The number after that of the last message among the first so many that it is. `first` if it is not among them.
+-- The number after that message, among the first `n`; `first` if it is not among them.
 abbrev pub resumed_jam : List ℕ → ℕ → ℕ → List ℕ → Option ℕ → List ℕ → List Filed → ℕ → ℕ
 resumed_jam area first cursor headers last text base zero = first
 resumed_jam area first cursor headers last text base (suc n) =
     if is_last_jam area first cursor headers last text n (slice_get base n) then n + 1
     else resumed_jam area first cursor headers last text base n
 
--- This is what the messages of a base add: those of the area from the number `first` on, or from behind the one that is the
--- last of the JAM base, except for what the JAM base has from an editor. The area is asked for in letters of either case.
+-- The additions for a base: its messages of the area from `first` on, or after the one that is the JAM base's last. Those
+-- that the JAM base has from an editor are left out. The requested area may have letters of either case.
 pub record IsJamExport (area : List ℕ) (first : ℕ) (headers index : List ℕ) (last : Option ℕ) (text : List ℕ) (end : JamEnd) (base : Base) (exported : JamExport) : Type 0 where
   pub from : ℕ
   pub from_is : from ≡ resumed_jam (upper area) first base.cursor headers last text base.messages (length base.messages)
   pub added_is : added_in exported.adding ≡ added_of (upper area) from base.cursor headers index end base.messages (length base.messages)
   pub end_is : exported.end ≡ max from (length base.messages)
 
--- the right answer if the messages of a base file are to be added to a JAM base
+-- The right answer if the messages of a base file are to be added to a JAM base.
 abbrev pub JamAnswers : List ℕ → ℕ → List ℕ → List ℕ → Option ℕ → List ℕ → JamEnd → List ℕ → Result JamExport Fault → Type 0
 JamAnswers area first headers index last text end file answer = AnswersFile (IsJamExport area first headers index last text end) file answer

@@ -11,7 +11,7 @@ front_of_name name = take (length name - 4) name
 abbrev pub ends_in_msg : List ℕ → Bool
 ends_in_msg name = bytes_eq (upper (drop (length name - 4) name)) (codes ".MSG")
 
--- The number of the message that has this name: one of at most eight digits' worth, as the field's file systems take.
+-- The number of the message with this name: at most 99999999, the most that the field's file systems take.
 abbrev pub number_of_name : List ℕ → Option ℕ
 number_of_name name = if ends_in_msg name then number_within 99999999 (front_of_name name) else None
 
@@ -19,7 +19,7 @@ number_of_name name = if ends_in_msg name then number_within 99999999 (front_of_
 abbrev pub name_of : ℕ → List ℕ
 name_of number = decimal number ++ codes ".msg"
 
--- Whether a file with this name is the staging file of a stored message, which a stopped run left there.
+-- Whether a file with this name is the staging file of a stored message that a stopped run left.
 abbrev pub is_left : List ℕ → Bool
 is_left name =
     bytes_eq (drop (length name - 10) name) (codes ".~msg~.new") && is_some (number_of_name (take (length name - 10) name))

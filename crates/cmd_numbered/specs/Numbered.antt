@@ -1,4 +1,4 @@
--- Messages of a base as numbered files of a folder: which of them, their bytes, and under which numbers.
+-- Messages of a base as numbered files of a folder: their choice, their bytes and their numbers.
 use Rattle.std.specs.Prelude.{◌≡◌, ℕ, zero, suc, ◌+◌, ◌&&◌, ◌||◌, not, nat_le, nat_lt, max, Bool, false, List, [], ◌∷◌, ◌++◌, length, take, drop, if◌then◌else◌, slice_get, bytes_eq, Option, Some, None, is_some, Result}
 use Rattle.echo_filed.specs.Filed.{Filed}
 use Rattle.echo_filed.specs.Stubs.{is_stub}
@@ -12,37 +12,37 @@ use Rattle.cmd_numbered.specs.declared.numbering.MessageFile.{MessageFile}
 use Rattle.cmd_numbered.specs.Names.{name_of}
 use Rattle.cmd_numbered.specs.Reading.{AnswersFile}
 
--- Whether nothing is left of a message's text but its id.
+-- Whether only the id of a message's text is left.
 abbrev pub is_purged : Filed → Bool
 is_purged m = is_some (msgid_of m.echo.kept) && is_stub m
 
--- Whether the message of this number is exported: one of the area, from the number `first` on, of which no purge took the text.
+-- Whether the message with this number is exported: it is in the area, not before `first`, and still has its text.
 abbrev pub is_exported : List ℕ → ℕ → ℕ → ℕ → Filed → Bool
 is_exported area first cursor i m = nat_le first i && (bytes_eq m.echo.tag area && (nat_le cursor i || not (is_purged m)))
 
--- The bytes of a stored message before its numbers, and after them. Readers change the numbers alone.
+-- The bytes of a stored message before its numbers, and after them. Readers change only the numbers.
 abbrev pub before_numbers : List ℕ → List ℕ
 before_numbers bytes = take 164 bytes
 
 abbrev pub behind_numbers : List ℕ → List ℕ
 behind_numbers bytes = drop 190 bytes
 
--- Whether two stored messages are the same except for their numbers.
+-- Whether two stored messages are equal except for their numbers.
 abbrev pub is_same_stored : List ℕ → List ℕ → Bool
 is_same_stored one other = bytes_eq (before_numbers one) (before_numbers other) && bytes_eq (behind_numbers one) (behind_numbers other)
 
--- Whether the last file of the folder is the message of this number, exported before.
+-- Whether the last file of the folder is the message with this number, exported before.
 abbrev pub is_last : List ℕ → ℕ → ℕ → Option (List ℕ) → ℕ → Option Filed → Bool
 is_last area first cursor None i m = false
 is_last area first cursor (Some last) i None = false
 is_last area first cursor (Some last) i (Some m) = is_exported area first cursor i m && is_same_stored last (stored_bytes (nat_lt i cursor) m)
 
--- The number after that of the last message among the first so many that the last file holds. `first` if it holds no such message.
+-- The number after the last message, among the first `n`, that the last file holds; `first` if it holds none.
 abbrev pub resumed : List ℕ → ℕ → ℕ → Option (List ℕ) → List Filed → ℕ → ℕ
 resumed area first cursor last base zero = first
 resumed area first cursor last base (suc n) = if is_last area first cursor last n (slice_get base n) then n + 1 else resumed area first cursor last base n
 
--- The file with this number, of the message of this number; those before the cursor were scanned.
+-- The file with this number, for the message with this number. Messages before the cursor were scanned.
 abbrev pub file_of : ℕ → ℕ → ℕ → Filed → MessageFile
 file_of cursor number i m = record { name = name_of number; message = i; bytes = stored_bytes (nat_lt i cursor) m }
 
@@ -51,25 +51,25 @@ abbrev pub file_at : List ℕ → ℕ → ℕ → ℕ → ℕ → Option Filed �
 file_at area first cursor number i None = []
 file_at area first cursor number i (Some m) = if is_exported area first cursor i m then file_of cursor number i m ∷ [] else []
 
--- The files of the first so many messages, numbered from `number` on.
+-- The files of the first `n` messages, numbered from `number` on.
 abbrev pub files_of : List ℕ → ℕ → ℕ → ℕ → List Filed → ℕ → List MessageFile
 files_of area first cursor number base zero = []
 files_of area first cursor number base (suc n) =
     files_of area first cursor number base n
     ++ file_at area first cursor (number + length (files_of area first cursor number base n)) n (slice_get base n)
 
--- The number of the first new file, after the greatest that exists. It is never 1, where tossers of the field record how far they came.
+-- The number of the first new file, after the greatest existing one. It is never 1: tossers keep their progress in 1.
 abbrev pub first_number : ℕ → ℕ
 first_number greatest = max greatest 1 + 1
 
--- These are the files of the messages of a base: those of the area from the number `first` on, or from behind the one that
--- is the last file of the folder. The area is asked for in letters of either case.
+-- These are the files for a base: its messages of the area from `first` on, or after the one in the folder's last file.
+-- The requested area may have letters of either case.
 pub record IsExport (area : List ℕ) (first greatest : ℕ) (last : Option (List ℕ)) (base : Base) (exported : Exported) : Type 0 where
   pub from : ℕ
   pub from_is : from ≡ resumed (upper area) first base.cursor last base.messages (length base.messages)
   pub files_are : exported.files ≡ files_of (upper area) from base.cursor (first_number greatest) base.messages (length base.messages)
   pub end_is : exported.end ≡ max from (length base.messages)
 
--- the right answer if the messages of a base file are to become files
+-- The right answer if the messages of a base file are to become files.
 abbrev pub ExportAnswers : List ℕ → ℕ → ℕ → Option (List ℕ) → List ℕ → Result Exported Fault → Type 0
 ExportAnswers area first greatest last file answer = AnswersFile (IsExport area first greatest last) file answer

@@ -1,4 +1,4 @@
--- What a call answers of the messages of a base: they are read one by one, or are those of a base file.
+-- The answer of a call about the messages of a base, which are read one by one or from a base file.
 use Rattle.std.specs.Prelude.{◌⊎◌, ℕ, List, Some, Result, Ok, Err}
 use Rattle.base_file.specs.Base.{Base}
 use Rattle.base_folder.specs.Fetching.{IsUnread}
@@ -6,7 +6,7 @@ use Rattle.cmd_status.specs.declared.fault.Fault.{Fault}
 use Rattle.cmd_status.specs.Ended.{IsOutOfMemory}
 use Rattle.cmd_status.specs.Inputs.{IsBaseFault, IsBaseGiven}
 
--- A right answer, or a message of the base with this path was not read.
+-- A right answer, or a message of the base with this path could not be read.
 abbrev pub AnswersReading : {A : Type 0} → (A → Type 0) → List ℕ → ℕ → ℕ → Result A Fault → Type 0
 AnswersReading IsRight path before now (Ok right) = IsRight right
 AnswersReading IsRight path before now (Err fault) = IsUnread path before now fault

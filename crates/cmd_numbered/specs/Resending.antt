@@ -17,7 +17,7 @@ use Rattle.cmd_status.specs.declared.fault.Fault.TheVariants.{Scan}
 use Rattle.cmd_status.specs.Ended.{IsOutOfMemory}
 use Rattle.cmd_status.specs.Inputs.{IsBaseFault, IsBaseGiven}
 
--- The base file has no fault, and this is the packet that is made again of its messages. The area is asked for in letters of
+-- The base file has no fault, and this is the packet made again from its messages. The requested area may have letters of
 -- either case.
 pub record IsMadeAgain (file : LinkFile) (stamp : Stamp) (area : List ℕ) (to : Address) (first : ℕ) (base : List ℕ) (packet : Packet) : Type 0 where
   pub messages : List Filed
@@ -26,22 +26,22 @@ pub record IsMadeAgain (file : LinkFile) (stamp : Stamp) (area : List ℕ) (to :
   pub moment : is_stamp stamp ≡ true
   pub packet_is : packet ≡ resent_packet file stamp (upper area) to first messages cursor
 
--- the packet that is made again of the messages of a base
+-- The packet made again from the messages of a base.
 pub record IsMadeOf (file : LinkFile) (stamp : Stamp) (area : List ℕ) (to : Address) (first : ℕ) (base : Base) (packet : Packet) : Type 0 where
   pub moment : is_stamp stamp ≡ true
   pub packet_is : packet ≡ resent_packet file stamp (upper area) to first base.messages base.cursor
 
--- a right packet, or the stamp's fault, or a message of the base with this path was not read
+-- A right packet, or the fault of the stamp, or a message of the base with this path could not be read.
 abbrev pub ResendsReading : Stamp → (Packet → Type 0) → List ℕ → ℕ → ℕ → Result Packet Fault → Type 0
 ResendsReading stamp IsRight path before now (Ok packet) = IsRight packet
 ResendsReading stamp IsRight path before now (Err fault) = IsUnread path before now fault ⊎ ((fault ≡ Scan BadStamp) × (is_stamp stamp ≡ false))
 
--- the copy of a message, if there is one and it is sent again
+-- The copy of a message, if it exists and is sent again.
 abbrev pub copies_at : LinkFile → List ℕ → Address → Option Filed → List Message
 copies_at file area to None = []
 copies_at file area to (Some m) = map (copy_to file to) (filter (is_resent file area to) (m ∷ []))
 
--- the right answer if a packet is to be made again
+-- The right answer if a packet is to be made again.
 abbrev pub ResendAnswers : LinkFile → Stamp → List ℕ → Address → ℕ → List ℕ → Result Packet Fault → Type 0
 ResendAnswers file stamp area to first base (Ok packet) = IsMadeAgain file stamp area to first base packet
 ResendAnswers file stamp area to first base (Err fault) =

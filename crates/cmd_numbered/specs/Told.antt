@@ -1,4 +1,4 @@
--- The line that reports how many messages became files, and from which number the next export begins.
+-- The line with the number of messages made into files, and with the number from which the next export begins.
 use Rattle.std.specs.Prelude.{ℕ, ◌==◌, List, [], ◌++◌, codes, decimal, if◌then◌else◌, slice_get, Option, Some, None, unwrap_or}
 use Rattle.cmd_numbered.specs.declared.adding.JamExport.{JamExport}
 use Rattle.cmd_numbered.specs.declared.numbering.Exported.{Exported}
@@ -9,26 +9,26 @@ abbrev pub next_at : Option MessageFile → ℕ → ℕ
 next_at None end = end
 next_at (Some file) end = file.message
 
--- The line that reports how many messages were exported, and which is the next.
+-- The line with the number of exported messages and the next number.
 abbrev pub told_line : ℕ → ℕ → List ℕ
 told_line made next = codes "exported " ++ (decimal made ++ (codes " messages, next " ++ (decimal next ++ codes "\n")))
 
--- That line, where so many of the files were made.
+-- The line of an export that made this many of the files.
 abbrev pub exported_line : Exported → ℕ → List ℕ
 exported_line exported made = told_line made (next_at (slice_get exported.files made) exported.end)
 
--- That line, where so many of the messages were added to a JAM base: the next is the first that was not, or the one behind all.
+-- The line of an export that added this many messages to a JAM base. Next is the first message left, or the end.
 abbrev pub added_line : JamExport → ℕ → List ℕ
 added_line exported made = told_line made (unwrap_or (slice_get exported.adding.messages.items made) exported.end)
 
--- The line on standard error where subfields were cut.
+-- The line on standard error if subfields were cut.
 abbrev pub cuts_line : ℕ → List ℕ
 cuts_line count = if count == 0 then [] else (codes "echonet: " ++ (decimal count ++ codes " control lines cut\n"))
 
--- The line on standard error where a stored message is not to be posted.
+-- The line on standard error if a stored message is not posted.
 abbrev pub refused_line : List ℕ
 refused_line = codes "echonet: bad message\n"
 
--- The line where a message of a JAM base, which has this number there, is not posted.
+-- The line for a message of a JAM base that is not posted, with its number there.
 abbrev pub left_line : ℕ → List ℕ
 left_line number = codes "refused " ++ (decimal number ++ codes "\n")

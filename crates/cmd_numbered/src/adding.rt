@@ -1,5 +1,5 @@
 //! Which messages are added to a JAM base, and what that adds.
-ghost use Rattle.std.specs.Prelude.{◌≡◌, ◌≤◌, ◌+◌, ◌&&◌, not, IfErr, IfOk, OnOk, length, option_copied};
+ghost use Rattle.std.specs.Prelude.{◌≡◌, ◌≤◌, ◌+◌, ◌&&◌, IfErr, IfOk, OnOk, length, option_copied};
 ghost use Rattle.base_file.specs.Base.{Base};
 ghost use Rattle.base_folder.specs.Fetching.{IsUnread};
 ghost use Rattle.base_folder.specs.Source.{LooksAt};
@@ -195,7 +195,7 @@ fn nothing_added(alloc: Global) -> Adding
     }
 }
 
-// Adds the message of this number, if there is one and it is wanted.
+// Adds the message with this number, if it exists and is selected.
 fn add_if_wanted(
     alloc: Global,
     adding: &mut Adding,

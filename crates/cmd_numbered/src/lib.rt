@@ -5,7 +5,7 @@
 //! their names. Just those messages are added to a JAM base, too. The line printed at the end counts the messages made,
 //! and names the message from which the next export begins.
 //!
-//! Begin with `numbering` (which files are made), `adding` (what is added to a JAM base) and `resending`. `finding` looks
+//! Begin with `numbering` (which files are made), `adding` (additions to a JAM base) and `resending`. `finding` looks
 //! for a message by its id: one that a mail answers, or one that an editor wrote and that was posted before. `names` reads
 //! the number in a file's name, and `telling` has the lines at the end.
 #![tactic(auto)]

@@ -1,9 +1,8 @@
 //! Which messages become files, and under which numbers.
-ghost use Rattle.std.specs.Prelude.{ℕ, ◌≡◌, ◌≤◌, ◌+◌, ◌++◌, ◌&&◌, IfErr, IfOk, OnOk, drop, length, option_copied, take};
+ghost use Rattle.std.specs.Prelude.{◌≡◌, ◌≤◌, ◌+◌, ◌++◌, ◌&&◌, IfErr, IfOk, OnOk, length, option_copied};
 ghost use Rattle.base_file.specs.Base.{Base};
 ghost use Rattle.base_folder.specs.Fetching.{IsUnread};
 ghost use Rattle.base_folder.specs.Source.{LooksAt};
-ghost use Rattle.echo_links.specs.Links.{upper};
 ghost use Rattle.echo_stored.specs.StoredMessage.{stored_bytes};
 ghost use Rattle.cmd_numbered.specs.Numbered.{ExportAnswers, IsExport, before_numbers, behind_numbers, file_at, file_of, files_of, first_number, is_exported, is_last, is_purged, is_same_stored, resumed};
 ghost use Rattle.cmd_numbered.specs.Reading.{AnswersReading};

@@ -1,4 +1,4 @@
--- A number that is printed with leading zeros.
+-- A number printed with leading zeros.
 use Rattle.std.proofs.Common.{◌≡◌, ℕ, ◌-◌, ◌^◌, [], decimal}
 use Rattle.std.proofs.Math.Nat.{sub-zero}
 use Rattle.std.proofs.lemmas.List.{append-nil}
@@ -6,17 +6,17 @@ use Rattle.std.specs.Fmt.{padded_integral, format_spec, char_count}
 use Rattle.std.specs.Prelude.{false}
 use Rattle.cmd_print.specs.Shown.{zero_padded}
 
--- what `{:02}` writes
+-- the result of `{:02}`
 pub two_padded : (n : ℕ) → padded_integral (format_spec 32 0 4 2 (2 ^ 64 - 1)) false [] (decimal n) ≡ zero_padded 2 n
 unfolding padded_integral zero_padded char_count
 two_padded n = simp (append-nil, sub-zero)
 
--- what `{:04}` writes
+-- the result of `{:04}`
 pub four_padded : (n : ℕ) → padded_integral (format_spec 32 0 4 4 (2 ^ 64 - 1)) false [] (decimal n) ≡ zero_padded 4 n
 unfolding padded_integral zero_padded char_count
 four_padded n = simp (append-nil, sub-zero)
 
--- what `{:05}` writes
+-- the result of `{:05}`
 pub five_padded : (n : ℕ) → padded_integral (format_spec 32 0 4 5 (2 ^ 64 - 1)) false [] (decimal n) ≡ zero_padded 5 n
 unfolding padded_integral zero_padded char_count
 five_padded n = simp (append-nil, sub-zero)

@@ -1,4 +1,4 @@
--- What `check` prints.
+-- The lines of `check`.
 use Rattle.std.specs.Prelude.{◌≡◌, ℕ, ◌↔◌, true, AllPairs, Contains, List, [], ◌++◌, codes, decimal, Option, Some, None}
 use Rattle.std.specs.List.{flat_map}
 use Rattle.echo_addr.specs.declared.address.Address.{Address}
@@ -15,17 +15,17 @@ use Rattle.echo_net.specs.declared.verdict.Verdict.TheVariants.{Yes, No}
 use Rattle.echo_net.specs.Absent.{IsAbsent}
 use Rattle.echo_net.specs.Printed.{fault_text}
 
--- An area in order, with how many systems and links it has; the tag is printed as a word is.
+-- The line of an area in order, with its numbers of systems and links; the tag is printed as a word.
 abbrev pub yes_text : List ℕ → ℕ → ℕ → List ℕ
 yes_text tag systems links =
     codes "yes " ++ (printed_word tag ++ (codes " " ++ (decimal systems ++ (codes " systems " ++ (decimal links ++ codes " links")))))
 
--- A verdict.
+-- The text of a verdict.
 abbrev pub verdict_text : List ℕ → Verdict → List ℕ
 verdict_text tag (Yes systems links) = yes_text tag systems links
 verdict_text tag (No fault) = codes "no " ++ (printed_word tag ++ (codes " " ++ fault_text fault))
 
--- Its line.
+-- The line of a verdict.
 abbrev pub verdict_line : List ℕ → Verdict → List ℕ
 verdict_line tag verdict = verdict_text tag verdict ++ codes "\n"
 
@@ -38,12 +38,12 @@ absence_word Down = codes "down "
 abbrev pub absence_line : Address × Absence → List ℕ
 absence_line (a, why) = absence_word why ++ (address_text a ++ codes "\n")
 
--- Just the carriers that the nodelist does not hold, ascending, with why.
+-- Exactly the carriers that the nodelist does not hold, ascending, with the reason.
 pub record AreAbsent (files : List LinkFile) (tag : List ℕ) (list : List Line) (absent : List (Address × Absence)) : Type 0 where
   pub ascending : AllPairs (λ (one later : Address × Absence). address_before one.0 later.0 ≡ true) absent
   pub members : (a : Address) (why : Absence) → Contains absent (a, why) ↔ (Carries files tag a × IsAbsent list a why)
 
--- Their lines; none where no nodelist was given.
+-- Their lines; none without a nodelist.
 abbrev pub AbsencesShown : List LinkFile → List ℕ → Option (List Line) → List ℕ → Type 0
 AbsencesShown files tag None lines = lines ≡ []
 AbsencesShown files tag (Some list) lines =

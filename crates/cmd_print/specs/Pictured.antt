@@ -1,4 +1,4 @@
--- What `picture` prints, in the language DOT of Graphviz.
+-- The lines of `picture`, in the language DOT of Graphviz.
 use Rattle.std.specs.Prelude.{ℕ, ◌==◌, ◌&&◌, ◌||◌, Bool, true, false, if◌then◌else◌, List, [], ◌∷◌, ◌++◌, codes, decimal, filter, map}
 use Rattle.std.specs.List.{flat_map}
 use Rattle.echo_addr.specs.Address.{address_text}

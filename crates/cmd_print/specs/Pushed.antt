@@ -1,7 +1,7 @@
 -- Lines that are added to a text.
 use Rattle.std.specs.Prelude.{◌≡◌, ℕ, List, ◌++◌}
 
--- lines of this kind were added
+-- Lines of this kind are added.
 pub record Pushes (AreLines : List ℕ → Type 0) (old new : List ℕ) : Type 0 where
   pub lines : List ℕ
   pub are : AreLines lines

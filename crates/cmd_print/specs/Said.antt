@@ -1,4 +1,4 @@
--- What `show` prints of what a text says as echomail.
+-- The lines of `show` for a text as echomail.
 use Rattle.std.specs.Prelude.{◌≡◌, ℕ, List, [], ◌++◌, length, codes, decimal, Option, Some, None}
 use Rattle.echo_text.specs.declared.fault.TextFault.{TextFault}
 use Rattle.echo_text.specs.declared.fault.TextFault.TheVariants.{BadTag, NotEcho}
@@ -15,7 +15,7 @@ abbrev pub found_line : List ℕ → Option (List ℕ) → List ℕ
 found_line word None = []
 found_line word (Some bytes) = escaped_line word bytes
 
--- The line of how many entries SEEN-BY and PATH have, and how many of their tokens are none.
+-- The line with the numbers of entries of SEEN-BY and PATH, and of the tokens there that are no entries.
 abbrev pub counts_line : ℕ → ℕ → ℕ → List ℕ
 counts_line seen path dropped =
     codes "seen " ++ (decimal seen ++ (codes " path " ++ (decimal path ++ (codes " dropped " ++ (decimal dropped ++ codes "\n")))))
@@ -26,24 +26,24 @@ found_lines kept =
     found_line (codes "msgid") (msgid_of kept) ++ (found_line (codes "reply") (reply_of kept)
     ++ (found_line (codes "tear") (tear_of kept) ++ found_line (codes "origin") (origin_of kept)))
 
--- The lines of what an echomail text says.
+-- The lines of the parts of an echomail text.
 abbrev pub echo_lines : EchoText → ℕ → List ℕ
 echo_lines e dropped = area_line e.tag ++ (found_lines e.kept ++ counts_line (length e.seen) (length e.path) dropped)
 
--- The lines are those of what the text says.
+-- The lines are those of the text's parts.
 pub record IsEchoShown (text lines : List ℕ) : Type 0 where
   pub echo : EchoText
   pub dropped : ℕ
   pub said : EchoOf text echo dropped
   pub whole : lines ≡ echo_lines echo dropped
 
--- The lines of a text to which this text_refusal applies, if any.
+-- The lines of a text with this refusal, if any.
 abbrev pub LinesFor : Option TextFault → List ℕ → List ℕ → Type 0
 LinesFor None text lines = IsEchoShown text lines
 LinesFor (Some NotEcho) text lines = lines ≡ codes "not echomail\n"
 LinesFor (Some BadTag) text lines = lines ≡ codes "bad tag\n"
 LinesFor (Some _) text lines = ⊥
 
--- The lines of a text: of what it says as echomail, or why it is none.
+-- The lines of a text: those of its parts as echomail, or why it is no echomail.
 abbrev pub TextShown : List ℕ → List ℕ → Type 0
 TextShown text lines = LinesFor (text_refusal text) text lines

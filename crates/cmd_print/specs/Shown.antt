@@ -1,4 +1,4 @@
--- What `show` prints of a packet.
+-- The lines of `show` for a packet.
 use Rattle.std.specs.Prelude.{◌≡◌, ℕ, ◌+◌, ◌-◌, Bool, List, [], ◌∷◌, ◌++◌, length, replicate, codes, decimal, if◌then◌else◌}
 use Rattle.std.specs.List.{flat_map}
 use Rattle.echo_addr.specs.declared.address.Address.{Address}
@@ -10,7 +10,7 @@ use Rattle.echo_charset.specs.Escaped.{escaped_line}
 use Rattle.echo_text.specs.Lines as text_lines
 use Rattle.cmd_print.specs.Said.{TextShown}
 
--- A number in decimal, with leading zeros where it has fewer digits than asked for.
+-- A number in decimal, with leading zeros up to the requested number of digits.
 unfoldable pub zero_padded : ℕ → ℕ → List ℕ
 zero_padded digits n = replicate (digits - length (decimal n)) 48 ++ decimal n
 
@@ -33,7 +33,7 @@ named_sender h = record { zone = h.orig_zone; net = h.orig_net; node = h.orig_no
 abbrev pub named_receiver : Header → Address
 named_receiver h = record { zone = h.dest_zone; net = h.dest_net; node = h.dest_node }
 
--- From which system to which.
+-- The two systems: from, to.
 abbrev pub named_systems : Header → List ℕ
 named_systems h = codes "packet " ++ (address_text (named_sender h) ++ (codes " to " ++ address_text (named_receiver h)))
 
@@ -46,15 +46,15 @@ abbrev pub header_lines : Header → List ℕ
 header_lines h =
     packet_line h ++ (codes "password " ++ (encode_lower h.password ++ (codes "\nfill " ++ (encode_lower h.fill ++ codes "\n"))))
 
--- net/node.
+-- Net/node.
 abbrev pub net_node : ℕ → ℕ → List ℕ
 net_node net node = decimal net ++ (codes "/" ++ decimal node)
 
--- From which system to which a message goes.
+-- The sending and the receiving system of a message.
 abbrev pub route : Message → List ℕ
 route m = net_node m.orig_net m.orig_node ++ (codes " to " ++ net_node m.dest_net m.dest_node)
 
--- A message's number and the place where it begins.
+-- The number of a message and the place where it begins.
 abbrev pub message_number : ℕ → ℕ → List ℕ
 message_number number place = codes "message " ++ (decimal number ++ (codes " at " ++ (decimal place ++ codes ": ")))
 
@@ -76,17 +76,17 @@ message_lines number place m =
     message_line number place m ++ (escaped_line (codes "date") m.date ++ (escaped_line (codes "to") m.to_name
     ++ (escaped_line (codes "from") m.from_name ++ (escaped_line (codes "subject") m.subject ++ text_line (length m.text)))))
 
--- A line for each line of a text, if they are asked for.
+-- A line for each line of a text, if they are requested.
 abbrev pub whole_text : Bool → List ℕ → List ℕ
 whole_text full text = if full then flat_map (λ line. escaped_line (codes "line") line) (text_lines.lines text) else []
 
--- The lines of a message, those of its text among them if they are asked for, and of what that says.
+-- The lines of a message, with those of its text if they are requested, and those about its echomail.
 pub record MessageShown (full : Bool) (number place : ℕ) (m : Message) (lines : List ℕ) : Type 0 where
   pub said : List ℕ
   pub text : TextShown m.text said
   pub whole : lines ≡ message_lines number place m ++ (whole_text full m.text ++ said)
 
--- The lines of messages, of which the first has this number and begins at this place.
+-- The lines of messages; the first of them has this number and begins at this place.
 abbrev pub MessagesShown : Bool → ℕ → ℕ → List Message → List ℕ → Type 0
 MessagesShown full number place [] lines = lines ≡ []
 MessagesShown full number place (m ∷ ms) lines =

@@ -1,5 +1,5 @@
 //! What a text says as echomail, as it is printed.
-ghost use Rattle.std.specs.Prelude.{◌≡◌, ◌++◌, length, option_copied, codes, OnOk};
+ghost use Rattle.std.specs.Prelude.{◌≡◌, ◌++◌, option_copied, OnOk};
 ghost use Rattle.cmd_print.specs.Said.{area_line, counts_line, echo_lines, found_line, found_lines};
 
 use echo_charset::{push_escaped, written};

@@ -2,10 +2,9 @@
 //! first read until the last write, so that two runs at once add each message once.
 //!
 //! The new bytes are written in this order, each flushed before the next: texts, headers and index. Then come the
-//! counts, and the replies that earlier headers name. A reader sees only the messages of the index. So a run that is
-//! stopped anywhere leaves a base with the first of its messages, and no reader sees the bytes after the last of
-//! them. Until the next run the number of active messages may be too small, and earlier headers may not name the last
-//! replies.
+//! counts, and the replies that earlier headers name. A reader sees only the messages of the index. So a run stopped at
+//! any point leaves a base with the first of its messages, and no reader sees bytes after these. Until the next run the
+//! number of active messages may be too small, and earlier headers may not name the last replies.
 
 use crate::locked::{begun_again, locked_headers};
 use crate::named::{bytes_of, jam_fault, open_file, open_or_make, write_at};

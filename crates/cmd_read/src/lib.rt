@@ -6,10 +6,10 @@
 //!
 //! Begin with `printing` (the content of files: `show`, `nodelist`). `judging` has `links`, which goes on if a file
 //! cannot be used, and `nets` has `check`, `why`, `picture` and `replay`. `files` reads a base file while a terminal
-//! shows the progress. `bases` and `listing` have `list` and `export`, for a base file and for a folder. For `export
-//! --msg` and `--jam`: `making` (new files), `stored` (a file for each message), `named` (files of a JAM base, no
-//! links), `locked` (a JAM base is begun, and locked) and `jam`. `outbox` reads and marks the messages that `post --jam`
-//! posts. `resending` has `resend`, and `converting` has `convert`.
+//! shows the progress. `bases` and `listing` have `list` and `export`, for a base file and for a folder. `export --msg`
+//! is in `stored` (a file for each message), with `making` (new files). `export --jam` is in `jam`, with `named` (files of
+//! a JAM base, no links) and `locked` (a JAM base is begun, and locked). `outbox` reads and marks the messages that `post
+//! --jam` posts. `resending` has `resend`, and `converting` has `convert`.
 #![tactic(auto)]
 
 mod bases;

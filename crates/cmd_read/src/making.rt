@@ -9,7 +9,7 @@ use std::os::unix::fs::MetadataExt;
 use std::{fs, io};
 
 /// A file to make: its path, its staging path and its bytes. The first `known_by` bytes show whether a file of another
-/// user is of its kind.
+/// user has the same kind.
 #[derive(Clone, Copy)]
 pub(crate) struct Making<'a> {
     pub(crate) path: &'a str,

@@ -1,4 +1,4 @@
-//! A JAM base whose messages of an editor are posted: which of them are to be posted, and the mark of those that were.
+//! A JAM base with messages from an editor, to be posted: the choice of these messages, and the mark of posted ones.
 //!
 //! The file of headers is locked from the first read until the last mark. A mark is one byte, flushed before the next
 //! message is posted. The count of changes comes last.

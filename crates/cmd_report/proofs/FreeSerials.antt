@@ -12,7 +12,7 @@ use Rattle.model_steps.proofs.FirstRefusals.{refusal_first}
 use Rattle.model_steps.proofs.Posted.{allowed}
 use Rattle.cmd_report.specs.FreeSerial.{IsFirstFree, is_taken, serial_after}
 
--- the serials of so many first steps are taken
+-- the serials of the first steps are in use
 abbrev pub AreTaken : LinkFile → List Filed → ℕ → ℕ → Type 0
 AreTaken file base start steps = (k : ℕ) → k < steps → is_taken file base (serial_after start k) ≡ true
 
@@ -47,7 +47,7 @@ first_from file base start (suc left) steps whole before = elim (cases_Bool (is_
 pub first_of_all : (file : LinkFile) (base : List Filed) (start : ℕ) → (serial : ℕ) × IsFirstFree file base start serial
 first_of_all file base start = first_from file base start (2 ^ 32 - 1) 0 (omega arith) (λ k within. absurd (omega (arith, within)))
 
--- a refusal that is of no serial is one with any serial
+-- a refusal that does not depend on the serial applies to any serial
 pub any_serial : (file : LinkFile) (base : List Filed) (tag : List ℕ) (draft : Draft) (serial other : ℕ) (stamp : Stamp) (why : PostFault)
     → IsPostFault file base tag draft serial stamp why → (why ≡ post.KnownSerial → ⊥)
     → (why ≡ post.Memory) ⊎ (post_refusal file base tag draft other stamp ≡ Some why)
@@ -82,7 +82,7 @@ free_where_allowed file base tag draft serial stamp may =
     let all = allowed file base tag draft serial stamp may in
     all.new
 
--- one with which that is refused because it is known is taken
+-- a serial that a refusal reports as known is in use
 pub taken_where_known : (file : LinkFile) (base : List Filed) (tag : List ℕ) (draft : Draft) (start steps serial : ℕ) (stamp : Stamp) (why : PostFault)
     → serial ≡ serial_after start steps → IsPostFault file base tag draft serial stamp why → why ≡ post.KnownSerial → is_taken file base (serial_after start steps) ≡ true
 taken_where_known file base tag draft start steps serial stamp why at is known =

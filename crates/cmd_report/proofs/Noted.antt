@@ -1,4 +1,4 @@
--- Notes on messages that are tossed one after another.
+-- Notes on messages tossed in order.
 use Rattle.std.proofs.Common.{◌≡◌, ℕ, ◌+◌, List, [], ◌∷◌, ◌++◌, length, refl, sym, ap, ◌∙◌, arith, append_assoc, append-nil, length-append, Option}
 use Rattle.std.specs.Prelude.{option_to_list}
 use Rattle.std.proofs.KnownBytes.{Consumes-nil}
@@ -21,7 +21,7 @@ use Rattle.echo_toss.proofs.Stops.{some_tossed}
 use Rattle.cmd_report.specs.Notes.{area_said, note_of, notes_of, said_unless, text_said}
 use Rattle.cmd_report.specs.NotedPacket.{NotesSome, NotesTaken}
 
--- what a text that was read says
+-- the area of a parsed text
 pub said_area : (text : List ℕ) (e : EchoText) (dropped : ℕ) → EchoOf text e dropped → area_said e ≡ text_said text
 said_area text e dropped h =
     sym (ap (λ r. said_unless r (echo_of text)) (says_accepted text e dropped h) ∙ ap area_said (says_one text e dropped h))

@@ -7,13 +7,12 @@ use Rattle.echo_links.specs.Links.{LinkFile}
 use Rattle.echo_packet.specs.declared.limits.Limits.{Limits}
 use Rattle.base_store.specs.Store.{CommitsNothing, GoesOn, StoreState}
 use Rattle.base_store.proofs.Runs.{looks_commit, looks_go_on, no_look}
-use Rattle.model_steps.specs.Tossing.{tossing}
 use Rattle.echo_toss.specs.declared.tally.Tally.{Tally}
 use Rattle.echo_toss.specs.PacketsIn.{state_in}
 use Rattle.echo_toss.specs.Tallies.{all_counted, tally_of}
 use Rattle.cmd_report.proofs.Noted.{HasNoted, none_noted}
 
--- messages were tossed into the store and noted, it went on, no read failed, and there is room
+-- the store took the messages with their notes and goes on, no read failed, and there is room
 pub record HasNotedIn (limits : Limits) (sender : Address) (file : LinkFile) (old mid : StoreState) (first now : ℕ) (before left : Option (List ℕ)) (given at : ℕ) (tally : Tally) (text noted : List ℕ) (failed still : ℕ) (room : Type 0) : Type 0 where
   pub each : Honestly mid.disk ((base : Base) → old.keeps base
       → (next : Base) × HasNoted limits sender (state_in file base) before left given at tally (state_in file next) text noted failed still room × mid.keeps next)

@@ -1,16 +1,16 @@
--- Packet files that are opened one after the other.
+-- Packet files that a run opens in order.
 use Rattle.std.specs.Prelude.{◌≡◌, ℕ, ◌⊎◌, List, [], ◌∷◌, Option, Some, None, Result, Ok, Err}
 use Rattle.cmd_status.specs.declared.fault.Fault.{Fault}
 use Rattle.cmd_status.specs.declared.fault.Fault.TheVariants.{OutOfMemory}
 use Rattle.cmd_status.specs.Ended.{IsCannotUse}
 
--- The fact known of a packet file before it is opened: its bytes, or that it cannot be used at this path, or neither.
+-- The fact known about a packet file before it is opened: its bytes, or that this path cannot be used, or neither.
 pub data Coming : Type 0 where
   Holds : (bytes : List ℕ) → Coming
   Fails : (path : List ℕ) → Coming
   Unknown : Coming
 
--- A file is opened, and what reads it has just its bytes, or the file cannot be used. There may be no memory for that.
+-- Opening a file gives a reader of exactly its bytes, or a fault if the file cannot be used. Memory may run out.
 abbrev pub Opens : {R : Type 0} → (R → Option (List ℕ)) → Coming → Result R Fault → Type 0
 Opens remaining (Holds bytes) (Ok reader) = remaining reader ≡ Some bytes
 Opens remaining (Holds bytes) (Err fault) = fault ≡ OutOfMemory
@@ -18,7 +18,7 @@ Opens remaining (Fails path) (Ok reader) = ⊥
 Opens remaining (Fails path) (Err fault) = IsCannotUse path fault ⊎ (fault ≡ OutOfMemory)
 Opens remaining Unknown answer = Unit {0}
 
--- the first of the files that are to come is opened, as it is if the answers are honest, and the later ones are still to come
+-- The call opened the first of these files, and the later ones remain. If the answers are honest, the result fits the file.
 abbrev pub OpensNext : {R : Type 0} → Type 0 → (R → Option (List ℕ)) → List Coming → List Coming → Option (Result R Fault) → Type 0
 OpensNext honest remaining [] left None = left ≡ []
 OpensNext honest remaining [] left (Some answer) = ⊥

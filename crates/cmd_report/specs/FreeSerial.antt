@@ -4,25 +4,24 @@ use Rattle.std.specs.List.{list_any}
 use Rattle.echo_text.specs.Ids.{id_of}
 use Rattle.echo_filed.specs.Filed.{Filed, has_id}
 use Rattle.echo_links.specs.Links.{LinkFile}
-use Rattle.model_steps.specs.declared.fault.PostFault.TheVariants as post
 use Rattle.cmd_report.specs.declared.posting.NewMessage.{NewMessage}
 
--- a message of the base has the id that the system gives with this serial
+-- A message of the base has the id that the system gives with this serial.
 abbrev pub is_taken : LinkFile → List Filed → ℕ → Bool
 is_taken file base serial = list_any (has_id (id_of file.system serial)) base
 
--- the serial so many steps after one: after the greatest comes 0
+-- The serial `steps` steps after `start`, with 0 after the greatest.
 abbrev pub serial_after : ℕ → ℕ → ℕ
 serial_after start steps = (start + steps) % 2 ^ 32
 
--- the serial is the first at or after another that no message of the base has; where all serials are taken, it is the last of them
+-- The first serial from `start` on that no message of the base has. If all are in use, it is the last of them.
 pub record IsFirstFree (file : LinkFile) (base : List Filed) (start serial : ℕ) : Type 0 where
   pub steps : ℕ
   pub is : serial ≡ serial_after start steps
   pub before : (k : ℕ) → k < steps → is_taken file base (serial_after start k) ≡ true
   pub ends : (is_taken file base serial ≡ false) ⊎ (steps ≡ 2 ^ 32 - 1)
 
--- the words with this serial
+-- The words with this serial.
 abbrev pub with_serial : NewMessage → ℕ → NewMessage
 with_serial words serial = record {
   tag = words.tag;

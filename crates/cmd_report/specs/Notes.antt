@@ -45,13 +45,12 @@ abbrev pub note_line : ℕ → ℕ → Outcome → Message → List ℕ
 note_line number place outcome m =
     codes "message " ++ (decimal number ++ (codes " at " ++ (decimal place ++ (codes " " ++ (outcome_word outcome ++ text_said m.text)))))
 
--- A message that was filed has none.
+-- The note on a message. A filed message has no note.
 abbrev pub note_of : ℕ → ℕ → Outcome → Message → List ℕ
 note_of number place Filed m = []
 note_of number place other m = note_line number place other m
 
--- The notes on messages of one sender that are tossed in order; the first has this number and begins after this many
--- bytes.
+-- The notes on messages of one sender, tossed in order. The first one has this number and begins after this many bytes.
 abbrev pub notes_of : LinkFile → List FiledMessage → Address → ℕ → ℕ → List Message → List ℕ
 notes_of file base sender number start [] = []
 notes_of file base sender number start (m ∷ later) =

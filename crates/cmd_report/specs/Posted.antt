@@ -1,4 +1,4 @@
--- What `post` prints and leaves.
+-- The output and the effect of `post`.
 use Rattle.std.specs.Prelude.{ℕ, ◌==◌, List, [], ◌∷◌, ◌++◌, if◌then◌else◌, Option}
 use Rattle.model_steps.specs.declared.draft.Draft.{Draft}
 use Rattle.model_steps.specs.declared.fault.PostFault.{PostFault}
@@ -6,11 +6,11 @@ use Rattle.model_steps.specs.Posting.{post_refusal}
 use Rattle.model_steps.specs.SystemState.{SystemState}
 use Rattle.cmd_report.specs.declared.posting.NewMessage.{NewMessage}
 
--- What a byte of the body becomes in the draft: 0A becomes 0D, and nothing after a 0D.
+-- The bytes of the draft for a byte of the body: 0A becomes 0D, or nothing after a 0D.
 abbrev pub draft_byte : ℕ → ℕ → List ℕ
 draft_byte before byte = if byte == 10 then (if before == 13 then [] else 13 ∷ []) else byte ∷ []
 
--- The same of the bytes after one.
+-- The same for the bytes after one.
 abbrev pub draft_after : ℕ → List ℕ → List ℕ
 draft_after before [] = []
 draft_after before (byte ∷ later) = draft_byte before byte ++ draft_after byte later
@@ -19,7 +19,7 @@ draft_after before (byte ∷ later) = draft_byte before byte ++ draft_after byte
 abbrev pub draft_body : List ℕ → List ℕ
 draft_body body = draft_after 0 body
 
--- The draft of the words and the body.
+-- The draft from the words and the body.
 abbrev pub draft_given : NewMessage → List ℕ → Draft
 draft_given words body = record {
   to_name = words.to_name.now;
@@ -29,6 +29,6 @@ draft_given words body = record {
   body = draft_body body;
 }
 
--- No refusal applies, or this is the first that does.
+-- The first refusal that applies, or `None`.
 abbrev pub refusal_given : SystemState → NewMessage → List ℕ → Option PostFault
 refusal_given system words body = post_refusal system.file system.base words.tag.now (draft_given words body) words.serial words.stamp

@@ -9,35 +9,35 @@ use Rattle.cmd_report.specs.declared.posting.NewMessage.{NewMessage}
 use Rattle.cmd_report.specs.declared.replying.Answer.{Answer}
 use Rattle.cmd_report.specs.declared.replying.ReplyFields.{ReplyFields}
 
--- whether a subject is that of an answer: it begins with `Re:`, in letters of either case
+-- The subject of an answer: it begins with `Re:`, in letters of either case.
 abbrev pub is_answer : List ℕ → Bool
 is_answer subject =
     not (nat_lt (length subject) 3)
     && (eq_ignore_ascii_case (slice_index subject 0) 114
     && (eq_ignore_ascii_case (slice_index subject 1) 101 && (slice_index subject 2 == 58)))
 
--- what a packed message has room for behind `Re: `
+-- The room in a packed message for a subject after `Re: `.
 abbrev pub room_behind : ℕ
 room_behind = max_subject - 4
 
--- the subject of an answer: it begins with `Re: ` once, and the part without room is left out
+-- The subject of an answer. It begins with `Re: ` once, and the part without room is left out.
 abbrev pub answered : List ℕ → List ℕ
 answered subject = if is_answer subject then subject else codes "Re: " ++ take room_behind subject
 
--- the id that an answer names; one that is none is not named
+-- The id that an answer names. An invalid one is left out.
 abbrev pub named_id : Option (List ℕ) → List ℕ
 named_id None = []
 named_id (Some msgid) = if is_id msgid then msgid else []
 
--- the words that a message gives
+-- The words that a message gives to its answer.
 pub record IsFound (m : Filed) (found : ReplyFields) : Type 0 where
   pub tag : found.tag ≡ m.echo.tag
   pub to_name : found.to_name ≡ m.from_name
   pub subject : found.subject ≡ answered m.subject
   pub reply : found.reply ≡ named_id (msgid_of m.echo.kept)
 
--- The words with which the answer to a message is posted: in the area of the message, to its author, with its
--- subject and its id, and the others as they were given.
+-- The words of the answer to a message: the message's area, its author as receiver, its subject and its id. All others
+-- are as given.
 pub record IsReply (m : Filed) (answer : Answer) (words : NewMessage) : Type 0 where
   pub tag : words.tag.now ≡ m.echo.tag
   pub to_name : words.to_name.now ≡ m.from_name

@@ -1,9 +1,9 @@
 //! The parts shared by the commands that change a base, of every kind: their words, the lines that they print, and the
 //! files of packets.
 //!
-//! The contract for the commands: a draft of the words of a posting, the words that a message gives to an answer, the
-//! name and the line of each packet, and just the lines of what was done. A packet is tossed as `toss_packet_in` does
-//! it. Just the lines of its messages that were not filed are appended to a text, in order.
+//! The contract for the commands: the draft of a posting, the words that a message gives to its answer, and the name of
+//! each packet. Also exactly the lines of a packet and of a command. A packet is tossed as by `toss_packet_in`. A text
+//! gets exactly the lines of its messages that were not filed, in order.
 //!
 //! Begin with `lines` (the printed lines). `posting`, `replying`, `scanning` and `tossing` belong to one command each.
 //! `note` is the line of a message that is not filed, `storing` tosses a packet into a store, and `coming` opens packet

@@ -30,18 +30,18 @@ use Rattle.cmd_show.specs.declared.area_counts.AreaCounts.{AreaCounts}
 use Rattle.cmd_show.specs.AreasListed.{AreListed, AreWithin, Ascend, HaveCounts, area_counts, area_line, areas_text, counted_more, counts_of, counts_text, found_counts, is_in, is_purged_in, no_counts}
 use Rattle.cmd_show.specs.Exporting.{state_by, state_of}
 
--- 1 where it is so
+-- 1 for yes
 abbrev one : Bool → ℕ
 one b = cond b 1 0
 
--- a number where a message waits, or where it was scanned
+-- the number if a message waits, or if it was scanned
 abbrev where_waits : Bool → ℕ → ℕ
 where_waits b n = cond b n 0
 
 abbrev where_scanned : Bool → ℕ → ℕ
 where_scanned b n = cond b 0 n
 
--- of one message more, so many pass
+-- the count with one more message
 counted_last : (p : Filed → Bool) (xs : List Filed) (m : Filed) → count_by p (xs ++ m ∷ []) ≡ count_by p xs + one (p m)
 counted_last p xs m =
     let f : Filed → ℕ = λ x. one (p x) in
@@ -49,7 +49,7 @@ counted_last p xs m =
     let last : count_by p (m ∷ []) ≡ one (p m) + 0 = sum_by-cons f m [] in
     omega (arith, whole, last)
 
--- the same of those that wait
+-- the same for waiting messages
 waiting_last : (p : Filed → Bool) (xs : List Filed) (m : Filed) (cursor : ℕ)
     → count_by p (drop cursor (xs ++ m ∷ [])) ≡ count_by p (drop cursor xs) + where_waits (nat_le cursor (length xs)) (one (p m))
 waiting_last p xs m cursor = by (cases_lt (length xs) cursor)
@@ -67,7 +67,7 @@ waiting_last p xs m cursor = by (cases_lt (length xs) cursor)
         let last : where_waits (nat_le cursor (length xs)) (one (p m)) ≡ one (p m) = ap (λ b. where_waits b (one (p m))) (le-leb cursor (length xs) waits) in
         omega (arith, all, more, last)
 
--- and of those that were scanned
+-- and for scanned messages
 scanned_last : (p : Filed → Bool) (xs : List Filed) (m : Filed) (cursor : ℕ)
     → count_by p (take cursor (xs ++ m ∷ [])) ≡ count_by p (take cursor xs) + where_scanned (nat_le cursor (length xs)) (one (p m))
 scanned_last p xs m cursor = by (cases_lt (length xs) cursor)
@@ -92,7 +92,7 @@ made messages waiting purged = record { messages = messages; waiting = waiting; 
 same_counts : (a b c x y z : ℕ) → a ≡ x → b ≡ y → c ≡ z → made a b c ≡ made x y z
 same_counts a b c x y z p q r = ap (λ n. made n b c) p ∙ ap (λ n. made x n c) q ∙ ap (λ n. made x y n) r
 
--- one message more is counted where it is of the area, as it is
+-- a message of the area adds one to its counts
 one_counted : (own waits short : Bool) (a b c x y z : ℕ) → x ≡ a + one own → y ≡ b + where_waits waits (one own) → z ≡ c + where_scanned waits (one (own && short))
     → made x y z ≡ cond own (counted_more (made a b c) (state_by waits short)) (made a b c)
 one_counted true true short a b c x y z p q r = same_counts x y z (a + 1) (b + 1) c p q (omega (arith, r))
@@ -109,7 +109,7 @@ more_counts tag xs m cursor =
     (count_by (is_in tag) (xs ++ m ∷ [])) (count_by (is_in tag) (drop cursor (xs ++ m ∷ []))) (count_by (is_purged_in tag) (take cursor (xs ++ m ∷ [])))
     (counted_last (is_in tag) xs m) (waiting_last (is_in tag) xs m cursor) (scanned_last (is_purged_in tag) xs m cursor)
 
--- one more is at most one more
+-- a count grows by at most one
 within_more : (i : ℕ) (c : AreaCounts) (state : State) → AreWithin i c → AreWithin (i + 1) (counted_more c state)
 within_more i c Scanned within = record { messages = omega (arith, within.messages); waiting = omega (arith, within.waiting); purged = omega (arith, within.purged) }
 within_more i c Waiting within = record { messages = omega (arith, within.messages); waiting = omega (arith, within.waiting); purged = omega (arith, within.purged) }
@@ -118,7 +118,7 @@ within_more i c Purged within = record { messages = omega (arith, within.message
 pub within_next : (i : ℕ) (c : AreaCounts) → AreWithin i c → AreWithin (i + 1) c
 within_next i c within = record { messages = omega (arith, within.messages); waiting = omega (arith, within.waiting); purged = omega (arith, within.purged) }
 
--- a value that was put in, or else what was found before
+-- a value just inserted, or else the one found before
 unwrapped : (b : Bool) (v : AreaCounts) (o : Option AreaCounts) → unwrap_or (cond b (Some v) o) no_counts ≡ cond b v (unwrap_or o no_counts)
 unwrapped true v o = refl
 unwrapped false v o = refl
@@ -135,7 +135,7 @@ either_turned true false = refl
 either_turned false true = refl
 either_turned false false = refl
 
--- there is a message of each number below that of all
+-- there is a message at each number below the count
 pub some_there : (base : List Filed) (i : ℕ) → i < length base → None ≡ slice_get base i → ⊥
 some_there base i inside none = elim (slice_get_cases base i).1 [
   | inl (x, below, got, read) ↦
@@ -162,7 +162,7 @@ module _ {K : Type 0} (bytes : K → List ℕ) where
   abbrev pub key_order : K → K → Ordering
   key_order x y = slice_cmp nat_cmp (bytes x) (bytes y)
 
-  -- a look-up after an entry was put in
+  -- a look-up after an insertion
   lookup_inserted : (tag : List ℕ) (es : List (K × AreaCounts)) (k : K) (v : AreaCounts)
       → lookup (is_key tag) (insert_entry key_order es k v) ≡ cond (is_key tag k) (Some v) (lookup (is_key tag) es)
   lookup_inserted tag [] k v = refl
@@ -188,7 +188,7 @@ module _ {K : Type 0} (bytes : K → List ℕ) where
       → counts_of bytes (insert_entry key_order es k v) tag ≡ cond (is_key tag k) v (counts_of bytes es tag)
   counts_inserted tag es k v = ap (λ o. unwrap_or o no_counts) (lookup_inserted tag es k v) ∙ unwrapped (is_key tag k) v (lookup (is_key tag) es)
 
-  -- no count is more than one above
+  -- no count grows by more than one
   pub within_inserted : (i : ℕ) (es : List (K × AreaCounts)) (k : K) (tag : List ℕ) (state : State) (v : AreaCounts)
       → v ≡ counted_more (counts_of bytes es tag) state → ((t : List ℕ) → AreWithin i (counts_of bytes es t))
       → (t : List ℕ) → AreWithin (i + 1) (counts_of bytes (insert_entry key_order es k v) t)
@@ -220,7 +220,7 @@ module _ {K : Type 0} (bytes : K → List ℕ) where
           is ∙ ap (λ c. counted_more c (state_of cursor (length xs) m)) (have.counts m.echo.tag ∙ ap (area_counts xs cursor) (sym same))
       by tag false missed = have.counts tag
 
-  -- no message is counted in an empty map
+  -- an empty map counts no message
   pub none_counted : (es : List (K × AreaCounts)) (base : List Filed) (cursor : ℕ) → es ≡ [] → HaveCounts bytes es (take 0 base) cursor
   none_counted es base cursor none = record {
     counts = λ tag. ap (λ es. counts_of bytes es tag) none ∙ same_counts 0 0 0 0 (count_by (is_in tag) (drop cursor [])) (count_by (is_purged_in tag) (take cursor [])) refl
@@ -231,7 +231,7 @@ module _ {K : Type 0} (bytes : K → List ℕ) where
   pub none_within : (es : List (K × AreaCounts)) → es ≡ [] → (tag : List ℕ) → AreWithin 0 (counts_of bytes es tag)
   none_within es none tag = subst (λ es. AreWithin 0 (counts_of bytes es tag)) (sym none) (record { messages = omega arith; waiting = omega arith; purged = omega arith })
 
-  -- a key is found where a tag is among the keys
+  -- a key is found if its tag is among the keys
   among_keys : (es : List (K × AreaCounts)) (tag : List ℕ) → list_any (bytes_eq tag) (map bytes (keys_of es)) ≡ is_some (lookup (is_key tag) es)
   among_keys [] tag = refl
   among_keys (e ∷ es) tag =
@@ -248,7 +248,7 @@ module _ {K : Type 0} (bytes : K → List ℕ) where
   tags_ascend [] ascend = tt
   tags_ascend (k ∷ ks) ascend = (below_all (bytes k) ks ascend.0, tags_ascend ks ascend.1)
 
-  -- a tag is not found at a key before it
+  -- a later tag is not found at an earlier key
   found_behind : (e : K × AreaCounts) (es later : List (K × AreaCounts)) → AllByRecursion (λ k. key_order e.0 k ≡ Less) (keys_of later)
       → AllByRecursion (λ x. lookup (is_key (bytes x.0)) es ≡ Some x.1) later → AllByRecursion (λ x. lookup (is_key (bytes x.0)) (e ∷ es) ≡ Some x.1) later
   found_behind e es [] below found = tt
@@ -266,7 +266,7 @@ module _ {K : Type 0} (bytes : K → List ℕ) where
     found_behind e es es ascend.0 (own_found es ascend.1),
   )
 
-  -- the lines of entries that are found
+  -- the lines of the found entries
   lines_found : (f : List ℕ → AreaCounts) (es all : List (K × AreaCounts)) → ((tag : List ℕ) → counts_of bytes all tag ≡ f tag)
       → AllByRecursion (λ x. lookup (is_key (bytes x.0)) all ≡ Some x.1) es → flat_map (λ e. area_line (bytes e.0) e.1) es ≡ flat_map (λ tag. area_line tag (f tag)) (map bytes (keys_of es))
   lines_found f [] all is found = refl

@@ -1,4 +1,4 @@
--- What `nodelist` prints and answers, from what its parts do.
+-- The lines and the answer of `nodelist`, from those of its parts.
 use Rattle.std.proofs.Common.{◌≡◌, ℕ, ◌+◌, ◌<◌, ◌≤◌, ◌⊎◌, List, [], ◌∷◌, ◌++◌, length, get_or, map, Option, None, Result, Ok, Err, IfErr, OnErr, refl, sym, ap, subst, ◌∙◌, append_assoc, append-nil, arith, inl, inr}
 use Rattle.std.specs.List.{flat_map, range_with_len}
 use Rattle.std.specs.Io.KnownBytes.{Appends}
@@ -72,7 +72,7 @@ pub read_refused : (find : Option Address) (input : List ℕ) (old : Output) (f 
 read_refused find input old f (inl wrong) = inr (inr (record { why = f; is = refl; of_lines = wrong }), refl)
 read_refused find input old f (inr memory) = inr (inl (subst (λ x. IsOutOfMemory (Nodelist x)) (sym memory) tt), refl)
 
--- what is printed of a nodelist
+-- the lines of a nodelist
 right_list : (find : Option Address) (input text : List ℕ) (lines : List Line) (stated : CrcLine) → NodelistOf input lines → stated ≡ crc_line_of input
     → Listed find lines stated text → IsListed find input text (crc_status (crc_line_of input))
 right_list find input text lines stated is agreed listed = record {
@@ -82,7 +82,7 @@ right_list find input text lines stated is agreed listed = record {
   checked = refl;
 }
 
--- all lines of a nodelist went out
+-- all lines of a nodelist were written
 pub list_printed : (find : Option Address) (input none rest : List ℕ) (lines : List Line) (stated : CrcLine) (status : Status) (old mid new : Output)
     → NodelistOf input lines → stated ≡ crc_line_of input → none ≡ [] → AddsLines (Listed find lines stated) none rest old.contents mid.contents
     → Appends mid.contents new.contents rest → status ≡ crc_status stated → mid.failures ≡ old.failures → PassesAll mid new → NodelistAnswers find input old new (Ok status)
@@ -95,7 +95,7 @@ list_printed find input none rest lines stated status old mid new is agreed noth
       flushed = (flushed.0 ∙ once, flushed.1);
     }
 
--- standard output failed at last
+-- standard output failed at the end
 pub list_unprinted : (find : Option Address) (input none rest : List ℕ) (lines : List Line) (stated : CrcLine) (old mid new : Output) (fault : Fault)
     → NodelistOf input lines → stated ≡ crc_line_of input → none ≡ [] → AddsLines (Listed find lines stated) none rest old.contents mid.contents
     → WritesFront rest mid.contents new.contents → mid.failures ≡ old.failures → CannotPrint mid.failures new.failures fault → NodelistAnswers find input old new (Err fault)
@@ -111,7 +111,7 @@ list_unprinted find input none rest lines stated old mid new fault is agreed not
       },
     )
 
--- the lines of a nodelist were not made whole
+-- the lines of a nodelist were not completed
 pub list_stopped : (find : Option Address) (input none : List ℕ) (lines : List Line) (stated : CrcLine) (old new : Output) (fault : Fault)
     → NodelistOf input lines → stated ≡ crc_line_of input → none ≡ []
     → (IsOutOfMemory fault × (new ≡ old)) ⊎ (Stops old.failures new.failures fault × BeginsMore (Listed find lines stated) none old.contents new.contents)
@@ -127,7 +127,7 @@ list_stopped find input none lines stated old new fault is agreed nothing (inr (
   },
 )
 
--- the same, as the loop over the lines has it
+-- the same for the loop over the lines
 entry_more : (lines items : List Line) (i : ℕ) (a : Option Address) (line : Line) → items ≡ lines → i < length items → a ≡ address_at lines i → line ≡ get_or items i line
     → listed_entries lines (i + 1) ≡ listed_entries lines i ++ addressed_text a line
 entry_more lines items i a line same within here is =
@@ -143,7 +143,7 @@ printed_more a b c kept mid left lines items i x line same within here is before
     subst (λ t. PassesOn t left a c) (ap (λ t. kept ++ t) (sym (entry_more lines items i x line same within here is)))
     (passed_more a b c kept (listed_entries lines i) mid (addressed_text x line) left before more)
 
--- a beginning of the entries is one of all lines
+-- a beginning of the entries begins all lines
 pub rest_begun : (a b : Option (List ℕ)) (kept : List ℕ) (lines : List Line) → WritesFront (kept ++ listed_entries lines (length lines)) a b
     → BeginsMore (RestListed None lines) kept a b
 rest_begun a b kept lines begun = record {
@@ -163,7 +163,7 @@ entry_begun a b c kept mid lines items i x line same within here is before more 
     (subst (λ t. WritesFront t a c) (ap (λ t. kept ++ t) (sym (entry_more lines items i x line same within here is)))
     (begun_more a b c kept (listed_entries lines i) mid (addressed_text x line) before more)))
 
--- the line of how many entries there are is behind them
+-- the line with the number of entries follows them
 pub total_added : (a b : Option (List ℕ)) (kept mid left : List ℕ) (lines : List Line) → PassesOn (kept ++ listed_entries lines (length lines)) mid a b
     → left ≡ mid ++ total_line lines → AddsLines (RestListed None lines) kept left a b
 total_added a b kept mid left lines before pushed = record {

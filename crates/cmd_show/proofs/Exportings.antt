@@ -1,4 +1,4 @@
--- What `export` prints and answers, from what its parts do.
+-- The lines and the answer of `export`, from those of its parts.
 use Rattle.std.proofs.Common.{◌≡◌, ℕ, zero, suc, ◌+◌, ◌≤◌, ◌<◌, List, [], ◌++◌, length, Option, None, Some, option_map, Err, refl, sym, ap, subst, ◌∙◌, add-one, arith, inl}
 use Rattle.std.specs.Prelude.{Bool, slice_get, if◌then◌else◌, ◌&&◌}
 use Rattle.std.specs.Io.KnownBytes.{Appends}
@@ -18,7 +18,7 @@ use Rattle.cmd_show.specs.Exporting.{IsExported, is_exported, sought_count, soug
 use Rattle.cmd_show.specs.Fetching.{PrintsReading}
 use Rattle.cmd_show.proofs.Pushed.{begun_within}
 
--- the text of a message, where the texts of more are those of fewer and that of one more
+-- the text of a message, if the text of `n + 1` messages is that of `n` and that of the next one
 module _ (texts one : ℕ → List ℕ) (more : (n : ℕ) → texts (n + 1) ≡ texts n ++ one n) where
   pub one_printed : (a b c : Option (List ℕ)) (kept mid left text : List ℕ) (i : ℕ) → text ≡ one i → PassesOn (kept ++ texts i) mid a b → PassesOn (mid ++ text) left b c
       → PassesOn (kept ++ texts (i + 1)) left a c
@@ -45,7 +45,7 @@ module _ (form : Form) (area : Option (List ℕ)) (first : ℕ) (purged : Bool) 
       ap (λ k. k + here) before ∙ ap (λ k. sought_lost form area first purged cursor base n + k) (counted ∙ ap (sought_count form area first purged cursor n) is) ∙ sym step
 
 module _ (form : Form) (area : Option (List ℕ)) (first : ℕ) (purged : Bool) where
-  -- nothing is printed of a message before the first one that is asked for, and nothing counted in it
+  -- a message before the first requested one prints no line and counts no U+FFFD
   not_sought : (cursor i : ℕ) (message : Option Filed) → i < first → sought_text form area first purged cursor i message ≡ []
   not_sought cursor i None before = refl
   not_sought cursor i (Some m) before =
@@ -56,7 +56,7 @@ module _ (form : Form) (area : Option (List ℕ)) (first : ℕ) (purged : Bool) 
   not_counted cursor i (Some m) before =
       ap (λ b. if (b && is_of_area area m.echo.tag) && is_exported purged (state_of cursor i m) then message_lost form i (state_of cursor i m) m else 0) (lt-leb first i before)
 
-  -- nor of all of them
+  -- nor do all of them
   none_sought : (cursor : ℕ) (base : List Filed) (n : ℕ) → n ≤ first → sought_texts form area first purged cursor base n ≡ []
   none_sought cursor base zero before = refl
   none_sought cursor base (suc n) before =
@@ -70,12 +70,12 @@ module _ (form : Form) (area : Option (List ℕ)) (first : ℕ) (purged : Bool) 
       let here : sought_count form area first purged cursor n (slice_get base n) ≡ 0 = not_counted cursor n (slice_get base n) (omega (arith, before)) in
       λ k. rest k + here k
 
-  -- nothing is printed before the first one
+  -- nothing is printed before the first requested message
   pub printed_none : (a : Option (List ℕ)) (kept : List ℕ) (cursor : ℕ) (base : List Filed) (n : ℕ) → n ≤ first → PassesOn (kept ++ sought_texts form area first purged cursor base n) kept a a
   printed_none a kept cursor base n before = subst (λ (l : List ℕ). PassesOn (kept ++ l) kept a a) (sym (none_sought cursor base n before)) (none_added a kept)
 
   module _ (base : Base) where
-    -- what was printed before a message that could not be read
+    -- the printed lines before a message that could not be read
     pub begun_before : (a b : Option (List ℕ)) (kept mid : List ℕ) (i n : ℕ) → i ≤ n
         → PassesOn (kept ++ sought_texts form area first purged base.cursor base.messages i) mid a b → WritesFront (kept ++ sought_texts form area first purged base.cursor base.messages n) a b
     begun_before a b kept mid i n within before =
@@ -83,7 +83,7 @@ module _ (form : Form) (area : Option (List ℕ)) (first : ℕ) (purged : Bool) 
         (λ k. (sought_text form area first purged base.cursor k (slice_get base.messages k), texts_more form area first purged base.cursor base.messages k)) a b kept i n within
         (record { rest = mid; passed = before })
 
-    -- the message of a number, as it was read
+    -- the message with a number, as it was read
     module _ (cursor i : ℕ) (message : Option Filed) (at : cursor ≡ base.cursor) (is : message ≡ slice_get base.messages i) where
       same_text : sought_text form area first purged cursor i message ≡ sought_text form area first purged base.cursor i (slice_get base.messages i)
       same_text = λ k. sought_text form area first purged (at k) i (is k)
@@ -96,7 +96,7 @@ module _ (form : Form) (area : Option (List ℕ)) (first : ℕ) (purged : Bool) 
           one_printed (sought_texts form area first purged base.cursor base.messages) (λ (n : ℕ). sought_text form area first purged base.cursor n (slice_get base.messages n))
           (texts_more form area first purged base.cursor base.messages) a b c kept mid left (sought_text form area first purged cursor i message) i same_text before later
 
-      -- a beginning of it is
+      -- a beginning of it is printed
       pub sought_begun : (a b c : Option (List ℕ)) (kept mid : List ℕ) (n : ℕ) → i + 1 ≤ n → PassesOn (kept ++ sought_texts form area first purged base.cursor base.messages i) mid a b
           → WritesFront (mid ++ sought_text form area first purged cursor i message) b c
           → WritesFront (kept ++ sought_texts form area first purged base.cursor base.messages n) a c
@@ -114,13 +114,13 @@ module _ (form : Form) (area : Option (List ℕ)) (first : ℕ) (purged : Bool) 
   all : List ℕ
   all = sought_texts form (option_map upper area) first purged base.cursor base.messages (length base.messages)
 
-  -- the lines of a base, and how many U+FFFD are in them
+  -- the lines of a base, and the number of U+FFFD in them
   right_export : IsExported form area first purged base all (sought_lost form (option_map upper area) first purged base.cursor base.messages (length base.messages))
   unfolding all
   right_export = record { printed = refl; counted = refl }
 
   module _ (asked : Option (List ℕ)) (none : List ℕ) (same : asked ≡ option_map upper area) (nothing : none ≡ []) where
-    -- what was asked for, behind nothing
+    -- the requested messages, after no other line
     whole : none ++ sought_texts form asked first purged base.cursor base.messages (length base.messages) ≡ all
     unfolding all
     whole = ap (λ l. l ++ sought_texts form asked first purged base.cursor base.messages (length base.messages)) nothing ∙ ap (λ u. sought_texts form u first purged base.cursor base.messages (length base.messages)) same
@@ -140,7 +140,7 @@ module _ (form : Form) (area : Option (List ℕ)) (first : ℕ) (purged : Bool) 
       passed : PassesOn all kept old.contents mid.contents
       passed = subst (λ t. PassesOn t kept old.contents mid.contents) whole printed
 
-      -- all of them went out
+      -- all of them were written
       pub exported : (count : ℕ) → count ≡ sought_lost form asked first purged base.cursor base.messages (length base.messages) → Appends mid.contents new.contents kept → PassesAll mid new
           → IsDone (IsExported form area first purged base) old new count
       exported count counted went flushed = record {
@@ -150,7 +150,7 @@ module _ (form : Form) (area : Option (List ℕ)) (first : ℕ) (purged : Bool) 
         flushed = (flushed.0 ∙ once, flushed.1);
       }
 
-      -- standard output failed at last
+      -- standard output failed at the end
       pub unexported : (path : List ℕ) (before after : ℕ) (fault : Fault) → WritesFront kept mid.contents new.contents → CannotPrint mid.failures new.failures fault
           → PrintsReading (IsExported form area first purged base) path before after old new (Err fault)
       unexported path before after fault begun failed = (

@@ -1,4 +1,4 @@
--- How a command ends that reads messages one by one.
+-- The end of a command that reads messages one by one.
 use Rattle.std.proofs.Common.{◌≡◌, ℕ, ◌≤◌, List, Result, Ok, Err, inl, inr}
 use Rattle.base_folder.specs.Fetching.{CannotRead, IsUnread}
 use Rattle.base_folder.proofs.Fetchings.{never_read, read_since}
@@ -7,12 +7,12 @@ use Rattle.cmd_status.specs.Devices.{Output}
 use Rattle.cmd_status.specs.Ended.{Answers, AnswersInPieces}
 use Rattle.cmd_show.specs.Fetching.{PrintsReading, StopsReading}
 
--- it stops the command, where standard output did not fail
+-- a failed read stops the command, if standard output did not fail
 pub stops_reading : (path : List ℕ) (first before now printed after : ℕ) (fault : Fault) → first ≤ before → after ≡ printed → IsUnread path before now fault → StopsReading path first now printed after fault
 stops_reading path first before now printed after fault less same (inl memory) = inl (inr (memory, same))
 stops_reading path first before now printed after fault less same (inr read) = inr (read_since path first before now fault less read, same)
 
--- what a command answers of messages in memory, of which no read fails
+-- the answer of a command for messages in memory, where no read fails
 module _ {A : Type 0} (P Q : List ℕ → A → Type 0) (refused : Fault → Type 0) (path : List ℕ) (old new : Output) (gives : (lines : List ℕ) (answer : A) → P lines answer → Q lines answer) where
   pub in_pieces : (result : Result A Fault) → PrintsReading P path 0 0 old new result → AnswersInPieces Q refused old new result
   in_pieces (Ok answer) done = record { lines = done.lines; right = gives done.lines answer done.right; written = done.written; flushed = done.flushed }

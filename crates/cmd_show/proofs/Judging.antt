@@ -1,4 +1,4 @@
--- What judging a line says, from what its parts say.
+-- The judgement on a line, from those on its parts.
 use Rattle.std.proofs.Common.{◌≡◌, ℕ, ◌||◌, not, Bool, true, false, cond, List, [], ◌∷◌, length, map, codes, refl, sym, ap, subst, ◌∙◌, Option, Some, None, Result, Ok, Err, inl, inr, nat_lt}
 use Rattle.std.specs.Prelude.{IfOk, bytes_eq, filter, is_err}
 use Rattle.std.specs.Cmp.Lexicographic.{bytes_decides}
@@ -19,7 +19,7 @@ use Rattle.cmd_show.specs.declared.words.Wrong.{Wrong}
 use Rattle.cmd_show.specs.FaultyLines.{link_again, no_address, not_one_address, unknown_word, word_with_control, wrong_word}
 use Rattle.cmd_show.specs.Before.{HasTagAdded, IsBefore, JudgesLine, SaidBefore, Tells, area_refused, area_says, links_say, name_says, system_says}
 
--- ---- what is known of one more good line
+-- ---- the parts after one more good line
 
 module _ (earlier : List (List ℕ)) (line : List ℕ) (old new : SaidBefore) (before : IsBefore earlier old) where
   one_more : (is_system_line line || old.system) ≡ new.system → (is_name_line line || old.name) ≡ new.name
@@ -44,7 +44,7 @@ module _ (earlier : List (List ℕ)) (line : List ℕ) (old new : SaidBefore) (b
             ∙ sym (cond-false (is_area_line line) (bytes_eq t (tag_in line) || list_any (bytes_eq t) old.tags) (list_any (bytes_eq t) old.tags) isnt)
       ]
 
-  -- a line that is none of these, or one of them, adds just that
+  -- a line adds just its own part
   keeps_system : is_system_line line ≡ false → new.system ≡ old.system → (is_system_line line || old.system) ≡ new.system
   keeps_system isnt same = ap (λ t. t || old.system) isnt ∙ sym same
 
@@ -70,7 +70,7 @@ module _ (earlier : List (List ℕ)) (number : ℕ) (line : List ℕ) (b : SaidB
         (keeps_tags earlier line b b before (skipped_word line 65 (codes "REA") refl h) refl),
   )
 
-  -- a line whose first word is of no kind, or that has a control byte
+  -- a line with an unknown first word, or with a control byte
   pub unknown_judged : (word : List ℕ) → line_fault earlier number line ≡ Some (fault.UnknownWord number) → word ≡ unknown_word line
       → (line_fault earlier number line ≡ Some (fault.UnknownWord number)) × (word ≡ wrong_word (fault.UnknownWord number) line) × IsBefore earlier b
   unknown_judged word refused is = (refused, is, before)
@@ -132,7 +132,7 @@ module _ (earlier : List (List ℕ)) (number : ℕ) (line word rest : List ℕ) 
   unfolding line_fault
   of_kind = cond-false (is_skipped line) None _ cut.read ∙ cond-false (list_any is_control_byte line) _ _ cut.plain
 
-  -- a refusal of the line is told as that of its parts
+  -- a line has the refusal of its parts
   as_parts : {Good Bad : Type 0} (refusal : Option LinkFault) (say : LinkFault → List ℕ) (found : Option Wrong) → line_fault earlier number line ≡ refusal
       → ((f : LinkFault) → refusal ≡ Some f → wrong_word f line ≡ say f) → (Good → IsBefore (line ∷ earlier) new) → (Bad → IsBefore earlier new)
       → Tells refusal say Good Bad found → JudgesLine earlier number line new found
@@ -251,7 +251,7 @@ module _ (earlier : List (List ℕ)) (number : ℕ) (line word rest : List ℕ) 
         ∙ sym (cond-true (is_area_line line) (bytes_eq t (tag_in line) || list_any (bytes_eq t) old.tags) (list_any (bytes_eq t) old.tags) (kind_is (codes "AREA") true is))))
         stays told
 
-    -- the same of an answer that memory was there for
+    -- the same for an answer, if memory sufficed
     pub area_judged_so : {E : Type 0} (r : Result (Option Wrong) E)
         → IfOk r (Tells (area_refused old.tags number (tokens rest)) (area_says (tokens rest))
         ((new.system ≡ old.system) × (new.name ≡ old.name) × HasTagAdded old.tags (upper (first_of (tokens rest))) new.tags) (new ≡ old))

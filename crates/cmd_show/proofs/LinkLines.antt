@@ -1,4 +1,4 @@
--- What `links` prints of link files, from what its parts do.
+-- The lines of `links`, from those of its parts.
 use Rattle.std.proofs.Common.{◌≡◌, ℕ, ◌+◌, ◌<◌, List, [], ◌∷◌, ◌++◌, length, map, sum, take, sym, ap, ◌∙◌, arith, Option, Some, inl, inr}
 use Rattle.std.specs.Prelude.{option_map, slice_get, unwrap_or}
 use Rattle.std.specs.List.{sum_by}

@@ -1,4 +1,4 @@
--- What `list` prints and answers, from what its parts do.
+-- The lines and the answer of `list`, from those of its parts.
 use Rattle.std.proofs.Common.{◌≡◌, ℕ, zero, suc, ◌+◌, ◌-◌, ◌≤◌, ◌<◌, List, [], ◌∷◌, ◌++◌, length, Option, None, Some, option_map, Err, refl, sym, ap, subst, ◌∙◌, append-nil, arith, inl}
 use Rattle.std.specs.Prelude.{slice_get, if◌then◌else◌, ◌&&◌}
 use Rattle.std.specs.List.{flat_map, range_with_len}
@@ -29,7 +29,7 @@ messages_more form area first base cursor n =
     ap (flat_map text) (range_more n) ∙ flat_map-append text (range_with_len 0 n) (n ∷ [])
     ∙ ap (λ t. messages_text form area first base cursor n ++ t) (append-nil (text n))
 
--- the same of a message that was looked up, behind what was kept back
+-- the same for a fetched message, after the lines held back
 message_more : (form : ListForm) (area : Option (List ℕ)) (first : ℕ) (base : List Filed) (cursor i : ℕ) (message : Option Filed) (kept : List ℕ) → message ≡ slice_get base i
     → kept ++ (messages_text form area first base cursor i ++ asked_text form area first cursor i message) ≡ kept ++ messages_text form area first base cursor (i + 1)
 message_more form area first base cursor i message kept is =
@@ -53,12 +53,12 @@ message_begun a b c kept mid form area first base cursor i n message is within b
     (subst (λ t. WritesFront t a c) (message_more form area first base cursor i message kept is)
     (begun_more a b c kept (messages_text form area first base cursor i) mid (asked_text form area first cursor i message) before more))
 
--- nothing is printed of a message before the first one that is asked for
+-- a message before the first requested one prints no line
 not_asked : (form : ListForm) (area : Option (List ℕ)) (first cursor i : ℕ) (message : Option Filed) → i < first → asked_text form area first cursor i message ≡ []
 not_asked form area first cursor i None before = refl
 not_asked form area first cursor i (Some m) before = ap (λ b. if b && is_of_area area m.echo.tag then listed_text form cursor i m else []) (lt-leb first i before)
 
--- nor of all of them
+-- nor do all of them
 none_asked : (form : ListForm) (area : Option (List ℕ)) (first : ℕ) (base : List Filed) (cursor n : ℕ) → n ≤ first → messages_text form area first base cursor n ≡ []
 none_asked form area first base cursor zero before = refl
 none_asked form area first base cursor (suc n) before =
@@ -70,7 +70,7 @@ none_asked form area first base cursor (suc n) before =
 pub printed_none : (a : Option (List ℕ)) (kept : List ℕ) (form : ListForm) (area : Option (List ℕ)) (first : ℕ) (base : List Filed) (cursor n : ℕ) → n ≤ first → PassesOn (kept ++ messages_text form area first base cursor n) kept a a
 printed_none a kept form area first base cursor n before = subst (λ (l : List ℕ). PassesOn (kept ++ l) kept a a) (sym (none_asked form area first base cursor n before)) (none_added a kept)
 
--- what was printed before a message that could not be read
+-- the printed lines before a message that could not be read
 pub begun_before : (a b : Option (List ℕ)) (kept mid : List ℕ) (form : ListForm) (area : Option (List ℕ)) (first : ℕ) (base : List Filed) (cursor i n : ℕ) → i ≤ n
     → PassesOn (kept ++ messages_text form area first base cursor i) mid a b → WritesFront (kept ++ messages_text form area first base cursor n) a b
 begun_before a b kept mid form area first base cursor i n within before =
@@ -118,7 +118,7 @@ module _ (form : ListForm) (area asked : Option (List ℕ)) (first : ℕ) (base 
   passed : PassesOn (base_text form (option_map upper area) first base.messages base.cursor) lines old.contents mid.contents
   passed = base_passed form area asked first base.messages base.cursor all all scanned none kept lines old.contents mid.contents same nothing printed counted counted at pushed
 
-  -- all lines of a base went out
+  -- all lines of a base were written
   pub base_listed : Appends mid.contents new.contents lines → PassesAll mid new → IsDone (IsListed form area first base) old new Good
   base_listed went flushed = record {
     lines = base_text form (option_map upper area) first base.messages base.cursor;
@@ -127,7 +127,7 @@ module _ (form : ListForm) (area asked : Option (List ℕ)) (first : ℕ) (base 
     flushed = (flushed.0 ∙ once, flushed.1);
   }
 
-  -- standard output failed at last
+  -- standard output failed at the end
   pub base_unlisted : (path : List ℕ) (before after : ℕ) (fault : Fault) → WritesFront lines mid.contents new.contents → CannotPrint mid.failures new.failures fault
       → PrintsReading (IsListed form area first base) path before after old new (Err fault)
   base_unlisted path before after fault begun failed = (

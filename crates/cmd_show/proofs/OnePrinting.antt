@@ -53,12 +53,12 @@ one_shown full h ms n a b p q =
     ∙ ap (λ t. header_lines h ++ (t ++ end_line (length ms) n)) (all_messages full 1 58 ms p.of_messages q.of_messages p.each q.each)
     ∙ sym q.whole
 
--- an input stands for one list of bytes
+-- an input encodes one list of bytes
 one_standing : (hex : Bool) (input a b : List ℕ) → Stands hex input a → Stands hex input b → a ≡ b
 one_standing false input a b h k = h ∙ sym k
 one_standing true input a b h k = let same : Ok a ≡ Ok b = sym h ∙ k in cc
 
--- what is found in bytes is one
+-- bytes have one packet
 one_found : (bytes : List ℕ) (a b : Found) → Describes show_limits bytes (Ok a) → Describes show_limits bytes (Ok b) → a ≡ b
 one_found bytes a b h k =
     let left : Answer = Ok a in
@@ -66,7 +66,7 @@ one_found bytes a b h k =
     let same : left ≡ right = only_one show_limits bytes left h ∙ sym (only_one show_limits bytes right k) in
     cc
 
--- lines that were appended to known bytes
+-- lines appended to known bytes
 appended : (old lines : List ℕ) (new : Option (List ℕ)) → Appends (Some old) new lines → new ≡ Some (old ++ lines)
 appended old lines None h = absurd h
 appended old lines (Some bytes) h = ap Some h
@@ -88,17 +88,17 @@ one_input full hex input old new other h k =
     let same = one_standing hex input h.0 k.0 h.1 k.1 in
     one_written full k.0 old new other (subst (λ (bytes : List ℕ). WritesLines (AllShown full bytes) (Some old) new) same h.2) k.2
 
--- what is answered of bytes that this is so of
+-- the answer for bytes with this outcome
 abbrev answer_of : Answer → Result Status Fault
 answer_of (Ok found) = Ok Good
 answer_of (Err f) = Err (Packet f)
 
--- what is answered of digits that decode to this
+-- the answer for digits with this decoding
 abbrev answer_of_digits : Result (List ℕ) FromHexError → Result Status Fault
 answer_of_digits (Ok bytes) = answer_of (outcome show_limits bytes)
 answer_of_digits (Err e) = Err BadHex
 
--- what is answered of an input
+-- the answer for an input
 abbrev answer_to : Bool → List ℕ → Result Status Fault
 answer_to false input = answer_of (outcome show_limits input)
 answer_to true input = answer_of_digits (decode_of (hex_text input))
@@ -114,7 +114,7 @@ refused_digits (Err e) refused = refl
 undecoded : (hex : Bool) (input : List ℕ) → hex ≡ true → IsErr (decode_of (hex_text input)) → answer_to hex input ≡ Err BadHex
 undecoded hex input asked refused = ap (λ h. answer_to h input) asked ∙ refused_digits (decode_of (hex_text input)) refused
 
--- a fault of a packet that is of the input is the one of its bytes
+-- a fault that the input causes is that of its bytes
 stopped : (full : Bool) (bytes : List ℕ) (old new : Output) (fault : Fault) → PacketStops full bytes old new fault → (Stops old.failures new.failures fault → ⊥)
     → Err fault ≡ answer_of (outcome show_limits bytes)
 stopped full bytes old new fault (inl failed) own = absurd (own (inl failed.0))
@@ -126,7 +126,7 @@ stopped full bytes old new fault (inr (short, flushed)) own = by short.are
         let wrong : Answer = Err broken.why in
         ap Err broken.is ∙ ap answer_of (only_one show_limits bytes wrong (broken.messages, broken.of_bytes))
 
--- an answer that is of the input is the one to it
+-- an answer that the input causes is the one to it
 answered : (full : Bool) (hex : Bool) (input : List ℕ) (old new : Output) (r : Result Status Fault) → ShowAnswers full hex input old new r
     → IsOfInput old.failures new.failures r → r ≡ answer_to hex input
 answered full hex input old new (Ok status) right own =

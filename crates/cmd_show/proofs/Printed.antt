@@ -1,4 +1,4 @@
--- What was printed of a packet.
+-- The lines printed for a packet.
 use Rattle.std.proofs.Common.{◌≡◌, ℕ, ◌+◌, ◌^◌, ◌<◌, ◌⊎◌, inl, inr, Bool, List, [], ◌∷◌, ◌++◌, Option, Result, Ok, Err, OnOk, OnErr, length, refl, sym, ap, ◌∙◌, subst, arith, append_assoc, append-nil, add-zero}
 use Rattle.std.specs.Prelude.{IfErr}
 use Rattle.std.proofs.lemmas.List.{length-append}
@@ -29,7 +29,7 @@ use Rattle.cmd_show.specs.Showing.{AllShown, FrontShown, MessagePasses, PacketPa
 use Rattle.cmd_print.specs.Shown.{MessageShown, MessagesShown, header_lines, end_line}
 use Rattle.cmd_show.specs.Written.{AddsLines}
 
--- the lines of the header and of the messages that were given are on their way, behind those kept back before, and the next message begins at this place
+-- the lines of the header and of the given messages are on their way; the next message begins at this place
 pub record HasPrinted (full : Bool) (bytes rest : List ℕ) (header : Header) (own : Limits) (given at : ℕ) (next : Stage) (kept behind : List ℕ) (old new : Option (List ℕ)) (count place : ℕ) : Type 0 where
   pub messages : List Message
   pub so_far : HasGiven show_limits bytes messages rest header own given at next
@@ -39,7 +39,7 @@ pub record HasPrinted (full : Bool) (bytes rest : List ℕ) (header : Header) (o
   pub each : MessagesShown full 1 58 messages lines
   pub printed : PassesOn (kept ++ (header_lines header ++ lines)) behind old new
 
--- what is wrong with bytes that do not begin with a header
+-- the fault of bytes that do not begin with a header
 front_fault : (bytes : List ℕ) (f : PacketFault) → FrontFault bytes f → (((at : ℕ) → f ≡ fault.Read at → ⊥)) → FaultOf bytes show_limits [] f
 front_fault bytes (fault.Truncated at) h alive = inl (h.0, refl, h.1)
 front_fault bytes (fault.NotType2 at) h alive = (h.0, refl, h.1, h.2)
@@ -66,7 +66,7 @@ header_printed full bytes rest h own given at next kept behind old place so here
   printed = subst (λ t. PassesOn t behind old old) (added ∙ ap (λ t. kept ++ t) (sym (append-nil (header_lines h)))) (none_passed old behind);
 }
 
--- the lines of a message whose number and place have other names
+-- the lines of a message with equal number and place
 moved : (full : Bool) (k l p q : ℕ) (m : Message) (own : List ℕ) → k ≡ l → p ≡ q → MessageShown full k p m own → MessageShown full l q m own
 moved full k l p q m own number place h = subst (λ n. MessageShown full n q m own) number (subst (λ n. MessageShown full k n m own) place h)
 
@@ -81,7 +81,7 @@ one_more full k p (x ∷ ms) m lines own some h =
     let later = one_more full (k + 1) (p + length (message_bytes x)) ms m some.1 own some.3 (moved full _ _ _ _ m own number place h) in
     (some.0, some.1 ++ own, some.2, later, ap (λ t. t ++ own) some.4 ∙ append_assoc some.0 some.1 own)
 
--- a place in a slice is an exact one
+-- an offset in a slice is exact
 exact_place : (limits : Limits) (bytes : List ℕ) (h : Header) (ms : List Message) (rest : List ℕ) (given at : ℕ) → SoFar limits bytes h ms rest given at → length bytes < 2 ^ 64
     → at ≡ 58 + length (messages_bytes ms)
 exact_place limits bytes h ms rest given at so small =
@@ -136,7 +136,7 @@ end_printed full bytes rest h new_h own given at next kept behind left old new c
       passed = passed_more old new new kept (header_lines h ++ before.lines) behind (end_line count size) left before.printed line;
     }
 
--- the lines of the header and of the messages that were given
+-- the lines of the header and of the given messages
 front_shown : (full : Bool) (bytes rest : List ℕ) (h : Header) (own : Limits) (given at : ℕ) (next : Stage) (kept behind : List ℕ) (old new : Option (List ℕ)) (count place : ℕ)
     → (before : HasPrinted full bytes rest h own given at next kept behind old new count place) → FrontShown full bytes before.messages (header_lines h ++ before.lines)
 front_shown full bytes rest h own given at next kept behind old new count place before =
@@ -151,7 +151,7 @@ front_shown full bytes rest h own given at next kept behind old new count place 
       whole = refl;
     }
 
--- there was no memory for more lines than these
+-- memory ran out for further lines
 pub no_memory : (full : Bool) (bytes rest : List ℕ) (h : Header) (own : Limits) (given at : ℕ) (next : Stage) (kept behind left : List ℕ) (old new : Output) (count place : ℕ) (fault : Fault)
     → HasPrinted full bytes rest h own given at next kept behind old.contents new.contents count place → left ≡ behind → IsOutOfMemory fault → new.failures ≡ old.failures
     → PacketPasses full bytes kept left old new (Err fault)
@@ -165,7 +165,7 @@ no_memory full bytes rest h own given at next kept behind left old new count pla
       unfailed,
     )
 
--- there was no memory for the lines of the header
+-- memory ran out for the lines of the header
 pub no_header : (full : Bool) (bytes kept left : List ℕ) (old : Output) (fault : Fault) → left ≡ kept → IsOutOfMemory fault → PacketPasses full bytes kept left old old (Err fault)
 no_header full bytes kept left old fault same none =
     inr (
@@ -188,7 +188,7 @@ not_printed full bytes rest h own given at next kept behind left old new count p
       },
     )
 
--- the lines of a message that were made were passed on, or could not be
+-- the finished lines of a message were passed on, or could not be
 pub message_passed : {A : Type 0} (full : Bool) (number place : ℕ) (m : Message) (kept made rest line : List ℕ) (old new : Output) (answer : Result A Fault)
     → MessageShown full number place m line → made ≡ kept ++ line → OnOk answer (PassesOn made rest old.contents new.contents)
     → OnErr answer (WritesFront made old.contents new.contents) → OnErr answer (rest ≡ []) → OnOk answer (new.failures ≡ old.failures)
@@ -235,7 +235,7 @@ never_read R remaining source f dropped at is =
     let P : PacketFault → Type 0 = λ x. CountsFailures {A = Header} (Err x) 0 0 in
     Failed-never (subst P is dropped.device)
 
--- what the fault of a call on a slice is
+-- the fault of a call on a slice
 call_judged : (f : PacketFault) (P : Type 0) → P ⊎ IsOfCall f → CountsFailures {A = Option Message} (Err f) 0 0 → P ⊎ (f ≡ fault.Memory)
 call_judged f P (inl wrong) device = inl wrong
 call_judged (fault.Read at) P (inr call) device = absurd (Failed-never device)

@@ -1,4 +1,4 @@
--- What a text says is printed.
+-- The printed parts of a text.
 use Rattle.std.proofs.Common.{◌≡◌, ℕ, Bool, List, ◌++◌, None, refl, sym, ap, subst, ◌∙◌, append_assoc}
 use Rattle.echo_packet.specs.Message.{IsMessage, Message}
 use Rattle.echo_text.specs.Echo.{EchoOf, EchoText, HasNoZero}
@@ -8,7 +8,7 @@ use Rattle.cmd_print.specs.Said.{LinesFor, TextShown, echo_lines}
 use Rattle.cmd_print.specs.Shown.{MessageShown, message_lines, whole_text}
 use Rattle.cmd_print.specs.Pushed.{Pushes}
 
--- the text of a message has no 00
+-- the text of a message has no byte 00
 pub text_has_no_zero : (most : ℕ) (m : Message) (text : List ℕ) → text ≡ m.text → IsMessage most m → HasNoZero text
 text_has_no_zero most m text is fits = subst HasNoZero (sym is) fits.text.no_zero
 
@@ -18,7 +18,7 @@ echo_shown text lines e dropped said whole =
     let shown : LinesFor None text lines = record { echo = e; dropped = dropped; said = said; whole = whole } in
     subst (λ r. LinesFor r text lines) (sym (not_refused text e dropped said)) shown
 
--- the lines of a message and those of what its text says
+-- the lines of a message and those of its text's parts
 pub message_shown : (full : Bool) (number place : ℕ) (m : Message) (text old fields mid new : List ℕ) → text ≡ m.text
     → fields ≡ old ++ message_lines number place m → mid ≡ fields ++ whole_text full text → Pushes (TextShown text) mid new → Pushes (MessageShown full number place m) old new
 message_shown full number place m text old fields mid new is first pieces said =

@@ -1,4 +1,4 @@
--- Faults of the machine: standard output that failed, and growths of memory that were refused.
+-- Faults of the machine: standard output failed, or memory ran out.
 use Rattle.std.proofs.Common.{ℕ, ◌≤◌, Bool, List, sym, inl, inr, Result, Ok, Err, arith, ◌∙◌}
 use Rattle.std.proofs.Math.Nat.{eq-or-lt_of_le}
 use Rattle.disk_io.specs.Device.{Failed}

@@ -1,4 +1,4 @@
--- Sorted keys beside the tags that they are.
+-- Sorted keys and their tags.
 use Rattle.std.proofs.Common.{◌≡◌, ℕ, ◌||◌, Bool, true, false, List, [], ◌∷◌, map, refl, sym, ap, ◌∙◌}
 use Rattle.std.specs.Prelude.{bytes_eq}
 use Rattle.std.specs.declared.cmp.Ordering.{Ordering}
@@ -21,7 +21,7 @@ or_turned false true z = refl
 or_turned false false z = refl
 
 module _ {K : Type 0} (tag_of : K → List ℕ) where
-  -- a tag is found among the keys where it is one of the tags
+  -- a tag is found among the keys exactly if it is one of the tags
   pub any_key : (tag : List ℕ) (keys : List K) → list_any (λ k. is_eq (slice_cmp nat_cmp tag (tag_of k))) keys ≡ list_any (bytes_eq tag) (map tag_of keys)
   any_key tag [] = refl
   any_key tag (k ∷ keys) =

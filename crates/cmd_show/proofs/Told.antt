@@ -18,7 +18,7 @@ use Rattle.cmd_show.specs.Before.{IsBefore, JudgesLine, SaidBefore, line_told}
 
 -- ---- line by line
 
--- so many lines were judged, these faulty ones were found, and these bytes are left
+-- this many lines were judged, these faulty ones were found, and these bytes are left
 pub record LinesTold (bytes : List ℕ) (number : ℕ) (rest : List ℕ) (b : SaidBefore) (found : List FaultyLine) : Type 0 where
   pub earlier : List (List ℕ)
   pub before : IsBefore earlier b
@@ -36,7 +36,7 @@ none_told bytes b found begun none = record {
   told = ap (λ f. f ++ faulty_among [] 1 (file_lines bytes)) (sym none);
 }
 
--- what is told of a line and of those behind it
+-- the faulty lines among a line and those after it
 line_first : (earlier : List (List ℕ)) (number : ℕ) (line : List ℕ) (later : List (List ℕ)) (new : SaidBefore) (wrong : Option Wrong) → JudgesLine earlier number line new wrong
     → (good : List (List ℕ)) × IsBefore good new × (faulty_among earlier number (line ∷ later) ≡ line_told wrong ++ faulty_among good (number + 1) later)
 line_first earlier number line later new None judged = (
@@ -86,7 +86,7 @@ first_of_lines earlier number (line ∷ later) why h = by (first_of_lines (line 
         ap (λ f. option_map (λ (l : FaultyLine). l.fault) (slice_get (told_with f line (faulty_among (good_with f line earlier) (number + 1) later)) 0)) is
         ∙ sym (ap (λ f. option_or f (first_fault (line ∷ earlier) (number + 1) later)) is) ∙ h
 
--- a fault of a file that is not that it has no system is that of a line
+-- a fault of a file, except a missing system, is that of a line
 of_lines : (first : Option LinkFault) (has : Bool) (why : LinkFault) → ((n : ℕ) → why ≡ fault.NoSystem n → ⊥)
     → option_or first (cond has None (Some (fault.NoSystem 0))) ≡ Some why → first ≡ Some why
 of_lines (Some f) has why other h = h
@@ -113,12 +113,12 @@ module _ (bytes : List ℕ) where
   unfolding faults_of
   first_told = by_fault (file_fault bytes) refl
 
-  -- what is told of a file with this fault is all that is wrong with it
+  -- the reported lines of a file with this fault are all its faults
   pub told_with_fault : (why : LinkFault) (told : List FaultyLine) → file_fault bytes ≡ Some why → told ≡ reported_lines bytes (Some why) → told ≡ faults_of bytes
   unfolding faults_of
   told_with_fault why told is so = so ∙ ap (reported_lines bytes) (sym is)
 
--- a file was judged, where it was not for want of memory that it was not read
+-- a file was judged, unless memory ran out in its reading
 pub judged_faulty : (bytes : List ℕ) (why : LinkFault) (told : List FaultyLine) (read : Result LinkFile LinkFault) → read ≡ Err why
     → (read ≡ Err fault.Memory) ⊎ LinksOf bytes read → is_memory why ≡ false → told ≡ reported_lines bytes (Some why) → IsJudged bytes (Faulty told)
 judged_faulty bytes why told read is judged other so = by read is judged

@@ -1,4 +1,4 @@
--- The word that is wrong in a line, found by going over its words.
+-- The wrong word in a line, found word by word.
 use Rattle.std.proofs.Common.{◌≡◌, ℕ, ◌||◌, Bool, true, false, cond, List, [], ◌∷◌, map, refl, sym, ap, ◌∙◌, Some, None}
 use Rattle.std.specs.Prelude.{is_err}
 use Rattle.std.specs.List.{list_any}
@@ -15,11 +15,11 @@ use Rattle.echo_links.proofs.Found.{link_found}
 use Rattle.echo_links.proofs.LinkLoops.{any_last}
 use Rattle.cmd_show.specs.FaultyLines.{link_again, no_address}
 
--- ---- behind SYSTEM
+-- ---- after SYSTEM
 
 -- ---- links
 
--- these links were gone over, none of them wrong, and these words are left
+-- links passed so far without a fault, and the words left
 pub record LinksSeen (number : ℕ) (all later : List (List ℕ)) (sorted : List Address) : Type 0 where
   pub before : List (List ℕ)
   pub faults : links_fault number [] all ≡ links_fault number before later
@@ -38,7 +38,7 @@ links_unseen number all sorted none = record {
 
 module _ (number : ℕ) (all : List (List ℕ)) (word : List ℕ) (more later : List (List ℕ)) (sorted : List Address)
     (seen : LinksSeen number all later sorted) (next : later ≡ word ∷ more) where
-  -- whether the word's address is a link already, by the sorted ones
+  -- whether the word's address is already a link, by the sorted ones
   stands : Bool
   stands = list_any (same_address (address_in word)) (map address_in seen.before)
 
@@ -74,7 +74,7 @@ module _ (number : ℕ) (all : List (List ℕ)) (word : List ℕ) (more later : 
     sym (seen.bad ∙ ap no_address next ∙ cond-true (is_err (outcome word)) word (no_address more) is.1),
   )
 
-  -- an address that is a link already
+  -- an address that is already a link
   pub link_repeated : (a : Address) → IsWordOf word (Some a) → list_any (λ k. is_eq (address_order a k)) sorted ≡ true
       → (links_fault number [] all ≡ Some (fault.RepeatedLink number)) × (word ≡ link_again [] all)
   unfolding stands

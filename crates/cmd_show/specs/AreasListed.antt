@@ -1,4 +1,4 @@
--- What `list --areas` prints and answers.
+-- The lines and the answer of `list --areas`.
 use Rattle.std.specs.Prelude.{◌≡◌, ◌≤◌, ℕ, ◌+◌, ◌-◌, ◌&&◌, Bool, List, ◌++◌, length, take, drop, codes, decimal, bytes_eq, count_by, is_some, Option, Some, unwrap_or, Result}
 use Rattle.std.specs.Ordering.{is_eq, nat_cmp}
 use Rattle.std.specs.Cmp.Lexicographic.{slice_cmp}
@@ -22,11 +22,11 @@ use Rattle.cmd_status.specs.Inputs.{IsBaseFault, IsBaseGiven}
 abbrev pub is_in : List ℕ → Filed → Bool
 is_in tag m = bytes_eq tag m.echo.tag
 
--- Whether it is, and nothing is left of its text but its id.
+-- Whether a message belongs to the area, and only the id of its text is left.
 abbrev pub is_purged_in : List ℕ → Filed → Bool
 is_purged_in tag m = is_in tag m && is_purged m
 
--- How many messages of an area a base has, how many of them wait for a scan, and how many were scanned and purged.
+-- The numbers of an area's messages in a base: all, those that wait for a scan, and those scanned and purged.
 abbrev pub area_counts : List Filed → ℕ → List ℕ → AreaCounts
 area_counts base cursor tag = record {
   messages = count_by (is_in tag) base;
@@ -40,7 +40,7 @@ area_line tag c =
     codes "area " ++ (tag ++ (codes " messages " ++ (decimal c.messages
     ++ (codes " waiting " ++ (decimal c.waiting ++ (codes " purged " ++ (decimal c.purged ++ codes "\n")))))))
 
--- Just the tags that messages have, ascending by the first byte that differs, each once.
+-- Exactly the tags of these messages, ascending by the first byte that differs, each once.
 pub record AreTagsOf (base : List Filed) (tags : List (List ℕ)) : Type 0 where
   pub ascending : IsStrictlySortedBy (slice_cmp nat_cmp) tags
   pub members : (tag : List ℕ) → list_any (bytes_eq tag) tags ≡ list_any (is_in tag) base
@@ -90,7 +90,7 @@ module _ {K : Type 0} (bytes : K → List ℕ) where
   abbrev pub counts_of : List (K × AreaCounts) → List ℕ → AreaCounts
   counts_of entries tag = unwrap_or (found_counts entries tag) no_counts
 
-  -- The map has the counts of just the areas of these messages.
+  -- The map has the counts of exactly the areas of these messages.
   pub record HaveCounts (entries : List (K × AreaCounts)) (base : List Filed) (cursor : ℕ) : Type 0 where
     pub counts : (tag : List ℕ) → counts_of entries tag ≡ area_counts base cursor tag
     pub there : (tag : List ℕ) → is_some (found_counts entries tag) ≡ list_any (is_in tag) base

@@ -10,7 +10,7 @@ use Rattle.cmd_show.specs.declared.faulty.FaultyLine.{FaultyLine}
 use Rattle.cmd_show.specs.declared.words.Wrong.{Wrong}
 use Rattle.cmd_show.specs.FaultyLines.{link_again, no_address, not_one_address, wrong_word}
 
--- Whether a line before has the own address, and one the name, and the tags of areas.
+-- The parts of earlier lines: whether one has the system's address, whether one has the name, and the tags of areas.
 pub record SaidBefore : Type 0 where
   pub system : Bool
   pub name : Bool
@@ -22,40 +22,40 @@ pub record IsBefore (earlier : List (List ℕ)) (b : SaidBefore) : Type 0 where
   pub name : list_any is_name_line earlier ≡ b.name
   pub tags : (tag : List ℕ) → list_any (bytes_eq tag) (map tag_in (filter is_area_line earlier)) ≡ list_any (bytes_eq tag) b.tags
 
--- A tag was added to these.
+-- The tag joins these tags.
 abbrev pub HasTagAdded : List (List ℕ) → List ℕ → List (List ℕ) → Type 0
 HasTagAdded old tag new = (t : List ℕ) → list_any (bytes_eq t) new ≡ (bytes_eq t tag || list_any (bytes_eq t) old)
 
--- The refusal of an AREA line by its words after the first, after these tags.
+-- The refusal of an AREA line by the words after its first, given these tags.
 abbrev pub area_refused : List (List ℕ) → ℕ → List (List ℕ) → Option LinkFault
 area_refused tags number words =
     if not (is_tag (upper (first_of words))) then Some (fault.BadTag number)
     else if list_any (bytes_eq (upper (first_of words))) tags then Some (fault.RepeatedArea number)
     else links_fault number [] (after_first_of words)
 
--- The faulty word in a SYSTEM line with this first word and these after it.
+-- The faulty word in a SYSTEM line with this first word and these later words.
 abbrev pub system_says : List ℕ → List (List ℕ) → LinkFault → List ℕ
 system_says word more (fault.BadAddress number) = not_one_address more
 system_says word more _ = word
 
--- In a NAME line with this first word and this name.
+-- The faulty word in a NAME line with this first word and this name.
 abbrev pub name_says : List ℕ → List ℕ → LinkFault → List ℕ
 name_says word name (fault.NameTooLong number) = name
 name_says word name _ = word
 
--- Among these links.
+-- The faulty word among these links.
 abbrev pub links_say : List (List ℕ) → LinkFault → List ℕ
 links_say words (fault.BadAddress number) = no_address words
 links_say words (fault.RepeatedLink number) = link_again [] words
 links_say words _ = []
 
--- The same in an AREA line with these words after the first.
+-- The faulty word in an AREA line with these words after the first.
 abbrev pub area_says : List (List ℕ) → LinkFault → List ℕ
 area_says words (fault.BadAddress number) = no_address (after_first_of words)
 area_says words (fault.RepeatedLink number) = link_again [] (after_first_of words)
 area_says words _ = first_of words
 
--- A refusal gives a fault with this word; without a refusal this holds.
+-- A refusal gives a fault with this word; without a refusal `Good` holds.
 abbrev pub Tells : Option LinkFault → (LinkFault → List ℕ) → Type 0 → Type 0 → Option Wrong → Type 0
 Tells refusal say Good Bad found =
     MatchOption found ((refusal ≡ None) × Good) (λ wrong. (refusal ≡ Some wrong.fault) × (wrong.word.now ≡ say wrong.fault) × Bad)
@@ -65,7 +65,7 @@ abbrev pub JudgesLine : List (List ℕ) → ℕ → List ℕ → SaidBefore → 
 JudgesLine earlier number line new found =
     Tells (line_fault earlier number line) (λ fault. wrong_word fault line) (IsBefore (line ∷ earlier) new) (IsBefore earlier new) found
 
--- The faulty line that was found, where one was.
+-- The faulty line that was found, if any.
 abbrev pub line_told : Option Wrong → List FaultyLine
 line_told None = []
 line_told (Some wrong) = record { fault = wrong.fault; word = wrong.word.now } ∷ []

@@ -1,4 +1,4 @@
--- What `export` prints of the messages of a base, and what it answers.
+-- The lines of `export` for the messages of a base, and its answer.
 use Rattle.std.specs.Prelude.{◌≡◌, ℕ, zero, suc, ◌+◌, ◌==◌, ◌&&◌, nat_le, Bool, true, false, List, [], ◌++◌, length, codes, decimal, if◌then◌else◌, slice_get, Option, Some, None, option_map, Result}
 use Rattle.echo_export.specs.declared.json_line.State.{State}
 use Rattle.echo_export.specs.declared.json_line.State.TheVariants.{Purged, Scanned, Waiting}
@@ -23,13 +23,13 @@ state_by false false = Scanned
 abbrev pub state_of : ℕ → ℕ → Filed → State
 state_of cursor i m = state_by (nat_le cursor i) (is_purged m)
 
--- Whether messages of this state are exported: purged ones only where they are asked for.
+-- Whether messages in this state are exported: purged ones only if they are requested.
 abbrev pub is_exported : Bool → State → Bool
 is_exported purged Scanned = true
 is_exported purged Waiting = true
 is_exported purged Purged = purged
 
--- Whether the message of this number is asked for.
+-- Whether the message with this number is requested.
 abbrev pub is_sought : Option (List ℕ) → ℕ → Bool → ℕ → ℕ → Filed → Bool
 is_sought area first purged cursor i m = is_asked area first i m && is_exported purged (state_of cursor i m)
 
@@ -39,41 +39,41 @@ sought_text form area first purged cursor i None = []
 sought_text form area first purged cursor i (Some m) =
     if is_sought area first purged cursor i m then message_text form i (state_of cursor i m) m else []
 
--- How many U+FFFD are counted in it.
+-- The number of U+FFFD in this text.
 abbrev pub sought_count : Form → Option (List ℕ) → ℕ → Bool → ℕ → ℕ → Option Filed → ℕ
 sought_count form area first purged cursor i None = 0
 sought_count form area first purged cursor i (Some m) =
     if is_sought area first purged cursor i m then message_lost form i (state_of cursor i m) m else 0
 
--- The printed text of the first so many messages.
+-- The printed text of the first `n` messages.
 abbrev pub sought_texts : Form → Option (List ℕ) → ℕ → Bool → ℕ → List Filed → ℕ → List ℕ
 sought_texts form area first purged cursor base zero = []
 sought_texts form area first purged cursor base (suc n) =
     sought_texts form area first purged cursor base n ++ sought_text form area first purged cursor n (slice_get base n)
 
--- How many U+FFFD are counted, message by message.
+-- The number of U+FFFD, message by message.
 abbrev pub sought_lost : Form → Option (List ℕ) → ℕ → Bool → ℕ → List Filed → ℕ → ℕ
 sought_lost form area first purged cursor base zero = 0
 sought_lost form area first purged cursor base (suc n) =
     sought_lost form area first purged cursor base n + sought_count form area first purged cursor n (slice_get base n)
 
--- These are the messages of a base in this form, and so many U+FFFD were counted in them. The area is asked for in letters
--- of either case.
+-- These are the messages of a base in this form, with this number of U+FFFD. The requested area may have letters of
+-- either case.
 pub record IsExported (form : Form) (area : Option (List ℕ)) (first : ℕ) (purged : Bool) (base : Base) (lines : List ℕ) (count : ℕ) : Type 0 where
   pub printed : lines ≡ sought_texts form (option_map upper area) first purged base.cursor base.messages (length base.messages)
   pub counted : count ≡ sought_lost form (option_map upper area) first purged base.cursor base.messages (length base.messages)
 
--- The base file has no fault, and this is what is printed of its base.
+-- The base file has no fault, and these are the lines printed for its base.
 pub record IsBaseExported (form : Form) (area : Option (List ℕ)) (first : ℕ) (purged : Bool) (file : List ℕ) (lines : List ℕ) (count : ℕ) : Type 0 where
   pub base : Base
   pub given : IsBaseGiven (Some file) base.messages base.cursor
   pub exported : IsExported form area first purged base lines count
 
--- the right result if a base file is to be exported
+-- The right result if a base file is to be exported.
 abbrev pub ExportAnswers : Form → Option (List ℕ) → ℕ → Bool → List ℕ → Output → Output → Result ℕ Fault → Type 0
 ExportAnswers form area first purged file old new answer =
     AnswersInPieces (IsBaseExported form area first purged file) (IsBaseFault (Some file)) old new answer
 
--- the line on standard error that reports how many U+FFFD were printed
+-- The line on standard error with the number of U+FFFD that were printed.
 abbrev pub lost_line : ℕ → List ℕ
 lost_line count = if count == 0 then [] else codes "echonet: " ++ (decimal count ++ codes " characters replaced by U+FFFD\n")

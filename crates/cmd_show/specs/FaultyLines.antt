@@ -18,27 +18,27 @@ word_with_control (word ∷ more) = if list_any is_control_byte word then word e
 abbrev pub unknown_word : List ℕ → List ℕ
 unknown_word line = if list_any is_control_byte line then word_with_control (tokens line) else first_of (words line)
 
--- Of the words after SYSTEM: the first if it is no address, else the second; nothing where there is no such word.
+-- Of the words after SYSTEM: the first if it is no address, else the second; no bytes if there is no such word.
 abbrev pub not_one_address : List (List ℕ) → List ℕ
 not_one_address [] = []
 not_one_address (word ∷ more) = if is_err (outcome word) then word else first_of more
 
--- The first that is no address.
+-- The first word that is no address.
 abbrev pub no_address : List (List ℕ) → List ℕ
 no_address [] = []
 no_address (word ∷ more) = if is_err (outcome word) then word else no_address more
 
--- The first address that repeats one of those before it.
+-- The first address that repeats an earlier one.
 abbrev pub link_again : List (List ℕ) → List (List ℕ) → List ℕ
 link_again before [] = []
 link_again before (word ∷ more) =
     if list_any (same_address (address_in word)) (map address_in before) then word else link_again (word ∷ before) more
 
--- The address that is wrong in a line.
+-- The wrong address in a line.
 abbrev pub wrong_address : List ℕ → List ℕ
 wrong_address line = if is_system_line line then not_one_address (after_first_of (words line)) else no_address (links_in line)
 
--- The word that is wrong in a line with this fault.
+-- The wrong word in a line with this fault.
 abbrev pub wrong_word : LinkFault → List ℕ → List ℕ
 wrong_word (fault.UnknownWord number) line = unknown_word line
 wrong_word (fault.BadAddress number) line = wrong_address line
@@ -54,18 +54,18 @@ wrong_word fault.Memory line = []
 abbrev pub faulty_line : LinkFault → List ℕ → FaultyLine
 faulty_line fault line = record { fault = fault; word = wrong_word fault line }
 
--- The good lines before the next one, where this line is faulty or good.
+-- The good lines before the next line, by whether this line is faulty or good.
 abbrev pub good_with : Option LinkFault → List ℕ → List (List ℕ) → List (List ℕ)
 good_with None line earlier = line ∷ earlier
 good_with (Some fault) line earlier = earlier
 
--- A faulty line, and those after it; or those alone.
+-- A faulty line and the later ones, or just the later ones.
 abbrev pub told_with : Option LinkFault → List ℕ → List FaultyLine → List FaultyLine
 told_with None line later = later
 told_with (Some fault) line later = faulty_line fault line ∷ later
 
--- The faulty lines among these. The first has this number, and comes after these good lines. A line is judged by the
--- good lines before it.
+-- The faulty lines among these. The first has this number, and comes after these good lines. A line is judged by the good
+-- lines before it.
 abbrev pub faulty_among : List (List ℕ) → ℕ → List (List ℕ) → List FaultyLine
 faulty_among earlier number [] = []
 faulty_among earlier number (line ∷ later) =
@@ -75,16 +75,16 @@ faulty_among earlier number (line ∷ later) =
 unfoldable pub faulty_lines : List ℕ → List FaultyLine
 faulty_lines bytes = faulty_among [] 1 (file_lines bytes)
 
--- Whether it is all that is wrong that no line has the own address.
+-- Whether the only fault of the file is that no line has the system's address.
 abbrev pub is_homeless : LinkFault → Bool
 is_homeless (fault.NoSystem number) = true
 is_homeless _ = false
 
--- The reported lines of a file with this fault: only that no line has the own address, or each faulty line.
+-- The reported lines of a file with this fault: each faulty line, or only that no line has the system's address.
 abbrev pub reported_lines : List ℕ → Option LinkFault → List FaultyLine
 reported_lines bytes None = []
 reported_lines bytes (Some why) = if is_homeless why then record { fault = why; word = [] } ∷ [] else faulty_lines bytes
 
--- All that is wrong with a link file.
+-- All faults of a link file.
 unfoldable pub faults_of : List ℕ → List FaultyLine
 faults_of bytes = reported_lines bytes (file_fault bytes)

@@ -7,12 +7,12 @@ use Rattle.cmd_show.specs.declared.judged.Judged.{Judged}
 use Rattle.cmd_show.specs.declared.judged.Judged.TheVariants.{Good, Faulty}
 use Rattle.cmd_show.specs.FaultyLines.{faults_of}
 
--- Whether there was no memory, which is no fault of the bytes.
+-- Whether memory ran out, which is no fault of the bytes.
 abbrev pub is_memory : LinkFault → Bool
 is_memory fault.Memory = true
 is_memory _ = false
 
--- The bytes are a link file that says this, or have a fault, and this is all that is wrong with them.
+-- The bytes are a link file with these parts, or have a fault, and these are all their faults.
 abbrev pub IsJudged : List ℕ → Judged → Type 0
 IsJudged bytes (Good file) = LinksOf bytes (Ok file)
 IsJudged bytes (Faulty faults) = (why : LinkFault) × LinksOf bytes (Err why) × (faults ≡ faults_of bytes)

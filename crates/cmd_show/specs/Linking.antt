@@ -1,4 +1,4 @@
--- What `links` answers.
+-- The answer of `links`.
 use Rattle.std.specs.Prelude.{◌≡◌, Bool, List, is_none, if◌then◌else◌, Result}
 use Rattle.std.specs.List.{list_all}
 use Rattle.echo_links.specs.LinkLines.{file_fault}
@@ -10,15 +10,15 @@ use Rattle.cmd_status.specs.Ended.{Answers}
 use Rattle.cmd_show.specs.declared.linking.NamedFile.{NamedFile}
 use Rattle.cmd_show.specs.LinksShown.{files_text}
 
--- whether a link file has no fault
+-- Whether a link file has no fault.
 abbrev pub is_good_file : NamedFile → Bool
 is_good_file file = is_none (file_fault file.bytes)
 
--- 2 where a file has a fault
+-- 2 if a file has a fault.
 abbrev pub links_status : Bool → Status
 links_status good = if good then Good else Refused
 
--- the right result if link files are judged one by one; no file is refused for another, and no file stops the run
+-- The right result of judging link files one by one: no file is refused for another, and no file stops the run.
 abbrev pub LinksAnswers : Bool → List NamedFile → Output → Output → Result Status Fault → Type 0
 LinksAnswers areas files old new answer =
     Answers (λ lines status. (lines ≡ files_text areas files) × (status ≡ links_status (list_all is_good_file files))) (λ fault. ⊥) old new answer

@@ -1,4 +1,4 @@
--- What `links` prints of link files.
+-- The lines of `links` for link files.
 use Rattle.std.specs.Prelude.{ℕ, Bool, List, [], ◌++◌, codes, decimal, length, map, sum, if◌then◌else◌, Option, Some, None}
 use Rattle.std.specs.List.{flat_map}
 use Rattle.echo_addr.specs.Address.{address_text}
@@ -12,26 +12,26 @@ use Rattle.cmd_show.specs.declared.faulty.FaultyLine.{FaultyLine}
 use Rattle.cmd_show.specs.FaultyLines.{faults_of}
 use Rattle.cmd_show.specs.declared.linking.NamedFile.{NamedFile}
 
--- How many links an area has.
+-- The number of links of an area.
 abbrev pub area_links : LinkFile → Area → ℕ
 area_links file area = length (links_of file area.tag)
 
--- How many links its areas have together.
+-- The number of links of all areas together.
 abbrev pub all_links : LinkFile → ℕ
 all_links file = sum (map (area_links file) file.areas)
 
--- The line of a file with this path, which is printed as a word is, with how many areas and links it has.
+-- The line of a file: its path, printed as a word, and its numbers of areas and links.
 abbrev pub good_line : List ℕ → LinkFile → List ℕ
 good_line path file =
     printed_word path
     ++ (codes ": " ++ (address_text file.system ++ (codes " " ++ (decimal (length file.areas) ++ (codes " areas " ++ (decimal (all_links file) ++ codes " links\n"))))))
 
--- The line of an area of it.
+-- The line of an area of the file.
 abbrev pub area_line : List ℕ → LinkFile → Area → List ℕ
 area_line path file area =
     printed_word path ++ (codes ": area " ++ (area.tag ++ (codes " " ++ (decimal (area_links file area) ++ codes " links\n"))))
 
--- The lines of all areas, where they are asked for.
+-- The lines of all areas, if they are requested.
 abbrev pub areas_text : Bool → List ℕ → LinkFile → List ℕ
 areas_text areas path file = if areas then flat_map (area_line path file) file.areas else []
 
@@ -47,7 +47,7 @@ fault_code (fault.BadTag number) = codes "L7 BadTag"
 fault_code (fault.NameTooLong number) = codes "L8 NameTooLong"
 fault_code fault.Memory = codes "L9 Memory"
 
--- The number of its line.
+-- The number of the faulty line.
 abbrev pub fault_number : LinkFault → ℕ
 fault_number (fault.UnknownWord number) = number
 fault_number (fault.BadAddress number) = number
@@ -63,7 +63,7 @@ fault_number fault.Memory = 0
 abbrev pub in_quotes : List ℕ → List ℕ
 in_quotes word = codes "'" ++ (word ++ codes "'")
 
--- The line of a faulty line: path, number, code and name, and the word that is wrong in it, escaped.
+-- The line of a faulty line: path, number, code and name, and the wrong word, escaped.
 abbrev pub faulty_text : List ℕ → FaultyLine → List ℕ
 faulty_text path line =
     printed_word path ++ (codes ":" ++ (decimal (fault_number line.fault) ++ (codes ": " ++ escaped_line (fault_code line.fault) (in_quotes line.word))))

@@ -1,4 +1,4 @@
--- What `list` answers.
+-- The answer of `list`.
 use Rattle.std.specs.Prelude.{◌≡◌, ℕ, List, Option, Some, option_map, Result}
 use Rattle.cmd_status.specs.Devices.{Output}
 use Rattle.echo_links.specs.Links.{upper}
@@ -11,7 +11,7 @@ use Rattle.cmd_status.specs.Inputs.{IsBaseFault, IsBaseGiven}
 use Rattle.cmd_print.specs.declared.list_form.ListForm.{ListForm}
 use Rattle.cmd_print.specs.BaseListed.{base_text}
 
--- These are the lines of a base in a form. The area is asked for in letters of either case.
+-- These are the lines of a base in a form. The requested area may have letters of either case.
 pub record IsListed (form : ListForm) (area : Option (List ℕ)) (first : ℕ) (base : Base) (lines : List ℕ) (status : Status) : Type 0 where
   pub printed : lines ≡ base_text form (option_map upper area) first base.messages base.cursor
   pub status_is : status ≡ Good
@@ -22,6 +22,6 @@ pub record IsBaseListed (form : ListForm) (area : Option (List ℕ)) (first : �
   pub given : IsBaseGiven (Some file) base.messages base.cursor
   pub listed : IsListed form area first base lines status
 
--- the right result if a base file is to be listed
+-- The right result if a base file is to be listed.
 abbrev pub ListAnswers : ListForm → Option (List ℕ) → ℕ → List ℕ → Output → Output → Result Status Fault → Type 0
 ListAnswers form area first file old new answer = AnswersInPieces (IsBaseListed form area first file) (IsBaseFault (Some file)) old new answer

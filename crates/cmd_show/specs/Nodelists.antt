@@ -1,4 +1,4 @@
--- What `nodelist` answers.
+-- The answer of `nodelist`.
 use Rattle.std.specs.Prelude.{◌≡◌, ℕ, List, Option, Result}
 use Rattle.echo_addr.specs.declared.address.Address.{Address}
 use Rattle.cmd_status.specs.Devices.{Output}
@@ -15,7 +15,7 @@ use Rattle.cmd_status.specs.declared.status.Status.TheVariants.{Good, Differs}
 use Rattle.cmd_status.specs.Ended.{AnswersInPieces}
 use Rattle.cmd_print.specs.Listed.{Listed}
 
--- 1 where another checksum is stated than the computed one.
+-- 1 if the stated checksum differs from the computed one.
 abbrev pub crc_status : CrcLine → Status
 crc_status (Mismatch stated computed) = Differs
 crc_status _ = Good

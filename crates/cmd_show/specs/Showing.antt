@@ -41,11 +41,11 @@ pub record AllShown (full : Bool) (bytes lines : List ℕ) : Type 0 where
   pub packet : PacketOf show_limits header messages (take size bytes)
   pub shown : Shown full header messages size lines
 
--- The packet at the front of these bytes is printed, and nothing else.
+-- Just the packet at the front of these bytes is printed.
 abbrev pub IsShown : Bool → Bool → List ℕ → Option (List ℕ) → Option (List ℕ) → Type 0
 IsShown full hex input old new = (bytes : List ℕ) × Stands hex input bytes × WritesLines (AllShown full bytes) old new
 
--- The lines of the header at the front of the bytes, and of these messages behind it.
+-- The lines of the header at the front of the bytes, and of the messages after it.
 pub record FrontShown (full : Bool) (bytes : List ℕ) (messages : List Message) (lines : List ℕ) : Type 0 where
   pub header : Header
   pub rest : List ℕ
@@ -56,7 +56,7 @@ pub record FrontShown (full : Bool) (bytes : List ℕ) (messages : List Message)
   pub each : MessagesShown full 1 58 messages of_messages
   pub whole : lines ≡ header_lines header ++ of_messages
 
--- The first lines for the bytes: none, or those of the header and of the first messages behind it.
+-- The first lines for the bytes: none, or those of the header and of the first messages after it.
 abbrev pub FirstShown : Bool → List ℕ → List ℕ → Type 0
 FirstShown full bytes lines = (lines ≡ []) ⊎ ((messages : List Message) × FrontShown full bytes messages lines)
 
@@ -76,11 +76,11 @@ pub record IsBroken (full : Bool) (bytes lines : List ℕ) (fault : Fault) : Typ
   pub of_bytes : FaultOf bytes show_limits messages why
   pub shown : ShownBefore full bytes why messages lines
 
--- The lines before a fault of the bytes, or the first lines where there was no memory for more.
+-- The lines before a fault of the bytes, or the first lines if memory ran out.
 abbrev pub IsCutShort : Bool → List ℕ → List ℕ → Fault → Type 0
 IsCutShort full bytes lines fault = (IsOutOfMemory fault × FirstShown full bytes lines) ⊎ IsBroken full bytes lines fault
 
--- The lines of a packet are on their way: `kept` are those kept back before, and `rest` after; where standard output failed none are.
+-- The lines of a packet are on their way. `kept` were held back before, and `rest` after; none if standard output failed.
 abbrev pub PacketPasses : Bool → List ℕ → List ℕ → List ℕ → Output → Output → Result Status Fault → Type 0
 PacketPasses full bytes kept rest old new (Ok status) =
     (status ≡ Good) × AddsLines (AllShown full bytes) kept rest old.contents new.contents × (new.failures ≡ old.failures)
@@ -88,7 +88,7 @@ PacketPasses full bytes kept rest old new (Err fault) =
     (CannotPrint old.failures new.failures fault × (rest ≡ []) × BeginsMore (SomeShown full bytes) kept old.contents new.contents)
     ⊎ (AddsLines (λ lines. IsCutShort full bytes lines fault) kept rest old.contents new.contents × (new.failures ≡ old.failures))
 
--- The lines of a message are on their way: `kept` are those kept back before, and `rest` after. Out of memory none are added, and where standard output failed none are kept.
+-- The lines of a message are on their way. `kept` were held back before, and `rest` after (none if output failed).
 abbrev pub MessagePasses : {A : Type 0} → Bool → ℕ → ℕ → Message → List ℕ → List ℕ → Output → Output → Result A Fault → Type 0
 MessagePasses full number place m kept rest old new (Ok done) =
     AddsLines (MessageShown full number place m) kept rest old.contents new.contents × (new.failures ≡ old.failures)

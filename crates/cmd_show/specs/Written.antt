@@ -15,13 +15,13 @@ pub record BeginsLines (AreLines : List ℕ → Type 0) (old new : Option (List 
   pub are : AreLines lines
   pub begun : WritesFront lines old new
 
--- Lines of this kind were added to those kept back; the first bytes of all these were written, and the rest is held back.
+-- Lines of this kind join those held back. The first bytes of all these are written, and the rest is held back.
 pub record AddsLines (AreLines : List ℕ → Type 0) (kept rest : List ℕ) (old new : Option (List ℕ)) : Type 0 where
   pub lines : List ℕ
   pub are : AreLines lines
   pub passed : PassesOn (kept ++ lines) rest old new
 
--- A beginning was written of the lines kept back and lines of this kind behind them.
+-- A beginning of the lines held back and of lines of this kind after them was written.
 pub record BeginsMore (AreLines : List ℕ → Type 0) (kept : List ℕ) (old new : Option (List ℕ)) : Type 0 where
   pub lines : List ℕ
   pub are : AreLines lines

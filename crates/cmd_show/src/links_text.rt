@@ -1,5 +1,5 @@
 //! The lines of a link file by itself.
-ghost use Rattle.std.specs.Prelude.{◌≡◌, ◌<◌, ◌^◌, ◌++◌, IfOk, OnOk, Some, codes, decimal, length, slice_get};
+ghost use Rattle.std.specs.Prelude.{◌≡◌, ◌<◌, ◌++◌, IfOk, OnOk, Some, codes, decimal, slice_get};
 ghost use Rattle.std.specs.List.{flat_map};
 ghost use Rattle.echo_addr.specs.Address.{address_text};
 ghost use Rattle.echo_links.specs.Links.{Area};

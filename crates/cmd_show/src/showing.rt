@@ -1,13 +1,12 @@
 ghost use Rattle.std.specs.Prelude.{◌≡◌, ◌++◌, ◌<◌, ◌^◌, length, OnErr, OnOk, IfErr};
 ghost use Rattle.cmd_status.specs.Devices.{output_of};
-ghost use Rattle.hex.specs.Hex.{decode_of};
 ghost use Rattle.echo_packet.specs.Header.{IsHeader, header_bytes};
 ghost use Rattle.echo_packet.specs.Reader.{IsReading, reader_given, reader_header, reader_limits, reader_place, reader_source};
 ghost use Rattle.echo_text.specs.Echo.{HasNoZero};
 ghost use Rattle.cmd_status.specs.Ended.{IsOutOfMemory};
 ghost use Rattle.cmd_status.specs.Limits.{show_limits};
 ghost use Rattle.cmd_print.specs.Said.{TextShown};
-ghost use Rattle.cmd_show.specs.Showing.{DecodeAnswers, MessagePasses, PacketAnswers, PacketPasses, ShowAnswers, hex_text};
+ghost use Rattle.cmd_show.specs.Showing.{DecodeAnswers, MessagePasses, PacketAnswers, PacketPasses, ShowAnswers};
 ghost use Rattle.cmd_print.specs.Shown.{MessageShown, end_line, header_lines};
 ghost use Rattle.cmd_print.specs.Pushed.{Pushes};
 

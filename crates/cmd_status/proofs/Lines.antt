@@ -10,7 +10,7 @@ use Rattle.std.proofs.KnownBytes.{Appends-nil, Appends-trans}
 use Rattle.disk_io.specs.Device.{SendsFront}
 use Rattle.cmd_status.specs.Lines.{PassesOn, WritesFront}
 
--- lines behind no others are those lines
+-- lines after no lines are those lines
 pub alone : (none lines more : List ℕ) → none ≡ [] → lines ≡ none ++ more → lines ≡ more
 alone none lines more nothing whole = whole ∙ ap (λ n. n ++ more) nothing
 
@@ -25,12 +25,12 @@ none_added a lines = record { went = []; whole = append-nil lines; written = App
 pub none_begun : (a : Option (List ℕ)) (lines : List ℕ) → WritesFront lines a a
 none_begun a lines = record { rest = lines; passed = none_passed a lines }
 
--- what a write that failed took of the bytes
+-- the bytes that a failed write took
 pub front_sent : (a b : Option (List ℕ)) (bytes : List ℕ) (m n : ℕ) → SendsFront a b bytes m n → WritesFront bytes a b
 front_sent a b bytes m n (k, short, out, count) =
     record { rest = drop k bytes; passed = record { went = take k bytes; whole = sym (take-append-drop k bytes); written = out } }
 
--- what was kept back, and more behind it, was passed on
+-- the call passed on the bytes held back, and more after them
 pub passed_more : (a b c : Option (List ℕ)) (kept x mid y rest : List ℕ) → PassesOn (kept ++ x) mid a b → PassesOn (mid ++ y) rest b c
     → PassesOn (kept ++ (x ++ y)) rest a c
 passed_more a b c kept x mid y rest first second = record {
@@ -55,7 +55,7 @@ front_more a b lines more begun = record {
   };
 }
 
--- a beginning of what was kept back was written, too
+-- it also wrote a front of the bytes held back
 pub begun_after : (a b c : Option (List ℕ)) (lines mid : List ℕ) → PassesOn lines mid a b → WritesFront mid b c → WritesFront lines a c
 begun_after a b c lines mid first begun =
     let second = begun.passed in
@@ -68,7 +68,7 @@ begun_after a b c lines mid first begun =
       };
     }
 
--- all that was kept back was written, too
+-- it also wrote all bytes held back
 pub sent_after : (a b c : Option (List ℕ)) (lines mid : List ℕ) → PassesOn lines mid a b → Appends b c mid → Appends a c lines
 sent_after a b c lines mid first out =
     subst (Appends a c) (sym first.whole) (Appends-trans a b c first.went mid first.written out)
@@ -86,7 +86,7 @@ begun_kept a b c lines begun none =
       };
     }
 
--- a beginning of no lines is none
+-- a front of no lines is empty
 no_front : (went rest : List ℕ) → [] ≡ went ++ rest → went ≡ []
 no_front [] rest is = refl
 no_front (x ∷ went) rest is = absurd cc

@@ -28,7 +28,7 @@ too_great ds (Ok x) d same parsed great =
     let small : digits_value 10 ds < 2 ^ 64 = subst (λ (t : List ℕ). digits_value 10 t < 2 ^ 64) same parsed.0.1 in absurd (omega arith)
 too_great ds (Err e) d same parsed great = refl
 
--- what is parsed of digits, or the greatest number
+-- the number of the digits, or the greatest number
 pub parsed_number : {E : Type 0} (ds : List ℕ) (r : Result ℕ E) (n : ℕ) → is_number ds ≡ true → ParsesUnsigned 64 10 ds r → n ≡ result_unwrap_or r (2 ^ 64 - 1)
     → n ≡ min (digits_value 10 ds) (2 ^ 64 - 1)
 parsed_number {E} ds r n is parsed given =

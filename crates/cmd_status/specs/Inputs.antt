@@ -1,4 +1,4 @@
--- The input files of a command: their parts, and which fault is reported first.
+-- The input files of a command: their parts, and the fault that it reports first.
 use Rattle.std.specs.Prelude.{◌≡◌, ℕ, ◌⊎◌, List, [], ◌∷◌, ◌++◌, Option, Some, None, Ok, Err}
 use Rattle.base_file.specs.declared.fault.BaseFault.{BaseFault}
 use Rattle.base_file.specs.BaseFile.{BaseFaultOf, LoadOf}
@@ -12,13 +12,13 @@ use Rattle.echo_nodelist.specs.Nodelist.{NodelistFaultOf, NodelistOf}
 use Rattle.cmd_status.specs.declared.fault.Fault.{Fault}
 use Rattle.cmd_status.specs.declared.fault.Fault.TheVariants.{Base, Link, Nodelist}
 
--- each of the inputs is a link file without fault, and these are their parts, in order
+-- Each input is a link file without fault, and these are their parts, in order.
 abbrev pub AreLinkFiles : List (List ℕ) → List LinkFile → Type 0
 AreLinkFiles [] [] = Unit {0}
 AreLinkFiles (bytes ∷ inputs) (file ∷ files) = LinksOf bytes (Ok file) × AreLinkFiles inputs files
 AreLinkFiles _ _ = ⊥
 
--- the first faulty link file of the inputs has the fault
+-- The first faulty link file of the inputs has the fault.
 pub record IsLinkFault (inputs : List (List ℕ)) (fault : Fault) : Type 0 where
   pub before : List (List ℕ)
   pub bytes : List ℕ
@@ -30,28 +30,28 @@ pub record IsLinkFault (inputs : List (List ℕ)) (fault : Fault) : Type 0 where
   pub is : fault ≡ Link why
   pub of_bytes : LinksOf bytes (Err why)
 
--- the messages of a base file; without a file the base is empty
+-- The messages of a base file. Without a file the base is empty.
 abbrev pub IsBaseGiven : Option (List ℕ) → List Filed → ℕ → Type 0
 IsBaseGiven None messages cursor = (messages ≡ []) × (cursor ≡ 0)
 IsBaseGiven (Some bytes) messages cursor = (size : ℕ) × LoadOf bytes (Ok (messages, cursor, size))
 
--- the base file has the fault
+-- The base file has the fault.
 abbrev pub IsBaseFault : Option (List ℕ) → Fault → Type 0
 IsBaseFault None fault = ⊥
 IsBaseFault (Some bytes) fault = (why : BaseFault) × (fault ≡ Base why) × BaseFaultOf bytes why
 
--- the input is a nodelist of these lines; without an input there are none
+-- The input is a nodelist of these lines. Without an input there are no lines.
 abbrev pub IsNodelistGiven : Option (List ℕ) → Option (List Line) → Type 0
 IsNodelistGiven None None = Unit {0}
 IsNodelistGiven (Some bytes) (Some lines) = NodelistOf bytes lines
 IsNodelistGiven _ _ = ⊥
 
--- the first faulty line of the given nodelist has the fault
+-- The first faulty line of the given nodelist has the fault.
 abbrev pub IsNodelistFault : Option (List ℕ) → Fault → Type 0
 IsNodelistFault None fault = ⊥
 IsNodelistFault (Some bytes) fault = (why : NodeFault) × (fault ≡ Nodelist why) × NodelistFaultOf bytes why
 
--- the first fault of a nodelist and link files, in this order, and of the reading of files that stopped after them
+-- The first fault of the nodelist, then of the link files, then of the read that stopped after them.
 abbrev pub IsFirstFaultGiven : Option (List ℕ) → List (List ℕ) → Option Fault → Fault → Type 0
 IsFirstFaultGiven nodelist inputs stopped fault =
     IsNodelistFault nodelist fault

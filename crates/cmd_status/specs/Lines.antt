@@ -2,13 +2,13 @@
 use Rattle.std.specs.Prelude.{◌≡◌, ℕ, List, ◌++◌, Option}
 use Rattle.std.specs.Io.KnownBytes.{Appends}
 
--- first bytes of the lines were written, and these are the others
+-- The output took the first bytes of the lines, and `rest` has the others.
 pub record PassesOn (lines rest : List ℕ) (old new : Option (List ℕ)) : Type 0 where
   pub went : List ℕ
   pub whole : lines ≡ went ++ rest
   pub written : Appends old new went
 
--- a beginning of the lines was written, perhaps none or all
+-- The output took a front of the lines, perhaps empty or all of them.
 pub record WritesFront (lines : List ℕ) (old new : Option (List ℕ)) : Type 0 where
   pub rest : List ℕ
   pub passed : PassesOn lines rest old new

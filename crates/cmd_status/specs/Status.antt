@@ -1,4 +1,4 @@
--- The statuses with which the program exits, and which fault has which.
+-- The exit statuses of the program, and the status of each fault.
 use Rattle.std.specs.Prelude.{ℕ}
 use Rattle.cmd_status.specs.declared.status.Status.{Status}
 use Rattle.cmd_status.specs.declared.status.Status.TheVariants.{Good, Differs, Refused, Device, CommandLine}
@@ -19,7 +19,7 @@ use Rattle.model_steps.specs.declared.fault.ScanFault.TheVariants as scan
 use Rattle.echo_text.specs.declared.fault.TextFault.{TextFault}
 use Rattle.echo_text.specs.declared.fault.TextFault.TheVariants as text
 
--- 0 good, 1 a verdict No or a checksum that differs, 2 refused input, 3 device or memory, 4 command line
+-- 0 good, 1 a verdict No or a checksum that differs, 2 refused input, 3 device or memory, 4 command line.
 abbrev pub code_of : Status → ℕ
 code_of Good = 0
 code_of Differs = 1
@@ -27,47 +27,47 @@ code_of Refused = 2
 code_of Device = 3
 code_of CommandLine = 4
 
--- the status of a packet's fault: P6, P7 and P9 blame a device or memory
+-- The status of a packet's fault: P6, P7 and P9 blame a device or memory.
 abbrev pub packet_status : PacketFault → Status
 packet_status (packet.Read at) = Device
 packet_status packet.Memory = Device
 packet_status (packet.Write bytes) = Device
 packet_status _ = Refused
 
--- the status of a text's fault: X3 blames memory
+-- The status of a text's fault: X3 blames memory.
 abbrev pub text_status : TextFault → Status
 text_status text.Memory = Device
 text_status _ = Refused
 
--- the status of a nodelist's fault: N5 and N6 blame memory or a device
+-- The status of a nodelist's fault: N5 and N6 blame memory or a device.
 abbrev pub node_status : NodeFault → Status
 node_status node.Memory = Device
 node_status (node.Write bytes) = Device
 node_status _ = Refused
 
--- the status of a link file's fault: L9 blames memory
+-- The status of a link file's fault: L9 blames memory.
 abbrev pub link_status : LinkFault → Status
 link_status link.Memory = Device
 link_status _ = Refused
 
--- the status of a base's fault: F4, F5 and F6 blame a device or memory
+-- The status of a base's fault: F4, F5 and F6 blame a device or memory.
 abbrev pub base_status : BaseFault → Status
 base_status base.Read = Device
 base_status (base.Write bytes) = Device
 base_status base.Memory = Device
 base_status _ = Refused
 
--- the status of a refused posting: B7 blames memory
+-- The status of a refused posting: B7 blames memory.
 abbrev pub post_status : PostFault → Status
 post_status post.Memory = Device
 post_status _ = Refused
 
--- the status of a refused scan: S2 blames memory
+-- The status of a refused scan: S2 blames memory.
 abbrev pub scan_status : ScanFault → Status
 scan_status scan.Memory = Device
 scan_status _ = Refused
 
--- the status of a fault
+-- The status of a fault.
 abbrev pub status_of : Fault → Status
 status_of (fault.Packet f) = packet_status f
 status_of (fault.Text f) = text_status f

@@ -1,5 +1,5 @@
 //! The input files of a command.
-ghost use Rattle.std.specs.Prelude.{◌≡◌, ◌⊎◌, IfErr, IfOk, option_copied};
+ghost use Rattle.std.specs.Prelude.{◌⊎◌, IfErr, IfOk, option_copied};
 ghost use Rattle.cmd_status.specs.Ended.{IsOutOfMemory};
 ghost use Rattle.cmd_status.specs.Inputs.{AreLinkFiles, IsLinkFault, IsNodelistFault, IsNodelistGiven};
 

@@ -20,7 +20,7 @@ line_of id = codes "Message-ID: " ++ written_id id
 whole : (id : List ℕ) → id_line (codes "Message-ID") (Some id) ≡ line_of id ++ codes "\n"
 whole id = ap (λ (t : List ℕ). codes "Message-ID: <" ++ t) (sym (append_assoc (encode_lower id) id_back (codes "\n")))
 
--- no blank stands at an end of the value
+-- the value has no blank at either end
 trims : (id : List ℕ) → IsTrim (written_id id)
 trims id =
     let some : 0 < length (encode_lower id ++ id_back) = omega (arith, length-append (encode_lower id) id_back) in

@@ -23,12 +23,12 @@ use Rattle.cmd_store.specs.Bounded.{IsStoppedFull, IsUncommitted}
 use Rattle.cmd_store.specs.Stops.{post_stop, store_answer}
 use Rattle.cmd_store.specs.Tossed.{ReportsIn, ReportsStop}
 
--- a posting that the store held too much for, as a command tells it
+-- a posting with too much in the store, and the answer of its command
 pub post_many : (P : Type 0) (A B : Type 0) (why : PostStepError) → (IsErrOf (post_answer {T = A} (Err why)) TooMany → P) → IsErrOf (store_answer {A = B} (Err (post_stop why))) TooMany → P
 post_many P A B (post.Refused refusal) gives is = gives is
 post_many P A B (post.Store cause) gives is = gives is
 
--- what was changed and not committed is too much for a commit
+-- the uncommitted changes are too much for a commit
 pub full_after : {T : Type 0} (state : T → StoreState) (Adds : Base → Filed → Type 0) (old new : StoreState) (mid : T) → CommitsNothing old (state mid) → GoesOn old (state mid) → IsUncommitted (state mid) new → IsStoppedFull state Adds old new
 full_after state Adds old new mid commits on not = record {
   past = past_after state Adds old (state mid) commits on (full_now state Adds mid on.ready not.full);
@@ -40,7 +40,7 @@ stood_before : (old mid : StoreState) (c : Files) → IsSameStore old mid → Ke
 stood_before old mid c same kept beside m other named flushed =
     beside m (λ own. other ((same.own m).0 own)) (kept.named m other named) (kept.flushed m other flushed) ∙ kept.seen m other
 
--- what may have been committed, and then nothing
+-- a possible commit, followed by calls that commit nothing
 pub may_then_nothing : (old mid new : StoreState) → MayCommit old mid → Honestly mid.disk (KeepsOrCommits old mid) → CommitsNothing mid new → MayCommit old new
 may_then_nothing old mid new may done none = record {
   any_moment = λ honest first next is h.
@@ -63,7 +63,7 @@ stop_many : (old new : List ℕ) (tally : Tally) (why : TossStepError) (result :
 stop_many old new tally (toss.Packet why) result is many = absurd (cc (is.0, many))
 stop_many old new tally (toss.Store cause) result is many = handed_many cause (sym is ∙ many)
 
--- a packet that the store held too much for
+-- a packet with too much in the store
 pub reports_many : (old new : List ℕ) (answer : Result Tally StoppedToss) (result : Result (Option Fault) StoreError) → ReportsIn old new answer result → IsErrOf result TooMany → IsErrOf (toss_answer (stop_in answer)) TooMany
 reports_many old new (Ok tally) result is many = absurd (cc (is.0, many))
 reports_many old new (Err stopped) result is many = stop_many old new stopped.tally stopped.stop result is many

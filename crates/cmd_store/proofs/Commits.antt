@@ -1,4 +1,4 @@
--- What becomes of a store, and what a crash leaves of it, where a command changes it and then commits.
+-- A command that changes a store and then commits, and the files that a crash leaves.
 use Rattle.std.proofs.Common.{◌≤◌, ℕ, inl, inr, ⊎_elim, Result, Ok, Err, refl, arith, ◌∙◌}
 use Rattle.std.specs.Prelude.{IfErr, OnOk}
 use Rattle.base_file.specs.Base.{Base}
@@ -16,7 +16,7 @@ use Rattle.cmd_store.specs.declared.command_error.CommandError.TheVariants.{Met,
 use Rattle.cmd_store.specs.Stops.{IsOfStore, post_stop}
 use Rattle.cmd_store.specs.Answered.{CommitsNoneWhereMet, GoesOnFromEither, HasCommitted, LooksWhereMet, MayCommitWhereMet, MayMake, StandsForMade}
 
--- where nothing was committed, a commit did not come about
+-- a run that commits nothing is one that may commit
 pub none_may : (old new : StoreState) → CommitsNothing old new → MayCommit old new
 none_may old new none = record {
   any_moment = λ honest first next is h.
@@ -29,7 +29,7 @@ none_may old new none = record {
 pub looks_may : (old new : StoreState) → old.is_ready → LooksOn old new → MayCommit old new
 looks_may old new ready looks = none_may old new (looks_commit old new ready looks)
 
--- nothing is committed
+-- the command committed nothing
 pub makes_none : (Makes : Base → Base → Type 0) (old new : StoreState) → CommitsNothing old new → MayMake Makes old new
 makes_none Makes old new none = record {
   any_moment = λ honest first base is h.
@@ -38,7 +38,7 @@ makes_none Makes old new none = record {
   same = none.same;
 }
 
--- what a crash leaves of a commit, as it stood before the command
+-- the files that a crash leaves during a commit, compared with those before the command
 pub stood_made : (Makes : Base → Base → Type 0) (old mid : StoreState) (first base next : Base) (c : Files) → CommitsNothing old mid → Makes base next
     → LeavesEither mid first next c → StandsForMade old (Makes base) first c
 stood_made Makes old mid first base next c none made either = record {
@@ -47,7 +47,7 @@ stood_made Makes old mid first base next c none made either = record {
   stands = ⊎_elim (λ s. inl ((none.same.stands first c).0 s)) (λ s. inr (next, made, (none.same.stands next c).0 s)) either.stands;
 }
 
--- a base is made, nothing being committed, and then it may be committed
+-- a run makes a base without a commit, and then may commit it
 pub makes_then : (Makes : Base → Base → Type 0) (old mid new : StoreState) → CommitsNothing old mid → GoesOn old mid
     → Honestly mid.disk ((base : Base) → old.keeps base → (next : Base) × Makes base next × mid.keeps next) → MayCommit mid new → MayMake Makes old new
 makes_then Makes old mid new none on made may = record {
@@ -77,7 +77,7 @@ only_store old new (Ok value) only = tt
 only_store old new (Err (Met fault)) only = absurd only
 only_store old new (Err (Store cause)) only = tt
 
--- what stopped a command was a look, or the store failed
+-- only looks came before a fault that stopped the command, or the store failed
 pub met_looking : (old new : StoreState) (why : CommandError) → old.is_ready → LooksOn old new → CommitsNoneWhereMet old new why
 met_looking old new (Met fault) ready looks = (looks_commit old new ready looks, looks_go_on old new looks)
 met_looking old new (Store cause) ready looks = tt
@@ -87,7 +87,7 @@ pub met_refused : (old new : StoreState) (why : PostStepError) → CommitsNothin
 met_refused old new (post.Refused refusal) none looks = (none, looks_go_on old new looks)
 met_refused old new (post.Store cause) none looks = tt
 
--- what stopped a command after a change that was not committed
+-- the command stopped after a change that it did not commit
 pub met_after : {A : Type 0} (old mid new : StoreState) (result : Result A CommandError) → CommitsNothing old mid → GoesOn old mid → IfErr result (LooksWhereMet mid new)
     → IfErr result (CommitsNoneWhereMet old new)
 met_after old mid new (Ok value) none on looks = tt
@@ -95,7 +95,7 @@ met_after old mid new (Err (Met fault)) none on looks =
     (commits_none old mid new none on (looks_commit mid new on.ready looks), goes_on_twice old mid new on (looks_go_on mid new looks))
 met_after old mid new (Err (Store cause)) none on looks = tt
 
--- what may be committed, and then nothing more
+-- a possible commit, and no other after it
 may_then_none : (old mid new : StoreState) → MayCommit old mid → mid.is_ready → LooksOn mid new → MayCommit old new
 may_then_none old mid new may ready looks = record {
   any_moment = λ honest first next is h. then_nothing old.disk mid.disk new.disk (LeavesEither old first next) (may.any_moment (looks.quiet.honest honest) first next is h) looks.quiet;
@@ -103,7 +103,7 @@ may_then_none old mid new may ready looks = record {
   same = same_twice old mid new may.same looks.same;
 }
 
--- what was committed is so after a look
+-- a committed base remains committed after a look
 either_then : (old mid new : StoreState) → Honestly mid.disk (KeepsOrCommits old mid) → LooksOn mid new → GoesOnFromEither old new
 either_then old mid new done looks = record {
   ready = looks.ready;
@@ -111,7 +111,7 @@ either_then old mid new done looks = record {
       ⊎_elim (λ was. inl (λ base h. looks.committed base (was base h))) (λ is. inr (λ base h. looks.committed base (is base h))) (done (looks.quiet.honest honest));
 }
 
--- the same after one that may have committed what was held before
+-- the same after a call that may have committed the earlier base
 pub may_after : {A : Type 0} (old mid new : StoreState) (result : Result A CommandError) → MayCommit old mid → mid.is_ready → Honestly mid.disk (KeepsOrCommits old mid)
     → IfErr result (LooksWhereMet mid new) → IfErr result (MayCommitWhereMet old new)
 may_after old mid new (Ok value) may ready done looks = tt

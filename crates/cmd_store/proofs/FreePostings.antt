@@ -88,7 +88,7 @@ refused_on file new words draft serial base (post.Refused why) is unless =
     ]
 refused_on file new words draft serial base (post.Store cause) is unless = tt
 
--- what refused a serial that is known has changed nothing
+-- a refusal for a known serial changed nothing
 pub looks_known : (mid new : StoreState) (why : PostStepError) → why ≡ post.Refused fault.KnownSerial → LooksWhereRefused mid new why → LooksOn mid new
 looks_known mid new (post.Refused why) known looks = looks
 looks_known mid new (post.Store cause) known looks = absurd (cc)
@@ -144,7 +144,7 @@ as_printed free words file base new body serial before after draft result drafte
     posts_as_on free words (state_in file base) body before after result serial filed.is
     (post_printed (with_serial words serial) (state_in file base) body before after draft result drafted filed.allowed out)
 
--- what it makes of a base
+-- the base that the posting makes
 pub as_posts : (free : Bool) (file : LinkFile) (words : NewMessage) (body : List ℕ) (base : Base) (new : StoreState) (serial : ℕ) (draft : Draft) → draft ≡ draft_given words body
     → FiledAs free file base words draft serial new → PostsAs free file words body base (with_message base (posted file words.tag.now draft serial words.stamp))
 as_posts free file words body base new serial draft drafted filed =

@@ -33,7 +33,7 @@ pub post_caused : (A B : Type 0) (old new : StoreState) (before now : ℕ) (why 
 post_caused A B old new before now (post.Refused refusal) cause = cause
 post_caused A B old new before now (post.Store why) cause = cause
 
--- a posting that nothing refuses
+-- a posting without a refusal
 pub posts : (file : LinkFile) (words : NewMessage) (body : List ℕ) (base : Base) (draft : Draft) → draft ≡ draft_given words body
     → post_refusal file base.messages words.tag.now draft words.serial words.stamp ≡ None
     → Posts file words body base (with_message base (posted file words.tag.now draft words.serial words.stamp))
@@ -42,7 +42,7 @@ posts file words body base draft drafted allowed = record {
   is = ap (λ (d : Draft). with_message base (posted file words.tag.now d words.serial words.stamp)) drafted;
 }
 
--- the line of a posting that nothing refuses is printed
+-- a posting without a refusal prints its line
 pub post_printed : {A : Type 0} (words : NewMessage) (system : SystemState) (body : List ℕ) (old new : Output) (draft : Draft) (result : Result A CommandError) → draft ≡ draft_given words body
     → post_refusal system.file system.base words.tag.now draft words.serial words.stamp ≡ None
     → PrintsAll (posted_line words.tag.now (id_of system.file.system words.serial)) old new result → PostsOn words system body old new result

@@ -20,7 +20,7 @@ done_with IsRight lines old new value right out = record {
   flushed = out.flushed;
 }
 
--- what printed lines, which are right, is an answer
+-- printing correct lines is an answer
 pub answered : {A : Type 0} (IsRight : List ℕ → A → Type 0) (IsRefused : Fault → Type 0) (lines : List ℕ) (old new : Output) (result : Result A CommandError) → ((v : A) → IsRight lines v)
     → PrintsAll lines old new result → AnswersAndCommits IsRight IsRefused old new result
 answered IsRight IsRefused lines old new (Ok value) right out = done_with IsRight lines old new value right out

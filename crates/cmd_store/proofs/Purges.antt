@@ -17,7 +17,7 @@ use Rattle.cmd_store.specs.Answered.{MayMake, PrintsAll, RefusesNone, StandsForM
 use Rattle.cmd_store.specs.Purged.{HoldsOrPurges, IsPurgedAt, PurgesOn}
 use Rattle.cmd_store.proofs.Printed.{answered}
 
--- what may be committed by a purge is what was held before
+-- a purge may commit the base that the store held before
 pub purge_may : (old new : StoreState) → MayCommit old new → MayMake HoldsOrPurges old new
 purge_may old new may = record {
   any_moment = λ honest first base is h.
@@ -27,7 +27,7 @@ purge_may old new may = record {
   same = may.same;
 }
 
--- what a crash leaves of the commit after it, as it stood before: `was` is what was committed then
+-- the files that a crash leaves during the later commit, if `was` was the committed base before it
 stood_purged : (old mid : StoreState) (first base was : Base) (c : Files) → (was ≡ first) ⊎ (was ≡ base) → MayCommit old mid → LeavesEither mid was (purged base) c
     → StandsForMade old (HoldsOrPurges base) first c
 stood_purged old mid first base was c is may either = record {
@@ -40,7 +40,7 @@ stood_purged old mid first base was c is may either = record {
       (λ s. inr (purged base, inr refl, (may.same.stands (purged base) c).0 s)) either.stands;
 }
 
--- and then what it left may be
+-- then the purged base may be committed
 pub purge_then : (old mid new : StoreState) → MayCommit old mid → Honestly mid.disk ((base : Base) → old.keeps base → mid.keeps (purged base))
     → Honestly mid.disk (KeepsOrCommits old mid) → MayCommit mid new → MayMake HoldsOrPurges old new
 purge_then old mid new first kept done may = record {

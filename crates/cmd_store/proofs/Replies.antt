@@ -19,31 +19,31 @@ use Rattle.cmd_store.specs.declared.command_error.CommandError.TheVariants.{Met,
 use Rattle.cmd_store.specs.Answered.{CommitsNoneWhereMet, MayMake, StandsForMade}
 use Rattle.cmd_store.specs.Replied.{FindsOn, PostsAs, Replies, RepliesOn}
 
--- the message whose words were found
+-- the message with the found words
 pub found_message : (o : Option Filed) (found : ReplyFields) → FindsOn o (Ok found) → (m : Filed) × (o ≡ Some m) × IsFound m found
 found_message None found is = absurd is
 found_message (Some m) found is = (m, refl, is)
 
--- where no words were found the command stops
+-- without words the command stops
 pub reply_stopped : (o : Option Filed) (answer : Answer) (system : SystemState) (body : List ℕ) (old : Output) (why : CommandError) → FindsOn o (Err why) → RepliesOn {A = Unit {0}} o answer system body old old (Err why)
 reply_stopped None answer system body old (Met fault) is = (is, refl)
 reply_stopped None answer system body old (Store cause) is = absurd is
 reply_stopped (Some m) answer system body old (Met fault) is = inl (is, refl)
 reply_stopped (Some m) answer system body old (Store cause) is = inl refl
 
--- what a posting of its words makes an answer makes
+-- posting the words makes the same base as the answer
 pub replies : (file : LinkFile) (index : ℕ) (answer : Answer) (body : List ℕ) (base next : Base) (m : Filed) (words : NewMessage) → slice_get base.messages index ≡ Some m → IsReply m answer words
     → PostsAs answer.free file words body base next → Replies file index answer body base next
 replies file index answer body base next m words found of_message made = record { message = m; found = found; words = words; of_message = of_message; made = made }
 
--- what stopped a command after a look
+-- the command stopped after a look
 pub met_looked : {A : Type 0} (old mid new : StoreState) (result : Result A CommandError) → old.is_ready → LooksOn old mid → IfErr result (CommitsNoneWhereMet mid new) → IfErr result (CommitsNoneWhereMet old new)
 met_looked old mid new (Ok value) ready looks none = tt
 met_looked old mid new (Err (Met fault)) ready looks none =
     (looks_then_commits old mid new ready looks none.0, goes_on_twice old mid new (looks_go_on old mid looks) none.1)
 met_looked old mid new (Err (Store cause)) ready looks none = tt
 
--- what a crash leaves of a command after a look, as it stood before the look
+-- the files that a crash leaves during a command after a look, compared with those before the look
 stood_looked : (IsMade IsOther : Base → Type 0) (old mid : StoreState) (first : Base) (c : Files) → old.is_ready → LooksOn old mid → ((next : Base) → IsMade next → IsOther next)
     → StandsForMade mid IsMade first c → StandsForMade old IsOther first c
 stood_looked IsMade IsOther old mid first c ready looks gives stood =
@@ -68,7 +68,7 @@ makes_looked Makes Other old mid new ready looks gives may =
       same = same_twice old mid new none.same may.same;
     }
 
--- what a crash leaves of an answer
+-- the files that a crash leaves during an answer
 pub reply_crash : (file : LinkFile) (index : ℕ) (answer : Answer) (body : List ℕ) (old mid new : StoreState) (words : NewMessage) (found : ReplyFields) → old.is_ready → LooksOn old mid
     → Honestly mid.disk ((base : Base) → old.keeps base → FindsOn (slice_get base.messages index) (Ok found)) → MayMake (PostsAs answer.free file words body) mid new
     → ((m : Filed) → IsFound m found → IsReply m answer words) → MayMake (Replies file index answer body) old new

@@ -18,13 +18,13 @@ pub none_before : {R : Type 0} (honest : Type 0) (noting : Bool) (limits : Limit
     → TossesFiles honest noting limits device file base files left none more result new → TossesFiles honest noting limits device file base files left [] more result new
 none_before honest noting limits device file base files left none more result new is t = subst (λ (l : List ℕ). TossesFiles honest noting limits device file base files left l more result new) is t
 
--- what the packets make of the base
+-- the base that the packets make
 pub tosses : {R : Type 0} (honest : Type 0) (noting : Bool) (limits : Limits) (device : R → Device) (file : LinkFile) (base : Base) (files left : List Coming) (more : List ℕ) (stopped : Option Fault) (mid : StoreState)
     → TossesFiles honest noting limits device file base files left [] more (Ok stopped) mid → (next : Base) × Tosses honest noting limits device file files base next × mid.keeps next
 tosses honest noting limits device file base files left more stopped mid t =
     (t.next, record { stopped = stopped; left = left; run = t.run; each = t.each; state = t.state }, t.keeps)
 
--- the lines of a run and the base that is committed are of one run
+-- the lines of a run and the committed base belong to one run
 pub tosses_to : {R : Type 0} (honest : Type 0) (noting : Bool) (limits : Limits) (device : R → Device) (file : LinkFile) (base : Base) (files left : List Coming) (old new : Output) (store : StoreState) (result : Result (Option Fault) CommandError)
     → TossesOn honest noting limits device file base files left old new result store → OnOk result (HasCommitted (TossesTo honest noting limits device file base files left old new result) store)
 tosses_to honest noting limits device file base files left old new store (Ok fault) t = record {

@@ -22,9 +22,8 @@ use Rattle.cmd_store.specs.Answered.{AnswersOn, RefusesNone}
 use Rattle.cmd_store.specs.Scanned.{ArePlanned, IsScannedAt, ScansOn, files_made}
 use Rattle.cmd_store.specs.declared.command_error.CommandError.{CommandError}
 use Rattle.cmd_store.specs.declared.command_error.CommandError.TheVariants.{Met, Store}
-use Rattle.cmd_store.specs.Stops.{store_answer}
 
--- ---- what was counted, as the packets of the scan
+-- ---- the counted packets are those of the scan
 
 lines_counted : (all : List Packet) → flat_map counted_line (map counted_of all) ≡ flat_map line_sent all
 lines_counted [] = refl

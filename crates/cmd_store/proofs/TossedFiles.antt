@@ -1,4 +1,4 @@
--- Packet files that are tossed into a store one after another.
+-- Packet files tossed into a store in order.
 use Rattle.std.proofs.Common.{◌≡◌, ◌≤◌, ℕ, Bool, List, Option, Some, None, Result, Ok, Err, refl, sym, ap, ◌∙◌, subst, arith}
 use Rattle.base_file.specs.Base.{Base}
 use Rattle.cmd_report.specs.Coming.{Coming, OpensNext}
@@ -17,15 +17,15 @@ use Rattle.base_store.proofs.Runs.{commits_none, goes_on_twice, looks_commit, lo
 use Rattle.echo_toss.specs.PacketsIn.{state_in}
 use Rattle.cmd_store.specs.Tossed.{TossesFiles, TossesNext, run_at, stopped_in}
 
--- What the files that are left do at the base that the store holds, all files do at the base that it held first. This holds for
--- any later files whose honesty is that of the present ones, too.
+-- The remaining files have the same effect on the current base as all files on the first base. This also holds for
+-- later files that are honest only if the present ones are.
 abbrev pub GoesTo : {P R : Type 0} → (P → Type 0) → Bool → Limits → (R → Device) → LinkFile → Base → Base → List Coming → List Coming → List ℕ → List ℕ → P → Type 0
 GoesTo {P} honest noting limits device file base next files left lines more at =
     (last : P) → (honest last → honest at) → (stopped : Option Fault) (rest : List Coming) (new : TossRun)
     → TossesEachBy (honest last) (TossesPacketBy noting) device left (run_at limits file next more) stopped rest new
     → TossesEachBy (honest last) (TossesPacketBy noting) device files (run_at limits file base lines) stopped rest new
 
--- files were tossed into the store, which went on, and some are left
+-- the store took some of the files and goes on
 pub record HasTossedFiles {P R : Type 0} (honest : P → Type 0) (noting : Bool) (limits : Limits) (device : R → Device) (file : LinkFile) (old mid : StoreState) (first now : ℕ) (files left : List Coming) (lines more : List ℕ) (at : P) : Type 0 where
   pub each : Honestly mid.disk ((base : Base) → old.keeps base → (next : Base) × mid.keeps next × GoesTo honest noting limits device file base next files left lines more at)
   pub on : GoesOn old mid

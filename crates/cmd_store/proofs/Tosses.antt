@@ -21,7 +21,7 @@ use Rattle.echo_toss.specs.PacketSteps.{CountsToss, PacketStep}
 use Rattle.echo_toss.specs.PacketsIn.{HoldsUnlessFailed, cause_in, packet_answer, state_in, stop_in}
 use Rattle.cmd_store.specs.Tossed.{ReportsIn, ReportsStop, TossesNext, run_at}
 
--- the notes on a packet where its messages are noted, and none where they are not
+-- the notes on a packet, or no notes if its messages are not noted
 abbrev pub NotesIf : Bool → Limits → SystemState → Option (List ℕ) → Result Tally TossFault → SystemState → List ℕ → List ℕ → Type 0
 NotesIf true limits old before answer new text noted = NotesPacket limits old before answer new text noted
 NotesIf false limits old before answer new text noted = noted ≡ text

@@ -1,4 +1,4 @@
--- How a command on a store ends: what it prints, what the store holds then, and what a crash at any time leaves.
+-- The end of a command on a store: its output, the base in the store, and the files after a crash.
 use Rattle.std.specs.Prelude.{◌≡◌, ℕ, ◌⊎◌, Bool, true, false, List, Result, Ok, Err}
 use Rattle.base_file.specs.Base.{Base}
 use Rattle.disk_io.specs.Disk.{Files, Honestly}
@@ -10,57 +10,57 @@ use Rattle.base_store.specs.Store.{CommitsNothing, GoesOn, IsSameStore, KeepsBes
 use Rattle.cmd_store.specs.declared.command_error.CommandError.{CommandError}
 use Rattle.cmd_store.specs.declared.command_error.CommandError.TheVariants.{Met, Store}
 
--- The answer of a command that has all its lines before it prints. Where the store failed, nothing was printed.
+-- The answer of a command that prints only after computing all its lines. If the store failed, it printed no line.
 abbrev pub AnswersOn : {A : Type 0} → (List ℕ → A → Type 0) → (Fault → Type 0) → Output → Output → Result A CommandError → Type 0
 AnswersOn IsRight IsRefused old new (Ok right) = Answers IsRight IsRefused old new (Ok right)
 AnswersOn IsRight IsRefused old new (Err (Met fault)) = Answers IsRight IsRefused old new (Err fault)
 AnswersOn IsRight IsRefused old new (Err (Store cause)) = new ≡ old
 
--- The same of one that commits then: where the store failed, all lines may have been printed, too.
+-- The same for a command that commits after printing. If the store failed, all lines may be printed already.
 abbrev pub AnswersAndCommits : {A : Type 0} → (List ℕ → A → Type 0) → (Fault → Type 0) → Output → Output → Result A CommandError → Type 0
 AnswersAndCommits IsRight IsRefused old new (Ok right) = Answers IsRight IsRefused old new (Ok right)
 AnswersAndCommits IsRight IsRefused old new (Err (Met fault)) = Answers IsRight IsRefused old new (Err fault)
 AnswersAndCommits {A} IsRight IsRefused old new (Err (Store cause)) = (new ≡ old) ⊎ ((right : A) × IsDone IsRight old new right)
 
--- Just these lines.
+-- Exactly these lines.
 abbrev pub AreLines : {A : Type 0} → List ℕ → List ℕ → A → Type 0
 AreLines whole lines done = lines ≡ whole
 
--- Nothing is refused.
+-- No fault is a refusal.
 abbrev pub RefusesNone : Fault → Type 0
 RefusesNone fault = ⊥
 
--- These lines are printed, except if standard output or the store fails.
+-- The command prints these lines, unless standard output or the store fails.
 abbrev pub PrintsAll : {A : Type 0} → List ℕ → Output → Output → Result A CommandError → Type 0
 PrintsAll lines old new result = AnswersAndCommits (AreLines lines) RefusesNone old new result
 
--- There was no memory or the store failed, and nothing was printed.
+-- Memory ran out or the store failed, and the command printed no line.
 abbrev pub StopsFirst : {A : Type 0} → Output → Output → Result A CommandError → Type 0
 StopsFirst old new (Ok right) = ⊥
 StopsFirst old new (Err (Met fault)) = IsOutOfMemory fault × (new ≡ old)
 StopsFirst old new (Err (Store cause)) = new ≡ old
 
--- Where the store did not fail, nothing of it has changed.
+-- If the store did not fail, it is unchanged.
 abbrev pub LooksWhereMet : StoreState → StoreState → CommandError → Type 0
 LooksWhereMet old new (Met fault) = LooksOn old new
 LooksWhereMet old new (Store cause) = Unit {0}
 
--- The store can be used, and its commit from before still holds, or what it held is committed.
+-- The store allows further calls. Its earlier commit still holds, or the base that it held is committed.
 pub record GoesOnFromEither (old new : StoreState) : Type 0 where
   pub ready : new.is_ready
   pub committed : Honestly new.disk (KeepsOrCommits old new)
 
--- Where the store did not fail, nothing was committed, and it goes on.
+-- If the store did not fail, the command committed nothing, and the store allows further calls.
 abbrev pub CommitsNoneWhereMet : StoreState → StoreState → CommandError → Type 0
 CommitsNoneWhereMet old new (Met fault) = CommitsNothing old new × GoesOn old new
 CommitsNoneWhereMet old new (Store cause) = Unit {0}
 
--- Where the store did not fail, at most what it held before was committed, and it goes on.
+-- If the store did not fail, the command committed at most the base held before, and the store allows further calls.
 abbrev pub MayCommitWhereMet : StoreState → StoreState → CommandError → Type 0
 MayCommitWhereMet old new (Met fault) = MayCommit old new × GoesOnFromEither old new
 MayCommitWhereMet old new (Store cause) = Unit {0}
 
--- The one or the other, by whether the command may commit what the store held before.
+-- One of these, depending on whether the command may commit the base held before.
 abbrev pub StaysWhereMet : Bool → StoreState → StoreState → CommandError → Type 0
 StaysWhereMet false old new why = CommitsNoneWhereMet old new why
 StaysWhereMet true old new why = MayCommitWhereMet old new why
@@ -72,12 +72,12 @@ pub record HasCommitted (IsMade : Base → Type 0) (new : StoreState) : Type 0 w
   pub keeps : new.keeps next
   pub committed : new.committed next
 
--- A crash left the base that was committed before, or one that the command makes. Nothing else has changed.
+-- A crash left the base committed before, or one that the command makes. Everything else is unchanged.
 pub record StandsForMade (old : StoreState) (IsMade : Base → Type 0) (first : Base) (c : Files) : Type 0 where
   pub beside : SameBesideStore old c
   pub stands : old.stands first c ⊎ ((next : Base) × IsMade next × old.stands next c)
 
--- A crash at any time during a command leaves the base that was committed before, or one that the command makes of the base held.
+-- A crash at any time during a command leaves the base committed before, or one that the command makes of the held base.
 pub record MayMake (Makes : Base → Base → Type 0) (old new : StoreState) : Type 0 where
   pub any_moment : Honestly new.disk ((first base : Base) → old.committed first → old.keeps base → LeavesOnly old.disk new.disk (StandsForMade old (Makes base) first))
   pub beside : KeepsBeside old new

@@ -15,35 +15,35 @@ use Rattle.cmd_store.specs.declared.letter.Letter.{Letter}
 use Rattle.cmd_store.specs.declared.mailed.MailWords.{MailWords}
 use Rattle.cmd_store.specs.Mailed.{IsPosting}
 
--- The store was full, so that a commit did nothing.
+-- The store was full, so a commit did nothing.
 pub record IsUncommitted (old new : StoreState) : Type 0 where
   pub full : old.is_full
   pub commits : CommitsNothing old new
 
--- The store held too much for a command that may add these messages, and nothing was committed.
+-- The store held too much for a command that may add these messages, and the command committed nothing.
 pub record IsStoppedFull {T : Type 0} (state : T → StoreState) (Adds : Base → Filed → Type 0) (old new : StoreState) : Type 0 where
   pub past : IsPastBound state Adds old
   pub commits : CommitsNothing old new
 
--- A command may have committed what the store held. Then the store held a base that the command makes of that, and was full. It is the store of
--- that time.
+-- A command may have committed the held base. Then the store held a base that the command makes of that, and was full.
+-- `store` is the store at that time.
 pub record IsFullOnceHeld {T : Type 0} (state : T → StoreState) (May : Base → Base → Type 0) (old : StoreState) : Type 0 where
   pub store : T
   pub commits : MayCommit old (state store)
   pub holds : Honestly (state store).disk ((base : Base) → old.keeps base → (next : Base) × May base next × (state store).keeps next)
   pub full : (state store).is_full
 
--- The store held too much for a command that may commit what it held before, and nothing else was committed.
+-- The store held too much for a command that may commit the base held before. The command committed no other base.
 pub record IsStoppedHeld {T : Type 0} (state : T → StoreState) (May : Base → Base → Type 0) (old new : StoreState) : Type 0 where
   pub past : IsFullOnceHeld state May old
   pub commits : MayCommit old new
 
--- Why the store held too much, by whether the command may commit what it held before.
+-- Why the store held too much, depending on whether the command may commit the base held before.
 abbrev pub IsPast : {T : Type 0} → Bool → (T → StoreState) → (Base → Filed → Type 0) → (Base → Base → Type 0) → StoreState → Type 0
 IsPast false state Adds May old = IsPastBound state Adds old
 IsPast true state Adds May old = IsFullOnceHeld state May old
 
--- The same, and what was committed.
+-- The same, with the base that the command may have committed.
 abbrev pub StaysTooMany : {T : Type 0} → Bool → (T → StoreState) → (Base → Filed → Type 0) → (Base → Base → Type 0) → StoreState → StoreState → Type 0
 StaysTooMany false state Adds May old new = IsStoppedFull state Adds old new
 StaysTooMany true state Adds May old new = IsStoppedHeld state May old new

@@ -5,7 +5,7 @@ use Rattle.echo_charset.specs.declared.charset.Charset.{Charset}
 use Rattle.echo_charset.specs.declared.charset.Charset.TheVariants.{Ascii, Cp437, Cp850, Cp866, Cp1251, Koi8R, Latin1, Utf8}
 use Rattle.echo_charset.specs.Charset.{charset_name}
 
--- the level of a charset, as a digit: 1 of seven bits, 2 of eight, 4 of UTF-8
+-- The level of a charset, as a digit: 1 of seven bits, 2 of eight, 4 of UTF-8.
 abbrev pub level : Charset → ℕ
 level Ascii = 49
 level Cp437 = 50
@@ -16,14 +16,14 @@ level Koi8R = 50
 level Latin1 = 50
 level Utf8 = 52
 
--- the line
+-- The line of a charset.
 abbrev pub charset_line : Charset → List ℕ
 charset_line charset = (1 ∷ codes "CHRS: ") ++ (charset_name charset ++ (32 ∷ level charset ∷ 13 ∷ []))
 
--- whether a byte is above 7F
+-- The bytes include one above 7F.
 abbrev pub is_wide : List ℕ → Bool
 is_wide bytes = list_any (λ b. nat_le 128 b) bytes
 
--- a text, behind the line where it is needed
+-- A text, after the charset line if it needs one.
 abbrev pub with_line : Charset → Bool → List ℕ → List ℕ
 with_line charset wide text = (if wide then charset_line charset else []) ++ text

@@ -1,4 +1,4 @@
--- A posting on a store, with the serial of its words or with the first from that on that is free.
+-- A posting on a store, with the serial in its words or the first free one from there on.
 use Rattle.std.specs.Prelude.{◌≡◌, ℕ, Bool, true, false, List, Some, None, Result, Ok, Err}
 use Rattle.base_file.specs.Base.{Base}
 use Rattle.echo_filed.specs.Filed.{Filed}
@@ -15,7 +15,7 @@ use Rattle.echo_toss.specs.declared.step_error.PostStepError.TheVariants as post
 use Rattle.cmd_store.specs.declared.command_error.CommandError.{CommandError}
 use Rattle.cmd_store.specs.Posted.{Posts, PostsOn}
 
--- The serial with which words are posted: theirs, or the first from that on that is free.
+-- The serial of a posting: the one in its words, or the first free one from there on.
 abbrev pub IsSerial : Bool → LinkFile → List Filed → ℕ → ℕ → Type 0
 IsSerial false file base start serial = serial ≡ start
 IsSerial true file base start serial = IsFirstFree file base start serial
@@ -26,31 +26,31 @@ pub record FiledAs (free : Bool) (file : LinkFile) (base : Base) (words : NewMes
   pub allowed : post_refusal file base.messages words.tag.now draft serial words.stamp ≡ None
   pub keeps : new.keeps (with_message base (posted file words.tag.now draft serial words.stamp))
 
--- A message is filed with that serial, or it is refused with that one; or the store failed.
+-- The message is filed with that serial, or it is refused with that one, or the store failed.
 abbrev pub FilesAs : Bool → LinkFile → Base → NewMessage → Draft → Result ℕ PostStepError → StoreState → Type 0
 FilesAs free file base words draft (Ok serial) new = FiledAs free file base words draft serial new
 FilesAs free file base words draft (Err (post.Refused why)) new =
     (serial : ℕ) × IsSerial free file base.messages words.serial serial × (post_refusal file base.messages words.tag.now draft serial words.stamp ≡ Some why)
 FilesAs free file base words draft (Err (post.Store cause)) new = Unit {0}
 
--- A message is posted as with the first serial, from that of the words on, that is free at a system.
+-- The message is posted with the first free serial at a system, from the one in its words on.
 pub record PostsFreeOn {A : Type 0} (words : NewMessage) (system : SystemState) (body : List ℕ) (old new : Output) (result : Result A CommandError) : Type 0 where
   pub serial : ℕ
   pub first : IsFirstFree system.file system.base words.serial serial
   pub posted : PostsOn (with_serial words serial) system body old new result
 
--- The posting with that serial makes this base of one.
+-- The posting with that serial makes the base `next` of another.
 pub record PostsFree (file : LinkFile) (words : NewMessage) (body : List ℕ) (base next : Base) : Type 0 where
   pub serial : ℕ
   pub first : IsFirstFree file base.messages words.serial serial
   pub made : Posts file (with_serial words serial) body base next
 
--- Words are posted at a system with their serial, or with the first from that on that is free.
+-- The words are posted at a system with their own serial, or with the first free one from there on.
 abbrev pub PostsAsOn : {A : Type 0} → Bool → NewMessage → SystemState → List ℕ → Output → Output → Result A CommandError → Type 0
 PostsAsOn false words system body old new result = PostsOn words system body old new result
 PostsAsOn true words system body old new result = PostsFreeOn words system body old new result
 
--- The same posting makes this base of one.
+-- The same posting makes the base `next` of another.
 abbrev pub PostsAs : Bool → LinkFile → NewMessage → List ℕ → Base → Base → Type 0
 PostsAs false file words body base next = Posts file words body base next
 PostsAs true file words body base next = PostsFree file words body base next

@@ -1,4 +1,4 @@
--- The words and the body that a mail says.
+-- The words and the body in a mail.
 use Rattle.std.specs.Prelude.{ℕ, ◌≡◌, ◌⊎◌, ◌||◌, List, [], codes, Bool, Option, Some, None, Result, Ok, Err, if◌then◌else◌, option_copied, unwrap_or}
 use Rattle.std.specs.Option.{option_or}
 use Rattle.echo_charset.specs.declared.charset.Charset.{Charset}
@@ -16,12 +16,12 @@ use Rattle.cmd_store.specs.CharsetLine.{is_wide, with_line}
 use Rattle.cmd_store.specs.Fault.{letter_fault}
 use Rattle.cmd_store.specs.Written.{IsRefused, IsSaid, IsWritten, name_or, words_or}
 
--- the value of a field of a mail
+-- The value of a field of a mail.
 abbrev pub field : Mail → List ℕ → Option (List ℕ)
 field mail name = value_in mail.fields name
 
--- What the mail says, or else a word: its area, to whom and from whom it is, and its subject. An article of a newsgroup
--- has no To, and perhaps X-Comment-To.
+-- The area, receiver, sender and subject of the mail, each replaced by a word if it is absent. A newsgroup article has
+-- no To, but may have X-Comment-To.
 abbrev pub area_said : Mail → MailDefaults → Option (List ℕ)
 area_said mail spare = option_or (area_in mail.fields) (option_copied spare.area)
 
@@ -34,36 +34,36 @@ from_said mail spare = name_or (field mail (codes "From")) (option_copied spare.
 abbrev pub subject_said : Mail → MailDefaults → Option (List ℕ)
 subject_said mail spare = words_or (field mail (codes "Subject")) (option_copied spare.subject)
 
--- An id, where it is one.
+-- The id, if it is valid.
 abbrev pub true_id : Option (List ℕ) → Option (List ℕ)
 true_id None = None
 true_id (Some id) = if is_id id then Some id else None
 
--- The id that a field names, where it was made of one.
+-- The id behind a field's message id, if there is one.
 abbrev pub answered_id : Option (List ℕ) → Option (List ℕ)
 answered_id None = None
 answered_id (Some value) = true_id (exported_id value)
 
--- The id of the message that the mail answers, or else a word, or no bytes.
+-- The id of the message that the mail answers, otherwise a word, otherwise no bytes.
 abbrev pub reply_said : Mail → MailDefaults → List ℕ
 reply_said mail spare = unwrap_or (option_or (answered_id (field mail (codes "In-Reply-To"))) (option_copied spare.reply)) []
 
--- A text that there is, or its fault, in the bytes of a charset.
+-- An existing text in the bytes of a charset, or its fault.
 abbrev pub IsBody : Charset → Result (List ℕ) MailFault → Result (List ℕ) LetterFault → Type 0
 IsBody charset (Ok text) answer = IsSaid charset text answer
 IsBody charset (Err why) answer = IsRefused (letter_fault why) answer
 
--- An area that was found, or the fault that there is none.
+-- The area, or the fault of a missing one.
 abbrev pub IsArea : Option (List ℕ) → Result (List ℕ) LetterFault → Type 0
 IsArea None answer = IsRefused NoArea answer
 IsArea (Some tag) (Ok found) = found ≡ tag
 IsArea (Some tag) (Err fault) = fault ≡ Memory
 
--- Whether names, subject or text have a byte above 7F.
+-- The names, the subject or the text have a byte above 7F.
 abbrev pub are_wide : List ℕ → List ℕ → List ℕ → List ℕ → Bool
 are_wide to from subject said = is_wide to || (is_wide from || (is_wide subject || is_wide said))
 
--- The words and the body of a mail: the body is its text, behind the line of the charset where a byte is above 7F.
+-- The words and the body of a mail. The body is its text, after the charset line if a byte is above 7F.
 pub record IsLetter (charset : Charset) (spare : MailDefaults) (mail : Mail) (letter : Letter) : Type 0 where
   pub said : List ℕ
   pub tag : IsArea (area_said mail spare) (Ok letter.tag)
@@ -84,12 +84,12 @@ IsLetterFault charset spare mail fault =
     ⊎ (IsWritten charset (subject_said mail spare) NoSubject (Err fault)
     ⊎ IsBody charset (text_of mail) (Err fault)))))
 
--- The right result for a mail.
+-- The correct result for a mail.
 abbrev pub LetterOf : Charset → MailDefaults → Mail → Result Letter LetterFault → Type 0
 LetterOf charset spare mail (Ok letter) = IsLetter charset spare mail letter
 LetterOf charset spare mail (Err fault) = IsLetterFault charset spare mail fault
 
--- The same for bytes that are read as a mail, or their fault.
+-- The same for bytes to read as a mail, or their fault.
 abbrev pub LetterAnswers : Charset → MailDefaults → Result Mail MailFault → Result Letter LetterFault → Type 0
 LetterAnswers charset spare (Ok mail) answer = LetterOf charset spare mail answer
 LetterAnswers charset spare (Err why) answer = IsRefused (letter_fault why) answer

@@ -1,4 +1,4 @@
--- A mail that is posted on a store.
+-- Posting a mail on a store.
 use Rattle.std.specs.Prelude.{◌≡◌, List, ℕ, Result, Ok, Err}
 use Rattle.base_file.specs.Base.{Base}
 use Rattle.cmd_report.specs.declared.posting.NewMessage.{NewMessage}
@@ -15,18 +15,18 @@ use Rattle.cmd_store.specs.declared.mail_posting.PostMail.{PostMail}
 use Rattle.cmd_store.specs.Letter.{LetterAnswers}
 use Rattle.cmd_store.specs.Mailed.{IsPosting}
 
--- The letter of the mail is to be posted as it was asked, or the mail is refused.
+-- The letter of the mail with its request, or the fault of the mail.
 abbrev pub ReadsMail : MailWords → List ℕ → Result PostMail LetterFault → Type 0
 ReadsMail asked bytes (Ok mail) = LetterAnswers asked.charset asked.spare (mail_in bytes) (Ok mail.letter) × (mail.asked ≡ asked)
 ReadsMail asked bytes (Err fault) = LetterAnswers asked.charset asked.spare (mail_in bytes) (Err fault)
 
--- The right result if the letter is to be posted at a system.
+-- The correct result of posting the letter at a system.
 pub record MailsOn {A : Type 0} (letter : Letter) (asked : MailWords) (system : SystemState) (old new : Output) (result : Result A CommandError) : Type 0 where
   pub words : NewMessage
   pub posting : IsPosting letter asked words
   pub posted : PostsAsOn asked.free words system letter.body old new result
 
--- The posting of the letter makes this base of one.
+-- The posting of the letter makes the base `next` of another.
 pub record Mails (file : LinkFile) (letter : Letter) (asked : MailWords) (base next : Base) : Type 0 where
   pub words : NewMessage
   pub posting : IsPosting letter asked words

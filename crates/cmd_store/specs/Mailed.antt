@@ -1,10 +1,10 @@
--- The words with which a mail is posted.
+-- The words that post a mail.
 use Rattle.std.specs.Prelude.{◌≡◌}
 use Rattle.cmd_report.specs.declared.posting.NewMessage.{NewMessage}
 use Rattle.cmd_store.specs.declared.letter.Letter.{Letter}
 use Rattle.cmd_store.specs.declared.mailed.MailWords.{MailWords}
 
--- the words with which a letter is posted
+-- The words that post a letter.
 pub record IsPosting (letter : Letter) (asked : MailWords) (words : NewMessage) : Type 0 where
   pub tag : words.tag.now ≡ letter.tag
   pub to_name : words.to_name.now ≡ letter.to_name

@@ -1,4 +1,4 @@
--- What `purge` prints, and what it makes of the base that a store holds.
+-- The output of `purge`, and the base that it makes of the one in a store.
 use Rattle.std.specs.Prelude.{◌≡◌, ℕ, ◌⊎◌, List, Result}
 use Rattle.base_file.specs.Base.{Base}
 use Rattle.cmd_report.specs.Lines.{purged_line}
@@ -8,18 +8,18 @@ use Rattle.base_store.specs.Store.{purged}
 use Rattle.cmd_store.specs.declared.command_error.CommandError.{CommandError}
 use Rattle.cmd_store.specs.Answered.{AnswersAndCommits, RefusesNone}
 
--- The purge of a base: the line of how many messages it changes.
+-- The line of a purge, with the number of messages that it changes.
 abbrev pub IsPurgedAt : {A : Type 0} → Base → List ℕ → A → Type 0
 IsPurgedAt base lines done = lines ≡ purged_line (changed base.messages base.cursor)
 
--- The right result if a base is to be purged.
+-- The correct result of purging a base.
 abbrev pub PurgesOn : {A : Type 0} → Base → Output → Output → Result A CommandError → Type 0
 PurgesOn base old new result = AnswersAndCommits (IsPurgedAt base) RefusesNone old new result
 
--- The purge makes this base of one.
+-- The purge makes the base `next` of another.
 abbrev pub Purges : Base → Base → Type 0
 Purges base next = next ≡ purged base
 
--- A purge may first commit what the store held before.
+-- A purge may first commit the base that the store held before.
 abbrev pub HoldsOrPurges : Base → Base → Type 0
 HoldsOrPurges base next = (next ≡ base) ⊎ Purges base next

@@ -1,4 +1,4 @@
--- An answer to a message that a store holds.
+-- An answer to a message in a store.
 use Rattle.std.specs.Prelude.{◌≡◌, ℕ, ◌⊎◌, List, Option, Some, None, slice_get, Result, Ok, Err}
 use Rattle.base_file.specs.Base.{Base}
 use Rattle.echo_filed.specs.Filed.{Filed}
@@ -16,7 +16,7 @@ use Rattle.cmd_store.specs.declared.command_error.CommandError.TheVariants.{Met,
 use Rattle.cmd_store.specs.Answered.{StopsFirst}
 pub use Rattle.cmd_store.specs.FreeSerial.{PostsAs, PostsAsOn}
 
--- The words that the message gives, which is found or not, or why there are none; or the store failed.
+-- The words that the message gives, or why there are no words: no such message, no memory, or a failed store.
 abbrev pub FindsOn : Option Filed → Result ReplyFields CommandError → Type 0
 FindsOn None (Err (Met fault)) = fault ≡ BadNumber
 FindsOn None other = ⊥
@@ -30,17 +30,17 @@ pub record PostsReplyOn {A : Type 0} (m : Filed) (answer : Answer) (system : Sys
   pub of_message : IsReply m answer words
   pub posted : PostsAsOn answer.free words system body old new result
 
--- There is no such message, and nothing is printed.
+-- There is no such message, and the command prints no line.
 abbrev pub HasNoneOn : {A : Type 0} → Output → Output → Result A CommandError → Type 0
 HasNoneOn old new (Err (Met fault)) = (fault ≡ BadNumber) × (new ≡ old)
 HasNoneOn old new other = ⊥
 
--- What becomes of an answer to the message that is found, or not.
+-- The result of answering the message, or of finding no message.
 abbrev pub RepliesOn : {A : Type 0} → Option Filed → Answer → SystemState → List ℕ → Output → Output → Result A CommandError → Type 0
 RepliesOn None answer system body old new result = HasNoneOn old new result
 RepliesOn (Some m) answer system body old new result = StopsFirst old new result ⊎ PostsReplyOn m answer system body old new result
 
--- The answer to the message of this number makes this base of one.
+-- The answer to the message of this number makes the base `next` of another.
 pub record Replies (file : LinkFile) (index : ℕ) (answer : Answer) (body : List ℕ) (base next : Base) : Type 0 where
   pub message : Filed
   pub found : slice_get base.messages index ≡ Some message

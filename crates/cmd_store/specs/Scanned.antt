@@ -1,4 +1,4 @@
--- What `scan` prints of the base that a store holds, and its packets.
+-- The output of `scan` for the base in a store, and its packets.
 use Rattle.std.specs.Prelude.{◌≡◌, true, false, ℕ, List, map, Result, Ok, Err}
 use Rattle.std.specs.List.{flat_map}
 use Rattle.model_steps.specs.PacketFiles.{PacketFile}
@@ -28,7 +28,7 @@ pub record ArePlanned (before : ℕ) (packets : List CountedPacket) (lines : Lis
   pub printed : lines ≡ flat_map counted_line packets
   pub names : planned ≡ map (planned_for before) packets
 
--- What was planned, as files with these bytes for each address.
+-- The planned packets as files with these bytes for each address.
 abbrev pub files_made : (Address → List ℕ) → Result (List PlannedPacket) CommandError → Result (List PacketFile) CommandError
 files_made content (Ok planned) = Ok (map (file_with content) planned)
 files_made content (Err why) = Err why
@@ -37,6 +37,6 @@ files_made content (Err why) = Err why
 abbrev pub IsUnscannedAt : Stamp → Fault → Type 0
 IsUnscannedAt stamp fault = (fault ≡ Scan BadStamp) × (is_stamp stamp ≡ false)
 
--- The right result if a system is to be scanned.
+-- The correct result of scanning a system.
 abbrev pub ScansOn : Stamp → SystemState → Output → Output → Result (List PacketFile) CommandError → Type 0
 ScansOn stamp system old new result = AnswersOn (IsScannedAt stamp system) (IsUnscannedAt stamp) old new result

@@ -16,7 +16,7 @@ abbrev pub post_stop : PostStepError → CommandError
 post_stop (post.Refused why) = stop.Met (Post why)
 post_stop (post.Store cause) = stop.Store cause
 
--- What the store answered.
+-- The answer of the store.
 abbrev pub store_answer : {A : Type 0} → Result A CommandError → Result (Unit {0}) StoreError
 store_answer (Ok done) = Ok tt
 store_answer (Err (stop.Met fault)) = Ok tt
@@ -27,7 +27,7 @@ abbrev pub IsOfStore : CommandError → Type 0
 IsOfStore (stop.Met fault) = ⊥
 IsOfStore (stop.Store cause) = Unit {0}
 
--- The fault that reports why a command stopped, with the store at the path.
+-- The reported fault of a command that stopped, with the store at this path.
 abbrev pub IsToldAs : List ℕ → CommandError → Fault → Type 0
 IsToldAs path (stop.Met fault) told = told ≡ fault
 IsToldAs path (stop.Store error.Memory) told = told ≡ OutOfMemory

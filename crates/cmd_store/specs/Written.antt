@@ -1,4 +1,4 @@
--- What a mail says, in a charset.
+-- The text of a mail, in a charset.
 use Rattle.std.specs.Prelude.{ℕ, ◌≡◌, ◌⊎◌, List, Option, Some, None, Result, Ok, Err}
 use Rattle.std.specs.Option.{option_map, option_or}
 use Rattle.echo_charset.specs.declared.charset.Charset.{Charset}
@@ -9,25 +9,25 @@ use Rattle.echo_mail.specs.Mailbox.{person_name}
 use Rattle.cmd_store.specs.declared.fault.LetterFault.{LetterFault}
 use Rattle.cmd_store.specs.declared.fault.LetterFault.TheVariants.{Memory, NotInCharset}
 
--- A fault is answered, unless memory was refused.
+-- The answer is this fault, or out of memory.
 abbrev pub IsRefused : {A : Type 0} → LetterFault → Result A LetterFault → Type 0
 IsRefused why (Ok found) = ⊥
 IsRefused why (Err fault) = (fault ≡ Memory) ⊎ (fault ≡ why)
 
--- Bytes say the text in a charset, or the charset lacks a character of it, unless memory was refused.
+-- The bytes decode to the text in this charset, or the charset lacks a character of it, or memory ran out.
 abbrev pub IsSaid : Charset → List ℕ → Result (List ℕ) LetterFault → Type 0
 IsSaid charset text (Ok bytes) = decoded_text charset bytes ≡ text
 IsSaid charset text (Err fault) = (fault ≡ Memory) ⊎ ((fault ≡ NotInCharset) × Lacks charset text)
 
--- The same of a text that may be absent, which is a fault.
+-- The same for a text that may be absent, which is a fault.
 abbrev pub IsWritten : Charset → Option (List ℕ) → LetterFault → Result (List ℕ) LetterFault → Type 0
 IsWritten charset None lack answer = IsRefused lack answer
 IsWritten charset (Some text) lack answer = IsSaid charset text answer
 
--- The name that a field says, or else a word.
+-- The name in a field, or otherwise a word.
 abbrev pub name_or : Option (List ℕ) → Option (List ℕ) → Option (List ℕ)
 name_or value word = option_or (option_map person_name value) word
 
--- The words of a field, or else a word.
+-- The words of a field, or otherwise a word.
 abbrev pub words_or : Option (List ℕ) → Option (List ℕ) → Option (List ℕ)
 words_or value word = option_or (option_map decoded_words value) word

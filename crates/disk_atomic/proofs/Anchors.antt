@@ -1,4 +1,4 @@
--- Packets that stand whole at one of their two paths, on the disk, and what naming another leaves of them.
+-- Packets that are whole on the disk at one of their two paths, while another packet gets its path.
 use Rattle.std.proofs.Common.{◌≡◌, ◌⊎◌, inl, inr, ⊎_elim, ◌∙◌, Bool, true, false, List, ℕ, Some, refl, sym}
 use Rattle.disk_io.specs.Disk.{DiskState, Files}
 use Rattle.disk_atomic.specs.Changes.{ChangesOnly, HasOnDisk}
@@ -8,11 +8,11 @@ use Rattle.disk_atomic.specs.declared.outgoing.Outgoing.{Outgoing}
 use Rattle.disk_atomic.proofs.Changes.{left_there, stays_on_disk}
 use Rattle.disk_atomic.proofs.Packets.{AtBoth}
 
--- whatever a crash leaves, the packet stands whole at one of its two paths
+-- after any crash, the packet is whole at one of its two paths
 abbrev pub IsAnchored : (Outgoing → List ℕ) → DiskState → Outgoing → Type 0
 IsAnchored content disk p = HasOnDisk disk p.path.now (content p) ⊎ HasOnDisk disk p.staging.now (content p)
 
--- its path has what it had
+-- its path leads to the same file as before
 abbrev pub IsSameAt : DiskState → DiskState → Outgoing → Type 0
 IsSameAt old new p = new.seen p.path.now ≡ old.seen p.path.now
 
@@ -44,7 +44,7 @@ module _ (content : Outgoing → List ℕ) (x y : Outgoing) (apart : AreApart x 
     pub same_stays : (d0 : DiskState) → IsSameAt d0 d y → IsSameAt d0 e y
     same_stays d0 was = run.seen y.path.now not_path ∙ was
 
-  -- and what a crash leaves of it
+  -- the packet after a crash
   pub whole_stays : (d : DiskState) (b c : Files) → d.may_leave b → Names x.path.now x.staging.now b c → IsAnchored content d y → StandsWhole content c y
   whole_stays d b c left names on =
       ⊎_elim

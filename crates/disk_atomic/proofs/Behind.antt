@@ -1,4 +1,4 @@
--- Staging files of packets that are apart, one of which got longer.
+-- Staging files of disjoint packets, one of which grew.
 use Rattle.std.proofs.Common.{◌≡◌, ◌≢◌, ◌∙◌, ⊎_elim, ℕ, ◌<◌, ◌≤◌, ◌+◌, ◌++◌, List, ap, arith, get_or, length, subst, sym}
 use Rattle.std.specs.Prelude.{All, AllPairs, IsSome}
 use Rattle.std.specs.List.{AllWithin}
@@ -19,7 +19,7 @@ module _ (packets : List Outgoing) (pairs : AllPairs AreApart packets) (i : ℕ)
   same_other : (k : ℕ) (p : Outgoing) → k ≢ i → k < length packets → e.seen (get_or packets k p).staging.now ≡ d.seen (get_or packets k p).staging.now
   same_other k p differs within = run.seen (get_or packets k p).staging.now (other k p differs within)
 
-  -- the one that it is
+  -- the current element
   one_at : (k : ℕ) (p : Outgoing) → k ≡ i → get_or packets k p ≡ x
   one_at k p same = ap (λ (n : ℕ). get_or packets n p) same ∙ get_or_default packets i p x lt ∙ sym is
 

@@ -6,7 +6,7 @@ use Rattle.disk_io.specs.Runs.{ChangesAt, ChangesNothing, LeavesOnly, NoPath, On
 use Rattle.disk_io.proofs.Moments.{left_now, no_call, one_call, then_run, weaker_run}
 use Rattle.disk_atomic.specs.Changes.{ChangesOnly, DifferAt, HasOnDisk}
 
--- ---- runs whose moments are steps from the state before them
+-- ---- runs of steps from the state before them
 
 -- one run after another: each outcome of the second is a step from one that the first has at its end
 pub then_steps : (d0 d1 d2 : DiskState) (R Q P : Files → Files → Type 0) → LeavesOnly d0 d1 (OneStepOn R d0) → LeavesOnly d1 d2 (OneStepOn Q d1)
@@ -80,7 +80,7 @@ module _ (paths : List ℕ → Type 0) where
         any_moment = then_steps d0 d1 d2 differ differ differ first.any_moment second.any_moment (λ a b r. r) (λ a b c at left r q m other. q m other ∙ r m other);
       }
 
-  -- what they do not change stays on the disk
+  -- a file at another path remains on the disk
   pub stays_on_disk : (old new : DiskState) (m bytes : List ℕ) → ChangesOnly paths old new → (paths m → ⊥) → HasOnDisk old m bytes → HasOnDisk new m bytes
   stays_on_disk old new m bytes run other was = record {
     seen = run.seen m other ∙ was.seen;
@@ -101,6 +101,6 @@ wider few many old new more run =
       any_moment = weaker_steps old new (DifferAt few) (DifferAt many) run.any_moment (λ a b r m other. r m (not m other));
     }
 
--- what a crash leaves of a file that is on the disk
+-- a crash leaves a file that is on the disk
 pub left_there : (disk : DiskState) (path bytes : List ℕ) → HasOnDisk disk path bytes → (c : Files) → disk.may_leave c → c path ≡ Some bytes
 left_there disk path bytes on c left = disk.on_disk path on.named on.flushed c left ∙ on.seen

@@ -1,4 +1,4 @@
--- A loop over a list whose elements are apart in pairs: what its step at one of them leaves of the others.
+-- A loop over a list of disjoint elements, and the effect of one step on the others.
 use Rattle.std.proofs.Common.{◌≡◌, ◌≢◌, ⊎_elim, ℕ, ◌+◌, ◌<◌, ◌≤◌, List, length, get_or, arith, sym, subst}
 use Rattle.std.specs.List.{All, AllPairs, AllWithin, Contains, HoldsAt}
 use Rattle.std.proofs.lemmas.Bool.{cases_lt, cases_order}
@@ -6,7 +6,7 @@ use Rattle.std.proofs.lemmas.List.{get_or_default}
 use Rattle.std.proofs.lemmas.List.Elements.{at_read, AllWithin-more, Contains-get_or}
 
 module _ {X : Type 0} (R : X → X → Type 0) (flip : (x y : X) → R x y → R y x) (xs : List X) (pairs : AllPairs R xs) (i : ℕ) (z : X) (lt : i < length xs) where
-  -- the one at which the step is
+  -- the current element
   abbrev x : X
   x = get_or xs i z
 
@@ -20,7 +20,7 @@ module _ {X : Type 0} (R : X → X → Type 0) (flip : (x y : X) → R x y → R
       ⊎_elim (λ (e : k < i). flip (get_or xs k d) (get_or xs i d) (pairs k i d e lt)) (λ (le : i ≤ k). pairs i k d (omega arith) within) (cases_lt k i) in
       subst (λ (y : X). R y (get_or xs k d)) (get_or_default xs i d z lt) there
 
-  -- the elements up to this one, behind the step
+  -- the elements up to this one, after the step
   pub behind : (P Q : X → Type 0) → ((y : X) → R x y → P y → Q y) → Q x → AllWithin P xs 0 i → AllWithin Q xs 0 (i + 1)
   behind P Q keeps now was = AllWithin-more Q xs 0 i (λ k d low high. keeps (get_or xs k d) (apart k d (omega arith) (omega arith)) (was k d low high)) (at Q now)
 

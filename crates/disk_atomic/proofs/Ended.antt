@@ -1,4 +1,4 @@
--- Packets brought to their end, one after another.
+-- Finishing packets in order.
 use Rattle.std.proofs.Common.{◌≡◌, ◌≢◌, ◌⊎◌, inl, inr, ⊎_elim, ◌∙◌, ◌+◌, ◌<◌, ◌≤◌, ℕ, List, [], arith, get_or, length, refl, subst, sym}
 use Rattle.std.specs.Prelude.{AllPairs, IsSome}
 use Rattle.std.specs.List.{AllWithin}
@@ -23,7 +23,7 @@ away_back l k a = record {
   staging_not_path = λ e. a.path_not_staging (sym e);
 }
 
--- what a loop reads past the end
+-- the value that a loop reads past the end
 abbrev pub nothing_left : Left
 nothing_left = record { path = record { ref_ptr = (0, 0); now = [] }; staging = record { ref_ptr = (0, 0); now = [] }; before = 0 }
 
@@ -31,15 +31,15 @@ nothing_left = record { path = record { ref_ptr = (0, 0); now = [] }; staging = 
 abbrev pub AtLeft : Left → List ℕ → Type 0
 AtLeft l m = (m ≡ l.staging.now) ⊎ (m ≡ l.path.now)
 
--- a step that changes nothing, of a packet that is not reached
+-- a step that changes nothing, for a packet not yet reached
 pub ends_same : (cursor : ℕ) (a b : Files) (l : Left) → b l.staging.now ≡ a l.staging.now → b l.path.now ≡ a l.path.now → EndsAs cursor a b l
 ends_same cursor a b l staging path = record { committed = λ lt. inr staging; untouched = λ le. path; either = inl path }
 
--- where the cursor was moved, a naming is the end
+-- if the cursor was moved past the packet, its naming finishes it
 pub named_finishes : (cursor : ℕ) (l : Left) → l.before < cursor → (a c : Files) → Names l.path.now l.staging.now a c → Finishes cursor l a c
 named_finishes cursor l lt a c n = record { others = n.others; ends = record { committed = λ is. n.stands; untouched = λ le. absurd (omega arith); either = n.either } }
 
--- calls that change nothing, and then a run
+-- quiet calls, then a run
 pub quiet_then : (d0 d1 d2 : DiskState) (Q P : Files → Files → Type 0) → ChangesNothing d0 d1 → ((c : Files) → P c c) → LeavesOnly d1 d2 (OneStepOn Q d1) → ((a c : Files) → Q a c → P a c) → LeavesOnly d0 d2 (OneStepOn P d0)
 quiet_then d0 d1 d2 Q P quiet none run gives =
     then_run d0 d1 d2 (OneStepOn P d0) (OneStepOn Q d1)
@@ -47,7 +47,7 @@ quiet_then d0 d1 d2 Q P quiet none run gives =
     run
     (λ c step. (step.0, quiet.no_more step.0 step.1, gives step.0 c step.2))
 
--- what is seen at both paths is what was seen
+-- both paths show the same files as before
 pub record IsSameLeft (old new : DiskState) (l : Left) : Type 0 where
   pub path : new.seen l.path.now ≡ old.seen l.path.now
   pub staging : new.seen l.staging.now ≡ old.seen l.staging.now
@@ -84,7 +84,7 @@ module _ (x y : Left) (away : AreAway x y) where
         untouched = λ le. run.seen y.path.now left_not_path ∙ was.untouched le;
       }
 
-  -- and what a crash leaves of it
+  -- the packet after a crash
   pub still_ends : (cursor : ℕ) (a b c : Files) → DifferAt (AtLeft x) b c → EndsAs cursor a b y → EndsAs cursor a c y
   still_ends cursor a b c r was =
       let path : c y.path.now ≡ b y.path.now = r y.path.now left_not_path in
@@ -95,7 +95,7 @@ module _ (x y : Left) (away : AreAway x y) where
         either = ⊎_elim (λ e. inl (path ∙ e)) (λ e. inr (path ∙ e)) was.either;
       }
 
--- the packet at hand, which was as it was first
+-- the current packet, which was unchanged until now
 module _ (cursor : ℕ) (x : Left) where
   pub ends_now : (a b c : Files) → b x.staging.now ≡ a x.staging.now → b x.path.now ≡ a x.path.now → EndsAs cursor b c x → EndsAs cursor a c x
   ends_now a b c staging path ends = record {
@@ -117,7 +117,7 @@ module _ (cursor : ℕ) (x : Left) where
     pub keeps_now : KeepsFile d e x → KeepsFile d0 e x
     keeps_now keeps some = keeps (subst (λ f. IsSome f) (sym same.path) some) ∙ same.path
 
--- so far the first of them came to their end
+-- the first i packets are finished
 pub record FinishesSome (cursor : ℕ) (found : List Left) (i : ℕ) (before after : Files) : Type 0 where
   pub others : DifferAt (IsOfLeft found) before after
   pub ends : AllWithin (EndsAs cursor before after) found 0 i
@@ -159,7 +159,7 @@ none_finished cursor found d0 d1 quiet =
     weaker_run d0 d1 d0.may_leave (OneStepOn (FinishesSome cursor found 0) d0) quiet.run
     (λ c left. (c, left, record { others = λ m out. refl; ends = AllWithin-none (EndsAs cursor c c) found 0; same = λ k z low high. (refl, refl) }))
 
--- where it was not, the removal is
+-- if it was not, the removal finishes it
 pub removed_finishes : (cursor : ℕ) (l : Left) → cursor ≤ l.before → l.staging.now ≢ l.path.now → (old new : DiskState) → old.is_named l.staging.now
     → ChangesAt (ThisPath l.staging.now) (ThisPath l.staging.now) (ThisPath l.staging.now) (ChangesFile old l.staging.now TornRemoval) old new → LeavesOnly old new (OneStepOn (Finishes cursor l) old)
 removed_finishes cursor l le other old new named call =

@@ -8,7 +8,7 @@ use Rattle.disk_io.specs.Steps.{IsWrittenAt}
 use Rattle.disk_atomic.specs.Changes.{IsGrowing}
 use Rattle.disk_atomic.proofs.Whole.{some_is_there}
 
--- bytes behind bytes
+-- bytes followed by bytes
 pub are_both : (a b : List ℕ) → AreBytes a → AreBytes b → (i : ℕ) → slice_index (a ++ b) i < 256
 are_both [] b one two i = two i
 are_both (x ∷ a) b one two zero = one zero
@@ -21,7 +21,7 @@ written_behind old new bytes at long written =
     let behind : drop (at + length bytes) old ≡ [] = drop_all (at + length bytes) old (omega (arith, long)) in
     written ∙ (λ k. (front k ++ bytes) ++ behind k) ∙ append-nil (old ++ bytes)
 
--- what the file has after one
+-- the file after one more write
 pub grown : (old new : DiskState) (path bytes : List ℕ) (at end : ℕ) → IsGrowing old path at → bytes_in (new.seen path) ≡ bytes_in (old.seen path) ++ bytes → end ≡ at + length bytes
     → AreBytes bytes → IsSome (new.seen path) → new.is_named path → new.is_alone path → IsGrowing new path end
 grown old new path bytes at end was more long are there named alone = record {

@@ -1,4 +1,4 @@
--- What a crash leaves while a packet gets its path, by a second path and the removal of the first.
+-- The files that a crash leaves while a packet gets its path, by a second path and the removal of the first.
 use Rattle.std.proofs.Common.{◌≡◌, ◌≢◌, ◌⊎◌, inl, inr, ⊎_elim, ◌∙◌, ℕ, List, refl, sym}
 use Rattle.disk_io.specs.Disk.{DiskState}
 use Rattle.disk_io.specs.Steps.{ChangesFile, TornNaming, TornRemoval}
@@ -24,7 +24,7 @@ module _ (path staging : List ℕ) (other : staging ≢ path) where
         either = ⊎_elim (λ same. inl same) (λ new. inr (new ∙ sym there)) (links.within free);
       })
 
-  -- it is on the disk, and the first goes
+  -- the new path is on the disk, and the first one goes
   pub moved_run : (d0 d1 d2 : DiskState) → LeavesOnly d0 d1 (OneStepOn (Names path staging) d0) → d0.is_named staging → d0.is_flushed staging → d1.is_named staging
       → d1.is_named path → d1.is_flushed path → d1.seen path ≡ d0.seen staging → ChangesAt (ThisPath staging) (ThisPath staging) (ThisPath staging) (ChangesFile d1 staging TornRemoval) d1 d2
       → LeavesOnly d0 d2 (OneStepOn (Names path staging) d0)
@@ -44,7 +44,7 @@ link_gives path staging other old new named flushed free call = record {
   stays = record { seen = call.beside staging other; named = call.named staging other; flushed = call.flushed staging other };
 }
 
--- the same with calls behind it that change nothing
+-- the same with quiet calls after it
 pub gives_quiet : (d0 d1 d2 : DiskState) (path staging : List ℕ) → Gives d0 d1 path staging → ChangesNothing d1 d2 → Gives d0 d2 path staging
 gives_quiet d0 d1 d2 path staging run quiet =
     let both = λ (m : List ℕ). (m ≡ staging) ⊎ (m ≡ path) in

@@ -1,4 +1,4 @@
--- Packets that are apart, and what a call at one of them leaves of the others.
+-- Disjoint packets, and the effect of a call at one of them on the others.
 use Rattle.std.proofs.Common.{◌≡◌, ◌⊎◌, ⊎_elim, ◌∙◌, ◌<◌, ℕ, List, [], ap, get_or, length, refl, sym}
 use Rattle.std.proofs.lemmas.Bool.{cases_order}
 use Rattle.std.proofs.lemmas.List.Elements.{at_read}
@@ -18,11 +18,11 @@ apart_back p q a = record {
   staging_not_path = λ e. a.path_not_staging (sym e);
 }
 
--- what a loop reads past the end
+-- the value that a loop reads past the end
 abbrev pub nobody : Outgoing
 nobody = record { path = record { ref_ptr = (0, 0); now = [] }; staging = record { ref_ptr = (0, 0); now = [] }; to = record { zone = 0; net = 0; node = 0 } }
 
--- the path beside one of them
+-- the staging path of a packet
 abbrev pub At : Outgoing → List ℕ → Type 0
 At p m = m ≡ p.staging.now
 
@@ -37,7 +37,7 @@ module _ (packets : List Outgoing) (x : Outgoing) (is : Contains packets x) (d e
   pub of_one : ChangesOnly (AtBoth x) d e → ChangesOnly (IsOfOne packets) d e
   of_one run = wider (AtBoth x) (IsOfOne packets) d e (λ m at. (x, is, at)) run
 
--- a run at the path beside x
+-- a run at the staging path of x
 module _ (d e : DiskState) (x : Outgoing) (run : ChangesOnly (At x) d e) (y : Outgoing) (apart : AreApart x y) where
   pub made_stays : IsMade d y → IsMade e y
   made_stays was = record {
@@ -58,7 +58,7 @@ made_through d e quiet packets all k z lt = record {
   alone = quiet.alone (get_or packets k z).staging.now (λ h. h) (all k z lt).alone;
 }
 
--- no packet's path is one that is beside another
+-- no packet's path is a staging path of another
 pub path_not_staging : (folder : List ℕ) (packets : List Outgoing) → ArePlaced folder packets → (k : ℕ) (z : Outgoing) → k < length packets → IsStagingOne packets (get_or packets k z).path.now → ⊥
 path_not_staging folder packets placed k z lt (p, (j, within, is), at) =
     let here : get_or packets j z ≡ p = at_read packets (λ (q : Outgoing). q ≡ p) j p within (sym is) refl z in

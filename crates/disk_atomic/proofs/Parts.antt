@@ -51,7 +51,7 @@ all_kept none first second third head part tail empty one two three =
     let nil : none ≡ [] = nil_from_length none empty in
     three ∙ ap (λ l. l ++ tail) (two ∙ ap (λ l. l ++ part) (one ∙ ap (λ l. l ++ head) nil)) ∙ append_assoc head part tail
 
--- a file that is there and flushed has all its bytes on the disk
+-- a flushed file has all its bytes on the disk
 pub all_on_disk : (disk : DiskState) (path : List ℕ) → IsSome (disk.seen path) → disk.is_named path → disk.is_flushed path → HasOnDisk disk path (bytes_in (disk.seen path))
 all_on_disk disk path there named flushed = record { seen = file_of_bytes (disk.seen path) (bytes_in (disk.seen path)) there refl; named = named; flushed = flushed }
 
@@ -59,7 +59,7 @@ all_on_disk disk path there named flushed = record { seen = file_of_bytes (disk.
 pub on_disk_as : (disk : DiskState) (path bytes : List ℕ) → HasOnDisk disk path (bytes_in (disk.seen path)) → bytes_in (disk.seen path) ≡ bytes → HasOnDisk disk path bytes
 on_disk_as disk path bytes has is = record { seen = has.seen ∙ ap (λ l. Some l) is; named = has.named; flushed = has.flushed }
 
--- a part of a file stays where the file does
+-- an unchanged file keeps its parts
 pub part_still : (d e : DiskState) (path : List ℕ) (from to : ℕ) → e.seen path ≡ d.seen path → (e.is_honest → d.is_honest) → HasPart d path from to → HasPart e path from to
 part_still d e path from to same since part = record {
   there = λ honest. subst (λ (f : Option (List ℕ)). IsSome f) (sym same) (part.there (since honest));

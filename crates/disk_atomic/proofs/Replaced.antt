@@ -1,4 +1,4 @@
--- What a crash leaves while a file is replaced by way of a path beside it.
+-- The files that a crash leaves while a call replaces a file through a staging path.
 use Rattle.std.proofs.Common.{◌≡◌, ◌≢◌, inl, inr, ⊎_elim, ◌∙◌, ℕ, List, refl, sym}
 use Rattle.disk_io.specs.Disk.{DiskState, Files}
 use Rattle.disk_io.specs.Steps.{RenamesFile}
@@ -13,7 +13,7 @@ module _ (path staging bytes : List ℕ) where
   Renames old new = ChangesAt (EitherPath staging path) (EitherPath staging path) (EitherPath staging path) (RenamesFile old staging path) old new
 
   module _ (other : staging ≢ path) where
-    -- files that differ beside the path alone
+    -- files that differ only at the staging path
     pub not_yet : (a c : Files) → DifferAt (λ m. m ≡ staging) a c → Replaces path staging bytes a c
     not_yet a c r = record { others = λ m out. r m (λ e. out (inl e)); either = inl (r path (λ e. other (sym e))) }
 

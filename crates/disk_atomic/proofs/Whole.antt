@@ -6,7 +6,7 @@ use Rattle.std.proofs.lemmas.Slice.Eq.{bytes_eq-Decides}
 use Rattle.disk_io.specs.Disk.{bytes_in}
 use Rattle.disk_io.specs.Steps.{IsWrittenAt}
 
--- a file that is there, by its bytes
+-- an existing file, by its bytes
 pub file_of_bytes : (file : Option (List ℕ)) (bytes : List ℕ) → IsSome file → bytes_in file ≡ bytes → file ≡ Some bytes
 file_of_bytes None bytes there is = absurd (cc there)
 file_of_bytes (Some found) bytes there is = ap (λ (l : List ℕ). Some l) is
@@ -21,12 +21,12 @@ written_whole before after bytes empty there written =
 pub some_is_there : (file : Option (List ℕ)) (bytes : List ℕ) → file ≡ Some bytes → IsSome file
 some_is_there file bytes is = subst (λ f. IsSome f) (sym is) refl
 
--- no file, where a test for one failed
+-- no file, since a test for one failed
 pub not_there : (file : Option (List ℕ)) (found : Bool) → (IsTrue found ↔ IsSome file) → found ≡ false → file ≡ None
 not_there None found tests is = refl
 not_there (Some bytes) found tests is = let yes : found ≡ true = tests.1 refl in absurd (cc (yes, is))
 
--- a file, where a test for none failed
+-- a file, since a test for its absence failed
 pub there_unless : (file : Option (List ℕ)) (free : Bool) → (IsTrue free ↔ (file ≡ None)) → free ≡ false → IsSome file
 there_unless None free tests is = let yes : free ≡ true = tests.1 refl in absurd (cc (yes, is))
 there_unless (Some bytes) free tests is = refl
@@ -36,7 +36,7 @@ none_is_not_there file none some =
     let nothing : IsSome {T = List ℕ} None = subst (λ (f : Option (List ℕ)). IsSome f) none some in
     absurd (cc nothing)
 
--- two files that are there are the same where their bytes are
+-- two existing files are the same if their bytes are
 pub same_files : (one other : Option (List ℕ)) (first second : List ℕ) (same : Bool) → IsSome one → IsSome other → first ≡ bytes_in one → second ≡ bytes_in other
     → same ≡ bytes_eq first second → (same ≡ true) ↔ (one ≡ other)
 same_files one other first second same here there is_one is_other tests =
@@ -45,7 +45,7 @@ same_files one other first second same here there is_one is_other tests =
       λ e. tests ∙ decides.1 (is_one ∙ ap bytes_in e ∙ sym is_other),
     )
 
--- what is so anyway
+-- a fact without a condition
 pub on_ok_any : {T E P : Type 0} (result : Result T E) → P → OnOk result P
 on_ok_any (Ok value) is = is
 on_ok_any (Err error) is = tt

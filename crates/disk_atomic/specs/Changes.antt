@@ -1,14 +1,14 @@
--- The changes that a run of calls makes, as seen after it and after a crash at any time.
+-- The changes that a run of calls makes, as reads show them and after a crash at any time.
 use Rattle.std.specs.Prelude.{◌≡◌, List, ℕ, length, IsSome, Some}
 use Rattle.disk_io.specs.Disk.{DiskState, Files, bytes_in}
 use Rattle.disk_io.specs.Fixed.{AreBytes}
 use Rattle.disk_io.specs.Runs.{KeepsAlone, KeepsFlushed, KeepsNamed, LeavesOnly, OneStepOn}
 
--- except at these paths the files are the same
+-- The files are the same, except at these paths.
 abbrev pub DifferAt : (List ℕ → Type 0) → Files → Files → Type 0
 DifferAt paths before after = (m : List ℕ) → (paths m → ⊥) → after m ≡ before m
 
--- A run that changes nothing except at these paths. A crash at any time leaves a state that a crash before could have left, except at them.
+-- A run that changes files only at these paths. Elsewhere, a crash at any time leaves a state that a crash before could have left.
 pub record ChangesOnly (paths : List ℕ → Type 0) (old new : DiskState) : Type 0 where
   pub seen : DifferAt paths old.seen new.seen
   pub named : KeepsNamed paths old new

@@ -35,7 +35,7 @@ IsThere disk l = IsSome (disk.seen l.staging.now)
 abbrev pub IsFreeOf : DiskState → Left → Type 0
 IsFreeOf disk l = disk.seen l.path.now ≡ None
 
--- Whether its two paths lead to files is on the disk.
+-- The current entries of its two paths are on the disk.
 pub record AreNamed (disk : DiskState) (l : Left) : Type 0 where
   pub path : disk.is_named l.path.now
   pub staging : disk.is_named l.staging.now
@@ -46,7 +46,7 @@ pub record IsOver (cursor : ℕ) (old new : DiskState) (l : Left) : Type 0 where
   pub gone : cursor ≤ l.before → new.seen l.staging.now ≡ None
   pub untouched : cursor ≤ l.before → new.seen l.path.now ≡ old.seen l.path.now
 
--- a file at its path is still there
+-- A file at its path is still there.
 abbrev pub KeepsFile : DiskState → DiskState → Left → Type 0
 KeepsFile old new l = IsSome (old.seen l.path.now) → new.seen l.path.now ≡ old.seen l.path.now
 
@@ -56,12 +56,12 @@ pub record EndsAs (cursor : ℕ) (before after : Files) (l : Left) : Type 0 wher
   pub untouched : cursor ≤ l.before → after l.path.now ≡ before l.path.now
   pub either : (after l.path.now ≡ before l.path.now) ⊎ (after l.path.now ≡ before l.staging.now)
 
--- this packet ends like that, and all else is unchanged
+-- This packet ends in this way, and everything else is unchanged.
 pub record Finishes (cursor : ℕ) (l : Left) (before after : Files) : Type 0 where
   pub others : DifferAt (λ m. (m ≡ l.staging.now) ⊎ (m ≡ l.path.now)) before after
   pub ends : EndsAs cursor before after l
 
--- each of them ends like that, and all else is unchanged
+-- Each of these packets ends in this way, and everything else is unchanged.
 pub record FinishesEach (cursor : ℕ) (found : List Left) (before after : Files) : Type 0 where
   pub others : DifferAt (IsOfLeft found) before after
   pub ends : All (EndsAs cursor before after) found

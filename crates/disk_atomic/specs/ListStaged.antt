@@ -9,17 +9,17 @@ pub record IsNameByte (b : ℕ) : Type 0 where
   pub no_slash : b ≢ 47
   pub no_tilde : b ≢ 126
 
--- The name of a packet of a scan before which so many messages were scanned.
+-- The name of a packet of a scan. `before` is the number of messages scanned earlier.
 pub record IsNumbered (before : ℕ) (name : List ℕ) : Type 0 where
   pub front : List ℕ
   pub parts : name ≡ front ++ (codes "." ++ (decimal before ++ codes ".pkt"))
   pub plain : All IsNameByte name
 
--- This name of the folder has a staging file of the system with this own name.
+-- This name in the folder has a staging file of the system with this own name.
 abbrev pub HasStagingFile : List ℕ → List ℕ → Files → List ℕ → Type 0
 HasStagingFile folder own files name = IsSome (files (staging_path (folder ++ name) own))
 
--- The list is right: each entry is the name of a packet, with its number. Each such name with a staging file is listed.
+-- The list is correct: each entry is the name of a packet, with its number. It has each such name that has a staging file.
 pub record AreListed (folder own : List ℕ) (files : Files) (found : List StagedPacket) : Type 0 where
   pub each : All (λ l. IsNumbered l.before l.name) found
   pub all : (name : List ℕ) (before : ℕ) → IsNumbered before name → HasStagingFile folder own files name → (l : StagedPacket) × Contains found l × (l.name ≡ name)

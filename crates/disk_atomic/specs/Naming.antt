@@ -6,13 +6,13 @@ use Rattle.disk_atomic.specs.Changes.{ChangesOnly, DifferAt, HasOnDisk}
 use Rattle.disk_atomic.specs.Outgoing.{IsOfOne}
 use Rattle.disk_atomic.specs.declared.outgoing.Outgoing.{Outgoing}
 
--- The staging file is at one of the two paths, and the path is unchanged or has that file. All else is unchanged.
+-- The staging file is at one of the two paths, and the path is unchanged or has that file. Everything else is unchanged.
 pub record Names (path staging : List ℕ) (before after : Files) : Type 0 where
   pub others : DifferAt (λ m. (m ≡ staging) ⊎ (m ≡ path)) before after
   pub stands : (after path ≡ before staging) ⊎ (after staging ≡ before staging)
   pub either : (after path ≡ before path) ⊎ (after path ≡ before staging)
 
--- The path leads to the same file, or still to none. It is still on the disk if it was.
+-- The path leads to the same file, or still to no file. It is still on the disk if it was.
 pub record StaysThere (old new : DiskState) (path : List ℕ) : Type 0 where
   pub seen : new.seen path ≡ old.seen path
   pub named : old.is_named path → new.is_named path
@@ -23,7 +23,7 @@ pub record AreBothIn (folder staging path : List ℕ) : Type 0 where
   pub path_in : IsIn folder path
   pub staging_in : IsIn folder staging
 
--- The file at the one path is on the disk. So is what the other path leads to.
+-- The file at the staging path is on the disk. So is the entry of the other path.
 pub record CanLink (disk : DiskState) (staging path : List ℕ) : Type 0 where
   pub other : staging ≢ path
   pub there : Honestly disk (IsSome (disk.seen staging))
@@ -31,13 +31,13 @@ pub record CanLink (disk : DiskState) (staging path : List ℕ) : Type 0 where
   pub staging_named : disk.is_named staging
   pub path_named : disk.is_named path
 
--- A call that gives a staging file its path, whether it could or not.
+-- A call that tries to give a staging file its path.
 pub record Gives (old new : DiskState) (path staging : List ℕ) : Type 0 where
   pub any_moment : LeavesOnly old new (OneStepOn (Names path staging) old)
   pub changes : ChangesOnly (λ m. (m ≡ staging) ⊎ (m ≡ path)) old new
   pub stays : StaysThere old new staging
 
--- The staging file has its path alone, on the disk.
+-- The staging file now has only its path, and it is on the disk.
 pub record HasMoved (old new : DiskState) (path staging : List ℕ) : Type 0 where
   pub seen : new.seen path ≡ old.seen staging
   pub gone : new.seen staging ≡ None
@@ -53,12 +53,12 @@ pub record IsTaken (old : DiskState) (path staging : List ℕ) : Type 0 where
 abbrev pub StandsWhole : (Outgoing → List ℕ) → Files → Outgoing → Type 0
 StandsWhole content c p = (c p.path.now ≡ Some (content p)) ⊎ (c p.staging.now ≡ Some (content p))
 
--- Each packet is whole at one of its two paths; all else is unchanged.
+-- Each packet is whole at one of its two paths, and everything else is unchanged.
 pub record NamesEach (content : Outgoing → List ℕ) (packets : List Outgoing) (before after : Files) : Type 0 where
   pub others : DifferAt (IsOfOne packets) before after
   pub whole : All (StandsWhole content after) packets
 
--- the packet has its path alone, on the disk
+-- The packet has only its path, and it is on the disk.
 pub record HasItsPath (content : Outgoing → List ℕ) (disk : DiskState) (p : Outgoing) : Type 0 where
   pub file : HasOnDisk disk p.path.now (content p)
   pub gone : disk.seen p.staging.now ≡ None

@@ -36,11 +36,11 @@ pub record ArePlaced (folder : List ℕ) (packets : List Outgoing) : Type 0 wher
   pub each : All (IsPlaced folder) packets
   pub apart : AllPairs AreApart packets
 
--- Its content is bytes. What each packet has is given by a function, here and below.
+-- The content of the packet is bytes. Here and below, a function gives the content of each packet.
 abbrev pub SendsBytes : (Outgoing → List ℕ) → Outgoing → Type 0
 SendsBytes content p = AreBytes (content p)
 
--- the bytes of its staging file, where these files are seen
+-- The bytes of its staging file among these files.
 abbrev pub staged_in : Files → Outgoing → List ℕ
 staged_in seen p = bytes_in (seen p.staging.now)
 
@@ -48,7 +48,7 @@ staged_in seen p = bytes_in (seen p.staging.now)
 abbrev pub IsFree : DiskState → Outgoing → Type 0
 IsFree disk p = disk.seen p.path.now ≡ None
 
--- Whether its staging file exists is on the disk.
+-- The disk has the current entry of its staging path.
 abbrev pub IsStagingNamed : DiskState → Outgoing → Type 0
 IsStagingNamed disk p = disk.is_named p.staging.now
 
@@ -56,7 +56,7 @@ IsStagingNamed disk p = disk.is_named p.staging.now
 abbrev pub IsStagingGone : DiskState → Outgoing → Type 0
 IsStagingGone disk p = disk.seen p.staging.now ≡ None
 
--- Its staging file is made and empty.
+-- Its staging file exists and is empty.
 pub record IsMade (disk : DiskState) (p : Outgoing) : Type 0 where
   pub empty : disk.seen p.staging.now ≡ Some []
   pub alone : disk.is_alone p.staging.now
@@ -65,7 +65,7 @@ pub record IsMade (disk : DiskState) (p : Outgoing) : Type 0 where
 abbrev pub CanGrowStaging : DiskState → Outgoing → Type 0
 CanGrowStaging disk p = CanGrow disk p.staging.now
 
--- Its staging file has the bytes for its address behind those that it had.
+-- Its staging file has grown by the bytes for its address.
 abbrev pub IsLonger : (Address → List ℕ) → DiskState → DiskState → Outgoing → Type 0
 IsLonger more old new p = staged_in new.seen p ≡ staged_in old.seen p ++ more p.to
 
@@ -81,7 +81,7 @@ IsStagingFlushed disk p = disk.is_flushed p.staging.now
 abbrev pub IsFilled : (Outgoing → List ℕ) → DiskState → Outgoing → Type 0
 IsFilled content disk p = HasOnDisk disk p.staging.now (content p)
 
--- The packet is in its staging file, and whether its path leads to a file is on the disk too.
+-- The packet is in its staging file on the disk, and the current entry of its path is on the disk too.
 pub record IsStaged (content : Outgoing → List ℕ) (disk : DiskState) (p : Outgoing) : Type 0 where
   pub file : HasOnDisk disk p.staging.now (content p)
   pub named : disk.is_named p.path.now

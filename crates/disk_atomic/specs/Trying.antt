@@ -1,12 +1,12 @@
--- Whether a file gets a second path.
+-- A test whether a file can get a second path.
 use Rattle.std.specs.Prelude.{◌≡◌, ◌⊎◌, List, ℕ, None}
 use Rattle.disk_io.specs.Disk.{DiskState, Honestly}
 use Rattle.disk_io.specs.Runs.{LeavesOnly, OneStepOn}
 use Rattle.disk_atomic.specs.Changes.{ChangesOnly, DifferAt}
 use Rattle.disk_atomic.specs.Naming.{Names, StaysThere}
 
--- A file got this second path, which was free, in one step: a crash leaves the path free or with the whole file. Except at these paths, the
--- files are as they were first. So the device gives files second paths, and nothing else was done before.
+-- A file got this free path as its second one, in one step: a crash leaves the path free or with the whole file.
+-- Outside `paths`, all files are as they were first. So the device supports second paths, and nothing else has changed.
 pub record WasTried {D : Type 0} (state : D → DiskState) (paths : List ℕ → Type 0) (trial : List ℕ) (first : DiskState) : Type 0 where
   pub from : List ℕ
   pub before : D
@@ -17,7 +17,7 @@ pub record WasTried {D : Type 0} (state : D → DiskState) (paths : List ℕ →
   pub at_once : LeavesOnly (state before) (state after) (OneStepOn (Names trial from) (state before))
   pub elsewhere : DifferAt paths first.seen (state after).seen
 
--- the path was tried with the file at another path, which keeps it
+-- The call tried the path with the file at another path, which keeps it.
 pub record Tries (old new : DiskState) (trial from : List ℕ) : Type 0 where
   pub changes : ChangesOnly (λ m. (m ≡ from) ⊎ (m ≡ trial)) old new
   pub stays : StaysThere old new from

@@ -1,5 +1,5 @@
-//! Bytes written at the end of a file whose length is known.
-ghost use Rattle.std.specs.Prelude.{◌≡◌, ◌++◌, List, ℕ, IfOk, OnOk};
+//! Bytes written at the end of a file with a known length.
+ghost use Rattle.std.specs.Prelude.{◌≡◌, ◌++◌, IfOk, OnOk};
 ghost use Rattle.disk_io.specs.Disk.{bytes_in};
 ghost use Rattle.disk_io.specs.Runs.{HasCause, KeepsNamed};
 ghost use Rattle.disk_atomic.specs.Changes.{ChangesOnly, IsGrowing};

@@ -1,5 +1,5 @@
 //! A file is replaced by a head, a part of its old bytes, and a tail.
-ghost use Rattle.std.specs.Prelude.{◌≡◌, ◌≢◌, ◌⊎◌, ◌++◌, ℕ, List, [], drop, take, IfOk, IsSome, OnOk, Some};
+ghost use Rattle.std.specs.Prelude.{◌≡◌, ◌≢◌, ◌⊎◌, ◌++◌, ℕ, List, drop, take, IfOk, IsSome, OnOk};
 ghost use Rattle.disk_io.specs.Disk.{Honestly, IsIn, bytes_in};
 ghost use Rattle.disk_io.specs.Runs.{HasCause, KeepsNamed, LeavesOnly, OneStepOn};
 ghost use Rattle.disk_atomic.specs.Changes.{ChangesOnly, HasOnDisk, IsGrowing};

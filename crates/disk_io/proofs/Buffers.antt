@@ -1,4 +1,4 @@
--- A buffer in front of a source: what is taken from its front, and what is left.
+-- A buffer before a source: the bytes that leave its front, and the bytes that remain.
 use Rattle.std.proofs.Common.{◌≡◌, ℕ, ◌+◌, ◌-◌, ◌<◌, ◌≤◌, min, List, [], ◌++◌, Option, length, take, drop, slice_range, sym, ap, subst, ◌∙◌, arith, drop-drop, take-append-drop}
 use Rattle.std.proofs.lemmas.List.{drop-take, nil_from_length}
 use Rattle.std.proofs.Math.Seq.{drop-nil}
@@ -13,11 +13,11 @@ slice_range-later xs start end n within =
     ∙ sym (drop-take n (end - (start + n)) (drop start xs))
     ∙ ap (λ k. drop n (take k (drop start xs))) whole
 
--- no byte was taken though there was room: the buffer is empty
+-- no byte moved though there was room: the buffer is empty
 empty_where_none : (held : List ℕ) (room n : ℕ) → n ≡ min (length held) room → n ≡ 0 → 0 < room → held ≡ []
 empty_where_none held room n count none some = nil_from_length held (omega arith)
 
--- as many bytes as there are, and room for, were taken from a buffer that is empty only at the end
+-- a call takes all bytes that the buffer has and that fit; the buffer is empty only at the end of the input
 pub taken_from_front : (a b : Option (List ℕ)) (held buf : List ℕ) (n room : ℕ) → Keeps a (prepend_known held b)
     → (held ≡ [] → IsAtEnd (prepend_known held b)) → n ≡ min (length held) room → take n buf ≡ take n held
     → Consumes a (prepend_known (drop n held) b) (take n buf) × (n ≡ 0 → 0 < room → IsAtEnd (prepend_known (drop n held) b))

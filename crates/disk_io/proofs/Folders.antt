@@ -1,4 +1,4 @@
--- The folder of a path is that of each path that begins with it.
+-- A path and each longer path that begins with it have the same folder.
 use Rattle.std.proofs.Common.{◌≢◌, ◌++◌, ◌∙◌, List, ap, ℕ}
 use Rattle.std.proofs.lemmas.List.{append_assoc}
 use Rattle.std.proofs.lemmas.List.Elements.{All-append}

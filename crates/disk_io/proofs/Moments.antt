@@ -1,9 +1,9 @@
--- How a run of calls goes on, and what a crash may leave at each moment of it.
+-- Joining runs of calls, and the files that a crash may leave at each time.
 use Rattle.std.proofs.Common.{◌≤◌, ℕ, List, ◌∙◌, inl, inr, ⊎_elim, arith}
 use Rattle.disk_io.specs.Disk.{DiskState, Files}
 use Rattle.disk_io.specs.Runs.{LeavesOnly, OneStepOn, ChangesAt, ChangesNothing}
 
--- what a crash may leave at the end of a run has what it might leave at any moment of it
+-- a crash at the end of a run leaves files that have P
 pub left_now : (old new : DiskState) (P : Files → Type 0) → LeavesOnly old new P → (c : Files) → new.may_leave c → P c
 left_now old new P run c left = run.each c (new.counts_now old.moment c run.later left)
 
@@ -15,7 +15,7 @@ no_call old P now = record {
   before = λ t c le left. inl left;
 }
 
--- one run after another; what is so of each moment of the second gives what is asked
+-- one run after another: if Q implies P, both together leave only files with P
 pub then_run : (old mid new : DiskState) (P Q : Files → Type 0) → LeavesOnly old mid P → LeavesOnly mid new Q → ((c : Files) → Q c → P c) → LeavesOnly old new P
 then_run old mid new P Q first second gives =
     let one : old.moment ≤ mid.moment = first.later in
@@ -49,7 +49,7 @@ weaker_run old new P Q run gives = record {
   before = λ t c le left. ⊎_elim (λ was. inl was) (λ p. inr (gives c p)) (run.before t c le left);
 }
 
--- the first call of a run, where the step may also not have happened
+-- the first call of a run; the step may also not happen
 pub one_call : {changed unnamed shared : List ℕ → Type 0} {made : Files → Files → Type 0} (old new : DiskState) (step : Files → Files → Type 0) → ((c : Files) → step c c)
     → ChangesAt changed unnamed shared made old new → ((a c : Files) → old.may_leave a → made a c → step a c) → LeavesOnly old new (OneStepOn step old)
 one_call old new step none call gives =
@@ -62,7 +62,7 @@ one_call old new step none call gives =
       before = λ t c le left. ⊎_elim (λ before. inl before) (λ is. inr (now c is)) (call.time.nothing_else t c le left);
     }
 
--- two runs that change nothing
+-- two runs that change no file
 pub nothing_twice : (old mid new : DiskState) → ChangesNothing old mid → ChangesNothing mid new → ChangesNothing old new
 nothing_twice old mid new first second =
     let one : old.moment ≤ mid.moment = first.run.later in

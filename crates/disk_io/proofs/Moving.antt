@@ -1,30 +1,30 @@
--- What a loop over a source or a sink moved so far.
+-- The bytes that a loop over a source or a sink moved.
 use Rattle.std.proofs.Common.{◌≡◌, ℕ, ◌+◌, ◌≤◌, List, ◌++◌, Option, length, take, drop, sym, ap, ◌∙◌, subst}
 use Rattle.std.proofs.Math.Seq.{take-add}
 use Rattle.std.specs.Io.KnownBytes.{Appends, Consumes}
 use Rattle.std.proofs.KnownBytes.{Appends-trans, Consumes-trans}
 use Rattle.disk_io.specs.Device.{counted}
 
--- the first n bytes of buf came from the source, which did not fail
+-- the source gave the first n bytes of buf and did not fail
 pub record HasFilled (before after : Option (List ℕ)) (buf : List ℕ) (n failures_before failures_after : ℕ) : Type 0 where
   pub within : n ≤ length buf
   pub took : Consumes before after (take n buf)
   pub failed : failures_after ≡ failures_before
 
--- the first n of the bytes went to the sink, which did not fail, and are counted
+-- the sink took the first n bytes and did not fail; the count includes them
 pub record HasSent (before after : Option (List ℕ)) (bytes : List ℕ) (n count_before count_after failures_before failures_after : ℕ) : Type 0 where
   pub within : n ≤ length bytes
   pub gave : Appends before after (take n bytes)
   pub count : count_after ≡ counted (count_before + n)
   pub failed : failures_after ≡ failures_before
 
--- k more bytes came behind the first n
+-- k more bytes follow the first n in the buffer
 pub Consumes-more_of : (a b c : Option (List ℕ)) (old new : List ℕ) (n k : ℕ) → take n new ≡ take n old
     → Consumes a b (take n old) → Consumes b c (take k (drop n new)) → Consumes a c (take (n + k) new)
 Consumes-more_of a b c old new n k same first second =
     subst (Consumes a c) (ap (λ l. l ++ take k (drop n new)) (sym same) ∙ sym (take-add n k new)) (Consumes-trans a b c _ _ first second)
 
--- k more bytes went out behind the first n
+-- k more bytes follow the first n in the sink
 pub Appends-more_of : (a b c : Option (List ℕ)) (bytes : List ℕ) (n k : ℕ)
     → Appends a b (take n bytes) → Appends b c (take k (drop n bytes)) → Appends a c (take (n + k) bytes)
 Appends-more_of a b c bytes n k first second =

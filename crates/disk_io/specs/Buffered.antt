@@ -3,14 +3,14 @@ use Rattle.std.specs.Prelude.{ℕ, List, Option}
 use Rattle.std.specs.Io.KnownBytes.{prepend_known}
 use Rattle.disk_io.specs.declared.buffered.Buffered.{Buffered}
 
--- the source behind the buffer
+-- The source behind the buffer.
 abbrev pub buffered_source : {S : Type 0} → Buffered S → S
 buffered_source b = b.source
 
--- the bytes that are read ahead
+-- The bytes that it has read ahead.
 abbrev pub buffered_held : {S : Type 0} → Buffered S → List ℕ
 buffered_held b = b.ahead
 
--- the buffer and then the rest of the source, where that is known
+-- The bytes of the buffer, then the remaining bytes of the source, if these are known.
 abbrev pub buffered_remaining : {S : Type 0} → (S → Option (List ℕ)) → Buffered S → Option (List ℕ)
 buffered_remaining remaining b = prepend_known b.ahead (remaining b.source)

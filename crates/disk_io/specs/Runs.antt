@@ -5,34 +5,34 @@ use Rattle.disk_io.specs.Disk.{Files, DiskState}
 use Rattle.disk_io.specs.declared.disk_error.DiskError.{DiskError}
 use Rattle.disk_io.specs.declared.disk_error.DiskError.TheVariants.{Device}
 
--- the files that a crash might leave in this state, after one more step
+-- The files that a crash might leave in this state, after one more step.
 abbrev pub OneStepOn : (Files → Files → Type 0) → DiskState → Files → Type 0
 OneStepOn step old c = (d : Files) × old.may_leave d × step d c
 
--- each new outcome of a crash is an old one after a step
+-- Each new outcome of a crash is an old outcome after one step.
 abbrev pub LeavesOneStepOn : (Files → Files → Type 0) → DiskState → DiskState → Type 0
 LeavesOneStepOn step old new = (c : Files) → new.may_leave c → OneStepOn step old c
 
--- the paths that were named stay so, except these
+-- Every named path remains named, with these exceptions.
 abbrev pub KeepsNamed : (List ℕ → Type 0) → DiskState → DiskState → Type 0
 KeepsNamed but old new = (m : List ℕ) → (but m → ⊥) → old.is_named m → new.is_named m
 
--- the files that had all bytes on the disk have them, except these
+-- Every flushed file remains flushed, with these exceptions.
 abbrev pub KeepsFlushed : (List ℕ → Type 0) → DiskState → DiskState → Type 0
 KeepsFlushed but old new = (m : List ℕ) → (but m → ⊥) → old.is_flushed m → new.is_flushed m
 
--- the files with one path get no other, except these
+-- Every file with a single path keeps only that path, with these exceptions.
 abbrev pub KeepsAlone : (List ℕ → Type 0) → DiskState → DiskState → Type 0
 KeepsAlone but old new = (m : List ℕ) → (but m → ⊥) → old.is_alone m → new.is_alone m
 
--- Time passes: a crash since t might have left what it might have left before, or what it may leave now.
+-- Time passes. A crash since t might have left the same files as before, or files that it may leave now.
 pub record Elapses (old new : DiskState) : Type 0 where
   pub later : old.moment ≤ new.moment
   pub nothing_else : (t : ℕ) (c : Files) → t ≤ old.moment → new.left_since t c → old.left_since t c ⊎ new.may_leave c
   pub keeps : (t : ℕ) (c : Files) → t ≤ old.moment → old.left_since t c → new.left_since t c
   pub honest : new.is_honest → old.is_honest
 
--- no path, this path, or one of these two
+-- No path, this path, or one of these two.
 abbrev pub NoPath : List ℕ → Type 0
 NoPath m = ⊥
 
@@ -55,10 +55,10 @@ pub record ChangesAt (changed unnamed shared : List ℕ → Type 0) (step : File
 pub record LeavesOnly (old new : DiskState) (P : Files → Type 0) : Type 0 where
   pub later : old.moment ≤ new.moment
   pub each : (c : Files) → new.left_since old.moment c → P c
-  -- for a run that began earlier
+  -- The same for a run that began earlier.
   pub before : (t : ℕ) (c : Files) → t ≤ old.moment → new.left_since t c → old.left_since t c ⊎ P c
 
--- A call, or a run of calls, that changes nothing: it reads or syncs.
+-- A call or a run that changes no file: it reads or syncs.
 pub record ChangesNothing (old new : DiskState) : Type 0 where
   pub seen : (m : List ℕ) → new.seen m ≡ old.seen m
   pub no_more : (c : Files) → new.may_leave c → old.may_leave c
@@ -69,7 +69,7 @@ pub record ChangesNothing (old new : DiskState) : Type 0 where
   pub keeps : (t : ℕ) (c : Files) → t ≤ old.moment → old.left_since t c → new.left_since t c
   pub honest : new.is_honest → old.is_honest
 
--- a failure of the device is answered only where its count of failures rose
+-- A call reports a failure of the device only if the count of failures rose.
 pub record HasCause {T : Type 0} (before now : ℕ) (result : Result T DiskError) : Type 0 where
   pub later : before ≤ now
   pub failed : IsErrOf result Device → Failed before now

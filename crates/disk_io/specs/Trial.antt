@@ -2,31 +2,31 @@
 use Rattle.std.specs.Prelude.{◌≡◌, ℕ, ◌+◌, ◌<◌, ◌≤◌, Result, MatchResult}
 use Rattle.disk_io.specs.declared.trial.Trial.{Trial}
 
--- the reader or the writer
+-- The reader or the writer.
 abbrev pub trial_device : {D : Type 0} → Trial D → D
 trial_device t = t.device
 
--- how many bytes a call moves at most
+-- The most bytes that one call moves.
 abbrev pub trial_piece : {D : Type 0} → Trial D → ℕ
 trial_piece t = t.piece
 
--- how many interruptions come before a call that moves some bytes
+-- The number of interruptions before each call that moves bytes.
 abbrev pub trial_again : {D : Type 0} → Trial D → ℕ
 trial_again t = t.again
 
--- how many of these came already
+-- The number of interruptions since the last bytes.
 abbrev pub trial_interrupted : {D : Type 0} → Trial D → ℕ
 trial_interrupted t = t.interrupted
 
--- how many bytes still go before it fails
+-- The number of bytes that it moves before it fails.
 abbrev pub trial_left : {D : Type 0} → Trial D → ℕ
 trial_left t = t.left
 
--- only the device, the bytes left and the interruptions change
+-- Only the device, the remaining bytes and the interruptions change.
 abbrev pub KeepsRules : {D : Type 0} → Trial D → Trial D → Type 0
 KeepsRules old new = (trial_piece new ≡ trial_piece old) × (trial_again new ≡ trial_again old)
 
--- the n bytes that went are at most a piece, came after all interruptions, and are no longer left; an error moves none
+-- A call moves at most one piece, after all interruptions, and the remaining bytes fall by n. An error moves none.
 abbrev pub MovesPiece : {D E : Type 0} → Trial D → Trial D → Result ℕ E → Type 0
 MovesPiece old new r =
     MatchResult r

@@ -2,14 +2,14 @@
 use Rattle.std.specs.Prelude.{ℕ, Bool}
 use Rattle.disk_io.specs.declared.watched.Watched.{Watched}
 
--- the reader or the writer
+-- The reader or the writer.
 abbrev pub watched_device : {D : Type 0} → Watched D → D
 watched_device w = w.device
 
--- how often it failed
+-- How often it failed.
 abbrev pub watched_failures : {D : Type 0} → Watched D → ℕ
 watched_failures w = w.failures
 
--- whether bytes may be held back that were not passed on
+-- It may hold bytes that it did not pass on.
 abbrev pub watched_holds : {D : Type 0} → Watched D → Bool
 watched_holds w = w.holds

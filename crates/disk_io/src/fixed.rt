@@ -51,7 +51,7 @@ impl<T: Drop> From<AllocFailed<T>> for Broken {
     }
 }
 
-/// Does nothing. Its contract tells the prover that each byte is below 256.
+/// Does nothing. Its contract gives the prover the fact that each byte is below 256.
 pub fn are_bytes(bytes: &[u8])
     ensures { AreBytes bytes.now }
 {}

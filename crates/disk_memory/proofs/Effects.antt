@@ -1,4 +1,4 @@
--- What one step does at its path, and that it leaves the other paths alone.
+-- The effect of one step at its path, and no effect at other paths.
 use Rattle.std.proofs.Common.{◌≡◌, ◌≢◌, ℕ, List, ◌∷◌, refl, sym, ◌∙◌, ap, subst, inl, inr, ⊎_elim, arith}
 use Rattle.std.specs.Prelude.{Bool, true, false, cond, bytes_eq, reverse, Option, Some, None, IsSome, is_some, Result, Ok, Err, MatchResult, OnOk}
 use Rattle.std.specs.Borrow.{Bor}
@@ -31,7 +31,7 @@ pub cond_both : {A : Type 0} (b : Bool) (x y u v : A) → x ≡ u → y ≡ v �
 cond_both true x y u v one two = one
 cond_both false x y u v one two = two
 
--- what both choices have
+-- a property that both choices have
 pub cond_field : {A B : Type 0} (f : A → B) (b : Bool) (x y : A) → f x ≡ f y → f (cond b x y) ≡ f y
 cond_field f true x y same = same
 cond_field f false x y same = refl
@@ -56,7 +56,7 @@ same_at new old is = record {
   flushed = ap (λ (z : Shown). z.flushed) is;
 }
 
--- it changes nothing but at one path
+-- the step changes files only at one path
 pub record KeepsBut (p : List ℕ) (s : List Step) (x : Step) : Type 0 where
   pub together : (came : List ℕ → Bool) → AreTogether (x ∷ s) came → AreTogether s came
   pub same : (m : List ℕ) → m ≢ p → SameAt (shown (x ∷ s) m) (shown s m)
@@ -88,7 +88,7 @@ step_crash s x p R keeps seen kept c left = (
 abbrev pub Effect : List ℕ → (Option (List ℕ) → Option (List ℕ) → Type 0) → (List ℕ → Type 0) → (List ℕ → Type 0) → DiskState → DiskState → Type 0
 Effect p R unnamed shared old new = ChangesAt (ThisPath p) unnamed shared (ChangesFile old p R) old new
 
--- where it failed
+-- the effect of a failed call
 pub no_effect : (s : List Step) (p : List ℕ) (R : Option (List ℕ) → Option (List ℕ) → Type 0) (unnamed shared : List ℕ → Type 0) → ((f : Option (List ℕ)) → R f f)
     → Effect p R unnamed shared (disk_after s) (disk_after s)
 no_effect s p R unnamed shared none = record {
@@ -147,7 +147,7 @@ pub some_bytes : (file : Option (List ℕ)) (bytes : List ℕ) → IsSome file �
 some_bytes None bytes there is = absurd (cc there)
 some_bytes (Some found) bytes there is = ap (λ (l : List ℕ). Some l) (sym is)
 
--- what is so where it added something
+-- a fact about a result that added a step
 pub by_ok : (result : Result (Unit {0}) DiskError) (old new : List Step) (A : Type 0) (P : List Step → Type 0) → (A → P (reverse new)) → MatchResult result (λ _. A) (λ _. new ≡ old) → OnOk result (P (reverse new))
 by_ok (Ok done) old new A P goes added = goes added
 by_ok (Err e) old new A P goes same = tt

@@ -13,7 +13,7 @@ use Rattle.disk_memory.proofs.Effects.{by_ok}
 use Rattle.disk_memory.proofs.Settled.{is_in-true}
 use Rattle.disk_memory.proofs.Steps.{reversed}
 
--- where there is no file, none has bytes that are not on the disk
+-- a missing file has no bytes that are not on the disk
 abbrev HasNone : Shown → Type 0
 HasNone x = x.seen ≡ None → x.flushed ≡ true
 

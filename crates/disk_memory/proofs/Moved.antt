@@ -27,7 +27,7 @@ no_renaming s from to = record {
   time = same_elapses (disk_after s);
 }
 
--- The new path has the file that it had, or the one that is moved.
+-- The new path has its old file or the moved one.
 one_end : (b done : Bool) (file seen kept c d : Option (List ℕ)) → c ≡ cond b file (cond done file kept) → d ≡ cond b seen kept → (c ≡ d) ⊎ (c ≡ file)
 one_end true done file seen kept c d now was = inr now
 one_end false true file seen kept c d now was = inr now
@@ -87,7 +87,7 @@ module _ (s : List Step) (at target bytes : Bytes) (came : Bool) (from to : List
     time = one_elapses s (Renamed at target bytes came);
   }
 
-  -- what it shows then
+  -- the files that reads show after the rename
   renamed_seen : ((shown (Renamed at target bytes came ∷ s) to).seen ≡ file) × ((shown (Renamed at target bytes came ∷ s) from).seen ≡ None) × IsFlushed (Renamed at target bytes came ∷ s) to
   renamed_seen = (
     ap (λ (z : Shown). z.seen) renamed_to ∙ sym file_is,

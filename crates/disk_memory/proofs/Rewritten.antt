@@ -1,4 +1,4 @@
--- A write: all of it, and as far as a crash lets it come.
+-- A write, whole or cut short by a crash.
 use Rattle.std.proofs.Common.{◌≡◌, ◌≤◌, ◌+◌, ◌-◌, ℕ, min, List, ◌∷◌, ◌++◌, length, take, drop, refl, sym, ◌∙◌, ap, subst, arith, length-append, length-take, length-drop, append_assoc}
 use Rattle.std.specs.Prelude.{false, bytes_eq, reverse, Option, Some, Result, Ok, Err, MatchResult, OnOk}
 use Rattle.std.proofs.lemmas.List.{take_at, drop_at}
@@ -76,7 +76,7 @@ module _ (result : Result (Unit {0}) DiskError) (old new : List Step) (p : List 
       (changed_effect s a.at a.contents p a.at_path R (whole a.contents.seen.items a.now_seen) (torn (file_of a.contents.kept) a.now_kept)))
       (no_effect s p R NoPath NoPath none)
 
--- what is seen after it
+-- the bytes that reads show after the change
 pub change_seen : (result : Result (Unit {0}) DiskError) (old new : List Step) (p : List ℕ) (seen : List ℕ → Type 0) (kept : Option (List ℕ) → Type 0)
     → MatchResult result (λ _. AddsChange p seen kept old new) (λ _. new ≡ old) → OnOk result (seen (bytes_in (seen_at new p)))
 change_seen (Err e) old new p seen kept adds = tt

@@ -1,4 +1,4 @@
--- Files and folders that are put on the disk: a crash leaves nothing that it might not have left before.
+-- Files and folders synced to the disk: a crash leaves only files that it might have left before.
 use Rattle.std.proofs.Common.{◌≡◌, ◌≢◌, ℕ, List, [], ◌∷◌, length, take, drop, get_or, refl, sym, ◌∙◌, ap, subst}
 use Rattle.std.specs.Prelude.{Bool, true, false, not, cond, ◌&&◌, ◌||◌, ◌==◌, bytes_eq, reverse, Option, Result, MatchResult, OnOk, All}
 use Rattle.std.specs.List.{list_any}
@@ -36,7 +36,7 @@ or_left false b is = absurd cc
 apart : (a b : List ℕ) → bytes_eq a b ≡ false → bytes_eq b a ≡ false
 apart a b is = false_from_ne_true (bytes_eq b a) (λ same. let no : bytes_eq a b ≡ true = (bytes_eq-Decides a b).1 (sym ((bytes_eq-Decides b a).0 same)) in cc)
 
--- where one of two has no name, it is the other
+-- if one of two is not named, the named one is the other
 other_named : (b : Bool) (x y : Shown) → x.named ≡ false → (cond b x y).named ≡ true → (b ≡ false) × (y.named ≡ true)
 other_named true x y none is = absurd (let no = sym none ∙ is in cc)
 other_named false x y none is = (refl, is)
@@ -70,7 +70,7 @@ renamed_by : (b : Bool) (x y : Shown) → x.renamed ≡ true → y.renamed ≡ t
 renamed_by true x y one two = one
 renamed_by false x y one two = two
 
--- the two paths of each renaming are marked
+-- both paths of each rename have the mark
 all_together : (s : List Step) (came : List ℕ → Bool) → ((m : List ℕ) → (shown s m).renamed ≡ true → came m ≡ true) → AreTogether s came
 all_together [] came marked = tt
 all_together (Changed path contents ∷ s) came marked = all_together s came (λ m is. marked m (renamed_stays (bytes_eq m path.items) _ (shown s m) refl is))

@@ -1,4 +1,4 @@
--- The steps of a disk in memory, and what one more does to it.
+-- The steps of a disk in memory, and the effect of one more.
 use Rattle.std.proofs.Common.{◌≡◌, List, [], ◌∷◌, ◌++◌, refl, ◌∙◌, ap, inl, inr, ⊎_elim, arith}
 use Rattle.std.specs.Prelude.{false, reverse}
 use Rattle.std.proofs.lemmas.List.{reverse-append}
@@ -8,11 +8,11 @@ use Rattle.disk_memory.specs.Memory.{AreTogether, MayLeave, disk_after}
 use Rattle.disk_memory.specs.declared.step.Step.{Step}
 use Rattle.disk_memory.specs.declared.step.Step.TheVariants.{Changed, Made, Removed, Renamed, Linked, Synced, FolderSynced, Crashed}
 
--- the newest comes first
+-- the newest step is first
 pub reversed : (old new : List Step) (x : Step) → new ≡ old ++ x ∷ [] → reverse new ≡ x ∷ reverse old
 reversed old new x e = ap (λ (l : List Step). reverse l) e ∙ reverse-append old (x ∷ [])
 
--- a crash leaves what is kept
+-- a crash leaves the kept files
 pub none_came : (steps : List Step) → AreTogether steps (λ m. false)
 none_came [] = tt
 none_came (Changed path contents ∷ steps) = none_came steps

@@ -11,11 +11,11 @@ use Rattle.disk_memory.specs.declared.step.Step.TheVariants.{Changed, Made, Remo
 abbrev pub Bytes : Type 0
 Bytes = Vec ℕ Global
 
--- one step more
+-- The call added this step.
 abbrev pub Adds : Step → List Step → List Step → Type 0
 Adds step old new = new ≡ old ++ step ∷ []
 
--- other bytes in a file: the bytes seen, and those that a crash keeps
+-- The call gave a file other bytes: those that reads show, and those that a crash keeps.
 pub record AddsChange (path : List ℕ) (seen : List ℕ → Type 0) (kept : Option (List ℕ) → Type 0) (old new : List Step) : Type 0 where
   pub at : Bytes
   pub contents : Contents
@@ -36,7 +36,7 @@ pub record AddsRemoval (path : List ℕ) (old new : List Step) : Type 0 where
   pub at_path : at.items ≡ path
   pub adds : Adds (Removed at came) old new
 
--- the file that is seen at the one path gets another
+-- The call renamed the file that reads show at `from`.
 pub record AddsRenaming (from to : List ℕ) (file : Option (List ℕ)) (old new : List Step) : Type 0 where
   pub at : Bytes
   pub target : Bytes
@@ -57,7 +57,7 @@ pub record AddsLink (from to : List ℕ) (file : Option (List ℕ)) (old new : L
   pub file_is : file ≡ Some bytes.items
   pub adds : Adds (Linked at target bytes came) old new
 
--- a second path for the file at the first, if the second has none
+-- The call gave the file a second path, if that path had no file.
 abbrev pub LinksWhereFree : Bool → List ℕ → List ℕ → List Step → List Step → Type 0
 LinksWhereFree true from to old new = AddsLink from to (seen_at old from) old new × (seen_at old to ≡ None)
 LinksWhereFree false from to old new = (new ≡ old) × IsSome (seen_at old to)

@@ -1,4 +1,4 @@
--- A disk in memory, as a disk: what a crash may leave after its steps, the newest first.
+-- A disk in memory, as a disk: the files that a crash may leave after its steps, the newest first.
 use Rattle.std.specs.Prelude.{◌≡◌, ◌≤◌, ◌⊎◌, ℕ, Bool, true, false, cond, List, [], ◌∷◌, length, reverse, Option}
 use Rattle.std.proofs.Common.{inl, inr, ◌∙◌, refl}
 use Rattle.std.proofs.Math.Nat.{lt_irrefl}
@@ -8,7 +8,7 @@ use Rattle.disk_memory.specs.declared.memory_disk.MemoryDisk.{MemoryDisk}
 use Rattle.disk_memory.specs.declared.step.Step.{Step}
 use Rattle.disk_memory.specs.declared.step.Step.TheVariants.{Changed, Made, Removed, Renamed, Linked, Synced, FolderSynced, Crashed}
 
--- The two paths of a renaming reach the disk together, where no folder was synced since.
+-- The two paths of a rename reach the disk together, unless a folder was synced since.
 abbrev pub AreTogether : List Step → (List ℕ → Bool) → Type 0
 AreTogether [] came = Unit {0}
 AreTogether (Changed path contents ∷ steps) came = AreTogether steps came
@@ -20,17 +20,17 @@ AreTogether (Synced path ∷ steps) came = AreTogether steps came
 AreTogether (FolderSynced folder ∷ steps) came = Unit {0}
 AreTogether (Crashed ∷ steps) came = Unit {0}
 
--- the files if all seen bytes have reached the disk at some paths, and at the others what a crash keeps
+-- The files if the shown bytes have reached the disk at some paths. At the others, a crash keeps the old ones.
 abbrev pub left_where : List Step → (List ℕ → Bool) → Files
 left_where steps came m = cond (came m) (shown steps m).seen (shown steps m).kept
 
--- The files that a crash leaves now, or would leave if more of the seen bytes had reached the disk.
+-- The files that a crash leaves now, or would leave if more of the shown bytes had reached the disk.
 pub record MayLeave (steps : List Step) (c : Files) : Type 0 where
   pub came : List ℕ → Bool
   pub together : AreTogether steps came
   pub files : (m : List ℕ) → c m ≡ left_where steps came m
 
--- after this many steps, or later
+-- A crash left these files after t steps, or later.
 abbrev pub LeftSince : List Step → ℕ → Files → Type 0
 LeftSince [] t c = MayLeave [] c
 LeftSince (step ∷ steps) t c = MayLeave (step ∷ steps) c ⊎ ((t ≤ length steps) × LeftSince steps t c)
@@ -38,7 +38,7 @@ LeftSince (step ∷ steps) t c = MayLeave (step ∷ steps) c ⊎ ((t ≤ length 
 abbrev pub IsNamed : List Step → List ℕ → Type 0
 IsNamed steps m = (shown steps m).named ≡ true
 
--- its bytes were synced, and a crash keeps them where it keeps the path
+-- The bytes of the file were synced, and a crash keeps them if it keeps the path.
 pub record IsFlushed (steps : List Step) (m : List ℕ) : Type 0 where
   pub synced : (shown steps m).flushed ≡ true
   pub whole : (shown steps m).named ≡ true → (shown steps m).kept ≡ (shown steps m).seen
@@ -63,7 +63,7 @@ now_alone [] c left = left
 now_alone (step ∷ steps) c (inl left) = left
 now_alone (step ∷ steps) c (inr was) = absurd (lt_irrefl (length steps) was.0)
 
--- the disk after these steps
+-- The disk after these steps.
 abbrev pub disk_after : List Step → DiskState
 disk_after steps = record {
   seen = λ m. (shown steps m).seen;
@@ -79,11 +79,11 @@ disk_after steps = record {
   is_honest = Unit {0};
 }
 
--- a disk keeps its steps with the newest last
+-- A disk has its newest step last.
 abbrev pub steps_of : MemoryDisk → List Step
 steps_of disk = reverse disk.steps.items
 
--- the seen file at a path after steps, the oldest first, and the one that a crash leaves
+-- The file at a path that reads show, and the one that a crash leaves. Here the oldest step is first.
 abbrev pub seen_at : List Step → List ℕ → Option (List ℕ)
 seen_at steps m = (shown (reverse steps) m).seen
 

@@ -9,22 +9,22 @@ use Rattle.disk_memory.specs.declared.step.Making.TheVariants.{Lost, Half, Done}
 use Rattle.disk_memory.specs.declared.step.Step.{Step}
 use Rattle.disk_memory.specs.declared.step.Step.TheVariants.{Changed, Made, Removed, Renamed, Linked, Synced, FolderSynced, Crashed}
 
--- the state of one path
+-- The state of one path.
 pub record Shown : Type 0 where
-  -- the file that reads return
+  -- The file that reads return.
   pub seen : Option (List ℕ)
-  -- the file that a crash leaves
+  -- The file that a crash leaves.
   pub kept : Option (List ℕ)
-  -- that the path leads to this file is on the disk
+  -- The path's entry for this file is on the disk.
   pub named : Bool
-  -- the bytes of this file are on the disk
+  -- The bytes of this file are on the disk.
   pub flushed : Bool
-  -- no other path leads to it
+  -- No other path leads to it.
   pub alone : Bool
-  -- it took part in a rename, and no folder was synced since
+  -- It took part in a rename, and no folder was synced since.
   pub renamed : Bool
 
--- the bytes of a file, as a list
+-- The bytes of a file, as a list.
 abbrev pub file_of : Option (Vec ℕ Global) → Option (List ℕ)
 file_of None = None
 file_of (Some bytes) = Some bytes.items
@@ -43,40 +43,40 @@ shown_by view = record {
   renamed = view.renamed;
 }
 
--- a path that leads to no file
+-- A path that leads to no file.
 abbrev pub nothing : Shown
 nothing = record { seen = None; kept = None; named = true; flushed = true; alone = true; renamed = false }
 
--- the file after a crash of a making: the old one, none, or the new one
+-- The file that a crash leaves when a file is made: the old one, none, or the new one.
 abbrev pub kept_of : Making → Option (List ℕ) → Option (List ℕ)
 kept_of Lost was = was
 kept_of Half was = None
 kept_of Done was = Some []
 
--- a path after a step that gives it another file, or none
+-- A path after a step that gives it another file, or no file.
 abbrev pub named_anew : Option (List ℕ) → Bool → Shown → Shown
 named_anew file came was = record was { seen = file; kept = cond came file was.kept; named = false; flushed = true; alone = false }
 
--- the path of a new file
+-- The path of a new file.
 abbrev pub after_making : Making → Shown → Shown
 after_making came was = record was { seen = Some []; kept = kept_of came was.kept; named = false; flushed = false; alone = true }
 
--- the two paths of a renaming, and the others
+-- A path after a rename, which changes only its two paths.
 abbrev pub after_renaming : List ℕ → List ℕ → List ℕ → Bool → List ℕ → Shown → Shown
 after_renaming from to file came m was =
     cond (bytes_eq m to) (record (named_anew (Some file) came was) { renamed = true }) (cond (bytes_eq m from) (record (named_anew None came was) { renamed = true }) was)
 
--- the two paths of a link, and the others
+-- A path after a link, which changes only its two paths.
 abbrev pub after_linking : List ℕ → List ℕ → List ℕ → Bool → List ℕ → Shown → Shown
 after_linking from to file came m was = cond (bytes_eq m to) (named_anew (Some file) came was) (cond (bytes_eq m from) (record was { alone = false }) was)
 
--- The seen files reach the disk where the path is in the folder and the file has its bytes there. So they do at all
--- paths of renames.
+-- After a sync of a folder, a file reaches the disk if its path is in the folder and its bytes are on the disk. The
+-- files at all paths of renames do so too.
 abbrev pub after_folder_sync : List ℕ → List ℕ → Shown → Shown
 after_folder_sync folder m was =
     record was { kept = cond (is_in folder m && was.flushed || was.renamed) was.seen was.kept; named = is_in folder m || was.named; renamed = false }
 
--- each step at a path
+-- The effect of each step at a path.
 abbrev pub after : Step → List ℕ → Shown → Shown
 after (Changed path contents) m was = cond (bytes_eq m path.items) (record was { seen = Some contents.seen.items; kept = file_of contents.kept; flushed = false }) was
 after (Made path came) m was = cond (bytes_eq m path.items) (after_making came was) was
@@ -87,7 +87,7 @@ after (Synced path) m was = cond (bytes_eq m path.items) (record was { kept = co
 after (FolderSynced folder) m was = after_folder_sync folder.items m was
 after Crashed m was = record { seen = was.kept; kept = was.kept; named = true; flushed = true; alone = true; renamed = false }
 
--- the state after all steps, the newest first
+-- The state after all steps, the newest first.
 abbrev pub shown : List Step → List ℕ → Shown
 shown [] m = nothing
 shown (step ∷ steps) m = after step m (shown steps m)

@@ -1,5 +1,5 @@
 //! A disk in memory.
-ghost use Rattle.std.specs.Prelude.{◌≡◌, [], List, ℕ, OnOk, OnErr};
+ghost use Rattle.std.specs.Prelude.{◌≡◌, [], OnOk, OnErr};
 ghost use Rattle.disk_io.specs.Runs.{HasCause};
 ghost use Rattle.disk_memory.specs.Memory.{disk_after, steps_of};
 ghost use Rattle.disk_memory.specs.Restart.{IsAllOnDisk, IsCrashOf};

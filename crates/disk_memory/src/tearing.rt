@@ -1,5 +1,5 @@
 //! Changes of bytes, whole and cut short.
-ghost use Rattle.std.specs.Prelude.{◌≡◌, ◌≤◌, length, IfOk, Some};
+ghost use Rattle.std.specs.Prelude.{◌≤◌, length, IfOk, Some};
 ghost use Rattle.disk_io.specs.Steps.{IsWrittenAt, TornWrite};
 ghost use Rattle.disk_memory.specs.Shown.{file_of, file_behind};
 

@@ -1,4 +1,4 @@
--- A trace is nothing at run time, so whatever calls it tells of, it is made of nothing.
+-- A trace has no content at run time, with any calls in it.
 use Rattle.std.proofs.Common.{List, [], ◌∷◌, refl}
 use seplogic.Ra.Ura.{Ura}
 use mir.Val.{Val, vstruct, vnil}
@@ -8,7 +8,7 @@ use denote.Shadow.{pure_i}
 use Rattle.disk_system.specs.declared.trace.Trace.{Trace}
 use Rattle.disk_system.specs.contracts.trace.Trace.{the_row}
 
--- what the machine has of each trace
+-- the value of each trace at run time
 abbrev pub silence : Val
 silence = vstruct vnil
 

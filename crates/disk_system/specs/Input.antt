@@ -2,7 +2,7 @@
 use Rattle.std.specs.Prelude.{◌≡◌, ℕ, ◌<◌, List, ◌++◌, length, Option}
 use Rattle.std.specs.Io.KnownBytes.{Consumes, IsAtEnd}
 
--- this many bytes came from the source and were appended, fewer than a piece only if no more were left
+-- The call appended `count` bytes of the source, fewer than a piece only at the end of the source.
 pub record ReadsOn (before after : Option (List ℕ)) (old new : List ℕ) (count piece : ℕ) : Type 0 where
   pub came : List ℕ
   pub whole : new ≡ old ++ came

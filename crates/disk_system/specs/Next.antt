@@ -1,4 +1,4 @@
--- A disk after a call, and all files that a crash may then leave by that call.
+-- A disk after a call, and all files that a crash may then leave.
 use Rattle.std.specs.Prelude.{◌≡◌, ◌≢◌, ◌≤◌, ◌⊎◌, ℕ, suc, cond, List, bytes_eq, Option, None}
 use Rattle.std.proofs.Common.{inl, inr, ◌∙◌, sym, ap, subst}
 use Rattle.std.proofs.Math.Nat.{lt_irrefl}
@@ -8,7 +8,7 @@ use Rattle.disk_io.specs.Disk.{DiskState, Files, IsIn}
 use Rattle.disk_io.specs.Steps.{ChangesFile, RenamesFile}
 use Rattle.disk_io.specs.Runs.{OneStepOn}
 
--- these files, but another one at this path
+-- These files, with another one at this path.
 abbrev pub with_file : List ℕ → Option (List ℕ) → Files → Files
 with_file path file files m = cond (bytes_eq m path) file (files m)
 
@@ -20,7 +20,7 @@ pub was_or_is : (old : DiskState) (leaves : Files → Type 0) (c : Files) → le
 was_or_is old leaves c (inl now) = now
 was_or_is old leaves c (inr was) = absurd (lt_irrefl old.moment was.0)
 
--- the state after a call
+-- The state after a call.
 abbrev pub next : (old : DiskState) (seen : Files) (leaves : Files → Type 0) (named flushed alone : List ℕ → Type 0)
     → ((m : List ℕ) → named m → flushed m → (c : Files) → leaves c → c m ≡ seen m) → DiskState
 next old seen leaves named flushed alone on_disk = record {
@@ -37,15 +37,15 @@ next old seen leaves named flushed alone on_disk = record {
   is_honest = old.is_honest;
 }
 
--- paths with a property, except this one
+-- Paths with a property, except this one.
 abbrev pub OtherThan : List ℕ → (List ℕ → Type 0) → List ℕ → Type 0
 OtherThan path P m = P m × (m ≢ path)
 
--- paths with a property, and this one
+-- Paths with a property, and this one.
 abbrev pub OrIs : List ℕ → (List ℕ → Type 0) → List ℕ → Type 0
 OrIs path P m = P m ⊎ (m ≡ path)
 
--- the disk after an answer that changed nothing; the disk stays honest if this holds
+-- The disk after an answer that changed nothing. The disk remains honest if P holds.
 abbrev pub answered : Type 0 → DiskState → DiskState
 answered P old = record old { is_honest = old.is_honest × P }
 
@@ -54,20 +54,20 @@ pub others_stay : (old : DiskState) (path : List ℕ) (file : Option (List ℕ))
 others_stay old path file step m other named flushed c left =
     left.2.beside m other (inr named) ∙ old.on_disk m named flushed left.0 left.1 ∙ sym (beside_file path file old.seen m other)
 
--- one file has other bytes, or its path another file, and what a crash may leave of such a step
+-- One file has other bytes, or its path another file. A crash may leave the result of such a step.
 abbrev pub changed : DiskState → List ℕ → Option (List ℕ) → (Option (List ℕ) → Option (List ℕ) → Type 0) → (List ℕ → Type 0) → DiskState
 changed old path file step alone =
     next old (with_file path file old.seen) (OneStepOn (ChangesFile old path step) old) old.is_named (OtherThan path old.is_flushed) alone
     (λ m named flushed. others_stay old path file step m flushed.1 named flushed.0)
 
--- the same, and that the path leads to this file is not on the disk
+-- The same, but the new entry of the path is not yet on the disk.
 abbrev pub named_anew : (old : DiskState) (path : List ℕ) (file : Option (List ℕ)) (step : Option (List ℕ) → Option (List ℕ) → Type 0) (flushed alone : List ℕ → Type 0)
     → ((m : List ℕ) → m ≢ path → flushed m → old.is_flushed m) → DiskState
 named_anew old path file step flushed alone was =
     next old (with_file path file old.seen) (OneStepOn (ChangesFile old path step) old) (OtherThan path old.is_named) flushed alone
     (λ m named is. others_stay old path file step m named.1 named.0 (was m named.1 is))
 
--- neither of two paths
+-- Neither of two paths, but with the property.
 abbrev pub Neither : List ℕ → List ℕ → (List ℕ → Type 0) → List ℕ → Type 0
 Neither from to P m = P m × ((m ≢ from) × (m ≢ to))
 
@@ -77,13 +77,13 @@ rest_stays old from to left_from left_to m one two named flushed c left =
     left.2.beside m one two (inr named) ∙ old.on_disk m named flushed left.0 left.1
     ∙ sym (beside_file to left_to (with_file from left_from old.seen) m two ∙ beside_file from left_from old.seen m one)
 
--- a file has another path, or a failed rename left other files at both
+-- A file has moved to another path, or a failed rename left other files at both.
 abbrev pub moved : (old : DiskState) (from to : List ℕ) (left_from left_to : Option (List ℕ)) (flushed : List ℕ → Type 0) → ((m : List ℕ) → m ≢ to → flushed m → old.is_flushed m) → DiskState
 moved old from to left_from left_to flushed was =
     next old (with_file to left_to (with_file from left_from old.seen)) (OneStepOn (RenamesFile old from to) old) (Neither from to old.is_named) flushed (Neither from to old.is_alone)
     (λ m named is. rest_stays old from to left_from left_to m named.1.0 named.1.1 named.0 (was m named.1.1 is))
 
--- a file's bytes are on the disk
+-- The bytes of a file are on the disk.
 abbrev pub LeavesSynced : DiskState → List ℕ → Files → Type 0
 LeavesSynced old path c = old.may_leave c × (old.is_named path → c path ≡ old.seen path)
 
@@ -95,7 +95,7 @@ abbrev pub synced : DiskState → List ℕ → DiskState
 synced old path =
     next old old.seen (LeavesSynced old path) old.is_named (OrIs path old.is_flushed) old.is_alone (synced_stays old path)
 
--- The paths of a folder are on the disk, and that there is no file at one.
+-- The entries of a folder's paths are on the disk, also those of missing files.
 abbrev pub IsNamedOrIn : DiskState → List ℕ → List ℕ → Type 0
 IsNamedOrIn old folder m = old.is_named m ⊎ IsIn folder m
 

@@ -1,15 +1,15 @@
--- The calls on files and their answers, and the disk that follows from them.
+-- The calls on files and their answers, and the disk after them.
 use Rattle.std.specs.Prelude.{◌≡◌, ◌≢◌, ◌≤◌, ◌<◌, ℕ, zero, suc, ◌+◌, List, [], ◌∷◌, ◌++◌, length, take, drop, slice_index, Some, None, IsSome}
 use Rattle.std.proofs.Common.{inl, inr}
 use Rattle.disk_io.specs.Disk.{DiskState, Files, bytes_in}
 use Rattle.disk_io.specs.Steps.{TornWrite, TornMaking, TornRemoval, TornNaming}
 use Rattle.disk_system.specs.Next.{answered, changed, named_anew, moved, synced, folder_synced, OtherThan, OrIs, Neither}
 
--- a call's numbers, with the answer last, a path, another path, and bytes
+-- The numbers of a call, with the answer last, a path, another path, and bytes.
 abbrev pub Note : Type 0
 Note = List ℕ × (List ℕ × (List ℕ × List ℕ))
 
--- it failed, there is no file, or there is one
+-- The answers: it failed, there is no file, or there is one.
 abbrev pub after_exists : ℕ → List ℕ → DiskState → DiskState
 after_exists zero path old = old
 after_exists (suc zero) path old = answered (IsSome (old.seen path) → ⊥) old
@@ -19,7 +19,7 @@ abbrev pub after_len : ℕ → ℕ → List ℕ → DiskState → DiskState
 after_len zero len path old = old
 after_len (suc n) len path old = answered (len ≡ length (bytes_in (old.seen path))) old
 
--- this many bytes were requested, and these came
+-- The call asked for this many bytes and returned these.
 pub record CameFrom (file : List ℕ) (at asked : ℕ) (bytes : List ℕ) : Type 0 where
   pub same : bytes ≡ take (length bytes) (drop at file)
   pub within : length bytes ≤ length (drop at file)
@@ -29,7 +29,7 @@ abbrev pub after_read : ℕ → ℕ → ℕ → List ℕ → List ℕ → DiskSt
 after_read zero at asked path bytes old = old
 after_read (suc n) at asked path bytes old = answered (CameFrom (bytes_in (old.seen path)) at asked bytes) old
 
--- the bytes of the file after a write
+-- The bytes of the file after a write.
 abbrev pub overwritten : List ℕ → ℕ → List ℕ → List ℕ
 overwritten old at bytes = take at old ++ bytes ++ drop (at + length bytes) old
 
@@ -61,7 +61,7 @@ after_rename zero from to unknown old =
 after_rename (suc n) from to unknown old =
     moved old from to None (old.seen from) (OrIs to (Neither from to old.is_flushed)) (λ m other is. (flushed_before (Neither from to old.is_flushed) to m other is).0)
 
--- it failed, the second path had a file, or it leads to the file now
+-- The answers: it failed, the second path had a file, or that path now leads to the file.
 abbrev pub after_link : ℕ → List ℕ → List ℕ → Files → DiskState → DiskState
 after_link zero from to unknown old =
     named_anew old to (unknown to) (TornNaming (old.seen from)) (OtherThan to old.is_flushed) (Neither from to old.is_alone) (λ m other is. is.0)
@@ -78,7 +78,7 @@ abbrev pub after_folder_sync : ℕ → List ℕ → DiskState → DiskState
 after_folder_sync zero folder old = old
 after_folder_sync (suc n) folder old = folder_synced old folder
 
--- the disk after a call; `unknown` has the files at paths after a call that failed there
+-- The disk after a call. `unknown` has the files at paths after a failed call.
 abbrev pub after_call : ℕ → ℕ → ℕ → ℕ → List ℕ → List ℕ → List ℕ → Files → DiskState → DiskState
 after_call zero at asked answer path to bytes unknown old = after_exists answer path old
 after_call (suc zero) len asked answer path to bytes unknown old = after_len answer len path old

@@ -2,7 +2,7 @@
 use Rattle.std.specs.Prelude.{None}
 use Rattle.disk_io.specs.Disk.{DiskState}
 
--- no files; what a crash may leave is not known
+-- No files. The files that a crash may leave are not known.
 abbrev pub no_files : DiskState
 no_files = record {
   seen = λ m. None;
@@ -18,6 +18,6 @@ no_files = record {
   is_honest = Unit {0};
 }
 
--- no knowledge: no answer is known to be right
+-- A disk without any correct answer yet.
 abbrev pub nothing_known : DiskState
 nothing_known = record no_files { is_honest = ⊥ }

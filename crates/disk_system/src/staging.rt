@@ -80,7 +80,7 @@ pub fn check_left<R: Files>(
     }
 }
 
-// Whether this user owns it, where that can be seen.
+// Whether this user owns it, if the system shows that.
 fn is_of_this_user<R: Files>(files: &R, owner: u32) -> bool {
     match fs::metadata(files, "/proc/self") {
         Ok(this_run) => this_run.uid() == owner,

@@ -1,5 +1,5 @@
 //! The assumption about the files before the first call.
-ghost use Rattle.std.specs.Prelude.{ℕ, List, None};
+ghost use Rattle.std.specs.Prelude.{List, None};
 ghost use Rattle.disk_io.specs.Disk.{DiskState, Files};
 ghost use Rattle.disk_system.specs.Replay.{Note};
 ghost use Rattle.disk_system.specs.Unknown.{no_files, nothing_known};

@@ -1,4 +1,4 @@
--- Steps of reading a number digit by digit, where values above a cap count as that.
+-- Reading a number digit by digit. A value above the cap counts as the cap.
 use Rattle.std.proofs.Common.{◌≡◌, ℕ, ◌+◌, ◌-◌, ◌*◌, ◌<◌, nat_lt, true, false, List, length, get_or, take, min, refl, ap, ◌∙◌, arith, below_more}
 use Rattle.std.specs.Char.{is_ascii_digit}
 use Rattle.std.specs.Str.{all_ascii_digits}

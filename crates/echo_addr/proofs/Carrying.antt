@@ -6,14 +6,14 @@ use Rattle.std.specs.List.{filter_map, count_by}
 use Rattle.echo_addr.specs.declared.address.NetNode.{NetNode}
 use Rattle.echo_addr.specs.Entries.{tokens, nearest_net, judged, entries, dropped}
 
--- what is read so far, and what the tokens that are left will add, make the whole list behind what was there before
+-- the base, the entries found already and those of the remaining tokens make the whole list
 pub record Read (base : List NetNode) (s : List ℕ) (left : List (List ℕ)) (net : Option ℕ) (found : List NetNode) (lost : ℕ) : Type 0 where
   pub earlier : List (List ℕ)
   pub nearest : nearest_net earlier ≡ net
   pub list : found ++ filter_map (λ e. e) (judged earlier left) ≡ base ++ entries s
   pub count : lost + count_by is_none (judged earlier left) ≡ dropped s
 
--- what was there before still stands in front
+-- the base remains the front of the list
 pub kept_behind : (base found more : List NetNode) → take (length base) found ≡ base → take (length base) (found ++ more) ≡ base
 kept_behind base found more kept =
     let within : length base ≤ length found = omega (arith, ap length kept, length-take (length base) found) in

@@ -4,7 +4,7 @@ use Rattle.std.proofs.lemmas.List.{append_assoc, append-nil, length-append, drop
 use Rattle.echo_addr.specs.declared.address.NetNode.{NetNode}
 use Rattle.echo_addr.specs.ShortLines.{entry_text, entries_text}
 
--- what is written, and what the entries from i on will add, make the whole text
+-- the text already written and the entries from i on make the whole text
 pub record Written (xs : List NetNode) (whole : List ℕ) (i : ℕ) (before : Option ℕ) (text : List ℕ) : Type 0 where
   pub so_far : text ++ entries_text before (drop i xs) ≡ whole
 
@@ -50,19 +50,19 @@ Measured-more xs i before width d lt m =
           ∙ sym (add_assoc width (length (entry_text before x)) (length rest));
     }
 
--- what they take
+-- the width of the first i entries
 pub Measured-now : (xs : List NetNode) (i : ℕ) (before : Option ℕ) (width : ℕ) → Measured xs i before width
     → length (entries_text None (take i xs)) ≡ width
 Measured-now xs i before width m =
     ap (λ n. length (entries_text None (take n xs))) (sym (add-zero i)) ∙ m.further 0 ∙ add-zero width
 
--- what they take with the next one
+-- the width with one more entry
 pub Measured-next : (xs : List NetNode) (i : ℕ) (before : Option ℕ) (width : ℕ) (d : NetNode) → i < length xs → Measured xs i before width
     → length (entries_text None (take (i + 1) xs)) ≡ width + length (entry_text before (get_or xs i d))
 Measured-next xs i before width d lt m =
     Measured-now xs (i + 1) (Some (get_or xs i d).net) (width + length (entry_text before (get_or xs i d))) (Measured-more xs i before width d lt m)
 
--- what all take
+-- the width of all entries
 pub Measured-all : (xs : List NetNode) (i : ℕ) (before : Option ℕ) (width : ℕ) → length xs ≤ i → Measured xs i before width
     → length (entries_text None (take (length xs) xs)) ≡ width
 Measured-all xs i before width le m =

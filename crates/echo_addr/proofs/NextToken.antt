@@ -35,7 +35,7 @@ tokens_skip (b ∷ s) = elim (cases_Bool (is_blank b)) [
       ap (λ n. tokens (drop n (b ∷ s))) (sym stay)
 ]
 
--- bytes that begin with no blank: a token, and what follows it
+-- bytes that do not begin with a blank: a token, then the tokens after it
 pub tokens_front : (s : List ℕ) → 0 < position_or_len is_blank s
     → tokens s ≡ take (position_or_len is_blank s) s ∷ tokens (drop (position_or_len is_blank s) s)
 tokens_front s some =
@@ -118,7 +118,7 @@ next_none s none =
     let past : drop (position_or_len is_other s) s ≡ [] = drop_all _ s (omega (arith, position_none is_other s none)) in
     tokens_skip s ∙ ap tokens past ∙ sym tokens_nil
 
--- the first token, and what stands after it
+-- the first token, and the bytes after it
 pub next_some : (s begun front rest : List ℕ) (blank : Option ℕ) (start end : ℕ) → position is_other s ≡ Some start
     → begun ≡ take (length s - start) (drop start s) → blank ≡ position is_blank begun → end ≡ unwrap_or blank (length begun)
     → front ≡ take end begun → rest ≡ drop end begun → tokens s ≡ front ∷ tokens rest
@@ -136,7 +136,7 @@ next_some s begun front rest blank start end some begun-is blank-is end-is front
     ∙ ap (λ n. take n begun ∷ tokens (drop n begun)) (sym size)
     ∙ ap (λ f. f ∷ tokens (drop end begun)) (sym front-is) ∙ ap (λ r. front ∷ tokens r) (sym rest-is)
 
--- where the rest stands
+-- the offset of the bytes after the first token
 pub next_after : (s begun front rest : List ℕ) (blank : Option ℕ) (start end : ℕ) → position is_other s ≡ Some start
     → begun ≡ take (length s - start) (drop start s) → blank ≡ position is_blank begun → end ≡ unwrap_or blank (length begun)
     → front ≡ take end begun → rest ≡ drop end begun → rest ≡ drop (length front) (drop (position_or_len is_other s) s)

@@ -1,4 +1,4 @@
--- What bytes write as an address, and which refusal applies where they write none.
+-- The address that bytes spell, or the refusal that applies.
 use Rattle.std.proofs.Common.{◌≡◌, ◌≢◌, ℕ, ◌==◌, ◌&&◌, not, nat_le, min, cond, Bool, true, false, List, ◌∷◌, ◌++◌, length, refl, sym, ap, ◌∙◌, arith, Option, Some, None, Ok, Err, inl, inr, subst}
 use Rattle.std.specs.Fmt.{decimal}
 use Rattle.std.specs.Int.{IsInRange, is_in_range}
@@ -13,7 +13,7 @@ use Rattle.echo_addr.specs.Address.{IsAddress, AddressOf, address_text, has_shap
 use Rattle.echo_addr.proofs.Decimals.{own, is_number-writes, writes_decimal}
 use Rattle.echo_addr.proofs.Shapes.{Spelled, spelled_shape, spelled_zone, spelled_net, spelled_node, shape_parts}
 
--- each refusal, where none before it applies
+-- each refusal, if no earlier one applies
 pub refusal_empty : (b : List ℕ) → length b ≡ 0 → refusal b ≡ Some Empty
 unfolding refusal
 refusal_empty b empty = cond-true (length b == 0) (Some Empty) _ (eq-eqb (length b) 0 empty)
@@ -108,7 +108,7 @@ written b shape digits fits =
       };
     }
 
--- where no refusal applies, the parts write their address
+-- without a refusal, the parts spell their address
 pub AddressOf-from_refusal : (b : List ℕ) → refusal b ≡ None → AddressOf b (address_in b)
 AddressOf-from_refusal b none = elim (cases_eq (length b) 0) [
   | inl empty ↦ let e = refusal_empty b empty in absurd cc
@@ -138,7 +138,7 @@ outcome_ok b a e = by_refusal b a (refusal b) refl e
 pub outcome-written : (b : List ℕ) (a : Address) → AddressOf b a → outcome b ≡ Ok a
 outcome-written b a w = ap (λ o. answer_of o (address_in b)) (refusal-written b a w) ∙ ap Ok (address_in-written b a w)
 
--- an address in range is read from what is written of it
+-- a written address in range reads back as itself
 pub AddressOf-address_text : (a : Address) → IsAddress a → AddressOf (address_text a) a
 AddressOf-address_text a h = record {
   zone_digits = decimal a.zone;
@@ -151,7 +151,7 @@ AddressOf-address_text a h = record {
   in_range = h;
 }
 
--- the answer where a refusal applies
+-- the answer if a refusal applies
 pub outcome_refused : (b : List ℕ) (f : AddrFault) → refusal b ≡ Some f → Err f ≡ outcome b
 outcome_refused b f some = sym (ap (λ o. answer_of o (address_in b)) some)
 
@@ -176,7 +176,7 @@ pub record Capped (b : List ℕ) (zone net node : ℕ) : Type 0 where
 same_tests : (x y z u v w : Bool) → x ≡ u → y ≡ v → z ≡ w → (x && y && z) ≡ (u && v && w)
 same_tests x y z u v w ex ey ez = ap (λ t. t && y && z) ex ∙ ap (λ t. u && t && z) ey ∙ ap (λ t. u && v && t) ez
 
--- the answer where the three parts are digits
+-- the answer if the three parts are digits
 pub outcome_numbers : (b : List ℕ) (zone net node : ℕ) → length b ≢ 0 → has_shape b ≡ true → has_digits b ≡ true → Capped b zone net node
     → address_within zone net node ≡ outcome b
 outcome_numbers b zone net node some shape digits c =

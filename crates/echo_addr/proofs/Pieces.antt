@@ -1,4 +1,4 @@
--- Pieces of bytes, but for an empty last one.
+-- Pieces of bytes, without an empty last piece.
 use Rattle.std.proofs.Common.{◌≡◌, ℕ, ◌<◌, ◌==◌, Bool, List, [], ◌∷◌, length, refl, sym, ap, ◌∙◌, arith, inl, inr}
 use Rattle.std.specs.List.{onto_first, slice_split}
 use Rattle.std.proofs.lemmas.List.Splits.{slice_split-cons_no, slice_split-cons_yes}
@@ -32,7 +32,7 @@ kept_piece piece pieces h =
 pub ended_piece : (p : ℕ → Bool) (piece rest : List ℕ) → without_empty_last (piece ∷ slice_split p rest) ≡ piece ∷ without_empty_last (slice_split p rest)
 ended_piece p piece rest = kept_piece piece (slice_split p rest) (first_of_split p rest)
 
--- a last piece that nothing ended
+-- a last piece without a final separator
 pub last_piece : (piece : List ℕ) → 0 < length piece → without_empty_last (piece ∷ []) ≡ piece ∷ []
 last_piece piece some = cond-false (length piece == 0) [] (piece ∷ []) (ne_eqb (length piece) 0 (λ e. omega arith))
 

@@ -1,4 +1,4 @@
--- Where a byte stands first.
+-- The first offset of a byte.
 use Rattle.std.proofs.Common.{◌≡◌, ℕ, ◌+◌, ◌<◌, ◌≤◌, not, nat_lt, cond, Bool, List, [], ◌∷◌, length, refl, ap, ◌∙◌, arith, Some, None, inl, inr}
 use Rattle.std.specs.Option.{unwrap_or}
 use Rattle.std.specs.List.{position, position_or_len, count_by}
@@ -19,14 +19,14 @@ position_some p xs i e = elim (cases_Bool (nat_lt (position_or_len p xs) (length
   | inr n ↦ let none = cond-false _ (Some (position_or_len p xs)) None n in absurd cc
 ]
 
--- none was found
+-- no element passes
 pub position_none : (p : ℕ → Bool) (xs : List ℕ) → position p xs ≡ None → position_or_len p xs ≡ length xs
 position_none p xs e = elim (cases_Bool (nat_lt (position_or_len p xs) (length xs))) [
   | inl y ↦ let found = cond-true _ (Some (position_or_len p xs)) None y in absurd cc
   | inr n ↦ let le = position_or_len-le p xs in let ge = ltb-false _ _ n in omega arith
 ]
 
--- where none passes, the count is 0
+-- if no element passes, the count is 0
 pub count_none : (p : ℕ → Bool) (xs : List ℕ) → position_or_len p xs ≡ length xs → count_by p xs ≡ 0
 count_none p [] e = refl
 count_none p (x ∷ xs) e = elim (cases_Bool (p x)) [

@@ -1,4 +1,4 @@
--- What is written of a list, read again, is the list.
+-- A written list reads back as itself.
 use Rattle.std.proofs.Common.{◌≡◌, ℕ, ◌^◌, ◌<◌, ◌≤◌, cond, true, false, List, [], ◌∷◌, ◌++◌, length, map, refl, sym, ap, zero-add, ◌∙◌, arith, Some, None, Option, inl, inr, subst}
 use Rattle.std.specs.Fmt.{decimal}
 use Rattle.std.specs.Option.{option_or, option_map, is_none}
@@ -77,7 +77,7 @@ unfolding pair_of
 pair_of-hidden s none =
     ap (λ r. entry_from (part_of (before_first is_slash s)) (part_of r)) (after_no_slash s none) ∙ entry_from_none _
 
--- the nearest net in front is that of the entry before, where there is one
+-- the nearest net is that of the entry before, if there is one
 Carries : Option ℕ → List (List ℕ) → Type 0
 Carries None earlier = Unit {0}
 Carries (Some net) earlier = nearest_net earlier ≡ Some net
@@ -101,7 +101,7 @@ reads_node earlier token e pair net node = record {
   net = ap (λ o. option_or (option_map (λ f. f.net) o) (nearest_net earlier)) pair ∙ net;
 }
 
--- where the net is left out, the entry before has it
+-- an entry without its net has the net of the entry before
 left_out : (before : Option ℕ) (earlier : List (List ℕ)) (net : ℕ) → shows_net before net ≡ false → Carries before earlier
     → nearest_net earlier ≡ Some net
 unfolding Carries
@@ -151,7 +151,7 @@ carries_none : Carries None []
 unfolding Carries
 carries_none = tt
 
--- the entries of one line are read back, none dropped
+-- the entries of one line read back, and no token is dropped
 pub entries-entries_text : (es : List NetNode) → AllByRecursion IsNetNode es → entries (entries_text None es) ≡ es
 unfolding entries
 entries-entries_text es h = ap (filter_map (λ e. e)) (judged_written None [] es h carries_none) ∙ kept_all es
@@ -170,7 +170,7 @@ entry_bytes before (e ∷ es) h = (
       (entry_bytes (Some e.net) es h.1),
 )
 
--- what the rests of the lines of the runs are
+-- the bytes of each line after its prefix
 rests_of : List (List NetNode) → List (List ℕ)
 rests_of runs = map (λ run. entries_text None run) runs
 

@@ -10,7 +10,7 @@ use Rattle.echo_addr.specs.ShortLines.{line_room, entry_text, entries_text, line
 abbrev nowhere : NetNode
 nowhere = record { net = 0; node = 0 }
 
--- what follows a run that leaves no room for the next entry
+-- a run that leaves no room for the next entry
 full_run : (prefix : List ℕ) (xs : List NetNode) (k : ℕ) → (k < length xs → line_room < length (line_front prefix (take (k + 1) xs)))
     → IsFull prefix (take k xs) (drop k xs)
 full_run prefix xs k full = elim (cases_lt k (length xs)) [
@@ -20,7 +20,7 @@ full_run prefix xs k full = elim (cases_lt k (length xs)) [
   | inr all ↦ subst (IsFull prefix (take k xs)) (sym (drop_all k xs all)) tt
 ]
 
--- the line of a run, and the lines of what follows it
+-- the line of a run, then the lines of the later entries
 pub ShortLines-cons : (prefix : List ℕ) (xs : List NetNode) (k : ℕ) (tail : List ℕ) → 0 < k → k ≤ length xs
     → length (line_front prefix (take k xs)) ≤ line_room
     → (k < length xs → line_room < length (line_front prefix (take (k + 1) xs)))
@@ -99,7 +99,7 @@ one_spelling prefix list b c hb hc =
 pub nothing_written : (prefix b : List ℕ) → ShortLines prefix [] b → b ≡ []
 nothing_written prefix b h = one_spelling prefix [] b [] h (ShortLines-nil prefix)
 
--- lines so far, which further lines of the rest complete
+-- finished lines, which the lines of the other entries complete
 abbrev pub Completes : List ℕ → List NetNode → List NetNode → List ℕ → Type 0
 Completes prefix xs rest lines = (tail : List ℕ) → ShortLines prefix rest tail → ShortLines prefix xs (lines ++ tail)
 

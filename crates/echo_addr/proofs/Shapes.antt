@@ -25,7 +25,7 @@ no_slash b none =
 abbrev pub NonePass : (ℕ → Bool) → List ℕ → Type 0
 NonePass p s = AllByRecursion (λ x. p x ≡ false) s
 
--- the first that passes stands after those that do not
+-- the position of the first element that passes, after elements that do not
 pub position_at : (p : ℕ → Bool) (s : List ℕ) (x : ℕ) (r : List ℕ) → NonePass p s → p x ≡ true → position_or_len p (s ++ x ∷ r) ≡ length s
 position_at p [] x r none passes = ap (λ t. cond (not t) (1 + position_or_len p r) 0) passes
 position_at p (y ∷ s) x r none passes =
@@ -36,7 +36,7 @@ count_of_none p [] none = refl
 count_of_none p (y ∷ s) none =
     sum_by-cons (λ b. cond (p b) 1 0) y s ∙ ap (λ t. cond t 1 0 + count_by p s) none.0 ∙ ap (λ n. 0 + n) (count_of_none p s none.1)
 
--- one passes, and none around it
+-- exactly one element passes
 pub count_of_one : (p : ℕ → Bool) (s : List ℕ) (x : ℕ) (r : List ℕ) → NonePass p s → p x ≡ true → NonePass p r → count_by p (s ++ x ∷ r) ≡ 1
 count_of_one p s x r before passes after =
     let front = count_of_none p s before in
@@ -75,7 +75,7 @@ no_slash_before b z n d h =
 no_colon_after : (b z n d : List ℕ) → Spelled b z n d → NonePass is_colon (n ++ 47 ∷ d)
 no_colon_after b z n d h = joined (λ x. is_colon x ≡ false) n (47 ∷ d) (no_colon_in n h.net) (refl, no_colon_in d h.node)
 
--- where the colon and the slash stand
+-- the positions of the colon and the slash
 pub colon_place : (b z n d : List ℕ) → Spelled b z n d → position_or_len is_colon b ≡ length z
 colon_place b z n d h = ap (position_or_len is_colon) h.bytes ∙ position_at is_colon z 58 (n ++ 47 ∷ d) (no_colon_in z h.zone) refl
 

@@ -9,7 +9,7 @@ use Rattle.std.proofs.lemmas.Bool.{lt-ltb, cond-true}
 use Rattle.echo_addr.specs.Address.{is_slash}
 use Rattle.echo_addr.specs.Entries.{is_blank, tokens}
 
--- a byte where no list is cut
+-- a byte that is no blank
 abbrev pub IsInk : ℕ → Type 0
 IsInk b = is_blank b ≡ false
 
@@ -34,7 +34,7 @@ unfolding tokens
 tokens_one t some ink =
     ap (filter (λ u. nat_lt 0 (length u))) (slice_split_none is_blank t (All-from_recursion IsInk t ink)) ∙ kept t [] some
 
--- a token, and what stands after the blank behind it
+-- a token, then the bytes after its blank
 pub tokens_more : (t : List ℕ) (b : ℕ) (s : List ℕ) → 0 < length t → AllByRecursion IsInk t → is_blank b ≡ true
     → tokens (t ++ b ∷ s) ≡ t ∷ tokens (b ∷ s)
 unfolding tokens
@@ -47,14 +47,14 @@ pub tokens_nil : [] ≡ tokens []
 unfolding tokens
 tokens_nil = refl
 
--- a blank, a token, and what follows it
+-- a blank, a token, and the bytes after it
 pub tokens_cons : (t s : List ℕ) → 0 < length t → AllByRecursion IsInk t → IsEnded s → tokens (32 ∷ (t ++ s)) ≡ t ∷ tokens s
 tokens_cons t [] some ink end =
     tokens_blank 32 (t ++ []) refl ∙ ap tokens (append-nil t) ∙ tokens_one t some ink ∙ ap (λ ts. t ∷ ts) tokens_nil
 tokens_cons t (b ∷ s) some ink end =
     tokens_blank 32 (t ++ b ∷ s) refl ∙ tokens_more t b s some ink (ap is_blank end)
 
--- the first slash stands after bytes without one
+-- the first slash comes after bytes without one
 pub slash_at : (s r : List ℕ) → AllByRecursion (λ b. is_slash b ≡ false) s → position_or_len is_slash (s ++ 47 ∷ r) ≡ length s
 slash_at [] r none = refl
 slash_at (b ∷ s) r none =

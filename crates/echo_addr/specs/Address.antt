@@ -1,4 +1,4 @@
--- The text of an address, and why other bytes are no address.
+-- The text of an address, and the reasons to refuse other bytes.
 use Rattle.std.specs.Prelude.{◌≡◌, ℕ, ◌+◌, ◌==◌, ◌&&◌, not, nat_lt, Bool, List, ◌∷◌, ◌++◌, length, decimal, codes, Option, Some, None, if◌then◌else◌, Result, Ok, Err}
 use Rattle.std.specs.List.{count_by, position_or_len, before_first, after_first, slice_range}
 use Rattle.std.specs.Int.{IsInRange, is_in_range}
@@ -9,13 +9,13 @@ use Rattle.echo_addr.specs.declared.fault.AddrFault.{AddrFault}
 use Rattle.echo_addr.specs.declared.fault.AddrFault.TheVariants.{Empty, Shape, NotDigits, OutOfRange}
 use Rattle.echo_addr.specs.Digits.{Writes, is_number}
 
--- the parts of an address are in range
+-- The parts of an address are in range.
 pub record IsAddress (a : Address) : Type 0 where
   pub zone : IsInRange 1 32767 a.zone
   pub net : IsInRange 1 32767 a.net
   pub node : IsInRange 0 32767 a.node
 
--- the bytes are `zone:net/node` of an address in range
+-- The bytes are `zone:net/node` of an address in range.
 pub record AddressOf (b : List ℕ) (a : Address) : Type 0 where
   pub zone_digits : List ℕ
   pub net_digits : List ℕ
@@ -26,32 +26,32 @@ pub record AddressOf (b : List ℕ) (a : Address) : Type 0 where
   pub node : Writes node_digits a.node
   pub in_range : IsAddress a
 
--- `net/node` without leading zeros
+-- `net/node` without leading zeros.
 abbrev pub net_node_text : NetNode → List ℕ
 net_node_text e = decimal e.net ++ (codes "/" ++ decimal e.node)
 
--- the net and the node of an address
+-- The net and the node of an address.
 abbrev pub net_node_of : Address → NetNode
 net_node_of a = record { net = a.net; node = a.node }
 
--- `zone:net/node` without leading zeros
+-- `zone:net/node` without leading zeros.
 abbrev pub address_text : Address → List ℕ
 address_text a = decimal a.zone ++ (codes ":" ++ net_node_text (net_node_of a))
 
--- `:` and `/`
+-- `:` and `/`.
 abbrev pub is_colon : ℕ → Bool
 is_colon b = b == 58
 
 abbrev pub is_slash : ℕ → Bool
 is_slash b = b == 47
 
--- one colon and one slash, the colon first
+-- One colon and one slash, the colon first.
 abbrev pub has_shape : List ℕ → Bool
 has_shape b =
     (count_by is_colon b == 1) && (count_by is_slash b == 1)
     && nat_lt (position_or_len is_colon b) (position_or_len is_slash b)
 
--- the bytes before the colon, between colon and slash, and after the slash
+-- The bytes before the colon, between colon and slash, and after the slash.
 abbrev pub zone_part : List ℕ → List ℕ
 zone_part b = before_first is_colon b
 
@@ -61,24 +61,24 @@ net_part b = slice_range b (position_or_len is_colon b + 1) (position_or_len is_
 abbrev pub node_part : List ℕ → List ℕ
 node_part b = after_first is_slash b
 
--- each part is digits
+-- Each part has only digits, at least one.
 abbrev pub has_digits : List ℕ → Bool
 has_digits b = is_number (zone_part b) && is_number (net_part b) && is_number (node_part b)
 
--- each part writes a number in its range
+-- The number of each part is in its range.
 abbrev pub is_in_bounds : List ℕ → Bool
 is_in_bounds b =
     is_in_range 1 32767 (digits_value 10 (zone_part b)) && is_in_range 1 32767 (digits_value 10 (net_part b))
     && is_in_range 0 32767 (digits_value 10 (node_part b))
 
--- the address of three numbers, where each is in its range
+-- The address of three numbers, or a fault if one is out of its range.
 abbrev pub address_within : ℕ → ℕ → ℕ → Result Address AddrFault
 address_within zone net node =
     if is_in_range 1 32767 zone && is_in_range 1 32767 net && is_in_range 0 32767 node
     then Ok (record { zone = zone; net = net; node = node })
     else Err OutOfRange
 
--- the first refusal that applies
+-- The first refusal that applies.
 unfoldable pub refusal : List ℕ → Option AddrFault
 refusal b =
     if length b == 0 then Some Empty
@@ -87,7 +87,7 @@ refusal b =
     else if not (is_in_bounds b) then Some OutOfRange
     else None
 
--- the address that the parts write
+-- The address that the parts spell.
 abbrev pub address_in : List ℕ → Address
 address_in b = record {
   zone = digits_value 10 (zone_part b);
@@ -95,11 +95,11 @@ address_in b = record {
   node = digits_value 10 (node_part b);
 }
 
--- an address, or the refusal where there is one
+-- The address, or the refusal if there is one.
 abbrev pub answer_of : Option AddrFault → Address → Result Address AddrFault
 answer_of None a = Ok a
 answer_of (Some f) a = Err f
 
--- the refusal that applies first, or the address of the parts
+-- The first refusal that applies, or the address of the parts.
 abbrev pub outcome : List ℕ → Result Address AddrFault
 outcome b = answer_of (refusal b) (address_in b)

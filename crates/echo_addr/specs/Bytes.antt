@@ -1,6 +1,6 @@
--- Bytes that names and texts are made of.
+-- The bytes of names and texts.
 use Rattle.std.specs.Prelude.{◌≢◌, ℕ, List, All}
 
--- no byte is 00
+-- No byte is 00.
 abbrev pub HasNoZero : List ℕ → Type 0
 HasNoZero bytes = All (λ b. b ≢ 0) bytes

@@ -1,18 +1,18 @@
--- Decimal numbers as addresses and lists write them. Leading zeros are allowed.
+-- Decimal numbers in addresses and lists. Leading zeros are allowed.
 use Rattle.std.specs.Prelude.{◌≡◌, ℕ, nat_lt, nat_le, ◌&&◌, Bool, List, length, Option, Some, None, if◌then◌else◌}
 use Rattle.std.specs.Str.{all_ascii_digits}
 use Rattle.std.specs.Str.Parse.{IsNumeral, digits_value}
 
--- one decimal digit or more, which write the number
+-- One decimal digit or more, which spell the number.
 pub record Writes (digits : List ℕ) (n : ℕ) : Type 0 where
   pub numeral : IsNumeral 10 digits
   pub value : digits_value 10 digits ≡ n
 
--- whether the bytes are digits, at least one
+-- The bytes are digits, at least one.
 abbrev pub is_number : List ℕ → Bool
 is_number bs = nat_lt 0 (length bs) && all_ascii_digits bs
 
--- the number that digits write, if it is at most `most`
+-- The number that the digits spell, if it is at most `most`.
 abbrev pub number_within : ℕ → List ℕ → Option ℕ
 number_within most bs =
     if is_number bs && nat_le (digits_value 10 bs) most then Some (digits_value 10 bs) else None

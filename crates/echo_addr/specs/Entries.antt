@@ -6,46 +6,46 @@ use Rattle.echo_addr.specs.declared.address.NetNode.{NetNode}
 use Rattle.echo_addr.specs.Address.{is_slash}
 use Rattle.echo_addr.specs.Digits.{number_within}
 
--- a blank: 20, 09 or 0A
+-- A blank: 20, 09 or 0A.
 abbrev pub is_blank : ℕ → Bool
 is_blank b = (b == 32) || (b == 9) || (b == 10)
 
--- the pieces between blanks, without the empty ones
+-- The pieces between blanks, without the empty ones.
 unfoldable pub tokens : List ℕ → List (List ℕ)
 tokens s = filter (λ t. nat_lt 0 (length t)) (slice_split is_blank s)
 
--- a net or a node
+-- A net or a node.
 abbrev pub part_of : List ℕ → Option ℕ
 part_of digits = number_within 65535 digits
 
--- an entry of a net and a node, where both are known
+-- The entry of a net and a node, if both are valid.
 abbrev pub entry_from : Option ℕ → Option ℕ → Option NetNode
 entry_from None _ = None
 entry_from (Some net) None = None
 entry_from (Some net) (Some node) = Some (record { net = net; node = node })
 
--- the entry of a token `net/node`
+-- The entry of a token `net/node`.
 unfoldable pub pair_of : List ℕ → Option NetNode
 pair_of token = entry_from (part_of (before_first is_slash token)) (part_of (after_first is_slash token))
 
--- the net of the nearest token `net/node`; the list has the nearest token first
+-- The net of the nearest token `net/node`. The list begins with the nearest token.
 abbrev pub nearest_net : List (List ℕ) → Option ℕ
 nearest_net [] = None
 nearest_net (token ∷ earlier) = option_or (option_map (λ e. e.net) (pair_of token)) (nearest_net earlier)
 
--- the entry of a token: `net/node`, or a node alone, which has the net of the nearest pair before it
+-- The entry of a token `net/node`, or of a node alone. A node alone takes the net of the nearest pair before it.
 abbrev pub entry_of : List (List ℕ) → List ℕ → Option NetNode
 entry_of earlier token = option_or (pair_of token) (entry_from (nearest_net earlier) (part_of token))
 
--- the entry of each token; the first list has the tokens before them, the nearest first
+-- The entry of each token. The first list has the earlier tokens, the nearest first.
 abbrev pub judged : List (List ℕ) → List (List ℕ) → List (Option NetNode)
 judged earlier [] = []
 judged earlier (token ∷ more) = entry_of earlier token ∷ judged (token ∷ earlier) more
 
--- the entries, in order
+-- The entries, in order.
 unfoldable pub entries : List ℕ → List NetNode
 entries s = filter_map (λ e. e) (judged [] (tokens s))
 
--- how many tokens are no entry
+-- The number of tokens that are no entry.
 unfoldable pub dropped : List ℕ → ℕ
 dropped s = count_by is_none (judged [] (tokens s))

@@ -1,11 +1,11 @@
--- The lines of a text that ends each with a byte.
+-- The lines of a text, each ended by a byte.
 use Rattle.std.specs.Prelude.{ℕ, ◌==◌, Bool, List, [], ◌∷◌, length, if◌then◌else◌}
 
--- 0A
+-- 0A.
 abbrev pub is_feed : ℕ → Bool
 is_feed b = b == 10
 
--- the pieces between those bytes, without an empty last one
+-- The pieces between these bytes, without an empty last piece.
 abbrev pub without_empty_last : List (List ℕ) → List (List ℕ)
 without_empty_last [] = []
 without_empty_last (piece ∷ []) = if length piece == 0 then [] else piece ∷ []

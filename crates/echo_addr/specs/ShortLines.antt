@@ -1,85 +1,85 @@
--- SEEN-BY and PATH lines as they are written, with the nets shortened.
+-- SEEN-BY and PATH lines with shortened nets, as the tosser writes them (FTS-0004).
 use Rattle.std.specs.Prelude.{◌≡◌, ℕ, ◌==◌, ◌^◌, ◌<◌, ◌≤◌, ◌⊎◌, ⊤, Bool, true, not, if◌then◌else◌, List, [], ◌∷◌, ◌++◌, length, decimal, codes, Option, Some, None}
 use Rattle.std.specs.List.{flat_map, AllByRecursion}
 use Rattle.echo_addr.specs.declared.address.NetNode.{NetNode}
 use Rattle.echo_addr.specs.Address.{net_node_text}
 use Rattle.echo_addr.specs.Entries.{entries, dropped}
 
--- the most bytes of a line before its 0D
+-- The most bytes of a line before its 0D.
 abbrev pub line_room : ℕ
 line_room = 79
 
--- the beginnings of the two kinds of lines
+-- The prefixes of the two kinds of lines.
 abbrev pub seen_prefix : List ℕ
 seen_prefix = codes "SEEN-BY:"
 
 abbrev pub path_prefix : List ℕ
 path_prefix = 1 ∷ codes "PATH:"
 
--- an entry shows its net if it is the first of its line or the entry before has another net
+-- An entry shows its net if it is the first of its line, or if the entry before it has another net.
 abbrev pub shows_net : Option ℕ → ℕ → Bool
 shows_net None net = true
 shows_net (Some before) net = not (before == net)
 
--- an entry as it is written after an entry with this net
+-- The bytes of an entry after an entry with the net `before`.
 abbrev pub entry_token : Option ℕ → NetNode → List ℕ
 entry_token before e =
     if shows_net before e.net then net_node_text e else decimal e.node
 
--- the same after a blank
+-- The same after a blank.
 abbrev pub entry_text : Option ℕ → NetNode → List ℕ
 entry_text before e = 32 ∷ entry_token before e
 
--- entries in a row; the first argument is the net of the entry before them
+-- Entries in a row. The first argument is the net of the entry before them.
 abbrev pub entries_text : Option ℕ → List NetNode → List ℕ
 entries_text before [] = []
 entries_text before (e ∷ more) = entry_text before e ++ entries_text (Some e.net) more
 
--- a line without its 0D
+-- A line without its 0D.
 abbrev pub line_front : List ℕ → List NetNode → List ℕ
 line_front prefix run = prefix ++ entries_text None run
 
--- a line of the prefix and the given bytes
+-- A line of the prefix and the given bytes.
 abbrev pub line_of : List ℕ → List ℕ → List ℕ
 line_of prefix rest = prefix ++ (rest ++ 13 ∷ [])
 
--- with the next entry the line would be too long
+-- With the next entry the line would be too long.
 abbrev pub IsFull : List ℕ → List NetNode → List NetNode → Type 0
 IsFull prefix run [] = ⊤
 IsFull prefix run (next ∷ more) = line_room < length (line_front prefix (run ++ next ∷ []))
 
--- the entries of one line: at least one, and as many as fit
+-- The entries of one line: at least one, and as many as fit.
 pub record IsRun (prefix : List ℕ) (run after : List NetNode) : Type 0 where
   pub some : 0 < length run
   pub room : length (line_front prefix run) ≤ line_room
   pub full : IsFull prefix run after
 
--- each is the entries of one line, where the entries after it are those of the later ones
+-- Each run is one line, and `after` has the entries of the later runs.
 abbrev pub AreRuns : List ℕ → List (List NetNode) → Type 0
 AreRuns prefix [] = ⊤
 AreRuns prefix (run ∷ later) = IsRun prefix run (flat_map (λ r. r) later) × AreRuns prefix later
 
--- the list cut into runs, and a line for each run
+-- The list in runs, and one line for each run.
 pub record ShortLines (prefix : List ℕ) (list : List NetNode) (b : List ℕ) : Type 0 where
   pub runs : List (List NetNode)
   pub cut : list ≡ flat_map (λ r. r) runs
   pub lines : b ≡ flat_map (λ run. line_of prefix (entries_text None run)) runs
   pub each : AreRuns prefix runs
 
--- one entry comes before the other, by net and then by node
+-- One entry is before the other, by net and then by node.
 abbrev pub ComesBefore : NetNode → NetNode → Type 0
 ComesBefore x y = (x.net < y.net) ⊎ ((x.net ≡ y.net) × (x.node < y.node))
 
--- both parts are numbers of two bytes
+-- Both parts are numbers of two bytes.
 pub record IsNetNode (e : NetNode) : Type 0 where
   pub net : e.net < 2 ^ 16
   pub node : e.node < 2 ^ 16
 
--- a byte of written entries: a blank, a slash or a digit
+-- A byte of written entries: a blank, a slash or a digit.
 abbrev pub IsEntryByte : ℕ → Type 0
 IsEntryByte b = (b ≡ 32) ⊎ ((47 ≤ b) × (b ≤ 57))
 
--- lines that begin with the prefix and, read one by one, give the list back
+-- Lines that begin with the prefix and read back as the list.
 pub record ReadBack (prefix : List ℕ) (list : List NetNode) (b : List ℕ) : Type 0 where
   pub rests : List (List ℕ)
   pub lines : b ≡ flat_map (line_of prefix) rests

@@ -7,11 +7,11 @@ use Rattle.echo_charset.specs.declared.charset.Charset.{Charset}
 use Rattle.echo_charset.specs.declared.charset.Charset.TheVariants.{Ascii, Cp437, Cp850, Cp866, Cp1251, Koi8R, Latin1, Utf8}
 use Rattle.echo_charset.specs.declared.tables.TheConstants.{CP437, CP850, CP866, CP1251, KOI8_R}
 
--- whether two names are the same, in letters of either case
+-- Two names are equal, in letters of either case.
 abbrev pub is_called : List ℕ → List ℕ → Bool
 is_called name word = bytes_eq (map to_ascii_lowercase name) (map to_ascii_lowercase word)
 
--- the charset of a name
+-- The charset with this name.
 unfoldable pub named : List ℕ → Option Charset
 named name =
     if is_called name (codes "ascii") then Some Ascii
@@ -24,7 +24,7 @@ named name =
     else if is_called name (codes "utf-8") then Some Utf8
     else None
 
--- its name, as messages have it
+-- The name of a charset in messages.
 abbrev pub charset_name : Charset → List ℕ
 charset_name Ascii = codes "ASCII"
 charset_name Cp437 = codes "CP437"
@@ -35,7 +35,7 @@ charset_name Koi8R = codes "KOI8-R"
 charset_name Latin1 = codes "LATIN-1"
 charset_name Utf8 = codes "UTF-8"
 
--- the character of the byte 80 plus this, by the published table; U+FFFD where there is none
+-- The character of the byte 80 plus `above`, from the published table. It is U+FFFD if the table has no character.
 unfoldable pub upper_half : Charset → ℕ → ℕ
 upper_half Ascii above = 0xFFFD
 upper_half Cp437 above = slice_index CP437 above
@@ -46,15 +46,15 @@ upper_half Koi8R above = slice_index KOI8_R above
 upper_half Latin1 above = above + 128
 upper_half Utf8 above = 0xFFFD
 
--- the character of a byte
+-- The character of a byte.
 abbrev pub character : Charset → ℕ → ℕ
 character charset byte = if nat_lt byte 128 then byte else upper_half charset (byte - 128)
 
--- bytes one by one, in UTF-8
+-- Bytes one by one, in UTF-8.
 abbrev pub characters : Charset → List ℕ → List ℕ
 characters charset bytes = flat_map (λ byte. encode_utf8 (character charset byte)) bytes
 
--- whether a character may take several bytes
+-- Whether a character may take several bytes.
 abbrev pub is_utf8 : Charset → Bool
 is_utf8 Utf8 = true
 is_utf8 Ascii = false
@@ -65,6 +65,6 @@ is_utf8 Cp1251 = false
 is_utf8 Koi8R = false
 is_utf8 Latin1 = false
 
--- bytes as text, in UTF-8
+-- Bytes as text, in UTF-8.
 unfoldable pub decoded_text : Charset → List ℕ → List ℕ
 decoded_text charset bytes = if is_utf8 charset then utf8_lossy bytes else characters charset bytes

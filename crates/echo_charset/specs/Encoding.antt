@@ -4,14 +4,14 @@ use Rattle.std.specs.Str.{chars}
 use Rattle.echo_charset.specs.declared.charset.Charset.{Charset}
 use Rattle.echo_charset.specs.Charset.{character, is_utf8}
 
--- the character is no byte's of the charset; U+FFFD marks a missing character and is never encoded
+-- No byte of the charset is this character. U+FFFD marks a missing character and is never encoded.
 abbrev pub IsLacked : Charset → ℕ → Type 0
 IsLacked charset c = (c ≡ 0xFFFD) ⊎ ((byte : ℕ) → byte < 256 → character charset byte ≡ c → ⊥)
 
--- a character of the text is one that the charset lacks
+-- The text has a character that the charset lacks.
 abbrev pub LacksOne : Charset → List ℕ → Type 0
 LacksOne charset text = (c : ℕ) × Contains (chars text) c × IsLacked charset c
 
--- the same, for a charset without all characters; UTF-8 has all
+-- The same, but never for UTF-8, which has all characters.
 abbrev pub Lacks : Charset → List ℕ → Type 0
 Lacks charset text = (is_utf8 charset ≡ false) × LacksOne charset text

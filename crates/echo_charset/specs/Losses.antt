@@ -1,11 +1,11 @@
--- How many U+FFFD a text has.
+-- The number of U+FFFD in a text.
 use Rattle.std.specs.Prelude.{ℕ, ◌+◌, ◌==◌, ◌&&◌, Bool, if◌then◌else◌, List, [], ◌∷◌, slice_index}
 
--- whether the bytes begin with the three bytes of U+FFFD in UTF-8
+-- The bytes begin with the three bytes of U+FFFD in UTF-8.
 abbrev pub begins_lost : List ℕ → Bool
 begins_lost bytes = slice_index bytes 0 == 239 && (slice_index bytes 1 == 191 && slice_index bytes 2 == 189)
 
--- the number of U+FFFD in the bytes
+-- The number of U+FFFD in the bytes.
 abbrev pub lost : List ℕ → ℕ
 lost [] = 0
 lost (byte ∷ rest) = (if begins_lost (byte ∷ rest) then 1 else 0) + lost rest

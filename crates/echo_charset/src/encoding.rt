@@ -1,5 +1,5 @@
 //! A text as the bytes of a charset.
-ghost use Rattle.std.specs.Prelude.{◌≡◌, ℕ, ◌+◌, ◌<◌, ◌≤◌, string_bytes, IfOk, MatchOption};
+ghost use Rattle.std.specs.Prelude.{◌≡◌, ◌+◌, ◌<◌, ◌≤◌, IfOk, MatchOption};
 ghost use Rattle.echo_charset.specs.Charset.{character as byte_char, characters, decoded_text};
 ghost use Rattle.echo_charset.specs.Encoding.{IsLacked, Lacks, LacksOne};
 

@@ -1,7 +1,7 @@
--- Tokens that were added one after another.
+-- Tokens added in order.
 use Rattle.std.proofs.Common.{◌≡◌, List, ◌++◌, Result, Ok, Err, OnOk, ap, ◌∙◌, append_assoc}
 
--- what follows from what holds where all went well
+-- a consequence of a fact about success
 pub on_ok : {T E P Q : Type 0} (r : Result T E) → (P → Q) → OnOk r P → OnOk r Q
 on_ok (Ok x) f p = f p
 on_ok (Err e) f p = tt
@@ -10,7 +10,7 @@ on_ok (Err e) f p = tt
 pub joined : {X : Type 0} (old a b mid new : List X) → mid ≡ old ++ a → new ≡ mid ++ b → new ≡ old ++ (a ++ b)
 joined old a b mid new first second = second ∙ ap (λ t. t ++ b) first ∙ append_assoc old a b
 
--- what holds anyhow holds where all went well
+-- a fact without a condition also holds at success
 pub anyhow : {T E P : Type 0} (r : Result T E) → P → OnOk r P
 anyhow (Ok x) p = p
 anyhow (Err e) p = tt

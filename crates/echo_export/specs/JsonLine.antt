@@ -3,7 +3,6 @@ use Rattle.std.specs.Prelude.{ℕ, List, [], ◌∷◌, ◌++◌, codes, decimal
 use Rattle.std.specs.List.{flat_map}
 use Rattle.json.specs.Token.{Token, begin_array, begin_object, end_array, end_object, key, null, number, string}
 use Rattle.json.specs.Print.{print}
-use Rattle.echo_addr.specs.declared.address.Address.{Address}
 use Rattle.echo_addr.specs.declared.address.NetNode.{NetNode}
 use Rattle.echo_addr.specs.Address.{address_text, net_node_text}
 use Rattle.echo_charset.specs.declared.charset.Charset.{Charset}
@@ -15,34 +14,34 @@ use Rattle.echo_export.specs.declared.json_line.State.{State}
 use Rattle.echo_export.specs.declared.json_line.State.TheVariants.{Purged, Scanned, Waiting}
 use Rattle.echo_export.specs.Label.{charset_for, label_of, text_as, without_zeros}
 
--- a string, or null without one
+-- A string, or null if it is absent.
 abbrev pub string_or_null : Option (List ℕ) → Token
 string_or_null None = null
 string_or_null (Some text) = string text
 
--- a member of one token
+-- A member of one token.
 abbrev pub member_of : List ℕ → Token → List Token
 member_of name token = key name ∷ token ∷ []
 
--- a member that is bytes of a message as text
+-- A member with bytes of a message as text.
 abbrev pub text_member : Option Charset → List ℕ → List ℕ → List Token
 text_member charset name bytes = member_of name (string (text_as charset bytes))
 
--- the same of bytes that may be absent
+-- The same for bytes that may be absent.
 abbrev pub found_member : Option Charset → List ℕ → Option (List ℕ) → List Token
 found_member charset name found = member_of name (string_or_null (option_map (text_as charset) found))
 
--- the state of a message here
+-- The state of a message here.
 abbrev pub state_word : State → List ℕ
 state_word Scanned = codes "scanned"
 state_word Waiting = codes "waiting"
 state_word Purged = codes "purged"
 
--- its area
+-- The area of a message.
 abbrev pub area_member : EchoText → List Token
 area_member e = text_member (Some Ascii) (codes "area") e.tag
 
--- its number in the base, its state, and the system that sent it; a posting of this system has none
+-- Its number in the base, its state, and the system that sent it. A posting of this system has no sender.
 abbrev pub place_members : ℕ → State → Filed → List Token
 place_members i state m =
     member_of (codes "number") (number (decimal i))
@@ -50,35 +49,35 @@ place_members i state m =
     ++ (member_of (codes "state") (string (state_word state))
     ++ member_of (codes "sender") (string_or_null (option_map address_text m.sender))))
 
--- its names, subject and DateTime
+-- Its names, subject and DateTime.
 abbrev pub name_members : Option Charset → Filed → List Token
 name_members charset m =
     text_member charset (codes "from") m.from_name
     ++ (text_member charset (codes "to") m.to_name
     ++ (text_member charset (codes "subject") m.subject ++ text_member charset (codes "date") (without_zeros m.date)))
 
--- the charset of its strings, null where each byte is one character; and the value of its CHRS line
+-- The charset of its strings, or null if each byte is one character, and the value of its CHRS line.
 abbrev pub charset_members : Option (List ℕ) → List Token
 charset_members label =
     found_member (Some Ascii) (codes "charset") (option_map charset_name (charset_for label))
     ++ found_member (Some Latin1) (codes "label") label
 
--- its id, that of the message replied to, tear and origin line
+-- Its id, the id of the message that it answers, the tear line and the origin line.
 abbrev pub found_members : Option Charset → List (List ℕ) → List Token
 found_members charset kept =
     found_member charset (codes "msgid") (msgid_of kept)
     ++ (found_member charset (codes "reply") (reply_of kept)
     ++ (found_member charset (codes "tear") (tear_of kept) ++ found_member charset (codes "origin") (origin_of kept)))
 
--- a list of strings
+-- A list of strings.
 abbrev pub array_of : List Token → List Token
 array_of items = begin_array ∷ (items ++ end_array ∷ [])
 
--- a member with entries as a list
+-- A member with entries as a list.
 abbrev pub entries_member : List ℕ → List NetNode → List Token
 entries_member name entries = key name ∷ array_of (flat_map (λ entry. string (net_node_text entry) ∷ []) entries)
 
--- how many entries its SEEN-BY has, these, its PATH, and its kept lines
+-- The number of entries in its SEEN-BY, these entries, its PATH, and its kept lines.
 abbrev pub list_members : Option Charset → EchoText → List Token
 list_members charset e =
     member_of (codes "seen") (number (decimal (length e.seen)))
@@ -86,21 +85,21 @@ list_members charset e =
     ++ (entries_member (codes "path") e.path
     ++ key (codes "lines") ∷ array_of (flat_map (λ line. string (text_as charset line) ∷ []) e.kept)))
 
--- the parts of its text
+-- The parts of its text.
 abbrev pub echo_members : Option Charset → EchoText → List Token
 echo_members charset e = found_members charset e.kept ++ list_members charset e
 
--- all members of the message of this number
+-- All members of the message of this number.
 abbrev pub message_members : Option (List ℕ) → ℕ → State → Filed → List Token
 message_members label i state m =
     place_members i state m
     ++ (name_members (charset_for label) m
     ++ (charset_members label ++ echo_members (charset_for label) m.echo))
 
--- the message of this number as an object of JSON
+-- The message of this number as an object of JSON.
 abbrev pub message_object : ℕ → State → Filed → List Token
 message_object i state m = begin_object ∷ (message_members (label_of m.echo.kept) i state m ++ end_object ∷ [])
 
--- its line
+-- The line of this message.
 abbrev pub json_line : ℕ → State → Filed → List ℕ
 json_line i state m = print (message_object i state m) ++ codes "\n"

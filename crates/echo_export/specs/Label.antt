@@ -7,36 +7,36 @@ use Rattle.echo_charset.specs.declared.charset.Charset.TheVariants.{Cp437, Latin
 use Rattle.echo_charset.specs.Charset.{decoded_text, named}
 use Rattle.echo_text.specs.Lines.{trimmed}
 
--- the beginning of a charset's line
+-- The first bytes of a charset line.
 abbrev pub charset_word : List ℕ
 charset_word = 1 ∷ codes "CHRS:"
 
--- whether this is such a line, without the blanks at both ends
+-- The line, without blanks at its ends, begins with these bytes.
 abbrev pub names_charset : List ℕ → Bool
 names_charset line = starts_with nat_eq (trimmed line) charset_word
 
--- the bytes after the colon
+-- The bytes after the colon.
 abbrev pub named_in : List ℕ → List ℕ
 named_in line = trimmed (drop (length charset_word) (trimmed line))
 
--- the value of the first such line
+-- The value of the first such line.
 abbrev pub label_of : List (List ℕ) → Option (List ℕ)
 label_of [] = None
 label_of (line ∷ later) = if names_charset line then Some (named_in line) else label_of later
 
--- the name at the front of a label
+-- The name at the front of a label.
 abbrev pub name_in : List ℕ → List ℕ
 name_in label = take (prefix_len (λ b. not (is_blank b)) label) label
 
--- the charset of a label, none if it is unknown; without a label it is CP437
+-- The charset of a label, or `None` if it is unknown. Without a label it is CP437.
 abbrev pub charset_for : Option (List ℕ) → Option Charset
 charset_for None = Some Cp437
 charset_for (Some label) = named (name_in label)
 
--- bytes as text; where the charset is another one each byte is the character of its number
+-- Bytes as text. In an unknown charset each byte is the character with its number.
 abbrev pub text_as : Option Charset → List ℕ → List ℕ
 text_as charset bytes = decoded_text (unwrap_or charset Latin1) bytes
 
--- bytes without the 00 at their end
+-- Bytes without the 00 at their end.
 abbrev pub without_zeros : List ℕ → List ℕ
 without_zeros bytes = take (length bytes - suffix_len (λ b. b == 0) bytes) bytes

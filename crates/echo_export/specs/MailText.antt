@@ -12,31 +12,31 @@ use Rattle.echo_text.specs.Echo.{EchoText, msgid_of, origin_of, reply_of, tear_o
 use Rattle.echo_export.specs.HeaderText.{field_line, found_line, id_line, mail_bytes, mail_charset, name_line}
 use Rattle.echo_export.specs.Label.{charset_for, label_of, without_zeros}
 
--- whether an index has a digit
+-- The byte at this index is a digit.
 abbrev pub is_digit_at : List ℕ → ℕ → Bool
 is_digit_at date i = is_in_range 48 57 (slice_index date i)
 
--- whether two digits do
+-- The two bytes at this index are digits.
 abbrev pub are_digits_at : List ℕ → ℕ → Bool
 are_digits_at date i = is_digit_at date i && is_digit_at date (i + 1)
 
--- whether an index has this byte
+-- The index has this byte.
 abbrev pub is_byte_at : List ℕ → ℕ → ℕ → Bool
 is_byte_at date i b = slice_index date i == b
 
--- the number of two digits
+-- The number of two digits.
 abbrev pub pair_at : List ℕ → ℕ → ℕ
 pair_at date i = 10 * (slice_index date i - 48) + (slice_index date (i + 1) - 48)
 
--- whether an index has two digits, of a number in this range
+-- The index has two digits, with a number in this range.
 abbrev pub is_pair_at : List ℕ → ℕ → ℕ → ℕ → Bool
 is_pair_at date i low high = are_digits_at date i && is_in_range low high (pair_at date i)
 
--- whether this is the month
+-- The date has this month.
 abbrev pub is_month : List ℕ → List ℕ → Bool
 is_month date name = bytes_eq (slice_range date 3 6) name
 
--- whether the month is one of the first half of a year, or of the second
+-- The month is in the first half of the year, or in the second.
 abbrev pub has_early_month : List ℕ → Bool
 has_early_month date =
     is_month date (codes "Jan")
@@ -49,7 +49,7 @@ has_late_month date =
     || (is_month date (codes "Aug")
     || (is_month date (codes "Sep") || (is_month date (codes "Oct") || (is_month date (codes "Nov") || is_month date (codes "Dec")))))
 
--- whether a DateTime has its customary form, `03 Jul 26  12:34:56`: the day, the month and the year, and the time
+-- The DateTime has its usual form, `03 Jul 26  12:34:56`: the day, the month and the year, and the time.
 abbrev pub has_day : List ℕ → Bool
 has_day date = is_pair_at date 0 1 31 && (is_byte_at date 2 32 && (is_byte_at date 6 32 && are_digits_at date 7))
 
@@ -59,115 +59,115 @@ has_time date = is_pair_at date 11 0 23 && (is_byte_at date 13 58 && (is_pair_at
 unfoldable pub is_customary : List ℕ → Bool
 is_customary date = has_day date && ((has_early_month date || has_late_month date) && has_time date)
 
--- the century of a year of two digits
+-- The century of a year of two digits.
 abbrev pub century : List ℕ → List ℕ
 century date = if nat_le 56 (slice_index date 7) then codes "19" else codes "20"
 
--- the line of a date that has that form
+-- The line of a date in the usual form.
 abbrev pub customary_line : List ℕ → List ℕ
 customary_line date =
     codes "Date: " ++ (take 7 date ++ (century date ++ (slice_range date 7 9 ++ (codes " " ++ (slice_range date 11 19 ++ codes " -0000\n")))))
 
--- the line of a date, in the form of a mail; a DateTime of another form stays unchanged
+-- The line of a date, in the form of a mail. A DateTime of another form remains unchanged.
 abbrev pub date_line : Option Charset → List ℕ → List ℕ
 date_line charset date =
     if is_customary date then customary_line date else field_line (codes "X-FTN-Date") charset (without_zeros date)
 
--- the first line of a message in a mailbox, without author and date
+-- The first line of a message in a mailbox, without author and date.
 abbrev pub mailbox_line : List ℕ
 mailbox_line = codes "From fido@fido.invalid Thu Jan  1 00:00:00 1970\n"
 
--- the lines of names, subject and date
+-- The lines of names, subject and date.
 abbrev pub name_lines : Option Charset → Filed → List ℕ
 name_lines charset m =
     name_line (codes "From") charset m.from_name
     ++ (name_line (codes "To") charset m.to_name
     ++ (field_line (codes "Subject") charset m.subject ++ date_line charset m.date))
 
--- the lines of ids, by which mail programs show threads
+-- The lines of ids, which mail programs use to show threads.
 abbrev pub id_lines : List (List ℕ) → List ℕ
 id_lines kept =
     id_line (codes "Message-ID") (msgid_of kept) ++ (id_line (codes "In-Reply-To") (reply_of kept) ++ id_line (codes "References") (reply_of kept))
 
--- the lines with FidoNet's own values
+-- The lines with FidoNet's own values.
 abbrev pub found_lines : Option Charset → List (List ℕ) → List ℕ
 found_lines charset kept =
     found_line (codes "X-FTN-MSGID") charset (msgid_of kept)
     ++ (found_line (codes "X-FTN-REPLY") charset (reply_of kept)
     ++ (found_line (codes "X-FTN-Tear") charset (tear_of kept) ++ found_line (codes "X-FTN-Origin") charset (origin_of kept)))
 
--- the entries of a PATH
+-- The entries of a PATH.
 abbrev pub written_path : List NetNode → List ℕ
 written_path path = flat_map (λ entry. codes " " ++ net_node_text entry) path
 
--- how many entries SEEN-BY has, and how the line of the PATH begins
+-- The number of entries in SEEN-BY, and the first bytes of the PATH line.
 abbrev pub seen_line : ℕ → List ℕ
 seen_line seen = codes "\nX-FTN-SEEN-BY: " ++ (decimal seen ++ codes "\nX-FTN-PATH:")
 
--- a byte of a tag in a newsgroup; a comma would end it, so it is written by its digits
+-- A byte of a tag in a newsgroup. A comma would end it, so it becomes its digits.
 abbrev pub group_byte : ℕ → List ℕ
 group_byte b = if b == 44 then codes "%2C" else b ∷ []
 
--- the newsgroup of an area, and its tag if that differs
+-- The line of a tag that differs from its newsgroup, and the newsgroup with that line.
 abbrev pub tag_line : List ℕ → List ℕ
 tag_line tag = if list_any (λ b. b == 44) tag then codes "\nX-FTN-Area: " ++ tag else []
 
 abbrev pub area_text : List ℕ → List ℕ
 area_text tag = flat_map group_byte tag ++ tag_line tag
 
--- the lines of the area, of SEEN-BY and of PATH
+-- The lines of the area, of SEEN-BY and of PATH.
 abbrev pub way_lines : EchoText → List ℕ
 way_lines e = codes "Newsgroups: " ++ (area_text e.tag ++ (seen_line (length e.seen) ++ (written_path e.path ++ codes "\n")))
 
--- the lines that describe the body, and the empty line after them
+-- The lines that describe the body, and the empty line after them.
 abbrev pub form_lines : Option Charset → List ℕ
 form_lines charset =
     codes "MIME-Version: 1.0\nContent-Type: text/plain; charset=" ++ (mail_charset charset ++ codes "\nContent-Transfer-Encoding: 8bit\n\n")
 
--- the word that no line of a mailbox may begin with
+-- The word that no line of a mailbox may begin with.
 abbrev pub from_word : List ℕ
 from_word = codes "From "
 
--- bytes of a body, with `>` before each line that begins so; whether the first one begins a line
+-- The bytes of a body, with `>` before each line that begins with that word. `first` means that the first byte begins a line.
 abbrev pub quoted_body : Bool → List ℕ → List ℕ
 quoted_body first [] = []
 quoted_body first (b ∷ rest) =
     (if first && starts_with nat_eq (b ∷ rest) from_word then codes ">" else []) ++ b ∷ quoted_body (b == 10) rest
 
--- a line of the body, without the line feeds at its front; control lines are left out
+-- A line of the body, without the line feeds at its front. Control lines are left out.
 abbrev pub body_line : Option Charset → List ℕ → List ℕ
 body_line charset line =
     if is_control line then [] else quoted_body true (mail_bytes charset (after_feeds line)) ++ codes "\n"
 
--- all of them
+-- All lines of the body.
 abbrev pub body_text : Option Charset → List (List ℕ) → List ℕ
 body_text charset kept = flat_map (body_line charset) kept
 
--- the lines with the parts of the text
+-- The lines with the parts of the text.
 abbrev pub echo_head : Option Charset → EchoText → List ℕ
 echo_head charset e = id_lines e.kept ++ (way_lines e ++ found_lines charset e.kept)
 
--- the lines before the body of a message with this CHRS line
+-- The lines before the body of a message with this CHRS line.
 abbrev pub head_text : Option (List ℕ) → Filed → List ℕ
 head_text label m =
     mailbox_line
     ++ (name_lines (charset_for label) m
     ++ (echo_head (charset_for label) m.echo ++ (found_line (codes "X-FTN-CHRS") None label ++ form_lines (charset_for label))))
 
--- a message of a mailbox, with the empty line at its end
+-- A message of a mailbox, with the empty line at its end.
 abbrev pub mail_text : Filed → List ℕ
 mail_text m =
     head_text (label_of m.echo.kept) m ++ (body_text (charset_for (label_of m.echo.kept)) m.echo.kept ++ codes "\n")
 
--- names and subject in the form of a mail, in a row
+-- Names and subject in a row, in the form of a mail.
 abbrev pub name_bytes : Option Charset → Filed → List ℕ
 name_bytes charset m = mail_bytes charset m.from_name ++ (mail_bytes charset m.to_name ++ mail_bytes charset m.subject)
 
--- the same, and a body after them
+-- The same, and a body after them.
 abbrev pub all_bytes : Option Charset → Filed → List ℕ → List ℕ
 all_bytes charset m body = name_bytes charset m ++ body
 
--- the number of U+FFFD in names, subject and body
+-- The number of U+FFFD in names, subject and body.
 abbrev pub mail_lost : Filed → ℕ
 mail_lost m =
     lost (all_bytes (charset_for (label_of m.echo.kept)) m (body_text (charset_for (label_of m.echo.kept)) m.echo.kept))

@@ -1,8 +1,8 @@
 //! The charset that a message names.
-ghost use Rattle.std.specs.Prelude.{◌≡◌, ◌≤◌, ◌==◌, not, length, drop, option_copied, take_while, reverse, MatchOption, IfOk, string_bytes};
+ghost use Rattle.std.specs.Prelude.{◌≡◌, ◌≤◌, ◌==◌, not, length, option_copied, take_while, reverse, IfOk, string_bytes};
 ghost use Rattle.echo_addr.specs.Entries.{is_blank};
 ghost use Rattle.echo_text.specs.Lines.{lines};
-ghost use Rattle.echo_export.specs.Label.{charset_for, charset_word, label_of, name_in, named_in, names_charset, text_as, without_zeros};
+ghost use Rattle.echo_export.specs.Label.{charset_for, label_of, name_in, text_as, without_zeros};
 
 use echo_addr::is_blank;
 use echo_charset::Charset;
@@ -68,7 +68,7 @@ pub(crate) fn text_as(
     charset.unwrap_or(Charset::Latin1).text(alloc, bytes)
 }
 
-/// The bytes without those 00 that stand at their end.
+/// The bytes without the 00 at their end.
 pub fn without_zeros(bytes: &[u8]) -> &[u8]
     ensures { result.now ≡ without_zeros bytes.now }
 {

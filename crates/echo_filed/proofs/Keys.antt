@@ -1,4 +1,4 @@
--- When two keys are the same, and what a purge leaves of them.
+-- Equal keys, and the messages after a purge.
 use Rattle.std.proofs.Common.{◌≡◌, ℕ, ◌<◌, Bool, true, cond, nat_lt, List, [], ◌∷◌, length, map, refl, sym, ap, subst, ◌∙◌, Option, Some, None, inl, inr}
 use Rattle.std.specs.Prelude.{bytes_eq, find, filter}
 use Rattle.std.specs.Cmp.Lexicographic.{pointwise, pointwise_decides, bytes_decides}
@@ -49,7 +49,7 @@ same_own (ByContent tag date to from subject kept) =
 pub same_key_decides : (k l : Key) → (same_key k l ≡ true → k ≡ l) × (k ≡ l → same_key k l ≡ true)
 same_key_decides k l = (same_if k l, λ e. let P : Key → Type 0 = λ x. same_key k x ≡ true in subst P e (same_own k))
 
--- what is found passes
+-- the element that a search returns passes
 found_passes : {X : Type 0} (p : X → Bool) (xs : List X) (x : X) → find p xs ≡ Some x → p x ≡ true
 found_passes p [] x h = absurd (cc)
 found_passes {X} p (y ∷ ys) x h = elim (cases_Bool (p y)) [
@@ -60,7 +60,7 @@ found_passes {X} p (y ∷ ys) x h = elim (cases_Bool (p y)) [
   | inr fails ↦ found_passes p ys x (sym (cond-false (p y) (Some y) (find p ys) fails) ∙ h)
 ]
 
--- what holds of each image holds of what is found
+-- a fact about each image holds for the one that a search returns
 found_image : {X Y : Type 0} (P : Y → Type 0) (p : Y → Bool) (f : X → Y) → ((x : X) → P (f x)) → (xs : List X) (y : Y) → find p (map f xs) ≡ Some y → P y
 found_image P p f all [] y h = absurd (cc)
 found_image {X} {Y} P p f all (x ∷ xs) y h = elim (cases_Bool (p (f x))) [
@@ -89,7 +89,7 @@ msgid_is_id kept id h =
       trim = found_image IsTrim some_bytes f (λ line. trimmed_trim (after_word msgid_word line)) xs id h;
     }
 
--- a MSGID line that stands first tells the id
+-- a first line MSGID has the id
 line_begins : (id : List ℕ) → begins msgid_word (id_line msgid_word id) ≡ true
 unfolding begins
 line_begins id = refl
@@ -124,12 +124,12 @@ unfolding stub_of
 stub_twice m None h = ap (stub_with m) h
 stub_twice m (Some id) h = ap (stub_with (stub_with m (Some id))) (msgid_first id [] (msgid_is_id m.echo.kept id h))
 
--- a second purge leaves what a first one left
+-- a second purge changes nothing
 pub stub_of_stub : (m : Filed) → stub_of (stub_of m) ≡ stub_of m
 unfolding stub_of
 stub_of_stub m = stub_twice m (msgid_of m.echo.kept) refl
 
--- the key of a message, where its id is told
+-- the key of a message, by its id
 pub key_told : (m : Filed) (has : Option (List ℕ)) → has ≡ msgid_of m.echo.kept → key_with m has ≡ key_of m
 unfolding key_of
 key_told m has h = ap (key_with m) h

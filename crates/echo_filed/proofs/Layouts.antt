@@ -1,4 +1,4 @@
--- Fields of a file, laid out so that each can be told from what follows it.
+-- Fields of a file, with a layout that separates each field from the next bytes.
 use Rattle.std.proofs.Common.{◌≡◌, ℕ, suc, ◌+◌, ◌-◌, ◌*◌, ◌/◌, ◌%◌, ◌^◌, ◌<◌, ◌≤◌, nat_lt, cond, List, [], ◌∷◌, ◌++◌, length, take, drop, replicate, refl, sym, ap, subst, ◌∙◌, Option, Some, None, arith, lit<, inl, inr}
 use Rattle.std.proofs.lemmas.Bool.{cases_Bool, cond-false, cond-true, le-ltb, ltb-false, ltb-true}
 use Rattle.std.proofs.lemmas.List.{append_assoc, append-nil, drop_at, length-append, length-replicate, length-take-le, take-append-drop, take_at}
@@ -8,13 +8,13 @@ use Rattle.echo_filed.specs.Stored.{long, long_at}
 pub use Rattle.echo_filed.specs.Fields.{EndsIn, HasLength, IsByte, IsLong, IsWord, itself, one_byte}
 use Rattle.echo_filed.proofs.Choices.{same_some}
 
--- a value of the field and what follows it
+-- a value of the field, and the bytes after it
 pub record Took (X : Type 0) (Fits : X → Type 0) (write : X → List ℕ) (bytes : List ℕ) (found : X × List ℕ) : Type 0 where
   pub fits : Fits found.0
   pub whole : bytes ≡ write found.0 ++ found.1
   pub rest_bytes : AreBytes found.1
 
--- a field: what is read from the front of bytes is what was written there, or the bytes end inside it
+-- a field: reading from a front returns the written value, or the bytes end inside it
 pub record Layout (X : Type 0) (Fits : X → Type 0) (write : X → List ℕ) : Type 0 where
   pub read : List ℕ → Option (X × List ℕ)
   pub takes : (bytes : List ℕ) (found : X × List ℕ) → AreBytes bytes → read bytes ≡ Some found → Took X Fits write bytes found
@@ -128,7 +128,7 @@ long_front (a ∷ (b ∷ (c ∷ (d ∷ rest)))) are h = (
   long_size a b c d (are 0) (are 1) (are 2) (are 3),
 )
 
--- the number whose four bytes these are
+-- the number of these four bytes
 pub long_value : (n : ℕ) → n % 65536 % 256 + 256 * (n % 65536 / 256) + 65536 * (n / 65536 % 256 + 256 * (n / 65536 / 256)) ≡ n
 long_value n =
     let low : n % 65536 % 256 + 256 * (n % 65536 / 256) ≡ n % 65536 = omega arith in
@@ -190,7 +190,7 @@ nothing_field = record {
   any_fits = refl;
 }
 
--- so many of the bytes, where there are as many
+-- this many bytes from the front, if there are as many
 abbrev front_of : ℕ → List ℕ → Option (List ℕ × List ℕ)
 front_of n bytes = cond (nat_lt (length bytes) n) None (Some (take n bytes, drop n bytes))
 
@@ -256,7 +256,7 @@ both_read : {X Y : Type 0} → (X → List ℕ → Option (Y × List ℕ)) → O
 both_read next None = None
 both_read next (Some found) = second_read found.0 (next found.0 found.1)
 
--- what fits two fields, and their bytes
+-- the values of two fields, and their bytes
 abbrev pub BothFit : {X Y : Type 0} → (X → Type 0) → (X → Y → Type 0) → X × Y → Type 0
 BothFit F G p = F p.0 × G p.0 p.1
 
@@ -378,7 +378,7 @@ counted_takes F w number bytes found are (Some one) e h =
       rest_bytes = AreBytes-drop one.0 one.1 took.rest_bytes;
     })
 
--- bytes that end inside the length, or inside what follows it
+-- bytes that end inside the length, or inside the counted bytes
 pub ends_length : (F : ℕ → Type 0) (w : ℕ → List ℕ) (bytes : List ℕ) → EndsIn ℕ F w bytes → EndsIn (List ℕ) (LengthFits F) (length_first w) bytes
 ends_length F w bytes inside =
     let n : ℕ = inside.value in
@@ -429,7 +429,7 @@ counted_field F w zero_fits number = record {
         ∙ ap counted_read (number.again (length s) (s ++ rest) h)
         ∙ front_again (length s) s rest refl
 
--- a field whose values are told in another way
+-- a field with its values in another form
 told_read : {X Y : Type 0} → (X → Y) → Option (X × List ℕ) → Option (Y × List ℕ)
 told_read f None = None
 told_read f (Some found) = Some (f found.0, found.1)

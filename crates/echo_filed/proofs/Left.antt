@@ -1,4 +1,4 @@
--- What a purge leaves of a message that it changes.
+-- A message that a purge changes, after the purge.
 use Rattle.std.proofs.Common.{◌≡◌, ℕ, false, List, [], ◌∷◌, Option, Some, None, refl, sym, ap, ◌∙◌}
 use Rattle.std.specs.Prelude.{option_copied, unwrap_or}
 use Rattle.std.specs.Borrow.{Bor}
@@ -8,7 +8,7 @@ use Rattle.echo_text.specs.Echo.{msgid_of}
 use Rattle.echo_filed.specs.Filed.{Filed, id_line}
 use Rattle.echo_filed.specs.Stubs.{is_stub, is_stub_with, stub_of, stub_with}
 
--- the test of a message, where its id is told
+-- the test of a message, by its id
 pub is_stub_told : (m : Filed) (has : Option (List ℕ)) → has ≡ msgid_of m.echo.kept → is_stub m ≡ is_stub_with m has
 unfolding is_stub
 is_stub_told m has h = ap (is_stub_with m) (sym h)
@@ -44,7 +44,7 @@ unfolding is_stub stub_of
 left_line m has told h =
     ap (λ o. id_line msgid_word (unwrap_or o []) ∷ []) told ∙ line_with m (msgid_of m.echo.kept) h
 
--- the bytes of what is found, or else the empty ones
+-- the bytes of the found value, or else of the default
 pub copied_or : (o : Option (Bor (List ℕ))) (d : Bor (List ℕ)) → (unwrap_or o d).now ≡ unwrap_or (option_copied o) d.now
 copied_or None d = refl
 copied_or (Some x) d = refl

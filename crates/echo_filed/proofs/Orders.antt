@@ -11,7 +11,7 @@ use Rattle.echo_filed.specs.Sets.{address_before, entry_before, entry_set, same_
 use Rattle.echo_filed.proofs.Choices.{contained_in, in_contained}
 use Rattle.echo_filed.proofs.Sets.{IsOrder, Ascending, ascending_pairs, set_ascending, set_keeps, set_only, same_set}
 
--- one number comes before the other, or they are the same and a test on the rest passes
+-- one number is less, or they are equal and a test passes
 abbrev first_then : ℕ → ℕ → Bool → Bool
 first_then a b rest = nat_lt a b || ((a == b) && rest)
 
@@ -43,7 +43,7 @@ chain_then a b c p q r chain h g = elim (decided a b p h) [
 apart_then : (a : ℕ) (p : Bool) → p ≡ false → first_then a a p ≡ false
 apart_then a p h = or_from (nat_lt a a) ((a == a) && p) (le-ltb a a (omega arith)) (and_right (a == a) p h)
 
--- two numbers are the same where neither comes first, and neither test passes
+-- two equal numbers, where neither test passes
 record Tied (a b : ℕ) (p q : Bool) : Type 0 where
   same : a ≡ b
   one : p ≡ false

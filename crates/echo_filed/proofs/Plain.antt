@@ -13,7 +13,7 @@ use Rattle.echo_text.specs.Echo.{IsLine}
 use Rattle.echo_text.specs.Ids.{is_line_byte, is_zero}
 use Rattle.echo_filed.proofs.Choices.{all_weaker}
 
--- a byte that is neither 00 nor 0D
+-- a byte other than 00 and 0D
 abbrev pub IsLineByte : ℕ → Type 0
 IsLineByte b = (b ≢ 0) × (b ≢ 13)
 
@@ -82,7 +82,7 @@ no_zero (b ∷ bytes) h =
     let parts = or_parts (is_zero b) (list_any is_zero bytes) h in
     (eqb-false b 0 parts.0, no_zero bytes parts.1)
 
--- bytes of which none is 00
+-- bytes without a 00
 pub some_bytes : (bytes : List ℕ) → list_any is_zero bytes ≡ false → HasNoZero bytes
 some_bytes bytes h = All-from_recursion (λ b. b ≢ 0) bytes (no_zero bytes h)
 

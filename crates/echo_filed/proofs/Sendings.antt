@@ -15,7 +15,7 @@ use Rattle.echo_filed.specs.Stored.{Second, after_length, after_long_length, has
 use Rattle.echo_filed.specs.Sending.{front_bytes, strings_bytes}
 use Rattle.echo_filed.proofs.Texts.{text_is_text}
 
--- nothing of some bytes went out
+-- the sink took no byte
 pub SendsFront-none : (a : Option (List ℕ)) (bytes : List ℕ) (s : ℕ) → 0 < length bytes → s < 2 ^ 64 → SendsFront a a bytes s s
 SendsFront-none a bytes s some fits = (0, some, Appends-nil a, omega arith)
 
@@ -23,12 +23,12 @@ SendsFront-none a bytes s some fits = (0, some, Appends-nil a, omega arith)
 abbrev pub id_sent : EchoText → List ℕ
 id_sent e = after_length e.tag ++ after_long_length (unwrap_or (msgid_of e.kept) [])
 
--- what is sent behind the subject
+-- the bytes sent after the subject
 abbrev pub last_sent : Bool → Filed → List ℕ
 last_sent true m = id_sent m.echo
 last_sent false m = after_long_length (text_of m.echo)
 
--- the first byte tells the sender and the form
+-- the first byte gives the sender and the form
 pub tagged : (short : Bool) (sender : Option Address) → has_tag Second (kind_of short sender) ≡ short
 tagged true None = refl
 tagged true (Some a) = refl
@@ -41,7 +41,7 @@ last_is true m =
 last_is false m =
     cond-false (has_tag Second (kind_of false m.sender)) (after_length [] ++ last_sent false m) (last_sent false m) (tagged false m.sender)
 
--- the strings and what follows them
+-- the strings and the bytes after them
 strings_then : (to from subject last : List ℕ)
     → strings_bytes to from subject ++ last ≡ after_length to ++ (after_length from ++ (after_length subject ++ last))
 strings_then to from subject last =

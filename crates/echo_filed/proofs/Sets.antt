@@ -1,4 +1,4 @@
--- A list put in order has the members that it had, ascending and without repeats.
+-- A sorted list has the same members, ascending and without repeats.
 use Rattle.std.proofs.Common.{◌≡◌, Bool, true, false, List, [], ◌∷◌, refl, sym, subst, ◌∙◌, ◌⊎◌, inl, inr, arith}
 use Rattle.std.specs.Prelude.{⊤}
 use Rattle.std.specs.List.{AllByRecursion, AllPairs}
@@ -8,13 +8,13 @@ use Rattle.std.proofs.lemmas.List.Kept.{AllPairs-cons}
 use Rattle.echo_filed.specs.Sets.{put_in, set_of}
 use Rattle.echo_filed.proofs.Choices.{IsIn, all_at, all_weaker, of_three}
 
--- a test that says which of two comes first
+-- a test that decides which of two is first
 pub record IsOrder {X : Type 0} (before : X → X → Bool) : Type 0 where
   pub chain : (x y z : X) → before x y ≡ true → before y z ≡ true → before x z ≡ true
   pub tied : (x y : X) → before x y ≡ false → before y x ≡ false → x ≡ y
   pub apart : (x : X) → before x x ≡ false
 
--- each member comes before all later ones
+-- each member is before all later ones
 abbrev pub Ascending : {X : Type 0} → (X → X → Bool) → List X → Type 0
 Ascending before [] = ⊤
 Ascending before (x ∷ xs) = AllByRecursion (λ y. before x y ≡ true) xs × Ascending before xs
@@ -93,7 +93,7 @@ same_first {X} before o x y xs ys up up' h g = elim h [
   ]
 ]
 
--- a later member of an ascending list is a member of the rest of the other
+-- a later member of an ascending list is a later member of the other
 in_rest : {X : Type 0} (before : X → X → Bool) → IsOrder before → (z x y : X) (xs ys : List X)
     → Ascending before (x ∷ xs) → x ≡ y → IsIn z xs → IsIn z (y ∷ ys) → IsIn z ys
 in_rest {X} before o z x y xs ys up e h g = elim g [

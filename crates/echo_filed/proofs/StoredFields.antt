@@ -162,13 +162,13 @@ stored_field version = told_field tells (all_fields version)
       same = bytes_are version;
     }
 
--- a stored message and what follows it
+-- a stored message and the bytes after it
 pub record Stands (version : Version) (bytes : List ℕ) (next : Stored) (rest : List ℕ) : Type 0 where
   pub size : IsStored version next
   pub whole : bytes ≡ stored_bytes version next ++ rest
   pub rest_bytes : AreBytes rest
 
--- the message in front of bytes, and what follows it
+-- the message at the front of bytes, and the bytes after it
 pub stored_in : Version → List ℕ → Option (Stored × List ℕ)
 stored_in version bytes = (stored_field version).read bytes
 

@@ -7,7 +7,7 @@ use Rattle.echo_filed.specs.Fields.{Breaks, EndsIn, LastFits, last_of}
 use Rattle.echo_filed.proofs.StoredFields.{Fields, FieldsFit, bytes_are, fields_bytes, of_fields, of_fit}
 use Rattle.echo_filed.proofs.Taken.{breaks_as}
 
--- what stands after the subject, where the test of the first byte is named in another way
+-- the bytes after the subject, with another name for the test of the first byte
 pub last_breaks : (b with_tag : Bool) → b ≡ with_tag → (old new : Option (List ℕ)) (e : Broken) → Breaks (List ℕ × List ℕ) (LastFits b) (last_of b) old new e
     → Breaks (List ℕ × List ℕ) (LastFits with_tag) (last_of with_tag) old new e
 last_breaks b with_tag same old new e h = subst (λ t. Breaks (List ℕ × List ℕ) (LastFits t) (last_of t) old new e) same h

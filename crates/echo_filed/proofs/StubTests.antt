@@ -1,4 +1,4 @@
--- The test of stubs passes exactly where a purge leaves the message as it is.
+-- The test of stubs passes exactly if a purge leaves the message unchanged.
 use Rattle.std.proofs.Common.{◌≡◌, ℕ, ◌==◌, true, List, [], ◌∷◌, length, refl, sym, ap, subst, Option, Some, None, eqb-true}
 use Rattle.std.specs.Prelude.{bytes_eq}
 use Rattle.std.specs.Cmp.Lexicographic.{pointwise}

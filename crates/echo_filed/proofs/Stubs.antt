@@ -13,7 +13,7 @@ use Rattle.echo_filed.specs.Stubs.{bare, stub_of, stub_with}
 use Rattle.echo_filed.proofs.Choices.{all_weaker}
 use Rattle.echo_filed.proofs.Plain.{IsLineByte, Plain, all_append, plain_drop, plain_if, plain_line, plain_take}
 
--- what holds of each image of some lines holds of what is found among them
+-- a fact about each image of some lines holds for the line that a search returns
 found_of : (P Q : List ℕ → Type 0) (p : List ℕ → Bool) (f : List ℕ → List ℕ) → ((x : List ℕ) → Q x → P (f x)) → (xs : List (List ℕ)) → AllByRecursion Q xs
     → (y : List ℕ) → find p (map f xs) ≡ Some y → P y
 found_of P Q p f image [] all y h = absurd (cc)

@@ -37,7 +37,7 @@ breaks_as a b broken.Cut within h = ((h.0.0, h.0.1, within h.0.0 h.0.2), h.1)
 breaks_as a b broken.Device within h = (h.0, h.1, within h.0 h.2)
 breaks_as a b broken.Memory within h = tt
 
--- and comes after other bytes
+-- a break after other bytes
 pub breaks_behind : {X Y : Type 0} {F : X → Type 0} {w : X → List ℕ} {G : Y → Type 0} {v : Y → List ℕ} (a b c : Option (List ℕ)) (front : List ℕ) (e : Broken)
     → Consumes a b front → ((bytes : List ℕ) → EndsIn X F w bytes → EndsIn Y G v (front ++ bytes)) → Breaks X F w b c e → Breaks Y G v a c e
 breaks_behind a b c front broken.Cut took within h = ((front ++ h.0.0, Consumes-trans a b c front h.0.0 took h.0.1, within h.0.0 h.0.2), h.1)
@@ -113,7 +113,7 @@ string_breaks size had a b c broken.Device within took h =
     (had ++ h.0, Consumes-trans a b c had h.0 took h.1, string_ends size (had ++ h.0) (omega (arith, length-append had h.0)))
 string_breaks size had a b c broken.Memory within took h = tt
 
--- a part of a string broke, behind those that came
+-- a part of a string broke, after the earlier parts
 pub part_breaks : (size next : ℕ) (had : List ℕ) (a b c : Option (List ℕ)) (e : Broken) → length had + next ≤ size → Consumes a b had
     → Breaks (List ℕ) (HasLength next) itself b c e → Breaks (List ℕ) (HasLength size) itself a c e
 part_breaks size next had a b c e within took h =

@@ -1,4 +1,4 @@
--- What a text says is one echo, and what is written for an echo says it.
+-- The parse of a text is its echo, and the written text of an echo parses to it.
 use Rattle.std.proofs.Common.{◌≡◌, ℕ, true, cond, not, List, refl, sym, subst, ◌∙◌, Option, Some, None, inl, inr}
 use Rattle.std.proofs.lemmas.Bool.{cases_Bool, cond-false, cond-true, not_from_true, not_from_false}
 use Rattle.std.proofs.lemmas.List.Elements.{recursion_from_All}
@@ -16,7 +16,7 @@ use Rattle.echo_filed.specs.Written.{echo_of, echo_of_lines, short_lines, text_o
 use Rattle.echo_filed.proofs.Orders.{entry_set_is_set, one_set}
 use Rattle.echo_filed.proofs.Runs.{path_short, seen_short}
 
--- the text of an echo that follows the definition of what is written
+-- the function and the definition write the same text of an echo
 pub text_is_text : (e : EchoText) → IsEcho e → TextOf e (text_of e)
 unfolding text_of
 text_is_text e h = record {
@@ -66,7 +66,7 @@ area_line line none =
           absurd (some_is_not_none text.NotEcho (sym (cond-true (not (is_area line)) (Some text.NotEcho) other (not_from_false (is_area line) no_area)) ∙ none))
     ]
 
--- a text that is not refused says what is read of it
+-- an accepted text has the parts that a reader returns
 pub says_read : (bytes : List ℕ) → text_refusal bytes ≡ None → (dropped : ℕ) × EchoOf bytes (echo_of bytes) dropped
 unfolding text_refusal echo_of
 says_read bytes none =
@@ -90,7 +90,7 @@ says_accepted bytes e dropped h =
     let P : List ℕ → Type 0 = λ tag. is_tag tag ≡ true in
     accepted (first_line (lines bytes)) (record { area = h.area; tag = subst P h.tag h.tag_bytes })
 
--- what is written for an echo says it and nothing more, is accepted, and is read so
+-- the written text of an echo has its parts and no others
 pub written_says : (e : EchoText) → IsEcho e → EchoOf (text_of e) e 0
 written_says e h = written_read_back e (text_of e) h (text_is_text e h)
 

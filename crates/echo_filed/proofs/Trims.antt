@@ -8,7 +8,7 @@ use Rattle.std.proofs.Math.Seq.{take-append_seam}
 use Rattle.echo_addr.specs.Entries.{is_blank}
 use Rattle.echo_text.specs.Lines.{trimmed, without_back_blanks, without_front_blanks}
 
--- no blank stands at an end
+-- bytes without a blank at either end
 pub record IsTrim (bytes : List ℕ) : Type 0 where
   pub front : prefix_len is_blank bytes ≡ 0
   pub back : suffix_len is_blank bytes ≡ 0
@@ -33,7 +33,7 @@ none_in_front p (suc n) (x ∷ xs) h = elim (cases_Bool (p x)) [
   | inr fails ↦ cond-false (p x) (1 + prefix_len p (take n xs)) 0 fails
 ]
 
--- what stands before the last k
+-- the bytes before the last k
 take_back : (k : ℕ) (xs : List ℕ) → k ≤ length xs → take (length xs - k) xs ≡ reverse (drop k (reverse xs))
 take_back k xs within =
     let r : List ℕ = reverse xs in
@@ -61,7 +61,7 @@ trimmed_trim bs = record {
 no_back : (bs : List ℕ) → suffix_len is_blank bs ≡ 0 → without_back_blanks bs ≡ bs
 no_back bs none = take_all (length bs - suffix_len is_blank bs) bs (omega arith)
 
--- a blank in front is all that goes
+-- trimming removes a blank at the front
 pub after_blank : (bs : List ℕ) → IsTrim bs → trimmed (32 ∷ bs) ≡ bs
 unfolding trimmed
 after_blank bs h =
@@ -84,7 +84,7 @@ joined_trim front back some some' begin finish = record {
       | inr fails ↦ cond-false (is_blank x) (1 + prefix_len is_blank (xs ++ ys)) 0 fails
     ]
 
--- nothing goes
+-- trimming changes nothing
 pub trimmed_same : (bs : List ℕ) → IsTrim bs → trimmed bs ≡ bs
 unfolding trimmed
 trimmed_same bs h = ap (λ (n : ℕ). without_back_blanks (drop n bs)) h.front ∙ no_back bs h.back

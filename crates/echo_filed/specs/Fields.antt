@@ -1,4 +1,4 @@
--- Fields of a stored message that are taken from a source.
+-- Fields of a stored message, read from a source.
 use Rattle.std.specs.Prelude.{◌≡◌, ℕ, ◌-◌, ◌^◌, ◌<◌, ◌≤◌, Bool, true, false, List, [], ◌∷◌, ◌++◌, length, if◌then◌else◌, Option, Result, Ok, Err}
 use Rattle.std.specs.Io.KnownBytes.{Consumes, IsAtEnd}
 use Rattle.echo_packet.specs.Header.{word}
@@ -8,7 +8,7 @@ use Rattle.disk_io.specs.declared.fixed.Broken.{Broken}
 use Rattle.disk_io.specs.declared.fixed.Broken.TheVariants as broken
 use Rattle.echo_filed.specs.Stored.{IsStored, Stored, Version, after_length, after_long_length, stored_bytes}
 
--- the bytes end inside a value of the field
+-- The bytes end inside a value of the field.
 pub record EndsIn (X : Type 0) (Fits : X → Type 0) (write : X → List ℕ) (bytes : List ℕ) : Type 0 where
   pub value : X
   pub fits : Fits value
@@ -16,30 +16,30 @@ pub record EndsIn (X : Type 0) (Fits : X → Type 0) (write : X → List ℕ) (b
   pub some : 0 < length missing
   pub cut : write value ≡ bytes ++ missing
 
--- why the field was not read: the input, or the device, ended inside it
+-- Why the field is incomplete: the input ended inside it, or the device failed there.
 abbrev pub Breaks : (X : Type 0) → (X → Type 0) → (X → List ℕ) → Option (List ℕ) → Option (List ℕ) → Broken → Type 0
 Breaks X Fits write old new broken.Cut = Came old new (EndsIn X Fits write) × IsAtEnd new
 Breaks X Fits write old new broken.Device = Came old new (EndsIn X Fits write)
 Breaks X Fits write old new broken.Memory = Unit {0}
 
--- a value of the field was read, and just its bytes were consumed
+-- The call read a value of the field and consumed exactly its bytes.
 abbrev pub Reads : {X : Type 0} → (X → Type 0) → (X → List ℕ) → Option (List ℕ) → Option (List ℕ) → Result X Broken → Type 0
 Reads Fits write old new (Ok x) = Fits x × Consumes old new (write x)
 Reads {X} Fits write old new (Err e) = Breaks X Fits write old new e
 
--- fewer bytes came than a string of this length lacks
+-- The source gave fewer bytes than the string still needs.
 abbrev pub BreaksSized : ℕ → Option (List ℕ) → Option (List ℕ) → Broken → Type 0
 BreaksSized lacks old new broken.Cut = Came old new (λ came. length came < lacks) × IsAtEnd new
 BreaksSized lacks old new broken.Device = Came old new (λ came. length came < lacks)
 BreaksSized lacks old new broken.Memory = Unit {0}
 
--- some more bytes of a string of this length were appended
+-- The call appended more bytes of a string of this length.
 abbrev pub StepsSized : {A : Type 0} → ℕ → List ℕ → List ℕ → Option (List ℕ) → Option (List ℕ) → Result A Broken → Type 0
 StepsSized size had has old new (Ok _) =
     (t : List ℕ) × (has ≡ had ++ t) × Consumes old new t × (0 < length t) × (length has ≤ size)
 StepsSized size had has old new (Err e) = BreaksSized (size - length had) old new e
 
--- one byte, and numbers of two and four bytes
+-- One byte, and numbers of two and four bytes.
 abbrev pub IsByte : ℕ → Type 0
 IsByte b = b < 2 ^ 8
 
@@ -52,21 +52,21 @@ IsWord n = n < 2 ^ 16
 abbrev pub IsLong : ℕ → Type 0
 IsLong n = n < 2 ^ 32
 
--- bytes of a known length
+-- Bytes of a known length.
 abbrev pub HasLength : ℕ → List ℕ → Type 0
 HasLength n s = length s ≡ n
 
 abbrev pub itself : List ℕ → List ℕ
 itself s = s
 
--- a string with a length of one byte, or of four bytes
+-- A string with a length of one byte, or of four bytes.
 abbrev pub IsShortString : List ℕ → Type 0
 IsShortString s = IsByte (length s)
 
 abbrev pub IsLongString : List ℕ → Type 0
 IsLongString s = IsLong (length s)
 
--- a sender: zone, net and node
+-- A sender: zone, net and node.
 pub record IsSmall (a : Address) : Type 0 where
   pub zone : IsWord a.zone
   pub net : IsWord a.net
@@ -75,7 +75,7 @@ pub record IsSmall (a : Address) : Type 0 where
 abbrev pub address_bytes : Address → List ℕ
 address_bytes a = word a.zone ++ (word a.net ++ word a.node)
 
--- the fields after the subject: tag and id, or the text alone
+-- The fields after the subject: tag and id, or the text alone.
 abbrev pub LastFits : Bool → List ℕ × List ℕ → Type 0
 LastFits true p = (length p.0 < 2 ^ 8) × (length p.1 < 2 ^ 32)
 LastFits false p = (p.0 ≡ []) × (length p.1 < 2 ^ 32)
@@ -83,6 +83,6 @@ LastFits false p = (p.0 ≡ []) × (length p.1 < 2 ^ 32)
 abbrev pub last_of : Bool → List ℕ × List ℕ → List ℕ
 last_of with_tag p = if with_tag then after_length p.0 ++ after_long_length p.1 else after_long_length p.1
 
--- the bytes that came end inside the next message
+-- The bytes end inside the next message.
 abbrev pub StopsIn : Version → List ℕ → Type 0
 StopsIn version = EndsIn Stored (IsStored version) (stored_bytes version)

@@ -7,11 +7,11 @@ use Rattle.echo_text.specs.Echo.{EchoText, IsEcho, msgid_of}
 use Rattle.echo_filed.specs.declared.key.Key.{Key}
 use Rattle.echo_filed.specs.declared.key.Key.TheVariants.{ByContent, ById}
 
--- a control line that carries an id
+-- A control line with an id.
 abbrev pub id_line : List ℕ → List ℕ → List ℕ
 id_line word id = word ++ (codes " " ++ id)
 
--- a message of a base: who sent it, none where it was posted here, its DateTime, names, subject and text
+-- A message of a base: its sender, or `None` if it was posted here, its DateTime, names, subject and text.
 pub record Filed : Type 0 where
   pub sender : Option Address
   pub date : List ℕ
@@ -20,16 +20,16 @@ pub record Filed : Type 0 where
   pub subject : List ℕ
   pub echo : EchoText
 
--- the key of a message with this id, or without one
+-- The key of a message with this id, or without one.
 abbrev pub key_with : Filed → Option (List ℕ) → Key
 key_with m (Some msgid) = ById m.echo.tag msgid
 key_with m None = ByContent m.echo.tag m.date m.to_name m.from_name m.subject m.echo.kept
 
--- the key, which makes two messages one
+-- The key. Messages with one key are duplicates.
 unfoldable pub key_of : Filed → Key
 key_of m = key_with m (msgid_of m.echo.kept)
 
--- whether two keys are the same, byte for byte
+-- Two keys are equal, byte for byte.
 abbrev pub same_key : Key → Key → Bool
 same_key (ById tag msgid) (ById tag' msgid') = bytes_eq tag tag' && bytes_eq msgid msgid'
 same_key (ByContent tag date to from subject kept) (ByContent tag' date' to' from' subject' kept') =
@@ -39,16 +39,16 @@ same_key (ByContent tag date to from subject kept) (ByContent tag' date' to' fro
 same_key (ById tag msgid) (ByContent tag' date to from subject kept) = false
 same_key (ByContent tag date to from subject kept) (ById tag' msgid) = false
 
--- a message with this id
+-- The message has this id.
 abbrev pub has_id : List ℕ → Filed → Bool
 has_id id m = unwrap_or (option_map (bytes_eq id) (msgid_of m.echo.kept)) false
 
--- each part of a sender is a number of two bytes
+-- Each part of a sender is a number of two bytes.
 abbrev pub HasSmallSender : Option Address → Type 0
 HasSmallSender None = ⊤
 HasSmallSender (Some a) = (a.zone < 2 ^ 16) × (a.net < 2 ^ 16) × (a.node < 2 ^ 16)
 
--- the rules of each message of a base
+-- The rules for each message of a base.
 pub record IsFiled (m : Filed) : Type 0 where
   pub small_sender : HasSmallSender m.sender
   pub date_len : length m.date ≡ 20

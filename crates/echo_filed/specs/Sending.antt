@@ -1,4 +1,4 @@
--- Parts of a message that are sent, and why not all bytes went out.
+-- Parts of a message that a call sends, and why it did not send all bytes.
 use Rattle.std.specs.Prelude.{◌≡◌, ℕ, List, ◌∷◌, ◌++◌, Result, Ok, Err}
 use Rattle.disk_io.specs.Device.{Failed}
 use Rattle.echo_packet.specs.Header.{word}
@@ -6,16 +6,16 @@ use Rattle.echo_filed.specs.declared.sending.Unsent.{Unsent}
 use Rattle.echo_filed.specs.declared.sending.Unsent.TheVariants as unsent
 use Rattle.echo_filed.specs.Stored.{Stored, after_length}
 
--- the count of failures rose where the device failed, and only there
+-- The count of failures rose if the device failed, and only then.
 abbrev pub CountsUnsent : {A : Type 0} → Result A Unsent → ℕ → ℕ → Type 0
 CountsUnsent (Err unsent.Device) old new = Failed old new
 CountsUnsent (Err unsent.Memory) old new = new ≡ old
 CountsUnsent (Ok _) old new = new ≡ old
 
--- the bytes of a message up to its DateTime
+-- The bytes of a message up to its DateTime.
 abbrev pub front_bytes : Stored → List ℕ
 front_bytes s = s.kind ∷ (word s.zone ++ (word s.net ++ (word s.node ++ s.date)))
 
--- its names and the subject
+-- The bytes of its names and its subject.
 abbrev pub strings_bytes : List ℕ → List ℕ → List ℕ → List ℕ
 strings_bytes to_name from_name subject = after_length to_name ++ (after_length from_name ++ after_length subject)

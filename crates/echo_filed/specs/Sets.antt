@@ -3,7 +3,7 @@ use Rattle.std.specs.Prelude.{◌==◌, ◌||◌, ◌&&◌, nat_lt, Bool, List, 
 use Rattle.echo_addr.specs.declared.address.Address.{Address}
 use Rattle.echo_addr.specs.declared.address.NetNode.{NetNode}
 
--- a member put into an ascending list, once
+-- A member inserted into an ascending list, once.
 abbrev pub put_in : {X : Type 0} → (X → X → Bool) → X → List X → List X
 put_in before x [] = x ∷ []
 put_in before x (y ∷ ys) =
@@ -11,29 +11,29 @@ put_in before x (y ∷ ys) =
     else if before y x then y ∷ put_in before x ys
     else y ∷ ys
 
--- the members of a list, ascending and without repeats
+-- The members of a list, ascending and without repeats.
 abbrev pub set_of : {X : Type 0} → (X → X → Bool) → List X → List X
 set_of before [] = []
 set_of before (x ∷ xs) = put_in before x (set_of before xs)
 
--- entries by net and then by node
+-- Entries by net and then by node.
 abbrev pub entry_before : NetNode → NetNode → Bool
 entry_before x y = nat_lt x.net y.net || ((x.net == y.net) && nat_lt x.node y.node)
 
--- addresses by zone, then by net, then by node
+-- Addresses by zone, then by net, then by node.
 abbrev pub address_before : Address → Address → Bool
 address_before a b =
     nat_lt a.zone b.zone
     || ((a.zone == b.zone) && (nat_lt a.net b.net || ((a.net == b.net) && nat_lt a.node b.node)))
 
--- whether two entries are the same
+-- Two entries are equal.
 abbrev pub same_entry : NetNode → NetNode → Bool
 same_entry x y = (x.net == y.net) && (x.node == y.node)
 
--- the entries of a list as a set
+-- The entries of a list as a set.
 unfoldable pub entry_set : List NetNode → List NetNode
 entry_set all = set_of entry_before all
 
--- the addresses of a list as a set
+-- The addresses of a list as a set.
 unfoldable pub address_set : List Address → List Address
 address_set all = set_of address_before all

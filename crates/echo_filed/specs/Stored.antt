@@ -9,23 +9,23 @@ use Rattle.echo_filed.specs.Written.{echo_of, text_of}
 use Rattle.echo_filed.specs.Filed.{Filed}
 use Rattle.echo_filed.specs.Stubs.{bare, is_stub}
 
--- the bytes of a number of four bytes
+-- The bytes of a number of four bytes.
 abbrev pub long : ℕ → List ℕ
 long n = word (n % 65536) ++ word (n / 65536)
 
--- the number of four bytes at a place
+-- The number of four bytes at a place.
 abbrev pub long_at : ℕ → List ℕ → ℕ
 long_at at bytes = number_at at bytes + 65536 * number_at (at + 2) bytes
 
--- bytes after their length, of one byte
+-- Bytes after their length in one byte.
 abbrev pub after_length : List ℕ → List ℕ
 after_length s = length s ∷ s
 
--- and of four bytes
+-- Bytes after their length in four bytes.
 abbrev pub after_long_length : List ℕ → List ℕ
 after_long_length s = long (length s) ++ s
 
--- a stored message; `last` is its text, or its id where it has the tag instead of the text
+-- A stored message. `last` is its text, or its id if it has a tag instead of the text.
 pub record Stored : Type 0 where
   pub kind : ℕ
   pub zone : ℕ
@@ -38,23 +38,23 @@ pub record Stored : Type 0 where
   pub tag : List ℕ
   pub last : List ℕ
 
--- 02 and 03 of the second version have tag and id instead of the text
+-- In the second version, 02 and 03 have a tag and an id instead of the text.
 abbrev pub has_tag : Version → ℕ → Bool
 has_tag First kind = false
 has_tag Second kind = (kind == 2) || (kind == 3)
 
--- the bytes after the subject
+-- The bytes after the subject.
 abbrev pub last_bytes : Version → Stored → List ℕ
 last_bytes version s =
     if has_tag version s.kind then after_length s.tag ++ after_long_length s.last else after_long_length s.last
 
--- the bytes of a message
+-- The bytes of a message.
 unfoldable pub stored_bytes : Version → Stored → List ℕ
 stored_bytes version s =
     s.kind ∷ (word s.zone ++ (word s.net ++ (word s.node ++ (s.date
     ++ (after_length s.to_name ++ (after_length s.from_name ++ (after_length s.subject ++ last_bytes version s)))))))
 
--- each field fits its place
+-- Each field fits its place.
 pub record IsStored (version : Version) (s : Stored) : Type 0 where
   pub kind : s.kind < 2 ^ 8
   pub zone : s.zone < 2 ^ 16
@@ -68,19 +68,19 @@ pub record IsStored (version : Version) (s : Stored) : Type 0 where
   pub no_tag : has_tag version s.kind ≡ false → s.tag ≡ []
   pub last : length s.last < 2 ^ 32
 
--- 00 and 02 were posted here, 01 and 03 received
+-- The kinds 00 and 02 were posted here, 01 and 03 received.
 abbrev pub is_posted : ℕ → Bool
 is_posted kind = (kind == 0) || (kind == 2)
 
--- the sender of the message
+-- The sender of the message.
 abbrev pub sender_in : Stored → Option Address
 sender_in s = if is_posted s.kind then None else Some (record { zone = s.zone; net = s.net; node = s.node })
 
--- and of its text
+-- The parsed text of the message.
 abbrev pub echo_in : Version → Stored → EchoText
 echo_in version s = if has_tag version s.kind then bare s.tag s.last else echo_of s.last
 
--- the message that is stored so
+-- The message with this stored form.
 unfoldable pub message_in : Version → Stored → Filed
 message_in version s = record {
   sender = sender_in s;
@@ -91,23 +91,23 @@ message_in version s = record {
   echo = echo_in version s;
 }
 
--- a message has tag and id instead of the text exactly if four things hold: the second version, scanned, an id, and a
--- stub
+-- The short form has tag and id instead of the text. A message has it if it is scanned, has an id and is a stub, in the
+-- second version.
 abbrev pub is_short : Version → ℕ → ℕ → Filed → Bool
 is_short First cursor place m = false
 is_short Second cursor place m = nat_lt place cursor && (is_some (msgid_of m.echo.kept) && is_stub m)
 
--- the first byte of a message, in short or not
+-- The first byte of a message, in short form or not.
 abbrev pub kind_of : Bool → Option Address → ℕ
 kind_of short None = if short then 2 else 0
 kind_of short (Some sender) = if short then 3 else 1
 
--- the stored sender, zeros for none
+-- The stored sender, zeros if there is no sender.
 abbrev pub sender_or_zeros : Option Address → Address
 sender_or_zeros None = record { zone = 0; net = 0; node = 0 }
 sender_or_zeros (Some sender) = sender
 
--- the stored form of a message, short or not
+-- The stored form of a message, short or not.
 abbrev pub stored_as : Bool → Filed → Stored
 stored_as short m = record {
   kind = kind_of short m.sender;
@@ -122,6 +122,6 @@ stored_as short m = record {
   last = if short then unwrap_or (msgid_of m.echo.kept) [] else text_of m.echo;
 }
 
--- four bytes count the bytes of the text, or of the id
+-- Four bytes can count the bytes of the text or the id.
 abbrev pub is_short_enough : Stored → Bool
 is_short_enough s = nat_lt (length s.last) (2 ^ 32)

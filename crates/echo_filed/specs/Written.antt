@@ -1,4 +1,4 @@
--- The parts of a text, and the text that is written for them (FTS-0004), as functions.
+-- The parts of a text, and its written text (FTS-0004), as functions.
 use Rattle.std.specs.Prelude.{ℕ, nat_le, List, [], ◌∷◌, ◌++◌, length, if◌then◌else◌, None}
 use Rattle.std.specs.List.{flat_map}
 use Rattle.echo_addr.specs.declared.address.NetNode.{NetNode}
@@ -8,7 +8,7 @@ use Rattle.echo_text.specs.Tail.{all_entries, kept_of, path_lists, seen_lists}
 use Rattle.echo_text.specs.Echo.{EchoText, ended}
 use Rattle.echo_filed.specs.Sets.{entry_set}
 
--- the parts in the lines of an echomail text
+-- The parts in the lines of an echomail text.
 abbrev pub echo_of_lines : List (List ℕ) → EchoText
 echo_of_lines all = record {
   tag = area_tag (first_line all);
@@ -17,11 +17,11 @@ echo_of_lines all = record {
   path = all_entries (path_lists (later_lines all));
 }
 
--- the parts of an echomail text
+-- The parts of an echomail text.
 unfoldable pub echo_of : List ℕ → EchoText
 echo_of text = echo_of_lines (lines text)
 
--- entries cut into the runs of their lines; the first list has the entries of the line so far
+-- The entries in the runs of their lines. The first list has the entries of the current line.
 abbrev pub runs_after : List ℕ → List NetNode → List NetNode → List (List NetNode)
 runs_after prefix run [] = run ∷ []
 runs_after prefix run (next ∷ more) =
@@ -29,16 +29,16 @@ runs_after prefix run (next ∷ more) =
     then runs_after prefix (run ++ next ∷ []) more
     else run ∷ runs_after prefix (next ∷ []) more
 
--- the entries of each line
+-- The entries of each line.
 abbrev pub runs_of : List ℕ → List NetNode → List (List NetNode)
 runs_of prefix [] = []
 runs_of prefix (first ∷ more) = runs_after prefix (first ∷ []) more
 
--- SEEN-BY or PATH lines of the entries, as few bytes as have room in each
+-- SEEN-BY or PATH lines of the entries, with as many in each line as fit.
 unfoldable pub short_lines : List ℕ → List NetNode → List ℕ
 short_lines prefix list = flat_map (λ run. line_of prefix (entries_text None run)) (runs_of prefix list)
 
--- AREA line, kept lines, SEEN-BY lines and PATH lines
+-- AREA line, kept lines, SEEN-BY lines and PATH lines.
 unfoldable pub text_of : EchoText → List ℕ
 text_of e =
     ended (area_word ++ e.tag)

@@ -1,11 +1,10 @@
 //! A message in the form of version 2 of a base, written to a sink. A failed call wrote a beginning
 //! of its bytes and nothing else.
-ghost use Rattle.std.specs.Prelude.{◌≡◌, [], ◌^◌, ◌<◌, ◌++◌, ◌≤◌, length, unwrap_or, IsTrue, IfOk, OnOk, OnErr, true};
-ghost use Rattle.std.specs.List.{flat_map};
+ghost use Rattle.std.specs.Prelude.{◌≡◌, [], ◌^◌, ◌<◌, ◌++◌, length, unwrap_or, IsTrue, IfOk, OnOk, OnErr, true};
 ghost use Rattle.disk_io.specs.Device.{Failed, Sends};
-ghost use Rattle.echo_text.specs.Echo.{ended, msgid_of};
+ghost use Rattle.echo_text.specs.Echo.{msgid_of};
 ghost use Rattle.echo_filed.specs.Written.{text_of};
-ghost use Rattle.echo_filed.specs.Stored.{Second, after_length, after_long_length, is_short, is_short_enough, kind_of, last_bytes, sender_or_zeros, stored_as, stored_bytes};
+ghost use Rattle.echo_filed.specs.Stored.{Second, after_length, after_long_length, is_short, is_short_enough, kind_of, sender_or_zeros, stored_as, stored_bytes};
 ghost use Rattle.echo_filed.specs.Sending.{CountsUnsent, front_bytes, strings_bytes};
 
 use crate::filed::Filed;

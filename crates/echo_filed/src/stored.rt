@@ -1,6 +1,6 @@
 //! A message of a base file, read from a source.
 ghost use Rattle.std.specs.Prelude.{◌≡◌};
-ghost use Rattle.echo_filed.specs.Stored.{IsStored, has_tag, sender_in, stored_bytes};
+ghost use Rattle.echo_filed.specs.Stored.{IsStored, has_tag, stored_bytes};
 ghost use Rattle.disk_io.specs.Fixed.{CountsBreak};
 ghost use Rattle.echo_filed.specs.Fields.{Reads};
 

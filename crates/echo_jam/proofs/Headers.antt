@@ -4,7 +4,7 @@ use Rattle.echo_filed.specs.Filed.{Filed}
 use Rattle.echo_jam.specs.Fields.{body_of, fields_of}
 use Rattle.echo_jam.specs.JamMessage.{header_back, header_front, header_ids, header_of}
 
--- what holds anyhow holds where all went well
+-- a property that always holds, holds after success
 pub anyhow : {T E P : Type 0} (r : Result T E) → P → OnOk r P
 anyhow (Ok x) p = p
 anyhow (Err e) p = tt

@@ -4,24 +4,24 @@ use Rattle.std.proofs.lemmas.Bool.{eq-eqb, le-leb, lt-leb, ne_eqb}
 use Rattle.echo_jam.specs.Subfields.{behind_field, control_line, controls_within, field_content, field_kind, first_within}
 
 module _ (kind : ℕ) (bytes : List ℕ) where
-  -- the first subfield is of the kind
+  -- the first subfield has the kind
   pub found_here : (n r : ℕ) → 0 < n → 8 ≤ length bytes → r ≡ field_kind bytes → r ≡ kind → first_within kind n bytes ≡ Some (field_content bytes)
   found_here zero r some long is same = absurd (omega (arith, some))
   found_here (suc n) r some long is same = rw (le-leb 8 (length bytes) long, eq-eqb (field_kind bytes) kind (sym is ∙ same)) refl
 
-  -- it is of another kind
+  -- it has another kind
   pub found_later : (n r : ℕ) → 0 < n → 8 ≤ length bytes → r ≡ field_kind bytes → r ≢ kind → first_within kind n bytes ≡ first_within kind (n - 1) (behind_field bytes)
   found_later zero r some long is other = absurd (omega (arith, some))
   found_later (suc n) r some long is other =
       let less : suc n - 1 ≡ n = omega arith in
       rw (le-leb 8 (length bytes) long, ne_eqb (field_kind bytes) kind (λ same. other (is ∙ same)), less) refl
 
-  -- there is none
+  -- there is no subfield
   pub found_none : (n : ℕ) → length bytes < 8 → first_within kind n bytes ≡ None
   found_none zero short = refl
   found_none (suc n) short = rw (lt-leb 8 (length bytes) short) refl
 
--- no subfield is looked at
+-- no subfield is searched
 pub none_left : (kind n : ℕ) (bytes : List ℕ) → n ≤ 0 → first_within kind n bytes ≡ None
 none_left kind zero bytes none = refl
 none_left kind (suc n) bytes none = absurd (omega (arith, none))

@@ -12,29 +12,29 @@ use Rattle.echo_stored.specs.OriginAddress.{address_in_origin}
 use Rattle.echo_text.specs.Echo.{EchoText, ended}
 use Rattle.echo_text.specs.Lines.{after_feeds, after_word, begins, is_control, is_path, is_seen, later_lines, lines, msgid_word, reply_word, trimmed}
 
--- a subfield: its kind, of two words, its length and its bytes
+-- A subfield: its kind in two words, its length and its bytes.
 abbrev pub subfield : ℕ → List ℕ → List ℕ
 subfield kind bytes = word kind ++ (word 0 ++ (long (length bytes) ++ bytes))
 
--- the subfield of an address
+-- The subfield of an address.
 abbrev pub address_field : Address → List ℕ
 address_field a = subfield 0 (address_text a)
 
--- the address of the origin line, else of the system that sent the message; none if neither is known
+-- The address of the origin line, else of the system that sent the message; no subfield if neither is known.
 abbrev pub origin_field : Option Address → Option Address → List ℕ
 origin_field (Some a) sender = address_field a
 origin_field None (Some a) = address_field a
 origin_field None None = []
 
--- the lines that are written for a text, without its AREA line
+-- The lines written for a text, without its AREA line.
 abbrev pub lines_behind : EchoText → List (List ℕ)
 lines_behind e = later_lines (lines (text_of e))
 
--- the beginning of a line that names the program of the message
+-- The beginning of a line that names the program of the message.
 abbrev pub program_word : List ℕ
 program_word = 1 ∷ codes "PID:"
 
--- the content of a subfield: its kind, its most bytes, and the bytes
+-- The content of a subfield: its kind, its greatest length, and its bytes.
 pub record Content : Type 0 where
   pub kind : ℕ
   pub most : ℕ
@@ -43,16 +43,16 @@ pub record Content : Type 0 where
 abbrev pub content : ℕ → ℕ → List ℕ → Option Content
 content kind most bytes = Some (record { kind = kind; most = most; bytes = trimmed bytes })
 
--- how many bytes an id takes at most
+-- The greatest length of an id.
 abbrev pub most_of_id : ℕ
 most_of_id = 100
 
--- as many as four bytes count
+-- The greatest number in four bytes.
 abbrev pub most_of_all : ℕ
 most_of_all = 4294967295
 
--- the content of a line: an id, that of the message replied to, the program, PATH, SEEN-BY, or another control line;
--- nothing for a line of the body
+-- The content of a line: an id, the id of the message replied to, the program, PATH, SEEN-BY, or another control line. A
+-- line of the body has none.
 abbrev pub content_of : List ℕ → Option Content
 content_of line =
     if begins msgid_word line then content 4 most_of_id (after_word msgid_word line)
@@ -62,7 +62,7 @@ content_of line =
     else (if is_seen line then content 2001 most_of_all (after_word seen_prefix line)
     else (if is_control line then content 2000 255 (drop 1 (after_feeds line)) else None)))))
 
--- its subfield, cut where it is too long
+-- The subfield of this content, cut to its greatest length.
 abbrev pub content_field : Option Content → List ℕ
 content_field None = []
 content_field (Some c) = subfield c.kind (take c.most c.bytes)
@@ -70,33 +70,33 @@ content_field (Some c) = subfield c.kind (take c.most c.bytes)
 abbrev pub line_field : List ℕ → List ℕ
 line_field line = content_field (content_of line)
 
--- 1 where it is cut
+-- 1 if the content is cut.
 abbrev pub content_cut : Option Content → ℕ
 content_cut None = 0
 content_cut (Some c) = if nat_lt c.most (length c.bytes) then 1 else 0
 
--- how many of the lines are cut
+-- The number of lines that are cut.
 abbrev pub cuts_in : List (List ℕ) → ℕ
 cuts_in ls = sum_by (λ line. content_cut (content_of line)) ls
 
--- a line of the body and its 0D
+-- A line of the body and its 0D.
 abbrev pub body_line : List ℕ → List ℕ
 body_line line = if is_control line || is_seen line then [] else ended line
 
--- the subfields of names and subject
+-- The subfields of the names and the subject.
 abbrev pub name_fields : Filed → List ℕ
 name_fields m = subfield 2 m.from_name ++ (subfield 3 m.to_name ++ subfield 6 m.subject)
 
--- all subfields: the sender's address, the names, the subject, and those of the lines
+-- All subfields: the sender's address, the names, the subject, and those of the lines.
 abbrev pub fields_of : Filed → List ℕ
 fields_of m =
     origin_field (address_in_origin m.echo) m.sender
     ++ (name_fields m ++ flat_map line_field (lines_behind m.echo))
 
--- how many of them are cut
+-- The number of subfields that are cut.
 abbrev pub cuts_of : Filed → ℕ
 cuts_of m = cuts_in (lines_behind m.echo)
 
--- the text
+-- The text of the message.
 abbrev pub body_of : Filed → List ℕ
 body_of m = flat_map body_line (lines_behind m.echo)

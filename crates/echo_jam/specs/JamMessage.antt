@@ -10,36 +10,36 @@ use Rattle.echo_jam.specs.Fields.{body_of, fields_of, most_of_id}
 use Rattle.echo_jam.specs.Fixed.{jam_mark}
 use Rattle.echo_jam.specs.Moment.{seconds_of}
 
--- the CRC of an id, as its subfield has it; all bits set without an id
+-- The CRC of an id as its subfield holds it; without an id all bits are set.
 abbrev pub id_crc : Option (List ℕ) → ℕ
 id_crc None = 4294967295
 id_crc (Some id) = jam_crc (take most_of_id id)
 
--- the attribute: echomail, Local where it was posted here, and then Sent where it was scanned
+-- The attribute: echomail; Local if the message was posted here, and then Sent if it was scanned.
 abbrev pub jam_attribute : Bool → Option Address → ℕ
 jam_attribute scanned None = if scanned then 16777233 else 16777217
 jam_attribute scanned (Some sender) = 16777216
 
--- how the header of a message begins: `JAM`, revision 1, how long its subfields are, and no times read
+-- The beginning of a message's header: `JAM`, revision 1, the length of its subfields, and no times read.
 abbrev pub header_front : ℕ → List ℕ
 header_front size = jam_mark ++ (word 1 ++ (word 0 ++ (long size ++ long 0)))
 
--- the CRCs of its ids, and no links to other messages
+-- The CRCs of its ids, and no links to other messages.
 abbrev pub header_ids : Filed → List ℕ
 header_ids m = long (id_crc (msgid_of m.echo.kept)) ++ (long (id_crc (reply_of m.echo.kept)) ++ (long 0 ++ (long 0 ++ long 0)))
 
--- the dates: written, not received nor processed; its number and attributes; the place and size of its text; no
--- password, no cost
+-- The dates (written, not received nor processed), the number and attributes, the place and size of the text, no password
+-- and no cost.
 abbrev pub header_back : Bool → Filed → ℕ → ℕ → ℕ → List ℕ
 header_back scanned m number place size =
     (long (seconds_of m.date) ++ (long 0 ++ long 0))
     ++ ((long number ++ (long (jam_attribute scanned m.sender) ++ long 0)) ++ (long place ++ (long size ++ (long 4294967295 ++ long 0))))
 
--- the header of the message of this number, scanned or not, with its text at this place of the texts
+-- The header of the message of this number, scanned or not, with its text at this place of the texts.
 abbrev pub header_of : Bool → Filed → ℕ → ℕ → List ℕ
 header_of scanned m number place =
     header_front (length (fields_of m)) ++ (header_ids m ++ (header_back scanned m number place (length (body_of m)) ++ fields_of m))
 
--- the index entry: the CRC of the addressee's name, and the place of the header
+-- The index entry: the CRC of the addressee's name, and the place of the header.
 abbrev pub entry_of : Filed → ℕ → List ℕ
 entry_of m place = long (jam_crc m.to_name) ++ long place

@@ -5,44 +5,44 @@ use Rattle.echo_jam.specs.declared.standing.Last.{Last}
 use Rattle.echo_jam.specs.declared.standing.Standing.{Standing}
 use Rattle.echo_jam.specs.Fixed.{jam_mark}
 
--- whether the mark of JAM is there
+-- Whether the mark of JAM is at this place.
 abbrev pub has_mark : List ℕ → ℕ → Bool
 has_mark headers at = bytes_eq (slice_range headers at (at + 4)) jam_mark
 
--- the end of the subfields of the header there
+-- The end of the subfields of the header at this place.
 abbrev pub fields_end : List ℕ → ℕ → ℕ
 fields_end headers at = at + 76 + long_at (at + 8) headers
 
--- whether the message is deleted: the highest bit of its attribute
+-- Whether the message is deleted: the highest bit of its attribute.
 abbrev pub is_deleted_at : List ℕ → ℕ → Bool
 is_deleted_at headers at = nat_le 128 (slice_index headers (at + 55))
 
--- the place and size of its text
+-- The place and size of the message's text.
 abbrev pub text_at : List ℕ → ℕ → ℕ
 text_at headers at = long_at (at + 60) headers
 
 abbrev pub text_size_at : List ℕ → ℕ → ℕ
 text_size_at headers at = long_at (at + 64) headers
 
--- whether a text lies within the texts, which have this many bytes
+-- Whether a text lies within the texts, which have this many bytes.
 abbrev pub has_text : List ℕ → ℕ → ℕ → Bool
 has_text headers texts at = is_deleted_at headers at || nat_le (text_at headers at + text_size_at headers at) texts
 
--- whether a whole header is there, with its text
+-- Whether a whole header is at this place, with its text.
 abbrev pub is_header : List ℕ → ℕ → ℕ → Bool
 is_header headers texts at =
     nat_le 1024 at && (nat_le (at + 76) (length headers)
     && (has_mark headers at && (nat_le (fields_end headers at) (length headers) && has_text headers texts at)))
 
--- the place of the header of an index entry
+-- The place of the header of an index entry.
 abbrev pub place_in : List ℕ → ℕ → ℕ
 place_in index i = long_at (8 * i + 4) index
 
--- whether an entry is zeros: a power cut came before its bytes
+-- Whether an entry is zeros: a power cut came before its bytes.
 abbrev pub is_unwritten : List ℕ → ℕ → Bool
 is_unwritten index i = long_at (8 * i) index == 0 && place_in index i == 0
 
--- the number of whole entries among the first ones, without those of zeros at their end
+-- The number of entries among the first `n`, without those of zeros at their end.
 abbrev pub written_behind : List ℕ → ℕ → ℕ → ℕ
 written_behind index before i = if is_unwritten index i then before else i + 1
 
@@ -50,57 +50,57 @@ abbrev pub written_in : List ℕ → ℕ → ℕ
 written_in index zero = 0
 written_in index (suc n) = written_behind index (written_in index n) n
 
--- how many the index has
+-- The number of entries of the index.
 abbrev pub entries_in : List ℕ → ℕ
 entries_in index = written_in index (length index / 8)
 
--- whether the message is gone: its entry has all bits set
+-- Whether the message is gone: its entry has all bits set.
 abbrev pub is_gone : ℕ → Bool
 is_gone place = place == 4294967295
 
 abbrev pub is_entry : List ℕ → ℕ → ℕ → Bool
 is_entry headers texts place = is_gone place || is_header headers texts place
 
--- whether each of this many first entries is gone or has its header
+-- Whether each of the first `n` entries is gone or has its header.
 abbrev pub are_entries : List ℕ → List ℕ → ℕ → ℕ → Bool
 are_entries headers index texts zero = true
 are_entries headers index texts (suc n) =
     are_entries headers index texts n
     && is_entry headers texts (place_in index n)
 
--- 1 for a message that is neither gone nor deleted
+-- 1 for a message that is neither gone nor deleted.
 abbrev pub active_at : List ℕ → ℕ → ℕ
 active_at headers place = if is_gone place || is_deleted_at headers place then 0 else 1
 
--- the number of active ones among this many first entries
+-- The number of active messages among the first `n` entries.
 abbrev pub active_in : List ℕ → List ℕ → ℕ → ℕ
 active_in headers index zero = 0
 active_in headers index (suc n) = active_in headers index n + active_at headers (place_in index n)
 
--- the number of the first message, and that of the next one that comes
+-- The number of the first message, and that of the next new one.
 abbrev pub first_number : List ℕ → ℕ
 first_number headers = long_at 20 headers
 
 abbrev pub next_number : List ℕ → List ℕ → ℕ
 next_number headers index = first_number headers + entries_in index
 
--- the number of active messages that the base states
+-- The number of active messages that the base states.
 abbrev pub told_active : List ℕ → ℕ
 told_active headers = long_at 12 headers
 
--- whether that count includes no entry of zeros at the end of the index
+-- Whether that count includes no entry of zeros at the end of the index.
 abbrev pub is_counted : List ℕ → List ℕ → Bool
 is_counted headers index =
     entries_in index == length index / 8 || nat_le (told_active headers) (active_in headers index (entries_in index))
 
--- whether these are the headers and the index of a base: the mark, numbers that four bytes count, and whole entries
+-- Whether these are the headers and the index of a base: the mark, numbers that fit four bytes, and whole entries.
 abbrev pub is_base : List ℕ → List ℕ → ℕ → Bool
 is_base headers index texts =
     (nat_le 1024 (length headers) && has_mark headers 0)
     && (nat_lt (next_number headers index) (2 ^ 32)
     && (are_entries headers index texts (entries_in index) && is_counted headers index))
 
--- the last message, if there is one and it is not gone
+-- The last message, unless it is gone or there is none.
 abbrev pub last_at : List ℕ → ℕ → ℕ → Option Last
 last_at headers texts place =
     if is_gone place then None
@@ -110,7 +110,7 @@ abbrev pub last_in : List ℕ → List ℕ → ℕ → Option Last
 last_in headers index texts =
     if entries_in index == 0 then None else last_at headers texts (place_in index (entries_in index - 1))
 
--- the state of a base; nothing if the files are not one
+-- The state of a base; none if the files are not a base.
 abbrev pub standing_in : List ℕ → List ℕ → ℕ → Option Standing
 standing_in headers index texts =
     if is_base headers index texts then Some (record {

@@ -4,7 +4,7 @@ use Rattle.echo_filed.specs.Stored.{long_at}
 use Rattle.echo_packet.specs.Header.{number_at}
 use Rattle.echo_text.specs.Echo.{ended}
 
--- the kind and the content of the first subfield, and the bytes behind it
+-- The kind and the content of the first subfield, and the bytes after it.
 abbrev pub field_kind : List ℕ → ℕ
 field_kind bytes = number_at 0 bytes
 
@@ -14,7 +14,7 @@ field_content bytes = take (long_at 4 bytes) (drop 8 bytes)
 abbrev pub behind_field : List ℕ → List ℕ
 behind_field bytes = drop (8 + long_at 4 bytes) bytes
 
--- the content of the first subfield of this kind among so many; fewer than eight bytes are none
+-- The content of the first subfield of this kind among the first `n`; fewer than eight bytes are no subfield.
 abbrev pub first_within : ℕ → ℕ → List ℕ → Option (List ℕ)
 first_within kind zero bytes = None
 first_within kind (suc n) bytes =
@@ -22,15 +22,15 @@ first_within kind (suc n) bytes =
     (if field_kind bytes == kind then Some (field_content bytes) else first_within kind n (behind_field bytes))
     else None
 
--- the same among all
+-- The content of the first subfield of this kind.
 abbrev pub first_field : ℕ → List ℕ → Option (List ℕ)
 first_field kind bytes = first_within kind (length bytes) bytes
 
--- that content, or no bytes
+-- This content, or no bytes.
 abbrev pub field_or_none : ℕ → List ℕ → List ℕ
 field_or_none kind bytes = unwrap_or (first_field kind bytes) []
 
--- a line that begins with a word, and its 0D; the control line that a subfield stands for: the program, the time zone, or another control line
+-- A line that begins with a word, and its 0D; and the control line of a subfield: the program, the time zone, or another.
 abbrev pub begun : List ℕ → List ℕ → List ℕ
 begun word content = ended (word ++ content)
 
@@ -40,7 +40,7 @@ control_line kind content =
     else (if kind == 2004 then begun (1 ∷ codes "TZUTC: ") content
     else (if kind == 2000 then begun (1 ∷ []) content else []))
 
--- the control lines of so many subfields, and those of all
+-- The control lines of the first `n` subfields, and those of all.
 abbrev pub controls_within : ℕ → List ℕ → List ℕ
 controls_within zero bytes = []
 controls_within (suc n) bytes =

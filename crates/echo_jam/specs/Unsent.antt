@@ -8,30 +8,30 @@ use Rattle.echo_jam.specs.Same.{fields_at}
 use Rattle.echo_jam.specs.Standing.{entries_in, is_deleted_at, last_at, place_in}
 use Rattle.echo_jam.specs.Subfields.{controls_of, field_or_none}
 
--- bits of the attribute: Local and Sent, in its lowest byte
+-- Bits of the attribute in its lowest byte: Local and Sent.
 abbrev pub is_local_at : List ℕ → ℕ → Bool
 is_local_at headers at = slice_index headers (at + 52) % 2 == 1
 
 abbrev pub is_sent_at : List ℕ → ℕ → Bool
 is_sent_at headers at = slice_index headers (at + 52) / 16 % 2 == 1
 
--- whether the message at this header was written here, not sent yet, and not deleted
+-- Whether the message at this header was written here, is not sent yet, and is not deleted.
 abbrev pub is_unsent : List ℕ → ℕ → Bool
 is_unsent headers at =
     nat_le (at + 76) (length headers)
     && (is_local_at headers at && (not (is_sent_at headers at) && not (is_deleted_at headers at)))
 
--- the byte with the bits of such a message, once it is sent
+-- The byte with these bits of an unsent message, once it is sent.
 abbrev pub sent_attribute : List ℕ → ℕ → Option ℕ
 sent_attribute headers at = if is_unsent headers at then Some (slice_index headers (at + 52) + 16) else None
 
--- that message of an entry, if it is one
+-- The unsent message of an entry, if it is one.
 abbrev pub unsent_at : List ℕ → List ℕ → ℕ → ℕ → Option Last
 unsent_at headers index texts i =
     if nat_lt i (entries_in index) && is_unsent headers (place_in index i) then last_at headers texts (place_in index i) else None
 
--- the parts of a message with these subfields and this text: names, subject, the id of the message that is replied to,
--- its own id, and the lines that its author wrote
+-- The parts of a message with these subfields and this text: names, subject, the id of the message replied to, its own id,
+-- and its author's lines.
 pub record IsJamDraft (fields text : List ℕ) (draft : JamDraft) : Type 0 where
   pub from_is : draft.from_name.now ≡ field_or_none 2 fields
   pub to_is : draft.to_name.now ≡ field_or_none 3 fields
@@ -40,12 +40,12 @@ pub record IsJamDraft (fields text : List ℕ) (draft : JamDraft) : Type 0 where
   pub id_is : draft.id.now ≡ field_or_none 4 fields
   pub body_is : draft.body ≡ body_of (controls_of fields ++ text)
 
--- whether the message at this header has the id, cut as its subfield has it
+-- Whether the message at this header has the id, cut to the length in its subfield.
 abbrev pub has_id_at : List ℕ → ℕ → List ℕ → Bool
 has_id_at headers at id =
     nat_le (at + 76) (length headers) && bytes_eq (field_or_none 4 (fields_at headers at)) (take most_of_id id)
 
--- whether a message of so many first entries has it, and of all
+-- Whether a message of the first `n` entries has the id, and whether any has.
 abbrev pub has_id_among : List ℕ → List ℕ → List ℕ → ℕ → Bool
 has_id_among headers index id zero = false
 has_id_among headers index id (suc n) = has_id_among headers index id n || has_id_at headers (place_in index n) id

@@ -1,5 +1,5 @@
 //! The content of a line of a text: a subfield, cut if that has less room, or a line of the body.
-ghost use Rattle.std.specs.Prelude.{◌≡◌, ◌+◌, IfOk, MatchOption, None, Some, take};
+ghost use Rattle.std.specs.Prelude.{◌≡◌, IfOk, MatchOption, None, Some, take};
 ghost use Rattle.echo_text.specs.Lines.{lines};
 ghost use Rattle.echo_jam.specs.Fields as contents;
 ghost use Rattle.echo_jam.specs.Fields.{content_cut, content_of, cuts_in};

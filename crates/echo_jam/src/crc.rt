@@ -1,7 +1,7 @@
 //! The CRC-32 of names and ids.
-ghost use Rattle.std.specs.Prelude.{◌≡◌, ◌<◌, ◌^◌, map};
+ghost use Rattle.std.specs.Prelude.{◌≡◌, ◌^◌};
 ghost use Rattle.std.specs.Char.{to_ascii_lowercase};
-ghost use Rattle.echo_jam.specs.Crc.{crc_after, crc_bit, crc_byte, jam_crc};
+ghost use Rattle.echo_jam.specs.Crc.{crc_bit, crc_byte, jam_crc};
 
 /// The CRC of a name or an id, in small letters.
 pub fn jam_crc(bytes: &[u8]) -> u32

@@ -1,5 +1,5 @@
 //! A DateTime as seconds since the beginning of 1970.
-ghost use Rattle.std.specs.Prelude.{◌≡◌, ◌≤◌, ◌+◌, true, length};
+ghost use Rattle.std.specs.Prelude.{◌≡◌, ◌≤◌, ◌+◌, true};
 ghost use Rattle.echo_jam.specs.Moment as moments;
 ghost use Rattle.echo_jam.specs.Moment.{days_at, days_before, early_month, is_laid_out, is_pair, late_month, month_of, pair, time_of, year_of, day_of};
 

@@ -2,7 +2,7 @@
 ghost use Rattle.std.specs.Prelude.{◌≡◌, ◌+◌, ◌*◌, ◌/◌, ◌≤◌, ◌<◌, ◌^◌, IsTrue, length};
 ghost use Rattle.echo_filed.specs.Stored as numbers;
 ghost use Rattle.echo_packet.specs.Header as words;
-ghost use Rattle.echo_jam.specs.Standing.{active_at, active_in, are_entries, entries_in, fields_end, has_mark, has_text, is_base, is_counted, is_deleted_at, is_entry, is_gone, is_header, is_unwritten, last_at, last_in, next_number, place_in, standing_in, written_behind};
+ghost use Rattle.echo_jam.specs.Standing.{active_at, active_in, are_entries, entries_in, fields_end, has_mark, has_text, is_base, is_counted, is_deleted_at, is_entry, is_header, is_unwritten, last_at, last_in, next_number, place_in, standing_in, written_behind};
 
 /// The last message of a base: the place of its header, that of its text, and how long that is.
 #[derive(Clone, Copy, Debug, PartialEq, Eq)]

@@ -32,7 +32,7 @@ fn first_field(fields: &[u8], kind: u32) -> Option<&[u8]>
     None
 }
 
-/// The control lines that the subfields stand for. Each ends in 0D.
+/// The control lines that the subfields hold. Each ends in 0D.
 pub(crate) fn controls_of(alloc: Global, fields: &[u8]) -> Result<Vec<u8>, AllocError>
     ensures { IfOk result (λ lines. lines.items ≡ controls_of fields.now) }
 {
@@ -47,7 +47,7 @@ pub(crate) fn controls_of(alloc: Global, fields: &[u8]) -> Result<Vec<u8>, Alloc
     Ok(lines)
 }
 
-// Adds the control line of a subfield, if it stands for one.
+// Adds the control line of a subfield, if it holds one.
 fn push_control(lines: &mut Vec<u8>, kind: u32, content: &[u8]) -> Result<(), AllocError>
     ensures { OnOk result (lines.new.items ≡ lines.old.items ++ control_line kind content.now) }
 {

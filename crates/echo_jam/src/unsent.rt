@@ -15,9 +15,8 @@ use std::alloc::{AllocError, Global};
 /// The offset in a header of the byte with the bits Local and Sent.
 pub const ATTRIBUTE_AT: usize = 52;
 
-/// The parts that an editor wrote: names, subject, the id of the message that is replied to or no bytes, the id of the
-/// message or no bytes, and the lines of its text. It omits the lines that posting makes or a scan adds. Each line ends in
-/// 0D.
+/// The parts that an editor wrote: names, subject, ids and the lines of the text. The ids are those of the message replied
+/// to and of the message; an id may be empty. Lines that posting makes or a scan adds are left out. Each line ends in 0D.
 #[derive(Debug, Drop)]
 pub struct JamDraft<'a> {
     pub from_name: &'a [u8],

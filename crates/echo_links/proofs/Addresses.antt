@@ -1,4 +1,4 @@
--- The test of addresses passes where they are the same, and where their order ties.
+-- The test of addresses passes if they are equal, and if their order ties.
 use Rattle.std.proofs.Common.{◌≡◌, true, ◌&&◌, ◌==◌, ap}
 use Rattle.std.specs.Ordering.{is_eq, nat_cmp, ordering_then}
 use Rattle.std.specs.Cmp.{both_tied, unsigned_ties}

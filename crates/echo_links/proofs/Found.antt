@@ -1,4 +1,4 @@
--- Look-ups in what is kept in order find what a walk along the list finds.
+-- Look-ups in a sorted list agree with a walk along the plain list.
 use Rattle.std.proofs.Common.{◌≡◌, ◌<◌, ◌||◌, true, false, Bool, cond, List, [], ◌∷◌, ◌++◌, ℕ, length, refl, sym, ap, subst, ◌∙◌, Option, Some, None, inl, inr, ◌⊎◌, arith}
 use Rattle.std.specs.Prelude.{bytes_eq, find, is_some, slice_get}
 use Rattle.std.specs.declared.cmp.Ordering.{Ordering}
@@ -57,13 +57,13 @@ link_found sorted more links a updates same b =
 abbrev has_tag : List ℕ → Area → Bool
 has_tag tag area = bytes_eq area.tag tag
 
--- a number is found just where there is such an area
+-- a number is found exactly if there is such an area
 number_is : (areas : List Area) (tag : List ℕ) (found : Option ℕ) → IsNumberOf areas tag found → is_some found ≡ is_some (find (has_tag tag) areas)
 number_is areas tag None is = sym (ap is_some is)
 number_is [] tag (Some i) is = absurd (omega (arith, is.0))
 number_is (area ∷ areas) tag (Some i) is = sym (ap is_some (is.1 ∙ slice_get-get_or (area ∷ areas) i area is.0))
 
--- two keys that tie: the new value stands where the old one stood
+-- two equal keys: the new value replaces the old one
 pub tied : {X : Type 0} (b c : Bool) (x y z : Option X) → c ≡ b → cond c x z ≡ cond b x (cond c y z)
 tied true true x y z e = refl
 tied true false x y z e = absurd (true≢false (sym e))
@@ -90,7 +90,7 @@ module _ {K : Type 0} (tag_of : K → List ℕ) where
     pub area_found : is_some (lookup (is_key tag) es) ≡ is_some (find (has_tag tag) areas)
     area_found = number_is areas tag (lookup (is_key tag) es) (leads tag)
 
-    -- none has it
+    -- no area has the tag
     pub no_area : lookup (is_key tag) es ≡ None → find (has_tag tag) areas ≡ None
     no_area e = subst (IsNumberOf areas tag) e (leads tag)
 
@@ -124,7 +124,7 @@ module _ {K : Type 0} (tag_of : K → List ℕ) where
           ∙ apart (is_key tag k) (is_key tag e.0) (Some v) (Some e.1) (lookup (is_key tag) es)
           (λ h g. true≢false (sym (both h g) ∙ ap is_eq is))
 
-  -- an area with a new tag goes last
+  -- an area with a new tag becomes the last one
   pub area_added : (es : List (K × ℕ)) (areas : List Area) (k : K) (a : Area) → a.tag ≡ tag_of k
       → find (λ area. bytes_eq area.tag (tag_of k)) areas ≡ None → LeadToAreas tag_of es areas
       → LeadToAreas tag_of (insert_entry tag_order es k (length areas)) (areas ++ a ∷ [])

@@ -1,4 +1,4 @@
--- Bytes are a link file or have one fault, which is none of memory.
+-- Bytes are a link file or have one fault, and it is never out of memory.
 use Rattle.std.proofs.Common.{◌≡◌, ℕ, ◌+◌, nat_lt, not, Bool, true, false, cond, List, [], ◌∷◌, length, map, refl, sym, ap, subst, ◌∙◌, Option, Some, None, Result, Ok, Err}
 use Rattle.std.specs.Prelude.{bytes_eq, filter, is_err, ⊤}
 use Rattle.std.specs.Option.{option_or}

@@ -36,7 +36,7 @@ word_read word (Err f) ok err =
 ended_first : (piece : List ℕ) (pieces : List (List ℕ)) → HasFirst pieces → ended_pieces (piece ∷ pieces) ≡ without_return piece ∷ ended_pieces pieces
 ended_first piece pieces h = ap (λ ps. ended_pieces (piece ∷ ps)) h.is ∙ ap (λ ps. without_return piece ∷ ended_pieces ps) (sym h.is)
 
--- the first line, where it has an end, and those after it
+-- the first line, if it has an end, and the later lines
 pub line_ended : (bytes line rest : List ℕ) (end : ℕ) → IsFirstByte (is_byte 10) bytes (Some end) → line ≡ without_return (take end bytes)
     → rest ≡ drop (end + 1) bytes → file_lines bytes ≡ line ∷ file_lines rest
 unfolding file_lines
@@ -130,7 +130,7 @@ pub tokens_words : (line : List ℕ) → NoFeed line → words line ≡ tokens l
 unfolding words tokens
 tokens_words line h = ap (filter (λ w. nat_lt 0 (length w))) (sym (split_same line h))
 
--- and it is trimmed alike
+-- both ways of trimming agree
 trimmed_same : (bytes : List ℕ) → NoFeed bytes → trimmed bytes ≡ without_spaces bytes
 unfolding trimmed
 trimmed_same bytes h =
@@ -174,7 +174,7 @@ note_word (b ∷ line) h =
           ∙ ap first_of (cond-true (nat_lt 0 (length (59 ∷ first.first))) ((59 ∷ first.first) ∷ filter (λ w. nat_lt 0 (length w)) first.more) _ (lt-ltb 0 (length (59 ∷ first.first)) some)),
     )
 
--- a skipped line is none of SYSTEM, NAME and AREA
+-- the first word of a skipped line is neither SYSTEM nor NAME nor AREA
 pub skipped_word : (line : List ℕ) (b : ℕ) (word : List ℕ) → (59 == b) ≡ false → is_skipped line ≡ true → bytes_eq (first_of (words line)) (b ∷ word) ≡ false
 skipped_word line b word other h = elim (cases_Bool (list_all is_space_or_tab line)) [
   | inl blank ↦ ap (λ ws. bytes_eq (first_of ws) (b ∷ word)) (blank_words line blank)

@@ -1,4 +1,4 @@
--- What a link file says, where no line of it is faulty.
+-- The parts of a link file without a faulty line.
 use Rattle.std.proofs.Common.{◌≡◌, ◌≢◌, ℕ, ◌+◌, ◌≤◌, ◌==◌, ◌||◌, not, nat_lt, Bool, true, false, cond, List, [], ◌∷◌, length, map, drop, codes, refl, sym, ap, subst, ◌∙◌, Option, Some, None, arith, lit≤, inl, inr, ◌⊎◌}
 use Rattle.std.specs.Prelude.{bytes_eq, filter, find, is_err, is_ok, option_map, unwrap_or, AllPairs}
 use Rattle.std.specs.Option.{option_or}
@@ -38,7 +38,7 @@ one_address [] h = absurd (true≢false (sym h))
 one_address (word ∷ []) h = address_read word h
 one_address (word ∷ (next ∷ more)) h = absurd (true≢false (sym h))
 
--- a chain of refusals of which none applies
+-- a chain of refusals that do not apply
 pub passed : {F : Type 0} (b : Bool) (f : F) (rest : Option F) → cond b (Some f) rest ≡ None → (b ≡ false) × (rest ≡ None)
 passed true f rest h = absurd (cc)
 passed false f rest h = (refl, h)
@@ -53,7 +53,7 @@ either_none : {F : Type 0} (a b : Option F) → option_or a b ≡ None → (a �
 either_none None b h = (refl, h)
 either_none (Some f) b h = absurd (cc)
 
--- the links of a line: each in range, and none the same as one before
+-- the links of a line: each in range, and different from the earlier ones
 links_read : (number : ℕ) (before words : List (List ℕ)) → links_fault number before words ≡ None → AllByRecursion IsAddress (map address_in words)
 links_read number before [] h = tt
 links_read number before (word ∷ more) h =
@@ -68,7 +68,7 @@ not_among a (b ∷ all) h =
     let parts = or_parts (same_address a b) (list_any (same_address a) all) h in
     (λ e. true≢false (sym ((same_address_decides a b).1 e) ∙ parts.0), not_among a all parts.1)
 
--- none of the links is the same as one of those before
+-- each link differs from the earlier ones
 links_apart : (number : ℕ) (before words : List (List ℕ)) → links_fault number before words ≡ None
     → AllByRecursion (λ b. AllByRecursion (λ a. b ≢ a) (map address_in before)) (map address_in words)
 links_apart number before [] h = tt
@@ -115,7 +115,7 @@ name_plain line h =
     plain_take _ (without_front_spaces (drop 4 (without_front_spaces line)))
     (plain_drop (prefix_len is_space_or_tab (drop 4 (without_front_spaces line))) (drop 4 (without_front_spaces line)) plain)
 
--- a line of one kind is of no other
+-- a line has only one kind
 pub other_word : (w one other : List ℕ) → bytes_eq one other ≡ false → bytes_eq w one ≡ true → bytes_eq w other ≡ false
 other_word w one other apart h =
     let P : List ℕ → Type 0 = λ x. bytes_eq x other ≡ false in
@@ -184,7 +184,7 @@ kept_lines lines = filter (λ line. not (is_skipped line)) lines
 abbrev areas_of : List (List ℕ) → List Area
 areas_of kept = map area_in (filter is_area_line kept)
 
--- what holds of the lines that are read, where these stand before them
+-- facts about the lines that a reader keeps, after the earlier lines
 record AreFine (earlier kept : List (List ℕ)) : Type 0 where
   system : (line : List ℕ) → find is_system_line kept ≡ Some line → IsAddress (system_in line)
   name : (line : List ℕ) → find is_name_line kept ≡ Some line → Plain (name_in line) × (length (name_in line) ≤ 40)
@@ -242,7 +242,7 @@ line_skipped earlier line kept h = record {
   once = h.once;
 }
 
--- what is found first of some lines
+-- the first line that passes
 found_first : (p : List ℕ → Bool) (P : List ℕ → Type 0) (line : List ℕ) (kept : List (List ℕ)) → (p line ≡ true → P line)
     → ((found : List ℕ) → find p kept ≡ Some found → P found) → (found : List ℕ) → find p (line ∷ kept) ≡ Some found → P found
 found_first p P line kept one more found h = elim (cases_Bool (p line)) [
@@ -323,7 +323,7 @@ name_right : (o : Option (List ℕ)) → ((line : List ℕ) → o ≡ Some line 
 name_right None h = (plain_if (codes "echonet") refl, lit≤ tt)
 name_right (Some line) h = h line refl
 
--- a link file without a fault says what a link file may say
+-- a link file without a fault follows the rules of one
 pub file_is_file : (bytes : List ℕ) → file_fault bytes ≡ None → IsFile (file_of bytes)
 unfolding file_fault file_of
 file_is_file bytes h =

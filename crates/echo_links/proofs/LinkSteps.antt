@@ -28,7 +28,7 @@ some_or None (Some y) = refl
 some_or (Some x) None = refl
 some_or (Some x) (Some y) = refl
 
--- what is found of a line, or else of the later ones
+-- the first match is in this line, or else in the later ones
 found_next : {X : Type 0} (say : List ℕ → X) (p : List ℕ → Bool) (skipped : Bool) (line : List ℕ) (later : List (List ℕ))
     → option_map say (find p (cond (not skipped) (line ∷ later) later))
     ≡ option_or (option_map say (find p (cond (not skipped) (line ∷ []) []))) (option_map say (find p later))
@@ -68,9 +68,9 @@ module _ (line : List ℕ) (later : List (List ℕ)) where
   unfolding areas_of
   areas_next = kept_next (is_skipped line) line (kept later)
 
--- ---- what is known of the lines before
+-- ---- the content of the earlier lines
 
--- what a line says tells its kind
+-- the kind of a line determines its content
 module _ (line : List ℕ) where
   unread : is_skipped line ≡ true → (system_of (line ∷ []) ≡ None) × (name_of (line ∷ []) ≡ None) × (areas_of (line ∷ []) ≡ [])
   unfolding system_of name_of areas_of
@@ -162,7 +162,7 @@ knows_more earlier line old new knows adds = record {
 
 -- ---- all lines
 
--- so many lines were read of the bytes, and these bytes are left
+-- the reader has read `number` lines, and `rest` has the remaining bytes
 pub record LinesRead (bytes : List ℕ) (number : ℕ) (rest : List ℕ) (r : Reading) : Type 0 where
   pub earlier : List (List ℕ)
   pub knows : Knows earlier r
@@ -199,7 +199,7 @@ module _ (bytes : List ℕ) (number : ℕ) (rest line after : List ℕ) (old : R
       inr (h.faults ∙ ap (first_fault h.earlier (number + 1)) next
       ∙ ap (λ o. option_or o (first_fault (line ∷ h.earlier) (number + 1 + 1) (file_lines after))) bad)
 
--- nothing is left
+-- the reader has read all lines
 pub lines_done : (bytes : List ℕ) (number : ℕ) (rest : List ℕ) (r : Reading) → LinesRead bytes number rest r → rest ≡ []
     → (first_fault [] 1 (file_lines bytes) ≡ None) × Holds (file_lines bytes) r
 unfolding system_of name_of areas_of
@@ -245,7 +245,7 @@ module _ (bytes : List ℕ) where
     pub file_homeless : r.system ≡ None → file_fault bytes ≡ Some (fault.NoSystem 0)
     file_homeless none = of_system false (ap is_some none)
 
-    -- the name that is kept, where there is one, else the one of no line
+    -- the name of the NAME line, or else the default name
     pub file_said : (own : Address) (name : List ℕ) → r.system ≡ Some own → name ≡ unwrap_or r.name (codes "echonet")
         → (file_fault bytes ≡ None) × (record { system = own; name = name; areas = r.areas } ≡ file_of bytes)
     unfolding file_of system_of name_of areas_of

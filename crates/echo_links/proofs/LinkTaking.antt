@@ -1,4 +1,4 @@
--- What a line of each kind adds to a link file, and why one is refused.
+-- The content that each kind of line adds to a link file, and the reasons to refuse a line.
 use Rattle.std.proofs.Common.{◌≡◌, ℕ, not, Bool, true, false, cond, List, [], ◌∷◌, ◌++◌, length, map, drop, codes, refl, sym, ap, ◌∙◌, Option, Some, None, Result, Ok, Err, inl, inr, ◌⊎◌}
 use Rattle.std.specs.Prelude.{bytes_eq, filter, find, is_some, option_map}
 use Rattle.std.specs.Option.{option_or}
@@ -24,7 +24,7 @@ pub or_none : {X : Type 0} (o : Option X) → o ≡ option_or o None
 or_none None = refl
 or_none (Some x) = refl
 
--- ---- what a line says
+-- ---- the content of a line
 
 module _ (line : List ℕ) where
   abbrev pub taken_of : Bool → List (List ℕ)
@@ -111,7 +111,7 @@ module _ (earlier : List (List ℕ)) (number : ℕ) (line : List ℕ) (h : is_sk
 
 -- ---- lines with a first word
 
--- a line that is read, its first word, and what stands after it
+-- a line that is not skipped, its first word, and the bytes after it
 pub record IsCut (line word rest : List ℕ) : Type 0 where
   pub read : is_skipped line ≡ false
   pub plain : list_any is_control_byte line ≡ false
@@ -238,7 +238,7 @@ module _ (line word rest : List ℕ) (cut : IsCut line word rest) where
       area_taken (Err refused) (inl memory) = inl memory
       area_taken (Err refused) (inr h) = inr (area_judged ∙ h)
 
--- ---- what decides an AREA line
+-- ---- the tests of an AREA line
 
 module _ (areas : List Area) (number : ℕ) (all : List (List ℕ)) (word : List ℕ) (more : List (List ℕ)) (tag : List ℕ) (cut : all ≡ word ∷ more)
     (good : is_tag (upper word) ≡ true) (tag-is : tag ≡ upper word) where
@@ -248,7 +248,7 @@ module _ (areas : List Area) (number : ℕ) (all : List (List ℕ)) (word : List
       ∙ cond-false (not (is_tag (upper word))) (Some (fault.BadTag number)) _ (not_from_true (is_tag (upper word)) good)
       ∙ ap (λ t. cond (is_area_known areas t) (Some (fault.RepeatedArea number)) (links_fault number [] more)) (sym tag-is)
 
-  -- its tag stands before it
+  -- an earlier line has the same tag
   pub area_repeated : is_area_known areas tag ≡ true → area_refusal areas number all ≡ Some (fault.RepeatedArea number)
   area_repeated h = area_begun ∙ cond-true (is_area_known areas tag) (Some (fault.RepeatedArea number)) (links_fault number [] more) h
 

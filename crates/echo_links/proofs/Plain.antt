@@ -6,7 +6,7 @@ use Rattle.std.proofs.lemmas.List.Elements.{All-from_recursion}
 use Rattle.echo_text.specs.Echo.{IsLine}
 use Rattle.echo_text.specs.Ids.{is_line_byte, is_zero}
 
--- a byte that is neither 00 nor 0D
+-- a byte other than 00 and 0D
 abbrev pub IsLineByte : ℕ → Type 0
 IsLineByte b = (b ≢ 0) × (b ≢ 13)
 

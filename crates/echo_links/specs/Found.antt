@@ -8,20 +8,20 @@ use Rattle.std.specs.Map.{lookup}
 use Rattle.echo_addr.specs.declared.address.Address.{Address}
 use Rattle.echo_links.specs.Links.{Area, same_address}
 
--- addresses in order: by zone, then by net, then by node
+-- Addresses in order: by zone, then by net, then by node.
 abbrev pub address_order : Address → Address → Ordering
 address_order a b = ordering_then (nat_cmp a.zone b.zone) (ordering_then (nat_cmp a.net b.net) (nat_cmp a.node b.node))
 
--- the sorted addresses are those of the list
+-- Both lists have the same addresses.
 abbrev pub HaveTheSame : List Address → List Address → Type 0
 HaveTheSame sorted links = (a : Address) → list_any (λ b. is_eq (address_order a b)) sorted ≡ list_any (same_address a) links
 
--- the found number is that of the area with this tag; no number means that no area has it
+-- The number of the area with this tag, or no number if no area has it.
 abbrev pub IsNumberOf : List Area → List ℕ → Option ℕ → Type 0
 IsNumberOf areas tag found =
     MatchOption found (find (λ area. bytes_eq area.tag tag) areas ≡ None)
     (λ i. (i < length areas) × (find (λ area. bytes_eq area.tag tag) areas ≡ slice_get areas i))
 
--- the entries lead from each tag to its area
+-- Looking up a tag among the entries gives the number of its area.
 abbrev pub LeadToAreas : {K : Type 0} → (K → List ℕ) → List (K × ℕ) → List Area → Type 0
 LeadToAreas tag_of entries areas = (tag : List ℕ) → IsNumberOf areas tag (lookup (λ k. is_eq (slice_cmp nat_cmp tag (tag_of k))) entries)

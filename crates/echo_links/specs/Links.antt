@@ -1,4 +1,4 @@
--- How addresses are compared, and the parts of a link file.
+-- Comparing addresses, and the parts of a link file.
 use Rattle.std.specs.Prelude.{map, ◌≡◌, ◌≢◌, ◌≤◌, ℕ, ◌==◌, ◌&&◌, AllPairs, length, Bool, true, List, [], Option, option_map, unwrap_or, is_some, bytes_eq, find}
 use Rattle.std.specs.Char.{to_ascii_uppercase}
 use Rattle.std.specs.List.{AllByRecursion, list_any}
@@ -7,32 +7,32 @@ use Rattle.echo_addr.specs.Address.{IsAddress}
 use Rattle.echo_text.specs.Lines.{is_tag}
 use Rattle.echo_text.specs.Echo.{IsLine}
 
--- the tag with ASCII letters in upper case
+-- The tag with ASCII letters in upper case.
 abbrev pub upper : List ℕ → List ℕ
 upper tag = map to_ascii_uppercase tag
 
--- whether two addresses are the same
+-- Two addresses are equal.
 abbrev pub same_address : Address → Address → Bool
 same_address a b = (a.zone == b.zone) && ((a.net == b.net) && (a.node == b.node))
 
--- an area of a link file: its tag and its links, in order
+-- An area of a link file: its tag and its links, in order.
 pub record Area : Type 0 where
   pub tag : List ℕ
   pub links : List Address
 
--- a link file: the own address, the name and the areas, in order
+-- A link file: its own address, the name and the areas, in order.
 pub record LinkFile : Type 0 where
   pub system : Address
   pub name : List ℕ
   pub areas : List Area
 
--- an area of a link file that was read: the tag of a text, and links in range, each once
+-- An area of a valid link file: a tag as in texts, and links in range without repeats.
 pub record IsArea (area : Area) : Type 0 where
   pub tag_bytes : is_tag area.tag ≡ true
   pub addresses : AllByRecursion IsAddress area.links
   pub each_once : AllPairs (λ (a b : Address). a ≢ b) area.links
 
--- the rules of a link file that was read
+-- The rules for a valid link file.
 pub record IsFile (file : LinkFile) : Type 0 where
   pub address : IsAddress file.system
   pub name_room : length file.name ≤ 40
@@ -40,18 +40,18 @@ pub record IsFile (file : LinkFile) : Type 0 where
   pub each_area : AllByRecursion IsArea file.areas
   pub tags_once : AllPairs (λ (a b : Area). a.tag ≢ b.tag) file.areas
 
--- the area with this tag
+-- The area with this tag.
 abbrev pub area_of : LinkFile → List ℕ → Option Area
 area_of file tag = find (λ area. bytes_eq area.tag tag) file.areas
 
--- whether there is such an area
+-- The link file has an area with this tag.
 abbrev pub has_area : LinkFile → List ℕ → Bool
 has_area file tag = is_some (area_of file tag)
 
--- the links of the area with this tag, none where there is no such area
+-- The links of the area with this tag, or an empty list if no area has it.
 unfoldable pub links_of : LinkFile → List ℕ → List Address
 links_of file tag = unwrap_or (option_map (λ area. area.links) (area_of file tag)) []
 
--- whether the address is one of these links
+-- The address is one of these links.
 abbrev pub is_link : LinkFile → List ℕ → Address → Bool
 is_link file tag address = list_any (same_address address) (links_of file tag)

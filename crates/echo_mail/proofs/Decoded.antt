@@ -1,4 +1,4 @@
--- What bytes in base64 stand for.
+-- The bytes that base64 encodes.
 use Rattle.std.proofs.Common.{◌≡◌, ℕ, List, Ok, Err, Some, None, ap}
 use Rattle.std.specs.Result.{result_ok}
 use Rattle.base64.specs.GeneralPurpose.{decode_of, decoded_of}

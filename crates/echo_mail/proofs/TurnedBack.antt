@@ -1,5 +1,5 @@
 -- A message id that was made of an id is turned back into it.
-use Rattle.std.proofs.Common.{◌≡◌, ℕ, suc, ◌+◌, ◌-◌, ◌&&◌, List, ◌∷◌, ◌++◌, Option, Some, None, Bool, true, if◌then◌else◌, length, drop, take, ap, arith, ◌∙◌, length-append, nat_lt, nat_eq}
+use Rattle.std.proofs.Common.{◌≡◌, ℕ, suc, ◌+◌, ◌-◌, ◌&&◌, List, ◌∷◌, ◌++◌, Some, None, Bool, true, if◌then◌else◌, length, drop, take, ap, arith, ◌∙◌, length-append, nat_lt, nat_eq}
 use Rattle.std.specs.Prelude.{slice_range}
 use Rattle.std.specs.List.{ends_with}
 use Rattle.std.specs.Cmp.Lexicographic.{pointwise}

@@ -9,36 +9,36 @@ use Rattle.echo_text.specs.Lines.{trimmed}
 use Rattle.echo_mail.specs.declared.fault.MailFault.{MailFault}
 use Rattle.echo_mail.specs.declared.fault.MailFault.TheVariants.{Multipart, NotText, UnknownCharset}
 
--- the byte before each parameter
+-- The byte before each parameter.
 abbrev pub is_semicolon : ℕ → Bool
 is_semicolon b = b == 59
 
--- the type and subtype
+-- The type and subtype.
 abbrev pub media_type : List ℕ → List ℕ
 media_type value = trimmed (before_first is_semicolon value)
 
--- a byte of a word: visible ASCII without the special characters
+-- A byte of a word: visible ASCII without the special characters.
 abbrev pub is_token_byte : ℕ → Bool
 is_token_byte b = is_in_range 33 126 b && not (list_any (λ y. y == b) (codes "()<>@,;:\\\"/[]?="))
 
--- a word at the front, and the bytes before a quotation mark
+-- A word at the front, and the bytes before a quotation mark.
 abbrev pub token_value : List ℕ → List ℕ
 token_value value = take (prefix_len is_token_byte value) value
 
 abbrev pub quoted_value : List ℕ → List ℕ
 quoted_value value = before_first (λ b. b == 34) value
 
--- the value after `charset=`, a word or between quotation marks
+-- The value after `charset=`: a word, or bytes between quotation marks.
 abbrev pub param_value : List ℕ → List ℕ
 param_value word = if slice_index word 8 == 34 then quoted_value (drop 9 word) else token_value (drop 8 word)
 
--- the value of the first parameter `charset`, in letters of either case
+-- The value of the first parameter `charset`, in letters of either case.
 abbrev pub charset_param : List ℕ → Option (List ℕ)
 charset_param [] = None
 charset_param (b ∷ rest) =
     if is_semicolon b && is_called (take 8 (trimmed rest)) (codes "charset=") then Some (param_value (trimmed rest)) else charset_param rest
 
--- the charset of a name that mails have, or of one that messages have
+-- The charset with a name from mails or from messages.
 unfoldable pub known_charset : List ℕ → Option Charset
 known_charset name =
     if is_called name (codes "us-ascii") then Some Ascii
@@ -49,17 +49,17 @@ known_charset name =
     else if is_called name (codes "windows-1251") then Some Cp1251
     else named name
 
--- the charset, or the fault if the program does not know it
+-- The charset, or the fault if the program does not know it.
 abbrev pub charset_or_fault : Option Charset → Result Charset MailFault
 charset_or_fault None = Err UnknownCharset
 charset_or_fault (Some charset) = Ok charset
 
--- the charset of a parameter; US-ASCII where there is none (5.2)
+-- The charset of a parameter, or US-ASCII without one (5.2).
 abbrev pub charset_in : Option (List ℕ) → Result Charset MailFault
 charset_in None = Ok Ascii
 charset_in (Some name) = charset_or_fault (known_charset name)
 
--- the charset of a body, by the value of its Content-Type
+-- The charset of a body, from the value of its Content-Type.
 unfoldable pub charset_of : Option (List ℕ) → Result Charset MailFault
 charset_of None = Ok Ascii
 charset_of (Some value) =

@@ -5,15 +5,15 @@ use Rattle.echo_text.specs.Lines.{trimmed}
 use Rattle.echo_mail.specs.declared.mailbox.Place.{Place}
 use Rattle.echo_mail.specs.Encoded.{decoded_words}
 
--- the first byte is in no comment and no quoted string
+-- The first byte is in no comment and no quoted string.
 abbrev pub start : Place
 start = record { depth = 0; quoted = false; escaped = false }
 
--- whether a byte is in a quoted string or a comment
+-- The byte is in a quoted string or a comment.
 abbrev pub is_open : Place → Bool
 is_open p = p.quoted || nat_lt 0 p.depth
 
--- the place of the byte after another one. Comments nest, and a backslash makes the next byte an ordinary one
+-- The place of the byte after another one. Comments nest, and a backslash makes the next byte an ordinary one.
 abbrev pub next_depth : Place → ℕ → ℕ
 next_depth p b =
     if p.escaped || p.quoted then p.depth else if b == 40 then p.depth + 1 else if b == 41 then p.depth - 1 else p.depth
@@ -27,16 +27,16 @@ next_escaped p b = is_open p && (not p.escaped && (b == 92))
 abbrev pub next_place : Place → ℕ → Place
 next_place p b = record { depth = next_depth p b; quoted = next_quoted p b; escaped = next_escaped p b }
 
--- whether a byte is `<`, which begins the address, or a comma, which ends the mailbox
+-- The byte is `<`, which begins the address, or a comma, which ends the mailbox.
 abbrev pub ends_name : Place → ℕ → Bool
 ends_name p b = not (is_open p) && ((b == 60) || (b == 44))
 
--- the number of bytes before the first of these
+-- The number of bytes before the first such byte.
 abbrev pub name_len : Place → List ℕ → ℕ
 name_len p [] = 0
 name_len p (b ∷ rest) = if ends_name p b then 0 else 1 + name_len (next_place p b) rest
 
--- whether a byte is part of the name: in no comment, and no mark of a quoted string
+-- The byte belongs to the name: it is in no comment, and it is no mark of a quoted string.
 abbrev pub is_name_part : Place → ℕ → Bool
 is_name_part p b =
     if nat_lt 0 p.depth then false
@@ -44,29 +44,29 @@ is_name_part p b =
     else if p.quoted then not (b == 34) && not (b == 92)
     else not (b == 34) && not (b == 40)
 
--- the bytes of the name
+-- The bytes of the name.
 abbrev pub bare_name : Place → List ℕ → List ℕ
 bare_name p [] = []
 bare_name p (b ∷ rest) = (if is_name_part p b then b ∷ [] else []) ++ bare_name (next_place p b) rest
 
--- the bytes before the `@` of an address, or before its end
+-- The bytes before the `@` of an address, or before its end.
 abbrev pub is_at : ℕ → Bool
 is_at b = (b == 64) || (b == 62)
 
 abbrev pub local_part : List ℕ → List ℕ
 local_part address = before_first is_at address
 
--- the name before the address of the first mailbox
+-- The name before the address of the first mailbox.
 unfoldable pub phrase : List ℕ → List ℕ
 phrase value = trimmed (bare_name start (take (name_len start value) value))
 
--- the same, or the front of the address where there is no name
+-- The same, or the front of the address if there is no name.
 unfoldable pub mailbox_name : List ℕ → List ℕ
 mailbox_name value =
     if length (phrase value) == 0 then local_part (drop (name_len start value + 1) value)
     else if slice_index value (name_len start value) == 60 then phrase value
     else local_part (phrase value)
 
--- the same as text, with its encoded words decoded
+-- The same as text, with its encoded words decoded.
 abbrev pub person_name : List ℕ → List ℕ
 person_name value = decoded_words (mailbox_name value)

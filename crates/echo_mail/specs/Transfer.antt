@@ -10,7 +10,7 @@ use Rattle.echo_mail.specs.declared.transfer.Encoding.{Encoding}
 use Rattle.echo_mail.specs.declared.transfer.Encoding.TheVariants.{Base64, Plain, QuotedPrintable}
 use Rattle.echo_mail.specs.Quoted.{quoted_printable}
 
--- the encoding of a name, in letters of either case; 7bit where there is none
+-- The encoding with this name, in letters of either case, or 7bit without a name.
 unfoldable pub encoding_of : Option (List ℕ) → Option Encoding
 encoding_of None = Some Plain
 encoding_of (Some word) =
@@ -19,31 +19,31 @@ encoding_of (Some word) =
     else if is_called word (codes "base64") then Some Base64
     else None
 
--- a letter, a digit, `+`, `/` or `=`; other bytes of a body in base64 are ignored (6.8)
+-- A letter, a digit, `+`, `/` or `=`. A base64 body ignores other bytes (6.8).
 abbrev pub is_base64_byte : ℕ → Bool
 is_base64_byte b =
     (is_in_range 48 57 b || (is_in_range 65 90 b || is_in_range 97 122 b)) || ((b == 43) || ((b == 47) || (b == 61)))
 
--- decoded bytes, or the fault
+-- Decoded bytes, or the fault.
 abbrev pub bytes_or_fault : Option (List ℕ) → Result (List ℕ) MailFault
 bytes_or_fault None = Err BadBase64
 bytes_or_fault (Some bytes) = Ok bytes
 
--- the decoded bytes of a body in base64
+-- The decoded bytes of a body in base64.
 abbrev pub base64_body : List ℕ → Result (List ℕ) MailFault
 base64_body body = bytes_or_fault (decoded_of standard (filter is_base64_byte body))
 
--- the decoded bytes of a body of an encoding
+-- The decoded bytes of a body of an encoding.
 abbrev pub encoded_body : Encoding → List ℕ → Result (List ℕ) MailFault
 encoded_body Plain body = Ok body
 encoded_body QuotedPrintable body = Ok (quoted_printable body)
 encoded_body Base64 body = base64_body body
 
--- the same, where the encoding is known
+-- The same, if the encoding is known.
 abbrev pub by_encoding : Option Encoding → List ℕ → Result (List ℕ) MailFault
 by_encoding None body = Err UnknownEncoding
 by_encoding (Some encoding) body = encoded_body encoding body
 
--- the decoded bytes of a body, by the value of its Content-Transfer-Encoding
+-- The decoded bytes of a body, by the value of its Content-Transfer-Encoding.
 abbrev pub transferred : Option (List ℕ) → List ℕ → Result (List ℕ) MailFault
 transferred word body = by_encoding (encoding_of word) body

@@ -1,5 +1,5 @@
 //! The type and charset of a body (RFC 2045, 5).
-ghost use Rattle.std.specs.Prelude.{◌≡◌, ◌==◌, ◌≤◌, drop, if◌then◌else◌, length, not, option_copied, take, take_while};
+ghost use Rattle.std.specs.Prelude.{◌≡◌, ◌==◌, ◌≤◌, length, not, option_copied, take, take_while};
 ghost use Rattle.echo_mail.specs.Content.{charset_in, charset_of, charset_param, is_semicolon, is_token_byte, known_charset, media_type, param_value, quoted_value, token_value};
 
 use crate::fault::MailFault;

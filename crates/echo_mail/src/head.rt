@@ -1,7 +1,6 @@
 //! The header fields of a mail.
-ghost use Rattle.std.specs.Prelude.{◌≡◌, ◌++◌, ◌≤◌, ◌∷◌, if◌then◌else◌, length, map, take, drop, take_while, true, IfOk, OnOk};
+ghost use Rattle.std.specs.Prelude.{◌≡◌, ◌≤◌, length, map, take_while, true, IfOk};
 ghost use Rattle.std.specs.List.{list_all};
-ghost use Rattle.echo_text.specs.Lines as text_lines;
 ghost use Rattle.echo_text.specs.Lines.{lines};
 ghost use Rattle.echo_mail.specs.Head.{field_of, head_len, is_field, is_folded, is_name_byte, name_len, unfolded};
 

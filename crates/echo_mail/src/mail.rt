@@ -1,7 +1,7 @@
 //! A parsed mail.
-ghost use Rattle.std.specs.Prelude.{◌≡◌, ◌≤◌, if◌then◌else◌, length, take_while, not};
+ghost use Rattle.std.specs.Prelude.{◌≡◌, ◌≤◌, length, take_while, not};
 ghost use Rattle.echo_text.specs.Lines.{is_return};
-ghost use Rattle.echo_mail.specs.Mail.{Gives, from_word, mail_in, mail_of, without_from};
+ghost use Rattle.echo_mail.specs.Mail.{Gives, mail_in, mail_of, without_from};
 
 use crate::ends::{behind, returned};
 use crate::fault::MailFault;

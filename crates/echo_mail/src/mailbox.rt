@@ -1,5 +1,5 @@
 //! The name in a list of mailboxes (RFC 5322, 3.4).
-ghost use Rattle.std.specs.Prelude.{◌≡◌, ◌++◌, ◌+◌, ◌^◌, ◌<◌, ◌≤◌, ◌==◌, ◌||◌, [], ◌∷◌, if◌then◌else◌, length, not, string_bytes, take_while, IfOk, OnOk};
+ghost use Rattle.std.specs.Prelude.{◌≡◌, ◌+◌, ◌^◌, ◌<◌, ◌≤◌, ◌==◌, ◌||◌, length, not, string_bytes, take_while, IfOk};
 ghost use Rattle.echo_mail.specs.Mailbox.{bare_name, ends_name, is_at, is_name_part, is_open, local_part, mailbox_name, name_len, next_depth, next_place, next_quoted, person_name, start};
 
 use crate::encoded::decoded_words;

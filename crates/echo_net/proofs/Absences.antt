@@ -1,4 +1,4 @@
--- What a nodelist says of one carrier after another.
+-- The absence of one carrier after another.
 use Rattle.std.proofs.Common.{◌≡◌, ◌<◌, ◌+◌, ◌↔◌, ℕ, true, List, [], ◌∷◌, ◌++◌, length, get_or, Option, Some, None, sym, subst, ap, ◌∙◌, arith, inl, inr}
 use Rattle.std.specs.Prelude.{AllPairs, Contains}
 use Rattle.std.specs.List.Sorted.{IsStrictlySortedBy}
@@ -16,7 +16,7 @@ use Rattle.model_graph.specs.Walk.{IsAt}
 use Rattle.echo_net.proofs.Ascending.{at_place, earlier_less}
 use Rattle.echo_net.proofs.Orders.{address_order, address_total, before_is}
 
--- what is listed of the first carriers
+-- the absences of the first carriers
 pub record AreListed (lines : List Line) (carriers : List Address) (i : ℕ) (all : List (Address × Absence)) : Type 0 where
   pub ascending : AllPairs (λ (one later : Address × Absence). address_before one.0 later.0 ≡ true) all
   pub members : (a : Address) (why : Absence) → Contains all (a, why) ↔ ((k : ℕ) × (k < i) × IsAt carriers k a × IsAbsent lines a why)
@@ -64,7 +64,7 @@ module _ (lines : List Line) (carriers : List Address) (up : IsStrictlySortedBy 
   one_more_judged None held = subst (AreListed lines carriers (i + 1)) (sym (append-nil all)) (one_held_more held)
   one_more_judged (Some why) absent = one_absent_more why absent
 
--- what is listed of all carriers
+-- the absences of all carriers
 pub all_listed : (lines : List Line) (carriers : List Address) (IsCarrier : Address → Type 0) → ((a : Address) → Contains carriers a ↔ IsCarrier a) →
     (all : List (Address × Absence)) → AreListed lines carriers (length carriers) all →
     (a : Address) (why : Absence) → Contains all (a, why) ↔ (IsCarrier a × IsAbsent lines a why)

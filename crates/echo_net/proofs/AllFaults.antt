@@ -1,4 +1,4 @@
--- Every fault of the files and their links: that the lists hold just these, and which of them is first.
+-- Every fault of the files and their links: the lists hold exactly these, in order.
 use Rattle.std.proofs.Common.{◌≡◌, ◌<◌, ◌+◌, ◌&&◌, ◌||◌, ◌==◌, ◌↔◌, ℕ, Bool, true, false, not, cond, IsTrue, List, [], ◌∷◌, ◌++◌, filter, length, map, take, get_or, refl, sym, ap, subst, ◌∙◌, append-nil, append_assoc, arith, inl, inr}
 use Rattle.std.specs.Prelude.{Contains}
 use Rattle.std.specs.Cmp.{both_ways}
@@ -32,7 +32,7 @@ use Rattle.echo_net.proofs.Graphs.{Different-apart}
 use Rattle.echo_net.proofs.Rounds.{named_first}
 use Rattle.echo_net.proofs.Orders.{link_order, not_before_itself, same_exact, same_itself}
 
--- one more item of a list that is filtered
+-- one more item of a filtered list
 module _ {X : Type 0} (p : X → Bool) (xs : List X) (i : ℕ) (d : X) (inside : i < length xs) (all next : List X) (before : all ≡ filter p (take i xs)) where
   abbrev here : X
   here = get_or xs i d
@@ -50,7 +50,7 @@ module _ {X : Type 0} (p : X → Bool) (xs : List X) (i : ℕ) (d : X) (inside :
   one_left fails same =
       same ∙ (before ∙ sym (taken ∙ (ap (λ (b : Bool). filter p (take i xs) ++ cond b (here ∷ []) []) fails ∙ append-nil (filter p (take i xs)))))
 
--- members by another name
+-- the same members by another property
 pub retold : (P Q : Link → Type 0) (all : List Link) → AreLinksInOrder P all → ((l : Link) → P l ↔ Q l) → AreLinksInOrder Q all
 retold P Q all order same = record {
   ascending = order.ascending;
@@ -78,7 +78,7 @@ from_not : (b : Bool) → IsTrue (not b) → b ≡ false
 from_not true h = absurd cc
 from_not false h = refl
 
--- what was added in four steps
+-- four additions, one after the other
 pub four : (old a b c d one two three new : List NetFault) → one ≡ old ++ a → two ≡ one ++ b → three ≡ two ++ c → new ≡ three ++ d →
     new ≡ old ++ (a ++ (b ++ (c ++ d)))
 four old a b c d one two three new first second third fourth =
@@ -118,7 +118,7 @@ module _ (files : List LinkFile) (tag : List ℕ) (carriers : List Address) (lin
   twins : (l : Link) → HasTwin (Contains carriers) l.from l.to ↔ AppliesTo files tag kinds.SameNetNode l
   twins l = (twin_to files tag carriers links members listed l.from l.to, twin_from files tag carriers links members listed l.from l.to)
 
-  -- there are carriers where some file has the area
+  -- there are carriers if some file has the area
   some_carried : not (length carriers == 0) ≡ list_any (λ file. has_area file tag) files
   some_carried =
       let empty = length carriers == 0 in
@@ -126,7 +126,7 @@ module _ (files : List LinkFile) (tag : List ℕ) (carriers : List Address) (lin
       (λ some. is_carried files tag carriers links members listed empty refl (from_not empty some))
       (λ carried. not_from empty (λ none. not_carried files tag carriers links members listed empty refl none carried))
 
-  -- the faults of an area that were added one kind after the other
+  -- the faults of an area, added one kind after another
   pub all_of : IsStrictlySortedBy link_order links → (none one two all : List NetFault) → none ≡ [] → one ≡ none ++ fault_where (not (length carriers == 0)) →
       AddsTwoFiles (systems files) one two → AddsLinkFaults carriers links two all → AreLinkFaults files tag all
   all_of up none one two all nothing begun shared added = record {
@@ -178,18 +178,18 @@ neither true s q no_p no_q = cc
 neither false true q no_p no_q = no_q
 neither false false q no_p no_q = refl
 
--- no system that is alone comes before the smallest
+-- no system before the smallest is alone
 alone_first : (a : Address) (m : Link) → m.from ≡ m.to → address_before m.from a ≡ false → pair_before m.from m.to a a ≡ false
 alone_first a m same late =
     neither (address_before m.from a) (same_address m.from a) (address_before m.to a) late (subst (λ (b : Address). address_before b a ≡ false) same late)
 
--- whether it is a fault of the files or their links
+-- whether this is a fault of the files or their links
 abbrev is_of_links : NetFault → Bool
 is_of_links (Apart a b) = false
 is_of_links (Loop loop) = false
 is_of_links _ = true
 
--- the first of all faults of files and links is the one that a verdict names
+-- a verdict names the first of all faults of files and links
 module _ (files : List LinkFile) (tag : List ℕ) (all : List NetFault) (r : AreLinkFaults files tag all) where
   no_two_files : HaveOneFileEach files → r.two_files ≡ []
   no_two_files one_file = no_links (AppliesTo files tag kinds.TwoFiles) r.two_files r.are_two_files (λ l h.
@@ -268,7 +268,7 @@ module _ (files : List LinkFile) (tag : List ℕ) (all : List NetFault) (r : Are
   first_of_links (Apart a b) h passes = absurd cc
   first_of_links (Loop loop) h passes = absurd cc
 
-  -- there is none where the links are sound
+  -- sound links have no fault
   pub none_of_sound : AreSoundLinks files tag → all ≡ []
   none_of_sound sound =
       let some : list_any (λ file. has_area file tag) files ≡ true = sound.some in
@@ -283,7 +283,7 @@ module _ (files : List LinkFile) (tag : List ℕ) (all : List NetFault) (r : Are
       cc) in
       r.whole ∙ (λ i. in_preference (some i) (none_twice i) (none_self i) (all_known i) (all_answered i) (no_twins i))
 
--- what is added behind the faults of files and links
+-- the additions after the faults of files and links
 module _ (files : List LinkFile) (tag : List ℕ) (all : List NetFault) (r : AreLinkFaults files tag all) where
   pub with_graph : AreSoundLinks files tag → (parts new : List NetFault) → AddsApart files tag all parts → AddsRounds files tag parts new → AreAllFaults files tag new
   with_graph sound parts new apart loops = record {
@@ -312,7 +312,7 @@ module _ (files : List LinkFile) (tag : List ℕ) (all : List NetFault) (r : Are
     whole = sym (append-nil all);
   }
 
--- the first of all faults is the one that a verdict names
+-- a verdict names the first of all faults
 module _ (files : List LinkFile) (tag : List ℕ) (all : List NetFault) (r : AreAllFaults files tag all) where
   abbrev of_graph : List NetFault
   of_graph = map (fault_of kinds.Apart) r.apart ++ map loop_fault r.rounds
@@ -327,7 +327,7 @@ module _ (files : List LinkFile) (tag : List ℕ) (all : List NetFault) (r : Are
       no_links (AppliesTo files tag kinds.Apart) r.apart r.are_apart
       (λ l h. h.first l.from h.smallest.holds h.in_order (joined.connected l.from l.to h.smallest.holds h.carries))
 
-  -- the first, and what is behind it
+  -- the first fault, and the faults after it
   ahead : (fault : NetFault) → IsFirstFault files tag fault → (first : NetFault) × (rest : List NetFault) × (all ≡ first ∷ rest) ×
       ((result : List NetFault) → result ≡ rest → IsAhead files tag (No fault) all result)
   ahead NoSuchArea h = (let (rest, is) = of_links_first NoSuchArea h refl in (NoSuchArea, rest, is, λ result same. is ∙ ap (λ (l : List NetFault). NoSuchArea ∷ l) (sym same)))
@@ -356,7 +356,7 @@ module _ (files : List LinkFile) (tag : List ℕ) (all : List NetFault) (r : Are
       let whole : all ≡ Loop m.loop ∷ behind = r.whole ∙ (λ i. none i ++ (map (fault_of kinds.Apart) (no_apart i) ++ map loop_fault (is i))) in
       (Loop m.loop, behind, whole, λ result same. (m.loop, named, whole ∙ ap (λ (l : List NetFault). Loop m.loop ∷ l) (sym same)))
 
-  -- all but the first are the further ones
+  -- all faults but the first are the further ones
   pub behind_named : (verdict : Verdict) → IfNo verdict (IsFirstFault files tag) → names_fault verdict ≡ true → (result : List NetFault) →
       ((first : NetFault) (rest : List NetFault) → all ≡ first ∷ rest → result ≡ rest) → AreFurther files tag verdict result
   behind_named (Yes s l) h passes result is = absurd cc
@@ -364,7 +364,7 @@ module _ (files : List LinkFile) (tag : List ℕ) (all : List NetFault) (r : Are
       let (first, rest, whole, is_ahead) = ahead fault h in
       record { all = all; are_all = r; ahead = is_ahead result (is first rest whole) }
 
-  -- all are, where none is named
+  -- if none is named, all are further ones
   pub none_named : (verdict : Verdict) → names_fault verdict ≡ false → AreFurther files tag verdict all
   none_named (Yes s l) fails = record { all = all; are_all = r; ahead = refl }
   none_named (No fault) fails = absurd cc

@@ -1,4 +1,4 @@
--- Parts of an area: a fault for each that the smallest carrier is not in, where files and links have none.
+-- Parts of an area: if files and links have no fault, each part without the smallest carrier has one fault.
 use Rattle.std.proofs.Common.{◌≡◌, ◌<◌, ◌↔◌, ◌++◌, ◌||◌, ◌&&◌, ℕ, Bool, true, false, IsTrue, List, [], ◌∷◌, length, map, get_or, refl, sym, ap, subst, ◌∙◌, arith, inl, inr}
 use Rattle.std.specs.Prelude.{Contains}
 use Rattle.std.specs.List.{list_any}
@@ -30,7 +30,7 @@ use Rattle.echo_net.proofs.Numbers.{carried, no_later, number, reaches, reaches_
 use Rattle.echo_net.proofs.Orders.{not_before_itself, same_itself, same_where_neither}
 use Rattle.echo_net.proofs.Owned.{Different-from_places}
 
--- of pairs with one first address the second decide
+-- for pairs with one first address the second decides
 second_decides : (a b c : Address) → address_before b c ≡ true → pair_before a b a c ≡ true
 second_decides a b c before =
     let first = not_before_itself a a refl in
@@ -104,7 +104,7 @@ module _ (files : List LinkFile) (tag : List ℕ) (all : List Address) (order : 
         λ n. record { from = zero_is n; to = is_j n },
       )
 
-  -- the pairs of the places where parts start
+  -- the pairs of the carriers that start parts
   pub parts_in_order : (places : List ℕ) → IsAscending places → ((u : ℕ) → Contains places u ↔ StartsPart joined (length all) u) →
       AreLinksInOrder (AppliesTo files tag kinds.Apart) (map pair places)
   parts_in_order places up members = record {
@@ -181,7 +181,7 @@ sound_where_none files tag all r none =
       ];
     }
 
--- where a verdict names two parts, the second is the first of the others
+-- if a verdict names two parts, the second is the first of the others
 pub apart_first : (files : List LinkFile) (tag : List ℕ) (a b : Address) → IsFirstFault files tag (Apart a b) → IsApart files tag a b
 apart_first files tag a b (sound, one, other) = record {
   sound = sound;

@@ -19,7 +19,7 @@ pub sorted_from_strict : {X : Type 0} {R : X → X → Ordering} → IsTotalOrde
 sorted_from_strict {X} {R} o xs up k d low inside =
     ap is_lt (o.antisymm (get_or xs (k + 1) d) (get_or xs k d) ∙ ap ordering_reverse (Less-from_sorted R xs k (k + 1) d up (omega arith) (omega arith)))
 
--- what a search in an ascending list says of a value
+-- the result of a search in an ascending list
 pub searched_place : {X : Type 0} {R : X → X → Ordering} → IsTotalOrder R → ((x y : X) → R x y ≡ Equal → x ≡ y) →
     (xs : List X) (x : X) → IsStrictlySortedBy R xs → (r : Result ℕ ℕ) → IsSearchInRange r (length xs) →
     IsBinarySearchResult (λ y. R y x) xs r →
@@ -35,14 +35,14 @@ searched_place {X} {R} o exact xs x up (Err i) inside found =
     ]
 
 module _ {X : Type 0} {R : X → X → Ordering} (o : IsTotalOrder R) (xs : List X) (up : IsStrictlySortedBy R xs) where
-  -- what stands earlier comes first
+  -- an earlier item comes first in the order
   pub earlier_less : (i j : ℕ) (x y : X) → IsAt xs i x → IsAt xs j y → i < j → R x y ≡ Less
   earlier_less i j x y at_x at_y lt =
       let x_is : get_or xs i x ≡ x = at_x.1 in
       let y_is : get_or xs j x ≡ y = get_or_default xs j x y at_y.0 ∙ at_y.1 in
       sym (ap (λ (z : X). R z (get_or xs j x)) x_is ∙ ap (λ (z : X). R x z) y_is) ∙ Less-from_sorted R xs i j x up lt at_y.0
 
-  -- what stands no earlier does not come first
+  -- a later item does not come first in the order
   pub later_not_before : (i j : ℕ) (x y : X) → IsAt xs i x → IsAt xs j y → i ≤ j → is_lt (R y x) ≡ false
   later_not_before i j x y at_x at_y le =
       let x_is : get_or xs i x ≡ x = at_x.1 in
@@ -57,7 +57,7 @@ module _ {X : Type 0} {R : X → X → Ordering} (o : IsTotalOrder R) (xs : List
         | inr le ↦ (let bad : is_lt (R x y) ≡ false = later_not_before j i y x at_y at_x le in let good : is_lt (R x y) ≡ true = ap is_lt less in cc)
       ]
 
-  -- a member has one place
+  -- a member has one index
   pub one_place : (i j : ℕ) (x : X) → IsAt xs i x → IsAt xs j x → i ≡ j
   one_place i j x at_i at_j =
       let itself : R x x ≡ Equal = tied_itself o x in
@@ -88,7 +88,7 @@ not_lt {X} {R} o x y h = turned (R y x) (R x y) (o.antisymm y x) h
     turned p Equal e h = ap is_lt e
     turned p Greater e h = cc
 
--- a value that has a place is there
+-- a value with an index is in the list
 pub there_where_placed : {X : Type 0} (xs : List X) (x : X) (found : Option ℕ) → MatchOption found (¬ Contains xs x) (λ i. (i < length xs) × (get_or xs i x ≡ x)) →
     (answer : Bool) → answer ≡ is_some found → (answer ≡ true) ↔ Contains xs x
 there_where_placed xs x None none answer is = (λ yes. cc, λ there. absurd (none there))

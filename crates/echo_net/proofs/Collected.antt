@@ -1,4 +1,4 @@
--- What the lists of carriers and of links hold.
+-- The contents of the lists of carriers and of links.
 use Rattle.std.proofs.Common.{◌≡◌, ◌↔◌, ◌&&◌, IsTrue, List, [], ◌∷◌, ◌++◌, Option, refl, sym, ap, subst, ◌∙◌, inl, inr, ℕ, ◌<◌, ◌+◌, Bool, cond, filter, map, length, take, get_or}
 use Rattle.std.specs.Prelude.{Contains, option_map, unwrap_or}
 use Rattle.std.specs.List.{count_by, flat_map, fold}
@@ -60,7 +60,7 @@ links_listed files tag l = (
       (Among-flat_map_to (links_from_file tag) l file files there (subst (λ (m : Link). Among m (links_from_file tag file)) is in')),
 )
 
--- the links of a file, where its area was looked up
+-- the links of a file, by a look-up of its area
 pub links_found : (file : LinkFile) (tag : List ℕ) (found : Option (List Address)) → found ≡ option_map (λ area. area.links) (area_of file tag) →
     links_of file tag ≡ unwrap_or found []
 unfolding links_of
@@ -81,7 +81,7 @@ systems_take tag files i d inside =
     ap (λ (fs : List LinkFile). map own (filter has fs)) (take_more files i d inside)
     ∙ (ap (map own) (filter-append has (take i files) (get_or files i d ∷ [])) ∙ map-append own (filter has (take i files)) (filter has (get_or files i d ∷ [])))
 
--- the carriers are as many as the files that have the area
+-- there are as many carriers as files with the area
 pub systems_counted : (tag : List ℕ) (files : List LinkFile) → length (systems (carrying files tag)) ≡ carrier_count files tag
 systems_counted tag files =
     let has : LinkFile → Bool = λ file. has_area file tag in

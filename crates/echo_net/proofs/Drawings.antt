@@ -1,4 +1,4 @@
--- An area as it is drawn: what its lists hold, and what is told of each member.
+-- The drawing of an area: the contents of its lists, and the facts of each member.
 use Rattle.std.specs.Prelude.{Contains}
 use Rattle.std.specs.Cmp.{both_ways}
 use Rattle.std.proofs.Common.{◌≡◌, ◌<◌, ◌+◌, ◌↔◌, inl, inr, ℕ, Bool, true, false, IsTrue, if◌then◌else◌, List, [], ◌∷◌, ◌++◌, length, map, take, get_or, refl, sym, ap, subst, ◌∙◌, arith}
@@ -24,7 +24,7 @@ use Rattle.echo_net.proofs.Numbers.{in_order_from_sorted, before_back as before_
 use Rattle.echo_net.proofs.Orders.{address_order, link_order, link_total, pair_before_is, same_exact, same_itself, same_where_neither}
 use Rattle.model_run.proofs.RulesLists.{Among-map_to, Among-map_from}
 
--- the tests of members pass exactly where they are members
+-- the tests for members pass exactly for members
 address_held : (all : List Address) (a : Address) → IsTrue (has_address all a) ↔ Contains all a
 address_held all a = (
   λ h. (let (x, there, same) = any-from (same_address a) all h in
@@ -50,7 +50,7 @@ pub link_told : (all : List Link) (l : Link) (r : Bool) → IsTrue r ↔ Contain
 link_told all l r told =
     both_ways r (has_link all l) (λ yes. (link_held all l).1 (told.0 yes)) (λ yes. told.1 ((link_held all l).0 yes))
 
--- the last of these, or the one before them
+-- the last of these, or the address before them
 abbrev pub last_or : Address → List Address → Address
 last_or before [] = before
 last_or before (a ∷ later) = last_or a later
@@ -79,14 +79,14 @@ step_taken first round i d from all new inside links last is =
       sym (last_or-push first (take i round) x) ∙ ap (last_or first) (sym more),
     )
 
--- what was put in order holds what it held
+-- sorting keeps the members
 pub held_again : {X : Type 0} (before after all : List X) → before ≡ all → ((x : X) → Contains after x ↔ Contains before x) → (x : X) → Contains after x ↔ Contains all x
 held_again {X} before after all is same x = (
   λ h. subst (λ (xs : List X). Contains xs x) is ((same x).0 h),
   λ h. (same x).1 (subst (λ (xs : List X). Contains xs x) (sym is) h),
 )
 
--- a list that holds the same addresses has the same test
+-- lists with the same addresses have the same test
 pub same_held : (xs ys : List Address) → ((a : Address) → Contains xs a ↔ Contains ys a) → (a : Address) → has_address xs a ≡ has_address ys a
 same_held xs ys same a =
     address_told ys a (has_address xs a) (λ h. (same a).0 ((address_held xs a).0 h), λ there. (address_held xs a).1 ((same a).1 there))
@@ -95,7 +95,7 @@ pub same_links_held : (xs ys : List Link) → ((l : Link) → Contains xs l ↔ 
 same_links_held xs ys same l =
     link_told ys l (has_link xs l) (λ h. (same l).0 ((link_held xs l).0 h), λ there. (link_held xs l).1 ((same l).1 there))
 
--- the carriers are tested as the files are
+-- the test of the carriers is that of the files
 pub carriers_held : (files : List LinkFile) (tag : List ℕ) (all : List Address) → ((a : Address) → Contains all a ↔ IsTrue (carries files tag a)) → (a : Address)
     → has_address all a ≡ carries files tag a
 carriers_held files tag all members a = sym (address_told all a (carries files tag a) ((members a).1, (members a).0))
@@ -104,7 +104,7 @@ pub links_held : (files : List LinkFile) (tag : List ℕ) (all : List Link) → 
     → has_link all l ≡ lists files tag l.from l.to
 links_held files tag all members l = sym (link_told all l (lists files tag l.from l.to) ((members l).1, (members l).0))
 
--- which of a link's ends is the smaller one
+-- the smaller end of a link
 upward_where : (l : Link) (b : Bool) → address_before l.to l.from ≡ b → upward l ≡ (if b then back l else l)
 upward_where l b is = ap (λ (x : Bool). if x then back l else l) is
 
@@ -118,7 +118,7 @@ pair_from files tag m listed = turned (address_before m.to m.from) refl
     turned false is =
         subst (IsDrawnPair files tag) (sym (upward_where m false is)) (let drawn : IsDrawnPair files tag m = (is, inl listed) in drawn)
 
--- and what is drawn is such a link
+-- and each drawn pair has such a link
 pair_to : (files : List LinkFile) (tag : List ℕ) (l : Link) → IsDrawnPair files tag l → (m : Link) × IsTrue (lists files tag m.from m.to) × (upward m ≡ l)
 pair_to files tag l (up, inl listed) = (l, listed, upward_where l false up)
 pair_to files tag l (up, inr listed) = (back l, listed, turned (address_before l.from l.to) refl)
@@ -140,7 +140,7 @@ pairs_drawn files tag links pairs listed members l = (
       (members l).1 (subst (Contains (map upward links)) is (Contains-from_Among (upward m) (map upward links) in'))),
 )
 
--- the addresses are the carriers and what they list
+-- the addresses are the carriers and the links that they list
 pub addresses_drawn : (files : List LinkFile) (tag : List ℕ) (carriers : List Address) (links : List Link) (all : List Address)
     → ((a : Address) → Contains carriers a ↔ IsTrue (carries files tag a)) → ((l : Link) → Contains links l ↔ IsTrue (lists files tag l.from l.to))
     → ((a : Address) → Contains all a ↔ Contains (carriers ++ map (λ (l : Link). l.to) links) a) → (a : Address) → Contains all a ↔ IsDrawn files tag a
@@ -167,7 +167,7 @@ links_in_order IsMember all up members = record {
   members = members;
 }
 
--- what is told of each is the same
+-- equal functions give equal lists
 same_each : {X Y : Type 0} (f g : X → Y) → ((x : X) → f x ≡ g x) → (xs : List X) → map f xs ≡ map g xs
 same_each f g same [] = refl
 same_each f g same (x ∷ xs) = ap (λ y. y ∷ map f xs) (same x) ∙ ap (λ ys. g x ∷ ys) (same_each f g same xs)

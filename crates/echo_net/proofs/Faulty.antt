@@ -1,4 +1,4 @@
--- What the links of an area that were found wrong, or not, say of the net.
+-- The findings in the links of an area, as facts of the net.
 use Rattle.std.proofs.Common.{◌≡◌, ◌≢◌, ◌↔◌, ◌&&◌, ◌==◌, ℕ, Bool, Option, Some, None, MatchOption, true, false, IsTrue, List, length, get_or, refl, sym, subst, ◌∙◌, arith, inl, inr}
 use Rattle.std.specs.Prelude.{Contains}
 use Rattle.std.specs.List.{All}
@@ -18,7 +18,7 @@ use Rattle.echo_net.specs.Firsts.{HasTwin, IsFirstLink, IsSmallest, IsSmallestPa
 use Rattle.echo_net.specs.Nets.{link}
 use Rattle.echo_net.proofs.Orders.{same_itself, same_where_neither}
 
--- of an option that is not there
+-- for a missing option
 pub at_none : {X : Type 0} (P : Type 0) (Q : X → Type 0) (found : Option X) → ((x : X) → found ≡ Some x → ⊥) → MatchOption found P Q → P
 at_none P Q None other h = h
 at_none P Q (Some x) other h = absurd (other x refl)

@@ -1,4 +1,4 @@
--- The graph of an area, and what its faults say of the net.
+-- The graph of an area, and its faults as facts of the net.
 use Rattle.std.proofs.Common.{◌≡◌, ◌<◌, ◌≤◌, ◌↔◌, ℕ, zero, suc, Bool, true, false, IsTrue, List, [], ◌∷◌, length, map, get_or, sym, subst, ◌∙◌, arith, inl, inr}
 use Rattle.std.specs.Prelude.{Contains}
 use Rattle.std.specs.Cmp.{both_ways}
@@ -27,7 +27,7 @@ use Rattle.echo_net.specs.Rows.{AreRows, system_at}
 use Rattle.echo_net.proofs.Numbers.{back, carried, connected, keeps, keeps_back, loop_apart, name, no_later, number, parts, polygons, reaches, reaches_back, renaming, simple, simple_numbers, whole}
 use Rattle.echo_net.proofs.Orders.{not_before_itself}
 
--- the rows of an area whose links are sound
+-- the rows of an area with sound links
 module _ (files : List LinkFile) (tag : List ℕ) (all : List Address) (links : List Link) (rows : List (List ℕ))
     (listed : (l : Link) → Contains links l ↔ IsTrue (lists files tag l.from l.to)) (order : AreInOrder (Carries files tag) all)
     (sound : AreSoundLinks files tag) (are : AreRows all links rows) where
@@ -72,7 +72,7 @@ loop_within links size within both none (first ∷ rest) cycle = λ k d inside.
       | inr later ↦ (let (y, link) = walk_links links (record { both_ways = both; no_self = none }) first rest last w x later in within x y link)
     ]
 
--- what is found of the graph
+-- the findings in the graph
 module _ (files : List LinkFile) (tag : List ℕ) (all : List Address) (order : AreInOrder (Carries files tag) all) (sound : AreSoundLinks files tag) where
   abbrev joined : ℕ → ℕ → Bool
   joined = numbered all (lists files tag)

@@ -1,4 +1,4 @@
--- Lists in order of a key and then of a value: of two items with one key, the first stands before another with this key.
+-- Lists in order of a key and then of a value: of two items with one key, the first is next to another with this key.
 use Rattle.std.proofs.Common.{◌≡◌, ◌<◌, ◌≤◌, ◌+◌, ℕ, true, false, List, get_or, refl, sym, ap, ◌∙◌, arith, inl, inr}
 use Rattle.std.specs.Cmp.{IsTotalOrder}
 use Rattle.std.specs.List.Sorted.{IsStrictlySortedBy}
@@ -9,7 +9,7 @@ use Rattle.model_graph.specs.Walk.{IsAt}
 use Rattle.echo_net.proofs.Ascending.{at_place, earlier_less, later_not_before, not_gt}
 use Rattle.echo_net.proofs.Orders.{then_less}
 
--- what is said of the item after x, where a later item y has the key of x
+-- the item after x, if a later item y has the key of x
 pub record NextAlike {X K V : Type 0} (RK : K → K → Ordering) (RV : V → V → Ordering) (key : X → K) (value : X → V) (x next y : X) : Type 0 where
   pub alike : RK (key x) (key next) ≡ Equal
   pub above : RV (value x) (value next) ≡ Less
@@ -25,7 +25,7 @@ gt_second Less p e h = cc
 gt_second Equal p e h = h
 gt_second Greater p e h = cc
 
--- an item between two that have one key has it, too
+-- an item between two with one key has it, too
 pub key_between : {X K V : Type 0} {RK : K → K → Ordering} (RV : V → V → Ordering) → IsTotalOrder RK → (key : X → K) (value : X → V) →
     IsTotalOrder (λ (x y : X). ordering_then (RK (key x) (key y)) (RV (value x) (value y))) → (xs : List X) →
     IsStrictlySortedBy (λ (x y : X). ordering_then (RK (key x) (key y)) (RV (value x) (value y))) xs → (i m j : ℕ) (x z y : X) →

@@ -1,7 +1,7 @@
--- Carriers that go by their places in ascending order.
-use Rattle.std.proofs.Common.{◌≡◌, ◌≢◌, ◌<◌, ◌≤◌, ◌&&◌, ◌↔◌, nat_lt, ℕ, Bool, true, false, IsTrue, List, [], ◌∷◌, length, Option, Some, None, refl, sym, subst, ap, ◌∙◌, arith, inl, inr}
-use Rattle.std.specs.Prelude.{Contains, is_some, option_map, unwrap_or}
-use Rattle.std.specs.List.{list_any, position_or_len}
+-- Carriers by their indexes in ascending order.
+use Rattle.std.proofs.Common.{◌≡◌, ◌≢◌, ◌<◌, ◌≤◌, ◌&&◌, ◌↔◌, nat_lt, ℕ, Bool, true, false, IsTrue, List, [], ◌∷◌, length, refl, sym, subst, ap, ◌∙◌, arith, inl, inr}
+use Rattle.std.specs.Prelude.{Contains}
+use Rattle.std.specs.List.{position_or_len}
 use Rattle.std.specs.List.Sorted.{IsStrictlySortedBy}
 use Rattle.std.specs.Ordering.{is_lt, ordering_reverse}
 use Rattle.std.proofs.lemmas.Bool.{and_from, and_parts, cases_Bool, cases_lt, lt-ltb, ltb-true}
@@ -10,7 +10,7 @@ use Rattle.std.proofs.lemmas.List.Elements.{Contains-get_or}
 use Rattle.std.proofs.lemmas.List.Sums.{position_or_len_is}
 use Rattle.echo_addr.specs.declared.address.Address.{Address}
 use Rattle.echo_links.specs.LinkLines.{no_address}
-use Rattle.echo_links.specs.Links.{Area, LinkFile, area_of, has_area, is_link, links_of, same_address}
+use Rattle.echo_links.specs.Links.{LinkFile, same_address}
 use Rattle.echo_filed.specs.Sets.{address_before}
 use Rattle.model_graph.specs.Walk.{Connected, Reaches, Simple}
 use Rattle.model_graph.specs.Cycle.{IsCycle, Polygons}
@@ -117,7 +117,7 @@ module _ (files : List LinkFile) (tag : List ℕ) (all : List Address) (order : 
     pub polygons : Polygons joined → Polygons (lists files tag)
     polygons h = Polygons-renamed joined (lists files tag) name back renaming simple h
 
-    -- places and addresses have one order
+    -- indexes and addresses have one order
     pub keeps : KeepsOrder joined (λ i j. i < j) (λ a b. address_before a b ≡ true) name
     keeps i j k l link_i link_j lt = order.ascending i j lt (parts j l link_j).one
 

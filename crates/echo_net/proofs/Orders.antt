@@ -1,4 +1,4 @@
--- The orders of addresses, of links and of what is sorted beside them.
+-- The orders of addresses, of links, and of items sorted by them.
 use Rattle.std.proofs.Common.{◌≡◌, ◌<◌, ◌==◌, ◌&&◌, ◌||◌, nat_lt, ℕ, Bool, true, false, cond, refl, sym, ap, subst, ◌∙◌, inl, inr, ◌⊎◌}
 use Rattle.std.specs.declared.cmp.Ordering.{Ordering}
 use Rattle.std.specs.declared.cmp.Ordering.TheVariants.{Less, Equal, Greater}
@@ -94,7 +94,7 @@ lt_choice false false = refl
 lt_nat : (x y : ℕ) → nat_lt x y ≡ is_lt (nat_cmp x y)
 lt_nat x y = lt_choice (nat_lt x y) (x == y)
 
--- the tests of the definitions are those of the orders
+-- the tests of the definitions agree with the orders
 pub before_is : (a b : Address) → address_before a b ≡ is_lt (address_order a b)
 before_is a b =
     lt_then (nat_cmp a.zone b.zone) (ordering_then (nat_cmp a.net b.net) (nat_cmp a.node b.node))

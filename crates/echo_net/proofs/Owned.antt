@@ -1,4 +1,4 @@
--- Addresses that stand twice among some systems.
+-- Addresses that occur twice among some systems.
 use Rattle.std.proofs.Common.{◌≡◌, ◌<◌, ◌+◌, ◌&&◌, ◌↔◌, ℕ, suc, Some, None, List, [], ◌∷◌, ◌++◌, length, get_or, refl, sym, subst, ap, ◌∙◌, arith, inl, inr}
 use Rattle.std.specs.Prelude.{Contains, slice_get}
 use Rattle.std.specs.List.Sorted.{IsStrictlySortedBy}
@@ -26,7 +26,7 @@ use Rattle.echo_net.proofs.Orders.{address_exact, address_order, address_total, 
 abbrev pub owner : Address → ℕ → Owner
 owner a n = record { system = a; file = n }
 
--- what the owners of the first systems hold
+-- the owners of the first systems
 abbrev pub AreOwners : List Address → ℕ → List Owner → Type 0
 AreOwners systems i owners = (o : Owner) → Contains owners o ↔ ((o.file < i) × IsAt systems o.file o.system)
 
@@ -57,7 +57,7 @@ Different-from_places (x ∷ xs) apart = (
 
 module _ (systems : List Address) (owners : List Owner) (all : (o : Owner) → Contains owners o ↔ IsAt systems o.file o.system)
     (up : IsStrictlySortedBy owner_order owners) where
-  -- an address that stands twice has two owners next to each other
+  -- an address that occurs twice has two owners next to each other
   pair_of : (a : Address) → StandsTwice systems a → (k : ℕ) × (k + 1 < length owners) × ((d : Owner) → (get_or owners k d).system ≡ a) × ((d : Owner) → (get_or owners (k + 1) d).system ≡ a)
   pair_of a (i, j, lt, at_i, at_j) =
       let x = owner a i in
@@ -75,7 +75,7 @@ module _ (systems : List Address) (owners : List Owner) (all : (o : Owner) → C
         λ d. ap (λ (o : Owner). o.system) (get_or_default owners (p + 1) d x inside) ∙ sym next_is,
       )
 
-  -- two owners of one address have different places
+  -- two owners of one address have different indexes
   places_of : (p : ℕ) (x y : Owner) → IsAt owners p x → IsAt owners (p + 1) y → x.system ≡ y.system → x.file < y.file
   places_of p x y at_x at_y same =
       let less = earlier_less owner_total owners up p (p + 1) x y at_x at_y (omega arith) in
@@ -85,7 +85,7 @@ module _ (systems : List Address) (owners : List Owner) (all : (o : Owner) → C
         | inr alike ↦ nat_less x.file y.file alike.1
       ]
 
-  -- two owners of one address next to each other stand for an address that stands twice
+  -- two owners of one address next to each other show an address that occurs twice
   pub shared_from : (k : ℕ) (l : Link) → IsShared owners k (k + 1) l → (l.from ≡ l.to) × StandsTwice systems l.from
   shared_from k l one =
       let d = owner l.from 0 in

@@ -1,4 +1,4 @@
--- The loops of the blocks of an area, by the places of its carriers, and the one that a verdict names.
+-- The loops of the blocks of an area, by the indexes of its carriers, and the loop that a verdict names.
 use Rattle.std.proofs.Common.{◌≡◌, ◌≢◌, ◌<◌, ◌&&◌, ◌⊎◌, ℕ, Bool, true, IsTrue, List, [], ◌∷◌, length, map, get_or, refl, sym, ap, subst, ◌∙◌, arith, inl, inr}
 use Rattle.std.specs.Prelude.{Contains}
 use Rattle.std.specs.List.{All}
@@ -31,7 +31,7 @@ use Rattle.echo_net.proofs.Numbers.{back, before_back, keeps, keeps_back, name, 
 use Rattle.echo_net.proofs.Orders.{not_before_itself, same_exact, same_itself}
 use Rattle.model_run.proofs.Places.{lister-carries as lister_carries}
 
--- an item of a list that has one
+-- an item of a nonempty list
 item_of : {X : Type 0} (xs : List X) (i : ℕ) → i < length xs → X
 item_of [] i lt = absurd (omega (arith, lt))
 item_of (x ∷ xs) i lt = x
@@ -101,7 +101,7 @@ module _ (files : List LinkFile) (tag : List ℕ) (all : List Address) (order : 
         );
   }
 
-  -- the places of a loop are those of carriers
+  -- the indexes of a loop are those of carriers
   pub rounds_within : (loops : List BlockLoop) → AreBlockLoops joined loops → (l : BlockLoop) → Contains loops l → All (λ place. place < length all) l.round.items
   rounds_within loops are l there =
       let simple_joined = simple_numbers files tag all order sound.no_self sound.known sound.both in
@@ -124,7 +124,7 @@ itself linked simple b a link z =
           (b, b, inl refl, inl refl, Around-itself linked z b other))
     ]
 
--- what comes after another does not come before it
+-- a pair that comes after another does not come before it
 not_back : (b a e d : Address) → Earlier b e ⊎ ((b ≡ e) × (Earlier a d ⊎ (a ≡ d))) → pair_before e d b a ≡ true → ⊥
 not_back b a e d h early =
     elim (or_cases (address_before e b) (same_address e b && address_before d a) early) [
@@ -145,7 +145,7 @@ not_back b a e d h early =
           ])
     ]
 
--- the loop that a verdict names begins as the first round
+-- the named loop begins as the first round
 module _ (linked : Address → Address → Bool) (is_simple : Simple linked) (rounds : List Round) (are : AreRounds linked rounds) (loop : List Address) (named : NamedLoopBy Earlier linked loop) where
   -- the first pinch of all, with another greater link
   first_with : (b a c d : Address) → FirstPinchBy Earlier linked b a c → FirstInBlockBy Earlier linked b a d → FirstPinchBy Earlier linked b a d

@@ -21,7 +21,7 @@ use Rattle.echo_net.proofs.Ascending.{later_not_before, not_gt, not_lt, one_plac
 use Rattle.echo_net.proofs.Neighbours.{gt_first}
 use Rattle.echo_net.proofs.Orders.{address_order, address_total, before_again, before_is, link_order, link_total, not_before_itself, same_where_neither}
 
--- of three addresses
+-- three addresses
 not_before_after : (a b c : Address) → address_before b a ≡ false → address_before b c ≡ true → address_before a c ≡ true
 not_before_after a b c h g = elim (cases_Bool (address_before a b)) [
   | inl lower ↦ before_again a b c lower g
@@ -34,21 +34,21 @@ not_before_later a b c h g = elim (cases_Bool (address_before b c)) [
   | inr apart ↦ subst (λ (d : Address). address_before a d ≡ true) (same_where_neither b c apart h) g
 ]
 
--- links that ascend have systems that do not fall
+-- ascending links have ascending systems
 pub rising : (links : List Link) → IsStrictlySortedBy link_order links → (i j : ℕ) (l m : Link) → IsAt links i l → IsAt links j m → i ≤ j →
     address_before m.from l.from ≡ false
 rising links up i j l m at_l at_m le =
     before_is m.from l.from ∙ not_lt address_total l.from m.from
     (gt_first (address_order l.from m.from) (address_order l.to m.to) (not_gt link_total l m (later_not_before link_total links up i j l m at_l at_m le)))
 
--- one more pair of a list of pairs
+-- one more pair
 pub zip_push : {X Y : Type 0} (R : X → Y → Type 0) (xs : List X) (ys : List Y) (x : X) (y : Y) → AllZip R xs ys → R x y → AllZip R (xs ++ x ∷ []) (ys ++ y ∷ [])
 zip_push R [] [] x y zip here = (here, tt)
 zip_push R [] (w ∷ ys) x y zip here = absurd zip
 zip_push R (v ∷ xs) [] x y zip here = absurd zip
 zip_push R (v ∷ xs) (w ∷ ys) x y zip here = (zip.0, zip_push R xs ys x y zip.1 here)
 
--- what the pairs of links and places say
+-- the pairs of links and indexes
 zip_from : (carriers : List Address) (links : List Link) (row : List ℕ) → AllZip (λ l j. IsAt carriers j l.to) links row → (j : ℕ) → Among j row →
     (l : Link) × Among l links × IsAt carriers j l.to
 zip_from carriers [] [] zip j h = absurd h
@@ -80,7 +80,7 @@ row_members carriers up links row zip j = (
 pub row_ascends : (row : List ℕ) → IsStrictlySortedBy nat_cmp row → IsAscending row
 row_ascends row up i j lt inside = below_from_sorted row i j 0 up lt inside
 
--- the row of a system, of the places of the systems that the links from it lead to
+-- the row of a system: the indexes of the systems that its links lead to
 pub is_row : (carriers : List Address) (links run : List Link) (system : Address) (row : List ℕ) →
     ((l : Link) → Contains run l ↔ (Contains links l × (l.from ≡ system))) → IsAscending row →
     ((j : ℕ) → Contains row j ↔ ((l : Link) × Contains run l × IsAt carriers j l.to)) → IsRow carriers links system row
@@ -117,12 +117,12 @@ one_row_more carriers links i rows row size below here = (
   ],
 )
 
--- the links from a system, cut out of links that ascend
+-- the links from a system, cut out of ascending links
 module _ (links : List Link) (up : IsStrictlySortedBy link_order links) (system : Address) where
   at_links : (k : ℕ) (d : Link) → k < length links → IsAt links k (get_or links k d)
   at_links k d inside = (inside, get_or_default links k (get_or links k d) d inside)
 
-  -- links of smaller systems stand first
+  -- links of smaller systems come first
   pub smaller_first : IsPartitionedBy (λ l. address_before l.from system) links
   smaller_first i j d le inside h =
       let l = get_or links i d in

@@ -1,4 +1,4 @@
--- Items of one key next to each other, and systems of one net and node.
+-- Neighbouring items with one key, and systems with one net and node.
 use Rattle.std.proofs.Common.{◌≡◌, ◌≢◌, ◌<◌, ◌≤◌, ◌+◌, ◌-◌, ◌↔◌, ◌⊎◌, ℕ, false, List, [], ◌∷◌, ◌++◌, length, map, get_or, Option, Some, None, MatchOption, refl, sym, subst, ap, ◌∙◌, arith, inl, inr}
 use Rattle.std.specs.Prelude.{Contains, slice_get}
 use Rattle.std.specs.List.Sorted.{IsStrictlySortedBy}
@@ -23,7 +23,7 @@ use Rattle.echo_net.proofs.Neighbours.{key_between, next_alike}
 use Rattle.echo_net.proofs.Orders.{address_order, address_total, before_is, before_less, link_order, link_total, neighbour_order, neighbour_total, net_node_exact, net_node_order, net_node_total, pair_before_is}
 use Rattle.model_run.proofs.RulesLists.{Among-map_to, Among-map_from}
 
--- which neighbouring items before a place have one key
+-- the neighbouring items before an index that have one key
 abbrev pub AreAlikeBefore : {X K : Type 0} → (X → K) → (X → Address) → List X → ℕ → List Link → Type 0
 AreAlikeBefore key system xs place pairs = (l : Link) → Contains pairs l ↔ ((k : ℕ) × (k + 1 < place) × AreAlike key system xs k (k + 1) l)
 
@@ -78,7 +78,7 @@ module _ {X K : Type 0} (key : X → K) (system : X → Address) (xs : List X) (
     ],
   )
 
--- what stands between two neighbours of one net and node has it, too
+-- the systems between two neighbours of one net and node have it, too
 alike_between : (ns : List Neighbour) → IsStrictlySortedBy neighbour_order ns → (i m j : ℕ) (d : Neighbour) → i < m → m ≤ j → j < length ns →
     (get_or ns i d).net_node ≡ (get_or ns j d).net_node → (get_or ns i d).net_node ≡ (get_or ns m d).net_node
 alike_between ns up i m j d lt le inside same =
@@ -89,7 +89,7 @@ alike_between ns up i m j d lt le inside same =
     net_node_exact x.net_node z.net_node (key_between address_order net_node_total (λ (n : Neighbour). n.net_node) (λ (n : Neighbour). n.system) neighbour_total ns up i m j x z y
     (at_place ns i d (omega arith)) (at_place ns m d (omega arith)) (at_place ns j d inside) lt le tied)
 
--- some pairs, and a neighbour with those before a place that are alike
+-- some pairs, and those of a neighbour with alike neighbours before an index
 abbrev pub AreWithOne : List Neighbour → ℕ → List Link → ℕ → List Link → Type 0
 AreWithOne ns place old upto all = (m : Link) → Contains all m ↔ (Contains old m ⊎ ((j : ℕ) × (j < upto) × IsTwin ns place j m))
 
@@ -134,7 +134,7 @@ one_with_one ns place upto old all d lt inside before same m =
       ],
     )
 
--- no later one is alike
+-- no later neighbour is alike
 pub all_with_one : (ns : List Neighbour) (place upto : ℕ) (old all : List Link) → AreWithOne ns place old upto all →
     ((j : ℕ) (m : Link) → IsTwin ns place j m → j < upto) → (m : Link) → Contains all m ↔ (Contains old m ⊎ ((j : ℕ) × IsTwin ns place j m))
 all_with_one ns place upto old all before none m = (
@@ -148,7 +148,7 @@ all_with_one ns place upto old all before none m = (
   ],
 )
 
--- none where the next one is not
+-- no later neighbour is alike if the next one is not
 pub none_from : (ns : List Neighbour) → IsStrictlySortedBy neighbour_order ns → (place upto : ℕ) (d : Neighbour) → place < upto →
     (get_or ns place d).net_node ≢ (get_or ns upto d).net_node → (j : ℕ) (m : Link) → IsTwin ns place j m → j < upto
 none_from ns up place upto d lt other j m twins = elim (cases_lt j upto) [
@@ -197,7 +197,7 @@ module _ (systems : List Address) (neighbours : List Neighbour) (up : IsStrictly
         same = ap net_node_of from ∙ (sym one.net_node ∙ (twin.same d ∙ (other.net_node ∙ sym (ap net_node_of to))));
       }
 
-  -- the places of two systems of one net and node
+  -- the indexes of two systems of one net and node
   pub places_of : (a b : Address) → HasTwin (Contains systems) a b → (i : ℕ) × (j : ℕ) × (i < j) × IsAt neighbours i (neighbour_of a) × IsAt neighbours j (neighbour_of b)
   places_of a b h =
       let x = neighbour_of a in
@@ -208,7 +208,7 @@ module _ (systems : List Address) (neighbours : List Neighbour) (up : IsStrictly
       let less : neighbour_order x y ≡ Less = ap (λ (o : Ordering). ordering_then o (address_order a b)) tied ∙ before_less a b h.in_order in
       (i, j, earlier_from_less neighbour_total neighbours up i j x y (in_x, is_x) (in_y, is_y) less, (in_x, is_x), (in_y, is_y))
 
-  -- any two systems of one net and node are at two places
+  -- any two systems of one net and node have two indexes
   pub has_places : (l : Link) → HasTwin (Contains systems) l.from l.to → (i : ℕ) × (j : ℕ) × IsTwin neighbours i j l
   has_places l h =
       let (i, j, lt, at_x, at_y) = places_of l.from l.to h in
@@ -227,7 +227,7 @@ module _ (systems : List Address) (neighbours : List Neighbour) (up : IsStrictly
       )
 
   module _ (twins : List Link) (ascend : IsStrictlySortedBy link_order twins) (pairs : (l : Link) → Contains twins l ↔ ((k : ℕ) × IsTwin neighbours k (k + 1) l)) where
-    -- before any two systems of one net and node stand two twins, or they are twins
+    -- two systems of one net and node are twins, or two twins come before them
     twin_before : (a b : Address) → HasTwin (Contains systems) a b → (l : Link) × Contains twins l × (is_gt (link_order l (link a b)) ≡ false)
     twin_before a b h =
         let x = neighbour_of a in

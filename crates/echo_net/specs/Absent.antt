@@ -9,27 +9,27 @@ use Rattle.echo_nodelist.specs.Back.{IsFirstAt, address_at}
 use Rattle.echo_net.specs.declared.presence.Absence.{Absence}
 use Rattle.echo_net.specs.declared.presence.Absence.TheVariants.{Missing, Down}
 
--- whether the keyword is Down
+-- Whether the keyword is Down.
 abbrev pub is_down_keyword : Keyword → Bool
 is_down_keyword keyword.Down = true
 is_down_keyword _ = false
 
--- whether the line has the keyword Down
+-- Whether the line has the keyword Down.
 abbrev pub is_down_line : Line → Bool
 is_down_line (Note text) = false
 is_down_line (Entry k number fields) = is_down_keyword k
 
--- no line has the address, or the first that has it is Down
+-- No line has the address, or the first that has it is Down.
 abbrev pub IsAbsent : List Line → Address → Absence → Type 0
 IsAbsent lines a Missing = (i : ℕ) → address_at lines i ≢ Some a
 IsAbsent lines a Down = (i : ℕ) × IsFirstAt lines a i × ((d : Line) → is_down_line (slice_index_or lines i d) ≡ true)
 
--- why the nodelist does not hold the address, where it does not
+-- Why the nodelist does not hold the address; none if it holds it.
 abbrev pub IsReasonOfAbsence : List Line → Address → Option Absence → Type 0
 IsReasonOfAbsence lines a found =
     MatchOption found ((why : Absence) → ¬ IsAbsent lines a why) (λ why. IsAbsent lines a why × ((other : Absence) → IsAbsent lines a other → other ≡ why))
 
--- the system with the reason of its absence; without a reason nothing
+-- The system with the reason of its absence; an empty list without a reason.
 abbrev pub absent_as : Address → Option Absence → List (Address × Absence)
 absent_as a None = []
 absent_as a (Some why) = (a, why) ∷ []

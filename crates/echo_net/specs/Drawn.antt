@@ -21,32 +21,32 @@ use Rattle.echo_net.specs.Firsts.{pair_before}
 use Rattle.echo_net.specs.Nets.{link}
 use Rattle.echo_net.specs.Rows.{system_at}
 
--- whether the address is one of these
+-- Whether the address is one of these.
 abbrev pub has_address : List Address → Address → Bool
 has_address all a = list_any (same_address a) all
 
--- whether two links have the same ends in the same order
+-- Whether two links have the same ends in the same order.
 abbrev pub same_link : Link → Link → Bool
 same_link l m = same_address l.from m.from && same_address l.to m.to
 
--- whether the link is one of these
+-- Whether the link is one of these.
 abbrev pub has_link : List Link → Link → Bool
 has_link all l = list_any (same_link l) all
 
--- the link with its smaller end first
+-- The link with its smaller end first.
 abbrev pub upward : Link → Link
 upward l = if address_before l.to l.from then link l.to l.from else l
 
--- the link the other way
+-- The link the other way.
 abbrev pub back : Link → Link
 back l = link l.to l.from
 
--- the members of the loop that a verdict names
+-- The members of the loop that a verdict names.
 abbrev pub loop_named : Verdict → List Address
 loop_named (No (Loop round)) = round
 loop_named _ = []
 
--- the other systems that a verdict names as faulty
+-- The other systems that a verdict names as faulty.
 abbrev pub systems_named : Verdict → List Address
 systems_named (No (TwoFiles a)) = a ∷ []
 systems_named (No (SelfLink a)) = a ∷ []
@@ -54,46 +54,46 @@ systems_named (No (SameNetNode a b)) = a ∷ b ∷ []
 systems_named (No (Apart a b)) = a ∷ b ∷ []
 systems_named _ = []
 
--- the links from an address to the first of these, and from each of them to the next
+-- The links from an address to the first of these addresses, and from each address to the next.
 abbrev pub steps_from : Address → List Address → List Link
 steps_from before [] = []
 steps_from before (a ∷ later) = upward (link before a) ∷ steps_from a later
 
--- the links around a loop, from its last member on
+-- The links around a loop, from its last member on.
 abbrev pub loop_links : List Address → List Link
 loop_links round = steps_from (system_at round (length round - 1)) round
 
--- how a system is marked
+-- The mark of a system: in the loop, named as faulty, or neither.
 abbrev pub mark_of : List Address → List Address → Address → Mark
 mark_of round named a = if has_address round a then OnLoop else if has_address named a then Named else Plain
 
--- the ends of a link that list it
+-- The ends of a link that list it.
 abbrev pub sides_of : Bool → Bool → Sides
 sides_of true true = Both
 sides_of true false = First
 sides_of false _ = Second
 
--- a carrier, or an address that a carrier lists
+-- A carrier, or an address that a carrier lists.
 abbrev pub IsDrawn : List LinkFile → List ℕ → Address → Type 0
 IsDrawn files tag a = Carries files tag a ⊎ ((b : Address) × IsTrue (lists files tag b a))
 
--- two addresses, the smaller first, and one lists the other
+-- Two addresses, the smaller first, and one lists the other.
 abbrev pub IsDrawnPair : List LinkFile → List ℕ → Link → Type 0
 IsDrawnPair files tag l =
     (address_before l.to l.from ≡ false) × (IsTrue (lists files tag l.from l.to) ⊎ IsTrue (lists files tag l.to l.from))
 
--- links in ascending order, each once, with these members
+-- Links in ascending order, each once, with these members.
 pub record AreLinksInOrder (IsMember : Link → Type 0) (all : List Link) : Type 0 where
   pub ascending : (i j : ℕ) (d : Link) → i < j → j < length all →
       pair_before (slice_index_or all i d).from (slice_index_or all i d).to (slice_index_or all j d).from (slice_index_or all j d).to ≡ true
   pub members : (l : Link) → Contains all l ↔ IsMember l
 
--- the drawn system
+-- The drawn system.
 abbrev pub system_drawn : List LinkFile → List ℕ → Verdict → Address → DrawnSystem
 system_drawn files tag verdict a =
     record { system = a; carries = carries files tag a; mark = mark_of (loop_named verdict) (systems_named verdict) a }
 
--- the drawn pair of systems
+-- The drawn pair of systems.
 abbrev pub link_drawn : List LinkFile → List ℕ → Verdict → Link → DrawnLink
 link_drawn files tag verdict l = record {
   one = l.from;
@@ -102,11 +102,11 @@ link_drawn files tag verdict l = record {
   on_loop = has_link (loop_links (loop_named verdict)) l;
 }
 
--- the same from the carriers, the members of the loop and the systems that are named
+-- The drawn system, from the carriers, the members of the loop and the named systems.
 abbrev pub system_from : List Address → List Address → List Address → Address → DrawnSystem
 system_from carriers round named a = record { system = a; carries = has_address carriers a; mark = mark_of round named a }
 
--- and from the links that are listed, and those of the loop
+-- The drawn pair, from the listed links and those of the loop.
 abbrev pub link_from : List Link → List Link → Link → DrawnLink
 link_from links steps l = record {
   one = l.from;
@@ -115,7 +115,7 @@ link_from links steps l = record {
   on_loop = has_link steps l;
 }
 
--- the systems and the links of the area, ascending, each once, with their faults
+-- The systems and the links of the area, ascending, each once, with their faults.
 pub record IsDrawing (files : List LinkFile) (tag : List ℕ) (verdict : Verdict) (drawing : Drawing) : Type 0 where
   pub addresses : List Address
   pub addresses_in_order : AreInOrder (IsDrawn files tag) addresses

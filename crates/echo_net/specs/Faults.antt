@@ -1,4 +1,4 @@
--- The fault of an area of a net: the first clause that fails, and where.
+-- The fault of an area of a net: the first clause that fails, and its addresses.
 use Rattle.std.specs.Prelude.{◌≡◌, ◌<◌, ◌&&◌, ◌↔◌, ⊤, nat_lt, ℕ, Bool, true, IsTrue, List, Option, MatchOption, Contains, length}
 use Rattle.std.specs.List.{list_any}
 use Rattle.echo_addr.specs.declared.address.Address.{Address}
@@ -16,35 +16,35 @@ use Rattle.echo_net.specs.Firsts.{HasTwin, IsSmallest, IsSmallestPair, StandsTwi
 use Rattle.echo_net.specs.Nets.{systems}
 use Rattle.echo_net.specs.Rows.{system_at}
 
--- some file has the area
+-- Some file has the area.
 abbrev pub IsCarried : List LinkFile → List ℕ → Type 0
 IsCarried files tag = IsTrue (list_any (λ file. has_area file tag) files)
 
--- no two files have one address
+-- No two files have one address.
 abbrev pub HaveOneFileEach : List LinkFile → Type 0
 HaveOneFileEach files = Different (systems files)
 
--- the smallest address that two files have, or none
+-- The smallest address that two files have, or none.
 abbrev pub IsSharedSystem : List LinkFile → Option Address → Type 0
 IsSharedSystem files shared = MatchOption shared (HaveOneFileEach files) (IsSmallest (StandsTwice (systems files)))
 
--- no system lists itself
+-- No system lists itself.
 abbrev pub NoneListsItself : List LinkFile → List ℕ → Type 0
 NoneListsItself files tag = (a : Address) → ¬ IsTrue (lists files tag a a)
 
--- all links are carriers of the area
+-- All links are carriers of the area.
 abbrev pub AllAreKnown : List LinkFile → List ℕ → Type 0
 AllAreKnown files tag = (a b : Address) → IsTrue (lists files tag a b) → Carries files tag b
 
--- every link is in both files
+-- Every link is in both files.
 abbrev pub AllAreAnswered : List LinkFile → List ℕ → Type 0
 AllAreAnswered files tag = (a b : Address) → IsTrue (lists files tag a b) → IsTrue (lists files tag b a)
 
--- no two carriers have one net and node
+-- No two carriers have one net and node.
 abbrev pub NetNodesDiffer : List LinkFile → List ℕ → Type 0
 NetNodesDiffer files tag = (a b : Address) → Carries files tag a → Carries files tag b → net_node_of a ≡ net_node_of b → a ≡ b
 
--- the first six clauses
+-- The first six clauses.
 pub record AreSoundLinks (files : List LinkFile) (tag : List ℕ) : Type 0 where
   pub some : IsCarried files tag
   pub one_file : HaveOneFileEach files
@@ -53,21 +53,21 @@ pub record AreSoundLinks (files : List LinkFile) (tag : List ℕ) : Type 0 where
   pub both : AllAreAnswered files tag
   pub apart : NetNodesDiffer files tag
 
--- the members in ascending order, each once
+-- The members in ascending order, each once.
 pub record AreInOrder (IsMember : Address → Type 0) (all : List Address) : Type 0 where
   pub ascending : (i j : ℕ) → i < j → j < length all → address_before (system_at all i) (system_at all j) ≡ true
   pub members : (a : Address) → Contains all a ↔ IsMember a
 
--- links of addresses as links of their places in a list
+-- Links of addresses as links of their places in a list.
 abbrev pub numbered : List Address → (Address → Address → Bool) → ℕ → ℕ → Bool
 numbered all linked i j = (nat_lt i (length all) && nat_lt j (length all)) && linked (system_at all i) (system_at all j)
 
--- the loop of the verdict: a cycle with two systems that are not linked, the first of these by address, as it is
--- written
+-- The loop of the verdict: a cycle with two systems that are not linked, the first of these by address, in its written
+-- form.
 abbrev pub IsNamedLoop : List LinkFile → List ℕ → List Address → Type 0
 IsNamedLoop files tag loop = NamedLoopBy (λ a b. address_before a b ≡ true) (lists files tag) loop
 
--- the fault is the first clause that fails, with the smallest addresses for which it fails
+-- The fault is the first clause that fails, with the smallest addresses for which it fails.
 abbrev pub IsFirstFault : List LinkFile → List ℕ → NetFault → Type 0
 IsFirstFault files tag NoSuchArea = ¬ IsCarried files tag
 IsFirstFault files tag (TwoFiles a) = IsCarried files tag × IsSmallest (StandsTwice (systems files)) a
@@ -87,17 +87,17 @@ IsFirstFault files tag (Apart a b) =
     IsSmallest (λ c. Carries files tag c × (¬ Reaches (lists files tag) a c)) b
 IsFirstFault files tag (Loop loop) = Joined files tag × IsNamedLoop files tag loop
 
--- whether the answer is yes
+-- The answer is yes.
 abbrev pub IsYes : Verdict → Type 0
 IsYes (Yes systems links) = ⊤
 IsYes (No fault) = ⊥
 
--- of a yes with its two numbers
+-- The property holds of the two numbers of a yes.
 abbrev pub IfYes : Verdict → (ℕ → ℕ → Type 0) → Type 0
 IfYes (Yes systems links) Holds = Holds systems links
 IfYes (No fault) Holds = ⊤
 
--- of a no with its fault
+-- The property holds of the fault of a no.
 abbrev pub IfNo : Verdict → (NetFault → Type 0) → Type 0
 IfNo (Yes systems links) Holds = ⊤
 IfNo (No fault) Holds = Holds fault

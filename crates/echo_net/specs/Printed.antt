@@ -1,4 +1,4 @@
--- How a fault is printed.
+-- The printed form of a fault.
 use Rattle.std.specs.Prelude.{ℕ, List, ◌++◌, codes}
 use Rattle.std.specs.List.{flat_map}
 use Rattle.echo_addr.specs.declared.address.Address.{Address}
@@ -6,11 +6,11 @@ use Rattle.echo_addr.specs.Address.{address_text}
 use Rattle.echo_net.specs.declared.verdict.NetFault.{NetFault}
 use Rattle.echo_net.specs.declared.verdict.NetFault.TheVariants.{NoSuchArea, TwoFiles, SelfLink, Unknown, OneSided, SameNetNode, Apart, Loop}
 
--- an address after a blank
+-- An address after a blank.
 abbrev pub after_blank : Address → List ℕ
 after_blank a = codes " " ++ address_text a
 
--- the number and name of the fault, and its addresses
+-- The number and name of the fault, and its addresses.
 abbrev pub fault_text : NetFault → List ℕ
 fault_text NoSuchArea = codes "V1 NoSuchArea"
 fault_text (TwoFiles a) = codes "V2 TwoFiles" ++ after_blank a

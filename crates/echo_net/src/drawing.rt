@@ -1,6 +1,6 @@
 //! The drawing of an area: its systems and links, and their faults.
 
-ghost use Rattle.std.specs.Prelude.{◌≡◌, ◌++◌, ◌↔◌, IfOk, OnOk, Contains, map};
+ghost use Rattle.std.specs.Prelude.{◌≡◌, ◌++◌, ◌↔◌, IfOk, Contains, map};
 ghost use Rattle.std.specs.List.Sorted.{IsStrictlySortedBy};
 ghost use Rattle.echo_addr.specs.declared.address.Address.{Address};
 ghost use Rattle.echo_net.specs.declared.link.Link.{Link};

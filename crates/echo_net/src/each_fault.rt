@@ -36,9 +36,9 @@ pub enum Kind {
     Apart,
 }
 
-/// Every fault of the area, in the order of `NetFault`, those of one kind by ascending addresses, each once. Where files
-/// and links have no fault, each part of the area that its smallest system is not in has one `Apart`, and each block with
-/// a cycle that is not fully linked one `Loop`. Fails only when out of memory.
+/// Every fault of the area, each once, in the order of `NetFault` and then by ascending addresses. If files and links
+/// have no fault, each part of the area without its smallest system has one `Apart`. Each block with a cycle that is not
+/// fully linked has one `Loop`. Fails only when out of memory.
 pub fn all_faults(
     alloc: Global,
     files: &[LinkFile],
@@ -76,7 +76,7 @@ fn link_faults(
     Ok(all)
 }
 
-/// Adds the parts and the loops of an area whose links have no fault.
+/// Adds the parts and the loops of an area with faultless links.
 fn push_graph_faults(
     alloc: Global,
     all: &mut Vec<NetFault>,

@@ -24,7 +24,7 @@ use model_blocks::{BlockLoop, loops_of_blocks};
 use model_graph::{Graph, loop_of, other_parts, unreached};
 use std::alloc::{AllocError, Global};
 
-/// The graph of an area whose links have no fault. Its members are the places of the carriers.
+/// The graph of an area with faultless links. Its members are the indexes of the carriers.
 pub fn area_graph(
     alloc: Global,
     files: &[LinkFile],

@@ -89,7 +89,7 @@ list_all-reverse r (x ∷ xs) h =
     ∙ list_all-append r (reverse xs) (x ∷ [])
     ∙ and_from (list_all r (reverse xs)) (r x && true) (list_all-reverse r xs parts.1) (and_from (r x) true parts.0 refl)
 
--- ---- what a good line says keeps the rules
+-- ---- a parsed line keeps the rules
 
 fit_number : (k : Keyword) (digits : List ℕ) (n : ℕ) → number_of k digits ≡ Some n → is_fit k n ≡ true
 fit_number k digits n is = elim (cases_Bool (is_number digits && is_fit k (digits_value 10 digits))) [

@@ -8,7 +8,7 @@ use Rattle.echo_nodelist.specs.Crc.{added, divided, stepped, steps, sum_of, zero
 abbrev pub poly : List Bool
 poly = false ∷ (false ∷ (false ∷ (true ∷ (false ∷ (false ∷ (false ∷ (false ∷ (false ∷ (false ∷ (true ∷ (false ∷ (false ∷ (false ∷ (false ∷ (true ∷ [])))))))))))))))
 
--- the register with a 0 shifted in, and the divisor added where a 1 went out
+-- the register after shifting in a 0, with the divisor added if a 1 left it
 abbrev pub reduced : Bool → List Bool → List Bool
 reduced false bits = bits
 reduced true bits = added poly bits
@@ -155,7 +155,7 @@ pub length-fold : (r message : List Bool) → length (fold shifted r message) �
 length-fold r [] = refl
 length-fold r (y ∷ message) = length-fold (shifted r y) message ∙ length-shifted r y
 
--- what division leaves is the register at the end
+-- the remainder of the division is the register at the end
 pub divided_register : (message : List Bool) → divided (message ++ zeros 16) ≡ fold shifted (zeros 16) message
 divided_register message =
     let count : length (message ++ zeros 16) - 16 ≡ length message = omega (arith, length-append message (zeros 16)) in
@@ -212,7 +212,7 @@ fold_same (x ∷ h) z =
     ∙ fold_same h (z ++ false ∷ [])
     ∙ append_assoc z (false ∷ []) (zeros (length h))
 
--- a byte's bits: the first eight bits of the register are added to them, the rest moves up
+-- a byte's bits: the first eight bits of the register join them, the others move up
 pub fold_byte : (h z bits : List Bool) → length (h ++ z) ≡ 16 → length h ≡ length bits
     → fold shifted (h ++ z) bits ≡ added (fold shifted (zeros 16) (added h bits)) (z ++ zeros (length h))
 fold_byte h z bits whole same =
@@ -221,7 +221,7 @@ fold_byte h z bits whole same =
     ∙ fold_sum (zeros 16) (h ++ z) (added h bits) h refl whole (length-added h bits ∙ sym same)
     ∙ ap (added (fold shifted (zeros 16) (added h bits))) (fold_same h z)
 
--- ---- the register added to the bits that come
+-- ---- the register added to the incoming bits
 
 added_front : (xs ys zs : List Bool) → length xs ≤ length ys → added xs (ys ++ zs) ≡ added xs ys ++ zs
 added_front [] ys zs h = refl

@@ -62,7 +62,7 @@ crc_first byte rest =
     ap (fold shifted (zeros 16)) (sym split) ∙ fold_sum (zeros 16) (zeros 16) (bits_of 8 byte ++ k) (zeros 8 ++ bits rest) refl refl same
     )
 
--- ---- the register added to the first two of the bytes that come
+-- ---- the register added to the first two of the incoming bytes
 
 pub crc_two : (bytes : List ℕ) (a b : ℕ) (rest : List ℕ)
     → crc (bytes ++ a ∷ (b ∷ rest)) ≡ crc (bit_xor (crc bytes / 2 ^ 8) a ∷ (bit_xor (crc bytes % 2 ^ 8) b ∷ rest))
@@ -84,7 +84,7 @@ crc_two bytes a b rest =
 
 -- ---- eight bytes
 
--- the checksum of a byte with so many bytes 00 after it
+-- the checksum of a byte followed by this many bytes 00
 abbrev pub entry : ℕ → ℕ → ℕ
 entry zeros byte = crc (byte ∷ replicate zeros 0)
 

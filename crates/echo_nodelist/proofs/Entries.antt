@@ -1,4 +1,4 @@
--- What the fields of an entry say.
+-- The content of the fields of an entry.
 use Rattle.std.proofs.Common.{◌≡◌, ℕ, ◌<◌, ◌≤◌, nat_lt, List, [], ◌∷◌, length, refl, sym, ap, ◌∙◌, Some, None, Ok, Err}
 use Rattle.std.specs.List.{after_first, before_first, position_or_len, slice_split}
 use Rattle.std.proofs.lemmas.List.Splits.{slice_split_first}

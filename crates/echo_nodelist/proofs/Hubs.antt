@@ -21,7 +21,7 @@ line_back lines m line below is =
 pub as_many : (lines : List Line) (addresses : List (Option Address)) → addresses ≡ each_back address_back (reverse lines) → length addresses ≡ length lines
 as_many lines addresses kept = ap length kept ∙ length-each_back address_back (reverse lines) ∙ length-reverse lines
 
--- a Hub line, whose address is kept
+-- a Hub line, with its address in the index
 pub hub_found : (lines : List Line) (addresses : List (Option Address)) (m : ℕ) (line : Line) (k : Keyword) (n : ℕ) (fields : List (List ℕ)) → m < length lines
     → line ≡ get_or lines m line → line ≡ Entry k n fields → begins_net k ≡ false → is_hub k ≡ true → addresses ≡ each_back address_back (reverse lines)
     → get_or addresses m None ≡ nearest_hub (reverse (take (m + 1) lines))

@@ -1,4 +1,4 @@
--- What is found of a line by those before it.
+-- Facts about a line that depend on the lines before it.
 use Rattle.std.specs.Prelude.{MatchOption}
 use Rattle.std.proofs.Common.{◌≡◌, ◌≢◌, ℕ, ◌+◌, ◌<◌, ◌≤◌, nat_lt, ◌-◌, List, [], ◌∷◌, ◌++◌, length, get_or, take, reverse, cond, refl, sym, ap, ◌∙◌, subst, arith, Option, Some, None, Ok, Err, inl, inr}
 use Rattle.std.proofs.lemmas.List.{get_or-append_right, get_or_append_left, length-append, length-reverse, reverse-append, reverse-reverse, take-append-le, take_all}
@@ -47,7 +47,7 @@ follows_more lines addresses place line located before now = record {
       ∙ ap (each_back address_back) (sym (reverse-push lines line));
 }
 
--- ---- what is kept of the line at an index
+-- ---- the entry of the line at an index
 
 pub length-each_back : (f : List Line → Option Address) (lines : List Line) → length (each_back f lines) ≡ length lines
 length-each_back f [] = refl

@@ -9,13 +9,13 @@ use Rattle.echo_nodelist.specs.Nodelist.{AreRead, Gives, line_outcome, placed}
 use Rattle.echo_nodelist.proofs.LookingBack.{reverse-push}
 use Rattle.echo_nodelist.proofs.Pieces.{lines_nil}
 
--- the first lines of a text were read, and `rest` is left
+-- the lines before `rest` are parsed
 pub record Done (text : List ℕ) (lines : List Line) (rest : List ℕ) : Type 0 where
   pub front : List (List ℕ)
   pub pieces : front ++ lines_of rest ≡ lines_of text
   pub read : AreRead (reverse front) (reverse lines)
 
--- what the line says, with its number counted
+-- the content of the line, after counting its number
 outcome_is : (lines : List Line) (raw : List ℕ) (number : ℕ) (said : Result Line NodeFault) → number ≡ length lines + 1 → said ≡ line_in number raw
     → line_outcome (reverse lines) raw ≡ placed number (reverse lines) said
 outcome_is lines raw number said count is =
@@ -40,7 +40,7 @@ done_more text rest raw after lines line number done cut count said good =
       read = subst (λ ls. AreRead (reverse (done.front ++ raw ∷ [])) ls) (sym (reverse-push lines line)) (subst (λ rs. AreRead rs (line ∷ reverse lines)) (sym (reverse-push done.front raw)) both);
     }
 
--- nothing left
+-- the text has no more lines
 pub done_all : (text rest : List ℕ) (lines : List Line) → Done text lines rest → length rest ≡ 0 → AreRead (reverse (lines_of text)) (reverse lines)
 done_all text rest lines done none =
     let all : done.front ≡ lines_of text =

@@ -33,7 +33,7 @@ module _ (byte : ℕ) (text : List ℕ) where
   pub after_place : (k : ℕ) → IsFirstByte (is_byte byte) text (Some k) → take (length text - (k + 1)) (drop (k + 1) text) ≡ after_first is text
   after_place k found = take_rest text (k + 1) ∙ ap (λ n. drop (n + 1) text) (sym (place_found k found))
 
--- where no byte passes, none of them does
+-- if the first passing byte is at the end, no byte passes
 none_passes : (p : ℕ → Bool) (text : List ℕ) → position_or_len p text ≡ length text → All (λ b. p b ≡ false) text
 none_passes p text none = All-from_get_or (λ b. p b ≡ false) text 0 (λ i below. fails_before_first p text i 0 (omega arith))
 
@@ -51,7 +51,7 @@ unfolding lines_of
 lines_split text piece rest cut =
     ap (λ ps. map (strip_last 13) (without_empty_last ps)) cut ∙ ap (map (strip_last 13)) (ended_piece is_feed piece rest)
 
--- the first line, where it has an end, and those after it
+-- the first line, if it has an end, and the later lines
 pub lines_cut : (text line piece rest : List ℕ) → position_or_len is_feed text < length text → piece ≡ before_first is_feed text → rest ≡ after_first is_feed text
     → line ≡ strip_last 13 piece → lines_of text ≡ line ∷ lines_of rest
 lines_cut text line piece rest found before after last =
@@ -69,7 +69,7 @@ lines_last text line rest some none last nothing =
     ∙ ap (λ l. l ∷ []) (sym last)
     ∙ ap (λ t. line ∷ map (strip_last 13) (without_empty_last (slice_split is_feed t))) (sym nothing)
 
--- what is left at the end
+-- the bytes after the end
 pub nothing_left : (text : List ℕ) → take (length text - length text) (drop (length text) text) ≡ []
 nothing_left text = take_rest text (length text) ∙ drop_all (length text) text (omega arith)
 

@@ -1,4 +1,4 @@
--- What was written of a nodelist is read as that nodelist.
+-- A written nodelist reads back as itself.
 use Rattle.std.proofs.Common.{◌≡◌, ℕ, ◌+◌, ◌-◌, ◌^◌, ◌<◌, ◌≤◌, nat_le, ◌==◌, ◌&&◌, ◌||◌, not, nat_lt, Bool, true, false, List, [], ◌∷◌, ◌++◌, length, get_or, take, map, reverse, codes, decimal, refl, sym, ap, ◌∙◌, subst, arith, Option, Some, None, Ok, Err}
 use Rattle.std.specs.Prelude.{IsSome}
 use Rattle.std.specs.List.{All, AllByRecursion, flat_map, join_with_byte, list_all, position_or_len, slice_split}
@@ -164,7 +164,7 @@ lines_again : (lines : List Line) → AreLines lines → AreRead (map line_text 
 lines_again [] h = tt
 lines_again (line ∷ earlier) h = (line_again earlier line h.0, lines_again earlier h.1)
 
--- each line, whatever stands before it
+-- each line, after any lines
 abbrev AllInner : List Line → Type 0
 AllInner lines = list_all (λ line. list_all is_inner (line_text line)) lines ≡ true
 
@@ -180,7 +180,7 @@ reverse_inner (line ∷ lines) h =
     let parts = and_parts (list_all q (reverse lines)) (q line && true) (sym (ap (list_all q) (reverse-append (line ∷ []) lines) ∙ list_all-append q (reverse lines) (line ∷ [])) ∙ h) in
     and_from (q line) (list_all q lines) (and_parts (q line) true parts.1).0 (reverse_inner lines parts.0)
 
--- a 0D at the end goes
+-- removing a 0D at the end
 strip_return : (x : List ℕ) → strip_last 13 (x ++ 13 ∷ []) ≡ x
 strip_return x =
     let all = x ++ 13 ∷ [] in

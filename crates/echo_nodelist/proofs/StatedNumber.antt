@@ -1,4 +1,4 @@
--- The number that a first line states, beside the computed one.
+-- The number that the first line states, compared with the computed one.
 use Rattle.std.proofs.Common.{◌≡◌, ℕ, ◌<◌, ◌≤◌, ◌==◌, ◌↔◌, nat_lt, true, false, List, length, min, sym, ap, ◌∙◌, ◌≢◌, arith, Option, Some, None}
 use Rattle.std.specs.Prelude.{IsNone, IfSome}
 use Rattle.std.specs.List.{after_first, before_first}
@@ -23,7 +23,7 @@ five_digits (Some n) ds short none value =
     let small : digits_value 10 ds < 100000 = digits_value_short own ds 5 (and_parts (nat_lt 0 (length ds)) (all_ascii_digits ds) numeral).1 short in
     omega arith
 
--- the line states nothing
+-- the line states no number
 pub states_none : (text first line : List ℕ) → first ≡ before_first is_feed text → line ≡ strip_last 13 first → states_crc line ≡ false → Absent ≡ crc_of_text text
 states_none text first line before last none =
     let same : line ≡ stating_line text = last ∙ ap (strip_last 13) before in
@@ -56,6 +56,6 @@ compared_same stated computed same = sym (cond-true (stated == computed) (Match 
 pub compared_other : (stated computed : ℕ) → stated ≢ computed → Mismatch stated computed ≡ compared stated computed
 compared_other stated computed other = sym (cond-false (stated == computed) (Match stated) (Mismatch stated computed) (ne_eqb stated computed other))
 
--- what a line says after `text`, by what it states
+-- a line that has a number
 pub some_stated : (line : List ℕ) → (states_crc line ≡ false → true ≡ false) → states_crc line ≡ true
 some_stated line h = true_from_ne_false (states_crc line) (λ f. true≢false (h f))

@@ -3,51 +3,51 @@ use Rattle.std.specs.Prelude.{ℕ, zero, suc, ◌+◌, ◌-◌, ◌^◌, ◌==�
 use Rattle.std.specs.List.{flat_map}
 use Rattle.std.specs.Int.{bit_at}
 
--- this many lowest bits of a number, the highest first
+-- This many lowest bits of a number, the highest first.
 abbrev pub bits_of : ℕ → ℕ → List Bool
 bits_of zero n = []
 bits_of (suc k) n = (bit_at n k == 1) ∷ bits_of k n
 
--- the number that bits write, the highest first
+-- The number of these bits, the highest first.
 abbrev pub bits_value : List Bool → ℕ
 bits_value [] = 0
 bits_value (b ∷ rest) = (if b then 2 ^ length rest else 0) + bits_value rest
 
--- this many 0 bits
+-- This many 0 bits.
 abbrev pub zeros : ℕ → List Bool
 zeros zero = []
 zeros (suc n) = false ∷ zeros n
 
--- the sum of two bits, without a carry
+-- The sum of two bits, without a carry.
 abbrev pub sum_of : Bool → Bool → Bool
 sum_of true b = not b
 sum_of false b = b
 
--- bits added to the front of other bits, one by one
+-- Bits added to the front of other bits, one by one.
 abbrev pub added : List Bool → List Bool → List Bool
 added [] bits = bits
 added (x ∷ xs) [] = []
 added (x ∷ xs) (y ∷ ys) = sum_of x y ∷ added xs ys
 
--- 1 0001 0000 0010 0001
+-- 1 0001 0000 0010 0001.
 abbrev pub divisor : List Bool
 divisor = true ∷ (false ∷ (false ∷ (false ∷ (true ∷ (false ∷ (false ∷ (false ∷ (false ∷ (false ∷ (false ∷ (true ∷ (false ∷ (false ∷ (false ∷ (false ∷ (true ∷ []))))))))))))))))
 
--- a leading 0 is dropped; a leading 1 is dropped after the divisor was added
+-- A leading 0 is dropped. A leading 1 is dropped after adding the divisor.
 abbrev pub stepped : List Bool → List Bool
 stepped [] = []
 stepped (false ∷ rest) = rest
 stepped (true ∷ rest) = drop 1 (added divisor (true ∷ rest))
 
--- this many steps
+-- This many steps.
 abbrev pub steps : ℕ → List Bool → List Bool
 steps zero bits = bits
 steps (suc n) bits = steps n (stepped bits)
 
--- steps while more than sixteen bits are left: each step takes one away
+-- Steps while there are more than sixteen bits. Each step removes one.
 abbrev pub divided : List Bool → List Bool
 divided bits = steps (length bits - 16) bits
 
--- the bits of the bytes and sixteen 0 bits, divided: the sixteen bits left
+-- The bits of the bytes and sixteen 0 bits, divided: the sixteen remaining bits.
 unfoldable pub crc : List ℕ → ℕ
 crc bytes = bits_value (divided (flat_map (bits_of 8) bytes ++ zeros 16))

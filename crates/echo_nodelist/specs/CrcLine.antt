@@ -9,7 +9,7 @@ use Rattle.echo_nodelist.specs.declared.stated.CrcLine.TheVariants.{Absent, Matc
 use Rattle.echo_nodelist.specs.Crc.{crc}
 use Rattle.echo_nodelist.specs.Raw.{is_feed, before_end}
 
--- the first line of a text without 0D at its end, and the bytes from the second line on
+-- The first line of a text without 0D at its end, and the bytes from the second line on.
 abbrev pub stating_line : List ℕ → List ℕ
 stating_line text = strip_last 13 (before_first is_feed text)
 
@@ -19,7 +19,7 @@ later_bytes text = after_first is_feed text
 abbrev pub is_space : ℕ → Bool
 is_space b = b == 32
 
--- the last five bytes of a line, the bytes before them, and these without the blanks 20 at their end
+-- The last five bytes of a line, the bytes before them, and these without the blanks 20 at their end.
 abbrev pub last_five : List ℕ → List ℕ
 last_five line = drop (length line - 5) line
 
@@ -29,23 +29,23 @@ before_five line = take (length line - 5) line
 abbrev pub without_back_spaces : List ℕ → List ℕ
 without_back_spaces bytes = take (length bytes - suffix_len is_space bytes) bytes
 
--- whether a line ends with a colon, blanks 20 and five decimal digits
+-- A line that ends with a colon, blanks 20 and five decimal digits.
 abbrev pub states_crc : List ℕ → Bool
 states_crc line =
     nat_le 5 (length line) && all_ascii_digits (last_five line) && ends_with_byte 58 (without_back_spaces (before_five line))
 
--- the number that the five digits write
+-- The number of the five digits.
 abbrev pub stated_crc : List ℕ → ℕ
 stated_crc line = digits_value 10 (last_five line)
 
--- a stated number compared with the computed one
+-- A stated number compared with the computed one.
 abbrev pub compared : ℕ → ℕ → CrcLine
 compared stated computed = if stated == computed then Match stated else Mismatch stated computed
 
--- the checksum that the first line of a text states for the bytes after it
+-- The checksum that the first line of a text states for the bytes after it.
 abbrev pub crc_of_text : List ℕ → CrcLine
 crc_of_text text = if states_crc (stating_line text) then compared (stated_crc (stating_line text)) (crc (later_bytes text)) else Absent
 
--- the same of a nodelist, up to its first 1A
+-- The same for a nodelist, up to its first 1A.
 abbrev pub crc_line_of : List ℕ → CrcLine
 crc_line_of bytes = crc_of_text (before_end bytes)

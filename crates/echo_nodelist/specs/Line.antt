@@ -13,7 +13,7 @@ use Rattle.echo_nodelist.specs.declared.fault.NodeFault.{NodeFault}
 use Rattle.echo_nodelist.specs.declared.fault.NodeFault.TheVariants.{TooFewFields, BadKeyword, BadNumber}
 use Rattle.echo_nodelist.specs.Raw.{is_comma}
 
--- the keywords as they are written
+-- The keywords in their written form.
 abbrev pub keyword_text : Keyword → List ℕ
 keyword_text Zone = codes "Zone"
 keyword_text Region = codes "Region"
@@ -27,11 +27,11 @@ keyword_text Node = []
 abbrev pub keywords : List Keyword
 keywords = Zone ∷ (Region ∷ (Host ∷ (Hub ∷ (Pvt ∷ (Hold ∷ (Down ∷ (Node ∷ [])))))))
 
--- the keyword that bytes write in any case
+-- The keyword that the bytes spell, in any case.
 abbrev pub keyword_of : List ℕ → Option Keyword
 keyword_of bytes = find (λ k. str_eq_ignore_ascii_case bytes (keyword_text k)) keywords
 
--- whether it is Zone; whether it begins a net, as Zone, Region and Host do; whether it is Hub
+-- Three tests of a keyword: it is Zone; it begins a net, as Zone, Region and Host do; it is Hub.
 abbrev pub is_zone : Keyword → Bool
 is_zone Zone = true
 is_zone _ = false
@@ -46,38 +46,38 @@ abbrev pub is_hub : Keyword → Bool
 is_hub Hub = true
 is_hub _ = false
 
--- the least number of a keyword: nets are counted from 1, other systems from 0
+-- The least number of a keyword: nets are counted from 1, other systems from 0.
 abbrev pub least_of : Keyword → ℕ
 least_of k = if begins_net k then 1 else 0
 
--- whether a keyword may have this number
+-- The keyword may have this number.
 abbrev pub is_fit : Keyword → ℕ → Bool
 is_fit k n = is_in_range (least_of k) 32767 n
 
--- the number that digits write, where the keyword may have it
+-- The number that the digits spell, if the keyword may have it.
 abbrev pub number_of : Keyword → List ℕ → Option ℕ
 number_of k digits = if is_number digits && is_fit k (digits_value 10 digits) then Some (digits_value 10 digits) else None
 
--- an empty line, or one that begins with `;`
+-- An empty line, or one that begins with `;`.
 abbrev pub is_note : List ℕ → Bool
 is_note line = (length line == 0) || (slice_index line 0 == 59)
 
--- an entry of this keyword, with the number that was read
+-- An entry of this keyword, with the parsed number.
 abbrev pub with_number : ℕ → Keyword → Option ℕ → List (List ℕ) → Result Line NodeFault
 with_number at k None fields = Err (BadNumber at)
 with_number at k (Some n) fields = Ok (Entry k n fields)
 
--- an entry of the keyword that was read
+-- An entry of the parsed keyword.
 abbrev pub with_keyword : ℕ → Option Keyword → List ℕ → List (List ℕ) → Result Line NodeFault
 with_keyword at None digits fields = Err (BadKeyword at)
 with_keyword at (Some k) digits fields = with_number at k (number_of k digits) fields
 
--- the entry in the fields of line `at`: a keyword, a number, and at least five more
+-- The entry in the fields of line `at`: a keyword, a number, and at least five more fields.
 abbrev pub entry_in : ℕ → List (List ℕ) → Result Line NodeFault
 entry_in at (word ∷ (digits ∷ fields)) =
     if nat_lt (length fields) 5 then Err (TooFewFields at) else with_keyword at (keyword_of word) digits fields
 entry_in at _ = Err (TooFewFields at)
 
--- the parsed line `at`, apart from the lines before it
+-- The parsed line `at`, independent of the lines before it.
 abbrev pub line_in : ℕ → List ℕ → Result Line NodeFault
 line_in at line = if is_note line then Ok (Note line) else entry_in at (slice_split is_comma line)

@@ -1,4 +1,4 @@
--- What the earlier lines say about the next line. Lists of lines have the nearest first.
+-- The facts that the earlier lines give for the next line. Lists of lines begin with the nearest.
 use Rattle.std.specs.Prelude.{◌≡◌, ℕ, List, ◌∷◌, reverse, Option, Some, None, Result, Ok, Err}
 use Rattle.echo_addr.specs.declared.address.Address.{Address}
 use Rattle.echo_nodelist.specs.declared.place.Place.{Place}
@@ -8,22 +8,22 @@ use Rattle.echo_nodelist.specs.declared.fault.NodeFault.{NodeFault}
 use Rattle.echo_nodelist.specs.Back.{address_back, each_back, net_back, zone_back}
 use Rattle.echo_nodelist.specs.Nodelist.{placed}
 
--- the place after these lines: none before the first Zone line
+-- The place after these lines, or `None` before the first Zone line.
 abbrev pub IsPlaceAfter : List Line → Option Place → Type 0
 IsPlaceAfter earlier None = zone_back earlier ≡ None
 IsPlaceAfter earlier (Some here) = (zone_back earlier ≡ Some here.zone) × (net_back earlier ≡ Some here.net)
 
--- the address of a line after earlier ones, and the place after it
+-- The address of a line after earlier ones, and the place after it.
 pub record IsLocated (earlier : List Line) (line : Line) (located : Located) : Type 0 where
   pub place : IsPlaceAfter (line ∷ earlier) located.place
   pub address : address_back (line ∷ earlier) ≡ located.address
 
--- the same, or that line `at` lacks a zone
+-- The same, or the fault that line `at` has no zone.
 abbrev pub Locates : ℕ → List Line → Line → Result Located NodeFault → Type 0
 Locates at earlier line (Ok located) = (placed at earlier (Ok line) ≡ Ok line) × IsLocated earlier line located
 Locates at earlier line (Err fault) = placed at earlier (Ok line) ≡ Err fault
 
--- the state of a reader after the lines that it has read, in their order
+-- The state of a reader after the lines that it has read, in order.
 pub record Follows (lines : List Line) (addresses : List (Option Address)) (place : Option Place) : Type 0 where
   pub stands : IsPlaceAfter (reverse lines) place
   pub address_each : addresses ≡ each_back address_back (reverse lines)

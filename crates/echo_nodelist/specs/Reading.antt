@@ -6,11 +6,11 @@ use Rattle.echo_nodelist.specs.declared.fault.NodeFault.TheVariants.{Memory}
 use Rattle.echo_nodelist.specs.Nodelist.{AreRead, FaultIn}
 use Rattle.echo_nodelist.specs.Place.{Follows}
 
--- the state of a reader belongs to its lines
+-- The reader's state belongs to its lines.
 abbrev pub IsInStep : Reading → Type 0
 IsInStep r = Follows r.lines.items r.addresses.items r.place
 
--- the lines were read, or the first fault among them
+-- The reader parsed the lines, or found the first fault among them.
 abbrev pub ReadsLines : List (List ℕ) → Result Reading NodeFault → Type 0
 ReadsLines raws (Ok r) = AreRead (reverse raws) (reverse r.lines.items) × IsInStep r
 ReadsLines raws (Err fault) = FaultIn raws fault ⊎ (fault ≡ Memory)

@@ -31,7 +31,7 @@ impl Model for Nodelist {
 }
 
 impl Nodelist {
-    ghost use Rattle.std.specs.Prelude.{◌≡◌, IfOk};
+    ghost use Rattle.std.specs.Prelude.{◌≡◌};
     ghost use Rattle.echo_nodelist.specs.Back.{Finds, address_at, hub_at};
     ghost use Rattle.echo_nodelist.specs.Nodelist.{NodelistAnswered, IsNodelist};
     ghost use Rattle.echo_nodelist.specs.Written.{WritesOut, nodelist_text};

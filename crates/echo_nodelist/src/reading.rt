@@ -1,4 +1,4 @@
-ghost use Rattle.std.specs.Prelude.{◌≡◌, ◌+◌, ◌⊎◌, [], ◌∷◌, ◌++◌, length, reverse, OnOk, IfErr, Ok, Err};
+ghost use Rattle.std.specs.Prelude.{◌≡◌, ◌+◌, ◌⊎◌, [], ◌∷◌, ◌++◌, reverse, OnOk, IfErr, Ok, Err};
 ghost use Rattle.echo_nodelist.specs.declared.fault.NodeFault.TheVariants.{Memory};
 ghost use Rattle.echo_nodelist.specs.Raw.{lines_of};
 ghost use Rattle.echo_nodelist.specs.Nodelist.{placed};

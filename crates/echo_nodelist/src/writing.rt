@@ -1,6 +1,6 @@
 ghost use Rattle.std.specs.Prelude.{◌≡◌, ◌∷◌, ◌++◌, decimal, OnOk, IfOk};
 ghost use Rattle.std.specs.List.{flat_map};
-ghost use Rattle.echo_nodelist.specs.Written.{line_and_end, line_text, nodelist_text};
+ghost use Rattle.echo_nodelist.specs.Written.{line_text, nodelist_text};
 
 use crate::line::Line;
 use echo_addr::Items;

@@ -20,7 +20,7 @@ use Rattle.echo_packet.proofs.FieldsSoFar.{HasFields, has-none, has-numbers, has
 use Rattle.echo_packet.proofs.NextNumber.{number-cut, number-other, number-many, number-then, number-bytes, takes-whole}
 use Rattle.echo_packet.proofs.MessageByMessage.{run-opens, run-gives, run-ends, run-fails}
 
--- bytes up to the first 00, and what follows it
+-- bytes up to the first 00, and the bytes after it
 record Split (r : List ℕ) : Type 0 where
   pub string : List ℕ
   pub rest : List ℕ
@@ -226,7 +226,7 @@ some_next limits given start r fits room bytes = elim (cases_lt (length r) 2) [
       ]
 ]
 
--- an answer that is so of the bytes
+-- some answer describes the bytes
 abbrev SomeAnswer : Limits → List ℕ → Type 0
 SomeAnswer limits bs = (a : Answer) × Describes limits bs a
 

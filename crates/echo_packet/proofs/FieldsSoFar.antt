@@ -1,4 +1,4 @@
--- The fields of a message that came so far, and the fault of the next one.
+-- The fields of a message already read, and the fault of the next field.
 use Rattle.std.proofs.Common.{◌≡◌, ◌≢◌, ℕ, zero, suc, replicate, ◌+◌, ◌<◌, List, [], ◌++◌, Option, None, Some, IfSome, Result, Err, length, take, drop, refl, sym, ap, ◌∙◌, subst, arith}
 use Rattle.std.proofs.lemmas.List.{length-append, take_all}
 use Rattle.std.proofs.lemmas.List.Elements.{All-nil}
@@ -84,7 +84,7 @@ numbers-numbered ns bytes size =
     (word_then 6 4 ns _ bytes (omega arith) (word_then 8 2 ns _ bytes (omega arith) last)))) in
     sym all ∙ take_all 12 ns (omega arith)
 
--- the fields of a message before this one came from the source, up to the place
+-- the source gave the fields before this one, up to the place
 pub record HasFields (most start : ℕ) (old new : Option (List ℕ)) (field : Part) (m : Message) (at : ℕ) : Type 0 where
   pub came : List ℕ
   pub is : before field m ≡ word 2 ++ came
@@ -174,20 +174,20 @@ has-text most start p q a b c m s h fits took there =
       place = omega (arith, ap length whole);
     }
 
--- what is so of what is left is told of what was there
+-- a fact about the remaining bytes gives one about the bytes before the call
 pub Consumes-known : (a b : Option (List ℕ)) (t : List ℕ) (P Q : List ℕ → Type 0) → Consumes a b t → IfSome b P
     → ((bs r : List ℕ) → bs ≡ t ++ r → P r → Q bs) → IfSome a Q
 Consumes-known None b t P Q p k h = tt
 Consumes-known (Some x) None t P Q p k h = absurd p
 Consumes-known (Some x) (Some y) t P Q p k h = h x y p k
 
--- what is so of the bytes that came, whatever is left, is so of those that were there
+-- a fact about the received bytes, for all remaining bytes, is one about the bytes before the call
 pub Consumes-front : (a b : Option (List ℕ)) (t : List ℕ) (Q : List ℕ → Type 0) → Consumes a b t → ((r : List ℕ) → Q (t ++ r)) → IfSome a Q
 Consumes-front None b t Q p h = tt
 Consumes-front (Some x) None t Q p h = absurd p
 Consumes-front (Some x) (Some y) t Q p h = subst Q (sym p) (h y)
 
--- what was read of a field that is wrong, as the definition of faults has it
+-- the bytes read of a faulty field satisfy the definitions of faults
 pub record Tells (limits : Limits) (field : Part) (Cut Long LongText Past PastText : List ℕ → Type 0) : Type 0 where
   pub cut : (r : List ℕ) → Cut r → IsCut limits field r
   pub long : (r : List ℕ) → Long r → IsLongField field r
@@ -236,7 +236,7 @@ next-field limits given start p a b field m Cut Long LongText Past PastText f h 
     Consumes-known a b h.came (λ r. FieldFault Cut Long LongText p r f) (λ bs. NextFault limits given start (word 2 ++ bs) f)
     h.took is (λ bs r split wrong. told limits given start p a b field m Cut Long LongText Past PastText bs r f h tells more split wrong)
 
--- bytes of the next field came behind those before it
+-- the source gave bytes of the next field after the earlier fields
 behind : (limits : Limits) (given start p : ℕ) (a b c : Option (List ℕ)) (field : Part) (m : Message) (at : ℕ) (These : List ℕ → Type 0) (Of : Part → List ℕ → Type 0)
     → HasFields limits.text start a b field m p → given < limits.messages → at ≡ p → ((r : List ℕ) → These r → Of field r) → Came b c These
     → LosesUpTo limits given start (word 2) a c at Of
@@ -246,7 +246,7 @@ behind limits given start p a b c field m at These Of h more here fits_in (part,
   at-part limits given start p a b field m at Of (h.came ++ part) part h more refl here (fits_in part these),
 )
 
--- what the source lost where the next field is at fault
+-- the bytes that left the source at a fault of the next field
 inside : (limits : Limits) (given start p : ℕ) (a b c : Option (List ℕ)) (field : Part) (m : Message) (Cut Long LongText Past PastText : List ℕ → Type 0) (f : PacketFault)
     → HasFields limits.text start a b field m p → Tells limits field Cut Long LongText Past PastText → given < limits.messages → FailsInField Cut Past PastText p b c f
     → FailsInMessage limits given start (word 2) a c f
@@ -276,7 +276,7 @@ field-fails limits given start p a b c field m Cut Long LongText Past PastText f
   inside = inside limits given start p a b c field m Cut Long LongText Past PastText f h tells more lost;
 }
 
--- what an error says, where the call answered it
+-- the error that a call returned has Q
 pub at_exit : {A : Type 0} (r : Result A PacketFault) (y : PacketFault) (Q : PacketFault → Type 0) → r ≡ Err y → Q y → IfErr r Q
 at_exit r y Q e h = subst (λ x. IfErr x Q) (sym e) h
 

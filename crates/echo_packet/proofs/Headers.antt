@@ -36,11 +36,11 @@ AreBytes-drop n bs h i = rw get_or-drop (h (n + i))
 pub take_field : (i k n : ℕ) (bs : List ℕ) → take (k + n) (drop i bs) ≡ take k (drop i bs) ++ take n (drop (i + k) bs)
 take_field i k n bs = take-add k n (drop i bs) ∙ ap (λ t. take k (drop i bs) ++ take n t) (drop-drop k i bs)
 
--- what a string of known length leaves, further on
+-- dropping a string of known length and k bytes more
 pub drop_past : (n k : ℕ) (s rest : List ℕ) → length s ≡ n → drop (n + k) (s ++ rest) ≡ drop k rest
 drop_past n k s rest e = let P : ℕ → Type 0 = λ m. drop (m + k) (s ++ rest) ≡ drop k rest in subst P e (drop-append-add s rest k)
 
--- a number and what follows it, written again
+-- a number and the bytes after it, written again
 pub word_then : (i n : ℕ) (bs t : List ℕ) → AreBytes bs → i + 2 ≤ length bs → take n (drop (i + 2) bs) ≡ t
     → take (2 + n) (drop i bs) ≡ word (number_at i bs) ++ t
 word_then i n bs t bytes room e =
@@ -51,14 +51,14 @@ word_is : (i n x : ℕ) (bs t : List ℕ) → AreBytes bs → i + 2 ≤ length b
     → take (2 + n) (drop i bs) ≡ word x ++ t
 word_is i n x bs t bytes room is e = word_then i n bs t bytes room e ∙ ap (λ m. word m ++ t) is
 
--- a byte and what follows it
+-- a byte and the bytes after it
 byte_then : (i n : ℕ) (bs t : List ℕ) → i < length bs → take n (drop (i + 1) bs) ≡ t
     → take (1 + n) (drop i bs) ≡ get_or bs i 0 ∷ t
 byte_then i n bs t room e =
     let first : take 1 (drop i bs) ≡ get_or bs i 0 ∷ [] = rw (drop-cons bs i 0) refl in
     take_field i 1 n bs ∙ ap (λ f. f ++ take n (drop (i + 1) bs)) first ∙ ap (λ r. get_or bs i 0 ∷ r) e
 
--- a string of k bytes and what follows it
+-- a string of k bytes and the bytes after it
 string_then : (i k n : ℕ) (bs t : List ℕ) → take n (drop (i + k) bs) ≡ t → take (k + n) (drop i bs) ≡ take k (drop i bs) ++ t
 string_then i k n bs t e = take_field i k n bs ∙ ap (λ r. take k (drop i bs) ++ r) e
 
@@ -75,7 +75,7 @@ header_bytes-header_of bs bytes long type =
     sym (word_then 0 56 bs _ bytes (omega arith) (word_then 2 54 bs _ bytes (omega arith)
     (word_then 4 52 bs _ bytes (omega arith) (word_then 6 50 bs _ bytes (omega arith) moment))))
 
--- a number that stands behind a string of n bytes
+-- a number after a string of n bytes
 pub get_or_past_string : (n k : ℕ) (s rest : List ℕ) → length s ≡ n → get_or (s ++ rest) (n + k) 0 ≡ get_or rest k 0
 get_or_past_string n k s rest e =
     let P : ℕ → Type 0 = λ m. get_or (s ++ rest) (m + k) 0 ≡ get_or rest k 0 in subst P e (get_or-append-add s rest k 0)
@@ -137,7 +137,7 @@ IsHeader-header_of bs bytes long = record {
   fill = AreBytes-take 20 (drop 38 bs) (AreBytes-drop 38 bs bytes);
 }
 
--- a header whose bytes are bytes is of its sizes
+-- a header read from bytes has the sizes of the table
 pub IsHeader-from_bytes : (h : Header) (bs : List ℕ) → bs ≡ header_bytes h → AreBytes bs → length bs ≡ 58 → length h.password ≡ 8 → length h.fill ≡ 20
     → IsHeader h
 IsHeader-from_bytes h bs is bytes size password fill =

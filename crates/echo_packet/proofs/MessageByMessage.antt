@@ -1,4 +1,4 @@
--- A packet read message by message is what the definitions say of its bytes.
+-- Reading message by message gives the packet that the definitions describe.
 use Rattle.std.proofs.Common.{◌≡◌, ℕ, ◌+◌, ◌<◌, ◌⊎◌, List, [], ◌∷◌, ◌++◌, Ok, length, take, refl, sym, ap, ◌∙◌, subst, inl, inr, arith}
 use Rattle.std.proofs.lemmas.List.{length-append, take_at, append_assoc, append-nil}
 use Rattle.std.specs.List.{AllByRecursion}

@@ -1,4 +1,4 @@
--- The number that stands where a message or the terminator begins.
+-- The number that begins a message or the terminator.
 use Rattle.std.proofs.Common.{◌≡◌, ◌≢◌, ℕ, ◌^◌, ◌<◌, List, [], ◌++◌, Option, None, Some, IfSome, length, refl, sym, ap, ◌∙◌, subst, arith}
 use Rattle.std.proofs.lemmas.List.{length-append, get_or_append_left, take_all}
 use Rattle.std.specs.Io.KnownBytes.{Consumes}
@@ -47,12 +47,12 @@ pub number-cut : (limits : Limits) (given start : ℕ) (a : Option (List ℕ)) (
 number-cut limits given start None f fits h = tt
 number-cut limits given start (Some bs) f fits h = number_told limits given start bs f fits h
 
--- the source lost bytes of the number and nothing else
+-- only bytes of the number left the source
 of_number : (limits : Limits) (given start at : ℕ) (a b : Option (List ℕ)) (These : List ℕ → Type 0) (Of : Part → List ℕ → Type 0) → start < 2 ^ 64 → at ≡ start
     → ((r : List ℕ) → These r → Of Number r) → Came a b These → LosesUpTo limits given start [] a b at Of
 of_number limits given start at a b These Of fits here fits_in (part, came, these) = (part, came, at_number limits given start at part Of fits here (fits_in part these))
 
--- what it lost where the number is cut
+-- the bytes that left it if the number is cut
 pub number-inside : (limits : Limits) (given start : ℕ) (a b : Option (List ℕ)) (f : PacketFault) → start < 2 ^ 64 → FailsInFixed 2 start a b f
     → FailsInMessage limits given start [] a b f
 number-inside limits given start a b (fault.Truncated at) fits (here, came) = of_number limits given start at a b (IsShort 2) (IsCut limits) fits here (λ r cut. cut) came
@@ -67,7 +67,7 @@ number-inside limits given start a b (fault.Write n) fits lost = absurd lost
 number-inside limits given start a b (fault.TooManyMessages at) fits lost = absurd lost
 number-inside limits given start a b (fault.BadField n) fits lost = absurd lost
 
--- what it lost where the number is there and wrong
+-- the bytes that left it if the number is complete but wrong
 pub number-lost : (limits : Limits) (given start : ℕ) (a b : Option (List ℕ)) (ns : List ℕ) → start < 2 ^ 64 → length ns ≡ 2 → Consumes a b ns
     → LosesUpTo limits given start [] a b start (IsOfField limits)
 number-lost limits given start a b ns fits size took = (ns, took, at_number limits given start start ns (IsOfField limits) fits refl (omega arith))
@@ -79,7 +79,7 @@ number_at-front ns r size =
     let high : 1 < length ns = omega arith in
     rw (get_or_append_left ns r 0 0 low, get_or_append_left ns r 0 1 high) refl
 
--- another number came
+-- a number other than 2 and 0
 pub number-other : (limits : Limits) (given start : ℕ) (a b : Option (List ℕ)) (ns : List ℕ) → start < 2 ^ 64 → length ns ≡ 2 → Consumes a b ns
     → number_at 0 ns ≢ 2 → number_at 0 ns ≢ 0 → IfSome a (λ bs. NextFault limits given start bs (fault.NotMessage start))
 number-other limits given start a b ns fits size took not_two not_none =
@@ -87,7 +87,7 @@ number-other limits given start a b ns fits size took not_two not_none =
     (λ r. let front = number_at-front ns r size in at_number limits given start start (ns ++ r) IsOtherNumber fits refl
     (refl, omega (arith, length-append ns r), λ e. not_two (sym front ∙ e), λ e. not_none (sym front ∙ e)))
 
--- a message begins that is one too many
+-- one message too many begins
 pub number-many : (limits : Limits) (given start : ℕ) (a b : Option (List ℕ)) (ns : List ℕ) → start < 2 ^ 64 → length ns ≡ 2 → Consumes a b ns
     → number_at 0 ns ≡ 2 → given ≡ limits.messages → IfSome a (λ bs. NextFault limits given start bs (fault.TooManyMessages start))
 number-many limits given start a b ns fits size took two many =
@@ -107,13 +107,13 @@ number-then limits given start a b ns f bytes size took two wrong =
     Consumes-known a b ns (λ bs. NextFault limits given start (word 2 ++ bs) f) (λ bs. NextFault limits given start bs f) took wrong
     (λ bs r split h. subst (λ x. NextFault limits given start x f) (sym (split ∙ ap (λ t. t ++ r) is)) h)
 
--- what the source lost behind the number 2, and the number itself
+-- the bytes that left the source, the number 2 included
 then_lost : (limits : Limits) (given start at : ℕ) (a b c : Option (List ℕ)) (ns : List ℕ) (Of : Part → List ℕ → Type 0) → ns ≡ word 2 → Consumes a b ns
     → LosesUpTo limits given start (word 2) b c at Of → LosesUpTo limits given start [] a c at Of
 then_lost limits given start at a b c ns Of is took (came, lost, so) =
     (ns ++ came, Consumes-trans a b c ns came took lost, subst (λ t. AtPart limits given start (t ++ came) at Of) (sym is) so)
 
--- what it lost where a field after the number 2 is at fault
+-- the bytes that left it at a fault of a field after the number 2
 pub then-inside : (limits : Limits) (given start : ℕ) (a b c : Option (List ℕ)) (ns : List ℕ) (f : PacketFault) → ns ≡ word 2 → Consumes a b ns
     → FailsInMessage limits given start (word 2) b c f → FailsInMessage limits given start [] a c f
 then-inside limits given start a b c ns (fault.Truncated at) is took lost = then_lost limits given start at a b c ns (IsCut limits) is took lost
@@ -128,7 +128,7 @@ then-inside limits given start a b c ns fault.Stopped is took lost = absurd lost
 then-inside limits given start a b c ns (fault.Write n) is took lost = absurd lost
 then-inside limits given start a b c ns (fault.BadField n) is took lost = absurd lost
 
--- the number 2 and then the rest of a message
+-- the number 2, then the other fields of a message
 pub takes-whole : (most start at : ℕ) (a b c : Option (List ℕ)) (ns : List ℕ) (m : Message) → AreBytes ns → length ns ≡ 2 → Consumes a b ns
     → number_at 0 ns ≡ 2 → TakesMessage most start b c m at → Consumes a c (message_bytes m)
 takes-whole most start at a b c ns m bytes size took two h =

@@ -6,7 +6,7 @@ use Rattle.std.proofs.lemmas.List.Elements.{All-head, All-tail}
 use Rattle.echo_packet.specs.Message.{HasNoZero, zero_ended}
 use Rattle.echo_packet.specs.Fault.{IsTooLong}
 
--- a field and what follows it, or why there is none
+-- a field and the bytes after it, or why the field is missing
 pub data FieldRead : Type 0 where
   Got : List ℕ → List ℕ → FieldRead
   Cut : FieldRead
@@ -17,7 +17,7 @@ push x (Got s r) = Got (x ∷ s) r
 push x Cut = Cut
 push x Long = Long
 
--- a string of at most so many bytes
+-- a string of at most this many bytes
 pub string : ℕ → List ℕ → FieldRead
 string zero [] = Cut
 string zero (x ∷ xs) = cond (x == 0) (Got [] xs) Long

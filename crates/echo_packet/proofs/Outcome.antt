@@ -19,7 +19,7 @@ use Rattle.echo_packet.proofs.MessageByMessage.{length-packet_bytes}
 use Rattle.echo_packet.proofs.Slices.{IsJudged}
 use Rattle.echo_packet.proofs.Verdicts.{Verdict, Whole, End, Wrong, verdict, verdict-whole, verdict-end, Fails, fails}
 
--- the messages and what follows the terminator, or the fault of a field and the bytes from this on
+-- the messages and the bytes after the terminator, or the fault of a field and the bytes from there on
 data Ending : Type 0 where
   Ends : List Message → List ℕ → Ending
   Stops : (ℕ → PacketFault) → List ℕ → Ending
@@ -37,7 +37,7 @@ go_on (Whole m r) next = put m (next r)
 go_on (End r) next = Ends [] r
 go_on (Wrong f r) next = Stops f r
 
--- at most so many messages and the terminator
+-- at most this many messages and the terminator
 run : ℕ → Limits → ℕ → List ℕ → Ending
 run zero limits given r = Ends [] r
 run (suc k) limits given r = go_on (verdict limits given r) (λ rest. run k limits (given + 1) rest)
@@ -95,7 +95,7 @@ begins-length : (limits : Limits) (bs : List ℕ) (h : Header) (ms : List Messag
 begins-length limits bs h ms rest b =
     omega (arith, ap length b.bytes, length-append (header_bytes h) (messages_bytes ms ++ rest), length-append (messages_bytes ms) rest, length-header_bytes h b.is_header)
 
--- the outcome is that of what follows them
+-- the outcome is that of the bytes after the messages
 outcome-behind : (limits : Limits) (bs : List ℕ) (h : Header) (ms : List Message) (rest : List ℕ) → Begins limits bs h ms rest
     → (k : ℕ) × (outcome limits bs ≡ answer_of bs (put_all ms (run (suc k) limits (length ms) rest)))
 unfolding outcome
@@ -179,7 +179,7 @@ fault_is limits bs ms at f Bad not_call next a =
       | inr call ↦ absurd (not_call call)
     ]
 
--- what is so of the bytes is the outcome
+-- an answer that describes the bytes is the outcome
 pub only_one : (limits : Limits) (bs : List ℕ) (a : Answer) → Describes limits bs a → a ≡ outcome limits bs
 unfolding outcome
 only_one limits bs (Ok found) d = packet_is limits bs found.0 found.1 found.2 d.0 d.1
@@ -202,7 +202,7 @@ only_one limits bs (Err fault.Stopped) d = absurd d.1
 only_one limits bs (Err (fault.Write n)) d = absurd d.1
 only_one limits bs (Err (fault.BadField n)) d = absurd d.1
 
--- where the answer is so of the bytes, it is whatever is so of them
+-- an answer that describes the bytes is the only one
 pub answers-one : (limits : Limits) (bs : List ℕ) (given other : Answer) → IsJudged limits bs given → Describes limits bs other → AnswersAsDescribed given other
 answers-one limits bs given (Ok found) (inl memory) d = inl memory
 answers-one limits bs given (Ok found) (inr is) d = inr (only_one limits bs given is ∙ sym (only_one limits bs (Ok found) d))

@@ -16,17 +16,17 @@ use Rattle.echo_packet.specs.Next.{CountsFailures, NextFault}
 use Rattle.echo_packet.specs.Run.{SoFar, IsOfCall}
 use Rattle.echo_packet.proofs.MessageByMessage.{run-opens, run-gives, run-ends, run-fails, length-packet_bytes}
 
--- the messages that were given, while messages or the terminator are still to come
+-- the messages already returned, before the terminator
 pub record HasGiven (limits : Limits) (bs : List ℕ) (ms : List Message) (rest : List ℕ) (header : Header) (own : Limits) (given at : ℕ) (next : Stage) : Type 0 where
   pub so_far : SoFar limits bs header ms rest given at
   pub same : own ≡ limits
   pub reading : next ≡ stage.Reading
 
--- memory was refused, or this is so of the bytes
+-- memory ran out, or the answer describes the bytes
 abbrev pub IsJudged : Limits → List ℕ → Answer → Type 0
 IsJudged limits bs a = (a ≡ Err fault.Memory) ⊎ Describes limits bs a
 
--- what the fault of a call on a slice is
+-- the fault of a call on a slice
 judge : (A : Type 0) (limits : Limits) (bs : List ℕ) (ms : List Message) (f : PacketFault) → FaultOf bs limits ms f ⊎ IsOfCall f → CountsFailures {A = A} (Err f) 0 0
     → IsJudged limits bs (Err f)
 judge A limits bs ms f (inl wrong) device = inr (ms, wrong)

@@ -1,4 +1,4 @@
--- What stands where a message or the terminator begins, read from left to right.
+-- A message, the terminator or a fault, read from left to right.
 use Rattle.std.proofs.Common.{◌≡◌, ◌≢◌, ℕ, replicate, ◌+◌, ◌-◌, ◌<◌, ◌≤◌, ◌==◌, ◌⊎◌, inl, inr, List, [], ◌++◌, length, take, drop, refl, sym, ap, ◌∙◌, subst, arith, cond, append_assoc, length-append}
 use Rattle.std.proofs.lemmas.List.{take-append-drop, length-take-le, get_or-take}
 use Rattle.std.proofs.lemmas.Bool.{eq-eqb, ne_eqb, cond-true, cond-false}
@@ -14,7 +14,7 @@ use Rattle.echo_packet.proofs.Headers.{number-word}
 use Rattle.echo_packet.proofs.FieldsSoFar.{numbered}
 use Rattle.echo_packet.proofs.OneField.{FieldRead, Got, Cut, Long, string, fixed, string-whole, string-cut, string-long, fixed-whole, fixed-cut}
 
--- a message and what follows it, what follows the terminator, or the fault of a field and the bytes from this on
+-- a message or terminator and the bytes after it, or the fault of a field and the bytes from there on
 pub data Verdict : Type 0 where
   Whole : Message → List ℕ → Verdict
   End : List ℕ → Verdict
@@ -61,7 +61,7 @@ from_numbers : ℕ → List ℕ → Verdict
 from_numbers text r =
     then_field (fixed 12 r) (Wrong fault.Truncated r) (Wrong fault.Truncated r) (λ s rest. from_date text (numbered s) rest)
 
--- what a number leads to, from which so many bytes are left
+-- the verdict for a number and the remaining bytes
 from_kind : Limits → ℕ → List ℕ → ℕ → List ℕ → Verdict
 from_kind limits given r kind rest =
     cond (kind == 0) (End rest) (cond (kind == 2) (cond (given == limits.messages) (Wrong fault.TooManyMessages r) (from_numbers limits.text rest)) (Wrong fault.NotMessage r))
@@ -218,7 +218,7 @@ wrong-part : (limits : Limits) (given start at : ℕ) (bs : List ℕ) (Bad : Par
 wrong-part limits given start at bs Bad why a is =
     ap (verdict limits given) a.bytes ∙ reach limits given a.one_more a.field a.rest a.is_message a.room ∙ is a.one_more a.field a.rest a.wrong
 
--- how many bytes stand before a field
+-- the number of bytes before a field
 part-place : (limits : Limits) (given start at : ℕ) (bs : List ℕ) (Bad : Part → List ℕ → Type 0) (a : AtPart limits given start bs at Bad)
     → at ≡ place_of (start + (length bs - length a.rest))
 part-place limits given start at bs Bad a =

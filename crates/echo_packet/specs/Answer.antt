@@ -1,4 +1,4 @@
--- The right answers of reading a packet from a front of the bytes.
+-- The correct answers of reading a packet from a front of the bytes.
 use Rattle.std.specs.Prelude.{◌≡◌, ℕ, ◌≤◌, ◌⊎◌, List, length, take, Result, Ok, Err, Vec}
 use Rattle.std.specs.declared.alloc.Global.{Global}
 use Rattle.echo_packet.specs.declared.header.Header.{Header}
@@ -9,25 +9,25 @@ use Rattle.echo_packet.specs.Message.{Message}
 use Rattle.echo_packet.specs.Packet.{PacketOf}
 use Rattle.echo_packet.specs.Fault.{FaultOf}
 
--- a header, the messages, and how many bytes the packet has
+-- A header, the messages, and the number of bytes of the packet.
 abbrev pub Found : Type 0
 Found = Header × List Message × ℕ
 
--- a packet of these bytes, or a fault of them
+-- A packet of these bytes, or their fault.
 abbrev pub Answer : Type 0
 Answer = Result Found PacketFault
 
--- the answer of a call, with its vector as a list
+-- The answer of a call, with its vector as a list.
 abbrev pub answered : Result (Header × Vec Message Global × ℕ) PacketFault → Answer
 answered (Ok r) = Ok (r.0, r.1.items, r.2)
 answered (Err f) = Err f
 
--- the first bytes are the packet, or the bytes have the fault after some messages
+-- The first bytes are the packet, or the bytes have the fault after some messages.
 abbrev pub Describes : Limits → List ℕ → Answer → Type 0
 Describes limits bs (Ok found) = (found.2 ≤ length bs) × PacketOf limits found.0 found.1 (take found.2 bs)
 Describes limits bs (Err f) = (ms : List Message) × FaultOf bs limits ms f
 
--- the call answered just this, unless memory ran out
+-- The call returned exactly this answer, unless memory ran out.
 abbrev pub AnswersAsDescribed : Answer → Answer → Type 0
 AnswersAsDescribed given (Ok found) = (given ≡ Err fault.Memory) ⊎ (given ≡ Ok found)
 AnswersAsDescribed given (Err f) = (given ≡ Err fault.Memory) ⊎ (given ≡ Err f)

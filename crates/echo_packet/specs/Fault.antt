@@ -7,42 +7,42 @@ use Rattle.echo_packet.specs.declared.fault.PacketFault.TheVariants as fault
 use Rattle.echo_packet.specs.Header.{header_bytes, IsHeader, number_at}
 use Rattle.echo_packet.specs.Message.{Message, Part, Number, Numbers, DateTime, ToName, FromName, Subject, Text, before, messages_bytes, most_of, max_name, max_subject, HasNoZero, IsMessage, AreMessages}
 
--- the bytes from a field on end inside it
+-- The bytes end inside this field.
 abbrev pub IsCut : Limits → Part → List ℕ → Type 0
 IsCut limits Number r = length r < 2
 IsCut limits Numbers r = length r < 12
 IsCut limits DateTime r = length r < 20
 IsCut limits field r = HasNoZero r × (length r ≤ most_of limits.text field)
 
--- a string is longer than allowed: one more byte came, and no byte is 00
+-- A string is longer than allowed: one more byte follows, and no byte is 00.
 abbrev pub IsTooLong : ℕ → List ℕ → Type 0
 IsTooLong most r = (most < length r) × HasNoZero (take (most + 1) r)
 
--- the field is a name or the subject, and too long
+-- The field is a name or the subject, and it is too long.
 abbrev pub IsLongField : Part → List ℕ → Type 0
 IsLongField ToName r = IsTooLong max_name r
 IsLongField FromName r = IsTooLong max_name r
 IsLongField Subject r = IsTooLong max_subject r
 IsLongField _ r = ⊥
 
--- the field is a text, and too long
+-- The field is the text, and it is too long.
 abbrev pub IsLongText : Limits → Part → List ℕ → Type 0
 IsLongText limits field r = (field ≡ Text) × IsTooLong limits.text r
 
--- the number where a message or the terminator begins is neither 2 nor 0
+-- The number at the start of a message or the terminator is neither 2 nor 0.
 abbrev pub IsOtherNumber : Part → List ℕ → Type 0
 IsOtherNumber field r = (field ≡ Number) × (2 ≤ length r) × (number_at 0 r ≢ 2) × (number_at 0 r ≢ 0)
 
--- a message begins though the allowed number came before it
+-- A message begins after the allowed number of messages.
 abbrev pub IsOneTooMany : Limits → ℕ → Part → List ℕ → Type 0
 IsOneTooMany limits given field r =
     (field ≡ Number) × (2 ≤ length r) × (number_at 0 r ≡ 2) × (given ≡ limits.messages)
 
--- a place as a u64 has it
+-- A place, which never passes the greatest u64.
 abbrev pub place_of : ℕ → ℕ
 place_of n = min n (2 ^ 64 - 1)
 
--- After a header, whole messages and perhaps the earlier fields of one more, the field at the place is wrong.
+-- After a header, whole messages and perhaps some fields of the next one, the field at the place is wrong.
 pub record AtField (limits : Limits) (bs : List ℕ) (ms : List Message) (at : ℕ) (Wrong : Part → List ℕ → Type 0) : Type 0 where
   pub header : Header
   pub one_more : Message
@@ -56,7 +56,7 @@ pub record AtField (limits : Limits) (bs : List ℕ) (ms : List Message) (at : �
   pub place : at ≡ place_of (58 + length (messages_bytes ms) + length (before field one_more))
   pub wrong : Wrong field rest
 
--- the bytes have this fault, after these messages
+-- The bytes have this fault, after these messages.
 abbrev pub FaultOf : List ℕ → Limits → List Message → PacketFault → Type 0
 FaultOf bs limits ms (fault.Truncated at) =
     ((at ≡ 0) × (ms ≡ []) × (length bs < 58)) ⊎ AtField limits bs ms at (IsCut limits)

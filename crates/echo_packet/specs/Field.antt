@@ -15,31 +15,31 @@ use Rattle.echo_packet.specs.Header.{word}
 use Rattle.echo_packet.specs.Message.{Message, HasNoZero, IsMessage, zero_ended, message_bytes}
 use Rattle.echo_packet.specs.Fault.{IsTooLong, place_of}
 
--- these bytes came from the source
+-- The source gave bytes that have P.
 abbrev pub Came : Option (List ℕ) → Option (List ℕ) → (List ℕ → Type 0) → Type 0
 Came old new P = (came : List ℕ) × Consumes old new came × P came
 
--- the bytes end inside a string of at most this many bytes
+-- The bytes end inside a string of at most this many bytes.
 abbrev pub IsOpen : ℕ → List ℕ → Type 0
 IsOpen most bs = HasNoZero bs × (length bs ≤ most)
 
--- the bytes are one more than a string may have, and no byte is 00
+-- The bytes are one more than a string may have, and no byte is 00.
 abbrev pub IsPast : ℕ → List ℕ → Type 0
 IsPast most bs = HasNoZero bs × (length bs ≡ most + 1)
 
--- the bytes of a string that came without its 00; this many fit
+-- The source broke inside a string: it gave bytes without a 00, and `room` more bytes fit.
 abbrev pub BreaksString : ℕ → Option (List ℕ) → Option (List ℕ) → Broken → Type 0
 BreaksString room old new broken.Cut = Came old new (IsOpen room) × IsAtEnd new
 BreaksString room old new broken.Device = Came old new (IsOpen room)
 BreaksString room old new broken.Memory = Came old new (IsOpen room)
 
--- the index of the 00 of a string in the bytes; this many fit before it
+-- The index of a string's 00 in the bytes. At most `room` bytes fit before it.
 abbrev pub IsPiece : ℕ → List ℕ → Piece → Type 0
 IsPiece room bs (piece.Whole n) = (n < length bs) × (n ≤ room) × HasNoZero (take n bs) × (slice_index bs n ≡ 0)
 IsPiece room bs piece.Open = HasNoZero bs × (length bs ≤ room)
 IsPiece room bs piece.TooLong = IsTooLong room bs
 
--- one step of reading a string appended some bytes, or its last ones and consumed its 00 too, or came past its room
+-- One step of reading a string: it appends a part, or appends the last bytes and takes the 00, or passes the room.
 abbrev pub StepsString : ℕ → List ℕ → List ℕ → Option (List ℕ) → Option (List ℕ) → Result Taken Broken → Type 0
 StepsString room had has old new (Ok taken.Part) =
     (t : List ℕ) × (has ≡ had ++ t) × Consumes old new t × HasNoZero t × (0 < length t) × (length t ≤ room)
@@ -48,7 +48,7 @@ StepsString room had has old new (Ok taken.Whole) =
 StepsString room had has old new (Ok taken.TooLong) = Came old new (IsPast room)
 StepsString room had has old new (Err b) = BreaksString room old new b
 
--- the fault of a field that begins at the place, by the bytes from there on
+-- The fault of a field that begins at the place, by the bytes from there on.
 abbrev pub FieldFault : (List ℕ → Type 0) → (List ℕ → Type 0) → (List ℕ → Type 0) → ℕ → List ℕ → PacketFault → Type 0
 FieldFault Cut Long LongText place bs (fault.Truncated at) = (at ≡ place) × Cut bs
 FieldFault Cut Long LongText place bs (fault.FieldTooLong at) = (at ≡ place) × Long bs
@@ -57,8 +57,7 @@ FieldFault Cut Long LongText place bs (fault.Read at) = Unit {0}
 FieldFault Cut Long LongText place bs fault.Memory = Unit {0}
 FieldFault Cut Long LongText place bs _ = ⊥
 
--- At a fault the source lost nothing after the field that begins at the place. The bytes that came end inside it, or
--- show that it is too long.
+-- At a fault, the source gave no byte after the field at the place. The bytes end inside it or show that it is too long.
 abbrev pub FailsInField : (List ℕ → Type 0) → (List ℕ → Type 0) → (List ℕ → Type 0) → ℕ → Option (List ℕ) → Option (List ℕ) → PacketFault → Type 0
 FailsInField Cut Past PastText place old new (fault.Truncated at) = (at ≡ place) × Came old new Cut
 FailsInField Cut Past PastText place old new (fault.Read at) = (at ≡ place) × Came old new Cut
@@ -67,60 +66,60 @@ FailsInField Cut Past PastText place old new (fault.FieldTooLong at) = (at ≡ p
 FailsInField Cut Past PastText place old new (fault.TextTooLong at) = (at ≡ place) × Came old new PastText
 FailsInField Cut Past PastText place old new _ = ⊥
 
--- the bytes end inside a field of that size
+-- The bytes end inside a field of that size.
 abbrev pub IsShort : ℕ → List ℕ → Type 0
 IsShort size bs = length bs < size
 
--- no bytes
+-- No bytes satisfy this.
 abbrev pub Never : List ℕ → Type 0
 Never bs = ⊥
 
--- the fault of a field of that size
+-- The fault of a field of that size.
 abbrev pub FixedFault : ℕ → ℕ → List ℕ → PacketFault → Type 0
 FixedFault size = FieldFault (IsShort size) Never Never
 
--- the fault of a name or the subject
+-- The fault of a name or the subject.
 abbrev pub NameFault : ℕ → ℕ → List ℕ → PacketFault → Type 0
 NameFault most = FieldFault (IsOpen most) (IsTooLong most) Never
 
--- the fault of a text
+-- The fault of a text.
 abbrev pub TextFault : ℕ → ℕ → List ℕ → PacketFault → Type 0
 TextFault most = FieldFault (IsOpen most) Never (IsTooLong most)
 
--- the fault of the string of a field
+-- The fault of the string of a field.
 abbrev pub StringFault : Field → ℕ → ℕ → List ℕ → PacketFault → Type 0
 StringFault field.Text most = TextFault most
 StringFault _ most = NameFault most
 
--- the bytes that the source lost at the fault of a field of that size
+-- The bytes that left the source at the fault of a field of that size.
 abbrev pub FailsInFixed : ℕ → ℕ → Option (List ℕ) → Option (List ℕ) → PacketFault → Type 0
 FailsInFixed size = FailsInField (IsShort size) Never Never
 
--- the bytes that it lost at the fault of a name or the subject
+-- The bytes that left the source at the fault of a name or the subject.
 abbrev pub FailsInName : ℕ → ℕ → Option (List ℕ) → Option (List ℕ) → PacketFault → Type 0
 FailsInName most = FailsInField (IsOpen most) (IsPast most) Never
 
--- the bytes that it lost at the fault of a text
+-- The bytes that left the source at the fault of a text.
 abbrev pub FailsInText : ℕ → ℕ → Option (List ℕ) → Option (List ℕ) → PacketFault → Type 0
 FailsInText most = FailsInField (IsOpen most) Never (IsPast most)
 
--- the bytes that it lost at the fault of the string of a field
+-- The bytes that left the source at the fault of a string field.
 abbrev pub FailsInString : Field → ℕ → ℕ → Option (List ℕ) → Option (List ℕ) → PacketFault → Type 0
 FailsInString field.Text most = FailsInText most
 FailsInString _ most = FailsInName most
 
--- the fault of a field that was not read, by its place
+-- The fault of a field that the reader could not finish, by its place.
 abbrev pub broken_fault_at : ℕ → Broken → PacketFault
 broken_fault_at at broken.Cut = fault.Truncated at
 broken_fault_at at broken.Device = fault.Read at
 broken_fault_at at broken.Memory = fault.Memory
 
--- the fault of a string that is too long, by its field and its place
+-- The fault of a string that is too long, by its field and its place.
 abbrev pub long_fault_at : Field → ℕ → PacketFault
 long_fault_at field.Text at = fault.TextTooLong at
 long_fault_at _ at = fault.FieldTooLong at
 
--- after its number 2 a whole message came from the source, up to the place
+-- After the number 2, the source gave the rest of a whole message, up to the place.
 pub record TakesMessage (most start : ℕ) (old new : Option (List ℕ)) (m : Message) (at : ℕ) : Type 0 where
   pub came : List ℕ
   pub is : message_bytes m ≡ word 2 ++ came

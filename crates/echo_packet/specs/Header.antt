@@ -1,17 +1,17 @@
--- The 58 bytes in front of a packet. Numbers have the low byte first.
+-- The 58 bytes at the front of a packet. Numbers have the low byte first.
 use Rattle.std.specs.Prelude.{◌≡◌, ℕ, ◌*◌, ◌/◌, ◌%◌, ◌+◌, ◌^◌, ◌<◌, List, [], ◌∷◌, ◌++◌, length, take, drop, slice_index}
 pub use Rattle.disk_io.specs.Fixed.{AreBytes}
 use Rattle.echo_packet.specs.declared.header.Header.{Header}
 
--- a number of two bytes, the low one first
+-- A number of two bytes, the low one first.
 abbrev pub word : ℕ → List ℕ
 word n = n % 256 ∷ n / 256 ∷ []
 
--- the two-byte number at a place
+-- The two-byte number at a place.
 abbrev pub number_at : ℕ → List ℕ → ℕ
 number_at at bs = slice_index bs at + 256 * slice_index bs (at + 1)
 
--- the fields in the order of the table of FTS-0001, the packet type 2 among them
+-- The fields in the order of the table of FTS-0001, with the packet type 2.
 unfoldable pub header_bytes : Header → List ℕ
 header_bytes h =
     word h.orig_node ++ (word h.dest_node ++ (word h.year ++ (word h.month ++ (word h.day
@@ -19,7 +19,7 @@ header_bytes h =
     ++ (word h.orig_net ++ (word h.dest_net ++ (h.prod_code ∷ h.serial_no ∷ (h.password
     ++ (word h.orig_zone ++ (word h.dest_zone ++ h.fill)))))))))))))))
 
--- the header with the fields at their offsets in the bytes
+-- The header with the fields at their offsets in the bytes.
 unfoldable pub header_of : List ℕ → Header
 header_of bs = record {
   orig_node = number_at 0 bs;
@@ -41,7 +41,7 @@ header_of bs = record {
   fill = take 20 (drop 38 bs);
 }
 
--- each field is of the size that the table gives
+-- Each field has the size that the table gives.
 pub record IsHeader (h : Header) : Type 0 where
   pub orig_node : h.orig_node < 2 ^ 16
   pub dest_node : h.dest_node < 2 ^ 16

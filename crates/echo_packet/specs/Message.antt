@@ -7,7 +7,7 @@ use Rattle.echo_packet.specs.declared.fault.Field.{Field}
 use Rattle.echo_packet.specs.declared.fault.Field.TheVariants as field
 use Rattle.echo_packet.specs.Header.{AreBytes, word}
 
--- a packed message, its strings as lists of bytes without their 00
+-- A packed message. Its strings are lists of bytes without their 00.
 pub record Message : Type 0 where
   pub orig_node : ℕ
   pub dest_node : ℕ
@@ -21,7 +21,7 @@ pub record Message : Type 0 where
   pub subject : List ℕ
   pub text : List ℕ
 
--- the same message for the system of another node and net
+-- The same message for the system of another node and net.
 abbrev pub readdressed : Message → ℕ → ℕ → Message
 readdressed m node net = record {
   orig_node = m.orig_node;
@@ -37,25 +37,25 @@ readdressed m node net = record {
   text = m.text;
 }
 
--- how many bytes a name may have before its 00
+-- The most bytes of a name before its 00.
 abbrev pub max_name : ℕ
 max_name = 35
 
--- how many bytes a subject may have before its 00
+-- The most bytes of a subject before its 00.
 abbrev pub max_subject : ℕ
 max_subject = 71
 
--- a string without 00, of at most this many bytes
+-- A string without 00, of at most this many bytes.
 pub record IsString (most : ℕ) (s : List ℕ) : Type 0 where
   pub bytes : AreBytes s
   pub no_zero : HasNoZero s
   pub room : length s ≤ most
 
--- a string and the 00 that ends it
+-- A string and the 00 that ends it.
 abbrev pub zero_ended : List ℕ → List ℕ
 zero_ended s = s ++ 0 ∷ []
 
--- the fields of a packed message, in order
+-- The fields of a packed message, in order.
 pub data Part : Type 0 where
   Number : Part
   Numbers : Part
@@ -65,12 +65,12 @@ pub data Part : Type 0 where
   Subject : Part
   Text : Part
 
--- the six numbers after the number 2
+-- The six numbers after the number 2.
 unfoldable pub numbers : Message → List ℕ
 numbers m = word m.orig_node ++ (word m.dest_node ++ (word m.orig_net ++ (word m.dest_net
     ++ (word m.attribute ++ word m.cost))))
 
--- the bytes of a message before a field
+-- The bytes of a message before a field.
 abbrev pub before : Part → Message → List ℕ
 before Number m = []
 before Numbers m = word 2
@@ -80,23 +80,23 @@ before FromName m = ((word 2 ++ numbers m) ++ m.date) ++ zero_ended m.to_name
 before Subject m = (((word 2 ++ numbers m) ++ m.date) ++ zero_ended m.to_name) ++ zero_ended m.from_name
 before Text m = ((((word 2 ++ numbers m) ++ m.date) ++ zero_ended m.to_name) ++ zero_ended m.from_name) ++ zero_ended m.subject
 
--- the bytes of a message: the number 2 and its fields in order, each string with its 00
+-- The bytes of a message: the number 2 and its fields in order, each string with its 00.
 abbrev pub message_bytes : Message → List ℕ
 message_bytes m = before Text m ++ zero_ended m.text
 
--- the bytes of the messages, one after the other
+-- The bytes of the messages in order.
 abbrev pub messages_bytes : List Message → List ℕ
 messages_bytes [] = []
 messages_bytes (m ∷ ms) = message_bytes m ++ messages_bytes ms
 
--- how many bytes a string field may have before its 00
+-- The most bytes of a string field before its 00.
 abbrev pub most_of : ℕ → Part → ℕ
 most_of text ToName = max_name
 most_of text FromName = max_name
 most_of text Subject = max_subject
 most_of text _ = text
 
--- the fields of a message have their sizes, its text at most this many bytes
+-- The fields of a message have their sizes, and its text has at most `most` bytes.
 pub record IsMessage (most : ℕ) (m : Message) : Type 0 where
   pub orig_node : m.orig_node < 2 ^ 16
   pub dest_node : m.dest_node < 2 ^ 16
@@ -111,19 +111,19 @@ pub record IsMessage (most : ℕ) (m : Message) : Type 0 where
   pub subject : IsString max_subject m.subject
   pub text : IsString most m.text
 
--- messages that keep the limits
+-- The messages are within the limits.
 pub record AreMessages (limits : Limits) (ms : List Message) : Type 0 where
   pub each : AllByRecursion (IsMessage limits.text) ms
   pub room : length ms ≤ limits.messages
 
--- names and subject of their sizes, and a text, all without 00
+-- Names and subject have their sizes, and no string contains a 00.
 pub record AreStrings (to_name from_name subject text : List ℕ) : Type 0 where
   pub to_name_fits : IsString max_name to_name
   pub from_name_fits : IsString max_name from_name
   pub subject_fits : IsString max_subject subject
   pub text_fits : IsString (length text) text
 
--- the field holds 00 or is too long, and those before it are in order
+-- The field contains a 00 or is too long, and the fields before it are valid.
 abbrev pub IsFirstBad : List ℕ → List ℕ → List ℕ → List ℕ → Field → Type 0
 IsFirstBad to_name from_name subject text field.ToName = ¬ IsString max_name to_name
 IsFirstBad to_name from_name subject text field.FromName = IsString max_name to_name × ¬ IsString max_name from_name

@@ -2,7 +2,7 @@
 use Rattle.echo_packet.specs.declared.packed.Packed.TheInside.{Inside}
 use Rattle.echo_packet.specs.Message.{Message}
 
--- the message of the fields
+-- The message that has these fields.
 abbrev pub message_of : Inside → Message
 message_of p = record {
   orig_node = p.orig_node;

@@ -5,11 +5,11 @@ use Rattle.echo_packet.specs.declared.limits.Limits.{Limits}
 use Rattle.echo_packet.specs.Header.{header_bytes, IsHeader, word}
 use Rattle.echo_packet.specs.Message.{Message, messages_bytes, AreMessages}
 
--- a header's bytes, the bytes of the messages in order, and 00 00
+-- The bytes of the header, the bytes of the messages in order, and 00 00.
 abbrev pub packet_bytes : Header → List Message → List ℕ
 packet_bytes h ms = header_bytes h ++ (messages_bytes ms ++ word 0)
 
--- the bytes are a packet of this header and these messages, within the limits
+-- The bytes are a packet of this header and these messages, within the limits.
 pub record PacketOf (limits : Limits) (h : Header) (ms : List Message) (bs : List ℕ) : Type 0 where
   pub header : IsHeader h
   pub messages : AreMessages limits ms

@@ -1,10 +1,10 @@
--- A message put together of its parts.
+-- A message assembled from its parts.
 use Rattle.std.specs.Prelude.{ℕ, List}
 use Rattle.echo_packet.specs.declared.packed.Buffers.{Buffers}
 use Rattle.echo_packet.specs.declared.packed.PackedNumbers.{PackedNumbers}
 use Rattle.echo_packet.specs.Message.{Message}
 
--- the message of these numbers, date and strings
+-- The message of these numbers, this date and these strings.
 abbrev pub message_with : PackedNumbers → List ℕ → Buffers → Message
 message_with numbers date strings = record {
   orig_node = numbers.orig_node;

@@ -1,4 +1,4 @@
--- A packet read message by message.
+-- Reading a packet message by message.
 use Rattle.std.specs.Prelude.{◌≡◌, ℕ, ◌+◌, List, ◌++◌, length}
 use Rattle.echo_packet.specs.declared.header.Header.{Header}
 use Rattle.echo_packet.specs.declared.limits.Limits.{Limits}
@@ -8,8 +8,8 @@ use Rattle.echo_packet.specs.Header.{header_bytes, IsHeader}
 use Rattle.echo_packet.specs.Message.{Message, messages_bytes, AreMessages}
 use Rattle.echo_packet.specs.Fault.{place_of}
 
--- The bytes begin with the header and these messages, within the limits. This many were answered, up to the place,
--- and the rest is left.
+-- The bytes begin with the header and these messages, within the limits. The reader returned `given` of them, up to the
+-- place, and `rest` follows.
 pub record SoFar (limits : Limits) (bs : List ℕ) (header : Header) (ms : List Message) (rest : List ℕ) (given at : ℕ) : Type 0 where
   pub is_header : IsHeader header
   pub are_messages : AreMessages limits ms
@@ -17,7 +17,7 @@ pub record SoFar (limits : Limits) (bs : List ℕ) (header : Header) (ms : List 
   pub count : given ≡ length ms
   pub place : at ≡ place_of (58 + length (messages_bytes ms))
 
--- the fault is one of the device or of memory, and not of the bytes
+-- The fault is one of the device or of memory, not of the bytes.
 abbrev pub IsOfCall : PacketFault → Type 0
 IsOfCall (fault.Read at) = Unit {0}
 IsOfCall fault.Memory = Unit {0}

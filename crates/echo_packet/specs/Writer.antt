@@ -5,20 +5,20 @@ use Rattle.echo_packet.specs.declared.writer.PacketWriter.{PacketWriter}
 use Rattle.echo_packet.specs.declared.fault.Unfinished.{Unfinished}
 use Rattle.echo_packet.specs.declared.fault.PacketFault.TheVariants.{Write}
 
--- the writer that takes the bytes
+-- The writer that takes the bytes.
 abbrev pub writer_below : {W : Type 0} → PacketWriter W → W
 writer_below p = p.writer
 
--- the number of bytes of the packet that were sent
+-- The number of bytes of the packet already sent.
 abbrev pub bytes_sent : {W : Type 0} → PacketWriter W → ℕ
 bytes_sent p = p.sent
 
--- whether an earlier call answered an error
+-- An earlier call returned an error.
 abbrev pub has_stopped : {W : Type 0} → PacketWriter W → Bool
 has_stopped p = p.stopped
 
--- A call that took the writer by value failed and gives it back. A beginning of the bytes was sent, not all, and
--- nothing else. The fault counts it and the bytes before.
+-- A failed call returns the writer that it took by value. It sent a front of the bytes, not all. The fault counts these
+-- and the bytes before.
 pub record IsCutOff {W : Type 0} (contents : W → Option (List ℕ)) (failures : W → ℕ) (writer : W) (bytes : List ℕ) (before : ℕ) (left : Unfinished W) : Type 0 where
   pub sent : ℕ
   pub front : SendsFront (contents writer) (contents left.device) bytes before sent

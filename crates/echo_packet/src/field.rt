@@ -1,5 +1,5 @@
 //! A string of a message, taken from a source.
-ghost use Rattle.std.specs.Prelude.{◌≡◌, ◌<◌, ◌≤◌, List, length, IfNone, IfSome, IfOk, IfErr};
+ghost use Rattle.std.specs.Prelude.{◌<◌, length, IfNone, IfSome, IfOk, IfErr};
 ghost use Rattle.std.specs.Io.KnownBytes.{Consumes};
 ghost use Rattle.disk_io.specs.Fixed.{CountsBreak};
 ghost use Rattle.echo_packet.specs.Message.{IsString, zero_ended};

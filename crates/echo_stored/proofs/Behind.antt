@@ -1,4 +1,4 @@
--- A written text, and what of it stands behind the AREA line.
+-- A written text, and its bytes after the AREA line.
 use Rattle.std.proofs.Common.{◌≡◌, ◌+◌, ◌≤◌, [], ◌∷◌, ◌++◌, length, drop, arith}
 use Rattle.std.proofs.lemmas.List.{drop_at, length-append}
 use Rattle.echo_text.specs.Lines.{area_word}

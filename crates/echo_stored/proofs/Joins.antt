@@ -1,7 +1,7 @@
--- Bytes that were added one after another.
+-- Bytes added in order.
 use Rattle.std.proofs.Common.{◌≡◌, List, ◌++◌, Result, Ok, Err, OnOk, ap, ◌∙◌, append_assoc}
 
--- what follows from what holds where all went well
+-- a consequence of a fact about success
 pub on_ok : {T E P Q : Type 0} (r : Result T E) → (P → Q) → OnOk r P → OnOk r Q
 on_ok (Ok x) f p = f p
 on_ok (Err e) f p = tt

@@ -1,4 +1,4 @@
--- What an address is parsed to.
+-- The result of parsing an address.
 use Rattle.std.proofs.Common.{◌≡◌, ℕ, List, Some, Result, Ok, Err, refl, sym}
 use Rattle.echo_addr.specs.declared.address.Address.{Address}
 use Rattle.echo_addr.specs.declared.fault.AddrFault.{AddrFault}

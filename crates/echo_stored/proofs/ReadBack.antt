@@ -14,7 +14,7 @@ use Rattle.echo_stored.specs.StoredMessage.{attribute_of, padded, stored_address
 use Rattle.echo_stored.specs.StoredReading.{ReadsBack, field_at, text_in, until_zero}
 use Rattle.echo_stored.proofs.Behind.{behind}
 
--- how many bytes stand before a 00
+-- the number of bytes before a 00
 filled_len : (bytes rest : List ℕ) → AllByRecursion (λ b. b ≢ 0) bytes → prefix_len (λ b. not (b == 0)) (bytes ++ 0 ∷ rest) ≡ length bytes
 filled_len [] rest h = refl
 filled_len (b ∷ bytes) rest h =
@@ -34,7 +34,7 @@ padded_back size name short h =
     let more : suc k ≡ size - length name = omega arith in
     subst (λ (n : ℕ). until_zero (name ++ replicate n 0) ≡ name) more (before_zero name (replicate k 0) h)
 
--- the field behind some bytes
+-- the field after some bytes
 field_back : (front name rest : List ℕ) (place size : ℕ) → length front ≡ place → length name < size → HasNoZero name
     → field_at place size (front ++ (padded size name ++ rest)) ≡ name
 field_back front name rest place size behind_front short h =
@@ -45,7 +45,7 @@ field_back front name rest place size behind_front short h =
 behind_has_no_zero : (e : EchoText) → IsEcho e → HasNoZero (text_behind e)
 behind_has_no_zero e h = subst HasNoZero (behind e) (All-drop (λ b. b ≢ 0) (length e.tag + 6) (text_of e) (written_has_no_zero e (text_of e) h (text_is_text e h)))
 
--- four parts and what stands behind them, from the second and from the third on
+-- four parts and the bytes after them, from the second and from the third part on
 from_second : (a b c d r : List ℕ) → (a ++ (b ++ (c ++ d))) ++ r ≡ a ++ (b ++ ((c ++ d) ++ r))
 from_second a b c d r = append_assoc a (b ++ (c ++ d)) r ∙ ap (λ t. a ++ t) (append_assoc b (c ++ d) r)
 

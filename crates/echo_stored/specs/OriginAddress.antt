@@ -7,27 +7,27 @@ use Rattle.echo_addr.specs.declared.address.Address.{Address}
 use Rattle.echo_addr.specs.Address.{outcome}
 use Rattle.echo_text.specs.Echo.{EchoText, origin_of}
 
--- digits, colons and slashes
+-- Digits, colons and slashes.
 abbrev pub is_address_byte : ℕ → Bool
 is_address_byte b = is_in_range 47 58 b
 
--- the bytes after the last `(`, or all where there is none
+-- The bytes after the last `(`, or all bytes without one.
 abbrev pub behind_bracket : List ℕ → List ℕ
 behind_bracket line = drop (length line - suffix_len (λ b. not (b == 40)) line) line
 
--- the bytes of an address at the front, which end before a point, a domain or `)`
+-- The bytes of an address at the front, which end before a point, a domain or `)`.
 abbrev pub address_word : List ℕ → List ℕ
 address_word bytes = take (prefix_len is_address_byte bytes) bytes
 
--- the address of an origin line, none where it has no address of a system
+-- The address of an origin line, or `None` if it has no address of a system.
 abbrev pub origin_address : List ℕ → Option Address
 origin_address line = result_ok (outcome (address_word (behind_bracket line)))
 
--- the same of a line that may be absent
+-- The same for a line that may be absent.
 abbrev pub address_found : Option (List ℕ) → Option Address
 address_found None = None
 address_found (Some line) = origin_address line
 
--- the address in the last origin line of a text
+-- The address in the last origin line of a text.
 abbrev pub address_in_origin : EchoText → Option Address
 address_in_origin e = address_found (origin_of e.kept)

@@ -9,46 +9,46 @@ use Rattle.echo_stored.specs.declared.reading.StoredDraft.{StoredDraft}
 use Rattle.echo_stored.specs.declared.reading.StoredFault.{StoredFault}
 use Rattle.echo_stored.specs.declared.reading.StoredFault.TheVariants.{BadMessage, Memory}
 
--- the bytes before the first 00, or all where there is none
+-- The bytes before the first 00, or all bytes without one.
 abbrev pub until_zero : List ℕ → List ℕ
 until_zero bytes = take (prefix_len (λ b. not (b == 0)) bytes) bytes
 
--- the field of this size at this place
+-- The field of this size at this place.
 abbrev pub field_at : ℕ → ℕ → List ℕ → List ℕ
 field_at place size bytes = until_zero (take size (drop place bytes))
 
--- the text after the numbers
+-- The text after the numbers.
 abbrev pub text_in : List ℕ → List ℕ
 text_in bytes = until_zero (drop 190 bytes)
 
--- the bits of the attribute: Local in its high byte, Sent in its low one
+-- The bits of the attribute: Local in its high byte, Sent in its low one.
 abbrev pub is_local : ℕ → Bool
 is_local high = high % 2 == 1
 
 abbrev pub is_sent : ℕ → Bool
 is_sent low = low / 8 % 2 == 1
 
--- whether the bytes are a stored message that was written here and not sent yet
+-- The bytes are a stored message that was written here and not yet sent.
 abbrev pub is_to_post : List ℕ → Bool
 is_to_post bytes = nat_le 190 (length bytes) && (is_local (slice_index bytes 187) && not (is_sent (slice_index bytes 186)))
 
--- whether posting makes such a line, or a scan adds it: ids, tear and origin lines, SEEN-BY and PATH lines
+-- Posting or a scan makes such lines itself: ids, tear and origin lines, SEEN-BY and PATH lines.
 abbrev pub is_made : List ℕ → Bool
 is_made line = begins msgid_word line || (begins reply_word line || (is_tear line || (is_origin line || (is_seen line || is_path line))))
 
--- a line and its 0D, unless it is made
+-- A line and its 0D, unless posting or a scan makes such lines.
 abbrev pub own_line : List ℕ → List ℕ
 own_line line = if is_made line then [] else ended line
 
--- the lines of a text that an editor's user wrote
+-- The lines of a text that an editor's user wrote.
 abbrev pub body_of : List ℕ → List ℕ
 body_of text = flat_map own_line (lines text)
 
--- the id of the message that is replied to, or no bytes
+-- The id of the message that this one answers, or no bytes.
 abbrev pub reply_in : List ℕ → List ℕ
 reply_in text = unwrap_or (first_after reply_word (lines text)) []
 
--- the parts of the bytes: names, subject, the reply and the body
+-- The parts of the bytes: names, subject, the reply and the body.
 pub record IsDraft (bytes : List ℕ) (draft : StoredDraft) : Type 0 where
   pub from_is : draft.from_name.now ≡ field_at 0 36 bytes
   pub to_is : draft.to_name.now ≡ field_at 36 36 bytes
@@ -56,13 +56,13 @@ pub record IsDraft (bytes : List ℕ) (draft : StoredDraft) : Type 0 where
   pub reply_is : draft.reply.now ≡ reply_in (text_in bytes)
   pub body_is : draft.body ≡ body_of (text_in bytes)
 
--- the answer for a stored message that is to be posted
+-- The answer for a stored message to be posted.
 abbrev pub ReadAnswers : List ℕ → Result StoredDraft StoredFault → Type 0
 ReadAnswers bytes (Ok draft) = (is_to_post bytes ≡ true) × IsDraft bytes draft
 ReadAnswers bytes (Err BadMessage) = is_to_post bytes ≡ false
 ReadAnswers bytes (Err Memory) = is_to_post bytes ≡ true
 
--- the bytes written for a message have its names, its subject and its text
+-- The bytes written for a message have its names, its subject and its text.
 pub record ReadsBack (scanned : Bool) (m : Filed) : Type 0 where
   pub from_back : field_at 0 36 (stored_bytes scanned m) ≡ m.from_name
   pub to_back : field_at 36 36 (stored_bytes scanned m) ≡ m.to_name

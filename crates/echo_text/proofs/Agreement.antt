@@ -1,4 +1,4 @@
--- What readers of texts answer.
+-- The answers of readers of texts.
 use Rattle.std.proofs.Common.{◌≡◌, ℕ, List, ◌⊎◌, Some, Result, Ok, Err, sym, ap, ◌∙◌, inl, inr}
 use Rattle.echo_text.specs.declared.fault.TextFault.{TextFault}
 use Rattle.echo_text.specs.declared.fault.TextFault.TheVariants.{Memory}
@@ -8,7 +8,7 @@ use Rattle.echo_text.proofs.OneReading.{one_answer}
 use Rattle.echo_text.proofs.SaidAfter.{not_refused}
 use Rattle.echo_text.proofs.Written.{written_read_back}
 
--- whoever reads it answers what it was written for
+-- every reader of a written text returns its parts
 pub written_is_read : (e : EchoText) (text : List ℕ) (r : Result (EchoText × ℕ) TextFault) → IsEcho e → TextOf e text → TextAnswers text r
     → (r ≡ Ok (e, 0)) ⊎ (r ≡ Err Memory)
 written_is_read e text r h w answers = one_answer text e 0 r (written_read_back e text h w) answers

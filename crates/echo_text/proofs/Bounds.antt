@@ -65,7 +65,7 @@ path_is_a_control : (line : List ℕ) → is_path line ≡ true → is_control l
 unfolding begins
 path_is_a_control line path = one_of_path (after_feeds line) path
 
--- what the lists of some lines drop
+-- the number of tokens in the lists of some lines that are no entry
 dropped_in : List ℕ → List (List ℕ) → ℕ
 dropped_in word ls = all_dropped (lists_of word ls)
 

@@ -1,4 +1,4 @@
--- What follows a word in lines, line by line.
+-- The bytes after a word in lines, line by line.
 use Rattle.std.proofs.Common.{◌≡◌, ℕ, true, false, List, ◌∷◌, map, ap}
 use Rattle.std.specs.List.{filter}
 use Rattle.std.proofs.lemmas.Bool.{cond-false, cond-true}

@@ -11,7 +11,7 @@ use Rattle.echo_text.specs.Lines.{is_return, lines}
 use Rattle.echo_text.specs.Echo.{HasEndedLines, ended}
 use Rattle.echo_text.proofs.TextLines.{IsPiece, lines_last, lines_nil, lines_of_ended}
 
--- a text cut up: lines with their 0D, and what stands behind the last 0D
+-- a text in lines with their 0D, and the bytes after the last 0D
 record Cut (text : List ℕ) : Type 0 where
   whole : List (List ℕ)
   last : List ℕ
@@ -80,7 +80,7 @@ lines_back some pieces =
 pub put_together : (some : List (List ℕ)) → AllByRecursion IsPiece some → HasEndedLines (flat_map ended some)
 put_together some pieces = ap (flat_map ended) (lines_back some pieces)
 
--- what follows such bytes
+-- the lines of such bytes and of the bytes after them
 pub lines_behind : (front rest : List ℕ) → HasEndedLines front → lines (front ++ rest) ≡ lines front ++ lines rest
 lines_behind front rest h = ap (λ t. lines (t ++ rest)) (sym h) ∙ lines_of_ended (lines front) rest (pieces_of_lines front)
 
@@ -162,7 +162,7 @@ kept_text p none first text body tail n f t =
     (pieces_append (lines body) (filter p (lines tail)) (pieces_of_lines body)
     (recursion_from_All IsPiece (filter p (lines tail)) (All-filter p IsPiece (lines tail) (All-from_recursion IsPiece (lines tail) (pieces_of_lines tail)))))
 
--- such bytes are the same where their lines are
+-- such bytes are equal if their lines are
 same_test : (a b : Bool) → (a ≡ true → b ≡ true) → (b ≡ true → a ≡ true) → a ≡ b
 same_test true b there back = sym (there refl)
 same_test false false there back = refl

@@ -1,4 +1,4 @@
--- The test of an id holds exactly where the bytes are the parts of one.
+-- The test of an id passes exactly if the bytes are the parts of one.
 use Rattle.std.proofs.Common.{◌≡◌, ◌≢◌, ℕ, ◌+◌, ◌-◌, ◌<◌, ◌≤◌, ◌==◌, ◌||◌, ◌&&◌, not, nat_lt, Bool, true, false, List, [], ◌∷◌, ◌++◌, length, get_or, take, drop, reverse, refl, sym, ap, subst, ◌∙◌, arith}
 use Rattle.std.specs.List.{AllPass, list_all, suffix_len}
 use Rattle.std.specs.Str.Parse.{AllDigits, digits_value}
@@ -9,7 +9,7 @@ use Rattle.echo_addr.specs.Entries.{is_blank}
 use Rattle.echo_text.specs.Ids.{Bare, IdParts, SpellsOrigin, before_serial, is_bare_origin, is_gap, is_hex_digit, is_id_trimmed, is_line_byte, is_quote, is_quoted_origin, without_gap}
 use Rattle.echo_text.proofs.Ids.{ends_doubled, hex_from_digits}
 
--- the tests on what stands before the serial
+-- the tests on the bytes before the serial
 abbrev is_apart : List ℕ → Bool
 is_apart id = nat_lt (length (without_gap (before_serial id))) (length (before_serial id))
 

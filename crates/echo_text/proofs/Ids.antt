@@ -1,4 +1,4 @@
--- What spells an id, and that the test finds it.
+-- The bytes that spell an id, and the test that finds them.
 use Rattle.std.proofs.Common.{◌≡◌, ℕ, ◌-◌, ◌≤◌, ◌||◌, ◌&&◌, not, nat_lt, nat_le, true, false, List, [], ◌∷◌, ◌++◌, length, take, drop, refl, sym, ap, ◌∙◌, arith, inl, inr}
 use Rattle.std.specs.Int.{is_in_range}
 use Rattle.std.specs.Char.{digit_value}

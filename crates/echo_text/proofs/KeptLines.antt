@@ -1,4 +1,4 @@
--- Which lines are kept wherever they stand.
+-- Lines that a reader keeps at any position.
 use Rattle.std.proofs.Common.{◌≡◌, ℕ, ◌==◌, ◌&&◌, ◌||◌, not, nat_eq, Bool, true, false, List, [], ◌∷◌, ◌++◌, codes, length, map, nat_lt, Some, None, refl, sym, ap, subst, ◌∙◌, inl, inr}
 use Rattle.std.specs.List.{All, Contains, filter, find, last_or, list_all, starts_with}
 use Rattle.std.specs.Option.{option_or}
@@ -35,7 +35,7 @@ id_kept second word line no_path h =
     ap (λ x. starts_with nat_eq x control_word && not (starts_with nat_eq x path_prefix)) is
     ∙ ap (λ b. not (b && starts_with nat_eq two.rest (codes "ATH:"))) no_path
 
--- a line with ink in front of it is none of blanks
+-- a line with a byte other than a blank is no blank line
 no_blank_line : (line front : List ℕ) → after_feeds line ≡ front → list_all is_blank front ≡ false → is_blank_line line ≡ false
 no_blank_line line front is ink = elim (cases_Bool (list_all is_blank line)) [
   | inl y ↦ let all : list_all is_blank front ≡ true = ap (list_all is_blank) (sym is) ∙ blanks_after_feeds line y in absurd cc
@@ -66,7 +66,7 @@ origin_outside line h =
     ap (λ x. (starts_with nat_eq x seen_prefix || starts_with nat_eq x control_word) || is_blank_line line) is
     ∙ no_blank_line line (32 ∷ (42 ∷ two.rest)) is refl
 
--- a kind of lines of which none is dropped from a tail
+-- a kind of lines that a tail never loses
 module _ (p : List ℕ → Bool) (stays : (line : List ℕ) → p line ≡ true → is_tail_line line ≡ true → is_kept_control line ≡ true) where
   of_tail : (lines : List (List ℕ)) → all_tail lines ≡ true → filter p (filter is_kept_control lines) ≡ filter p lines
   of_tail [] all = refl
@@ -165,7 +165,7 @@ pub reply_of_parts : (front ls : List (List ℕ)) → reply_of (front ++ filter 
 unfolding reply_of
 reply_of_parts front ls = first_of_parts reply_word (λ line h. id_kept 82 _ line refl h) front ls
 
--- tear and origin lines are none of the latter
+-- a filter that passes no tail line finds none among the kept control lines
 only_front : (p : List ℕ → Bool) → ((line : List ℕ) → p line ≡ true → is_tail_line line ≡ false) → (front ls : List (List ℕ))
     → filter p (front ++ filter is_kept_control ls) ≡ filter p front
 only_front p outside front ls =
@@ -193,7 +193,7 @@ tears_kept later = stays_kept is_tear (λ line h in_tail. let out = tear_outside
 pub origins_kept : (later : List (List ℕ)) → filter is_origin (kept_of later) ≡ filter is_origin later
 origins_kept later = stays_kept is_origin (λ line h in_tail. let out = origin_outside line h in absurd cc) later
 
--- each kept line is a line of the text, as it stands there
+-- each kept line is a line of the text, unchanged
 pub kept_are_lines : (later : List (List ℕ)) → All (Contains later) (kept_of later)
 unfolding kept_of
 kept_are_lines later =

@@ -49,7 +49,7 @@ last_from text at within none =
     let short : i < length (drop at text) - 1 = omega (arith, below, length-take-le (length (drop at text) - 1) (drop at text) (omega arith)) in
     ap is_return (get_or-take (length (drop at text) - 1) (drop at text) i 0 short ∙ get_or-drop at text i 0) ∙ none (at + i) (omega arith) (omega arith)))
 
--- as a search among all bytes but the last tells
+-- a search among all bytes but the last finds the start
 pub start_found : (text : List ℕ) (k : ℕ) → 0 < length text → IsLastByte (is_byte 13) (take (length text - 1) text) (Some k) → Starts text (k + 1)
 start_found text k some found =
     let size : length (take (length text - 1) text) ≡ length text - 1 = length-take-le (length text - 1) text (omega arith) in
@@ -75,7 +75,7 @@ start_first text some none =
           ∙ false_from_ne_true (is_return (get_or (take (length text - 1) text) j 0)) (none j low (omega arith)));
     }
 
--- what stands behind these bytes is of the tail
+-- the bytes from n on belong to the tail
 pub record EndsIn (text : List ℕ) (n : ℕ) : Type 0 where
   pub within : n ≤ length text
   pub tails : all_tail (lines (drop n text)) ≡ true
@@ -151,7 +151,7 @@ module _ (text : List ℕ) (n at : ℕ) (h : EndsIn text n) (s : Starts (take n 
       sym (ap tail (parted text n h ∙ ap (λ ls. ls ++ lines (drop n text)) front_is)
       ∙ tail_behind (lines (take at (take n text))) (first_line (lines (drop at (take n text)))) (lines (drop n text)) h.tails isnt)
 
--- all lines are of the tail
+-- all lines belong to the tail
 pub no_body : (text : List ℕ) (n : ℕ) → n ≡ 0 → EndsIn text n → lines (take n text) ≡ body (lines text)
 no_body text n none h =
     let first : lines (drop n text) ≡ lines text = ap (λ k. lines (drop k text)) none in

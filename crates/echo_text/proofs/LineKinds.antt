@@ -1,4 +1,4 @@
--- What lines of one kind begin with, and that they are of no other kind.
+-- The first bytes of each kind of line, and that the kinds differ.
 use Rattle.std.proofs.Common.{◌≡◌, ℕ, suc, ◌+◌, ◌==◌, ◌&&◌, ◌||◌, not, nat_eq, Bool, true, false, List, [], ◌∷◌, ◌++◌, drop, refl, ap, subst, ◌∙◌, arith, inl, inr}
 use Rattle.std.specs.List.{list_all, prefix_len, starts_with}
 use Rattle.std.proofs.lemmas.Bool.{and_parts, cases_Bool, cond-true, cond-false, eqb-true, not-true, or_left, or_right}
@@ -37,7 +37,7 @@ pub seen_is_not_path : (rest : List ℕ) → is_path (seen_prefix ++ rest) ≡ f
 unfolding begins
 seen_is_not_path rest = refl
 
--- what follows the word
+-- the bytes after the word
 pub after_area : (rest : List ℕ) → after_word area_word (area_word ++ rest) ≡ rest
 unfolding after_word
 after_area rest = refl
@@ -50,7 +50,7 @@ pub after_path : (rest : List ℕ) → after_word path_prefix (path_prefix ++ re
 unfolding after_word
 after_path rest = refl
 
--- SEEN-BY and PATH lines belong to the tail, and neither is kept there
+-- SEEN-BY and PATH lines belong to the tail, and the reader keeps neither
 pub seen_in_tail : (rest : List ℕ) → is_tail_line (seen_prefix ++ rest) ≡ true
 seen_in_tail rest = or_left _ _ (or_left _ _ (seen_is_seen rest))
 
@@ -102,7 +102,7 @@ control_is_not_blank line control = elim (cases_Bool (is_blank_line line)) [
   | inr n ↦ n
 ]
 
--- a tail line that is not shed is kept
+-- the reader keeps each tail line that it does not shed
 pub kept_unless_shed : (line : List ℕ) → is_tail_line line ≡ true → not (is_shed line) ≡ true → is_kept_control line ≡ true
 kept_unless_shed line tail_line left =
     by (is_seen line) (is_control line) (is_path line) (is_blank_line line) tail_line left

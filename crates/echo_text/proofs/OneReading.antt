@@ -1,4 +1,4 @@
--- A text says one thing, and what it says has one text.
+-- A text has one reading, and a reading has one text.
 use Rattle.std.proofs.Common.{◌≡◌, ℕ, suc, zero, List, [], ◌∷◌, ◌++◌, Result, Ok, Err, refl, sym, ap, subst, ◌∙◌, arith, inl, inr, ◌⊎◌}
 use Rattle.std.specs.List.{All, AllPairs, Contains, flat_map}
 use Rattle.std.proofs.lemmas.List.Elements.{All-contains}
@@ -108,7 +108,7 @@ one_text e b c h k =
     (one_spelling path_prefix e.path h.path_lines k.path_lines h.path k.path)
     ∙ sym k.whole
 
--- what was read and written is read and written as itself
+-- a text that was read and written reads and writes as itself
 pub written_again : (text : List ℕ) (e f : EchoText) (d n : ℕ) (b c : List ℕ) → HasNoZero text → EchoOf text e d → TextOf e b → EchoOf b f n → TextOf f c
     → (f ≡ e) × (n ≡ 0) × (c ≡ b)
 written_again text e f d n b c no_zero read wrote again rewrote =

@@ -56,7 +56,7 @@ first_no_quote : (ds : List ℕ) → 0 < length ds → AllByRecursion IsHigh ds 
 first_no_quote [] some all e = absurd (omega arith)
 first_no_quote (d ∷ ds) some all e = let high = all.0 in omega arith
 
--- no blank stands at its ends
+-- bytes without blanks at their ends
 no_blanks : (bs : List ℕ) → prefix_len is_blank bs ≡ 0 → suffix_len is_blank bs ≡ 0 → trimmed bs ≡ bs
 unfolding trimmed
 no_blanks bs front back =
@@ -112,6 +112,6 @@ own_parts a s h small =
       value = serial_back s small;
     }
 
--- what is written is read back
+-- a written id reads back as itself
 pub own_id : (a : Address) (s : ℕ) → IsWide a → s < 2 ^ 32 → IdOf (id_of a s) (address_text a) false s
 own_id a s h small = subst (λ (b : List ℕ). IdParts b (address_text a) false s) (sym (own_trimmed a s h)) (own_parts a s h small)

@@ -1,4 +1,4 @@
--- What was read of a text keeps the rules of an echo.
+-- The parsed parts of a text keep the rules of an echo.
 use Rattle.std.proofs.Common.{◌≡◌, ◌≢◌, ℕ, ◌==◌, not, true, List, [], ◌∷◌, ◌++◌, length, sym, ap, subst, ◌∙◌, inl, inr}
 use Rattle.std.specs.List.{All, AllByRecursion, AllPass, Contains, filter, onto_first, slice_split}
 use Rattle.std.proofs.lemmas.Bool.{cases_Bool, cond-false, cond-true, eq-eqb}
@@ -98,7 +98,7 @@ nothing_shed later =
     (All-weaker (λ line. is_kept_control line ≡ true) (λ line. not (is_shed line) ≡ true) not_shed_if_kept (filter is_kept_control (tail later))
     (filter_passes is_kept_control (tail later)))
 
--- members of a set are what it was made of
+-- members of a set are members of the list
 set_in_range : (set all : List NetNode) → IsSetOf set all → All IsNetNode all → All IsNetNode set
 set_in_range set all is h =
     All-weaker (Contains set) IsNetNode (λ entry in_set. All-contains IsNetNode all entry h ((is.members entry).0 in_set)) set (All-contains_itself set)

@@ -1,4 +1,4 @@
--- What the lines after the AREA line say, put together.
+-- The content of the lines after the AREA line.
 use Rattle.std.proofs.Common.{◌≡◌, ℕ, ◌+◌, ◌^◌, ◌<◌, List, ◌++◌, length, refl, sym, ap, subst, ◌∙◌, arith}
 use Rattle.std.specs.List.{filter}
 use Rattle.std.specs.Prelude.{MatchResult}
@@ -20,7 +20,7 @@ pub counts_fit : (text : List ℕ) (ending : List (List ℕ)) → ending ≡ tai
 counts_fit text ending is room =
     subst (λ ls. all_dropped (lists_of seen_prefix ls) + all_dropped (lists_of path_prefix ls) < 2 ^ 64) (sym is) (omega (arith, dropped_of_text text))
 
--- from what each call found
+-- the lists, from the results of each call
 pub lists_after : (later ending : List (List ℕ)) (seen path set : List NetNode) (m n : ℕ)
     → ending ≡ tail later
     → seen ≡ all_entries (lists_of seen_prefix ending) → m ≡ all_dropped (lists_of seen_prefix ending)
@@ -49,7 +49,7 @@ taken first none =
     by true false a g = let refused : Some BadTag ≡ None = sym (ap (λ x. cond (not x) (Some NotEcho) (cond (not (is_tag (area_tag first))) (Some BadTag) None)) a ∙ ap (λ x. cond (not x) (Some BadTag) None) g) ∙ none in absurd cc
     by false good a g = let refused : Some NotEcho ≡ None = sym (ap (λ x. cond (not x) (Some NotEcho) (cond (not (is_tag (area_tag first))) (Some BadTag) None)) a) ∙ none in absurd cc
 
--- a text whose first line is taken, and its kept lines
+-- a text with its first line removed, and its kept lines
 pub front_is : (text first rest tag : List ℕ) (before ending kept : List (List ℕ))
     → first ≡ first_line (lines text) → lines rest ≡ later_lines (lines text) → refusal_of first ≡ None → tag ≡ area_tag first
     → before ≡ body (lines rest) → ending ≡ tail (lines rest) → kept ≡ before ++ filter is_kept_control ending → FrontOf text tag kept
@@ -103,6 +103,6 @@ front_accepted text tag kept h =
     ap (λ x. cond (not x) (Some NotEcho) (cond (not (is_tag (area_tag first))) (Some BadTag) None)) h.area
     ∙ ap (λ x. cond (not x) (Some BadTag) None) (ap is_tag (sym h.tag_is) ∙ h.tag_bytes)
 
--- nor is one that says something
+-- no refusal applies to a text that has a reading
 pub not_refused : (text : List ℕ) (e : EchoText) (d : ℕ) → EchoOf text e d → text_refusal text ≡ None
 not_refused text e d h = front_accepted text e.tag e.kept (record { area = h.area; tag_is = h.tag; tag_bytes = h.tag_bytes; kept_lines = h.kept })

@@ -29,7 +29,7 @@ same_is x y is =
     let parts = and_parts (x.net == y.net) (x.node == y.node) is in
     same_entry x y (eqb-true x.net y.net parts.0) (eqb-true x.node y.node parts.1)
 
--- what is less comes before
+-- an ordering by net and then by node
 less_then : (p q : Ordering) (m n k l : ℕ) → MatchOrdering p (m < n) (m ≡ n) (n < m) → MatchOrdering q (k < l) (k ≡ l) (l < k)
     → ordering_then p q ≡ Less → (m < n) ⊎ ((m ≡ n) × (k < l))
 less_then Less q m n k l h i less = inl h

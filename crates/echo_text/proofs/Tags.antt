@@ -1,4 +1,4 @@
--- A tag stands between no blanks, and its letters are in upper case.
+-- A tag has no blanks at its ends, and its letters are in upper case.
 use Rattle.std.proofs.Common.{◌≡◌, ℕ, ◌+◌, ◌-◌, ◌<◌, ◌≤◌, ◌&&◌, not, nat_lt, nat_le, true, false, cond, List, [], ◌∷◌, ◌++◌, length, map, drop, refl, sym, ap, ◌∙◌, arith, inl, inr}
 use Rattle.std.specs.Char.{to_ascii_uppercase}
 use Rattle.std.specs.Int.{is_in_range}
@@ -32,7 +32,7 @@ pub trimmed_ink : (bytes : List ℕ) → IsInked bytes → trimmed bytes ≡ byt
 unfolding trimmed
 trimmed_ink bytes ink = ap without_back_blanks (no_front_blanks bytes ink) ∙ no_back_blanks bytes ink
 
--- what a byte of a tag is
+-- the bounds of a byte of a tag
 record IsTagByte (b : ℕ) : Type 0 where
   low : 33 ≤ b
   high : b ≤ 126

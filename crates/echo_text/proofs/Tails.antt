@@ -76,7 +76,7 @@ body_not_tail (line ∷ more) not_all =
       | inr later ↦ and_right (is_tail_line line) (all_tail (body more)) (body_not_tail more later)
     ])
 
--- the body has no tail of its own
+-- the body contains no tail
 pub tail_of_body : (lines : List (List ℕ)) → tail (body lines) ≡ []
 tail_of_body [] = refl
 tail_of_body (line ∷ more) = elim (cases_Bool (all_tail (line ∷ more))) [
@@ -101,7 +101,7 @@ all_body [] line other = body_more line [] (not_all_before [] line other)
 all_body (first ∷ front) line other =
     body_more first (front ++ line ∷ []) (not_all_before (first ∷ front) line other) ∙ ap (λ ls. first ∷ ls) (all_body front line other)
 
--- tail lines behind a line that is none
+-- tail lines after another line
 pub tail_behind : (front : List (List ℕ)) (line : List ℕ) (ending : List (List ℕ)) → all_tail ending ≡ true → is_tail_line line ≡ false
     → tail ((front ++ line ∷ []) ++ ending) ≡ ending
 tail_behind front line ending all other = tail-append (front ++ line ∷ []) ending all ∙ ap (λ ls. ls ++ ending) (no_tail front line other)

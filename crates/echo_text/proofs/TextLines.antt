@@ -19,7 +19,7 @@ pub lines_nil : lines [] ≡ []
 unfolding lines
 lines_nil = refl
 
--- a line, its 0D and what follows
+-- a line, its 0D and the bytes after it
 pub lines_cut : (line rest : List ℕ) → IsPiece line → lines (line ++ 13 ∷ rest) ≡ line ∷ lines rest
 unfolding lines
 lines_cut line rest piece =
@@ -42,7 +42,7 @@ lines_of_ended (line ∷ more) rest pieces =
     ∙ lines_ended line (flat_map ended more ++ rest) pieces.0
     ∙ ap (λ ls. line ∷ ls) (lines_of_ended more rest pieces.1)
 
--- the first line of a text, and what stands after it
+-- the first line of a text, and the bytes after it
 pub record Splits (text first rest : List ℕ) : Type 0 where
   pub first_is : first ≡ first_line (lines text)
   pub later_is : lines rest ≡ later_lines (lines text)
@@ -90,6 +90,6 @@ some_lines text some = some_pieces is_return text some
 pub lines_with_first : (text first rest : List ℕ) → 0 < length text → Splits text first rest → lines text ≡ first ∷ lines rest
 lines_with_first text first rest some h = first_and_later (lines text) first (lines rest) (some_lines text some) h.first_is h.later_is
 
--- nothing is left
+-- no bytes have no lines
 pub no_lines : (rest : List ℕ) → length rest ≡ 0 → lines rest ≡ []
 no_lines rest none = ap lines (nil_from_length rest none) ∙ lines_nil

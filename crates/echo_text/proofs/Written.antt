@@ -1,4 +1,4 @@
--- What is written of an echo, cut into lines and taken apart, is that echo.
+-- The written text of an echo, cut into lines and parsed, is that echo.
 use Rattle.std.proofs.Common.{◌≡◌, ◌≢◌, ℕ, not, Bool, true, false, List, [], ◌∷◌, ◌++◌, map, refl, sym, ap, subst, ◌∙◌, arith, inl, inr}
 use Rattle.std.specs.List.{AllByRecursion, AllPairs, filter, flat_map, list_all}
 use Rattle.std.proofs.lemmas.List.{append_assoc, append-nil}
@@ -43,7 +43,7 @@ prefixed_pieces prefix piece (rest ∷ more) bytes = (
   prefixed_pieces prefix piece more bytes.1,
 )
 
--- all lines with the prefix pass, or none does
+-- all lines with the prefix pass, or all fail
 all_prefixed : (p : List ℕ → Bool) (prefix : List ℕ) → ((rest : List ℕ) → p (prefix ++ rest) ≡ true) → (rests : List (List ℕ))
     → list_all p (prefixed prefix rests) ≡ true
 all_prefixed p prefix passes [] = refl
@@ -69,7 +69,7 @@ after_prefixed prefix after [] = refl
 after_prefixed prefix after (rest ∷ more) =
     ap (λ r. r ∷ map (after_word prefix) (prefixed prefix more)) (after rest) ∙ ap (λ rs. rest ∷ rs) (after_prefixed prefix after more)
 
--- tail lines of which none is shed
+-- tail lines without a shed one
 record IsKeptEnding (ending : List (List ℕ)) : Type 0 where
   kept : filter is_kept_control ending ≡ ending
   no_seen : filter is_seen ending ≡ []
@@ -97,7 +97,7 @@ shed_all_tail seen path =
     list_all-append is_tail_line (prefixed seen_prefix seen) (prefixed path_prefix path)
     ∙ and_from _ _ (all_prefixed is_tail_line seen_prefix seen_in_tail seen) (all_prefixed is_tail_line path_prefix path_in_tail path)
 
--- what a filter leaves of SEEN-BY and PATH lines
+-- the SEEN-BY and PATH lines that a filter leaves
 both : (p : List ℕ → Bool) (kept left_seen left_path : List (List ℕ)) (ending seen path : List (List ℕ))
     → filter p ending ≡ kept → filter p (prefixed seen_prefix seen) ≡ left_seen → filter p (prefixed path_prefix path) ≡ left_path
     → filter p (ending ++ (prefixed seen_prefix seen ++ prefixed path_prefix path)) ≡ kept ++ (left_seen ++ left_path)
@@ -108,7 +108,7 @@ both p kept left_seen left_path ending seen path k s t =
     ∙ ap (λ ls. kept ++ (ls ++ filter p (prefixed path_prefix path))) s
     ∙ ap (λ ls. kept ++ (left_seen ++ ls)) t
 
--- what lines that were laid out say
+-- the content of the written lines
 record Says (kept seen path : List (List ℕ)) : Type 0 where
   kept_back : kept_of (laid_out kept seen path) ≡ kept
   seen_back : seen_lists (laid_out kept seen path) ≡ seen
@@ -194,7 +194,7 @@ itself list all is ascending =
     let P : List NetNode → Type 0 = λ other. IsSetOf list other in
     subst P (sym is) (record { ascending = ascending; members = λ entry. ((λ x. x), (λ x. x)) })
 
--- the lines of a text, where it is known what they are
+-- the lines of a text in terms of its parts
 record Begun (text first : List ℕ) (later : List (List ℕ)) : Type 0 where
   first_is : first_line (lines text) ≡ first
   later_is : later_lines (lines text) ≡ later

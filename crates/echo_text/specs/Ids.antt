@@ -1,4 +1,4 @@
--- Message ids as they are spelled (FTS-0009).
+-- The spelling of message ids (FTS-0009).
 use Rattle.std.specs.Prelude.{◌≡◌, ◌≢◌, ◌<◌, ℕ, ◌-◌, ◌/◌, ◌%◌, ◌^◌, ◌==◌, ◌||◌, ◌&&◌, not, nat_lt, Bool, true, false, List, [], ◌∷◌, ◌++◌, map, length, take, drop, slice_index, codes, if◌then◌else◌}
 use Rattle.std.specs.Int.{is_in_range}
 use Rattle.std.specs.List.{AllPass, list_all, suffix_len}
@@ -8,23 +8,23 @@ use Rattle.echo_addr.specs.Address.{address_text}
 use Rattle.echo_addr.specs.Entries.{is_blank}
 use Rattle.echo_text.specs.Lines.{trimmed}
 
--- a digit of a number to the base 16, in lower case
+-- A hexadecimal digit in lower case.
 abbrev pub hex_digit : ℕ → ℕ
 hex_digit n = slice_index (codes "0123456789abcdef") n
 
--- a serial as eight of them
+-- A serial as eight of these digits.
 abbrev pub serial_text : ℕ → List ℕ
 serial_text serial = map (λ k. hex_digit (serial / 16 ^ k % 16)) (7 ∷ (6 ∷ (5 ∷ (4 ∷ (3 ∷ (2 ∷ (1 ∷ (0 ∷ []))))))))
 
--- the id that a system gives its message of this serial
+-- The id that a system gives its message with this serial.
 unfoldable pub id_of : Address → ℕ → List ℕ
 id_of address serial = address_text address ++ (codes " " ++ serial_text serial)
 
--- a digit to the base 16, of either case
+-- A hexadecimal digit in either case.
 abbrev pub is_hex_digit : ℕ → Bool
 is_hex_digit b = is_in_range 48 57 b || (is_in_range 65 70 b || is_in_range 97 102 b)
 
--- a byte 00, a blank 20 and a double quote
+-- A byte 00, a blank 20 and a double quote.
 abbrev pub is_zero : ℕ → Bool
 is_zero b = b == 0
 
@@ -34,35 +34,34 @@ is_gap b = b == 32
 abbrev pub is_quote : ℕ → Bool
 is_quote b = b == 34
 
--- a byte that a line may have: neither 00 nor 0D
+-- A byte that a line may have: neither 00 nor 0D.
 abbrev pub is_line_byte : ℕ → Bool
 is_line_byte b = not (is_zero b || (b == 13))
 
--- the bytes before the serial, and the same without the blanks 20 at their end
+-- The bytes before the serial, and the same without the blanks 20 at their end.
 abbrev pub before_serial : List ℕ → List ℕ
 before_serial id = take (length id - 8) id
 
 abbrev pub without_gap : List ℕ → List ℕ
 without_gap front = take (length front - suffix_len is_gap front) front
 
--- bytes in which each double quote is doubled, then one double quote; the flag says that a single double quote came
--- just before them
+-- Bytes with each double quote doubled, then one double quote. `single` means that an unpaired double quote is just before them.
 abbrev pub ends_quoted : Bool → List ℕ → Bool
 ends_quoted single [] = single
 ends_quoted single (b ∷ rest) = (is_quote b || not single) && ends_quoted (is_quote b && not single) rest
 
--- in double quotes, each double quote between them doubled
+-- The origin is in double quotes, and each double quote between them is doubled.
 abbrev pub is_quoted_origin : List ℕ → Bool
 is_quoted_origin [] = false
 is_quoted_origin (first ∷ rest) = is_quote first && ends_quoted false rest
 
--- one byte or more, none a blank, the first no double quote
+-- One byte or more, without blanks. The first is no double quote.
 abbrev pub is_bare_origin : List ℕ → Bool
 is_bare_origin [] = false
 is_bare_origin (first ∷ rest) =
     not (is_quote first) && list_all (λ b. not (is_blank b)) (first ∷ rest)
 
--- an origin, one blank 20 or more, and eight digits, without 00 and 0D
+-- An origin, one blank 20 or more, and eight digits, without 00 and 0D.
 abbrev pub is_id_trimmed : List ℕ → Bool
 is_id_trimmed id =
     list_all is_line_byte id
@@ -70,46 +69,46 @@ is_id_trimmed id =
     && (list_all is_hex_digit (drop (length id - 8) id)
     && (is_quoted_origin (without_gap (before_serial id)) || is_bare_origin (without_gap (before_serial id)))))
 
--- whether the bytes spell an id; blanks are allowed at both ends
+-- The bytes spell an id. Blanks are allowed at both ends.
 unfoldable pub is_id : List ℕ → Bool
 is_id id = is_id_trimmed (trimmed id)
 
--- the parts of an address are those of 16 bits
+-- The parts of an address fit in 16 bits.
 pub record IsWide (a : Address) : Type 0 where
   pub zone : a.zone < 2 ^ 16
   pub net : a.net < 2 ^ 16
   pub node : a.node < 2 ^ 16
 
--- a text with each double quote doubled
+-- A text with each double quote doubled.
 abbrev pub doubled : List ℕ → List ℕ
 doubled [] = []
 doubled (b ∷ rest) = if is_quote b then 34 ∷ (34 ∷ doubled rest) else b ∷ doubled rest
 
--- each doubled double quote made one; the flag says that the first of a pair came before the bytes
+-- Each doubled double quote becomes one. `taken` means that the first of a pair is just before the bytes.
 abbrev pub undoubled : Bool → List ℕ → List ℕ
 undoubled taken [] = []
 undoubled taken (b ∷ rest) =
     if taken && is_quote b then undoubled false rest else b ∷ undoubled (is_quote b) rest
 
--- an origin that is spelled bare: one byte or more, none a blank, the first no double quote
+-- An origin without quotes: one byte or more, without blanks. The first is no double quote.
 pub record Bare (spelled origin : List ℕ) : Type 0 where
   pub same : origin ≡ spelled
   pub some : 0 < length spelled
   pub first : slice_index spelled 0 ≢ 34
   pub ink : AllPass (λ b. not (is_blank b)) spelled
 
--- an origin that is spelled between double quotes: a text with each double quote doubled
+-- An origin in double quotes, with each double quote between them doubled.
 pub record Quoted (spelled origin : List ℕ) : Type 0 where
   pub plain : List ℕ
   pub between : spelled ≡ 34 ∷ (origin ++ 34 ∷ [])
   pub each_doubled : origin ≡ doubled plain
 
--- how the origin is spelled
+-- The spelling of the origin.
 abbrev pub SpellsOrigin : Bool → List ℕ → List ℕ → Type 0
 SpellsOrigin true spelled origin = Quoted spelled origin
 SpellsOrigin false spelled origin = Bare spelled origin
 
--- the bytes are an origin, one blank 20 or more, and a serial of eight digits to the base 16, without 00 and 0D
+-- The bytes are an origin, one blank 20 or more, and a serial of eight hexadecimal digits, without 00 and 0D.
 pub record IdParts (id origin : List ℕ) (quoted : Bool) (serial : ℕ) : Type 0 where
   pub spelled : List ℕ
   pub gap : List ℕ
@@ -123,19 +122,19 @@ pub record IdParts (id origin : List ℕ) (quoted : Bool) (serial : ℕ) : Type 
   pub hex : AllDigits 16 digits
   pub value : digits_value 16 digits ≡ serial
 
--- the bytes spell this id; blanks are allowed at both ends
+-- The bytes spell this id. Blanks are allowed at both ends.
 abbrev pub IdOf : List ℕ → List ℕ → Bool → ℕ → Type 0
 IdOf b origin quoted serial = IdParts (trimmed b) origin quoted serial
 
--- the bytes spell some id
+-- The bytes spell some id.
 abbrev pub SpellsId : List ℕ → Type 0
 SpellsId b = (origin : List ℕ) × (quoted : Bool) × (serial : ℕ) × IdOf b origin quoted serial
 
--- the bytes spell no id
+-- The bytes spell no id.
 abbrev pub NoId : List ℕ → Type 0
 NoId b = (origin : List ℕ) (quoted : Bool) (serial : ℕ) → IdOf b origin quoted serial → ⊥
 
--- two ids are one
+-- Two ids are equal.
 pub record SameId (o p : List ℕ) (quoted other : Bool) (s t : ℕ) : Type 0 where
   pub origin : o ≡ p
   pub quoting : quoted ≡ other

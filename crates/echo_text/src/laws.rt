@@ -1,6 +1,6 @@
 //! Laws about the definitions. Each law is the contract of a function that does nothing.
 
-ghost use Rattle.std.specs.Prelude.{◌≡◌, ◌⊎◌, ℕ, List, All, Contains, Option, Some, Result, Ok, Err, filter};
+ghost use Rattle.std.specs.Prelude.{◌≡◌, ◌⊎◌, ℕ, List, All, Contains, Some, Result, Ok, Err, filter};
 ghost use Rattle.echo_text.specs.declared.fault.TextFault.{TextFault};
 ghost use Rattle.echo_text.specs.declared.fault.TextFault.TheVariants.{Memory};
 ghost use Rattle.echo_text.specs.Echo.{EchoOf, EchoText, HasNoZero, IsEcho, TextOf};

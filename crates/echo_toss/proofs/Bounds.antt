@@ -32,7 +32,7 @@ pub no_room_now : {T : Type 0} (state : T → StoreState) (Adds : Base → Filed
     → Honestly (state now).disk ((base : Base) → (state now).keeps base → Adds base m) → IsPastBound state Adds (state now)
 no_room_now state Adds now m ready lacks adds = too_much_now state Adds now ready (record { past = inr (m, lacks, adds) })
 
--- it does so after calls that committed nothing
+-- the store holds too much after calls that committed nothing
 pub past_after : {T : Type 0} (state : T → StoreState) (Adds : Base → Filed → Type 0) (old mid : StoreState) → CommitsNothing old mid → GoesOn old mid → IsPastBound state Adds mid → IsPastBound state Adds old
 past_after state Adds old mid commits on past = record {
   store = past.store;

@@ -1,4 +1,4 @@
--- What became of messages that are tossed one after another, and how it is counted.
+-- The outcomes of messages tossed in order, and their counts.
 use Rattle.std.proofs.Common.{◌≡◌, suc, ◌+◌, Bool, true, false, List, [], ◌∷◌, ◌++◌, length, refl, ap, ◌∙◌, arith, cond}
 use Rattle.std.proofs.lemmas.List.Sums.{sum_by-append}
 use Rattle.std.specs.Prelude.{count_by, option_to_list}

@@ -1,4 +1,4 @@
--- What goes out, message by message, is what a scan is to make.
+-- The outgoing messages, one by one, are those of the scan.
 use Rattle.std.proofs.Common.{◌≡◌, ℕ, ◌+◌, Bool, false, true≢false, List, [], ◌∷◌, ◌++◌, map, drop, refl, sym, ap, ◌∙◌, Some, append_assoc, inl, inr, Result, Ok, Err, IfOk, Vec}
 use Rattle.std.specs.Prelude.{filter, slice_get}
 use Rattle.std.specs.List.{flat_map, list_any}
@@ -26,14 +26,14 @@ use Rattle.echo_toss.proofs.AscendingSets.{set_twice, sets_together}
 use Rattle.echo_toss.proofs.Searches.{among_set}
 use Rattle.model_steps.specs.declared.packet.Packet.{Packet}
 
--- the first one, and what follows
+-- the first element, then the others
 filter_front : {X : Type 0} (p : X → Bool) (x : X) (xs : List X) → filter p (x ∷ xs) ≡ filter p (x ∷ []) ++ filter p xs
 filter_front p x xs = elim (cases_Bool (p x)) [
   | inl stays ↦ cond-true (p x) (x ∷ filter p xs) (filter p xs) stays ∙ ap (λ l. l ++ filter p xs) (sym (cond-true (p x) (x ∷ []) [] stays))
   | inr goes ↦ cond-false (p x) (x ∷ filter p xs) (filter p xs) goes ∙ ap (λ l. l ++ filter p xs) (sym (cond-false (p x) (x ∷ []) [] goes))
 ]
 
--- one more of what waits
+-- one more of the waiting messages
 pub next_waits : {X Y : Type 0} (p : Y → Bool) (f : X → Y) (xs : List X) (i : ℕ) (x : X) (old new all : List Y) → Some x ≡ slice_get xs i
     → old ++ filter p (map f (drop i xs)) ≡ all → new ≡ old ++ filter p (map f (x ∷ [])) → new ++ filter p (map f (drop (i + 1) xs)) ≡ all
 next_waits p f xs i x old new all is so_far grown =
@@ -135,7 +135,7 @@ pub scan_made : (file : LinkFile) (stamp : Stamp) (base : List Filed) (cursor : 
 scan_made file stamp base cursor packets all e h =
     h ∙ ap (packets_out file stamp) e ∙ kept_packets file stamp (map (outgoing_of file) (drop cursor base)) ∙ packets_are file stamp base cursor
 
--- what is exported, part by part
+-- the exported text, part by part
 pub exported_is : (file : LinkFile) (e : EchoText) (tag : List ℕ) (kept : List (List ℕ)) (seen path : List NetNode) → tag ≡ e.tag → kept ≡ e.kept
     → seen ≡ entry_set (e.seen ++ net_node_of file.system ∷ map net_node_of (links_of file e.tag)) → path ≡ e.path ++ net_node_of file.system ∷ []
     → record { tag = tag; kept = kept; seen = seen; path = path } ≡ exported file e
@@ -156,7 +156,7 @@ exported_made file e own links tag kept before seen passed path o l t k b s q p 
 pub written_is : (e : EchoText) (bytes : List ℕ) → IsEcho e → TextOf e bytes → bytes ≡ text_of e
 written_is e bytes is text = one_text e bytes (text_of e) text (text_is_text e is)
 
--- no text that goes out holds 00
+-- no exported text contains a 00
 pub exported_no_zero : (file : LinkFile) → IsFile file → (e : EchoText) → IsEcho e → HasNoZero (text_of (exported file e))
 exported_no_zero file is e h =
     let out = exported_is_echo file is e h in

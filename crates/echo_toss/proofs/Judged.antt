@@ -17,7 +17,7 @@ use Rattle.model_steps.proofs.FirstRefusals.{refusal_first}
 use Rattle.model_steps.proofs.Kept.{posted_new}
 use Rattle.echo_toss.specs.Refusals.{IsPrepared, draft_refusal}
 
--- five tests one after another, before the rest
+-- five tests in order, before the others
 abbrev five : Bool → Bool → Bool → Bool → Bool → Option PostFault → Option PostFault
 five area zero long moment reply rest =
     if not area then Some fault.NoArea
@@ -59,7 +59,7 @@ five_past true false true moment reply rest h = absurd (cc)
 five_past true true long moment reply rest h = absurd (cc)
 five_past false zero long moment reply rest h = absurd (cc)
 
--- what the base says where the draft is in order
+-- the base's verdict on a draft that is in order
 abbrev known_serial : LinkFile → List Filed → ℕ → Option PostFault
 known_serial file base serial = if list_any (has_id (id_of file.system serial)) base then Some fault.KnownSerial else None
 

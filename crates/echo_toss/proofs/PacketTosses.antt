@@ -95,7 +95,7 @@ next_stopped limits given at left after (fault.Write n) wrong lost = (wrong, los
 next_stopped limits given at left after (fault.TooManyMessages p) wrong lost = (wrong, lost)
 next_stopped limits given at left after (fault.BadField n) wrong lost = (wrong, lost)
 
--- messages were tossed, and then the reader gave none
+-- messages were tossed, then the reader ended
 pub some_taken : (limits : Limits) (sender : Address) (old new : SystemState) (before left after : Option (List ℕ)) (ms : List Message) (given at : ℕ) (tally : Tally) (f : PacketFault)
     → HasTaken limits sender old before left ms given at tally new → IfSome left (λ bs. NextFault limits given at bs f)
     → FailsInMessage limits given at [] left after f → TakesSome limits sender old before after tally (cause_of f) new

@@ -29,7 +29,7 @@ use Rattle.echo_toss.specs.declared.step_error.StoppedToss.{StoppedToss}
 use Rattle.echo_toss.specs.PacketsIn.{HoldsUnlessFailed, ReadsMessages, TossesPacketIn, packet_answer, state_in, stop_in}
 use Rattle.echo_toss.proofs.PacketTosses.{HasGone, all_given, some_taken}
 
--- messages were tossed into the store, which went on, and no read failed
+-- the store took the tossed messages and goes on, and no read failed
 pub record HasGoneIn (limits : Limits) (sender : Address) (file : LinkFile) (old mid : StoreState) (first now : ℕ) (before left : Option (List ℕ)) (given at : ℕ) (tally : Tally) (failed still : ℕ) : Type 0 where
   pub each : Honestly mid.disk ((base : Base) → old.keeps base
       → (next : Base) × HasGone limits sender (state_in file base) before left given at tally (state_in file next) failed still × mid.keeps next)
@@ -55,7 +55,7 @@ none_gone limits sender s before failed = record {
   device = refl;
 }
 
--- before the first message nothing has gone
+-- before the first message
 pub begun : (limits : Limits) (sender : Address) (file : LinkFile) (old : StoreState) (first : ℕ) (before : Option (List ℕ)) (tally : Tally) (failed : ℕ) → old.is_ready → tally ≡ tally_of []
     → HasGoneIn limits sender file old old first first before before 0 58 tally failed failed
 begun limits sender file old first before tally failed ready none =
@@ -72,7 +72,7 @@ begun limits sender file old first before tally failed ready none =
       later = omega arith;
     }
 
--- so many messages were counted
+-- the count is the number of messages
 counted_same : (limits : Limits) (sender : Address) (s t : SystemState) (before left : Option (List ℕ)) (given at : ℕ) (tried tally : Tally) (failed still : ℕ) → HasGone limits sender s before left given at tried t failed still
     → all_counted tally ≡ given → all_counted tried ≡ all_counted tally
 counted_same limits sender s t before left given at tried tally failed still gone counted =
@@ -90,7 +90,7 @@ read_faulty limits sender file base before left after given at tally f failed st
   count = counted_same limits sender (state_in file base) (state_in file next) before left given at tried tally failed still gone counted;
 }
 
--- where the store failed the messages before were read
+-- if the store failed, the reader had read the earlier messages
 pub read_so_far : {A : Type 0} (limits : Limits) (sender : Address) (file : LinkFile) (base : Base) (before left after : Option (List ℕ)) (given at : ℕ) (tally : Tally) (failed still : ℕ)
     → (tried : Tally) × (next : Base) × HasGone limits sender (state_in file base) before left given at tried (state_in file next) failed still → all_counted tally ≡ given
     → ReadsMessages {A = A} limits sender file base before after (all_counted tally) (Err stop.Memory)
@@ -167,7 +167,7 @@ held old new (Ok done) base undoes is = is
 held old new (Err (toss.Packet why)) base undoes is = is
 held old new (Err (toss.Store error)) base undoes is = is undoes
 
--- at a store that takes back what failed, and holds this base alone, it is the toss at a system
+-- a store that undoes failures and holds only this base acts like a system
 pub tossed_at : (limits : Limits) (file : LinkFile) (base after : Base) (before rest : Option (List ℕ)) (old new : StoreState) (result : Result Tally StoppedToss)
     → old.undoes → ((b : Base) → new.keeps b → b ≡ after) → TossesPacketIn limits file base before rest old result new
     → PacketStep limits (state_in file base) before rest (packet_answer result) (state_in file after)

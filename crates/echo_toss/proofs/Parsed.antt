@@ -12,14 +12,14 @@ use Rattle.echo_packet.specs.Reader.{FrontFault}
 use Rattle.echo_packet.proofs.Headers.{header_of-header_bytes, length-header_bytes, number_at-header_bytes}
 use Rattle.echo_packet.proofs.Verdicts.{End, Whole, verdict, verdict-end, verdict-whole}
 
--- one header stands at the front of bytes
+-- bytes begin with at most one header
 pub one_header : (h k : Header) (r s : List ℕ) → IsHeader h → IsHeader k → header_bytes h ++ r ≡ header_bytes k ++ s → (k ≡ h) × (r ≡ s)
 one_header h k r s is are same = (
   sym (header_of-header_bytes k s are) ∙ ap header_of (sym same) ∙ header_of-header_bytes h r is,
   sym (drop_at (header_bytes h) r 58 (length-header_bytes h is)) ∙ ap (drop 58) same ∙ drop_at (header_bytes k) s 58 (length-header_bytes k are),
 )
 
--- bytes that begin with a header can be read, where the device does not fail
+-- bytes that begin with a header open, unless the device fails
 pub opens : (h : Header) (rest : List ℕ) (f : PacketFault) → IsHeader h → ((at : ℕ) → f ≢ fault.Read at) → FrontFault (header_bytes h ++ rest) f → ⊥
 opens h rest (fault.Truncated at) is alive wrong =
     let short = wrong.1 in omega (arith, length-append (header_bytes h) rest, length-header_bytes h is)
@@ -34,7 +34,7 @@ opens h rest (fault.Write n) is alive wrong = wrong
 opens h rest (fault.TooManyMessages at) is alive wrong = wrong
 opens h rest (fault.BadField n) is alive wrong = wrong
 
--- one message stands at the front of bytes
+-- bytes begin with at most one message
 one_message : (limits : Limits) (given : ℕ) (m n : Message) (r s : List ℕ) → IsMessage limits.text m → IsMessage limits.text n → given < limits.messages
     → message_bytes m ++ r ≡ message_bytes n ++ s → (n ≡ m) × (r ≡ s)
 one_message limits given m n r s is are room same =

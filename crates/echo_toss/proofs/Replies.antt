@@ -1,4 +1,4 @@
--- What a reader of ids answers, and the test of ids.
+-- The answers of a reader of ids, and the test of ids.
 use Rattle.std.proofs.Common.{◌≡◌, ℕ, List, sym, Result, Ok, Err}
 use Rattle.std.specs.Result.{MatchResult, is_ok}
 use Rattle.std.proofs.lemmas.Bool.{false_from_ne_true}

@@ -1,4 +1,4 @@
--- What is sent again, message by message.
+-- The messages to send again, one by one.
 use Rattle.std.proofs.Common.{◌≡◌, ℕ, zero, suc, ◌+◌, ◌<◌, List, [], ◌∷◌, ◌++◌, length, get_or, take, drop, map, refl, sym, ap, ◌∙◌, append_assoc, arith, add-one}
 use Rattle.std.specs.Prelude.{Bool, true, cond, filter, min, ◌&&◌}
 use Rattle.std.proofs.lemmas.List.{map-append}
@@ -44,7 +44,7 @@ next_resent file area to messages cursor i end old new all bound within (m, here
     (one_more (is_resent file area to) (copy_to file to) m rest ∙ ap (λ (l : List Filed). copies_of file area to l) (sym front))
     ∙ so_far)))
 
--- another one: it is sent again where it goes to the address
+-- one more message, sent again if it goes to the address
 pub whole : (file : LinkFile) (area : List ℕ) (to : Address) (m : Filed) (one : Outgoing) (old new : List Message) → is_whole_in area m ≡ true
     → one ≡ outgoing_of file m → new ≡ old ++ map (copy_out to) (filter (goes_out to) (one ∷ []))
     → new ≡ old ++ copies_of file area to (m ∷ [])

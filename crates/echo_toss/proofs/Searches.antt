@@ -52,7 +52,7 @@ other x y e =
     false_from_ne_true (same_address x y)
     (λ same. true≢false (sym ((same_address_decides y x).1 (sym ((same_address_decides x y).0 same))) ∙ ties y x ∙ e))
 
--- what a search in a set finds
+-- the result of a search in a set
 pub searched : (all : List Address) (x : Address) (r : Result ℕ ℕ) → address_set all ≡ all → IsSearchInRange r (length all) → IsBinarySearchResult (λ y. address_cmp y x) all r
     → is_ok r ≡ list_any (same_address x) all
 searched all x (Ok at) same within found = sym (one_passes (same_address x) all at x within (equal_same x (get_or all at x) (found x)))
@@ -77,7 +77,7 @@ in_found x (y ∷ ys) h = elim h [
   | inr later ↦ or_right (same_address x y) (list_any (same_address x) ys) (in_found x ys later)
 ]
 
--- an address is among those of a list just where it is in their set
+-- an address is in a list exactly if it is in its set
 pub among_set : (x : Address) (all : List Address) → list_any (same_address x) (address_set all) ≡ list_any (same_address x) all
 unfolding address_set
 among_set x all = elim (cases_Bool (list_any (same_address x) all)) [

@@ -21,7 +21,7 @@ use Rattle.echo_toss.specs.declared.fault.TossCause.TheVariants as stop
 use Rattle.echo_toss.specs.PacketSteps.{BeginsWith, HasTossed, TossesPart, TossesSome}
 use Rattle.echo_toss.specs.Messages.{HasTaken, IsOpened, TakesSome}
 
--- known bytes begin with the header and the messages that were lost
+-- known bytes begin with the header and the messages that left the reader
 pub begins_with : (limits : Limits) (header : Header) (ms : List Message) (before left : Option (List ℕ)) → IsHeader header → AreMessages limits ms
     → Consumes before left (header_bytes header ++ messages_bytes ms) → IfSome before (BeginsWith limits header ms)
 begins_with limits header ms None left is are lost = tt
@@ -52,7 +52,7 @@ behind limits header sender old new (Some bs) mid (Some rest) after ms given at 
     let bytes = all ∙ append_assoc (header_bytes header) (messages_bytes ms) rest in
     of_bytes bs limits ms f not_call (run-fails limits bs header ms rest given at f (so_far limits header ms bs rest sender old new mid (Some rest) given at tally is h bytes) wrong)
 
--- the bytes that were lost where the device failed
+-- the bytes that left the reader before the device failed
 cut : (limits : Limits) (header : Header) (sender : Address) (old new : SystemState) (before mid left after : Option (List ℕ)) (ms : List Message) (given at place : ℕ) (tally : Tally)
     → IsHeader header → Consumes before mid (header_bytes header) → HasTaken limits sender old mid left ms given at tally new
     → FailsInMessage limits given at [] left after (fault.Read place) → Came before after (λ came. FaultOf came limits ms (fault.Truncated place))

@@ -1,4 +1,4 @@
--- What becomes of a received message.
+-- The outcome of a received message.
 use Rattle.std.proofs.Common.{◌≡◌, ℕ, Bool, true, false, List, refl, sym, ap, subst, ◌∙◌, Option, Some, None, not, if◌then◌else◌, Result, Ok, Err, IfOk, ◌⊎◌, inl, inr}
 use Rattle.echo_addr.specs.declared.address.Address.{Address}
 use Rattle.echo_addr.specs.declared.address.NetNode.{NetNode}
@@ -86,7 +86,7 @@ wanted_area file sender packed own kept h =
     let both = accepted (has_area file own) (is_link file own sender) h.allowed in
     (subst A tag both.0, subst L tag both.1)
 
--- a message whose key is known
+-- a message with a known key
 pub known_left : (file : LinkFile) (base : List Filed) (sender : Address) (packed : Message) (tag : List ℕ) (kept : List (List ℕ)) (key : Key) → IsWanted file sender packed tag kept → key ≡ key_of (received sender packed)
     → is_known base key ≡ true → (outcome.Known ≡ toss_outcome file base sender packed) × (None ≡ tossing file base sender packed)
 unfolding tossing
@@ -121,7 +121,7 @@ refused_text packed bytes f is other h =
     let P : List ℕ → Type 0 = λ t. text_refusal t ≡ Some f in
     subst P is (elim h [ inl refused ↦ refused | inr memory ↦ absurd (other memory.1) ])
 
--- the key of what is received
+-- the key of a received message
 pub key_received : {E : Type 0} (r : Result Key E) (packed : Message) (date to_name from_name subject tag : List ℕ) (kept : List (List ℕ))
     → date ≡ packed.date → to_name ≡ packed.to_name → from_name ≡ packed.from_name → subject ≡ packed.subject → FrontOf packed.text tag kept
     → IfOk r (λ key. (s : Option Address) (seen path : List NetNode)
@@ -133,7 +133,7 @@ key_received (Ok key) packed date to_name from_name subject tag kept d t f j fro
     h (Some s) (echo_of packed.text).seen (echo_of packed.text).path ∙ (λ i. key_of (record { sender = Some s; date = d i; to_name = t i; from_name = f i; subject = j i; echo = k i }))
 key_received (Err e) packed date to_name from_name subject tag kept d t f j front h = tt
 
--- what is received, part by part
+-- a received message, part by part
 pub made_received : (sender : Address) (packed : Message) (date to_name from_name subject : List ℕ) (e : EchoText)
     → date ≡ packed.date → to_name ≡ packed.to_name → from_name ≡ packed.from_name → subject ≡ packed.subject → ((n : ℕ) × EchoOf packed.text e n)
     → record { sender = Some sender; date = date; to_name = to_name; from_name = from_name; subject = subject; echo = e } ≡ received sender packed

@@ -1,4 +1,4 @@
--- What the toss of a packet's bytes answers.
+-- The answer of tossing the bytes of a packet.
 use Rattle.std.proofs.Common.{◌≡◌, ◌≢◌, ℕ, ◌+◌, ◌≤◌, ◌⊎◌, inl, inr, List, [], ◌++◌, length, refl, sym, ap, ◌∙◌, subst, arith, append_assoc, length-append, Option, Some, None, Result, Ok, Err}
 use Rattle.std.proofs.Math.Seq.{take-append_seam}
 use Rattle.disk_io.proofs.Devices.{Failed-never}
@@ -23,13 +23,13 @@ use Rattle.echo_toss.specs.Tallies.{tally_of}
 use Rattle.echo_toss.specs.PacketSteps.{CountsCause, CountsToss, TossesUpToFault, FailsInHeader, HasTossed, IsForUs, PacketStep, StopsBehind, TossesAll, TossesPart, TossesSome, WholeStep}
 use Rattle.echo_toss.proofs.Parsed.{first_messages, one_header, one_list, opens}
 
--- a packet and what follows it, part by part
+-- a packet and the bytes after it, part by part
 parts : (h : Header) (ms : List Message) (bytes rest : List ℕ) → bytes ≡ packet_bytes h ms → bytes ++ rest ≡ header_bytes h ++ (messages_bytes ms ++ (word 0 ++ rest))
 parts h ms bytes rest is =
     ap (λ t. t ++ rest) is ∙ append_assoc (header_bytes h) (messages_bytes ms ++ word 0) rest
     ∙ ap (λ t. header_bytes h ++ t) (append_assoc (messages_bytes ms) (word 0) rest)
 
--- the bytes that were lost are the same packet
+-- the bytes that left the reader are the same packet
 record IsSame (header : Header) (ms : List Message) (rest : List ℕ) (other : Header) (all : List Message) (after : Option (List ℕ)) : Type 0 where
   pub same_header : other ≡ header
   pub same_messages : all ≡ ms
@@ -70,7 +70,7 @@ where_failed limits old new before after tally (fault.Write n) h = h
 where_failed limits old new before after tally (fault.TooManyMessages at) h = h
 where_failed limits old new before after tally (fault.BadField n) h = h
 
--- the fault is of the bytes
+-- the bytes have this fault
 of_these : (limits : Limits) (ms : List Message) (bs : List ℕ) (after : Option (List ℕ)) (f : PacketFault) → ((at : ℕ) → f ≢ fault.Read at)
     → StopsBehind limits ms (Some bs) after f → FaultOf bs limits ms f
 of_these limits ms bs after (fault.Read at) alive h = absurd (alive at refl)

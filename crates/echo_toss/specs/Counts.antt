@@ -13,28 +13,28 @@ use Rattle.model_steps.specs.Scanning.{header_to}
 use Rattle.echo_toss.specs.Exports.{Outgoing, copy_out, goes_out, sent_of}
 use Rattle.echo_toss.specs.declared.counting.CountedPacket.{CountedPacket}
 
--- outgoing messages in order, and the number of the first message after them
+-- Outgoing messages in order, and the number of the first message after them.
 pub record Group : Type 0 where
   pub sent : List Outgoing
   pub next : ℕ
 
--- the group has what goes out of the messages from a number on, as far as it reaches
+-- The group has the outgoing forms of the messages from a number on, up to its end.
 abbrev pub IsGroupFrom : LinkFile → List Filed → ℕ → Group → Type 0
 IsGroupFrom file messages from group = group.sent ++ sent_of file (drop group.next messages) ≡ sent_of file (drop from messages)
 
--- the copies for an address
+-- The copies for an address.
 abbrev pub copies_out : Address → List Outgoing → List Message
 copies_out address sent = map (copy_out address) (filter (goes_out address) sent)
 
--- the bytes of the packet for an address, of the messages from a number on
+-- The bytes of the packet for an address, with the messages from a number on.
 abbrev pub bytes_for : LinkFile → Stamp → ℕ → List Filed → Address → List ℕ
 bytes_for file stamp from messages to = packet_bytes (header_to file stamp to) (copies_out to (sent_of file (drop from messages)))
 
--- the addresses of all links
+-- The addresses of all links.
 abbrev pub link_set : LinkFile → List Address
 link_set file = address_set (flat_map (λ area. links_of file area.tag) file.areas)
 
--- a packet's address, and how large it is
+-- The address of a packet, and its size.
 abbrev pub counted_of : Packet → CountedPacket
 counted_of p = record {
   to = record { zone = p.header.dest_zone; net = p.header.dest_net; node = p.header.dest_node };
@@ -42,11 +42,11 @@ counted_of p = record {
   bytes = length (packet_bytes p.header p.messages);
 }
 
--- the packet of outgoing messages to an address, counted
+-- The packet of outgoing messages to an address, counted.
 abbrev pub counted_to : List Outgoing → Address → CountedPacket
 counted_to sent address = record { to = address; messages = length (copies_out address sent); bytes = 60 + length (messages_bytes (copies_out address sent)) }
 
--- and more of them
+-- The same packet with more messages, counted.
 abbrev pub counted_with : List Outgoing → CountedPacket → CountedPacket
 counted_with sent packet = record {
   to = packet.to;
@@ -54,10 +54,10 @@ counted_with sent packet = record {
   bytes = packet.bytes + length (messages_bytes (copies_out packet.to sent));
 }
 
--- whether it has some
+-- The packet has messages.
 abbrev pub has_messages : CountedPacket → Bool
 has_messages packet = nat_lt 0 packet.messages
 
--- of the packets without messages those that get some of these, with them
+-- Of the packets without messages, those that get some of these, with them.
 abbrev pub begun_with : List Outgoing → List CountedPacket → List CountedPacket
 begun_with sent packets = filter has_messages (map (counted_with sent) (filter (λ packet. not (has_messages packet)) packets))

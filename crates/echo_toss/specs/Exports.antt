@@ -1,4 +1,4 @@
--- The copies that a scan makes of waiting messages, and those that are made again.
+-- The copies that a scan makes of waiting messages, and those made again.
 use Rattle.std.specs.Prelude.{◌≡◌, ℕ, Bool, true, false, List, [], ◌∷◌, ◌++◌, map, filter, slice_get, Some, Result, Ok, Err, Vec}
 use Rattle.std.specs.declared.alloc.Global.{Global}
 use Rattle.model_steps.specs.declared.fault.ScanFault.{ScanFault}
@@ -13,61 +13,61 @@ use Rattle.model_steps.specs.declared.stamp.Stamp.{Stamp}
 use Rattle.model_steps.specs.Resending.{is_resent}
 use Rattle.model_steps.specs.Scanning.{copy_to, header_to, targets}
 
--- no address
+-- The address of a message that has no receiver yet.
 abbrev pub nowhere : Address
 nowhere = record { zone = 0; net = 0; node = 0 }
 
--- an outgoing message before it is addressed, and its receivers as a set
+-- An outgoing message without an address, and its receivers as a set.
 pub record Outgoing : Type 0 where
   pub message : Message
   pub targets : List Address
 
--- the outgoing form of a message
+-- The outgoing form of a message.
 abbrev pub outgoing_of : LinkFile → Filed → Outgoing
 outgoing_of file m = record { message = copy_to file nowhere m; targets = address_set (targets file m) }
 
--- whether there is one
+-- The list is not empty.
 abbrev pub has_some : List Address → Bool
 has_some [] = false
 has_some (address ∷ more) = true
 
--- whether an outgoing message has receivers
+-- An outgoing message has receivers.
 abbrev pub is_sent : Outgoing → Bool
 is_sent o = has_some o.targets
 
--- of these messages the outgoing forms that have receivers
+-- Of these messages, the outgoing forms that have receivers.
 abbrev pub sent_of : LinkFile → List Filed → List Outgoing
 sent_of file messages = filter is_sent (map (outgoing_of file) messages)
 
--- the list grew by the outgoing form of the message of this number, if that has receivers
+-- The list grew by the outgoing form of the message of this number, if that has receivers.
 abbrev pub GrowsByMessageAt : LinkFile → List Filed → ℕ → List Outgoing → List Outgoing → Type 0
 GrowsByMessageAt file messages place old new = (m : Filed) × (slice_get messages place ≡ Some m) × (new ≡ old ++ sent_of file (m ∷ []))
 
--- the copies are those so far, and that of the message of this number, if it is sent again
+-- The list grew by the copy of the message of this number, if it is sent again.
 abbrev pub IsResentAt : LinkFile → List ℕ → Address → List Filed → ℕ → List Message → List Message → Type 0
 IsResentAt file area to messages place old new =
     (m : Filed) × (slice_get messages place ≡ Some m) × (new ≡ old ++ map (copy_to file to) (filter (is_resent file area to) (m ∷ [])))
 
--- the copy for an address
+-- The copy for an address.
 abbrev pub copy_out : Address → Outgoing → Message
 copy_out address o = readdressed o.message address.node address.net
 
--- whether an address receives it
+-- The address receives the message.
 abbrev pub goes_out : Address → Outgoing → Bool
 goes_out address o = list_any (same_address address) o.targets
 
--- the packet of outgoing messages to an address
+-- The packet of outgoing messages to an address.
 abbrev pub packet_out : LinkFile → Stamp → List Outgoing → Address → Packet
 packet_out file stamp all address = record {
   header = header_to file stamp address;
   messages = map (copy_out address) (filter (goes_out address) all);
 }
 
--- one packet for each address that gets some of it
+-- One packet for each address that receives some messages.
 abbrev pub packets_out : LinkFile → Stamp → List Outgoing → List Packet
 packets_out file stamp all = map (packet_out file stamp all) (address_set (flat_map (λ o. o.targets) all))
 
--- a scan's answer, with its packets as a list
+-- The answer of a scan, with its packets as a list.
 abbrev pub listed : Result (Vec Packet Global) ScanFault → Result (List Packet) ScanFault
 listed (Ok packets) = Ok packets.items
 listed (Err fault) = Err fault

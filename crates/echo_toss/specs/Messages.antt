@@ -1,4 +1,4 @@
--- The calls that a toss of a packet makes: for its header, and its messages.
+-- The calls within the toss of a packet, for its header and its messages.
 use Rattle.std.specs.Prelude.{◌≡◌, ◌≢◌, ℕ, ◌+◌, List, [], length, Option, IfSome, Result, Ok, Err}
 use Rattle.std.specs.Io.KnownBytes.{Consumes}
 use Rattle.echo_addr.specs.declared.address.Address.{Address}
@@ -19,7 +19,7 @@ use Rattle.echo_toss.specs.declared.fault.TossCause.{TossCause}
 use Rattle.echo_toss.specs.declared.fault.TossCause.TheVariants as stop
 use Rattle.echo_toss.specs.PacketSteps.{CountsCause, HasTossed}
 
--- the reader lost a header, of a packet for this system from the sender
+-- The reader consumed a header of a packet for this system from the sender.
 pub record IsOpened (file : LinkFile) (before after : Option (List ℕ)) (sender : Address) : Type 0 where
   pub header : Header
   pub is_header : IsHeader header
@@ -27,7 +27,7 @@ pub record IsOpened (file : LinkFile) (before after : Option (List ℕ)) (sender
   pub for_us : destination_of file header ≡ file.system
   pub origin : sender ≡ sender_of file header
 
--- the reader lost a header, of a packet that is for another system
+-- The reader consumed a header of a packet for another system.
 pub record IsRefused (file : LinkFile) (before after : Option (List ℕ)) (destination : Address) : Type 0 where
   pub header : Header
   pub is_header : IsHeader header
@@ -35,19 +35,19 @@ pub record IsRefused (file : LinkFile) (before after : Option (List ℕ)) (desti
   pub is : destination ≡ destination_of file header
   pub other : destination ≢ file.system
 
--- no header was read
+-- The reader could not read a header.
 pub record IsHeaderless (before after : Option (List ℕ)) (f : PacketFault) : Type 0 where
   pub fault : IfSome before (λ bs. FrontFault bs f)
   pub inside : FailsInFront before after f
 
--- why no message is looked at
+-- Why the toss looked at no message.
 abbrev pub IsUnopened : LinkFile → Option (List ℕ) → Option (List ℕ) → TossCause → Type 0
 IsUnopened file before after (stop.NotForUs a) = IsRefused file before after a
 IsUnopened file before after stop.Memory = ⊥
 IsUnopened file before after (stop.Packet fault.Memory) = ⊥
 IsUnopened file before after (stop.Packet f) = IsHeaderless before after f
 
--- the reader lost messages, and they were tossed
+-- The reader consumed messages, and the system tossed them.
 pub record HasTaken (limits : Limits) (sender : Address) (old : SystemState) (before after : Option (List ℕ)) (ms : List Message) (given at : ℕ) (tally : Tally) (new : SystemState) : Type 0 where
   pub are_messages : AreMessages limits ms
   pub bytes : Consumes before after (messages_bytes ms)
@@ -55,7 +55,7 @@ pub record HasTaken (limits : Limits) (sender : Address) (old : SystemState) (be
   pub place : at ≡ place_of (58 + length (messages_bytes ms))
   pub done : HasTossed sender ms old tally new
 
--- the reader lost messages and the terminator, and they were tossed
+-- The reader consumed messages and the terminator, and the system tossed the messages.
 pub record TossesToEnd (limits : Limits) (sender : Address) (old : SystemState) (before after : Option (List ℕ)) (tally : Tally) (new : SystemState) : Type 0 where
   pub messages : List Message
   pub left : Option (List ℕ)
@@ -64,7 +64,7 @@ pub record TossesToEnd (limits : Limits) (sender : Address) (old : SystemState) 
   pub taken : HasTaken limits sender old before left messages given at tally new
   pub ends : Consumes left after (word 0)
 
--- why the next message was not tossed
+-- Why the system did not toss the next message.
 abbrev pub StopsNext : Limits → ℕ → ℕ → Option (List ℕ) → Option (List ℕ) → TossCause → Type 0
 StopsNext limits given at left after (stop.NotForUs a) = ⊥
 StopsNext limits given at left after stop.Memory = Unit {0}
@@ -72,7 +72,7 @@ StopsNext limits given at left after (stop.Packet fault.Memory) = ⊥
 StopsNext limits given at left after (stop.Packet f) =
     IfSome left (λ bs. NextFault limits given at bs f) × FailsInMessage limits given at [] left after f
 
--- the reader lost messages, they were tossed, and the next was not
+-- The reader consumed messages, and the system tossed them, but not the next one.
 pub record TakesSome (limits : Limits) (sender : Address) (old : SystemState) (before after : Option (List ℕ)) (tally : Tally) (cause : TossCause) (new : SystemState) : Type 0 where
   pub messages : List Message
   pub left : Option (List ℕ)
@@ -81,12 +81,12 @@ pub record TakesSome (limits : Limits) (sender : Address) (old : SystemState) (b
   pub taken : HasTaken limits sender old before left messages given at tally new
   pub stops : StopsNext limits given at left after cause
 
--- the toss of the messages at the front of a reader's bytes
+-- The toss of the messages at the front of a reader's bytes.
 abbrev pub TossesMessages : {A : Type 0} → Limits → Address → SystemState → Option (List ℕ) → Option (List ℕ) → Tally → Result A TossCause → SystemState → Type 0
 TossesMessages limits sender old before after tally (Ok done) new = TossesToEnd limits sender old before after tally new
 TossesMessages limits sender old before after tally (Err cause) new = TakesSome limits sender old before after tally cause new
 
--- the count of failures rose where the reader failed, and only there
+-- The count of failures rose if the reader failed, and only then.
 abbrev pub CountsStop : {A : Type 0} → Result A TossCause → ℕ → ℕ → Type 0
 CountsStop (Ok done) before after = after ≡ before
 CountsStop (Err cause) before after = CountsCause cause before after

@@ -1,4 +1,4 @@
--- Tossing a whole packet: its header, then one message after the other.
+-- Tossing a whole packet: its header, then its messages in order.
 use Rattle.std.specs.Prelude.{◌≡◌, ◌≢◌, ℕ, ◌≤◌, ◌⊎◌, List, [], ◌++◌, length, take, Option, IfSome, Result, Ok, Err}
 use Rattle.echo_addr.specs.declared.address.Address.{Address}
 use Rattle.disk_io.specs.Device.{Failed}
@@ -20,33 +20,33 @@ use Rattle.echo_toss.specs.declared.fault.TossCause.TheVariants as stop
 use Rattle.echo_toss.specs.declared.fault.TossFault.{TossFault}
 use Rattle.echo_toss.specs.Tallies.{tally_of}
 
--- the cause that stops a toss at a fault of the packet's reader
+-- The cause that stops a toss at a fault of the packet's reader.
 abbrev pub cause_of : PacketFault → TossCause
 cause_of fault.Memory = stop.Memory
 cause_of other = stop.Packet other
 
--- These messages of one sender were tossed, in order: the filed ones were appended to the base, the link file and the
--- cursor stay, and the tally counts each outcome.
+-- The system tossed these messages of one sender in order. It appended the filed ones to the base and counted each
+-- outcome in the tally.
 pub record HasTossed (sender : Address) (ms : List Message) (old : SystemState) (tally : Tally) (new : SystemState) : Type 0 where
   pub state : new ≡ record { file = old.file; base = tossed old.file old.base sender ms; cursor = old.cursor }
   pub counts : tally ≡ tally_of (outcomes old.file old.base sender ms)
 
--- nothing was tossed
+-- The system tossed no message.
 abbrev pub HasTossedNone : SystemState → Tally → SystemState → Type 0
 HasTossedNone old tally new = (new ≡ old) × (tally ≡ tally_of [])
 
--- the packet is for this system
+-- The packet is for this system.
 abbrev pub IsForUs : SystemState → Header → Type 0
 IsForUs s header = destination_of s.file header ≡ s.file.system
 
--- the bytes begin with the header and these messages, within the limits
+-- The bytes begin with the header and these messages, within the limits.
 pub record BeginsWith (limits : Limits) (header : Header) (ms : List Message) (bs : List ℕ) : Type 0 where
   pub is_header : IsHeader header
   pub are_messages : AreMessages limits ms
   pub rest : List ℕ
   pub bytes : bs ≡ header_bytes header ++ (messages_bytes ms ++ rest)
 
--- the bytes that the reader lost are a packet for this system, within the limits, and its messages were tossed
+-- The reader consumed a packet for this system, within the limits, and the system tossed its messages.
 pub record TossesAll (limits : Limits) (old : SystemState) (before after : Option (List ℕ)) (tally : Tally) (new : SystemState) : Type 0 where
   pub header : Header
   pub messages : List Message
@@ -54,7 +54,7 @@ pub record TossesAll (limits : Limits) (old : SystemState) (before after : Optio
   pub for_us : IsForUs old header
   pub done : HasTossed (sender_of old.file header) messages old tally new
 
--- the bytes of the reader begin with the header of a packet for this system and with messages within the limits, and these were tossed
+-- The bytes begin with the header of a packet for this system and messages within the limits. The system tossed these.
 pub record TossesSome (limits : Limits) (old : SystemState) (before : Option (List ℕ)) (tally : Tally) (new : SystemState) : Type 0 where
   pub header : Header
   pub messages : List Message
@@ -62,7 +62,7 @@ pub record TossesSome (limits : Limits) (old : SystemState) (before : Option (Li
   pub for_us : IsForUs old header
   pub done : HasTossed (sender_of old.file header) messages old tally new
 
--- the bytes that the reader lost are a header with another system as destination, and nothing was tossed
+-- The reader consumed a header with another destination, and the system tossed no message.
 pub record IsForOther (old : SystemState) (before after : Option (List ℕ)) (tally : Tally) (destination : Address) (new : SystemState) : Type 0 where
   pub header : Header
   pub bytes : Came before after (λ came. IsHeader header × (came ≡ header_bytes header))
@@ -70,24 +70,23 @@ pub record IsForOther (old : SystemState) (before after : Option (List ℕ)) (ta
   pub other : destination ≢ old.file.system
   pub nothing : HasTossedNone old tally new
 
--- no header was read, and nothing was tossed
+-- The reader could not read a header, and the system tossed no message.
 pub record FailsInHeader (old : SystemState) (before after : Option (List ℕ)) (tally : Tally) (f : PacketFault) (new : SystemState) : Type 0 where
   pub fault : IfSome before (λ bs. FrontFault bs f)
   pub inside : FailsInFront before after f
   pub nothing : HasTossedNone old tally new
 
--- The bytes have the fault after these messages. If the device failed, the bytes that the reader lost end inside the
--- field at the place.
+-- The bytes have the fault after these messages. If the device failed, the consumed bytes end inside the field at the place.
 abbrev pub StopsBehind : Limits → List Message → Option (List ℕ) → Option (List ℕ) → PacketFault → Type 0
 StopsBehind limits ms before after (fault.Read at) = Came before after (λ came. FaultOf came limits ms (fault.Truncated at))
 StopsBehind limits ms before after f = IfSome before (λ bs. FaultOf bs limits ms f)
 
--- a fault after the header, and the messages before it were tossed
+-- A fault after the header. The system tossed the messages before it.
 pub record TossesUpToFault (limits : Limits) (old : SystemState) (before after : Option (List ℕ)) (tally : Tally) (f : PacketFault) (new : SystemState) : Type 0 where
   pub some : TossesSome limits old before tally new
   pub fault : StopsBehind limits some.messages before after f
 
--- Why a packet was not tossed whole: it is for another system, or memory ran out or a fault came after some messages.
+-- Why the toss ended early: the packet is for another system, memory ran out, or a fault came after some messages.
 abbrev pub TossesPart : Limits → SystemState → Option (List ℕ) → Option (List ℕ) → Tally → TossCause → SystemState → Type 0
 TossesPart limits old before after tally (stop.NotForUs a) new = IsForOther old before after tally a new
 TossesPart limits old before after tally stop.Memory new = TossesSome limits old before tally new
@@ -95,22 +94,22 @@ TossesPart limits old before after tally (stop.Packet fault.Memory) new = ⊥
 TossesPart limits old before after tally (stop.Packet f) new =
     FailsInHeader old before after tally f new ⊎ TossesUpToFault limits old before after tally f new
 
--- the toss of the packet at the front of a reader's bytes
+-- The toss of the packet at the front of a reader's bytes.
 abbrev pub PacketStep : Limits → SystemState → Option (List ℕ) → Option (List ℕ) → Result Tally TossFault → SystemState → Type 0
 PacketStep limits old before after (Ok tally) new = TossesAll limits old before after tally new
 PacketStep limits old before after (Err f) new = TossesPart limits old before after f.tally f.cause new
 
--- the count of failures rose where the reader failed, and only there
+-- The count of failures rose if the reader failed, and only then.
 abbrev pub CountsCause : TossCause → ℕ → ℕ → Type 0
 CountsCause (stop.Packet (fault.Read at)) before after = Failed before after
 CountsCause other before after = after ≡ before
 
--- the same for the answer of a toss of a packet
+-- The same for the answer of tossing a packet.
 abbrev pub CountsToss : Result Tally TossFault → ℕ → ℕ → Type 0
 CountsToss (Ok tally) before after = after ≡ before
 CountsToss (Err f) before after = CountsCause f.cause before after
 
--- the toss of these messages if the reader does not fail: all were tossed, or memory was refused after the first n
+-- The toss of these messages if the reader does not fail: it tossed all, or memory ran out after the first n.
 abbrev pub WholeStep : SystemState → Address → List Message → Result Tally TossFault → SystemState → Type 0
 WholeStep old sender ms (Ok tally) new = HasTossed sender ms old tally new
 WholeStep old sender ms (Err f) new =

@@ -18,78 +18,78 @@ use Rattle.echo_toss.specs.Tallies.{all_counted}
 use Rattle.echo_toss.specs.PacketSteps.{PacketStep}
 use Rattle.echo_toss.specs.Messages.{TossesMessages}
 
--- a system with this link file, and this base in its store
+-- A system with this link file, and this base in its store.
 abbrev pub state_in : LinkFile → Base → SystemState
 state_in file base = record { file = file; base = base.messages; cursor = base.cursor }
 
--- the cause that stopped a toss, as the steps of a system state it: a failed store counts as out of memory
+-- The cause that stopped a toss, in terms of the steps of a system. A failed store counts as out of memory.
 abbrev pub cause_in : TossStepError → TossCause
 cause_in (toss.Packet why) = why
 cause_in (toss.Store error) = cause.Memory
 
--- the same for the answer of a toss of messages
+-- The same for the answer of tossing messages.
 abbrev pub messages_answer : {A : Type 0} → Result A TossStepError → Result A TossCause
 messages_answer (Ok done) = Ok done
 messages_answer (Err stop) = Err (cause_in stop)
 
--- the same for the answer of a toss of a packet
+-- The same for the answer of tossing a packet.
 abbrev pub packet_answer : Result Tally StoppedToss → Result Tally TossFault
 packet_answer (Ok tally) = Ok tally
 packet_answer (Err stopped) = Err (record { tally = stopped.tally; cause = cause_in stopped.stop })
 
--- the fault that stopped it, without its tally
+-- The fault that stopped the toss, without its tally.
 abbrev pub stop_in : Result Tally StoppedToss → Result (Unit {0}) TossStepError
 stop_in (Ok tally) = Ok tt
 stop_in (Err stopped) = Err stopped.stop
 
--- the answer of the store
+-- The answer of the store.
 abbrev pub toss_answer : {A : Type 0} → Result A TossStepError → Result (Unit {0}) StoreError
 toss_answer (Ok done) = Ok tt
 toss_answer (Err (toss.Packet why)) = Ok tt
 toss_answer (Err (toss.Store error)) = Err error
 
--- the store holds this base; after a failure it does so if it undoes failed changes
+-- The store holds this base. After a failure it does so only if it undoes failed changes.
 abbrev pub HoldsUnlessFailed : {A : Type 0} → StoreState → Result A TossStepError → StoreState → Base → Type 0
 HoldsUnlessFailed old (Ok done) new base = new.keeps base
 HoldsUnlessFailed old (Err (toss.Packet why)) new base = new.keeps base
 HoldsUnlessFailed old (Err (toss.Store error)) new base = old.undoes → new.keeps base
 
--- if the store did not fail, it goes on
+-- If the store did not fail, it allows further calls.
 abbrev pub GoesOnUnlessFailed : {A : Type 0} → StoreState → Result A TossStepError → StoreState → Type 0
 GoesOnUnlessFailed old (Ok done) new = GoesOn old new
 GoesOnUnlessFailed old (Err (toss.Packet why)) new = GoesOn old new
 GoesOnUnlessFailed old (Err (toss.Store error)) new = Unit {0}
 
--- the toss of the packet at the front of a reader's bytes, from this base to the one that the store holds then
+-- The toss of the packet at the front of a reader's bytes, from this base to the one that the store then holds.
 pub record TossesPacketIn (limits : Limits) (file : LinkFile) (base : Base) (before after : Option (List ℕ)) (old : StoreState) (result : Result Tally StoppedToss) (new : StoreState) : Type 0 where
   pub next : Base
   pub step : PacketStep limits (state_in file base) before after (packet_answer result) (state_in file next)
   pub holds : HoldsUnlessFailed old (stop_in result) new next
 
--- the same for the messages after a header
+-- The same for the messages after a header.
 pub record TossesMessagesIn {A : Type 0} (limits : Limits) (sender : Address) (file : LinkFile) (base : Base) (before after : Option (List ℕ)) (tally : Tally) (old : StoreState) (result : Result A TossStepError) (new : StoreState) : Type 0 where
   pub next : Base
   pub step : TossesMessages limits sender (state_in file base) before after tally (messages_answer result) (state_in file next)
   pub holds : HoldsUnlessFailed old result new next
 
--- how many messages an answer counts
+-- The number of messages that an answer counts.
 abbrev pub counted_in : Result Tally TossFault → ℕ
 counted_in (Ok tally) = all_counted tally
 counted_in (Err f) = all_counted f.tally
 
--- the same answer with another tally
+-- The same answer with another tally.
 abbrev pub with_tally : Tally → Result Tally TossFault → Result Tally TossFault
 with_tally tally (Ok other) = Ok tally
 with_tally tally (Err f) = Err (record { tally = tally; cause = f.cause })
 
--- At a system with this base a toss of the packet takes the same bytes, counts as many messages, and stops for the same cause.
+-- At a system with this base, a toss of the packet consumes the same bytes, counts as many messages, and stops for the same cause.
 pub record ReadsPacket (limits : Limits) (file : LinkFile) (base : Base) (before after : Option (List ℕ)) (result : Result Tally TossFault) : Type 0 where
   pub tally : Tally
   pub next : Base
   pub step : PacketStep limits (state_in file base) before after (with_tally tally result) (state_in file next)
   pub count : all_counted tally ≡ counted_in result
 
--- the same for the messages after a header, of which this many were counted
+-- The same for the messages after a header, with this many counted before.
 pub record ReadsMessages {A : Type 0} (limits : Limits) (sender : Address) (file : LinkFile) (base : Base) (before after : Option (List ℕ)) (counted : ℕ) (result : Result A TossCause) : Type 0 where
   pub tally : Tally
   pub next : Base

@@ -1,4 +1,4 @@
--- Why a draft is refused, whatever the base.
+-- Why a draft is refused, independent of the base.
 use Rattle.std.specs.Prelude.{◌≡◌, false, ℕ, ◌==◌, ◌||◌, not, List, length, if◌then◌else◌, Option, Some, None}
 use Rattle.echo_text.specs.Ids.{is_id}
 use Rattle.echo_links.specs.Links.{LinkFile, has_area, upper}
@@ -12,7 +12,7 @@ use Rattle.model_steps.specs.declared.fault.PostFault.TheVariants as fault
 use Rattle.model_steps.specs.Posting.{holds_zero, is_too_long, post_refusal, posted}
 use Rattle.model_steps.specs.Stamps.{is_stamp}
 
--- the first refusal that applies to a draft, those aside that the base decides
+-- The first refusal that applies to a draft, without those that depend on the base.
 abbrev pub draft_refusal : LinkFile → List ℕ → Draft → Stamp → Option PostFault
 draft_refusal file tag draft stamp =
     if not (has_area file (upper tag)) then Some fault.NoArea
@@ -22,7 +22,7 @@ draft_refusal file tag draft stamp =
     else if not ((length draft.reply == 0) || is_id draft.reply) then Some fault.BadReply
     else None
 
--- a message that may be filed for a draft, and its key
+-- A message that may be filed for a draft, and its key.
 pub record IsPrepared (file : LinkFile) (base : List Filed) (tag : List ℕ) (draft : Draft) (serial : ℕ) (stamp : Stamp) (key : Key) (m : Filed) : Type 0 where
   pub allowed : post_refusal file base tag draft serial stamp ≡ None
   pub message : m ≡ posted file tag draft serial stamp

@@ -4,7 +4,7 @@ use Rattle.base_file.specs.declared.fault.BaseFault.{BaseFault}
 use Rattle.base_file.specs.Base.{Base}
 use Rattle.model_steps.specs.SystemState.{SystemState}
 
--- its base, or the fault
+-- The base of the loaded system, or the fault.
 abbrev pub base_in : Result SystemState BaseFault → Result Base BaseFault
 base_in (Ok s) = Ok (record { messages = s.base; cursor = s.cursor })
 base_in (Err fault) = Err fault

@@ -17,42 +17,42 @@ use Rattle.echo_toss.specs.declared.step_error.PostStepError.TheVariants as post
 use Rattle.echo_toss.specs.declared.step_error.ScanStepError.{ScanStepError}
 use Rattle.echo_toss.specs.declared.step_error.ScanStepError.TheVariants as scan
 
--- one message more at the end, if there is one
+-- If there is a message, it is the new last one.
 abbrev pub and_filed : Base → Option Filed → Base
 and_filed base m = record { messages = base.messages ++ option_to_list m; cursor = base.cursor }
 
--- the store goes on, or a failed step takes its change back
+-- The store allows further calls, or a failed step undoes its change.
 pub record GoesOnOrUndoes {T : Type 0} {E : Type 0} (old new : StoreState) (result : Result T E) : Type 0 where
   pub goes_on : OnOk result (GoesOn old new)
   pub undone : OnErr result (Undoes old new)
 
--- if nothing was filed, only the current message has changed
+-- If the toss filed no message, only the current message has changed.
 abbrev pub LooksUnlessFiled : StoreState → StoreState → Outcome → Type 0
 LooksUnlessFiled old new outcome.Filed = Unit {0}
 LooksUnlessFiled old new other = LooksOn old new
 
--- why a posting was not filed: the refusal that applies, or the store for a draft without fault
+-- Why a posting failed: the refusal that applies, or the store, for a draft without fault.
 abbrev pub IsPostStop : LinkFile → List Filed → List ℕ → Draft → ℕ → Stamp → PostStepError → Type 0
 IsPostStop file base tag draft serial stamp (post.Refused refusal) = post_refusal file base tag draft serial stamp ≡ Some refusal
 IsPostStop file base tag draft serial stamp (post.Store cause) = IsPostFault file base tag draft serial stamp fault.Memory
 
--- a refusal has changed only the current message
+-- A refusal changed only the current message.
 abbrev pub LooksWhereRefused : StoreState → StoreState → PostStepError → Type 0
 LooksWhereRefused old new (post.Refused refusal) = LooksOn old new
 LooksWhereRefused old new (post.Store cause) = Unit {0}
 
--- the answer of the store to a posting
+-- The answer of the store to a posting.
 abbrev pub post_answer : {T : Type 0} → Result T PostStepError → Result (Unit {0}) StoreError
 post_answer (Ok done) = Ok tt
 post_answer (Err (post.Refused refusal)) = Ok tt
 post_answer (Err (post.Store cause)) = Err cause
 
--- why nothing was scanned: the stamp, and nothing has changed, or the store, the stamp being in order
+-- Why a scan failed: a bad stamp, which changes nothing, or the store, with a good stamp.
 abbrev pub IsScanStop : Stamp → StoreState → StoreState → ScanStepError → Type 0
 IsScanStop stamp old new scan.BadStamp = (is_stamp stamp ≡ false) × LooksOn old new
 IsScanStop stamp old new (scan.Store cause) = is_stamp stamp ≡ true
 
--- the answer of the store to a scan
+-- The answer of the store to a scan.
 abbrev pub scan_answer : {T : Type 0} → Result T ScanStepError → Result (Unit {0}) StoreError
 scan_answer (Ok done) = Ok tt
 scan_answer (Err scan.BadStamp) = Ok tt

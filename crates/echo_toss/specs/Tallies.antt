@@ -1,10 +1,10 @@
--- How many messages had each outcome.
+-- The number of messages with each outcome.
 use Rattle.std.specs.Prelude.{ℕ, ◌+◌, Bool, true, false, List, count_by}
 use Rattle.model_steps.specs.declared.outcome.Outcome.{Outcome}
 use Rattle.model_steps.specs.declared.outcome.Outcome.TheVariants.{BadTag, Filed, Known, NoArea, NotEcho, NotLinked}
 use Rattle.echo_toss.specs.declared.tally.Tally.{Tally}
 
--- whether two outcomes are the same
+-- Two outcomes are equal.
 abbrev pub same_outcome : Outcome → Outcome → Bool
 same_outcome Filed Filed = true
 same_outcome Known Known = true
@@ -14,7 +14,7 @@ same_outcome NoArea NoArea = true
 same_outcome NotLinked NotLinked = true
 same_outcome one other = false
 
--- how many of the outcomes are each
+-- The count of each outcome in the list.
 abbrev pub tally_of : List Outcome → Tally
 tally_of all = record {
   filed = count_by (same_outcome Filed) all;
@@ -25,7 +25,7 @@ tally_of all = record {
   not_linked = count_by (same_outcome NotLinked) all;
 }
 
--- a tally, and one more message
+-- A tally with one more message.
 abbrev pub tally_with : Tally → Outcome → Tally
 tally_with t NotEcho = record t { not_echo = t.not_echo + 1 }
 tally_with t BadTag = record t { bad_tag = t.bad_tag + 1 }
@@ -34,6 +34,6 @@ tally_with t NotLinked = record t { not_linked = t.not_linked + 1 }
 tally_with t Known = record t { known = t.known + 1 }
 tally_with t Filed = record t { filed = t.filed + 1 }
 
--- how many messages it counts
+-- The number of messages in the tally.
 abbrev pub all_counted : Tally → ℕ
 all_counted t = t.filed + (t.known + (t.not_echo + (t.bad_tag + (t.no_area + t.not_linked))))

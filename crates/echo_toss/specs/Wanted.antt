@@ -1,4 +1,4 @@
--- Whether a received message is echomail from a link, whatever the base.
+-- Whether a received message is echomail from a link, independent of the base.
 use Rattle.std.specs.Prelude.{◌≡◌, false, ℕ, not, List, if◌then◌else◌, Option, Some, None}
 use Rattle.echo_addr.specs.declared.address.Address.{Address}
 use Rattle.echo_packet.specs.Message.{Message}
@@ -15,41 +15,41 @@ use Rattle.model_steps.specs.Tossing.{toss_outcome, tossing}
 use Rattle.echo_toss.specs.declared.receiving.Reading.{Reading}
 use Rattle.echo_toss.specs.declared.receiving.Reading.TheVariants.{Unwanted, Wanted}
 
--- why the link file keeps a message with this tag from being filed
+-- Why the link file does not allow filing a message with this tag.
 abbrev pub refused_by : LinkFile → List ℕ → Address → Option Outcome
 refused_by file tag sender =
     if not (has_area file tag) then Some outcome.NoArea
     else if not (is_link file tag sender) then Some outcome.NotLinked
     else None
 
--- the text is echomail with this tag and these kept lines, and the sender is a link of its area
+-- The text is echomail with this tag and these kept lines, and the sender is a link of its area.
 pub record IsWanted (file : LinkFile) (sender : Address) (packed : Message) (tag : List ℕ) (kept : List (List ℕ)) : Type 0 where
   pub front : FrontOf packed.text tag kept
   pub allowed : refused_by file tag sender ≡ None
 
--- whatever the base, this becomes of the message, and it is not filed
+-- With any base, the message has this outcome and is not filed.
 abbrev pub IsUnwanted : LinkFile → Address → Message → Outcome → Type 0
 IsUnwanted file sender packed answer =
     (base : List Filed) → (answer ≡ toss_outcome file base sender packed) × (None ≡ tossing file base sender packed)
 
--- the message was read in this way
+-- The result of reading the message.
 abbrev pub IsRead : LinkFile → Address → Message → Reading → Type 0
 IsRead file sender packed (Wanted front) = IsWanted file sender packed front.tag front.kept
 IsRead file sender packed (Unwanted answer) = IsUnwanted file sender packed answer
 
--- a message that is to be filed, and its key
+-- A message to file, and its key.
 pub record IsNew (file : LinkFile) (base : List Filed) (sender : Address) (packed : Message) (key : Key) (m : Filed) : Type 0 where
   pub answer : outcome.Filed ≡ toss_outcome file base sender packed
   pub message : Some m ≡ tossing file base sender packed
   pub own_key : key ≡ key_of m
   pub new : is_known base key ≡ false
 
--- this is the outcome of a message
+-- This is the outcome of the message.
 abbrev pub IsVerdict : LinkFile → List Filed → Address → Message → Verdict → Type 0
 IsVerdict file base sender packed (New key m) = IsNew file base sender packed key m
 IsVerdict file base sender packed (Left answer) = (answer ≡ toss_outcome file base sender packed) × (None ≡ tossing file base sender packed)
 
--- the key of a message that is to be filed is its own
+-- A message to file has its own key.
 abbrev pub HasOwnKey : Verdict → Type 0
 HasOwnKey (New key m) = key ≡ key_of m
 HasOwnKey (Left answer) = Unit {0}

@@ -130,7 +130,7 @@ fn links_in(links: &LinkFile, i: usize) -> &[Address]
     }
 }
 
-// The bytes of a packet beside its messages: the header, and 00 00.
+// The number of bytes of a packet outside its messages: the header, and 00 00.
 const BESIDE: usize = 60;
 
 // A packet without messages for each address.

@@ -3,7 +3,7 @@
 //! Promise: `post`, `toss_message`, `scan` and `purge` are the steps of model_steps on the whole state of the
 //! system. `toss` makes the step of each message of a packet, in order. A refused call changes nothing.
 //! `post_step`, `toss_step`, `toss_packet_in` and `scan_step` are the same steps over any store, and commit nothing.
-//! `resend_in` makes a packet of scanned messages again, and changes nothing.
+//! `push_resent` adds the copy of a message to a packet that is made again.
 //!
 //! Begin with `tosser` (the type) and `tossing` (one received message; `receiving` reads it). `packets` tosses
 //! a whole packet, `tally` counts outcomes. `posting` files a draft; `refusing`, `drafting` and `step_error`
@@ -44,7 +44,7 @@ pub use model_steps::{Draft, Outcome, Packet, PostFault, ScanFault, Stamp};
 pub use packets::{check_destination, toss_packet_in};
 pub use packing::header_to;
 pub use posting::post_step;
-pub use resending::{Resend, push_resent, resend_in};
+pub use resending::{Resend, push_resent};
 pub use scanning::scan_step;
 pub use step_error::{PostStepError, ScanStepError, StoppedToss, TossStepError};
 pub use tally::Tally;

@@ -11,7 +11,7 @@ ghost use Rattle.base_file.specs.Base.{Base};
 ghost use Rattle.base_store.specs.Store.{HasStoreCause, LooksOn};
 ghost use Rattle.model_steps.specs.Scanning.{exported, message_out, targets};
 ghost use Rattle.echo_toss.specs.Bounds.{IsFullWhenRead};
-ghost use Rattle.echo_toss.specs.Exports.{GrowsByMessageAt, has_some, nowhere, outgoing_of, sent_of};
+ghost use Rattle.echo_toss.specs.Exports.{GrowsByMessageAt, nowhere, outgoing_of, sent_of};
 
 use crate::sets::{address_set, entry_set};
 use base_store::{Store, StoreError};
@@ -202,7 +202,7 @@ fn exported_text(alloc: Global, links: &LinkFile, echo: &Echo) -> Result<Items<u
     let mut path = Vec::from_slice(alloc, echo.path.as_slice())?;
     path.push(own)?;
     let text = write_parts(alloc, tag, &echo.kept, seen.as_slice(), &path)?;
-    // A scan holds many texts, so each is kept without spare room.
+    // A scan holds many texts, so no text has spare room.
     let exact = Vec::from_slice(alloc, &text)?;
     Ok(Items::new(exact))
 }

@@ -58,7 +58,7 @@ fn refused_by(links: &LinkFile, tag: &[u8], sender: Address) -> Option<Outcome>
     None
 }
 
-/// The key of the message, whose text has this front.
+/// The key of the message with this front of its text.
 pub(crate) fn key_in(
     alloc: Global,
     packed: &Packed,
@@ -77,7 +77,7 @@ pub(crate) fn key_in(
     )
 }
 
-/// The filed message, whose text has this front.
+/// The filed message with this front of its text.
 pub(crate) fn received(
     alloc: Global,
     sender: Address,

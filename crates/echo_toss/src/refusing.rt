@@ -1,5 +1,5 @@
 //! Why a draft is refused, whatever the base.
-ghost use Rattle.std.specs.Prelude.{◌≡◌, ◌==◌, ◌||◌, length, nat_lt, Some, None, MatchResult};
+ghost use Rattle.std.specs.Prelude.{◌≡◌, ◌==◌, ◌||◌, length, Some, None, MatchResult};
 ghost use Rattle.std.specs.List.{list_any};
 ghost use Rattle.echo_text.specs.Ids.{is_id, is_zero};
 ghost use Rattle.echo_links.specs.Links.{has_area, upper};

@@ -1,4 +1,4 @@
--- One station and a system by itself that say the same.
+-- One station and a system by itself with the same contents.
 use Rattle.std.proofs.Common.{◌⊎◌, inl, inr, sym, subst, ℕ, List, [], ◌∷◌, ◌++◌, Ok}
 use Rattle.echo_addr.specs.declared.address.Address.{Address}
 use Rattle.model_graph.specs.Walk.{Among}
@@ -18,7 +18,7 @@ use Rattle.law_stations.proofs.Tosses.{IsInFront, IsTossedBy, more-events}
 abbrev pub run_alone : LoneSystem → Run
 run_alone z = record { systems = z.system ∷ []; packets = z.sent; delivered = [] }
 
--- each tossed message is at the beginning of one of the files
+-- each tossed message is from the beginning of one of the files
 abbrev pub IsOfFiles : LinkFile → List (List ℕ) → List LoneEvent → Type 0
 IsOfFiles file files events = (sender : Address) (messages : List Message) → Among (TossHere sender messages) events →
     (bytes : List ℕ) × Among bytes files × IsInFront file bytes sender messages

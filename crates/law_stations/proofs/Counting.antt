@@ -1,4 +1,4 @@
--- How many times an index is in a list, and sums over picked items of a list.
+-- The number of times an index is in a list, and sums over picked items of a list.
 use Rattle.std.proofs.Common.{◌≡◌, inl, inr, refl, subst, ap, ℕ, zero, suc, ◌+◌, ◌≤◌, arith, List, [], ◌∷◌, ◌++◌, length, Option, Some, None}
 use Rattle.model_graph.specs.Walk.{Among, Different}
 use Rattle.model_run.specs.Run.{change, nth}
@@ -19,7 +19,7 @@ below k zero = 0
 below zero (suc n) = 1
 below (suc k) (suc n) = below k n
 
--- how many times the number is in a list, and in a list of which some items are none
+-- the number of times a number is in a list, and in a list with empty items
 abbrev pub times : ℕ → List ℕ → ℕ
 times k [] = 0
 times k (x ∷ xs) = same_as k x + times k xs
@@ -29,12 +29,12 @@ waits k [] = 0
 waits k (None ∷ tags) = waits k tags
 waits k (Some x ∷ tags) = same_as k x + waits k tags
 
--- the numbers from one on, as many as there are items
+-- the numbers from `n` on, one for each item
 abbrev pub from : {X : Type 0} → ℕ → List X → List (Option ℕ)
 from n [] = []
 from n (x ∷ xs) = Some n ∷ from (suc n) xs
 
--- none for each item
+-- an empty item for each item
 abbrev pub nones : {X : Type 0} → List X → List (Option ℕ)
 nones [] = []
 nones (x ∷ xs) = None ∷ nones xs
@@ -108,7 +108,7 @@ pub waits-nones : {X : Type 0} (k : ℕ) (xs : List X) → waits k (nones xs) �
 waits-nones k [] = refl
 waits-nones k (x ∷ xs) = waits-nones k xs
 
--- what numbers come to
+-- the sum of numbers
 abbrev pub total : List ℕ → ℕ
 total [] = 0
 total (w ∷ ws) = w + total ws
@@ -118,7 +118,7 @@ total-without k w [] h = absurd (none_some h)
 total-without zero w (v ∷ ws) h = let e = some_same h in omega (arith, e)
 total-without (suc k) w (v ∷ ws) h = let e = total-without k w ws h in omega (arith, e)
 
--- the number is the item of an index
+-- the value is the item at an index
 abbrev pub IsItem : {X : Type 0} → List X → X → ℕ → Type 0
 IsItem xs x k = nth k xs ≡ Some x
 
@@ -131,7 +131,7 @@ picked-without k ws (v ∷ vs) (j ∷ places) picked none = (
   picked-without k ws vs places picked.1 (λ h. none (inr h)),
 )
 
--- items of different indexes come to no more than all items
+-- the sum of items at different indexes is at most that of all items
 pub picked-total : (ws vs places : List ℕ) → Paired (IsItem ws) vs places → Different places → total vs ≤ total ws
 picked-total ws [] [] picked apart = omega arith
 picked-total ws [] (k ∷ places) picked apart = absurd picked

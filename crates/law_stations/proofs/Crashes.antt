@@ -1,4 +1,4 @@
--- Whatever stops the commands of one station, its disks go with a net of it on which nothing stopped any of them inside.
+-- For any stops of one station's commands, its disks agree with a net without stops inside a command.
 use Rattle.std.proofs.Common.{◌≡◌, inl, inr, refl, sym, subst, ap, ◌∙◌, ℕ, zero, suc, append-nil, List, [], ◌∷◌, length, map, take}
 use Rattle.model_graph.specs.Walk.{Among}
 use Rattle.model_steps.specs.SystemState.{SystemState}
@@ -16,7 +16,7 @@ use Rattle.law_stations.proofs.Tracking.{Tracks, still}
 use Rattle.law_stations.specs.LoneDisks.{LoneDisks, MayHappenAlone, MayHappenAllAlone, on_net, under_names}
 use Rattle.law_stations.specs.LoneStations.{AreAnyFiles, HappenAlone, HappensAlone, LoneCommand, LoneStation, NothingCame, PostAlone, PurgeAlone, ScanAlone, TossAny, TossesAny}
 
--- the same command; a toss may be of first ones of its files
+-- the same command; a toss may have only the first of its files
 abbrev pub IsLikeAlone : LoneCommand → LoneCommand → Type 0
 IsLikeAlone (PostAlone words body) plain = plain ≡ PostAlone words body
 IsLikeAlone (ScanAlone stamp) plain = plain ≡ ScanAlone stamp
@@ -29,7 +29,7 @@ itself-like (ScanAlone stamp) = refl
 itself-like PurgeAlone = refl
 itself-like (TossAny files) = (files, refl)
 
--- a command on the net that goes with the disks after a command
+-- a command on the net; the net agrees with the disks after the command
 record FollowedAlone (command : LoneCommand) (s new : LoneDisks) (net : Net) : Type 0 where
   plain : LoneCommand
   like : IsLikeAlone command plain
@@ -37,7 +37,7 @@ record FollowedAlone (command : LoneCommand) (s new : LoneDisks) (net : Net) : T
   happens : HappensAlone plain (on_net s net) (on_net new next)
   tracks : Tracks new.disks next
 
--- a posting, a scan or a purge, by what it is on the disks; where that does nothing on the net, nothing came either
+-- a posting, a scan or a purge, by its effect on the disks; if it does nothing on the net, nothing came either
 by-event : (command : LoneCommand) (of : Command) (s new : LoneDisks) (net : Net) → Tracks s.disks net → PartialEffect of s.disks 0 new.disks → NothingCame (under_names s) (under_names new)
     → ((plain : Command) → IsLike of plain → plain ≡ of)
     → ((next : Net) → Happens (record { station = 0; command = of }) net next → (next ≡ net → HappensAlone command (on_net s net) (on_net new next)) → HappensAlone command (on_net s net) (on_net new next))
@@ -123,7 +123,7 @@ followed-alone (TossAny files) s new net t (inr (n, p, staging)) =
     let (next, tosses, tracks) = any-toss (take n files) s new net t p staging in
     record { plain = TossAny (take n files); like = (take n files, refl); next = next; happens = inr tosses; tracks = tracks }
 
--- so is one after another
+-- the same for commands one after another
 pub record FollowedAllAlone (commands : List LoneCommand) (s new : LoneDisks) (net : Net) : Type 0 where
   pub plain : List LoneCommand
   pub like : Paired IsLikeAlone commands plain

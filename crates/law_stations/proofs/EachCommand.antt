@@ -1,4 +1,4 @@
--- Whatever stops commands, their disks go with a net on which nothing stopped any of them inside.
+-- For any stops of commands, their disks agree with a net without stops inside a command.
 use Rattle.std.proofs.Common.{◌≡◌, ◌⊎◌, inl, inr, refl, sym, subst, ◌∙◌, ℕ, zero, suc, ◌≤◌, arith, List, [], ◌∷◌, length, take, Option, Some, None}
 use Rattle.model_graph.specs.Walk.{Among}
 use Rattle.model_steps.specs.declared.stamp.Stamp.{Stamp}
@@ -22,7 +22,7 @@ itself-like (Scan stamp) = refl
 itself-like Purge = refl
 itself-like (Toss indexes) = (indexes, refl)
 
--- a command on the net, which goes with the disks after a command
+-- a command on the net, which agrees with the disks after the command
 pub record Followed (event : CommandEvent) (net : Net) (new : Disks) : Type 0 where
   pub plain : CommandEvent
   pub like : IsLikeEvent event plain
@@ -34,7 +34,7 @@ pub record Followed (event : CommandEvent) (net : Net) (new : Disks) : Type 0 wh
 idle : (event : CommandEvent) (net : Net) (new : Disks) → Tracks new net → Followed event net new
 idle event net new t = record { plain = event; like = record { station = refl; command = itself-like event.command }; then = net; happens = inl refl; tracks = t }
 
--- a scan came so far
+-- a scan got this far
 far : (event : CommandEvent) (stamp : Stamp) (d new : Disks) (net : Net) → Tracks d net → event.command ≡ Scan stamp → ScansFar stamp event.station d new
     → Followed event net new
 far event stamp d new net t is (n, ended, ends, rest) = by rest
@@ -57,7 +57,7 @@ far event stamp d new net t is (n, ended, ends, rest) = by rest
           tracks = some-ended m i done new next (moved stamp i ended done net mid moves) names;
         }
 
--- another command was led to its end
+-- another command reached its end
 led : (event : CommandEvent) (plain : Command) (net : Net) (new : Disks) → IsLike event.command plain → Led plain event.station net new → Followed event net new
 led event plain net new like l = record {
   plain = record { station = event.station; command = plain };
@@ -83,7 +83,7 @@ followed event d new net t (inr leads) = by event.command refl leads
         let (others, l) = tossed-too (take n indexes) event.station d new net t tosses staging in
         led event (Toss others) net new (subst (λ (c : Command). IsLike c (Toss others)) (sym is) (others, refl)) l
 
--- so is one after another
+-- the same for commands one after another
 record FollowedAll (commands : List CommandEvent) (net : Net) (new : Disks) : Type 0 where
   plain : List CommandEvent
   like : Paired IsLikeEvent commands plain
@@ -117,7 +117,7 @@ first-tracks links = record {
   tossed = λ j h. absurd h;
 }
 
--- the file in which a packet waits
+-- the file with a waiting packet
 waiting : (k : ℕ) (packets : List (List ℕ)) (at : List ℕ) (files : List StagingFile) (tags : List (Option ℕ)) → Paired (IsTagged packets at) files tags → 1 ≤ waits k tags
     → (file : StagingFile) × Among file files × IsTagged packets at file (Some k)
 waiting k packets at [] [] are some = absurd (omega (arith, some))

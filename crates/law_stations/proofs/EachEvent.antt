@@ -24,7 +24,7 @@ use Rattle.law_stations.proofs.Places.{addresses-of, addresses-stay}
 use Rattle.law_stations.proofs.Unpurged.{AsFiledAt, change-as_filed, filing-as_filed}
 use Rattle.model_run.proofs.HarmSteps.{after-append}
 
--- Where a command ends well: its events, and each system has its messages as they were filed if it had, but where it is purged.
+-- A command ended well: its events. It keeps the messages of each system as they were filed, unless it purges it.
 record Led (command : Command) (i : ℕ) (new : Net) (run : Run) : Type 0 where
   events : List RunEvent
   are : AreEventsOf command i events
@@ -72,7 +72,7 @@ led (Toss indexes) net new i run apart agrees leads =
     let (events, are, made, as_filed) = toss-agrees indexes net new i run apart agrees leads in
     record { events = events; are = are; agrees = made; as_filed = λ j. inr (as_filed j) }
 
--- one command after another
+-- commands one after another
 pub record LedAll (commands : List CommandEvent) (new : Net) (run : Run) : Type 0 where
   pub events : List RunEvent
   pub are : AreEventsOfAll commands events
@@ -114,7 +114,7 @@ event-is-events event net new run apart agrees (inr leads) =
     let l = led event.command net new event.station run apart agrees leads in
     (l.events, inr l.are, l.agrees)
 
--- stations whose bases are empty
+-- stations with empty bases
 first-stations : (links : List (List ℕ)) (files : List LinkFile) → AreLinkFiles links files → Paired HasSystem (map new_station links) (map fresh files)
 first-stations [] [] are = tt
 first-stations [] (file ∷ files) are = absurd are

@@ -1,4 +1,4 @@
--- A command changes only the base of its own station.
+-- A command changes only the base of its station.
 use Rattle.std.proofs.Common.{◌≡◌, ◌≢◌, ◌⊎◌, inl, inr, refl, ap, ◌∙◌, ℕ, zero, suc, Bool, true, false, List, [], ◌∷◌}
 use Rattle.base_file.specs.Base.{Base}
 use Rattle.model_steps.specs.declared.stamp.Stamp.{Stamp}
@@ -9,7 +9,7 @@ use Rattle.law_stations.specs.Nets.{Net, with_base}
 use Rattle.law_stations.specs.Disks.{Disks, naming}
 use Rattle.law_stations.specs.Stopping.{Ends, EndsOne, EndsSome, PartialEffect, MayHappen, Moves, ScansFar, Writes}
 
--- an item of another index
+-- an item at another index
 pub change-other : {X : Type 0} (f : X → X) (i j : ℕ) (xs : List X) → j ≢ i → nth j (change i f xs) ≡ nth j xs
 change-other f i j [] other = refl
 change-other f zero zero (x ∷ xs) other = absurd (other refl)
@@ -36,7 +36,7 @@ some-stations (suc n) i d new (next, first, later) = some-stations n i next new 
 pub written-stations : (i : ℕ) (d new : Disks) → Writes i d new → new.net.stations ≡ d.net.stations
 written-stations i d new w = ap (λ (x : Disks). x.net.stations) w.becomes
 
--- what another base in one place leaves elsewhere
+-- the effect elsewhere of another base in one place
 left-elsewhere : (net new : Net) (i j : ℕ) (base : Base) → new.stations ≡ change i (with_base base) net.stations → j ≢ i → nth j new.stations ≡ nth j net.stations
 left-elsewhere net new i j base same other = ap (nth j) same ∙ change-other (with_base base) i j net.stations other
 

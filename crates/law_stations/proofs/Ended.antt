@@ -9,7 +9,7 @@ use Rattle.law_stations.specs.Disks.{StagingFile, HasCursor, naming}
 use Rattle.law_stations.specs.Stopping.{EndsOne, HasNoneStaged}
 use Rattle.law_stations.proofs.Whole.{disks_with}
 
--- a packet that got its name changed no cursor
+-- a packet that got its name changes no cursor
 cursor-stays : (net : Net) (i cursor : ℕ) (bytes : List ℕ) (named : Bool) → HasCursor net i cursor → HasCursor (naming net bytes named) i cursor
 cursor-stays net i cursor bytes true has = has
 cursor-stays net i cursor bytes false has = has
@@ -39,7 +39,7 @@ none-more : (i : ℕ) (before : List StagingFile) (file : StagingFile) → HasNo
 none-more i before file none other f is =
     ⊎_elim (λ (was : Among f before). none f was) (λ (same : f ≡ file) e. other (ap (λ (b : StagingFile). b.station) (sym same) ∙ e)) (Among-push_cases f file before is)
 
--- those behind files of other stations
+-- the files after those of other stations
 can-end : (i cursor : ℕ) (after before : List StagingFile) (net : Net) → HasNoneStaged i before → HasCursor net i cursor → CanEnd i (disks_with net (before ++ after))
 can-end i cursor [] before net none has = record {
   steps = zero;

@@ -1,4 +1,4 @@
--- A staging file is finished. By its number it gets its name exactly if its scan moved the cursor.
+-- The end of a staging file: its number decides whether its scan moved the cursor, and so whether it gets its name.
 use Rattle.std.proofs.Common.{◌≡◌, ◌⊎◌, inl, inr, refl, sym, subst, ap, ◌∙◌, ℕ, zero, suc, ◌+◌, ◌<◌, arith, Bool, true, false, List, [], ◌∷◌, ◌++◌, Option, Some, None}
 use Rattle.model_graph.specs.Walk.{Among}
 use Rattle.model_run.specs.Run.{nth}
@@ -11,7 +11,7 @@ use Rattle.law_stations.proofs.Counting.{IsItem, nones, same_as, times-append, w
 use Rattle.law_stations.proofs.Tracking.{IsTagged, IsTossedAt, PairedAround, Tracks, cursor-too, paired-around}
 use Rattle.model_run.proofs.Targets.{some_same}
 
--- as many wait without the file, or with the rest of it
+-- as many packets wait without the file as with its rest
 same-waits : (k : ℕ) (left : List StagingFile) (front behind : List (Option ℕ)) → waits k (front ++ (nones left ++ behind)) ≡ waits k front + waits k behind
 same-waits k left front behind =
     let a = waits-append k front (nones left ++ behind) in
@@ -19,11 +19,11 @@ same-waits k left front behind =
     let c = waits-nones k left in
     omega (arith, a, b, c)
 
--- and one less than with the packet that waited
+-- one packet less waits than with the file's packet
 less-waits : (k x : ℕ) (front behind : List (Option ℕ)) → waits k (front ++ Some x ∷ behind) ≡ waits k front + (same_as k x + waits k behind)
 less-waits k x front behind = waits-append k front (Some x ∷ behind)
 
--- nothing is left of a file, or the file under its name
+-- the file is gone, or is left under its name
 abbrev IsLeft : StagingFile → List StagingFile → Type 0
 IsLeft file left = (left ≡ []) ⊎ (left ≡ now_named file ∷ [])
 
@@ -47,7 +47,7 @@ module _ (d new : Disks) (net : Net) (t : Tracks d net) (before : List StagingFi
       subst P (sym stands) (paired-append R before (left ++ after) around.front (nones left ++ around.behind) around.before
       (paired-append R left after (nones left) around.behind is around.after))
 
-  -- no packet waited in the file, and the net is as before
+  -- no packet waited in the file, and the net is unchanged
   unchanged : around.y ≡ None → new.net ≡ d.net → Paired (IsTagged net.packets (cursors net)) left (nones left) → Tracks new net
   unchanged none same is = record {
     stations = ap (λ (n : Net). n.stations) same ∙ t.stations;
@@ -126,7 +126,7 @@ one-ended i d new net t e = by around.y refl e.ends
         let one : c ≡ e.cursor = some_same (sym is ∙ at) in
         absurd (omega (arith, least, less, one))
 
--- so with some
+-- the same for some files
 pub some-ended : (n i : ℕ) (d new : Disks) (net : Net) → Tracks d net → EndsSome n i d new → Tracks new net
 some-ended zero i d new net t same = subst (λ (x : Disks). Tracks x net) (sym same) t
 some-ended (suc n) i d new net t (next, first, later) = some-ended n i next new net (one-ended i d next net t first) later

@@ -1,4 +1,4 @@
--- The bases that each command makes are those of command events of a net.
+-- The base that each command makes is that of a command event of a net.
 use Rattle.std.proofs.Common.{◌≡◌, inl, inr, ⊎_elim, refl, sym, ap, subst, arith, Bool, true, false, ℕ, List, [], Ok, Some, length, take}
 use Rattle.std.proofs.lemmas.List.{take_all}
 use Rattle.base_file.specs.Base.{Base}
@@ -27,7 +27,7 @@ use Rattle.law_stations.specs.DiskKinds.{IsMail, IsPostAs, IsReplyAs}
 use Rattle.law_stations.proofs.Leading.{LeadsTo, MadeOrHeld}
 
 module _ (station : Station) (file : LinkFile) (i : ℕ) (d : Disks) (there : nth i d.net.stations ≡ Some station) (says : LinksOf station.links (Ok file)) where
-  -- a posting leads on, of words of which it is said so
+  -- a posting leads on, if its words have this kind
   pub posting : (IsCommand : Command → Type 0) (words : NewMessage) (body : List ℕ) (next : Base) → IsCommand (Post words body) → Posts file words body station.base next → LeadsTo IsCommand i d next
   posting IsCommand words body next is posts = record {
     after = record { net = with_posting d.net i next (posted file words.tag.now (draft_given words body) words.serial words.stamp); staging = d.staging };
@@ -37,20 +37,20 @@ module _ (station : Station) (file : LinkFile) (i : ℕ) (d : Disks) (there : nt
     leads = (record { station = station; file = file; at = record { there = there; links = says }; next = next; makes = posts; becomes = refl }, refl);
   }
 
-  -- with the serial of the words, or one that is free
+  -- with the serial of the words, or a free one
   pub posting-as : (IsCommand : Command → Type 0) (free : Bool) (words : NewMessage) (body : List ℕ) (next : Base) → ((command : Command) → IsPostAs free words body command → IsCommand command)
       → PostsAs free file words body station.base next → LeadsTo IsCommand i d next
   posting-as IsCommand false words body next is posts = posting IsCommand words body next (is (Post words body) refl) posts
   posting-as IsCommand true words body next is free =
       posting IsCommand (with_serial words free.serial) body next (is (Post (with_serial words free.serial) body) (free.serial, refl)) free.made
 
-  -- of an answer
+  -- the posting of an answer
   pub replying : (index : ℕ) (answer : Answer) (body : List ℕ) (next : Base) → Replies file index answer body station.base next → LeadsTo (IsReplyAs index answer body station.base) i d next
   replying index answer body next replies =
       posting-as (IsReplyAs index answer body station.base) answer.free replies.words body next
       (λ command is. record { message = replies.message; found = replies.found; words = replies.words; of_message = replies.of_message; is = is }) replies.made
 
-  -- of a letter
+  -- the posting of a letter
   pub mailing : (letter : Letter) (asked : MailWords) (next : Base) → Mails file letter asked station.base next → LeadsTo (IsMail letter asked) i d next
   mailing letter asked next mails =
       posting-as (IsMail letter asked) asked.free mails.words letter.body next (λ command is. record { words = mails.words; posting = mails.posting; is = is }) mails.made
@@ -65,7 +65,7 @@ module _ (station : Station) (file : LinkFile) (i : ℕ) (d : Disks) (there : nt
     leads = (record { station = station; there = there; becomes = refl }, refl);
   }
 
-  -- the base as before, or after a purge
+  -- the old base, or the base after a purge
   pub holding-or-purging : (next : Base) → HoldsOrPurges station.base next → MadeOrHeld IsPurge i d station.base next
   holding-or-purging next may = ⊎_elim (λ same. inl same) (λ purges. inr (purging next purges)) may
 

@@ -1,4 +1,4 @@
--- A toss of packet files, by their bytes: some first ones are tossed whole, and the next may be tossed in part.
+-- A toss of packet files, by their bytes: the first ones are tossed whole, and the next may be tossed in part.
 use Rattle.std.proofs.Common.{Bool, true, false, ◌≡◌, ◌⊎◌, inl, inr, refl, sym, subst, ap, ℕ, zero, suc, ◌+◌, ◌-◌, ◌≤◌, arith, List, [], ◌∷◌, length, Option, Some, None, Result, Ok, Err}
 use Rattle.cmd_status.specs.Devices.{Device}
 use Rattle.cmd_status.specs.declared.fault.Fault.{Fault}
@@ -23,25 +23,25 @@ IsWholly (Holds bytes) old new = TossesPacketThere bytes old new
 IsWholly (Fails path) old new = ⊥
 IsWholly Unknown old new = Unit {0}
 
--- the first of the files, if there is one, stopped the run
+-- the first of the files, if any, stopped the run
 abbrev pub IsPartly : List Coming → SystemState → SystemState → Type 0
 IsPartly [] old new = new ≡ old
 IsPartly (Holds bytes ∷ later) old new = (new ≡ old) ⊎ TossesFront bytes old new
 IsPartly (Fails path ∷ later) old new = new ≡ old
 IsPartly (Unknown ∷ later) old new = Unit {0}
 
--- so many files were tossed whole, and then the run ended
+-- this many files were tossed whole, and then the run ended
 abbrev pub TossedFiles : ℕ → List Coming → SystemState → SystemState → Type 0
 TossedFiles zero files old new = IsPartly files old new
 TossedFiles (suc n) [] old new = ⊥
 TossedFiles (suc n) (file ∷ later) old new = (mid : SystemState) × IsWholly file old mid × TossedFiles n later mid new
 
--- how many of so many
+-- the number of files tossed whole
 abbrev pub wholes : ℕ → Option Fault → List Coming → ℕ
 wholes all None left = all
 wholes all (Some fault) left = all - (length left + 1)
 
--- the packet of a file was tossed with this answer, and why it was not tossed whole stopped the run
+-- the packet of a file was tossed with this answer; the reason why it was not tossed whole stopped the run
 record IsAnswered (old : TossRun) (reader left : Device) (stopped : Option Fault) (new : TossRun) : Type 0 where
   answer : Result Tally TossFault
   step : PacketStep old.limits old.system reader.contents left.contents answer new.system
@@ -82,7 +82,7 @@ module _ (noting : Bool) where
       by (Ok tally) noted told so = so
       by (Err f) noted told so = absurd (none_some told.0)
 
-  -- and one that stopped it
+  -- and a file that stopped it
   stopped-at : (file : Coming) (later : List Coming) (old new : TossRun) (fault : Fault) → TossesFileBy (Unit {0}) (TossesPacketBy noting) itself file old (Some fault) new
       → IsPartly (file ∷ later) old.system new.system
   stopped-at Unknown later old new fault tossed = tt
@@ -99,7 +99,7 @@ module _ (noting : Bool) where
       by (Ok tally) noted told so = absurd (none_some (sym told.0))
       by (Err f) noted told so = so
 
-  -- the number of files left is the number after the last opened one
+  -- the number of files left is the number of files after the last opened one
   left-behind : (files : List Coming) (old : TossRun) (fault : Fault) (left : List Coming) (new : TossRun)
       → TossesEachBy (Unit {0}) (TossesPacketBy noting) itself files old (Some fault) left new → length left + 1 ≤ length files
   left-behind [] old fault left new (none, rest, end) = absurd (none_some (sym none))
@@ -126,7 +126,7 @@ module _ (noting : Bool) where
       let none : wholes (suc (length files)) stopped left ≡ 0 = subst W (sym is) (omega (arith, ap (λ (l : List Coming). length l) rest)) in
       subst T (sym none) (stopped-at file files old new fault (subst F is last))
 
--- what becomes of the base
+-- the base after the toss
 pub tossed-all : (files : List Coming) (file : LinkFile) (base next : Base) → (t : TossesAll files file base next)
     → TossedFiles (wholes (length files) t.stopped t.left) files (state_in file base) (state_in file next)
 tossed-all files file base next t =

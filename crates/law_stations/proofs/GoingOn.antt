@@ -10,7 +10,7 @@ use Rattle.law_stations.specs.Asked.{Asked, AnswerOf, CommandGoesOn, CommandsGoO
 use Rattle.law_stations.specs.Seats.{Seat, reach}
 use Rattle.law_stations.specs.Steps.{IsAllOnDisk}
 
--- a path outside more paths is outside fewer
+-- a path outside a larger place is outside a smaller one
 pub reaches-by : (place further : Place) (old new : DiskState) → ((m : List ℕ) → place.is_own m → further.is_own m) → LeavesElsewhere place old new → LeavesElsewhere further old new
 reaches-by place further old new more left = record {
   crash = λ c since. ⊎_elim (λ was. inl was) (λ (same : SameElsewhere place old c). inr (λ m out. same m (λ own. out (more m own)))) (left.crash c since);

@@ -1,4 +1,4 @@
--- No packet file is taken away from under its name.
+-- No packet file loses its name.
 use Rattle.std.proofs.Common.{◌≡◌, ◌⊎◌, inl, inr, refl, sym, subst, ap, ◌∙◌, ℕ, zero, suc, append-nil, append_assoc, Bool, true, false, List, [], ◌∷◌, ◌++◌}
 use Rattle.model_steps.specs.declared.stamp.Stamp.{Stamp}
 use Rattle.law_stations.specs.Commands.{Command, Post, Purge, Scan, Toss}
@@ -8,7 +8,7 @@ use Rattle.law_stations.specs.Disks.{Disks, naming}
 use Rattle.law_stations.specs.Stopping.{Ends, EndsOne, EndsSome, PartialEffect, Moves, ScansFar, Writes}
 use Rattle.law_stations.specs.LoneDisks.{LoneDisks, MayHappenAlone, MayHappenAllAlone}
 
--- the packet files are there, before some since
+-- the packet files stay, and later ones follow
 abbrev Grows : List (List ℕ) → List (List ℕ) → Type 0
 Grows old new = (since : List (List ℕ)) × (new ≡ old ++ since)
 

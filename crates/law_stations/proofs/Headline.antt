@@ -1,4 +1,4 @@
--- Where an area was checked, a net is in order.
+-- A net with a checked area is in order.
 use Rattle.std.proofs.Common.{◌≡◌, refl, sym, subst, ap, ◌∙◌, ℕ, ◌≤◌, List, [], ◌∷◌, length, Option, Some, Ok}
 use Rattle.std.specs.Prelude.{Bool, IsTrue}
 use Rattle.std.proofs.lemmas.List.{append-nil}
@@ -27,7 +27,7 @@ use Rattle.law_stations.proofs.Systems.{says-so}
 use Rattle.law_stations.proofs.Moving.{nth-middle}
 use Rattle.model_run.proofs.HarmLists.{among-nth}
 
--- and as no other
+-- and as no other packet
 read-once : (bytes : List ℕ) (p q : Packet) → IsPacketFile bytes p → ReadsAs bytes q → q ≡ p
 read-once bytes p q is (limits, other) =
     let one = one-packet (limits_of bytes) limits p.header q.header p.messages q.messages bytes bytes [] is.packet other (sym (append-nil bytes)) in
@@ -49,7 +49,7 @@ module _ (commands : List CommandEvent) (net : Net) (files : List LinkFile) (tag
   abbrev run : Run
   run = after_events (start files) led.events
 
-  -- where the net has settled, the run has
+  -- if the net has settled, the run has settled
   settled : IsSettled net tag → Settled run tag
   settled is = record {
     scanned = λ s there m waits.
@@ -63,7 +63,7 @@ module _ (commands : List CommandEvent) (net : Net) (files : List LinkFile) (tag
         subst D led.agrees.delivered (is.tossed (length before) bytes packet there (reads bytes packet packed) m in_it tagged);
   }
 
-  -- what a base has of a posting
+  -- the message of a base for a posting
   unchanged : (i : ℕ) (s : System) → nth i run.systems ≡ Some s → (posting : Filed) → FiledUnchanged s posting → HasUnchanged commands i s.base s.cursor posting
   unchanged i s at posting is = record {
     once = is.once;

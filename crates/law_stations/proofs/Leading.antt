@@ -1,4 +1,4 @@
--- A command that was run on a station leads to a net in which the station has the base that it made.
+-- A command that ran on a station leads to a net in which the station has the command's base.
 use Rattle.std.proofs.Common.{◌≡◌, ◌⊎◌, inl, inr, ⊎_elim, ◌∙◌, ℕ, List, Result, Ok, Err, refl, sym, subst, ap}
 use Rattle.std.specs.Prelude.{IfErr, OnOk}
 use Rattle.base_file.specs.Base.{Base}
@@ -29,7 +29,7 @@ pub record LeadsTo (IsCommand : Command → Type 0) (i : ℕ) (d : Disks) (next 
   pub is : IsCommand command
   pub leads : PartialEffect command d i after
 
--- the base as before, or one that a command of this kind made
+-- the old base, or one that a command of this kind made
 abbrev pub MadeOrHeld : (Command → Type 0) → ℕ → Disks → Base → Base → Type 0
 MadeOrHeld IsCommand i d base next = (next ≡ base) ⊎ LeadsTo IsCommand i d next
 
@@ -38,21 +38,21 @@ module _ (place : Place) (links : List ℕ) (i : ℕ) (d : Disks) (old new : Dis
   abbrev pub base : Base
   base = at.shows.station.base
 
-  -- what the link file of the station says
+  -- the contents of the station's link file
   abbrev pub SaysIn : LinkFile → Type 0
   SaysIn file = LinksOf at.shows.station.links (Ok file)
 
-  -- files that a crash left show the station as it was
+  -- files that a crash left show the unchanged station
   as-it-was : (c : Files) → c links ≡ old.seen links → place.stands_for base c → ShowsStation place links i c d
   as-it-was c linked stands =
       record { station = at.shows.station; there = at.shows.there; of_links = linked ∙ at.shows.of_links; stands = stands }
 
-  -- what a link file says that was read
+  -- the contents of a link file that was read
   pub says-so : (Reads : LinkFile → Type 0) → ReadsLinks Reads links old → (file : LinkFile) → Reads file → SaysIn file
   says-so Reads read file is =
       let of_links = read file is in subst (λ (b : List ℕ). LinksOf b (Ok file)) (some_same (sym of_links.seen ∙ at.shows.of_links)) of_links.judged
 
-  -- the link file, which was on the disk elsewhere
+  -- the link file, which was on the disk outside the place
   outside-links : (c : Files) → SameElsewhere place old c → c links ≡ old.seen links
   outside-links c same = same links at.outside at.linked.named at.linked.flushed
 
@@ -65,19 +65,19 @@ module _ (place : Place) (links : List ℕ) (i : ℕ) (d : Disks) (old new : Dis
   pub left-links : (c : Files) → new.may_leave c → c links ≡ old.seen links
   left-links c left = new.on_disk links still-linked.named still-linked.flushed c left ∙ same-links
 
-  -- a crash that left the base as it was, or what one before might have left
+  -- a crash that left the base unchanged, or a state that an earlier crash might have left
   was-left : (c : Files) → StandsOrWasLeft place old base c → old.may_leave c ⊎ ShowsStation place links i c d
   was-left c (inl alone) = inr (as-it-was c (outside-links c alone.elsewhere) alone.stands)
   was-left c (inr was) = inl was
 
-  -- the disk after a command that left the base as it was
+  -- the disk after a command that left the base unchanged
   is-as-before : StandsAsBefore place old new base → IsAsBefore place links i d new
   is-as-before it = record {
     at = record { shows = as-it-was new.seen same-links it.seen; linked = still-linked; outside = at.outside };
     on_disk = λ c left. as-it-was c (left-links c left) (it.stands c left);
   }
 
-  -- where a command met a fault
+  -- if a command met a fault
   module _ {A : Type 0} (IsAnswer : LinkFile → Base → Type 0) (Makes May : LinkFile → Base → Base → Type 0) (Reads : LinkFile → Type 0) (IsShut Stops : Fault → Type 0) (failed : Type 0) (result : Result A CommandError) where
     stands-so : IsRun IsAnswer Makes May place Reads failed old new result → (fault : Fault) → result ≡ Err (Met fault) → StandsAsBefore place old new base
     stands-so run fault is = subst (λ (r : Result A CommandError). IfErr r (StandsWhereMet place old new base)) is (run.runs base at.shows.stands).met
@@ -93,7 +93,7 @@ module _ (place : Place) (links : List ℕ) (i : ℕ) (d : Disks) (old new : Dis
     stays out out_now (inr (inr stopped)) fault is = inl (is-as-before (stopped.stands base at.shows.stands))
 
   module _ (IsCommand : Command → Type 0) where
-    -- that command
+    -- this command
     pub led : (next : Base) (to : LeadsTo IsCommand i d next) → LeadsFarBy IsCommand i d to.after
     led next to = record { command = to.command; is = to.is; leads = to.leads }
 
@@ -122,7 +122,7 @@ module _ (place : Place) (links : List ℕ) (i : ℕ) (d : Disks) (old new : Dis
     module _ {A : Type 0} (IsAnswer : LinkFile → Base → Type 0) (Makes May : LinkFile → Base → Base → Type 0) (Reads : LinkFile → Type 0) (read : ReadsLinks Reads links old) (IsShut Stops : Fault → Type 0) (failed : Type 0) (result : Result A CommandError)
         (may : (file : LinkFile) (next : Base) → SaysIn file → May file base next → MadeOrHeld IsCommand i d base next)
         (makes : (file : LinkFile) (next : Base) → SaysIn file → Makes file base next → LeadsTo IsCommand i d next) where
-      -- what a command does that ran
+      -- the effect of a command that ran
       ran : IsRun IsAnswer Makes May place Reads failed old new result → RefinesEvent IsCommand place links i d old new result
       ran run = record {
         crash = left;
@@ -165,7 +165,7 @@ module _ (place : Place) (links : List ℕ) (i : ℕ) (d : Disks) (old new : Dis
           staging : (c : Files) → new.left_since old.moment c → old.may_leave c ⊎ SameElsewhere place old c
           staging c since = ⊎_elim (λ alone. inr alone.elsewhere) (λ was. inl was) (on.crash.each c since)
 
-      -- what one does that did not
+      -- the effect of a command that did not run
       not-run : (fault : Fault) → result ≡ Err (Met fault) → LeavesOnly old new (StandsOrWasLeft place old base) → RefinesEvent IsCommand place links i d old new result
       not-run fault is leaves = record {
         crash = λ c since. may-be c (was-left c (leaves.each c since));
@@ -176,7 +176,7 @@ module _ (place : Place) (links : List ℕ) (i : ℕ) (d : Disks) (old new : Dis
         elsewhere = record { crash = λ c since. ⊎_elim (λ alone. inr alone.elsewhere) (λ was. inl was) (leaves.each c since); keeps = kept };
       }
 
-      -- what a command does
+      -- the effect of a command
       pub does : (out out_now : Output) → RunsIn IsAnswer Makes May place Reads IsShut Stops failed old new out out_now result → RefinesEvent IsCommand place links i d old new result
       does out out_now (inl run) = ran run
       does out out_now (inr (inl shut)) = not-run shut.fault shut.is (shut.crash base at.shows.stands)

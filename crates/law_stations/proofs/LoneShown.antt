@@ -1,4 +1,4 @@
--- What one station shows, from what its system has and has sent.
+-- The contents of one station, from the history of its system and its sent packets.
 use Rattle.std.proofs.Common.{◌≡◌, ◌⊎◌, inl, inr, refl, sym, subst, ap, ◌∙◌, ℕ, zero, suc, ◌≤◌, arith, List, [], ◌∷◌, take, drop, None, Some, Option}
 use Rattle.std.specs.Prelude.{false}
 use Rattle.echo_addr.specs.declared.address.Address.{Address}
@@ -46,7 +46,7 @@ use Rattle.law_stations.proofs.Purgings.{left-scanned, purge-among}
 use Rattle.law_stations.proofs.Alone.{IsLone}
 use Rattle.law_stations.proofs.Steps.{AreOfCommands}
 
--- a stub has the tag and the sender of its message, and lists no one
+-- a stub has the tag and the sender of its message, and an empty SEEN-BY
 stub-owed : (file : LinkFile) (h : Filed) (a : Address) → IsOwed file h a → IsOwed file (stub_of h) a
 unfolding stub_of
 stub-owed file h a owed = with_id (msgid_of h.echo.kept)
@@ -66,7 +66,7 @@ kept-take (suc c) (b ∷ base) (h ∷ history) k m i =
       | inr t ↦ (let (n, j, kept) = kept-take c base history k.1 m t in (n, inr j, kept))
     ]
 
--- the station says what its system has
+-- the contents of the station are those of its system
 pub record Stood (z : LoneSystem) (file : LinkFile) (f : LinkFile) (messages : List Filed) (cursor : ℕ) : Type 1 where
   pub same : (P : LinkFile → List Filed → ℕ → Type 0) → P file z.system.base z.system.cursor → P f messages cursor
 
@@ -144,7 +144,7 @@ module _ (commands : List LoneCommand) (file : LinkFile) (fits : IsFile file) (s
   kept-of : (m : Filed) → Among m z.system.base → (h : Filed) × Among h z.system.history × IsKept m h
   kept-of m i = Kept-back z.system.cursor z.system.base z.system.history ok.kept m i
 
-  -- what the base has came
+  -- each message of the base came
   came-here : (m : Filed) → Among m z.system.base →
       (o : Filed) × HasCome s file o × ((m ≡ o) ⊎ IsLeftAlone commands (take z.system.cursor z.system.base) m o)
   came-here m i =
@@ -187,7 +187,7 @@ module _ (commands : List LoneCommand) (file : LinkFile) (fits : IsFile file) (s
       let there : Among (TossHere sender p.messages) events = subst U (ap (λ (x : Header). sender_of file x) same) (subst T all by.there) in
       run-due the_laws file fits events lone.plain sender p.messages there packed i from
 
-  -- whom a message is not to go to as the base has it, it was not to go to as it was filed
+  -- an address that should not get the base's message should not get the filed one
   not-owed : (m h : Filed) → IsKept m h → (a : Address) → (¬ IsOwed file m a) → ¬ IsOwed file h a
   not-owed m h kept a none owed =
       let P : Filed → Type 0 = λ x. IsOwed file x a in

@@ -1,4 +1,4 @@
--- A scan is stopped before its base is committed, or comes to that: then its packets wait for their names.
+-- A scan stops before its base is committed, or commits it; then its packets wait for their names.
 use Rattle.std.proofs.Common.{◌≡◌, ◌≢◌, inl, inr, refl, sym, subst, ap, ◌∙◌, ℕ, zero, suc, ◌+◌, ◌≤◌, ◌<◌, arith, append-nil, append_assoc, length-append, List, [], ◌∷◌, ◌++◌, length, map, Option, Some, None}
 use Rattle.std.specs.List.{AllByRecursion}
 use Rattle.std.proofs.lemmas.Bool.{cases_lt}
@@ -25,7 +25,7 @@ use Rattle.law_stations.proofs.Tracking.{IsTagged, Tracks, cursor-too, has-curso
 use Rattle.model_run.proofs.HarmLists.{nth-changed as changed-there}
 use Rattle.model_run.proofs.Targets.{some_same}
 
--- files that a stopped scan wrote have no packet that waits
+-- files of a stopped scan have no waiting packet
 unfinished-tagged : (packets : List (List ℕ)) (at : List ℕ) (i c : ℕ) (files : List StagingFile) → nth i at ≡ Some c → AllByRecursion (IsOfNext i c) files
     → Paired (IsTagged packets at) files (nones files)
 unfinished-tagged packets at i c [] there are = tt
@@ -55,7 +55,7 @@ pub nth-middle : {X : Type 0} (before : List X) (x : X) (after : List X) → nth
 nth-middle [] x after = refl
 nth-middle (y ∷ before) x after = nth-middle before x after
 
--- the packets of a scan wait for their names, each under its own index
+-- the packets of a scan wait for their names, each under its index
 waiting-tagged : (front : List (List ℕ)) (at : List ℕ) (i c : ℕ) (ps : List PacketFile) → ((q : PacketFile) → Among q ps → (n : ℕ) × (nth i at ≡ Some n) × (c < n))
     → Paired (IsTagged (front ++ map bytes_of ps) at) (map (staging_of i c) ps) (from (length front) ps)
 waiting-tagged front at i c [] less = tt
@@ -74,12 +74,12 @@ map-staging g f zero (suc j) (x ∷ xs) other = refl
 map-staging g f (suc i) zero (x ∷ xs) other = refl
 map-staging g f (suc i) (suc j) (x ∷ xs) other = map-staging g f i j xs (λ e. other (ap suc e))
 
--- where nothing waits there are no packets
+-- if nothing waits, there are no packets
 none-scanned : (file : LinkFile) (base : List Filed) (cursor : ℕ) (stamp : Stamp) → length base ≤ cursor → scanned file base cursor stamp ≡ []
 unfolding scanned packets_of recipients address_set
 none-scanned file base cursor stamp past = ap (packets_of file stamp) (drop_all cursor base past)
 
--- where there are packets something waited
+-- if there are packets, something waited
 pub some-waits : (file : LinkFile) (base : List Filed) (cursor : ℕ) (stamp : Stamp) (packets : List PacketFile) → packets ≡ map (file_sent cursor) (scanned file base cursor stamp)
     → (q : PacketFile) → Among q packets → cursor < length base
 some-waits file base cursor stamp packets made q h = elim (cases_lt cursor (length base)) [
@@ -89,7 +89,7 @@ some-waits file base cursor stamp packets made q h = elim (cases_lt cursor (leng
       absurd (subst P (made ∙ ap (map (file_sent cursor)) (none-scanned file base cursor stamp past)) h))
 ]
 
--- the cursors of a station before a scan, and after it, where it has packets
+-- the cursors of a station before and after a scan, if it has packets
 pub scans-less : (stamp : Stamp) (net new : Net) (i : ℕ) → (scans : Scans stamp net i new) → (q : PacketFile) → Among q scans.packets
     → scans.station.base.cursor < length scans.station.base.messages
 scans-less stamp net new i scans =

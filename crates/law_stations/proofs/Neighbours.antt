@@ -1,4 +1,4 @@
--- What a command leaves elsewhere leaves other stations as they were.
+-- A command that leaves files elsewhere unchanged leaves other stations unchanged.
 use Rattle.std.proofs.Common.{◌≡◌, ◌≢◌, ◌⊎◌, inl, inr, ◌∙◌, ℕ, List}
 use Rattle.disk_io.specs.Disk.{DiskState, Files}
 use Rattle.station.specs.Place.{Place, SameElsewhere}

@@ -34,7 +34,7 @@ use Rattle.law_stations.proofs.Pairs.{paired-append, paired-nth}
 use Rattle.law_stations.proofs.Putting.{puts-agree}
 use Rattle.law_stations.proofs.Systems.{file-fits, one-file}
 
--- where nothing refuses it the message is filed
+-- the message is filed, unless it is refused
 is-filed : (file : LinkFile) (base : List Filed) (tag : List ℕ) (draft : Draft) (serial : ℕ) (stamp : Stamp) → post_refusal file base tag draft serial stamp ≡ None
     → posting file base tag draft serial stamp ≡ Some (posted file tag draft serial stamp)
 unfolding posting

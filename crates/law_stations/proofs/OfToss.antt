@@ -30,7 +30,7 @@ use Rattle.law_stations.proofs.Tossed.{Takes, takes-front}
 use Rattle.law_stations.proofs.Unpurged.{AsFiledAt, change-as_filed, tossing-as_filed}
 use Rattle.model_run.proofs.HarmLists.{nth-changed as changed-there}
 
--- what the base of a state is
+-- the base of a state
 abbrev base_in : SystemState → Base
 base_in state = record { messages = state.base; cursor = state.cursor }
 
@@ -44,7 +44,7 @@ record Here (i : ℕ) (net : Net) (run : Run) : Type 0 where
   there : nth i run.systems ≡ Some s
   has : HasSystem station s
 
--- what became of them by some events
+-- the net and the run after some events
 record Tossing (Kind : List RunEvent → Type 0) (i : ℕ) (net : Net) (run : Run) (whole : List ℕ) (new : SystemState) : Type 0 where
   events : List RunEvent
   kind : Kind events
@@ -64,18 +64,18 @@ nothing Kind none i net run new h same =
       as_filed = λ j at. at;
     }
 
--- whom a packet is for
+-- the receiver of a packet
 named-by : (file : LinkFile) (p : Packet) → p.header.dest_zone ≢ 0 → destination_of file p.header ≡ destination p
 named-by file p some =
     let zone : zone_of file p.header.dest_zone ≡ p.header.dest_zone =
     cond-false (p.header.dest_zone == 0) file.system.zone p.header.dest_zone (ne_eqb p.header.dest_zone 0 some) in
     λ i. record { zone = zone i; net = p.header.dest_net; node = p.header.dest_node }
 
--- the run where the system of the index took first messages of a packet
+-- the run after the system with the index took the first messages of a packet
 abbrev taken_run : ℕ → Run → Packet → ℕ → List ℕ → Run
 taken_run i run p n whole = record { systems = change i (taking p n) run.systems; packets = run.packets; delivered = with_indexes whole run.delivered }
 
--- it did, and it is the one that the packet is for
+-- the system took them, and it is the packet's receiver
 record Taken (i : ℕ) (net : Net) (run : Run) (h : Here i net run) (p : Packet) (n : ℕ) (new : SystemState) : Type 0 where
   at : receiver run p ≡ i
   is : state_of (taking p n h.s) ≡ new
@@ -113,7 +113,7 @@ taken i net run h p n bytes new is t header messages =
       as_filed = λ j. change-as_filed j i (taking p n) run.systems (λ _ x _ same. tossing-as_filed (sender_of x.file p.header) (take n p.messages) x same);
     }
 
--- those that are not opened
+-- the files that are not opened
 none-tossed : (indexes : List ℕ) → AreTossesOf indexes []
 none-tossed [] = refl
 none-tossed (k ∷ later) = ([], [], refl, inl refl, none-tossed later)
@@ -177,7 +177,7 @@ each-toss (suc n) i (k ∷ later) (Holds bytes ∷ files) net run new h are (mid
       as_filed = λ j at. subst (λ (r : Run). AsFiledAt j (after_events r rest.events).systems) (sym becomes) (rest.as_filed j (took.as_filed j at));
     }
 
--- how many were tossed whole
+-- the number of files tossed whole
 pub same-length : (packets : List (List ℕ)) (indexes : List ℕ) (files : List Coming) → Paired (IsPacketAt packets) indexes files → length indexes ≡ length files
 same-length packets [] [] are = refl
 same-length packets [] (file ∷ files) are = absurd are

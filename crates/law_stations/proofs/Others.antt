@@ -25,7 +25,7 @@ use Rattle.law_stations.specs.Disks.{Disks, cursor_of}
 use Rattle.law_stations.proofs.Counting.{IsItem}
 use Rattle.law_stations.proofs.Tracking.{IsTossedAt, Tracks, still}
 
--- the cursors of stations of which one has another base with the same cursor
+-- the cursors of stations, one of them with another base and the same cursor
 same-cursors : (i : ℕ) (station : Station) (next : Base) (stations : List Station) → nth i stations ≡ Some station → next.cursor ≡ station.base.cursor
     → map cursor_of (change i (with_base next) stations) ≡ map cursor_of stations
 same-cursors i station next stations there same =
@@ -71,7 +71,7 @@ purged-too i d new net t p staging =
           (subst (λ (n : Net). (j : ℕ) → Among j n.delivered → IsTossedAt t.places net.delivered j) (sym p.becomes) t.tossed);
     }
 
--- the place in the net of a packet file that has its name
+-- the index in the net of a packet file that has its name
 abbrev number : Option ℕ → ℕ
 number None = 0
 number (Some k) = k
@@ -79,7 +79,7 @@ number (Some k) = k
 abbrev place_at : List ℕ → ℕ → ℕ
 place_at places j = number (nth j places)
 
--- where the net has the same bytes
+-- the index at which the net has the same bytes
 record Placed (packets : List (List ℕ)) (places : List ℕ) (j : ℕ) (bytes : List ℕ) : Type 0 where
   place : nth j places ≡ Some (place_at places j)
   there : nth (place_at places j) packets ≡ Some bytes
@@ -91,7 +91,7 @@ is-placed packets named places j bytes paired at =
     let same : place_at places j ≡ k = ap number place in
     record { place = place ∙ ap (λ (n : ℕ). Some n) (sym same); there = ap (λ (n : ℕ). nth n packets) same ∙ there }
 
--- the files that `toss` is given are those of the places
+-- the input files of `toss` are those at the indexes
 file-at : (packets named : List (List ℕ)) (places : List ℕ) (j : ℕ) (file : Coming) → Paired (IsItem packets) named places → IsPacketAt named j file → IsPacketAt packets (place_at places j) file
 file-at packets named places j (Holds bytes) paired at = let p = is-placed packets named places j bytes paired at in p.there
 file-at packets named places j (Fails path) paired at = tt
@@ -125,7 +125,7 @@ tossed-cursor (suc n) packets (k ∷ indexes) (Holds bytes ∷ files) old new ar
 tossed-cursor (suc n) packets (k ∷ indexes) (Fails path ∷ files) old new are tossed = absurd tossed.1
 tossed-cursor (suc n) packets (k ∷ indexes) (Unknown ∷ files) old new are tossed = absurd are.0
 
--- and those that it tossed whole are there
+-- and the files tossed whole are among them
 tossed-there : (n : ℕ) (packets : List (List ℕ)) (indexes : List ℕ) (files : List Coming) (old new : SystemState) → Paired (IsPacketAt packets) indexes files → TossedFiles n files old new
     → (j : ℕ) → Among j (take n indexes) → (bytes : List ℕ) × (nth j packets ≡ Some bytes)
 tossed-there zero packets indexes files old new are tossed j h = absurd h
@@ -138,13 +138,13 @@ tossed-there (suc n) packets (k ∷ indexes) (Holds bytes ∷ files) old new are
 tossed-there (suc n) packets (k ∷ indexes) (Fails path ∷ files) old new are tossed j h = absurd tossed.1
 tossed-there (suc n) packets (k ∷ indexes) (Unknown ∷ files) old new are tossed j h = absurd are.0
 
--- the places of those that were tossed whole
+-- the indexes of the files tossed whole
 take-placed : (f : ℕ → ℕ) (n j : ℕ) (indexes : List ℕ) → Among j (take n indexes) → Among (f j) (take n (map f indexes))
 take-placed f zero j indexes h = absurd h
 take-placed f (suc n) j [] h = absurd h
 take-placed f (suc n) j (k ∷ indexes) h = elim h [ inl e ↦ inl (ap f e) | inr t ↦ inr (take-placed f n j indexes t) ]
 
--- indexes that join others
+-- an index that joins others
 joins : (k : ℕ) (ks : List ℕ) → Among k (with_index k ks)
 joins k ks = by (list_any (λ d. d == k) ks) refl
   where

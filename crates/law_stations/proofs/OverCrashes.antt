@@ -1,4 +1,4 @@
--- What one station shows without crashes its disks show over them.
+-- The contents of one station without crashes are those of its disks over crashes.
 use Rattle.std.proofs.Common.{◌≡◌, inl, inr, refl, sym, subst, List, [], ◌∷◌}
 use Rattle.model_graph.specs.Walk.{Among}
 use Rattle.law_stations.specs.Nets.{Paired, first_net}
@@ -17,7 +17,7 @@ like-purge (ScanAlone stamp) like = cc
 like-purge PurgeAlone like = refl
 like-purge (TossAny files) (others, like) = cc
 
--- where a purge was called among the commands of the net, one was on the disks
+-- if a purge is among the commands of the net, one is among those of the disks
 purged-too : (commands plain : List LoneCommand) → Paired IsLikeAlone commands plain → Among PurgeAlone plain → Among PurgeAlone commands
 purged-too [] [] like h = h
 purged-too [] (p ∷ plain) like h = absurd like

@@ -29,7 +29,7 @@ use Rattle.cmd_report.specs.Scanned.{file_sent}
 use Rattle.law_stations.specs.Agreement.{IsPacketFile}
 use Rattle.law_stations.specs.Nets.{Paired, bytes_of}
 
--- parts of bytes are bytes
+-- parts of byte strings are byte strings
 bytes-front : (xs ys : List ℕ) → AreBytes (xs ++ ys) → AreBytes xs
 bytes-front xs ys h = subst AreBytes (take-append_seam xs ys) (AreBytes-take (length xs) (xs ++ ys) h)
 
@@ -43,7 +43,7 @@ header-fits : (file : LinkFile) (stamp : Stamp) (address : Address) → AreBytes
 unfolding header_to
 header-fits file stamp address bytes = header-is (header_to file stamp address) bytes refl refl
 
--- the strings of a message of bytes
+-- the strings of a message are byte strings
 record HasBytes (m : Message) : Type 0 where
   date : AreBytes m.date
   to_name : AreBytes m.to_name
@@ -127,7 +127,7 @@ packets-fit file stamp waiting n fits all [] to bytes = tt
 packets-fit file stamp waiting n fits all (a ∷ addresses) to bytes =
     (packet-fits file stamp waiting a fits to.0 all bytes.0, packets-fit file stamp waiting n fits all addresses to.1 bytes.1)
 
--- whom packets go to
+-- the addresses that packets go to
 targets-are : (file : LinkFile) → IsFile file → (m : Filed) → AllByRecursion IsAddress (targets file m)
 unfolding targets
 targets-are file fits m =

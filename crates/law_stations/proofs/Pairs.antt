@@ -1,11 +1,11 @@
--- Two lists that hold a relation pair by pair, and lists in which one item changes.
+-- Two lists with a relation between their items, pair by pair, and lists in which one item changes.
 use Rattle.std.proofs.Common.{◌≡◌, inl, inr, refl, sym, subst, ap, ◌∙◌, ℕ, zero, suc, List, [], ◌∷◌, ◌++◌, map, Some}
 use Rattle.model_graph.specs.Walk.{Among}
 use Rattle.model_run.specs.Run.{change, nth}
 use Rattle.law_stations.specs.Nets.{Paired}
 use Rattle.model_run.proofs.Targets.{some_same, none_some}
 
--- the other of a pair
+-- the other item of a pair
 pub paired-nth : {X Y : Type 0} (R : X → Y → Type 0) (i : ℕ) (x : X) (xs : List X) (ys : List Y) → Paired R xs ys → nth i xs ≡ Some x
     → (y : Y) × (nth i ys ≡ Some y) × R x y
 paired-nth R i x [] ys p h = absurd (none_some h)
@@ -40,7 +40,7 @@ change-twice i f g last [] = refl
 change-twice {X} zero f g last (z ∷ xs) = ap (λ (y : X). y ∷ xs) (last z)
 change-twice {X} (suc i) f g last (z ∷ xs) = ap (λ (ys : List X). z ∷ ys) (change-twice i f g last xs)
 
--- an item that stays what it is
+-- an item that the change keeps
 pub change-same : {X : Type 0} (i : ℕ) (f : X → X) (x : X) (xs : List X) → nth i xs ≡ Some x → f x ≡ x → change i f xs ≡ xs
 change-same i f x [] h same = refl
 change-same {X} zero f x (z ∷ xs) h same =

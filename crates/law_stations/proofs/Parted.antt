@@ -1,4 +1,4 @@
--- Of packets that wait some have their paths: these get their names.
+-- Some of the waiting packets are at their paths: these get their names.
 use Rattle.std.proofs.Common.{◌≡◌, ◌⊎◌, inl, inr, refl, subst, ℕ, suc, ◌<◌, append-nil, append_assoc, List, [], ◌∷◌, ◌++◌, map}
 use Rattle.std.specs.List.{AllByRecursion}
 use Rattle.model_graph.specs.Walk.{Among}
@@ -8,7 +8,7 @@ use Rattle.law_stations.specs.Disks.{StagingFile, HasCursor, with_packet}
 use Rattle.law_stations.specs.Stopping.{EndsSome, staging_of}
 use Rattle.law_stations.proofs.Whole.{disks_with, gets-name, with_packets}
 
--- Of packets that wait behind other files, those at their paths get their names.
+-- Of the packets that wait after other files, those at their paths get their names.
 pub record Parted (IsAt IsBeside : PacketFile → Type 0) (i cursor : ℕ) (before : List StagingFile) (net : Net) (ps : List PacketFile) : Type 0 where
   pub steps : ℕ
   pub named : List PacketFile
@@ -32,7 +32,7 @@ module _ (IsAt IsBeside : PacketFile → Type 0) (i cursor most : ℕ) where
     staging_paths = tt;
   }
 
-  -- one that gets its name
+  -- one packet gets its name
   abbrev one-more : (p : PacketFile) (ps : List PacketFile) (before : List StagingFile) (net : Net) → HasCursor net i most → cursor < most → IsAt p
       → Parted IsAt IsBeside i cursor before (with_packet net p.bytes) ps → Parted IsAt IsBeside i cursor before net (p ∷ ps)
   one-more p ps before net has less at rest =
@@ -52,7 +52,7 @@ module _ (IsAt IsBeside : PacketFile → Type 0) (i cursor most : ℕ) where
         staging_paths = rest.staging_paths;
       }
 
-  -- one that waits
+  -- one packet waits
   one-waits : (p : PacketFile) (ps : List PacketFile) (before : List StagingFile) (net : Net) → IsBeside p
       → Parted IsAt IsBeside i cursor (before ++ staging_of i cursor p ∷ []) net ps → Parted IsAt IsBeside i cursor before net (p ∷ ps)
   one-waits p ps before net staging rest =

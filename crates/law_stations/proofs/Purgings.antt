@@ -1,4 +1,4 @@
--- The traces of a purge show that one was run.
+-- The traces of a purge show that a purge was run.
 use Rattle.std.proofs.Common.{◌≡◌, ◌⊎◌, inl, inr, refl, sym, subst, ℕ, zero, suc, ◌<◌, ◌≤◌, arith, List, [], ◌∷◌, take}
 use Rattle.std.specs.Prelude.{Bool, true, false, if◌then◌else◌}
 use Rattle.model_graph.specs.Walk.{Among}
@@ -24,7 +24,7 @@ purge-or-same s (ScanHere stamp) = inr (scans (is_stamp stamp))
     scans false = refl
 purge-or-same s PurgeHere = inl tt
 
--- where more was purged, a purge was run
+-- if more was purged, a purge was run
 pub purge-among : (events : List LoneEvent) (s : LoneSystem) → s.purged_to < (after_all_lone s events).purged_to → (e : LoneEvent) × Among e events × IsPurge e
 purge-among [] s h = absurd (omega arith)
 purge-among (event ∷ later) s h =

@@ -1,4 +1,4 @@
--- One station and its system change: what agreed with a run agrees with what becomes of it.
+-- One station and its system change: if the net agreed with the run, it agrees with the changed run.
 use Rattle.std.proofs.Common.{◌≡◌, ◌⊎◌, inl, inr, subst, ap, ℕ, List, Some}
 use Rattle.model_graph.specs.Walk.{Among}
 use Rattle.echo_filed.specs.Filed.{Filed}
@@ -11,7 +11,7 @@ use Rattle.law_stations.specs.Agreement.{Agrees, HasPosting, HasSystem, IsPacket
 use Rattle.law_stations.specs.Nets.{Net, Paired, Station, with_base, with_indexes}
 use Rattle.law_stations.proofs.Pairs.{paired-put}
 
--- The station of a system, which become these; the packet files, those that are delivered and the postings may be more then.
+-- The station of a system with their changes. Packet files, deliveries and postings may be added.
 pub record Puts (net : Net) (run : Run) (i : ℕ) (next : Base) (f : System → System) (packets : List (List ℕ)) (sent : List Packet) (postings : List Filed) : Type 0 where
   pub station : Station
   pub at : nth i net.stations ≡ Some station

@@ -1,4 +1,4 @@
--- Bytes are read as one packet. A toss of them tosses messages at their beginning.
+-- Bytes read as one packet. A toss of them tosses messages at their beginning.
 use Rattle.std.proofs.Common.{◌≡◌, ◌⊎◌, inl, inr, sym, ap, ◌∙◌, ℕ, ◌+◌, ◌≤◌, arith, append-nil, append_assoc, List, [], ◌∷◌, ◌++◌, length, take, Option, Some, None, Result, Ok, Err}
 use Rattle.std.specs.List.{AllByRecursion}
 use Rattle.echo_packet.specs.declared.header.Header.{Header}
@@ -17,7 +17,7 @@ use Rattle.echo_toss.specs.PacketSteps.{BeginsWith, IsForUs, PacketStep, TossesA
 use Rattle.echo_toss.proofs.Parsed.{first_messages, one_header, one_list}
 use Rattle.echo_toss.proofs.WholePackets.{where_failed as where-failed}
 
--- limits that both are within
+-- limits that both meet
 abbrev both : Limits → Limits → Limits
 both a b = record { text = a.text + b.text; messages = a.messages + b.messages }
 
@@ -56,14 +56,14 @@ fronts a b ms all are other = record {
   more = (let r = other.room in omega (arith, r));
 }
 
--- a packet in front of bytes, part by part
+-- a packet at the beginning of bytes, part by part
 spread : (limits : Limits) (header : Header) (messages : List Message) (bytes front behind : List ℕ) → PacketOf limits header messages front
     → bytes ≡ front ++ behind → bytes ≡ header_bytes header ++ (messages_bytes messages ++ (word 0 ++ behind))
 spread limits header messages bytes front behind packet parts =
     parts ∙ ap (λ (t : List ℕ). t ++ behind) packet.bytes ∙ append_assoc (header_bytes header) (messages_bytes messages ++ word 0) behind
     ∙ ap (λ (t : List ℕ). header_bytes header ++ t) (append_assoc (messages_bytes messages) (word 0) behind)
 
--- bytes have one packet in front of them
+-- bytes begin with one packet
 pub one-in_front : (a b : Limits) (h k : Header) (ms all : List Message) (bytes front behind other rest : List ℕ) → PacketOf a h ms front → bytes ≡ front ++ behind
     → PacketOf b k all other → bytes ≡ other ++ rest → (k ≡ h) × (all ≡ ms)
 one-in_front a b h k ms all bytes front behind other rest is parts has same =
@@ -72,7 +72,7 @@ one-in_front a b h k ms all bytes front behind other rest is parts has same =
     let f = fronts a b ms all is.messages has.messages in
     (one.0, (one_list (both a b) 0 ms all behind rest f.mine f.theirs f.room f.more one.1).0)
 
--- and are one packet
+-- and bytes are one packet
 pub one-packet : (a b : Limits) (h k : Header) (ms all : List Message) (bytes came left : List ℕ) → PacketOf a h ms bytes → PacketOf b k all came → bytes ≡ came ++ left
     → (k ≡ h) × (all ≡ ms)
 one-packet a b h k ms all bytes came left is other same = one-in_front a b h k ms all bytes bytes [] came left is (sym (append-nil bytes)) other same
@@ -89,7 +89,7 @@ front-packet a b h k ms all bytes is begins =
 abbrev pub after_messages : SystemState → Header → List Message → SystemState
 after_messages old header ms = record { file = old.file; base = tossed old.file old.base (sender_of old.file header) ms; cursor = old.cursor }
 
--- these messages in front of the bytes were tossed
+-- these messages at the beginning of the bytes were tossed
 pub record TossesFront (bytes : List ℕ) (old new : SystemState) : Type 0 where
   pub limits : Limits
   pub header : Header
@@ -98,7 +98,7 @@ pub record TossesFront (bytes : List ℕ) (old new : SystemState) : Type 0 where
   pub for_us : IsForUs old header
   pub state : new ≡ after_messages old header messages
 
--- and they are all messages of a packet there
+-- and they are all messages of the packet
 pub record TossesPacketThere (bytes : List ℕ) (old new : SystemState) : Type 0 where
   pub tossed_front : TossesFront bytes old new
   pub front : List ℕ
@@ -106,7 +106,7 @@ pub record TossesPacketThere (bytes : List ℕ) (old new : SystemState) : Type 0
   pub parts : bytes ≡ front ++ behind
   pub packet : PacketOf tossed_front.limits tossed_front.header tossed_front.messages front
 
--- what the toss of a packet may do, by its answer
+-- the possible effects of the toss of a packet, by its answer
 abbrev pub TossesSo : List ℕ → SystemState → SystemState → Result Tally TossFault → Type 0
 TossesSo bytes old new (Ok tally) = TossesPacketThere bytes old new
 TossesSo bytes old new (Err fault) = (new ≡ old) ⊎ TossesFront bytes old new

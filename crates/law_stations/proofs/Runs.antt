@@ -32,7 +32,7 @@ use Rattle.law_stations.specs.OnDisks.{AsMay, IsAfterToss, IsStationAt, ReadsLin
 use Rattle.law_stations.proofs.Events.{holding-or-purging, mailing, posting-as, purging, replying, tossing}
 use Rattle.law_stations.proofs.Leading.{does, is-after, says-so, stays}
 
--- the packets that were tossed whole, by what the toss answered
+-- the packets tossed whole, by the answer of the toss
 delivered-so : (indexes delivered : List ℕ) (stopped answer : Option Fault) (behind left : List Coming) → stopped ≡ answer → behind ≡ left
     → with_indexes (whole_of (take (length indexes) indexes) stopped behind) delivered ≡ with_indexes (whole_of indexes answer left) delivered
 delivered-so indexes delivered stopped answer behind left is is_left =
@@ -41,7 +41,7 @@ delivered-so indexes delivered stopped answer behind left is is_left =
     ∙ ap (λ (l : List Coming). with_indexes (whole_of indexes answer l) delivered) is_left
 
 module _ (place : Place) (Reads : LinkFile → Type 0) (IsShut Stops : Fault → Type 0) (failed : Type 0) (old new : DiskState) (kept : KeepsElsewhere place old new) (out out_now : Output) where
-  -- where a command met a fault
+  -- if a command met a fault
   pub stays-where-met : {A : Type 0} (IsAnswer : LinkFile → Base → Type 0) (Makes May : LinkFile → Base → Base → Type 0) (result : Result A CommandError)
       → RunsIn IsAnswer Makes May place Reads IsShut Stops failed old new out out_now result → StaysWhereMet place IsShut old new result
   stays-where-met IsAnswer Makes May result runs i d links at =
@@ -89,7 +89,7 @@ module _ (place : Place) (Reads : LinkFile → Type 0) (IsShut Stops : Fault →
       (known : (file : LinkFile) (files : List Coming) (base next : Base) → Tosses honest noting limits device file files base next → TossesAll files file base next)
       (answered : (file : LinkFile) (files left : List Coming) (base next : Base) (answer : Option Fault) → TossesTo honest noting limits device file base files left out out_now (Ok answer) next
       → (all : TossesAll files file base next) × (all.stopped ≡ answer) × (all.left ≡ left)) (files left : List Coming) (result : Result (Option Fault) CommandError) where
-    -- a toss that was run
+    -- a toss that ran
     abbrev TossRuns : Type 0
     TossRuns =
         RunsIn (λ file base. TossesIn honest noting limits device file base files left out out_now result) (λ file base. TossesTo honest noting limits device file base files left out out_now result) (λ file. Tosses honest noting limits device file files)
@@ -99,7 +99,7 @@ module _ (place : Place) (Reads : LinkFile → Type 0) (IsShut Stops : Fault →
       abbrev base : Base
       base = at.shows.station.base
 
-      -- where it ended well
+      -- if it ended well
       ended : (answer : Option Fault) → result ≡ Ok answer → TossRuns → IsAfterToss indexes left place links i d new answer
       ended answer ok (inl run) =
           let says = says-so place links i d old new at kept Reads read run.file run.read in

@@ -51,7 +51,7 @@ left-away is_true Own outbound own found each m away (l, has, is) = by (All-cont
     by (name, called, numbered) (inl e) = away (inr (own, (name, called.plain, inl (e ∙ called.staging))))
     by (name, called, numbered) (inr e) = away (inr (own, (name, called.plain, inr (e ∙ called.path))))
 
--- nor has the path that is tried, nor have the packets of a scan
+-- nor is the path that is tried outside these paths, nor are the packets of a scan
 tried-away : (Own : List ℕ → Type 0) (outbound own : List ℕ) (m : List ℕ) → (IsTouched Own outbound m → ⊥) → m ≡ staging_path outbound own → ⊥
 tried-away Own outbound own m away is =
     away (inr (own, ([], λ k d lt. absurd (omega (arith, lt)), inl (is ∙ ap (λ (l : List ℕ). staging_path l own) (sym (append-nil outbound))))))
@@ -90,12 +90,12 @@ module _ (stamp : Stamp) (place : Place) (links outbound : List ℕ) (i : ℕ) (
   keeps-elsewhere : KeepsElsewhere (with_packets_in outbound place) old new
   keeps-elsewhere = record { seen = kept.seen; named = kept.named; flushed = kept.flushed; alone = kept.alone; honest = kept.honest }
 
-  -- the station as it was
+  -- the station is unchanged
   as-it-was : (c : Files) → c links ≡ old.seen links → place.stands_for base c → ShowsStation place links i c d
   as-it-was c linked stands =
       record { station = at.shows.station; there = at.shows.there; of_links = linked ∙ at.shows.of_links; stands = stands }
 
-  -- A scan leaves everything on the disk unchanged that it does not touch.
+  -- A scan leaves everything on the disk unchanged except the paths that it touches.
   abbrev SameAway : Files → Type 0
   SameAway c = (m : List ℕ) → (IsTouched place.is_own outbound m → ⊥) → old.is_named m → old.is_flushed m → c m ≡ old.seen m
 
@@ -140,7 +140,7 @@ module _ (stamp : Stamp) (place : Place) (links outbound : List ℕ) (i : ℕ) (
     abbrev moved : Disks
     moved = disks_with (with_left ended.net i [] next) (ended.staging ++ map (staging_of i base.cursor) files)
 
-    -- the station is on the disks where what stopped scans left is at its end
+    -- the disks have the station after the files of stopped scans are finished
     there : nth i ended.net.stations ≡ Some at.shows.station
     there = ap (nth i) (some-stations n i d ended ends) ∙ at.shows.there
 
@@ -187,7 +187,7 @@ module _ (stamp : Stamp) (place : Place) (links outbound : List ℕ) (i : ℕ) (
         }
 
     module _ (IsTrue : Files → Type 0) (failed : Type 0) (result : Result (Unit {0}) ScanError) (put : IsPutIn place outbound own IsTrue failed old new base files result) where
-      -- files on the way
+      -- files during the scan
       way-away : (c : Files) → IsOnItsWay place outbound own old base put.found files put.opened c → SameAway c
       way-away c (inl prepares) m off named flushed = prepares-away own files put.found (IsTrue put.opened) put.each c prepares m off named flushed
       way-away c (inr commits) m off named flushed =
@@ -217,7 +217,7 @@ module _ (stamp : Stamp) (place : Place) (links outbound : List ℕ) (i : ℕ) (
       left-by c (inl was) = inl was
       left-by c (inr on) = inr (on-way c on)
 
-      -- where it ended well
+      -- if it ended well
       module _ (sent : AreSentOut (IsTrue put.opened) place.is_own outbound own (place.stands_for next) base.cursor put.found files put.opened new) where
         abbrev after-all : (c : Files) → c links ≡ old.seen links → place.stands_for next c → AllByRecursion (IsAtPath outbound c) files
             → (scan : AreAfterScan stamp place links outbound i d ended base c) × (scan.waiting ≡ [])
@@ -242,7 +242,7 @@ module _ (stamp : Stamp) (place : Place) (links outbound : List ℕ) (i : ℕ) (
                   record { station = scan.shows.station; there = scan.shows.there; of_links = left-links c now ∙ at.shows.of_links; stands = sent.on_disk c now };
             }
 
-      -- no fault of the command is answered
+      -- the answer is no fault of the command
       placed : (fault : Fault) → result ≡ Err (Command (Met fault)) → ⊥
       placed fault is = subst (λ (r : Result (Unit {0}) ScanError). IfErr r (IsOfPlacing failed (IsTaken place.is_own outbound own base.cursor put.found files put.opened) (most < base.cursor))) is put.why
 
@@ -261,7 +261,7 @@ module _ (stamp : Stamp) (place : Place) (links outbound : List ℕ) (i : ℕ) (
         elsewhere = record { crash = λ c since. inr (may-away c (put.crash.each c since)); keeps = keeps-elsewhere };
       }
 
-  -- where it stopped before
+  -- if it stopped before
   abbrev Lasts : Result (Unit {0}) ScanError → Type 0
   Lasts result = ((fault : Fault) → result ≡ Err (Command (Met fault)) → ⊥) → (c : Files) → new.may_leave c → ShowsStation place links i c d ⊎ AreAfterScan stamp place links outbound i d ended base c
 
@@ -278,13 +278,13 @@ module _ (stamp : Stamp) (place : Place) (links outbound : List ℕ) (i : ℕ) (
     elsewhere = record { crash = λ c since. inr (same c (leaves.each c since)); keeps = keeps-elsewhere };
   }
 
-  -- what it reported
+  -- the reported fault
   told-as : (own : List ℕ) (files : List PacketFile) (failed : Type 0) (before after : Files) (why : CommandError) (result : Result (Unit {0}) ScanError) → TellsStop failed outbound own files before after why result
       → (cause : ScanError) × (result ≡ Err cause)
   told-as own files failed before after why result (inl (is, gone)) = (Command why, is)
   told-as own files failed before after why result (inr (left, is, cause)) = (Staying left, is)
 
-  -- where it stopped while its packets were made
+  -- if it stopped while its packets were made
   stopped-in : (own : List ℕ) (files : List PacketFile) (IsTrue : Files → Type 0) (failed : Type 0) (why : CommandError) (result : Result (Unit {0}) ScanError) → StopsScanIn place outbound own IsTrue failed old new base files why result
       → ScansAsEvent stamp place links outbound i d ended base old new result
   stopped-in own files IsTrue failed why result stops =
@@ -298,7 +298,7 @@ module _ (stamp : Stamp) (place : Place) (links outbound : List ℕ) (i : ℕ) (
   made-so file says out out_now IsTrue failed result (Ok files) answers put = put-so file says files out out_now answers IsTrue failed result put
   made-so file says out out_now IsTrue failed result (Err why) answers put = stopped-in (dotted file.system) (packets_in stamp file base) IsTrue failed why result put
 
-  -- where it was not run
+  -- if it did not run
   not-run : (IsShut Stops : Fault → Type 0) (out out_now : Output) (result : Result (Unit {0}) ScanError) (stopped : Result (Unit {0}) CommandError) → result ≡ as_scan stopped
       → IsNotRun place IsShut old new out out_now stopped ⊎ IsStopped place Stops old new out out_now stopped → ScansAsEvent stamp place links outbound i d ended base old new result
   not-run IsShut Stops out out_now result stopped is (inl shut) =

@@ -1,4 +1,4 @@
--- A scan that met a fault leaves the station as it was.
+-- A scan that met a fault leaves the station unchanged.
 use Rattle.std.proofs.Common.{◌≡◌, ◌<◌, ◌⊎◌, inl, inr, ◌∙◌, sym, subst, ap, ℕ, List, Result, Ok, Err}
 use Rattle.std.specs.Prelude.{IfErr}
 use Rattle.disk_io.specs.Disk.{DiskState, Files}

@@ -17,7 +17,7 @@ use Rattle.law_stations.specs.Seats.{Seat, reach}
 use Rattle.law_stations.specs.Steps.{IsAllOnDisk}
 use Rattle.law_stations.proofs.GoingOn.{reaches-by}
 
--- what a scan touches is the base or in the folder of packets
+-- a path that a scan touches belongs to the base or the folder of packets
 touched : {Kept : Type 0} (place : Kept → Place) (seat : Seat Kept) (m : List ℕ) → IsTouched (place seat.kept).is_own seat.outbound m → (reach place seat).is_own m
 touched place seat m (inl own) = inl own
 touched place seat m (inr (own, (name, plain, inl staging))) = inr (record {

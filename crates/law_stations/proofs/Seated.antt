@@ -1,4 +1,4 @@
--- What a step on a disk leaves of the stations there, and of those on other disks.
+-- The effect of a step on a disk on the stations there, and on those on other disks.
 use Rattle.std.proofs.Common.{◌≡◌, ◌≢◌, inl, inr, ⊎_elim, ◌∙◌, sym, subst, ap, ℕ, List, Option, Some, None}
 use Rattle.std.proofs.lemmas.Bool.{cases_eq}
 use Rattle.disk_io.specs.Disk.{DiskState, Files}
@@ -21,7 +21,7 @@ abbrev shows-too : (place : Place) (links : List ℕ) (i : ℕ) (c : Files) (d n
     → ShowsStation place links i c next
 shows-too place links i c d next same shows = record { station = shows.station; there = same ∙ shows.there; of_links = shows.of_links; stands = shows.stands }
 
--- a station that is on the disk is on the files that a crash leaves
+-- a station on the disk is in the files that a crash leaves
 shown-on : (place : Place) (links : List ℕ) (i : ℕ) (disk : DiskState) (d : Disks) → StandsOnDisk place links i disk d → (c : Files) → disk.may_leave c → ShowsStation place links i c d
 shown-on place links i disk d s c left = record {
   station = s.at.shows.station;
@@ -51,7 +51,7 @@ module _ {D Kept : Type 0} (state : D → DiskState) (place : Kept → Place) (s
     kept = s.kept;
   }
 
-  -- a disk that begins with what a crash left
+  -- a disk that begins with the state that a crash left
   anew : (j : ℕ) (b : Seat Kept) (begun : DiskState) (d : Disks) → nth j seats ≡ Some b → ((place b.kept).is_own b.links → ⊥) → IsAllOnDisk begun
       → ShowsStation (place b.kept) b.links j begun.seen d → StandsAt place seats j b begun d
   anew j b begun d is outside all shows = record {

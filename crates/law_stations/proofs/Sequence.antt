@@ -22,7 +22,7 @@ module _ {D Kept : Type 0} (state : D → DiskState) (place : Kept → Place) (s
       by (IsCut i command whole) (seat, on, w) = cut state place seats near step.disk goes.old step.then disks d next goes.there seated i command whole seat on w
       by Crashes (same, h) = crashed state place seats near step.disk goes.old step.then disks d next goes.there seated same h
 
-  -- its command, and those of later ones
+  -- its command, and those of later steps
   led : (i : ℕ) (command : Option Command) (later : List CommandEvent) (d next last : Disks) → MayLead command i d next → MayHappenAll later next last
       → MayHappenAll (with_command i command later) d last
   led i None later d next last same rest = subst (λ (x : Disks). MayHappenAll later x last) same rest

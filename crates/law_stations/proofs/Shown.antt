@@ -1,4 +1,4 @@
--- What nets show without crashes the disks show over them.
+-- The contents of nets without crashes are those of the disks over crashes.
 use Rattle.std.proofs.Common.{◌≡◌, inl, inr, refl, sym, subst, ap, ◌∙◌, ℕ, ◌+◌, ◌≤◌, arith, append-nil, List, [], ◌∷◌, map, Some}
 use Rattle.std.specs.Prelude.{if◌then◌else◌}
 use Rattle.echo_addr.specs.declared.address.Address.{Address}
@@ -24,14 +24,14 @@ use Rattle.law_stations.proofs.EachCommand.{crashes-are-none}
 use Rattle.model_run.proofs.HarmLists.{nth-map, among-nth}
 use Rattle.model_run.proofs.Targets.{some_same}
 
--- a command that is like a purge is one
+-- a command like a purge is a purge
 like-purge : (command : Command) → IsLike command Purge → command ≡ Purge
 like-purge (Post words body) like = cc
 like-purge (Scan stamp) like = cc
 like-purge Purge like = refl
 like-purge (Toss indexes) (others, like) = cc
 
--- where a purge was called among the commands of the net, one was on the disks
+-- if a purge is among the commands of the net, one is among those of the disks
 purged-too : (commands plain : List CommandEvent) (i : ℕ) → Paired IsLikeEvent commands plain → WasPurged plain i → WasPurged commands i
 purged-too [] [] i like h = h
 purged-too [] (p ∷ plain) i like h = absurd like
@@ -61,7 +61,7 @@ reads-once bytes p q (a, is) (b, other) =
     let one = one-packet a b p.header q.header p.messages q.messages bytes bytes [] is other (sym (append-nil bytes)) in
     λ i. record { header = one.0 i; messages = one.1 i }
 
--- files that are packets are read as some
+-- files that are packets read as some packets
 all-packets : (files : List (List ℕ)) → ((bytes : List ℕ) → Among bytes files → (p : Packet) × ReadsAs bytes p) → (ps : List Packet) × Paired ReadsAs files ps
 all-packets [] are = ([], tt)
 all-packets (bytes ∷ files) are =
@@ -69,7 +69,7 @@ all-packets (bytes ∷ files) are =
     let (ps, rest) = all-packets files (λ b h. are b (inr h)) in
     (p ∷ ps, (is, rest))
 
--- how often a packet has a message for an address
+-- the number of a packet's messages for an address
 abbrev weight : Address → Key → Packet → ℕ
 weight address key p = if same_address (destination p) address then count key (copies p) else 0
 
@@ -77,7 +77,7 @@ sent-total : (address : Address) (key : Key) (ps : List Packet) → sent_count a
 sent-total address key [] = refl
 sent-total address key (p ∷ ps) = ap (λ (n : ℕ). weight address key p + n) (sent-total address key ps)
 
--- each of some packets is at its place among others
+-- each of some packets is at its index among others
 picked-weights : (w : Packet → ℕ) (files some : List (List ℕ)) (places : List ℕ) (ps qs : List Packet) → Paired (IsItem files) some places → Paired ReadsAs files ps
     → Paired ReadsAs some qs → Paired (IsItem (map w ps)) (map w qs) places
 picked-weights w files [] [] ps [] picked read other = tt
@@ -90,7 +90,7 @@ picked-weights w files (bytes ∷ some) (k ∷ places) ps (q ∷ qs) picked read
     let same = reads-once bytes q p other.0 is in
     (nth-map w k p ps there ∙ ap (λ (x : Packet). Some (w x)) same, picked-weights w files some places ps qs picked.1 read other.1)
 
--- packets of different places hold a message no more often than all
+-- packets at different indexes hold a message no more often than all packets
 sent-less : (address : Address) (key : Key) (files some : List (List ℕ)) (places : List ℕ) (ps qs : List Packet) → Paired (IsItem files) some places → Different places
     → Paired ReadsAs files ps → Paired ReadsAs some qs → sent_count address key qs ≤ sent_count address key ps
 sent-less address key files some places ps qs picked apart read other =
@@ -98,7 +98,7 @@ sent-less address key files some places ps qs picked apart read other =
     let less = picked-total (map w ps) (map w qs) places (picked-weights w files some places ps qs picked read other) apart in
     omega (arith, less, sent-total address key ps, sent-total address key qs)
 
--- what a station holds is the same where the stations are
+-- a station has the same contents in nets with the same stations
 holds-too : (net other : Net) (i : ℕ) (file : LinkFile) (messages : List Filed) (cursor : ℕ) → net.stations ≡ other.stations → StationHolds net i file messages cursor
     → StationHolds other i file messages cursor
 holds-too net other i file messages cursor same holds = record {

@@ -8,7 +8,7 @@ use Rattle.law_stations.specs.Commands.{IsPacketAt}
 use Rattle.law_stations.specs.Nets.{Paired}
 use Rattle.law_stations.specs.ShownPackets.{IsShownAt}
 
--- one of them
+-- one of the files
 one-shown : (packets : List (List ℕ)) (seen : Files) (k : ℕ) (usable : Bool) (path : List ℕ) → IsShownAt packets seen k usable path → IsPacketAt packets k (coming_at seen usable path)
 one-shown packets seen k false path h = tt
 one-shown packets seen k true path (inl none) = absurd (cc none)

@@ -31,13 +31,13 @@ use Rattle.model_run.proofs.RulesLists.{Among-map_from}
 pub reads : (bytes : List ℕ) (p : Packet) → IsPacketFile bytes p → ReadsAs bytes p
 reads bytes p is = (limits_of bytes, is.packet)
 
--- systems begin with nothing
+-- systems begin empty
 first-as_filed : (files : List LinkFile) (i : ℕ) → AsFiledAt i (start files).systems
 first-as_filed files i s there =
     let (file, h, e) = Among-map_from fresh s files (nth-among i s (start files).systems there) in
     subst IsAsFiled (sym e) refl
 
--- the system of a station, and that the station says what that has
+-- the system of a station, with the same contents
 pub record Stands (run : Run) (i : ℕ) (file : LinkFile) (messages : List Filed) (cursor : ℕ) : Type 1 where
   pub s : System
   pub at : nth i run.systems ≡ Some s
@@ -55,7 +55,7 @@ module _ (commands : List CommandEvent) (net : Net) (files : List LinkFile) (fit
   abbrev run : Run
   run = after_events (start files) led.events
 
-  -- a message of a base that has the content of a posting, or that a purge left
+  -- a message of a base has the content of a posting, or is a stub
   pub is-unchanged : (i : ℕ) (s : System) → nth i run.systems ≡ Some s → (m : Filed) → Among m s.base
       → (filed : Filed) × Among filed s.history × (key_of m ≡ key_of filed)
       × ((posting : Filed) → SameContent filed posting → IsUnchanged commands i s.base s.cursor m posting)

@@ -1,4 +1,4 @@
--- What one station shows stays.
+-- The contents of one station stay.
 use Rattle.std.proofs.Common.{◌≡◌, ◌⊎◌, inl, inr, refl, sym, subst, ap, ◌∙◌, ℕ, zero, suc, ◌<◌, ◌≤◌, arith, List, [], ◌∷◌, ◌++◌, map, Some}
 use Rattle.std.proofs.lemmas.List.{map-append}
 use Rattle.model_graph.specs.Walk.{Among}
@@ -25,7 +25,7 @@ use Rattle.law_stations.proofs.LoneShown.{in-order, stood}
 use Rattle.law_stations.proofs.Steps.{AreOfCommands, commands-lone, run-lone}
 use Rattle.model_run.proofs.Targets.{some_same, none_some}
 
--- what a purge left at a place
+-- the stub at an index
 abbrev IsLeftAt : ℕ → ℕ → Filed → Filed → Type 0
 IsLeftAt n i h m = ((i < n) × (m ≡ stub_of h)) ⊎ ((n ≤ i) × (m ≡ h))
 
@@ -42,7 +42,7 @@ left-at (suc n) (suc i) (x ∷ ms) m e =
       elim left [ inl l ↦ inl (omega (arith, l.0), l.1) | inr l ↦ inr (omega (arith, l.0), l.1) ],
     )
 
--- and what it leaves
+-- and the message that a purge leaves there
 leaves-at : (n i : ℕ) (ms : List Filed) (h : Filed) → nth i ms ≡ Some h → (m : Filed) × (nth i (purged ms n) ≡ Some m) × IsLeftAt n i h m
 leaves-at zero i ms h e = (h, ap (λ (ns : List Filed). nth i ns) (purged-none ms) ∙ e, inr (omega arith, refl))
 leaves-at (suc n) i [] h e = absurd (none_some e)
@@ -75,14 +75,14 @@ module _ (file : LinkFile) (fits : IsFile file) (s new : LoneStation) (events ad
       let P : LoneSystem → Type 0 = λ x. now.purged_to ≤ x.purged_to in
       subst P (sym (run-append file events added)) (events-purged added now (run-left file events))
 
-  -- where more was purged since, `purge` was called
+  -- if more was purged since, `purge` was called
   was-purged : now.purged_to < then.purged_to → Among PurgeAlone since
   was-purged h =
       let P : LoneSystem → Type 0 = λ x. now.purged_to < x.purged_to in
       let (e, i, p) = purge-among added now (subst P (run-append file events added) h) in
       of_since e i p
 
-  -- a message at its place
+  -- the message at an index
   message-stays : (i : ℕ) (m : Filed) → nth i now.system.base ≡ Some m →
       (nth i then.system.base ≡ Some m) ⊎ (Among PurgeAlone since × (i < then.system.cursor) × (nth i then.system.base ≡ Some (stub_of m)))
   message-stays i m e =

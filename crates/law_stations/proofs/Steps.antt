@@ -60,7 +60,7 @@ scan-same : (z : LoneSystem) (stamp : Stamp) (b : Bool) →
 scan-same z stamp true = refl
 scan-same z stamp false = refl
 
--- what a toss made of the base
+-- the base after a toss
 module _ (files : List Coming) (file : LinkFile) (s new : LoneStation) (events : List LoneEvent) (lone : IsLone file s events) (toss : TossesAny files s new) where
   abbrev z : LoneSystem
   z = lone_run file events
@@ -109,7 +109,7 @@ module _ (files : List Coming) (file : LinkFile) (s new : LoneStation) (events :
         only = λ m h. inl (t.posted m h);
       })
 
-  -- of the link file of the station
+  -- the events have the link file of the station
   from-file : (e : LoneEvent) → Among e made.events → IsTossFrom file held e
   from-file e h = (let P : LinkFile → Type 0 = λ f. IsTossFrom f held e in subst P (run-file file events) (made.from e h))
 

@@ -1,4 +1,4 @@
--- The system of a station: what the station says is what the system has.
+-- The system of a station: both have the same contents.
 use Rattle.std.proofs.Common.{◌≡◌, refl, sym, subst, ◌∙◌, ℕ, List, Result, Ok}
 use Rattle.echo_links.specs.declared.fault.LinkFault.{LinkFault}
 use Rattle.echo_links.specs.Links.{IsFile, LinkFile}
@@ -12,7 +12,7 @@ use Rattle.law_stations.specs.Agreement.{HasSystem}
 use Rattle.law_stations.specs.InOrder.{StationSays}
 use Rattle.law_stations.specs.Nets.{Station}
 
--- a link file says one thing
+-- a link file has one reading
 pub one-file : (bytes : List ℕ) (file other : LinkFile) → LinksOf bytes (Ok file) → LinksOf bytes (Ok other) → file ≡ other
 one-file bytes file other h g = same (Ok file) (Ok other) refl refl (link_only bytes (Ok file) h ∙ sym (link_only bytes (Ok other) g))
   where
@@ -22,11 +22,11 @@ one-file bytes file other h g = same (Ok file) (Ok other) refl refl (link_only b
 pub file-fits : (bytes : List ℕ) (file : LinkFile) → LinksOf bytes (Ok file) → IsFile file
 file-fits bytes file h = subst IsFile (sym h.1) (file_is_file bytes h.0)
 
--- a station says what its system has
+-- a station has the contents of its system
 pub says-so : (station : Station) (s : System) → HasSystem station s → StationSays station s.file s.base s.cursor
 says-so station s has = record { links = has.links; base = has.base }
 
--- and nothing else
+-- and no other contents
 pub said-once : (station : Station) (s : System) → HasSystem station s → (file : LinkFile) (messages : List Filed) (cursor : ℕ)
     → StationSays station file messages cursor → (let said : SystemState = record { file = file; base = messages; cursor = cursor } in said ≡ state_of s)
 said-once station s has file messages cursor says =

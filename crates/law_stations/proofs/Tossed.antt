@@ -21,8 +21,8 @@ use Rattle.law_stations.proofs.Readings.{TossesFront}
 use Rattle.law_stations.proofs.Unpurged.{IsAsFiled, tossing-as_filed}
 use Rattle.model_run.proofs.Targets.{none_some}
 
--- A system made from another, with this state. It has the same link file and all that was filed there. It has posted
--- nothing since, and has a base. If the other had all as it was filed, so has it.
+-- A system made from another, with this state. It has the same link file and all messages filed there. It has posted
+-- nothing since, and has a base. If the other had all messages as they were filed, so has it.
 pub record Takes (s now : System) (state : SystemState) : Type 0 where
   pub is : state_of now ≡ state
   pub file : now.file ≡ s.file
@@ -54,7 +54,7 @@ tossing-longer sender [] s m h = h
 tossing-longer sender (q ∷ ms) s m h =
     tossing-longer sender ms (filing s (tossing s.file s.base sender q)) m (filing-longer (tossing s.file s.base sender q) s m h)
 
--- what it posted it had posted before
+-- each of its postings was posted before
 filing-posted : (s : System) (o : Option Filed) (m : Filed) → ((x : Filed) → o ≡ Some x → x.sender ≡ None → ⊥) → HasPosting m (filing s o) → HasPosting m s
 filing-posted s None m other has = has
 filing-posted s (Some x) m other has = elim (Among-append_cases m s.history (x ∷ []) has.filed) [
@@ -97,7 +97,7 @@ small-zone file zone fits small =
       | inr given ↦ subst P (sym (cond-false (zone == 0) file.system.zone zone given)) small
     ]
 
--- messages in front of bytes
+-- messages at the beginning of bytes
 pub takes-front : (bytes : List ℕ) (s : System) (new : SystemState) → IsFile s.file → IsBase s.base s.cursor → (t : TossesFront bytes (state_of s) new)
     → Takes s (tossing_at (sender_of s.file t.header) t.messages s) new
 takes-front bytes s new fits base t =

@@ -25,7 +25,7 @@ use Rattle.model_run.proofs.Growing.{events-append}
 use Rattle.law_stations.specs.AloneInOrder.{FaultlessTossIsWhole}
 use Rattle.law_stations.specs.LoneStations.{AreAnyFiles, LoneStation, held_in, tossed_whole}
 
--- no text in front of bytes holds 00
+-- no text at the beginning of bytes has a byte 00
 pub front-plain : (bytes : List ℕ) (limits : Limits) (header : Header) (messages : List Message) → BeginsWith limits header messages bytes
     → (packed : Message) → Among packed messages → HasNoZero packed.text
 front-plain bytes limits header messages begins packed h = each messages begins.are_messages.each packed h
@@ -38,19 +38,19 @@ front-plain bytes limits header messages begins packed h = each messages begins.
           | inr t ↦ each ms all.1 q t
         ]
 
--- messages at the beginning of the bytes, from the sender that their header names
+-- messages at the beginning of the bytes, from the sender in their header
 pub record IsInFront (file : LinkFile) (bytes : List ℕ) (sender : Address) (messages : List Message) : Type 0 where
   pub header : Header
   pub limits : Limits
   pub begins : BeginsWith limits header messages bytes
   pub sender_is : sender ≡ sender_of file header
 
--- an event is the toss of messages in front of one of the files
+-- an event is the toss of messages at the beginning of one of the files
 abbrev pub IsTossFrom : LinkFile → List (List ℕ) → LoneEvent → Type 0
 IsTossFrom file files (TossHere sender messages) = (bytes : List ℕ) × Among bytes files × IsInFront file bytes sender messages
 IsTossFrom file files other = ⊥
 
--- the packet in front of the bytes was tossed whole by one of the events
+-- one of the events tossed the packet at the beginning of the bytes whole
 pub record IsTossedBy (file : LinkFile) (events : List LoneEvent) (bytes : List ℕ) : Type 0 where
   pub header : Header
   pub messages : List Message
@@ -61,7 +61,7 @@ pub record IsTossedBy (file : LinkFile) (events : List LoneEvent) (bytes : List 
   pub packet : PacketOf limits header messages front
   pub there : Among (TossHere (sender_of file header) messages) events
 
--- what became of a system by tosses from files, of which some were tossed whole
+-- a system after tosses from files, some of them tossed whole
 pub record TossesFrom (files whole : List (List ℕ)) (z : System) (system : SystemState) : Type 0 where
   pub events : List LoneEvent
   pub from : (event : LoneEvent) → Among event events → IsTossFrom z.file files event
@@ -80,7 +80,7 @@ nothing files z new base same = record {
   becomes = λ s e. ap (λ (x : System). with_system s x) e;
 }
 
--- messages in front of bytes were tossed
+-- messages at the beginning of bytes were tossed
 fronted : (bytes : List ℕ) (more whole : List (List ℕ)) (z : System) (new : SystemState) → IsFile z.file → IsBase z.base z.cursor → (t : TossesFront bytes (state_of z) new)
     → ((b : List ℕ) → Among b whole → IsTossedBy z.file (TossHere (sender_of z.file t.header) t.messages ∷ []) b) → TossesFrom (bytes ∷ more) whole z new
 fronted bytes more whole z new fits base t all =
@@ -180,12 +180,12 @@ files-tossed (suc n) (Holds bytes ∷ files) z new any fits base (mid, whole, mo
     let rest = subst (λ (x : SystemState). TossedFiles n files x new) (sym t.takes.is) more in
     joined bytes (held_in files) (bytes ∷ []) (held_in (take n files)) z mid new t (files-tossed n files t.now new any (subst IsFile (sym t.takes.file) fits) t.takes.base rest)
 
--- how many were tossed whole
+-- the number of files tossed whole
 pub whole-first : (files : List Coming) (stopped : Option Fault) (left : List Coming) → take (wholes (length files) stopped left) files ≡ tossed_whole files stopped left
 whole-first files None left = take_all (length files) files (omega arith)
 whole-first files (Some fault) left = refl
 
--- all of them, where there was no fault
+-- all files, if there was no fault
 pub faultless-whole : FaultlessTossIsWhole
 faultless-whole files s new toss none =
     ap (λ (x : LoneStation). x.whole) toss.becomes

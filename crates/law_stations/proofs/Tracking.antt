@@ -13,7 +13,7 @@ abbrev pub IsTagged : List (List ℕ) → List ℕ → StagingFile → Option �
 IsTagged packets at file None = (file.named ≡ true) ⊎ ((c : ℕ) → nth file.station at ≡ Some c → c ≤ file.number)
 IsTagged packets at file (Some k) = (nth k packets ≡ Some file.bytes) × (file.named ≡ false) × ((c : ℕ) × (nth file.station at ≡ Some c) × (file.number < c))
 
--- the packet file of an index was tossed whole, and so was that of its place in the net
+-- the packet file at an index was tossed whole, and so was its packet in the net
 abbrev pub IsTossedAt : List ℕ → List ℕ → ℕ → Type 0
 IsTossedAt places delivered j = (k : ℕ) × (nth j places ≡ Some k) × Among k delivered
 
@@ -36,7 +36,7 @@ has-cursor net i station there = nth-map cursor_of i station net.stations there
 pub cursor-too : (net other : Net) (i c : ℕ) → net.stations ≡ other.stations → HasCursor net i c → HasCursor other i c
 cursor-too net other i c same has = ap (λ (ss : List Station). nth i (map cursor_of ss)) (sym same) ∙ has
 
--- pairs around one
+-- pairs before and after one pair
 pub record PairedAround {X Y : Type 0} (R : X → Y → Type 0) (xs : List X) (x : X) (zs : List X) (ys : List Y) : Type 0 where
   pub front : List Y
   pub y : Y
@@ -62,7 +62,7 @@ paired-around {X} {Y} R (w ∷ xs) x zs (y ∷ ys) p =
       after = rest.after;
     }
 
--- pairs that are so in another way too
+-- pairs with another relation too
 pub paired-so : {X Y : Type 0} (R S : X → Y → Type 0) (xs : List X) (ys : List Y) → ((x : X) (y : Y) → Among x xs → R x y → S x y) → Paired R xs ys → Paired S xs ys
 paired-so R S [] [] so p = tt
 paired-so R S [] (y ∷ ys) so p = absurd p

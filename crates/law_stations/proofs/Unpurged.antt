@@ -1,4 +1,4 @@
--- Where no purge was called a base has its messages as they were filed.
+-- A base that was never purged has its messages as they were filed.
 use Rattle.std.proofs.Common.{◌≡◌, ◌⊎◌, inl, inr, refl, sym, subst, ap, ◌∙◌, ℕ, zero, suc, List, [], ◌∷◌, ◌++◌, take, Option, Some, None}
 use Rattle.echo_addr.specs.declared.address.Address.{Address}
 use Rattle.model_graph.specs.Walk.{Among}
@@ -14,7 +14,7 @@ use Rattle.model_run.proofs.Lists.{nth-change}
 abbrev pub IsAsFiled : System → Type 0
 IsAsFiled s = s.base ≡ s.history
 
--- so has the one of this index
+-- the system with this index has them so
 abbrev pub AsFiledAt : ℕ → List System → Type 0
 AsFiledAt i systems = (s : System) → nth i systems ≡ Some s → IsAsFiled s
 
@@ -27,7 +27,7 @@ tossing-as_filed sender [] s same = same
 tossing-as_filed sender (q ∷ ms) s same =
     tossing-as_filed sender ms (filing s (tossing s.file s.base sender q)) (filing-as_filed s (tossing s.file s.base sender q) same)
 
--- a change of some system that leaves what is filed
+-- a change of some system that keeps the filed messages
 pub change-as_filed : (i j : ℕ) (f : System → System) (systems : List System) → (j ≡ i → (s : System) → nth j systems ≡ Some s → IsAsFiled s → IsAsFiled (f s))
     → AsFiledAt i systems → AsFiledAt i (change j f systems)
 change-as_filed i j f systems keeps at z there =
@@ -39,7 +39,7 @@ change-as_filed i j f systems keeps at z there =
           subst IsAsFiled (sym is) (keeps here.0 s (subst P (sym here.0) was) (at s was)))
     ]
 
--- a message of a base is as it was filed, or stands before the cursor as a purge leaves it
+-- a message of a base is unchanged, or is a stub before the cursor
 pub kept-where : (c : ℕ) (base history : List Filed) → Kept c base history → (m : Filed) → Among m base
     → (filed : Filed) × Among filed history × IsKept m filed × ((m ≡ filed) ⊎ (Among m (take c base) × (m ≡ stub_of filed)))
 kept-where zero base history k m h =

@@ -1,4 +1,4 @@
--- What commands do that nothing stops is among what they may do.
+-- The effects of commands without a stop are among their possible effects.
 use Rattle.std.proofs.Common.{◌≡◌, inl, inr, refl, sym, subst, ap, ◌∙◌, ℕ, ◌<◌, arith, append-nil, append_assoc, List, [], ◌∷◌, ◌++◌, length, map}
 use Rattle.std.proofs.lemmas.List.{take_all}
 use Rattle.model_graph.specs.Walk.{Among}
@@ -21,7 +21,7 @@ with_packets net more = record { stations = net.stations; packets = net.packets 
 abbrev pub disks_with : Net → List StagingFile → Disks
 disks_with net staging = record { net = net; staging = staging }
 
--- a packet that waits behind other files gets its name
+-- a packet that waits after other files gets its name
 pub gets-name : (i c most : ℕ) (p : PacketFile) (ps : List PacketFile) (before : List StagingFile) (net : Net) → HasCursor net i most → c < most
     → EndsOne i (disks_with net (before ++ map (staging_of i c) (p ∷ ps))) (disks_with (with_packet net p.bytes) (before ++ map (staging_of i c) ps))
 gets-name i c most p ps before net has less = record {

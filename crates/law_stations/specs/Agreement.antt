@@ -20,13 +20,13 @@ use Rattle.law_stations.specs.Nets.{Net, Paired, Station, first_net}
 abbrev pub base_of : System → Base
 base_of s = record { messages = s.base; cursor = s.cursor }
 
--- The link file and the base of a station are those of a system, and that is a base.
+-- The link file and the base of a station are those of a system, and they are a base.
 pub record HasSystem (station : Station) (s : System) : Type 0 where
   pub links : LinksOf station.links (Ok s.file)
   pub base : station.base ≡ base_of s
   pub is_base : IsBase s.base s.cursor
 
--- Nothing of these bytes is too long.
+-- Limits that these bytes meet.
 abbrev pub limits_of : List ℕ → Limits
 limits_of bytes = record { text = length bytes; messages = length bytes }
 
@@ -49,7 +49,7 @@ pub record Agrees (net : Net) (run : Run) : Type 0 where
   pub postings : (m : Filed) → Among m net.postings → (s : System) × Among s run.systems × HasPosting m s
   pub only_postings : (s : System) → Among s run.systems → (m : Filed) → HasPosting m s → Among m net.postings
 
--- The own address of a system.
+-- The address of a system.
 abbrev pub own_address : System → Address
 own_address s = s.file.system
 
@@ -61,7 +61,7 @@ file_address file = file.system
 abbrev pub IsTossOf : ℕ → List RunEvent → Type 0
 IsTossOf k events = (events ≡ []) ⊎ ((events ≡ Delivery k ∷ []) ⊎ ((messages : ℕ) × (events ≡ PartDelivery k messages ∷ [])))
 
--- And of some, in order.
+-- The tosses of several packet files, in order.
 abbrev pub AreTossesOf : List ℕ → List RunEvent → Type 0
 AreTossesOf [] events = events ≡ []
 AreTossesOf (k ∷ later) events = (first : List RunEvent) × (rest : List RunEvent) × (events ≡ first ++ rest) × IsTossOf k first × AreTossesOf later rest
@@ -84,7 +84,7 @@ abbrev pub EventIsEvents : Type 0
 EventIsEvents = (event : CommandEvent) (net new : Net) (run : Run) → Different (map own_address run.systems) → Agrees net run → Happens event net new
     → (events : List RunEvent) × ((events ≡ []) ⊎ AreEventsOf event.command event.station events) × Agrees new (after_events run events)
 
--- after any command events, from stations with empty bases, the net agrees with a run of the events of these commands
+-- After any command events, from stations with empty bases, the net agrees with a run of the events of these commands.
 abbrev pub EventsAreARun : Type 0
 EventsAreARun = (links : List (List ℕ)) (files : List LinkFile) → AreLinkFiles links files → Different (map file_address files)
     → (commands : List CommandEvent) (net : Net) → Happen commands (first_net links) net

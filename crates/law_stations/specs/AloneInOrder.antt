@@ -1,4 +1,4 @@
--- The promise about one station, whatever bytes it received.
+-- The promise about one station, for any bytes that it received.
 use Rattle.std.specs.Prelude.{◌≡◌, ℕ, ◌⊎◌, ◌<◌, ◌≤◌, false, List, [], ◌∷◌, ◌++◌, drop, take, None, Ok, Some}
 use Rattle.echo_addr.specs.declared.address.Address.{Address}
 use Rattle.model_graph.specs.Walk.{Among}
@@ -67,10 +67,10 @@ pub record IsInOrderAlone (commands : List LoneCommand) (s : LoneStation) : Type
   pub base : (file : LinkFile) × (messages : List Filed) × (cursor : ℕ) × LoneSays s file messages cursor × IsBase messages cursor
   -- It has each message at most once.
   pub filed_once : (file : LinkFile) (messages : List Filed) (cursor : ℕ) → LoneSays s file messages cursor → (key : Key) → count key messages ≤ 1
-  -- Only messages that were posted or came from a link of their area, unchanged or as stubs.
+  -- It has only messages that were posted or came from a link of their area, unchanged or as stubs.
   pub only_come : (file : LinkFile) (messages : List Filed) (cursor : ℕ) → LoneSays s file messages cursor → (m : Filed) → Among m messages →
       (o : Filed) × HasCome s file o × ((m ≡ o) ⊎ IsLeftAlone commands (take cursor messages) m o)
-  -- And all of those: postings, and messages from a link of their area in a packet that was tossed whole.
+  -- And it has all of those: postings, and messages from a link of their area in a packet that was tossed whole.
   pub all_posted : (file : LinkFile) (messages : List Filed) (cursor : ℕ) → LoneSays s file messages cursor →
       (posting : Filed) → Among posting s.net.postings → count (key_of posting) messages ≡ 1
   pub all_come : (file : LinkFile) (messages : List Filed) (cursor : ℕ) → LoneSays s file messages cursor →
@@ -78,18 +78,18 @@ pub record IsInOrderAlone (commands : List LoneCommand) (s : LoneStation) : Type
       IsFromLink file (sender_of file p.header) packed → count (key_of (received (sender_of file p.header) packed)) messages ≡ 1
   -- Over all packet files each address is sent each message at most once.
   pub sent_once : (packets : List Packet) → Paired ReadsAs s.net.packets packets → (address : Address) (key : Key) → sent_count address key packets ≤ 1
-  -- None to an address that should not get it, and no waiting message.
+  -- No packet has a message for an address that should not get it, or a waiting message.
   pub never : (packets : List Packet) → Paired ReadsAs s.net.packets packets →
       (file : LinkFile) (messages : List Filed) (cursor : ℕ) → LoneSays s file messages cursor → (m : Filed) → Among m messages →
       (address : Address) → (¬ IsOwed file m address) → sent_count address (key_of m) packets ≡ 0
   pub waiting : (packets : List Packet) → Paired ReadsAs s.net.packets packets →
       (file : LinkFile) (messages : List Filed) (cursor : ℕ) → LoneSays s file messages cursor → (m : Filed) → Among m (drop cursor messages) →
       (address : Address) → sent_count address (key_of m) packets ≡ 0
-  -- And a scanned message that no purge reached, once to each address that should get it.
+  -- A scanned message that no purge reached is in a packet to each address that should get it, once.
   pub owed : (packets : List Packet) → Paired ReadsAs s.net.packets packets →
       (file : LinkFile) (messages : List Filed) (cursor : ℕ) → LoneSays s file messages cursor → (m : Filed) → Among m (take cursor messages) →
       is_stub m ≡ false → (address : Address) → IsOwed file m address → sent_count address (key_of m) packets ≡ 1
-  -- Each message in a packet file is echomail, and a copy of one that was posted or came, for an address that should
+  -- Each message in a packet file is echomail. It is a copy of one that was posted or came, for an address that should
   -- get it.
   pub echomail : (packets : List Packet) → Paired ReadsAs s.net.packets packets → (p : Packet) → Among p packets →
       (packed : Message) → Among packed p.messages → text_refusal packed.text ≡ None
@@ -113,12 +113,12 @@ pub record ShowsStill (later : List LoneCommand) (s new : LoneStation) : Type 0 
       (nth i messages' ≡ Some m) ⊎ (Among PurgeAlone later × (i < cursor') × (nth i messages' ≡ Some (stub_of m)))
   pub packets : (since : List (List ℕ)) × (new.net.packets ≡ s.net.packets ++ since)
 
--- whatever commands are run later
+-- The station still shows its contents after any later commands.
 abbrev pub AloneStays : Type 0
 AloneStays = (links : List ℕ) (file : LinkFile) → LinksOf links (Ok file)
     → (earlier later : List LoneCommand) (s new : LoneStation) → HappenAlone earlier (lone_station_at_first links) s → HappenAlone later s new
     → ShowsStill later s new
 
--- a toss without a fault has tossed the packets of all its files whole
+-- A toss without a fault has tossed the packets of all its files whole.
 abbrev pub FaultlessTossIsWhole : Type 0
 FaultlessTossIsWhole = (files : List Coming) (s new : LoneStation) → (toss : TossesAny files s new) → toss.tosses.stopped ≡ None → new.whole ≡ s.whole ++ held_in files

@@ -26,7 +26,7 @@ pub data Asked : Type 0 where
   AsksPurge : Asked
   AsksToss : (indexes : List ℕ) → Asked
 
--- The command events that it may be if the station has this base.
+-- The command events that the request may become if the station has this base.
 abbrev pub IsAsked : Asked → Base → Command → Type 0
 IsAsked (AsksPost free words body) base command = IsPostAs free words body command
 IsAsked (AsksReply index answer body) base command = IsReplyAs index answer body base command
@@ -39,31 +39,31 @@ abbrev pub AnswerOf : Asked → Type 0
 AnswerOf (AsksToss indexes) = Option Fault
 AnswerOf asked = Unit {0}
 
--- It had no effect, or one of these events.
+-- The command had no effect, or that of one of these events.
 abbrev pub MayBe : (Command → Type 0) → Option Command → Type 0
 MayBe IsCommand None = Unit {0}
 MayBe IsCommand (Some command) = IsCommand command
 
--- A crash cut it, and the net goes on.
+-- A crash cut the command, and the net goes on.
 pub record GoesOnCut {Kept : Type 0} (IsCommand : Command → Type 0) (place : Kept → Place) (seat : Seat Kept) (i : ℕ) (d : Disks) (old whole begun : DiskState) : Type 0 where
   pub command : Option Command
   pub is : MayBe IsCommand command
   pub next : Disks
   pub cut : WasCut place seat i command d next old whole begun
 
--- It ended well, and the net goes on.
+-- The command ended well, and the net goes on.
 pub record GoesOnEnded {Kept : Type 0} (IsCommand : Command → Type 0) (place : Kept → Place) (seats : List (Seat Kept)) (seat : Seat Kept) (i : ℕ) (d : Disks) (old new : DiskState) : Type 0 where
   pub command : Command
   pub is : IsCommand command
   pub next : Disks
   pub ended : HasEnded place seats seat i (Some command) d next old new
 
--- If another station is on the same disk, the base that the files of this one hold is on the disk.
+-- If another station is on the same disk, the base that this station's files hold is on the disk.
 abbrev pub IsKeptWhereShared : {Kept : Type 0} → (Kept → Place) → List (Seat Kept) → Seat Kept → ℕ → DiskState → Type 0
 IsKeptWhereShared place seats seat i disk = IsShared seats i seat → (base : Base) → (place seat.kept).stands_for base disk.seen → IsKeptOn (place seat.kept) base disk
 
--- If a crash cuts a command at a station, or if the command ends well, the net goes on by a command event that it may
--- be. If the station is as before it, as after a fault, the net goes on by none.
+-- If a crash cuts a command at a station, or if it ends well, the net goes on by one of its command events. If the station
+-- is unchanged, as after a fault, the net goes on by no event.
 pub record CommandGoesOn {D Kept : Type 0} (state : D → DiskState) (place : Kept → Place) (seats : List (Seat Kept)) (seat : Seat Kept) (i : ℕ) (asked : Asked) (base : Base) (d : Disks) (old whole : D) (result : Result (AnswerOf asked) CommandError) : Type 0 where
   pub cut : (begun : D) → (state whole).left_since (state old).moment (state begun).seen → IsAllOnDisk (state begun)
       → GoesOnCut (IsAsked asked base) place seat i d (state old) (state whole) (state begun)
@@ -72,7 +72,7 @@ pub record CommandGoesOn {D Kept : Type 0} (state : D → DiskState) (place : Ke
   pub none : IsAsBefore (place seat.kept) seat.links i d (state whole) → IsKeptWhereShared place seats seat i (state whole)
       → HasEnded place seats seat i None d d (state old) (state whole)
 
--- so does each command that does on the disk what its event may do
+-- Each command goes on so if it does on the disk what its event may do.
 abbrev pub CommandsGoOn : {D Kept : Type 0} → (D → DiskState) → (Kept → Place) → Type 0
 CommandsGoOn {D} {Kept} state place = (seats : List (Seat Kept)) (seat : Seat Kept) (i : ℕ) (asked : Asked) (d : Disks) (old whole : D) (result : Result (AnswerOf asked) CommandError)
     → (stands : StandsAt place seats i seat (state old) d)

@@ -25,7 +25,7 @@ use Rattle.cmd_report.specs.TossedPacket.{TossRun, TossesPacketBy}
 use Rattle.cmd_store.specs.Posted as store
 use Rattle.law_stations.specs.Nets.{Net, Paired, Station, with_left, with_posting, with_tossed}
 
--- The station of the index, and its parsed link file.
+-- The station with the index, and its parsed link file.
 pub record IsAt (net : Net) (i : ℕ) (station : Station) (file : LinkFile) : Type 0 where
   pub there : nth i net.stations ≡ Some station
   pub links : LinksOf station.links (Ok file)
@@ -39,7 +39,7 @@ pub record Posts (words : NewMessage) (body : List ℕ) (net : Net) (i : ℕ) (n
   pub makes : store.Posts file words body station.base next
   pub becomes : new ≡ with_posting net i next (posted file words.tag.now (draft_given words body) words.serial words.stamp)
 
--- The packets of a scan of this base, each of bytes.
+-- The packets of a scan of this base, as bytes.
 pub record AreScanned (stamp : Stamp) (file : LinkFile) (base : Base) (packets : List PacketFile) : Type 0 where
   pub moment : is_stamp stamp ≡ true
   pub sent : packets ≡ map (file_sent base.cursor) (scanned file base.messages base.cursor stamp)
@@ -60,11 +60,11 @@ pub record Purges (net : Net) (i : ℕ) (new : Net) : Type 0 where
   pub there : nth i net.stations ≡ Some station
   pub becomes : new ≡ with_left net i [] (purged station.base)
 
--- A reader of which only this is known.
+-- A reader of which only its state is known.
 abbrev pub itself : Device → Device
 itself reader = reader
 
--- An input of `toss` is the packet file of the index, or cannot be used.
+-- An input of `toss` is the packet file with the index, or cannot be used.
 abbrev pub IsPacketAt : List (List ℕ) → ℕ → Coming → Type 0
 IsPacketAt packets k (Holds bytes) = nth k packets ≡ Some bytes
 IsPacketAt packets k (Fails path) = Unit {0}
@@ -87,7 +87,7 @@ pub record TossesAll (files : List Coming) (file : LinkFile) (base next : Base) 
   pub each : TossesEachBy (Unit {0}) (TossesPacketBy noting) itself files (run_begun limits (state_in file base)) stopped left run
   pub state : run.system ≡ state_in file next
 
--- `toss` commits the filed messages, even if a fault ended its run
+-- `toss` commits the filed messages, even if a fault ended its run.
 pub record Tosses (indexes : List ℕ) (net : Net) (i : ℕ) (new : Net) : Type 0 where
   pub station : Station
   pub file : LinkFile
@@ -105,12 +105,12 @@ pub data Command : Type 0 where
   Purge : Command
   Toss : (indexes : List ℕ) → Command
 
--- a command is called at the station of an index
+-- A command is called at the station with an index.
 pub record CommandEvent : Type 0 where
   pub station : ℕ
   pub command : Command
 
--- the command ends without a fault
+-- The command ends without a fault.
 abbrev pub Leads : Command → Net → ℕ → Net → Type 0
 Leads (Post words body) net i new = Posts words body net i new
 Leads (Scan stamp) net i new = Scans stamp net i new
@@ -121,7 +121,7 @@ Leads (Toss indexes) net i new = Tosses indexes net i new
 abbrev pub Happens : CommandEvent → Net → Net → Type 0
 Happens event net new = (new ≡ net) ⊎ Leads event.command net event.station new
 
--- the effect of command events in order
+-- The effect of command events in order.
 abbrev pub Happen : List CommandEvent → Net → Net → Type 0
 Happen [] net new = new ≡ net
 Happen (event ∷ later) net new = (next : Net) × Happens event net next × Happen later next new

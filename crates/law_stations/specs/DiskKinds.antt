@@ -11,12 +11,12 @@ use Rattle.cmd_store.specs.Mailed.{IsPosting}
 use Rattle.law_stations.specs.Commands.{Command}
 use Rattle.law_stations.specs.Kinds.{IsPost, IsPostWith}
 
--- The posting of these words. If a free serial is searched, the same with some serial.
+-- The posting of these words; if a free serial is searched, with some serial.
 abbrev pub IsPostAs : Bool → NewMessage → List ℕ → Command → Type 0
 IsPostAs false words body command = IsPost words body command
 IsPostAs true words body command = IsPostWith words body command
 
--- The posting of an answer to the message of this number.
+-- The posting of an answer to the message with this number.
 pub record IsReplyAs (index : ℕ) (answer : Answer) (body : List ℕ) (base : Base) (command : Command) : Type 0 where
   pub message : Filed
   pub found : slice_get base.messages index ≡ Some message

@@ -27,7 +27,7 @@ cursor_of station = station.base.cursor
 abbrev pub cursors : Net → List ℕ
 cursors net = map cursor_of net.stations
 
--- The base of the station of the index has this cursor.
+-- The base of the station with the index has this cursor.
 abbrev pub HasCursor : Net → ℕ → ℕ → Type 0
 HasCursor net i cursor = nth i (cursors net) ≡ Some cursor
 

@@ -1,4 +1,4 @@
--- The promise about a net, whatever commands were run.
+-- The promise about a net, for any commands.
 use Rattle.std.specs.Prelude.{◌≡◌, ◌≢◌, ℕ, ◌⊎◌, ◌≤◌, Bool, IsTrue, List, drop, map, take, Option, Some, Ok}
 use Rattle.cmd_status.specs.Devices.{Output}
 use Rattle.model_graph.specs.Walk.{Among, Different}
@@ -26,7 +26,7 @@ pub record StationSays (station : Station) (file : LinkFile) (messages : List Fi
   pub links : LinksOf station.links (Ok file)
   pub base : station.base ≡ record { messages = messages; cursor = cursor }
 
--- The station of this index has these contents.
+-- The station with this index has these contents.
 pub record StationHolds (net : Net) (i : ℕ) (file : LinkFile) (messages : List Filed) (cursor : ℕ) : Type 0 where
   pub station : Station
   pub there : nth i net.stations ≡ Some station
@@ -36,7 +36,7 @@ pub record StationHolds (net : Net) (i : ℕ) (file : LinkFile) (messages : List
 abbrev pub ReadsAs : List ℕ → Packet → Type 0
 ReadsAs bytes p = (limits : Limits) × PacketOf limits p.header p.messages bytes
 
--- `purge` was called at the station of the index.
+-- `purge` was called at the station with the index.
 abbrev pub WasPurged : List CommandEvent → ℕ → Type 0
 WasPurged commands i = Among (record { station = i; command = Purge }) commands
 
@@ -57,9 +57,9 @@ pub record IsSound (commands : List CommandEvent) (net : Net) : Type 0 where
   -- Each packet file is a packet, and each station's messages are a base.
   pub packets : (bytes : List ℕ) → Among bytes net.packets → (p : Packet) × ReadsAs bytes p
   pub bases : (station : Station) → Among station net.stations → (file : LinkFile) × (messages : List Filed) × (cursor : ℕ) × StationSays station file messages cursor × IsBase messages cursor
-  -- It has each message at most once.
+  -- Each station has each message at most once.
   pub filed_once : (i : ℕ) (file : LinkFile) (messages : List Filed) (cursor : ℕ) → StationHolds net i file messages cursor → (key : Key) → count key messages ≤ 1
-  -- And only messages that were posted, unchanged unless they were scanned and purged.
+  -- It has only messages that were posted, unchanged unless they were scanned and purged.
   pub only_posted : (i : ℕ) (file : LinkFile) (messages : List Filed) (cursor : ℕ) → StationHolds net i file messages cursor → (m : Filed) → Among m messages →
       (posting : Filed) × Among posting net.postings × (posting.echo.tag ≡ m.echo.tag) × IsUnchanged commands i messages cursor m posting
 
@@ -84,7 +84,7 @@ pub record InOrder (commands : List CommandEvent) (net : Net) (tag : List ℕ) :
   pub never_own : (packets : List Packet) → Paired ReadsAs net.packets packets →
       (i : ℕ) (file : LinkFile) (messages : List Filed) (cursor : ℕ) → StationHolds net i file messages cursor → IsTrue (has_area file tag) →
       (m : Filed) → Among m messages → IsPosting tag m → sent_count file.system (key_of m) packets ≡ 0
-  -- And if nothing waits its base has each posting once, unchanged.
+  -- If nothing waits, its base has each posting once, unchanged.
   pub all_came : IsSettled net tag → (posting : Filed) → Among posting net.postings → posting.echo.tag ≡ tag →
       (i : ℕ) (file : LinkFile) (messages : List Filed) (cursor : ℕ) → StationHolds net i file messages cursor → IsTrue (has_area file tag) →
       HasUnchanged commands i messages cursor posting

@@ -6,7 +6,7 @@ use Rattle.law_stations.specs.LoneStations.{LoneCommand, LoneStation, NothingCam
 use Rattle.law_stations.specs.Disks.{Disks, first_disks}
 use Rattle.law_stations.specs.Stopping.{PartialEffect}
 
--- The disks of the station alone; and the bytes of all input files of `toss`, in order, and of those that it tossed
+-- The disks of the station alone, the bytes of all input files of `toss` in order, and the bytes of those that it tossed
 -- whole.
 pub record LoneDisks : Type 0 where
   pub disks : Disks
@@ -17,11 +17,11 @@ pub record LoneDisks : Type 0 where
 abbrev pub lone_disks_at_first : List ℕ → LoneDisks
 lone_disks_at_first links = record { disks = first_disks (links ∷ []); came = []; whole = [] }
 
--- A net of the station that received the same.
+-- A net of the station that received the same bytes.
 abbrev pub on_net : LoneDisks → Net → LoneStation
 on_net s net = record { net = net; came = s.came; whole = s.whole }
 
--- The files under their names.
+-- The packet files under their names.
 abbrev pub under_names : LoneDisks → LoneStation
 under_names s = on_net s s.disks.net
 
@@ -32,11 +32,11 @@ LeadsAloneFar (ScanAlone stamp) s new = PartialEffect (Scan stamp) s.disks 0 new
 LeadsAloneFar PurgeAlone s new = PartialEffect Purge s.disks 0 new.disks × NothingCame (under_names s) (under_names new)
 LeadsAloneFar (TossAny files) s new = (n : ℕ) × TossesAny (take n files) (under_names s) (under_names new) × (new.disks.staging ≡ s.disks.staging)
 
--- The possible effects of a command, whatever stops it: none, or it got this far.
+-- The possible effects of a command with any stop: none, or it got this far.
 abbrev pub MayHappenAlone : LoneCommand → LoneDisks → LoneDisks → Type 0
 MayHappenAlone command s new = (new ≡ s) ⊎ LeadsAloneFar command s new
 
--- the possible effects of commands in order
+-- The possible effects of commands in order.
 abbrev pub MayHappenAllAlone : List LoneCommand → LoneDisks → LoneDisks → Type 0
 MayHappenAllAlone [] s new = new ≡ s
 MayHappenAllAlone (command ∷ later) s new = (next : LoneDisks) × MayHappenAlone command s next × MayHappenAllAlone later next new

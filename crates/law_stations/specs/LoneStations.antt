@@ -77,7 +77,7 @@ LeadsAlone (TossAny files) s new = TossesAny files s new
 abbrev pub HappensAlone : LoneCommand → LoneStation → LoneStation → Type 0
 HappensAlone command s new = (new ≡ s) ⊎ LeadsAlone command s new
 
--- the effect of commands in order
+-- The effect of commands in order.
 abbrev pub HappenAlone : List LoneCommand → LoneStation → LoneStation → Type 0
 HappenAlone [] s new = new ≡ s
 HappenAlone (command ∷ later) s new = (next : LoneStation) × HappensAlone command s next × HappenAlone later next new

@@ -9,11 +9,11 @@ use Rattle.law_stations.specs.Disks.{Disks}
 use Rattle.law_stations.specs.Stopping.{MayHappen}
 use Rattle.law_stations.specs.OnDisks.{IsStationAt, LeavesElsewhere, ShowsStation}
 
--- each file of a place with a synced name and synced bytes is as the disk shows it
+-- Each file of a place with a synced name and synced bytes is as the disk shows it.
 abbrev pub SameOnDisk : Place → DiskState → Files → Type 0
 SameOnDisk place disk c = (m : List ℕ) → place.is_own m → disk.is_named m → disk.is_flushed m → c m ≡ disk.seen m
 
--- A base is on the disk: the files of its place hold it, whatever a crash makes of the unsynced ones.
+-- A base is on the disk: the files of its place hold it after any loss of unsynced files.
 abbrev pub IsKeptOn : Place → Base → DiskState → Type 0
 IsKeptOn place base disk = (c : Files) → SameOnDisk place disk c → place.stands_for base c
 
@@ -33,7 +33,7 @@ pub record StaysOnDisk (place : Place) (links : List ℕ) (i : ℕ) (old new : D
   pub crash : (c : Files) → new.left_since old.moment c → ShowsStation place links i c after
   pub at : StandsOnDisk place links i new after
 
--- A command in one place does not change a station elsewhere: wherever the command event at another station stopped,
+-- A command in one place does not change a station elsewhere: after any stop of the command event at another station,
 -- the net shows the same station.
 abbrev pub OthersStay : Place → Place → DiskState → DiskState → Type 0
 OthersStay place other old new = (links : List ℕ) (i : ℕ) (event : CommandEvent) (d after : Disks) → LeavesElsewhere place old new → IsApart other links place

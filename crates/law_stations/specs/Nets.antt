@@ -5,13 +5,13 @@ use Rattle.echo_filed.specs.Filed.{Filed}
 use Rattle.model_run.specs.Run.{change, with_index}
 use Rattle.model_steps.specs.PacketFiles.{PacketFile}
 
--- the items of two lists are so, pair by pair
+-- The items of two lists are so, pair by pair.
 abbrev pub Paired : {X Y : Type 0} → (X → Y → Type 0) → List X → List Y → Type 0
 Paired IsSo [] [] = Unit {0}
 Paired IsSo (x ∷ xs) (y ∷ ys) = IsSo x y × Paired IsSo xs ys
 Paired IsSo _ _ = ⊥
 
--- a station: the bytes of its link file, and its base, whatever holds it
+-- A station: the bytes of its link file, and its base, in a file or a folder.
 pub record Station : Type 0 where
   pub links : List ℕ
   pub base : Base

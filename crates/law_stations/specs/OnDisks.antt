@@ -23,7 +23,7 @@ pub record ShowsStation (place : Place) (links : List ℕ) (i : ℕ) (c : Files)
   pub of_links : c links ≡ Some station.links
   pub stands : place.stands_for station.base c
 
--- the link file is on the disk
+-- The link file is on the disk.
 pub record IsLinkedOn (links : List ℕ) (disk : DiskState) : Type 0 where
   pub named : disk.is_named links
   pub flushed : disk.is_flushed links
@@ -58,8 +58,8 @@ pub record IsAfter (IsCommand : Command → Type 0) (place : Place) (links : Lis
   pub at : IsStationAt place links i new after
   pub on_disk : (c : Files) → new.may_leave c → ShowsStation place links i c after
 
--- The disk shows the link file and the base of the station as before a command. Each crash leaves them so, and the next command
--- finds them so.
+-- The disk shows the link file and the base of the station as before a command. Each crash leaves them so, and the next
+-- command finds them so.
 pub record IsAsBefore (place : Place) (links : List ℕ) (i : ℕ) (d : Disks) (new : DiskState) : Type 0 where
   pub at : IsStationAt place links i new d
   pub on_disk : (c : Files) → new.may_leave c → ShowsStation place links i c d

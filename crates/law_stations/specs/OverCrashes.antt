@@ -1,4 +1,4 @@
--- The promise about the disks of a net, wherever its commands were stopped.
+-- The promise about the disks of a net, for any stops of its commands.
 use Rattle.std.specs.Prelude.{◌≡◌, ◌≢◌, ◌⊎◌, ◌<◌, ◌≤◌, ℕ, Bool, false, IsTrue, List, [], map, Option, Some, Ok}
 use Rattle.cmd_status.specs.Devices.{Output}
 use Rattle.model_graph.specs.Walk.{Among, Different}
@@ -48,12 +48,12 @@ IsLike (Scan stamp) plain = plain ≡ Scan stamp
 IsLike Purge plain = plain ≡ Purge
 IsLike (Toss indexes) plain = (others : List ℕ) × (plain ≡ Toss others)
 
--- At the same station.
+-- A like command at the same station.
 pub record IsLikeEvent (event plain : CommandEvent) : Type 0 where
   pub station : plain.station ≡ event.station
   pub command : IsLike event.command plain.command
 
--- Whatever stops commands, the disks have a net to which such commands lead without a stop.
+-- For any stops of commands, the disks have a net to which such commands lead without a stop.
 abbrev pub CrashesAreNone : Type 0
 CrashesAreNone = (links : List (List ℕ)) (commands : List CommandEvent) (d : Disks) → MayHappenAll commands (first_disks links) d
     → (plain : List CommandEvent) × (net : Net) × Paired IsLikeEvent commands plain × Happen plain (first_net links) net × HasNet d net
@@ -62,7 +62,7 @@ CrashesAreNone = (links : List (List ℕ)) (commands : List CommandEvent) (d : D
 abbrev pub disks_of : Net → Disks
 disks_of net = record { net = net; staging = [] }
 
--- And the effects of commands without a stop are among the possible effects.
+-- The effects of commands without a stop are among the possible effects.
 abbrev pub WholeAreAmong : Type 0
 WholeAreAmong = (links : List (List ℕ)) (commands : List CommandEvent) (net : Net) → Happen commands (first_net links) net
     → MayHappenAll commands (first_disks links) (disks_of net)
@@ -89,7 +89,7 @@ pub record InOrderOverCrashes (commands : List CommandEvent) (d : Disks) (tag : 
   pub never_own : (packets : List Packet) → Paired ReadsAs d.net.packets packets →
       (i : ℕ) (file : LinkFile) (messages : List Filed) (cursor : ℕ) → StationHolds d.net i file messages cursor → IsTrue (has_area file tag) →
       (m : Filed) → Among m messages → IsPosting tag m → sent_count file.system (key_of m) packets ≡ 0
-  -- And if the area has settled its base has each posting once, unchanged.
+  -- If the area has settled, its base has each posting once, unchanged.
   pub all_came : HasSettled d tag → (posting : Filed) → Among posting d.net.postings → posting.echo.tag ≡ tag →
       (i : ℕ) (file : LinkFile) (messages : List Filed) (cursor : ℕ) → StationHolds d.net i file messages cursor → IsTrue (has_area file tag) →
       HasUnchanged commands i messages cursor posting

@@ -1,4 +1,4 @@
--- What the contracts of a scan and of a toss that ended well say of the steps of a net.
+-- The contracts of a scan and of a toss that ended well, as statements about the steps of a net.
 use Rattle.std.specs.Prelude.{◌≡◌, ℕ, List, Option, None, Result, Ok}
 use Rattle.cmd_report.specs.Coming.{Coming}
 use Rattle.disk_io.specs.Disk.{DiskState}
@@ -28,12 +28,12 @@ TossesGoOn {D} {Kept} state place = (seats : List (Seat Kept)) (seat : Seat Kept
     → TossesAsEvent indexes left (place seat.kept) seat.links i d (state old) (state new) result → result ≡ Ok answer → IsKeptWhereShared place seats seat i (state new)
     → GoesOnTossed place seats seat i indexes answer left d (state old) (state new)
 
--- It is the scan of this moment.
+-- The command is the scan with this timestamp.
 abbrev pub IsScan : Stamp → Command → Type 0
 IsScan stamp command = command ≡ Scan stamp
 
--- Whatever crash cuts a scan, and where it ends well, the net goes on by its command event. Where the station is as before it, as after a
--- fault that it met, the net goes on by none.
+-- If a crash cuts a scan, or if the scan ends well, the net goes on by its command event. If the station is unchanged, as
+-- after a fault, the net goes on by no event.
 pub record ScanGoesOn {D Kept : Type 0} (state : D → DiskState) (place : Kept → Place) (seats : List (Seat Kept)) (seat : Seat Kept) (i : ℕ) (stamp : Stamp) (d : Disks) (old whole : D) (result : Result (Unit {0}) ScanError) : Type 0 where
   pub cut : (begun : D) → (state whole).left_since (state old).moment (state begun).seen → IsAllOnDisk (state begun)
       → GoesOnCut (IsScan stamp) place seat i d (state old) (state whole) (state begun)

@@ -43,15 +43,15 @@ pub record AreAfterScan (stamp : Stamp) (place : Place) (links outbound : List �
   pub at_paths : AllByRecursion (IsAtPath outbound c) named
   pub staging_paths : AllByRecursion (IsStagingPath outbound (dotted file.system) c) waiting
 
--- The disk shows the link file and the base of the station after a scan without a waiting packet. The next command
--- finds them like that, and each crash leaves both like that.
+-- The disk shows the link file and the base of the station after a scan without a waiting packet. The next command finds
+-- them so, and each crash leaves them so.
 pub record IsAfterScan (stamp : Stamp) (place : Place) (links outbound : List ℕ) (i : ℕ) (d ended : Disks) (base : Base) (new : DiskState) : Type 0 where
   pub scan : AreAfterScan stamp place links outbound i d ended base new.seen
   pub none_waits : scan.waiting ≡ []
   pub at : IsStationAt place links i new scan.after
   pub on_disk : (c : Files) → new.may_leave c → ShowsStation place links i c scan.after
 
--- a place, and all paths of packets in a folder
+-- A place, and all paths of packets in a folder.
 abbrev pub with_packets_in : List ℕ → Place → Place
 with_packets_in outbound place = record { stands_for = place.stands_for; is_own = λ m. IsTouched place.is_own outbound m }
 
@@ -62,11 +62,11 @@ pub record ScansAsEvent (stamp : Stamp) (place : Place) (links outbound : List �
   pub crash : (c : Files) → new.left_since old.moment c → old.may_leave c ⊎ (ShowsStation place links i c d ⊎ AreAfterScan stamp place links outbound i d ended base c)
   -- If it ends well, they are as after the event, and no packet waits.
   pub done : result ≡ Ok tt → IsAfterScan stamp place links outbound i d ended base new
-  -- And a crash leaves them so.
+  -- A crash leaves them so.
   pub on_disk : result ≡ Ok tt → (c : Files) → new.may_leave c → (after : AreAfterScan stamp place links outbound i d ended base c) × (after.waiting ≡ [])
   -- However it ended, except by a fault, a crash leaves the station unchanged or as after the event.
   pub lasts : ((fault : Fault) → result ≡ Err (Command (Met fault)) → ⊥) → (c : Files) → new.may_leave c → ShowsStation place links i c d ⊎ AreAfterScan stamp place links outbound i d ended base c
-  -- If it met a fault, a crash leaves what a crash before could have left, or both unchanged.
+  -- If it met a fault, a crash leaves a state that a crash before could have left, or both unchanged.
   pub stopped : (fault : Fault) → result ≡ Err (Command (Met fault)) → (c : Files) → new.left_since old.moment c → old.may_leave c ⊎ ShowsStation place links i c d
   -- The link file is unchanged, on the disk.
   pub same_links : new.seen links ≡ old.seen links

@@ -8,7 +8,7 @@ use Rattle.law_stations.specs.Disks.{Disks}
 use Rattle.law_stations.specs.Neighbours.{IsApart, IsKeptOn}
 use Rattle.law_stations.specs.OnDisks.{IsStationAt, ShowsStation}
 
--- what holds a base: one of two kinds
+-- The holder of a base: one of two kinds.
 pub data OfTwo (First Second : Type 0) : Type 0 where
   OfFirst : (kept : First) → OfTwo First Second
   OfSecond : (kept : Second) → OfTwo First Second
@@ -17,15 +17,15 @@ abbrev pub either : {First Second : Type 0} → (First → Place) → (Second �
 either first second (OfFirst kept) = first kept
 either first second (OfSecond kept) = second kept
 
--- The place of a station: the number of its disk, the path of its link file, the folder for the packets of its scans,
--- and what holds its base.
+-- The place of a station: the number of its disk, the path of its link file, the folder for the packets of its scans, and
+-- the holder of its base.
 pub record Seat (Kept : Type 0) : Type 0 where
   pub disk : ℕ
   pub links : List ℕ
   pub outbound : List ℕ
   pub kept : Kept
 
--- A path of this folder, or of one below it.
+-- A path in this folder, or in one below it.
 pub record IsBelow (folder path : List ℕ) : Type 0 where
   pub rest : List ℕ
   pub parts : path ≡ folder ++ rest
@@ -46,7 +46,7 @@ pub record IsShared {Kept : Type 0} (seats : List (Seat Kept)) (i : ℕ) (seat :
 abbrev pub IsSettledByOwn : Place → Type 0
 IsSettledByOwn place = (base : Base) (before after : Files) → ((m : List ℕ) → place.is_own m → after m ≡ before m) → place.stands_for base before → place.stands_for base after
 
--- Of two stations on one disk neither touches the link file or the base of the other.
+-- Neither of two stations on one disk touches the link file or the base of the other.
 pub record AreNeighbours {Kept : Type 0} (place : Kept → Place) (seats : List (Seat Kept)) : Type 0 where
   pub apart : (i j : ℕ) (a b : Seat Kept) → nth i seats ≡ Some a → nth j seats ≡ Some b → i ≢ j → b.disk ≡ a.disk → IsApart (place b.kept) b.links (reach place a)
   pub settled : (i : ℕ) (seat : Seat Kept) → nth i seats ≡ Some seat → IsShared seats i seat → IsSettledByOwn (place seat.kept)
@@ -58,7 +58,7 @@ pub record StandsAt {Kept : Type 0} (place : Kept → Place) (seats : List (Seat
   pub on_disk : (c : Files) → disk.may_leave c → ShowsStation (place seat.kept) seat.links i c d
   pub kept : IsShared seats i seat → IsKeptOn (place seat.kept) at.shows.station.base disk
 
--- so does each station
+-- Each station is on the disk so.
 pub record IsSeated {D Kept : Type 0} (state : D → DiskState) (place : Kept → Place) (seats : List (Seat Kept)) (i : ℕ) (seat : Seat Kept) (disks : List D) (d : Disks) : Type 0 where
   pub disk : D
   pub there : nth seat.disk disks ≡ Some disk

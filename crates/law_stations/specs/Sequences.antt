@@ -13,7 +13,7 @@ use Rattle.law_stations.specs.Stopping.{MayHappenAll}
 use Rattle.law_stations.specs.Seats.{AreNeighbours, AreSeated, Seat}
 use Rattle.law_stations.specs.Steps.{GoesOn, Step, after_all, commands_of}
 
--- Whatever the steps, their commands may lead to disks of the net that are shown at the end.
+-- For any steps, their commands may lead to disks of the net that are shown at the end.
 abbrev pub SequencesAreAmong : {D Kept : Type 0} → (D → DiskState) → (Kept → Place) → Type 0
 SequencesAreAmong {D} {Kept} state place = (seats : List (Seat Kept)) → AreNeighbours place seats
     → (steps : List (Step D)) (disks : List D) (d last : Disks) → AreSeated state place seats disks d → GoesOn state place seats steps disks d last
@@ -24,7 +24,7 @@ pub record ShowsInOrder {D Kept : Type 0} (state : D → DiskState) (place : Kep
   pub order : InOrderOverCrashes (commands_of steps) last tag
   pub seated : AreSeated state place seats (after_all steps disks) last
 
--- If `check` ended with 0 for the link files of stations with empty bases, and an area.
+-- The headline: `check` ended with 0 for an area and the link files of stations with empty bases.
 abbrev pub HeadlineOverSequences : {D Kept : Type 0} → (D → DiskState) → (Kept → Place) → Type 0
 HeadlineOverSequences {D} {Kept} state place = (nodelist : Option (List ℕ)) (more : Bool) (tag : List ℕ) (links : List (List ℕ)) (stopped : Option Fault) (old new : Output)
     → CheckAnswers nodelist more tag links stopped old new (Ok Good)

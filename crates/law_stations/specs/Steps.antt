@@ -9,41 +9,41 @@ use Rattle.law_stations.specs.Stopping.{PartialEffect}
 use Rattle.law_stations.specs.OnDisks.{LeavesElsewhere, ShowsStation}
 use Rattle.law_stations.specs.Seats.{Seat, StandsAt, reach}
 
--- A command at a station ends. Or a crash cuts it; without the crash it would have led to this disk. Or there is a
--- crash between commands. A command without an effect is none.
+-- A command at a station ends. Or a crash cuts it; without the crash it would have led to this disk. Or there is a crash
+-- between commands. `None` is a command without an effect.
 pub data Happening (D : Type 0) : Type 0 where
   Ends : (station : ℕ) (command : Option Command) → Happening D
   IsCut : (station : ℕ) (command : Option Command) (whole : D) → Happening D
   Crashes : Happening D
 
--- its possible effects
+-- The possible effects of the command.
 abbrev pub MayLead : Option Command → ℕ → Disks → Disks → Type 0
 MayLead None i d next = next ≡ d
 MayLead (Some command) i d next = PartialEffect command d i next
 
--- What happens on the disk of a number, and the disk after it. After a crash it is the disk with which the machine
--- starts again.
+-- The event on the disk with a number, and the disk after it. After a crash it is the disk with which the machine starts
+-- again.
 pub record Step (D : Type 0) : Type 0 where
   pub disk : ℕ
   pub what : Happening D
   pub then : D
 
--- the disks after a step
+-- The disks after a step.
 abbrev pub after : {D : Type 0} → Step D → List D → List D
 after step disks = change step.disk (λ old. step.then) disks
 
--- all that a disk shows is on it
+-- All files that a disk shows are on it.
 pub record IsAllOnDisk (disk : DiskState) : Type 0 where
   pub named : (m : List ℕ) → disk.is_named m
   pub flushed : (m : List ℕ) → disk.is_flushed m
 
--- The command ended. The disk shows what the command may have led the net to, and everything elsewhere is unchanged.
+-- The command ended. The disk shows a state to which the command may have led, and everything elsewhere is unchanged.
 pub record HasEnded {Kept : Type 0} (place : Kept → Place) (seats : List (Seat Kept)) (seat : Seat Kept) (i : ℕ) (command : Option Command) (d next : Disks) (old new : DiskState) : Type 0 where
   pub may : MayLead command i d next
   pub stands : StandsAt place seats i seat new next
   pub elsewhere : LeavesElsewhere (reach place seat) old new
 
--- A crash during the command left the state with which the disk begins. That shows what the command may have led the net to.
+-- A crash cut the command and left the state with which the disk begins: one to which the command may have led the net.
 pub record WasCut {Kept : Type 0} (place : Kept → Place) (seat : Seat Kept) (i : ℕ) (command : Option Command) (d next : Disks) (old whole begun : DiskState) : Type 0 where
   pub left : whole.left_since old.moment begun.seen
   pub begins : IsAllOnDisk begun
@@ -51,7 +51,7 @@ pub record WasCut {Kept : Type 0} (place : Kept → Place) (seat : Seat Kept) (i
   pub shows : ShowsStation (place seat.kept) seat.links i begun.seen next
   pub elsewhere : LeavesElsewhere (reach place seat) old whole
 
--- A crash between commands left what the disk begins with, all of it on the disk.
+-- A crash between commands left the state with which the disk begins, all of it on the disk.
 pub record HasCrashed (old begun : DiskState) : Type 0 where
   pub left : old.may_leave begun.seen
   pub begins : IsAllOnDisk begun
@@ -61,20 +61,20 @@ pub record IsOn {Kept : Type 0} (seats : List (Seat Kept)) (number i : ℕ) (sea
   pub there : nth i seats ≡ Some seat
   pub on : seat.disk ≡ number
 
--- The net goes from these disks to the next by what happens on the disk of the number.
+-- The net goes from these disks to the next by an event on the disk with the number.
 abbrev pub GoesBy : {D Kept : Type 0} → (D → DiskState) → (Kept → Place) → List (Seat Kept) → ℕ → Happening D → Disks → Disks → DiskState → DiskState → Type 0
 GoesBy state place seats number (Ends i command) d next old then = (seat : Seat _) × IsOn seats number i seat × HasEnded place seats seat i command d next old then
 GoesBy state place seats number (IsCut i command whole) d next old then =
     (seat : Seat _) × IsOn seats number i seat × WasCut place seat i command d next old (state whole) then
 GoesBy state place seats number Crashes d next old then = (next ≡ d) × HasCrashed old then
 
--- And so by a step.
+-- The net goes so by a step.
 pub record Goes {D Kept : Type 0} (state : D → DiskState) (place : Kept → Place) (seats : List (Seat Kept)) (step : Step D) (disks : List D) (d next : Disks) : Type 0 where
   pub old : D
   pub there : nth step.disk disks ≡ Some old
   pub by : GoesBy state place seats step.disk step.what d next (state old) (state step.then)
 
--- By some steps, one after another.
+-- The net goes so by some steps, one after another.
 abbrev pub GoesOn : {D Kept : Type 0} → (D → DiskState) → (Kept → Place) → List (Seat Kept) → List (Step D) → List D → Disks → Disks → Type 0
 GoesOn state place seats [] disks d last = last ≡ d
 GoesOn state place seats (step ∷ later) disks d last = (next : Disks) × Goes state place seats step disks d next × GoesOn state place seats later (after step disks) next last

@@ -9,7 +9,7 @@ use Rattle.law_stations.specs.Commands.{Command, CommandEvent, Post, Posts, Purg
 use Rattle.law_stations.specs.Nets.{Net, with_left}
 use Rattle.law_stations.specs.Disks.{StagingFile, Disks, HasCursor, naming}
 
--- the same temporary file, now also under the packet's name
+-- The same temporary file, now also under the packet's name.
 abbrev pub now_named : StagingFile → StagingFile
 now_named file = record { station = file.station; number = file.number; bytes = file.bytes; named = true }
 
@@ -33,7 +33,7 @@ pub record EndsOne (i : ℕ) (d new : Disks) : Type 0 where
   pub ends : Ends cursor d.net file new.net left
   pub stands : new.staging ≡ before ++ (left ++ after)
 
--- So are some, one after another.
+-- Some files of the station are finished, one after another.
 abbrev pub EndsSome : ℕ → ℕ → Disks → Disks → Type 0
 EndsSome zero i d new = new ≡ d
 EndsSome (suc n) i d new = (next : Disks) × EndsOne i d next × EndsSome n i next new
@@ -58,11 +58,11 @@ pub record Writes (i : ℕ) (d new : Disks) : Type 0 where
   pub are : AllByRecursion (IsOfNext i cursor) files
   pub becomes : new ≡ record { net = d.net; staging = d.staging ++ files }
 
--- the temporary file of a packet
+-- The temporary file of a packet.
 abbrev pub staging_of : ℕ → ℕ → PacketFile → StagingFile
 staging_of i cursor file = record { station = i; number = cursor; bytes = file.bytes; named = false }
 
--- Its packets are temporary files, and its base is committed.
+-- The packets of the scan are temporary files, and its base is committed.
 pub record Moves (stamp : Stamp) (i : ℕ) (d new : Disks) : Type 0 where
   pub none : HasNoneStaged i d.staging
   pub cursor : ℕ
@@ -74,7 +74,7 @@ pub record Moves (stamp : Stamp) (i : ℕ) (d new : Disks) : Type 0 where
     staging = d.staging ++ map (staging_of i cursor) scans.packets;
   }
 
--- How far a scan gets. It finishes some or all of the files that it finds. Then it is stopped while it writes, or its
+-- The progress of a scan. It finishes some or all of the files that it finds. Then it is stopped while it writes, or its
 -- base is committed and some or all of its packets get their names.
 abbrev pub ScansFar : Stamp → ℕ → Disks → Disks → Type 0
 ScansFar stamp i d new = (n : ℕ) × (ended : Disks) × EndsSome n i d ended
@@ -87,11 +87,11 @@ PartialEffect (Scan stamp) d i new = ScansFar stamp i d new
 PartialEffect Purge d i new = Purges d.net i new.net × (new.staging ≡ d.staging)
 PartialEffect (Toss indexes) d i new = (n : ℕ) × Tosses (take n indexes) d.net i new.net × (new.staging ≡ d.staging)
 
--- The possible effects of a command, whatever stops it: none, or it got this far.
+-- The possible effects of a command with any stop: none, or it got this far.
 abbrev pub MayHappen : CommandEvent → Disks → Disks → Type 0
 MayHappen event d new = (new ≡ d) ⊎ PartialEffect event.command d event.station new
 
--- the possible effects of commands in order
+-- The possible effects of commands in order.
 abbrev pub MayHappenAll : List CommandEvent → Disks → Disks → Type 0
 MayHappenAll [] d new = new ≡ d
 MayHappenAll (event ∷ later) d new = (next : Disks) × MayHappen event d next × MayHappenAll later next new

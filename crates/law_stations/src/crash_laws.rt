@@ -30,11 +30,11 @@ pub fn nets_are_sound_over_crashes()
 {}
 
 /// The headline over crashes. Let `check` have ended with 0 for the link files of the stations and an area. Then the
-/// net is sound, whatever commands are run on them, and whatever stops these. Over all packet files that have their
-/// names, each station of the area was sent each message of it at most once, and never its own.
+/// net is sound, for any commands on them and any stops. Count the packet files that have their names: each station of
+/// the area was sent each message of it at most once, and never its own.
 ///
-/// If the area has settled, its base has each posting exactly once, unchanged unless it was purged. It has settled
-/// when nothing of it waits for a scan or for its name, and every packet with a message of it was tossed whole.
+/// If the area has settled, its base has each posting exactly once, unchanged unless it was purged. The area has settled
+/// if no message of it waits for a scan, and every packet with one has its name and was tossed whole.
 pub fn nets_are_in_order_over_crashes()
     ensures { HeadlineOverCrashes }
 {}

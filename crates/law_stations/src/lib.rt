@@ -8,16 +8,16 @@
 //! Begin with specs/: `Nets` (stations, packet files) and `Commands` (the effect of a command on them). `Agreement`
 //! says when a net and a run agree, `InOrder` is the promise about a net.
 //!
-//! For crashes: `Disks` (files under their names, and temporary files), `Stopping` (how far a command gets), `CanEnd`
-//! (the files of stopped scans) and `OverCrashes` (the promise about the disks). For one station: `LoneStations` and
-//! `AloneInOrder`, and with crashes `LoneDisks` and `AloneOverCrashes`.
+//! For crashes, `Disks` has files under their names, and temporary files. `Stopping` says how far a command gets, `CanEnd`
+//! treats the files of stopped scans, and `OverCrashes` is the promise about the disks. For one station: `LoneStations`
+//! and `AloneInOrder`, and with crashes `LoneDisks` and `AloneOverCrashes`.
 //!
 //! For commands on disks: a crash leaves of a command what the law over crashes allows (`commands`, `scanning`,
 //! `disk_laws`). After any steps of a sequence, the disks show a net of the headline over crashes (`sequence_laws`).
 //!
-//! Begin with specs/. `DiskKinds` says which command events a command may be. `OnDisks` has a link file and a base on
-//! a disk as those of a station, and `Scans` the same with the packets of a scan. `ShownPackets` has the packet files
-//! of `toss`, and `Neighbours` other stations on the same disk. Then read `Seats` (stations on disks), `Steps` (the
+//! Begin with specs/. `DiskKinds` says which command events a command may be. `OnDisks` says that a link file and a base
+//! on a disk are those of a station; `Scans` adds the packets of a scan. `ShownPackets` has the packet files of `toss`,
+//! and `Neighbours` other stations on the same disk. Then read `Seats` (stations on disks), `Steps` (the
 //! effect of a step), `Asked` and `Scanned` (which steps commands are) and `Sequences` (the promise).
 #![tactic(auto)]
 

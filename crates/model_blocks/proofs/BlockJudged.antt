@@ -1,4 +1,4 @@
--- What is found in blocks, and the loops of all links in turn.
+-- The findings in blocks, and the loops of all links in turn.
 use Rattle.std.proofs.Common.{◌≡◌, ◌+◌, ◌<◌, ◌≤◌, ◌&&◌, ◌⊎◌, ◌↔◌, ◌++◌, ℕ, zero, suc, Bool, true, IsTrue, Option, Some, None, List, [], ◌∷◌, length, map, get_or, refl, sym, ap, ◌∙◌, subst, arith, inl, inr}
 use Rattle.std.specs.Prelude.{Contains}
 use Rattle.std.proofs.lemmas.Bool.{cases_eq, cases_lt}
@@ -18,7 +18,7 @@ use Rattle.model_graph.proofs.BlockWalks.{no_pinch_in_full}
 use Rattle.model_graph.proofs.PinchSearch.{Simple-from_graph, row_place, row_rises}
 use Rattle.model_graph.proofs.Rows.{linked_within}
 
--- what the first blocks have
+-- the findings in the first blocks
 pub record FoundBefore (links : ℕ → ℕ → Bool) (block top : ℕ → ℕ) (before : ℕ) (loops : List (Option BlockLoop)) : Type 0 where
   pub one_each : length loops ≡ before
   pub found : (k : ℕ) → k < before → IsFoundIn links block top k (get_or loops k None)
@@ -38,7 +38,7 @@ FoundBefore-more links block top before loops o f here = record {
       ];
 }
 
--- blocks and links change places
+-- two links in one block change places
 together_back : (links : ℕ → ℕ → Bool) → Simple links → (b a d c : ℕ) → AreInOneBlock links b a d c → AreInOneBlock links d c b a
 together_back links simple b a d c together z =
     let (x, y, at_x, at_y, around) = together z in
@@ -72,7 +72,7 @@ module _ (rows : List (List ℕ)) (graph : IsGraph rows) (block top rank : ℕ �
       ] in
       no_pinch_in_full links simple (length rows) graph.within block top rank are full fully b a c in_full pinch
 
-  -- by the graph of its members
+  -- a block by the graph of its members
   module _ (names : List ℕ) (up : IsAscending names) (held : (v : ℕ) → Contains names v ↔ (((v < length rows) × (block v ≡ k)) ⊎ (v ≡ top k))) where
     holds : (v : ℕ) → Contains names v ↔ ((v < length rows) × (in_k v ≡ true))
     holds v = (
@@ -141,7 +141,7 @@ block_within members block top one_top b a k lt_b lt_a of =
       | inr above ↦ omega (arith, (one_top b lt_b).0, above.1)
     ]
 
--- the first pinch of a block is what was found in it
+-- the first pinch of a block is the finding in it
 pub first_is_found : (rows : List (List ℕ)) (graph : IsGraph rows) (block top rank : ℕ → ℕ) (are : AreBlocks (linked rows) (length rows) block top rank) (loops : List (Option BlockLoop)) →
     AreFoundIn (linked rows) (length rows) block top loops → (at one c k : ℕ) → IsBlockOfLink block top at one k → k < length rows → FirstInBlock (linked rows) at one c →
     (l : BlockLoop) × (get_or loops k None ≡ Some l) × (l.at ≡ at) × (l.one ≡ one)
@@ -156,7 +156,7 @@ first_is_found rows graph block top rank are loops found at one c k of lt first 
     within : AreWithin block top k at one
     within = of_link (linked rows) simple (length rows) graph.within block top rank are found.one_top k lt at one first.pinch.one of
 
-    -- of two links each comes no later than the other
+    -- two pinches, neither before the other, begin with one link
     same : (b a c d e f : ℕ) → (b < d) ⊎ ((b ≡ d) × ((a < e) ⊎ ((a ≡ e) × ((c < f) ⊎ (c ≡ f))))) → (d < b) ⊎ ((d ≡ b) × ((e < a) ⊎ ((e ≡ a) × ((f < c) ⊎ (f ≡ c))))) → (d ≡ b) × (e ≡ a)
     same b a c d e f one_way other_way =
         elim one_way [
@@ -191,7 +191,7 @@ module _ (rows : List (List ℕ)) (graph : IsGraph rows) (at : ℕ) (row : List 
   passed_low zero lt = omega arith
   passed_low (suc k) lt = omega (arith, row_rises rows at row graph is k (suc k) (omega arith) lt)
 
-  -- what a place before has is passed
+  -- an item before index k is passed
   passed_high : (j k : ℕ) → j < k → k ≤ length row → get_or row j 0 < passed row k
   passed_high j zero lt le = absurd (omega arith)
   passed_high j (suc k) lt le =
@@ -200,7 +200,7 @@ module _ (rows : List (List ℕ)) (graph : IsGraph rows) (at : ℕ) (row : List 
         | inr differ ↦ omega (arith, row_rises rows at row graph is j k (omega arith) (omega arith))
       ]
 
-  -- each link before the next place is passed
+  -- each link before the item at index k is passed
   link_passed : (k a : ℕ) → k < length row → IsTrue (linked rows at a) → a < get_or row k 0 → a < passed row k
   link_passed k a lt link low =
       let (j, in_j, at_j) = row_place rows at a row is link in

@@ -9,7 +9,7 @@ use Rattle.model_graph.specs.Blocks.{IsLastBefore}
 use Rattle.model_graph.specs.Rows.{IsAscending}
 use Rattle.model_graph.proofs.PartStarts.{push_ascending}
 
--- what was found so far, from the last member down to the bound, and the next
+-- the findings so far, from the last member down to the bound, and the next
 pub record Walked (block : ℕ → ℕ) (k members : ℕ) (found : List ℕ) (next : Option ℕ) : Type 0 where
   pub bound : ℕ
   pub within : bound ≤ members
@@ -68,12 +68,12 @@ Walked-next block k members found member next w last =
       next_is = subst (λ (n : ℕ). IsLastBefore block n member next) own (last own);
     }
 
--- how much is left
+-- the number of members left
 abbrev pub left_of : Option ℕ → ℕ
 left_of None = 0
 left_of (Some member) = member + 1
 
--- all, from the first on
+-- all members, from the first on
 pub Walked-turned : (block : ℕ → ℕ) (k members : ℕ) (found : List ℕ) → Walked block k members found None →
     IsAscending (reverse found) × ((v : ℕ) → Contains (reverse found) v ↔ ((v < members) × (block v ≡ k)))
 Walked-turned block k members found w = (
@@ -101,7 +101,7 @@ Walked-turned block k members found w = (
   )),
 )
 
--- the first members with the top, where it was added
+-- the first members, with the top if it was added
 pub record TopAdded (members : List ℕ) (top i : ℕ) (added : Bool) (names : List ℕ) : Type 0 where
   pub ascending : IsAscending names
   pub held : (v : ℕ) → Contains names v ↔ (Contains (take i members) v ⊎ (IsTrue added × (v ≡ top)))
@@ -127,7 +127,7 @@ module _ (members : List ℕ) (up : IsAscending members) (top i x : ℕ) (inside
       let at : get_or members k 0 ≡ v = sym (get_or_default_zero members k v (omega arith)) ∙ (sym (get_or-take i members k v low) ∙ is) in
       omega (arith, up k i low inside, at, here)
 
-  -- one member more behind names that are below it
+  -- one more member after names below it
   one_more : (added : Bool) (names : List ℕ) → IsAscending names → ((v : ℕ) → Contains names v ↔ (Contains (take i members) v ⊎ (IsTrue added × (v ≡ top)))) →
       ((v : ℕ) → Contains names v → v < x) → (after : Bool) → (IsTrue added → IsTrue after) → (IsTrue after → IsTrue added ⊎ (x ≡ top)) →
       (after ≡ false → x < top) → (after ≡ false → (v : ℕ) → Contains (take i members) v → v < top) → (after ≡ true → top ≤ x) →
@@ -166,7 +166,7 @@ module _ (members : List ℕ) (up : IsAscending members) (top i x : ℕ) (inside
     high = λ some j le lt. omega (arith, high some, up i j (omega arith) lt, here);
   }
 
-  -- a member behind the top
+  -- a member after the top
   pub TopAdded-after : (names : List ℕ) → TopAdded members top i true names → TopAdded members top (i + 1) true (names ++ x ∷ [])
   TopAdded-after names t =
       let above : top < x = omega (arith, t.high refl i (omega arith) inside, here) in
@@ -174,7 +174,7 @@ module _ (members : List ℕ) (up : IsAscending members) (top i x : ℕ) (inside
       (λ v there. elim ((t.held v).0 there) [ inl before ↦ earlier v before | inr at_top ↦ omega (arith, at_top.1, above) ])
       true (λ h. h) (λ h. inl refl) (λ e. absurd cc) (λ e. absurd cc) (λ e. omega (arith, above))
 
-  -- one before it
+  -- a member before the top
   pub TopAdded-before : (names : List ℕ) → TopAdded members top i false names → x < top → TopAdded members top (i + 1) false (names ++ x ∷ [])
   TopAdded-before names t small =
       one_more false names t.ascending t.held
@@ -188,7 +188,7 @@ module _ (members : List ℕ) (up : IsAscending members) (top i x : ℕ) (inside
       (λ v there. elim ((t.held v).0 there) [ inl before ↦ earlier v before | inr at_top ↦ (let no = at_top.0 in absurd cc) ])
       true (λ h. refl) (λ h. inr is) (λ e. absurd cc) (λ e. absurd cc) (λ e. omega (arith, is))
 
-  -- the top, and a member behind it
+  -- the top, and a member after it
   pub TopAdded-here : (names : List ℕ) → TopAdded members top i false names → top < x → TopAdded members top (i + 1) true ((names ++ top ∷ []) ++ x ∷ [])
   TopAdded-here names t above =
       one_more true (names ++ top ∷ [])
@@ -212,7 +212,7 @@ module _ (members : List ℕ) (up : IsAscending members) (top i x : ℕ) (inside
       ])
       true (λ h. h) (λ h. inl refl) (λ e. absurd cc) (λ e. absurd cc) (λ e. omega (arith, above))
 
-  -- one member more, by what was tested
+  -- one member more, by the result of its test
   pub TopAdded-step : (added after : Bool) (names now : List ℕ) → TopAdded members top i added names →
       ((added ≡ false) × (top < x) × (now ≡ names ++ top ∷ [])) ⊎ (((added ≡ true) ⊎ (x ≤ top)) × (now ≡ names)) →
       ((top ≤ x) × (after ≡ true)) ⊎ ((x < top) × (after ≡ added)) → TopAdded members top (i + 1) after (now ++ x ∷ [])
@@ -269,7 +269,7 @@ TopAdded-done members top i names past t v =
           ]),
     )
 
--- the top behind all members
+-- the top after all members
 pub TopAdded-last : (members : List ℕ) (top i : ℕ) (names : List ℕ) → length members ≤ i → TopAdded members top i false names → TopAdded members top i true (names ++ top ∷ [])
 TopAdded-last members top i names past t = record {
   ascending = push_ascending names top t.ascending (λ v there. elim ((t.held v).0 there) [ inl before ↦ t.low refl v before | inr at_top ↦ (let no = at_top.0 in absurd cc) ]);

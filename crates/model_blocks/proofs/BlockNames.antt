@@ -1,4 +1,4 @@
--- The members of a block by their places in an ascending list.
+-- The members of a block by their indexes in an ascending list.
 use Rattle.std.proofs.Common.{◌≡◌, ◌≢◌, ◌<◌, ◌&&◌, ◌==◌, ◌↔◌, ◌⊎◌, nat_lt, ℕ, Bool, true, IsTrue, List, [], ◌∷◌, length, map, get_or, refl, sym, ap, ◌∙◌, subst, arith, inl, inr}
 use Rattle.std.specs.Prelude.{Contains}
 use Rattle.std.specs.List.{position_or_len}
@@ -48,7 +48,7 @@ module _ (links : ℕ → ℕ → Bool) (simple : Simple links) (members : ℕ) 
   name_back : (v : ℕ) → v < members → inside v ≡ true → name (back v) ≡ v
   name_back v lt in_v = (let (i, inside_i, is) = number v lt in_v in ap name (ap back (sym is) ∙ back_name i inside_i) ∙ is)
 
-  -- what a link of places has
+  -- the parts of a link between indexes
   record Parts (i j : ℕ) : Type 0 where
     pub one : i < length names
     pub other : j < length names
@@ -139,7 +139,7 @@ module _ (links : ℕ → ℕ → Bool) (simple : Simple links) (members : ℕ) 
       none (back b) (back a) (back c)
       (IsPinch-renamed inner sub back name (IsRenaming-swap sub inner name back renaming) simple_inner (λ x y. x < y) (λ x y. x < y) keeps_back b a c pinch)
 
-  -- the members of a walk are places
+  -- the members of a walk are indexes
   walk_in : (i : ℕ) (rest : List ℕ) (j : ℕ) → Walk sub i rest j → i < length names → (l : ℕ) → Among l (i ∷ rest) → l < length names
   walk_in i [] j walk lt l among = elim among [ inl is ↦ omega (arith, is) | inr none ↦ absurd none ]
   walk_in i (m ∷ rest) j walk lt l among = elim among [
@@ -152,7 +152,7 @@ module _ (links : ℕ → ℕ → Bool) (simple : Simple links) (members : ℕ) 
       subst (λ (v : ℕ). Around inner z v y) is_x
       (subst (λ (w : ℕ). Around inner z (name i) w) is_y (map name rest, Walk-renamed sub inner name back renaming i rest j walk, clear))
 
-  -- where no member parts two places, none parts two members
+  -- if no index parts two others, no member parts two members
   pub whole_named : IsWhole sub (length names) → (z x y : ℕ) → x < members → y < members → inside x ≡ true → inside y ≡ true → z ≢ x → z ≢ y → Around inner z x y
   whole_named whole z x y lt_x lt_y in_x in_y apart_x apart_y =
       let (i, in_i, is_i) = number x lt_x in_x in

@@ -1,4 +1,4 @@
--- Numbers of which each but the first and the last lies between those of two links: no member parts two others.
+-- Each number except the first and the last lies between those of two links. So no member parts two others.
 use Rattle.std.proofs.Common.{◌≢◌, ◌+◌, ◌<◌, ◌≤◌, ◌⊎◌, ℕ, zero, suc, Bool, IsTrue, ◌∷◌, ap, sym, subst, arith, inl, inr}
 use Rattle.std.proofs.lemmas.Bool.{cases_eq, cases_lt}
 use Rattle.model_graph.specs.Walk.{Among, Simple}

@@ -26,7 +26,7 @@ module _ (links : ℕ → ℕ → Bool) where
     | inr e ↦ inr (ends_at z a y d c at_y (subst (λ (v : ℕ). Around links z v y) e around))
   ]
 
-  -- what is no member is on no walk
+  -- a walk between members passes members only
   module _ (members : ℕ) (within : (a b : ℕ) → IsTrue (links a b) → b < members) where
     pub on_walk : (x : ℕ) (rest : List ℕ) (y : ℕ) → Walk links x rest y → x < members → (v : ℕ) → Among v (x ∷ rest) → v < members
     on_walk x [] y walk lt v among = elim among [ inl e ↦ omega (arith, e) | inr none ↦ absurd none ]
@@ -45,7 +45,7 @@ module _ (links : ℕ → ℕ → Bool) where
           | inr past ↦ joined_one z b a d c (elim last [ inl h ↦ inl (outside b d z lt past h) | inr h ↦ inr (outside b c z lt past h) ])
         ]
 
-    -- and without one that is no member the first end is joined
+    -- and without a non-member the first end is joined
     pub joined_last : (b a d c : ℕ) → b < members → IsTrue (links b a) → AreInOneBlock links b a d c → Around links members b d ⊎ Around links members b c
     joined_last b a d c lt link together =
         let differ : members ≢ b = λ e. omega (arith, e) in
@@ -54,7 +54,7 @@ module _ (links : ℕ → ℕ → Bool) where
           | inr h ↦ elim h [ inl h' ↦ inl (Around-step links members b a d differ link h') | inr h' ↦ inr (Around-step links members b a c differ link h') ]
         ]
 
--- the first pinch that begins with a link, where none in its block begins earlier
+-- the first pinch that begins with a link, if no pinch in its block begins earlier
 pub first_here : (links : ℕ → ℕ → Bool) (at one other : ℕ) → FirstOther links at one other → (upto : ℕ) → at < upto → ¬ HasEarlier links at one upto → FirstInBlock links at one other
 first_here links at one other found upto inside none = record {
   pinch = found.pinch;

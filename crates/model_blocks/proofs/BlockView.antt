@@ -1,4 +1,4 @@
--- A graph seen from one of its blocks: each member goes by the member of the block, or of its top, at which walks from it
+-- A graph seen from one of its blocks. Each member goes by the member, of the block or its top, at which walks from it
 -- enter the block.
 use Rattle.std.proofs.Common.{◌≡◌, ◌≢◌, ◌<◌, ◌≤◌, ◌&&◌, ◌||◌, ◌==◌, ◌⊎◌, ℕ, zero, suc, Bool, true, false, cond, IsTrue, List, [], ◌∷◌, length, refl, sym, ap, ◌∙◌, subst, arith, inl, inr}
 use Rattle.std.proofs.lemmas.Bool.{and_from, and_parts, cases_Bool, cases_eq, eq-eqb, eqb-true, or_cases, or_left, or_right}
@@ -20,7 +20,7 @@ module _ (links : ℕ → ℕ → Bool) (simple : Simple links) (members : ℕ) 
   pub t_within : top k < members
   t_within = (are.ranks k k_within).0
 
-  -- whether it is in the block, or its top
+  -- whether the member is in the block, or is its top
   abbrev pub inside : ℕ → Bool
   inside v = (block v == k) || (v == t)
 
@@ -38,7 +38,7 @@ module _ (links : ℕ → ℕ → Bool) (simple : Simple links) (members : ℕ) 
   top_inside : inside t ≡ true
   top_inside = inside_from t (inr refl)
 
-  -- so many tops up from a member, or to the first that is inside
+  -- this many tops up from a member, or the first member inside on the way
   seen : ℕ → ℕ → ℕ
   seen zero v = t
   seen (suc n) v = cond (inside v) v (seen n (top v))
@@ -79,7 +79,7 @@ module _ (links : ℕ → ℕ → Bool) (simple : Simple links) (members : ℕ) 
             ]
       ]
 
-  -- the member at which it is seen
+  -- the member at which a member is seen
   pub view : ℕ → ℕ
   view v = seen (suc (rank v)) v
 
@@ -95,7 +95,7 @@ module _ (links : ℕ → ℕ → Bool) (simple : Simple links) (members : ℕ) 
         | inr before ↦ seen_outside (rank v) v out ∙ seen_alike (rank v) (suc (rank (top v))) (top v) (are.ranks v lt).0 before (omega arith)
       ]
 
-  -- what ranks before the top is outside, and seen at the top
+  -- a member that ranks before the top is outside, and seen at the top
   before_outside : (v : ℕ) → v < members → rank v < rank t → inside v ≡ false
   before_outside v lt low =
       elim (cases_Bool (inside v)) [
@@ -141,7 +141,7 @@ module _ (links : ℕ → ℕ → Bool) (simple : Simple links) (members : ℕ) 
   unfolding view
   view_is_inside v = seen_is_inside (suc (rank v)) v
 
-  -- members outside with one top, or of which one is the other's top, are seen at one place
+  -- members outside with one top, or with one as the other's top, are seen at one place
   with_top : (v w : ℕ) → v < members → w < members → top v ≡ w → (view v ≡ view w) ⊎ ((inside v ≡ true) × (inside w ≡ true))
   with_top v w lt_v lt_w is =
       elim (cases_Bool (inside v)) [
@@ -213,7 +213,7 @@ module _ (links : ℕ → ℕ → Bool) (simple : Simple links) (members : ℕ) 
   inner_walk v [] w same = same
   inner_walk v (u ∷ rest) w walk = (inner_link v u walk.0, inner_walk u rest w walk.1)
 
-  -- a walk that does not pass a member inside, seen from there: no longer, and the same where it is as long
+  -- a walk that does not pass a member inside, as seen from there: no longer, and the same if it is as long
   pub record Seen (z x : ℕ) (rest : List ℕ) (y : ℕ) : Type 0 where
     pub part : List ℕ
     pub walk : Walk inner (view x) part (view y)
@@ -308,7 +308,7 @@ module _ (links : ℕ → ℕ → Bool) (simple : Simple links) (members : ℕ) 
         around = around_within b a c in_a in_c p.around;
       }
 
-  -- what no member parts from a link inside is inside
+  -- links that no member parts from a link inside are inside
   together_in : (b a d c : ℕ) → inside b ≡ true → inside a ≡ true → IsTrue (links d c) → AreInOneBlock links b a d c → (inside d ≡ true) × (inside c ≡ true)
   together_in b a d c in_b in_a link together =
       elim (link_seen d c link) [

@@ -1,4 +1,4 @@
--- Places of some members in an ascending list of names, found link by link or name by name.
+-- Indexes of some members in an ascending list of names, found link by link or name by name.
 use Rattle.std.proofs.Common.{◌≡◌, ◌+◌, ◌<◌, ◌≤◌, ◌↔◌, ◌++◌, ◌&&◌, nat_lt, ℕ, Bool, IsTrue, List, [], ◌∷◌, length, get_or, sym, ap, ◌∙◌, subst, arith, inl, inr}
 use Rattle.std.specs.Prelude.{Contains}
 use Rattle.std.proofs.lemmas.Bool.{cases_eq, cases_lt}
@@ -12,7 +12,7 @@ use Rattle.model_graph.specs.Rows.{IsAscending, IsGraph, linked, links_at}
 use Rattle.model_graph.proofs.Rows.{holds_at, linked_within, place_of}
 use Rattle.model_graph.proofs.PartStarts.{push_ascending}
 
--- of the first names those that have the property
+-- the indexes of those first names that have the property
 pub record PlacesBefore (Has : ℕ → Type 0) (before : ℕ) (places : List ℕ) : Type 0 where
   pub ascending : IsAscending places
   pub members : (j : ℕ) → Contains places j ↔ ((j < before) × Has j)
@@ -48,7 +48,7 @@ module _ (Has : ℕ → Type 0) (before : ℕ) (places : List ℕ) (p : PlacesBe
     );
   }
 
--- the places of the first links
+-- the indexes of the first links
 pub record PlacesOf (names links : List ℕ) (count : ℕ) (places : List ℕ) : Type 0 where
   pub ascending : IsAscending places
   pub within : (j : ℕ) → Contains places j → (j < length names) × ((k : ℕ) × (k < count) × (k < length links) × (get_or links k 0 ≡ get_or names j 0))
@@ -71,7 +71,7 @@ module _ (names links : List ℕ) (up_names : IsAscending names) (up_links : IsA
         ];
   }
 
-  -- names have one place each
+  -- a name has one index
   one_place : (i j : ℕ) → i < length names → j < length names → get_or names i 0 ≡ get_or names j 0 → i ≡ j
   one_place i j in_i in_j same =
       elim (cases_eq i j) [
@@ -83,7 +83,7 @@ module _ (names links : List ℕ) (up_names : IsAscending names) (up_links : IsA
             ]
       ]
 
-  -- one that is
+  -- a link that is a name
   pub PlacesOf-pushed : (place : ℕ) → place < length names → get_or names place 0 ≡ get_or links count 0 → PlacesOf names links (count + 1) (places ++ place ∷ [])
   PlacesOf-pushed place lt_place here = record {
     ascending = push_ascending places place p.ascending (λ j there.
@@ -146,7 +146,7 @@ RowsOf-more links names count rows row r up own =
           ];
     }
 
--- a number stands in a row where it is linked
+-- the row of i contains each link of i
 pub in_row : (rows : List (List ℕ)) (i j : ℕ) → IsTrue (linked rows i j) → Contains (links_at rows i) j
 in_row rows i j h = (let (k, lt, is) = place_of (links_at rows i) j h in (k, lt, get_or_default_zero (links_at rows i) k j lt ∙ is))
 

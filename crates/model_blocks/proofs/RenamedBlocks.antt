@@ -1,4 +1,4 @@
--- The loops of blocks of a graph whose members get other names, where the names keep the order.
+-- The loops of blocks, after a renaming that keeps the order of the members.
 use Rattle.std.proofs.Common.{inl, inr, sym, ap, subst, ◌∙◌, Bool, IsTrue, List, ◌∷◌, map}
 use Rattle.model_graph.specs.Walk.{Among, Simple}
 use Rattle.model_blocks.specs.BlockLoops.{AreInOneBlock, FirstInBlockBy, IsLoopOfBlockBy}
@@ -45,7 +45,7 @@ module _ {A B : Type 0} (linked : A → A → Bool) (joined : B → B → Bool) 
         (together_back b a found.pinch.one e d together));
   }
 
-  -- so is the loop of a block
+  -- and the loop of a block
   pub LoopOfBlock-renamed : (b a : A) (loop : List A) → IsLoopOfBlockBy Before linked b a loop → IsLoopOfBlockBy Earlier joined (name b) (name a) (map name loop)
   LoopOfBlock-renamed b a loop named =
       let pinch = named.first.pinch in

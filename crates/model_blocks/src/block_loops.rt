@@ -62,7 +62,7 @@ fn judge_of(alloc: Global, graph: &Graph) -> Result<Judge, AllocError>
     }
 }
 
-/// Adds the loops whose first pinches have this member.
+/// Adds the loops of the blocks that have their first pinch at this member.
 fn push_loops_at(
     alloc: Global,
     graph: &Graph,

@@ -1,6 +1,6 @@
 //! The loop of each block, by the graph of its members alone.
 
-ghost use Rattle.std.specs.Prelude.{◌≡◌, ◌<◌, ℕ, None, IfOk, IfSome, length, map, slice_index};
+ghost use Rattle.std.specs.Prelude.{◌≡◌, ◌<◌, None, IfOk, IfSome, length, map, slice_index};
 ghost use Rattle.std.specs.List.{All};
 ghost use Rattle.model_graph.specs.Rows.{linked, IsGraph};
 ghost use Rattle.model_graph.specs.Blocks.{block_of, top_of, rank_of, full_of, AreBlocks, AreFull, LastMembers};

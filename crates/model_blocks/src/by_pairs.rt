@@ -1,5 +1,5 @@
-//! The first pinches of blocks, each compared with all that come before it. A graph whose blocks a search in depth has
-//! found needs none of this.
+//! The first pinches of blocks, each compared with all that come before it. A graph needs it only if no search in
+//! depth has found its blocks.
 
 ghost use Rattle.std.specs.Prelude.{◌<◌, ◌⊎◌, ◌↔◌, ℕ, IfOk, IsTrue, MatchOption, length};
 ghost use Rattle.model_graph.specs.Beyond.{Around};

@@ -1,7 +1,7 @@
 //! The blocks of a graph, and a loop of each: two links are in one block if no member parts them.
 //!
-//! Promise: `loops_of_blocks` answers, of each block with a cycle that has two members that are not linked, the cycle that
-//! `loop_of` of model_graph would name if the graph had this block alone.
+//! Promise: `loops_of_blocks` answers a cycle of each block that has a cycle with two unlinked members. It is the cycle
+//! that `loop_of` of model_graph would name if the graph had this block alone.
 //!
 //! `block_loops` takes the cycle of each block from `by_block`: `in_block` and `subgraph` make a graph
 //! of the block alone, and `wholeness` tests, by the numbers of `numbering`, that no member parts it. If

@@ -10,7 +10,7 @@ module _ {A : Type 0} (linked : A → A → Bool) where
   pub Around-itself : (x a : A) → x ≢ a → Around linked x a a
   Around-itself x a other = ([], refl, λ h. elim h [ inl e ↦ other e | inr t ↦ t ])
 
-  -- one link more in front
+  -- one more link in front
   pub Around-step : (x a b c : A) → x ≢ a → IsTrue (linked a b) → Around linked x b c → Around linked x a c
   Around-step x a b c other link around =
       let (rest, w, avoids) = around in
@@ -31,7 +31,7 @@ module _ {A : Type 0} (linked : A → A → Bool) where
       let (back, v, same) = walk_back linked simple a rest b w in
       (back, v, λ h. avoids (same x h))
 
-  -- what links around b keep, walks around b keep
+  -- a property that links around b keep, walks around b keep too
   pub Around-keeps : (b : A) (P : A → Type 0) → ((x y : A) → P x → IsTrue (linked x y) → b ≢ x → b ≢ y → P y) →
       (a c : A) → Around linked b a c → P a → P c
   Around-keeps b P next a c around = along a around.0 around.1 around.2
@@ -41,7 +41,7 @@ module _ {A : Type 0} (linked : A → A → Bool) where
       along a (d ∷ rest) w avoids at_a =
           along d rest w.1 (λ h. avoids (inr h)) (next a d at_a w.0 (λ e. avoids (inl e)) (λ e. avoids (inr (inl e))))
 
-  -- beyond x is what no walk around x joins with the other end
+  -- if c lies beyond x, no walk around x leads from c to f
   pub no_around-from_Beyond : (x f c : A) → Beyond linked x f c → ¬ Around linked x c f
   no_around-from_Beyond x f c beyond around = around.2 (beyond around.0 around.1)
 
@@ -50,7 +50,7 @@ module _ {A : Type 0} (can : CanTell A) (linked : A → A → Bool) where
   Beyond-from_no_around x f c none rest w =
       elim (Among-cases can x (c ∷ rest)) [ inl h ↦ h | inr avoids ↦ absurd (none (rest, w, avoids)) ]
 
-  -- around x without repeats
+  -- a walk around x without repeats
   pub Around-without_repeats : (x a b : A) → Around linked x a b →
       (rest : List A) × Walk linked a rest b × ¬ Among x (a ∷ rest) × Different (a ∷ rest)
   Around-without_repeats x a b around =

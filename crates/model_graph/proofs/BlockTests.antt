@@ -1,4 +1,4 @@
--- A division into blocks, tested member by member, and which of its blocks are full.
+-- A division into blocks, tested member by member, and the full blocks in it.
 use Rattle.std.proofs.Common.{◌≡◌, ◌≢◌, ◌+◌, ◌<◌, ◌≤◌, ◌++◌, ℕ, Bool, false, IsTrue, Option, Some, None, List, [], ◌∷◌, length, get_or, set, sym, ap, ◌∙◌, subst, arith, inl, inr}
 use Rattle.std.proofs.lemmas.Bool.{cases_eq, false≢true}
 use Rattle.std.proofs.lemmas.List.{length_push, length-set, get_or_push, get_or_append_left, get_or-set_same, get_or-set_other}
@@ -30,7 +30,7 @@ IsLastBefore-passed block k x (Some last) differ h = (
       ],
 )
 
--- what was found for the members before, and for one more
+-- the last members of each block, for the members before and for one more
 previous_more : (block : ℕ → ℕ) (members x : ℕ) (previous last : List (Option ℕ)) (found : Option ℕ) → LastMembers block members x previous last →
     (block x < members → IsLastBefore block (block x) x found) →
     (y : ℕ) → y < x + 1 → block y < members → IsLastBefore block (block y) y (get_or (previous ++ found ∷ []) y None)
@@ -72,7 +72,7 @@ LastMembers-left_out block members x previous last h past = record {
   last = λ k lt. IsLastBefore-passed block k x (get_or last k None) (λ (e : block x ≡ k). absurd (omega arith)) (h.last k lt);
 }
 
--- marks that are taken away, and one more member
+-- marks removed, and one more member
 pub marked_more : (P : ℕ → Type 0) (block : ℕ → ℕ) (old new : List Bool) (x : ℕ) →
     ((y : ℕ) → y < x → IsTrue (get_or old (block y) false) → P y) → ((k : ℕ) → IsTrue (get_or new k false) → IsTrue (get_or old k false)) →
     (IsTrue (get_or new (block x) false) → P x) → (y : ℕ) → y < x + 1 → IsTrue (get_or new (block y) false) → P y

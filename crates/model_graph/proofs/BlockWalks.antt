@@ -8,7 +8,7 @@ use Rattle.model_graph.specs.Blocks.{AreBlocks, AreFull, OnOneSide, IsInFull, Is
 use Rattle.model_graph.proofs.Around.{Around-keeps, Around-sym}
 use Rattle.model_graph.proofs.Walks.{linked_differ}
 
--- x hangs below b in the block k: so many tops up from x, none of them b, is a member of k, whose top is b
+-- x hangs below b in block k: the n-th member up from x is in k, its top is b, and no member on the way is b
 abbrev pub Hangs : (ℕ → ℕ) → (ℕ → ℕ) → ℕ → ℕ → ℕ → ℕ → Type 0
 Hangs block top b k zero x = (x ≢ b) × (block x ≡ k) × (top x ≡ b)
 Hangs block top b k (suc n) x = (x ≢ b) × Hangs block top b k n (top x)
@@ -19,7 +19,7 @@ module _ (links : ℕ → ℕ → Bool) (simple : Simple links) (members : ℕ) 
   not_b b k zero x h = h.0
   not_b b k (suc n) x h = h.0
 
-  -- what hangs below b has its links there, but for b itself
+  -- the links of a member that hangs below b hang there too, except b itself
   hangs_next : (b k n x y : ℕ) → Hangs block top b k n x → IsTrue (links x y) → b ≢ y → (m : ℕ) × Hangs block top b k m y
   hangs_next b k zero x y h link apart =
       elim (are.links x y link) [
@@ -78,7 +78,7 @@ module _ (links : ℕ → ℕ → Bool) (simple : Simple links) (members : ℕ) 
             ]
       ]
 
-  -- where a walk around b joins links a and c of b, and a is in a block below b, c is there too
+  -- if a walk around b joins links a and c of b, and a is in a block below b, so is c
   joined_below : (b a c : ℕ) → IsTrue (links b a) → IsTrue (links b c) → Around links b a c → top a ≡ b → (block c ≡ block a) × (top c ≡ b)
   joined_below b a c link_a link_c around below =
       let apart : a ≢ b = λ e. linked_differ links simple b a link_a (sym e) in
@@ -111,7 +111,7 @@ module _ (links : ℕ → ℕ → Bool) (simple : Simple links) (members : ℕ) 
             ]
       ]
 
-  -- where r covers the links of b beside it, a pinch of b there is one of r
+  -- if r covers the links of b on one side, a pinch of b on that side is a pinch of r
   pub no_pinch_covered : (b r a c : ℕ) → r < b → ((d f : ℕ) → ¬ IsPinch links r d f) → IsCovered links block top b r → OnOneSide block top b r a → ¬ IsPinch links b a c
   no_pinch_covered b r a c before none covered side_a pinch =
       let lt = pinch.in_order in

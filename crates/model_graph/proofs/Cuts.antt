@@ -1,4 +1,4 @@
--- What lies beyond a member: the way to another member, and what lies beyond it in turn.
+-- The members beyond a member: the way to another member, and the members further out.
 use Rattle.std.proofs.Common.{◌≡◌, ◌≢◌, ◌⊎◌, ◌↔◌, inl, inr, refl, sym, subst, ℕ, zero, suc, ◌≤◌, arith, Bool, IsTrue, List, [], ◌∷◌, length}
 use Rattle.std.proofs.lemmas.Bool.{cases_Bool, both_ways}
 use Rattle.model_graph.specs.Walk.{Simple, Among, Walk, Reaches}
@@ -9,7 +9,7 @@ use Rattle.model_graph.proofs.Steps.{first_step}
 use Rattle.model_graph.proofs.Around.{Around-step, Around-trans, Around-sym, Beyond-from_no_around, no_around-from_Beyond}
 
 module _ {A : Type 0} (can : CanTell A) (linked : A → A → Bool) where
-  -- what lies beyond what lies beyond x lies beyond x
+  -- Beyond is transitive: a member beyond y lies beyond x if y lies beyond x
   pub Beyond-trans : (x y f c : A) → Beyond linked y f c → Beyond linked x f y → Beyond linked x f c
   Beyond-trans x y f c beyond_y beyond_x rest w =
       let passes_y = beyond_y rest w in
@@ -55,11 +55,11 @@ module _ {A : Type 0} (can : CanTell A) (linked : A → A → Bool) (simple : Si
       no_around-from_Beyond linked y f c beyond
       (Around-step linked y c u f (linked_differ linked simple y c link) (simple.both_ways u c joined) around)
 
-  -- nor does the way
+  -- nor does the member of the way
   pub way-not_beyond : (f y u : A) → Reaches linked y f → IsWay linked f y u → ¬ Beyond linked y f u
   way-not_beyond f y u reaches to_u beyond = no_around-from_Beyond linked y f u beyond (Around-from_IsWay f y u reaches to_u)
 
-  -- what lies further out is neither y nor a link of y
+  -- a member further out is neither y nor a link of y
   pub further : (f y c d : A) → Reaches linked y f → IsTrue (linked y c) → Beyond linked y f c → Beyond linked c f d → d ≢ c →
       (d ≢ y) × (¬ IsTrue (linked y d))
   further f y c d reaches link beyond_y beyond_c other =
@@ -108,7 +108,7 @@ module _ {A : Type 0} (can : CanTell A) (linked : A → A → Bool) (simple : Si
               no_around-from_Beyond linked y c u apart to_c))
         ]
 
-    -- so, of the other links, those lie beyond that are no links of the way
+    -- so, among the other links, exactly those lie beyond that are no links of the way
     pub beyond_or_link : (f y u c : A) → Reaches linked y f → IsWay linked f y u → IsTrue (linked y c) → c ≢ u →
         Beyond linked y f c ↔ (¬ IsTrue (linked u c))
     beyond_or_link f y u c reaches to_u link other = (
@@ -116,7 +116,7 @@ module _ {A : Type 0} (can : CanTell A) (linked : A → A → Bool) (simple : Si
       λ none. elim (link_cases f y u c reaches to_u link other) [ inl joined ↦ absurd (none joined) | inr beyond ↦ beyond ],
     )
 
-    -- what holds of f, and of each member whose way it holds of, holds of all that reach f
+    -- a property of f spreads along the ways to all members that reach f
     pub along_ways : (f : A) (P : A → Type 0) → P f → ((y u : A) → y ≢ f → Reaches linked y f → IsWay linked f y u → P u → P y) →
         (y : A) → Reaches linked y f → P y
     along_ways f P start next y reaches = within (length reaches.0) y reaches.0 (omega arith) reaches.1

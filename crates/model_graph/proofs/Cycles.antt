@@ -1,4 +1,4 @@
--- Cycles: each is a full polygon exactly where links that are not linked are parted.
+-- Cycles: each is a full polygon exactly if links that are not linked are parted.
 use Rattle.std.proofs.Common.{◌≡◌, ◌≢◌, inl, inr, refl, sym, subst, ◌∙◌, arith, Bool, IsTrue, List, [], ◌∷◌, ◌++◌, length-append}
 use Rattle.std.proofs.lemmas.Bool.{cases_Bool, both_ways}
 use Rattle.model_graph.specs.Walk.{Simple, Among, Different, Walk}
@@ -28,7 +28,7 @@ module _ {A : Type 0} (linked : A → A → Bool) where
         closed = (first, walk_append linked second rest last (first ∷ []) first w.1 (closes, refl), w.0);
       }
 
-  -- from the third member of a cycle on back to the first one gets around the second
+  -- the third member of a cycle reaches the first one around the second
   back_around : (first second third : A) (rest : List A) → Cycle linked first (second ∷ third ∷ rest) → Around linked second third first
   back_around first second third rest cycle =
       let (last, w, closes) = cycle.closed in
@@ -53,7 +53,7 @@ module _ {A : Type 0} (linked : A → A → Bool) (simple : Simple linked) where
     closed = (c, (to_a, w), simple.both_ways b c to_c);
   }
 
-  -- where all links are parted, there is no cycle
+  -- if all links are parted, there is no cycle
   pub NoCycle-from_AllParted : AllParted linked → NoCycle linked
   NoCycle-from_AllParted parted first [] cycle = omega (arith, cycle.long)
   NoCycle-from_AllParted parted first (second ∷ []) cycle = omega (arith, cycle.long)
@@ -137,7 +137,7 @@ module _ {A : Type 0} (can : CanTell A) (linked : A → A → Bool) (simple : Si
         let turned = cycle_turned linked first second rest cycle in
         link_from linked second x y (sym e) (first_linked second (rest ++ first ∷ []) turned y (Among-append_left y rest (first ∷ []) h))
 
-    -- any two behind the first are linked, if any two behind the second are
+    -- any two members after the first are linked, if any two after the second are
     after_second : (first second : A) (rest : List A) → Cycle linked first (second ∷ rest) → (x y : A) →
         (Among x rest → Among y rest → IsTrue (linked x y)) → Among x (second ∷ rest) → Among y (second ∷ rest) → x ≢ y → IsTrue (linked x y)
     after_second first second rest cycle x y later at_x at_y other =
@@ -152,7 +152,7 @@ module _ {A : Type 0} (can : CanTell A) (linked : A → A → Bool) (simple : Si
           ]
         ]
 
-    -- any two behind the first are linked
+    -- any two members after the first are linked
     others_linked : (first : A) (rest : List A) → Cycle linked first rest → (x y : A) → Among x rest → Among y rest → x ≢ y → IsTrue (linked x y)
     others_linked first [] cycle x y at_x at_y other = absurd at_x
     others_linked first (second ∷ []) cycle x y at_x at_y other = absurd (omega (arith, cycle.long))

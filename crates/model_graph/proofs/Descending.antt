@@ -29,7 +29,7 @@ Walk-from_Descent : (links : ℕ → ℕ → Bool) (levels : List (Option ℕ)) 
 Walk-from_Descent links levels [] a z same = same
 Walk-from_Descent links levels (d ∷ rest) a z h = (h.0.2.link, Walk-from_Descent links levels rest d z h.1)
 
--- the members of a descent lie lower and lower
+-- the members of a descent have lower and lower levels
 level_in : (links : ℕ → ℕ → Bool) (levels : List (Option ℕ)) (rest : List ℕ) (a z m x : ℕ) → Descent links levels a rest z → level_of levels a ≡ Some m → Among x rest → (n : ℕ) × (level_of levels x ≡ Some n) × (n < m)
 level_in links levels [] a z m x h e among = absurd among
 level_in links levels (d ∷ rest) a z m x h e (inl is) =
@@ -56,7 +56,7 @@ descent_differs links levels (d ∷ rest) a z m h e = (
   descent_differs links levels rest d z h.0.0 h.1 h.0.2.has_level,
 )
 
--- a walk to the root has at least as many links as the level says
+-- a walk to the root has at least as many links as the level
 levels_up : (links : ℕ → ℕ → Bool) (without root : ℕ) (levels : List (Option ℕ)) → Simple links → Searched links without root levels → (rest : List ℕ) (a : ℕ) → Walk links a rest root → ¬ Among without (a ∷ rest) → (n : ℕ) × (level_of levels a ≡ Some n) × (n ≤ length rest)
 levels_up links without root levels simple searched [] a same clear = (0, ap (level_of levels) same ∙ searched.rooted, omega arith)
 levels_up links without root levels simple searched (d ∷ rest) a walk clear =

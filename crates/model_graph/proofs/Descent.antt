@@ -1,4 +1,4 @@
--- Where links keep to a family, they are parted.
+-- If links keep to a family, they are parted.
 use Rattle.std.proofs.Common.{◌≡◌, ◌≢◌, ◌⊎◌, inl, inr, refl, sym, subst, ap, ◌∙◌, ℕ, zero, suc, ◌+◌, ◌<◌, ◌≤◌, arith, Bool, IsTrue}
 use Rattle.model_graph.specs.Walk.{Simple}
 use Rattle.model_graph.specs.Beyond.{Around, Parted}
@@ -12,7 +12,7 @@ abbrev pub IsBelow : {A : Type 0} → (A → ℕ) → (A → A) → A → ℕ �
 IsBelow level parent z zero x = x ≡ z
 IsBelow level parent z (suc k) x = (0 < level x) × IsBelow level parent z k (parent x)
 
--- one of two that are one is as far below
+-- equal members are equally far below
 same_below : {A : Type 0} (level : A → ℕ) (parent : A → A) (z : A) (k : ℕ) (x y : A) → x ≡ y →
     IsBelow level parent z k x → IsBelow level parent z k y
 same_below {A} level parent z k x y e h = let P : A → Type 0 = λ m. IsBelow level parent z k m in subst P e h

@@ -1,4 +1,4 @@
--- Where links are parted, they keep to the family that a search by levels gives.
+-- If links are parted, they keep to the family that a search by levels gives.
 use Rattle.std.proofs.Common.{◌≡◌, ◌≢◌, ◌⊎◌, inl, inr, refl, sym, subst, ap, ℕ, zero, suc, ◌<◌, ◌≤◌, arith, Bool, IsTrue, [], ◌∷◌}
 use Rattle.std.proofs.lemmas.Bool.{cases_Bool, cases_order, both_ways}
 use Rattle.model_graph.specs.Walk.{Simple, Reaches}
@@ -8,11 +8,11 @@ use Rattle.model_graph.proofs.Members.{CanTell}
 use Rattle.model_graph.proofs.Walks.{link_to, linked_differ, Reaches-trans, Reaches-sym}
 use Rattle.model_graph.proofs.Around.{Around-itself, Around-step, Around-trans, Around-sym, no_around-from_Beyond}
 
--- members of different levels are two
+-- members of different levels differ
 pub levels_differ : {A : Type 0} (level : A → ℕ) (a b : A) → level a < level b → a ≢ b
 levels_differ level a b lt e = let same = ap level e in absurd (omega arith)
 
--- what is linked with no walk around b parted is linked
+-- if all links are parted, two links of b that a walk around b joins are linked
 pub linked_if_joined : {A : Type 0} (linked : A → A → Bool) → Parted linked → (b a c : A) → IsTrue (linked b a) → IsTrue (linked b c) →
     a ≢ c → Around linked b a c → IsTrue (linked a c)
 linked_if_joined linked parted b a c to_a to_c other around =

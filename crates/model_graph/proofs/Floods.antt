@@ -9,7 +9,7 @@ use Rattle.model_graph.specs.Floods.{Flooding, IsSettledFlood}
 use Rattle.model_graph.proofs.Rows.{place_of}
 use Rattle.model_graph.proofs.Visits.{level_cases}
 
--- two levels of one member are one
+-- a member has one level
 pub one_level : (levels : List (Option ℕ)) (i m n : ℕ) → level_of levels i ≡ Some m → level_of levels i ≡ Some n → m ≡ n
 one_level levels i m n a b = same_Some m n (sym a ∙ b)
 
@@ -25,7 +25,7 @@ Flooding-step rows without root old levels new queue longer head member level gr
       | inl e ↦ e
       | inr w ↦ absurd (no_level levels i w.0 none (f.kept i w.0 w.1))
     ] in
-    -- a level in the longer queue: as it was, or one more than the member's
+    -- a level in the longer queue: an old one, or one more than the member's
     let level_at : (k n : ℕ) → k < length longer → level_of new (get_or longer k 0) ≡ Some n →
     ((k < length queue) × (level_of levels (get_or queue k 0) ≡ Some n)) ⊎ ((length queue ≤ k) × (n ≡ level + 1)) = λ k n low e.
     elim (cases_lt k (length queue)) [

@@ -1,4 +1,4 @@
--- Search after search from each member that has no level yet makes a forest.
+-- A forest grows by a search from each member without a level.
 use Rattle.std.proofs.Common.{◌≡◌, ◌+◌, ◌⊎◌, ℕ, suc, Bool, Option, Some, None, List, [], ◌∷◌, length, sym, ap, ◌∙◌, subst, arith, inl, inr}
 use Rattle.std.proofs.lemmas.Bool.{cases_eq}
 use Rattle.std.proofs.lemmas.Option.{none-some}
@@ -10,7 +10,7 @@ use Rattle.model_graph.specs.Forest.{IsForest}
 use Rattle.model_graph.proofs.Walks.{Reaches-sym}
 use Rattle.model_graph.proofs.PinchSearch.{Simple-from_graph}
 
--- a member that has a level
+-- a member with a level
 pub IsForest-passed : (links : ℕ → ℕ → Bool) (members root m : ℕ) (levels : List (Option ℕ)) → IsForest links members root levels → level_of levels root ≡ Some m → IsForest links members (root + 1) levels
 IsForest-passed links members root m levels f has = record {
   all = λ a lt.
@@ -24,7 +24,7 @@ IsForest-passed links members root m levels f has = record {
   first = f.first;
 }
 
--- with a member's level go levels of all that it reaches
+-- if a member has a level, so have all that it reaches
 levels_reached : (rows : List (List ℕ)) (levels : List (Option ℕ)) → IsGraph rows → IsSettledFlood (linked rows) (length rows) levels → (rest : List ℕ) (a b m : ℕ) → Walk (linked rows) a rest b → level_of levels a ≡ Some m → (n : ℕ) × (level_of levels b ≡ Some n)
 levels_reached rows levels graph settled [] a b m same e = (m, ap (level_of levels) (sym same) ∙ e)
 levels_reached rows levels graph settled (c ∷ rest) a b m walk e =
@@ -32,7 +32,7 @@ levels_reached rows levels graph settled (c ∷ rest) a b m walk e =
     let next = settled a c m e walk.0 (λ (is : c ≡ length rows). absurd (omega arith)) in
     levels_reached rows levels graph settled rest c b next.0 walk.1 next.1
 
--- a member that has none, and the search from it
+-- a member without a level, and the search from it
 pub IsForest-flooded : (rows : List (List ℕ)) (root : ℕ) (levels new : List (Option ℕ)) → IsGraph rows → IsForest (linked rows) (length rows) root levels → level_of levels root ≡ None → Flooded (linked rows) (length rows) root levels new → IsForest (linked rows) (length rows) (root + 1) new
 IsForest-flooded rows root levels new graph f none flooded =
     let links = linked rows in

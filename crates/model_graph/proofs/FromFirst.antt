@@ -1,4 +1,4 @@
--- What the levels from member 0 say of the walks in the whole graph.
+-- The levels from member 0 decide which walks the whole graph has.
 use Rattle.std.proofs.Common.{◌≡◌, ◌≢◌, ◌<◌, ℕ, Option, Some, None, MatchOption, List, [], ◌∷◌, length, arith, inl, inr}
 use Rattle.model_graph.specs.Walk.{Among, Walk, Reaches, Connected}
 use Rattle.model_graph.specs.Beyond.{Around}
@@ -8,7 +8,7 @@ use Rattle.model_graph.specs.Reach.{FirstUnreached}
 use Rattle.model_graph.proofs.Walks.{Connected-from_root}
 use Rattle.model_graph.proofs.PinchSearch.{Simple-from_graph, around_from_level, level_from_around}
 
--- no walk passes what is no member
+-- a walk from a member passes members only
 pub not_past_members : (rows : List (List ℕ)) → IsGraph rows → (rest : List ℕ) (a b : ℕ) → a < length rows → Walk (linked rows) a rest b → ¬ Among (length rows) (a ∷ rest)
 not_past_members rows graph rest a b lt walk (inl is) = absurd (omega arith)
 not_past_members rows graph [] a b lt walk (inr later) = absurd later

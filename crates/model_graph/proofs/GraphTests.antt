@@ -1,4 +1,4 @@
--- Rows are a graph exactly where the tests of their links say so.
+-- Rows are a graph exactly if the tests of their links pass.
 use Rattle.std.proofs.Common.{◌<◌, ℕ, IsTrue, List, [], length, refl, sym, subst, arith, inl, inr}
 use Rattle.std.proofs.lemmas.Bool.{cases_lt}
 use Rattle.std.proofs.lemmas.List.{get_or_past}

@@ -5,13 +5,13 @@ use Rattle.model_graph.specs.Rows.{links_at, linked, IsGraph}
 use Rattle.model_graph.specs.Forest.{Siblings, FirstSibling}
 use Rattle.model_graph.proofs.PinchSearch.{row_link, row_place, row_rises}
 
--- what holds at each place of a row holds of each link
+-- a property at each index of a row holds for each link
 pub for_each_link : (rows : List (List ℕ)) (at : ℕ) (row : List ℕ) (P : ℕ → Type 0) → row ≡ links_at rows at → ((k : ℕ) → k < length row → P (get_or row k 0)) → (b : ℕ) → IsTrue (linked rows at b) → P b
 for_each_link rows at row P is each b link =
     let p = row_place rows at b row is link in
     subst P p.2 (each p.0 p.1)
 
--- a place in a row holds a member
+-- an item of a row is a member
 pub link_within : (rows : List (List ℕ)) (at k : ℕ) (row : List ℕ) → IsGraph rows → row ≡ links_at rows at → k < length row → get_or row k 0 < length rows
 link_within rows at k row graph is lt = graph.within at (get_or row k 0) (row_link rows at k row is lt)
 

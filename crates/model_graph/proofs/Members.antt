@@ -1,9 +1,9 @@
--- Who is among the members of a list, and lists in which none stands twice.
+-- Members of a list, and lists without repeats.
 use Rattle.std.proofs.Common.{◌≡◌, ◌≢◌, ◌⊎◌, inl, inr, refl, sym, subst, ℕ, zero, suc, ◌<◌, arith, length, get_or, Contains, List, [], ◌∷◌, ◌++◌}
 use Rattle.std.proofs.lemmas.Bool.{cases_eq}
 use Rattle.model_graph.specs.Walk.{Among, Different}
 
--- any two members are one or two
+-- any two members are equal or not
 abbrev pub CanTell : Type 0 → Type 0
 CanTell A = (x y : A) → (x ≡ y) ⊎ (x ≢ y)
 
@@ -21,7 +21,7 @@ Among-cases can x (y ∷ ys) =
       ]
     ]
 
--- x is there if y is, and they are one
+-- x is in the list if y is, and they are equal
 pub Among-at : {A : Type 0} (x y : A) (xs : List A) → x ≡ y → Among y xs → Among x xs
 Among-at {A} x y xs e h = let P : A → Type 0 = λ m. Among m xs in subst P (sym e) h
 
@@ -41,7 +41,7 @@ Among-append_cases x (z ∷ xs) ys h =
       | inr t ↦ elim (Among-append_cases x xs ys t) [ inl l ↦ inl (inr l) | inr r ↦ inr r ]
     ]
 
--- a member that is not there yet may stand at the end
+-- a new member may follow a list without repeats
 pub Different-push : {A : Type 0} (xs : List A) (y : A) → Different xs → ¬ Among y xs → Different (xs ++ y ∷ [])
 Different-push [] y h none = (λ b. b, tt)
 Different-push (x ∷ xs) y h none = (
@@ -52,7 +52,7 @@ Different-push (x ∷ xs) y h none = (
   Different-push xs y h.1 (λ t. none (inr t)),
 )
 
--- a member stands at some index, and what stands at an index is a member
+-- a member has an index, and the item at an index is a member
 pub Among-index : {A : Type 0} (x d : A) (xs : List A) → Among x xs → (k : ℕ) × (k < length xs) × (get_or xs k d ≡ x)
 Among-index x d [] h = absurd h
 Among-index x d (y ∷ ys) h =

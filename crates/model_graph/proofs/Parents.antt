@@ -1,4 +1,4 @@
--- The parents that a forest gives make a family, and links keep to it where the tests say so.
+-- The parents from a forest make a family, and links keep to it exactly if the tests pass.
 use Rattle.std.proofs.Common.{◌≡◌, ◌≢◌, ◌-◌, ◌<◌, ◌≤◌, ◌⊎◌, ℕ, zero, suc, Bool, IsTrue, Option, Some, None, unwrap_or, List, [], ◌∷◌, length, refl, sym, ap, ◌∙◌, subst, arith, inl, inr}
 use Rattle.std.proofs.lemmas.Bool.{cases_eq, cases_lt, cases_Bool, both_ways}
 use Rattle.std.proofs.lemmas.List.{get_or_past}
@@ -13,11 +13,11 @@ use Rattle.model_graph.proofs.Rows.{linked_within}
 use Rattle.model_graph.proofs.Visits.{level_cases}
 use Rattle.model_graph.proofs.PinchSearch.{Simple-from_graph}
 
--- the level as a number, 0 for what has none
+-- the level as a number; 0 without a level
 abbrev pub height : List (Option ℕ) → ℕ → ℕ
 height levels x = unwrap_or (level_of levels x) 0
 
--- the parent, or the member itself for what has none
+-- the parent, or the member itself if it has none
 abbrev pub parent_or_self : List (Option ℕ) → ℕ → ℕ
 parent_or_self parents x = unwrap_or (parent_of parents x) x
 
@@ -27,7 +27,7 @@ height_at levels x m e = ap (λ (o : Option ℕ). unwrap_or o 0) e
 pub parent_at : (parents : List (Option ℕ)) (x p : ℕ) → parent_of parents x ≡ Some p → parent_or_self parents x ≡ p
 parent_at parents x p e = ap (λ (o : Option ℕ). unwrap_or o x) e
 
--- above level 0 there is a level
+-- a member above level 0 has a level
 above : (levels : List (Option ℕ)) (x : ℕ) → 0 < height levels x → (m : ℕ) × (level_of levels x ≡ Some (suc m))
 above levels x high =
     elim (level_cases (level_of levels x)) [
@@ -72,7 +72,7 @@ LinkedSiblings-cases links parents a b =
       | inr apart ↦ inr (λ (w : LinkedSiblings links parents a b). both_ways (links a b) apart w.0)
     ]
 
--- the smallest number below n that P holds of, if there is one
+-- the smallest number below n with the property, if any
 smallest_below : (P : ℕ → Type 0) → ((k : ℕ) → P k ⊎ (¬ P k)) → (n : ℕ) → ((k : ℕ) × (k < n) × P k × ((j : ℕ) → P j → k ≤ j)) ⊎ ((k : ℕ) → k < n → ¬ P k)
 smallest_below P decided zero = inr (λ k lt. absurd (omega arith))
 smallest_below P decided (suc n) =
@@ -102,7 +102,7 @@ smallest_below P decided (suc n) =
 abbrev Near : (ℕ → ℕ → Bool) → List (Option ℕ) → ℕ → ℕ → Type 0
 Near links parents v x = (x ≡ v) ⊎ LinkedSiblings links parents v x
 
--- q is the smallest of those near v, and has the same near it
+-- q is the smallest member near v, and has the same members near it
 record Smallest (links : ℕ → ℕ → Bool) (parents : List (Option ℕ)) (v q : ℕ) : Type 0 where
   here : Near links parents v q
   least : (x : ℕ) → Near links parents v x → q ≤ x
@@ -162,7 +162,7 @@ smallest_near links parents simple v agrees =
       )
     ]
 
--- those near one member are near each other
+-- members near one member are near each other
 near_both : (links : ℕ → ℕ → Bool) (parents : List (Option ℕ)) → Simple links → ((v x : ℕ) → LinkedSiblings links parents v x → AgreesWithFirst links parents v) → (w a c : ℕ) → Near links parents w a → Near links parents w c → Near links parents a c
 near_both links parents simple agrees w a c near_a near_c =
     let of_w = smallest_near links parents simple w (agrees w) in
@@ -199,7 +199,7 @@ module _ (rows : List (List ℕ)) (levels parents : List (Option ℕ)) (graph : 
             (λ m e. none-some (suc m) (sym (no_level_past a past) ∙ e))
       ]
 
-  -- the parent of what is above level 0
+  -- the parent of a member above level 0
   parent_above : (a : ℕ) → 0 < height levels a → (p : ℕ) × (parent_of parents a ≡ Some p) × IsParentAt (linked rows) levels a (Some p)
   parent_above a high =
       elim (level_cases (parent_of parents a)) [
@@ -237,7 +237,7 @@ module _ (rows : List (List ℕ)) (levels parents : List (Option ℕ)) (graph : 
       let same : has.0 ≡ 0 = sym (height_at levels a has.0 has.1) ∙ low in
       has.1 ∙ ap Some same
 
-  -- what is no member has no links to walk along
+  -- a number past the members reaches only itself
   stays_past : (a b : ℕ) → length rows ≤ a → Reaches (linked rows) a b → a ≡ b
   stays_past a b past ([], same) = same
   stays_past a b past (c ∷ rest, walk) = let inside = linked_within rows a c walk.0 in absurd (omega arith)

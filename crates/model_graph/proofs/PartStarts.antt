@@ -32,7 +32,7 @@ RootsBefore-passed levels before roots none h = record {
   );
 }
 
--- the items of an ascending list are below a member that comes behind it
+-- the items of an ascending list are below a member after it
 pub push_ascending : (xs : List ℕ) (n : ℕ) → IsAscending xs → ((a : ℕ) → Contains xs a → a < n) → IsAscending (xs ++ n ∷ [])
 push_ascending xs n up below i j lt inside =
     let size = length_push xs n in
@@ -100,7 +100,7 @@ roots_start rows levels graph size f a = (
   ),
 )
 
--- all of them, where a search has ended
+-- all other roots, if a search has ended
 pub all_roots : (levels : List (Option ℕ)) (before : ℕ) (roots : List ℕ) → length levels ≤ before → RootsBefore levels before roots → (a : ℕ) → Contains roots a ↔ ((0 < a) × (level_of levels a ≡ Some 0))
 all_roots levels before roots past h a = (
   λ there. (let (low, lt, is) = (h.members a).0 there in (low, is)),

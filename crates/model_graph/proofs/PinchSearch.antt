@@ -15,17 +15,17 @@ use Rattle.model_graph.proofs.Visits.{level_cases}
 pub Simple-from_graph : (rows : List (List ℕ)) → IsGraph rows → Simple (linked rows)
 Simple-from_graph rows graph = record { both_ways = graph.both_ways; no_self = graph.no_self }
 
--- each place of a member's row is a link
+-- each item of a member's row is a link
 pub row_link : (rows : List (List ℕ)) (at k : ℕ) (row : List ℕ) → row ≡ links_at rows at → k < length row → IsTrue (linked rows at (get_or row k 0))
 row_link rows at k row is lt =
     holds_at (links_at rows at) (get_or row k 0) k (subst (λ (links : List ℕ). k < length links) is lt) (ap (λ (links : List ℕ). get_or links k 0) (sym is))
 
--- each link has a place in the row
+-- each link has an index in the row
 pub row_place : (rows : List (List ℕ)) (at c : ℕ) (row : List ℕ) → row ≡ links_at rows at → IsTrue (linked rows at c) → (k : ℕ) × (k < length row) × (get_or row k 0 ≡ c)
 row_place rows at c row is link =
     subst (λ (links : List ℕ). (k : ℕ) × (k < length links) × (get_or links k 0 ≡ c)) (sym is) (place_of (links_at rows at) c link)
 
--- what stands later in a row is not smaller
+-- items of a row ascend
 pub row_rises : (rows : List (List ℕ)) (at : ℕ) (row : List ℕ) → IsGraph rows → row ≡ links_at rows at → (i j : ℕ) → i < j → j < length row → get_or row i 0 < get_or row j 0
 row_rises rows at row graph is =
     subst (λ (links : List ℕ). (i j : ℕ) → i < j → j < length links → get_or links i 0 < get_or links j 0) (sym is) (graph.ascending at)
@@ -43,7 +43,7 @@ pub level_from_around : (links : ℕ → ℕ → Bool) (x root b : ℕ) (levels 
 level_from_around links x root b levels are around none =
     MatchOption-at_none (¬ Around links x root b) (Distance links x root b) none (are b) around
 
--- the first link that will do makes the first pinch
+-- the first suitable link makes the first pinch
 pub FirstOther-here : (rows : List (List ℕ)) (at one k : ℕ) (row : List ℕ) (levels : List (Option ℕ)) → IsGraph rows → row ≡ links_at rows at → k < length row → IsTrue (linked rows at one) → AreLevels (linked rows) at one levels →
     ((i : ℕ) → i < k → ¬ IsPinch (linked rows) at one (get_or row i 0)) →
     one < get_or row k 0 → level_of levels (get_or row k 0) ≢ None → ¬ IsTrue (linked rows one (get_or row k 0)) → FirstOther (linked rows) at one (get_or row k 0)
@@ -67,7 +67,7 @@ FirstOther-here rows at one k row levels graph is lt link are earlier order some
       ];
 }
 
--- a link that will not do makes none
+-- an unsuitable link makes no pinch
 pub not_pinch_here : (rows : List (List ℕ)) (at one c : ℕ) (levels : List (Option ℕ)) → AreLevels (linked rows) at one levels → ¬ ((one < c) × (level_of levels c ≢ None) × ¬ IsTrue (linked rows one c)) → ¬ IsPinch (linked rows) at one c
 not_pinch_here rows at one c levels are not_other pinch =
     not_other (pinch.in_order, level_from_around (linked rows) at one c levels are pinch.around, pinch.not_linked)
@@ -78,7 +78,7 @@ no_pinch_in_row rows at one row is none c pinch =
     let p = row_place rows at c row is pinch.other in
     none p.0 p.1 (subst (IsPinch (linked rows) at one) (sym p.2) pinch)
 
--- the first link with a pinch makes the member's first
+-- the first link with a pinch makes the member's first pinch
 pub FirstHere-here : (rows : List (List ℕ)) (at k c : ℕ) (row : List ℕ) → IsGraph rows → row ≡ links_at rows at → k < length row →
     ((i f : ℕ) → i < k → ¬ IsPinch (linked rows) at (get_or row i 0) f) → FirstOther (linked rows) at (get_or row k 0) c → FirstHere (linked rows) at (get_or row k 0) c
 FirstHere-here rows at k c row graph is lt earlier found = record {
@@ -102,7 +102,7 @@ no_pinch_at rows at row is none a c pinch =
     let p = row_place rows at a row is pinch.one in
     none p.0 c p.1 (subst (λ one. IsPinch (linked rows) at one c) (sym p.2) pinch)
 
--- a graph is parted exactly where it has no pinch
+-- a graph is parted exactly if it has no pinch
 pub Parted-from_no_pinch : (links : ℕ → ℕ → Bool) → Simple links → ((b a c : ℕ) → ¬ IsPinch links b a c) → Parted links
 Parted-from_no_pinch links simple none b a c link_a link_c differ apart =
     Beyond-from_no_around ℕ-can_tell links b c a (λ around.

@@ -1,4 +1,4 @@
--- The named loop of a graph whose members get other names, where the names keep the order.
+-- The named loop of a graph, after a renaming that keeps the order of the members.
 use Rattle.std.proofs.Common.{◌≡◌, ◌-◌, ◌++◌, ◌⊎◌, inl, inr, refl, sym, ap, subst, ◌∙◌, arith, ℕ, zero, suc, Bool, IsTrue, List, [], ◌∷◌, length, map, take, drop, reverse}
 use Rattle.std.proofs.lemmas.List.{length-map, map-append, take-map, drop-map}
 use Rattle.model_graph.specs.Walk.{Simple, Among, IsAt, Walk}
@@ -18,7 +18,7 @@ map-reverse name (x ∷ xs) =
 map-turned : {A B : Type 0} (name : A → B) (k : ℕ) (xs : List A) → map name (turned k xs) ≡ turned k (map name xs)
 map-turned name k xs = map-append name (drop k xs) (take k xs) ∙ (ap (λ ys. ys ++ map name (take k xs)) (sym (drop-map name k xs)) ∙ ap (λ ys. drop k (map name xs) ++ ys) (sym (take-map name k xs)))
 
--- what stands in a list of names is the name of what stands there
+-- an item of a mapped list is the name of the item at the same index
 IsAt-map : {A B : Type 0} (name : A → B) (xs : List A) (i : ℕ) (y : B) → IsAt (map name xs) i y → (x : A) × IsAt xs i x × (name x ≡ y)
 IsAt-map name [] i y at = absurd (omega (arith, at.0))
 IsAt-map name (x ∷ xs) zero y at = (x, (omega arith, refl), at.1)
@@ -78,7 +78,7 @@ module _ {A B : Type 0} (linked : A → A → Bool) (joined : B → B → Bool) 
   pub NotAfter-renamed : (x y u v : A) → IsTrue (linked x u) → IsTrue (linked y v) → NotAfter Before x y → NotAfter Earlier (name x) (name y)
   NotAfter-renamed x y u v link_x link_y h = elim h [ inl before ↦ inl (keeps x y u v link_x link_y before) | inr is ↦ inr (ap name is) ]
 
-  -- of two walks, by their members
+  -- two walks are ordered by their members
   pub NoLater-renamed : (a : A) (rest : List A) (c : A) (b : A) (other : List A) (d : A) → Walk linked a rest c → Walk linked b other d →
       NoLaterBy Before rest other → NoLaterBy Earlier (map name rest) (map name other)
   NoLater-renamed a [] c b other d walk walk_other h = tt
@@ -157,7 +157,7 @@ module _ {A B : Type 0} (linked : A → A → Bool) (joined : B → B → Bool) 
   swapped : IsRenaming joined linked back name
   swapped = IsRenaming-swap linked joined name back renaming
 
-  -- of two pinches, by their names
+  -- two pinches are ordered by their names
   pub earlier_named : (b a c : A) (e d f : B) → IsPinchBy Before linked b a c → IsPinchBy Earlier joined e d f →
       Before b (back e) ⊎ ((b ≡ back e) × (Before a (back d) ⊎ ((a ≡ back d) × NotAfter Before c (back f)))) →
       Earlier (name b) e ⊎ ((name b ≡ e) × (Earlier (name a) d ⊎ ((name a ≡ d) × NotAfter Earlier (name c) f)))
@@ -191,7 +191,7 @@ module _ {A B : Type 0} (linked : A → A → Bool) (joined : B → B → Bool) 
         (found.first (back e) (back d) (back f) (IsPinch-renamed joined linked back name swapped simple_names Earlier Before keeps_back e d f pinch));
   }
 
-  -- a walk of names is one of members, as long
+  -- a walk of names is a walk of members with the same length
   module _ (b a c : A) (link_a : IsTrue (linked b a)) (link_c : IsTrue (linked b c)) where
     own_b : back (name b) ≡ b
     own_b = renaming.back_name b a link_a
@@ -235,7 +235,7 @@ module _ {A B : Type 0} (linked : A → A → Bool) (joined : B → B → Bool) 
               named;
         }
 
-  -- the loop that is named of the members is, by their names, the one that is named of these
+  -- the named loop of the members becomes, by their names, the named loop of these
   pub NamedLoop-renamed : (loop : List A) → NamedLoopBy Before linked loop → NamedLoopBy Earlier joined (map name loop)
   NamedLoop-renamed loop named =
       let (ring, (b, a, c, rest, first, walk, is), written) = named.named in

@@ -1,4 +1,4 @@
--- What a graph keeps when its members get other names.
+-- Properties of a graph that a renaming keeps.
 use Rattle.std.proofs.Common.{◌≡◌, inl, inr, refl, sym, ap, ◌∙◌, arith, Bool, List, [], ◌∷◌, map}
 use Rattle.std.proofs.lemmas.List.{length-map}
 use Rattle.model_graph.specs.Walk.{Simple, Among, Different, Walk, Reaches}
@@ -20,7 +20,7 @@ pub Among-map : {A B : Type 0} (name : A → B) (x : A) (xs : List A) → Among 
 Among-map name x [] h = h
 Among-map name x (y ∷ ys) h = elim h [ inl e ↦ inl (ap name e) | inr t ↦ inr (Among-map name x ys t) ]
 
--- where names are taken back, no two members get one name
+-- if `back` undoes the names, no two members get one name
 pub Among-from_map : {A B : Type 0} (name : A → B) (back : B → A) (x : A) → back (name x) ≡ x → (xs : List A) →
     ((y : A) → Among y xs → back (name y) ≡ y) → Among (name x) (map name xs) → Among x xs
 Among-from_map name back x own [] owns h = h
@@ -66,7 +66,7 @@ module _ {A B : Type 0} (linked : A → A → Bool) (joined : B → B → Bool) 
         closed = (name last, Walk-renamed first rest last w, renaming.links last first closes);
       }
 
-  -- of the named graph, from the one that its names are taken back to
+  -- polygons of the named graph are polygons of the other
   pub Polygons-from_renamed : Simple linked → Polygons joined → Polygons linked
   Polygons-from_renamed simple polygons first rest cycle x y at_x at_y other =
       let own_x = cycle_owns simple first rest cycle x at_x in

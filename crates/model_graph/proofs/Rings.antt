@@ -1,4 +1,4 @@
--- Cycles turned and reversed, and how they are written.
+-- Cycles turned and reversed, and their written form.
 use Rattle.std.proofs.Common.{◌≡◌, ◌+◌, ◌-◌, ◌<◌, ◌≤◌, ◌⊎◌, ◌++◌, ℕ, zero, suc, Bool, List, [], ◌∷◌, length, get_or, take, drop, reverse, refl, sym, ap, ◌∙◌, subst, append_assoc, arith, inl, inr}
 use Rattle.std.proofs.lemmas.Bool.{cases_eq, cases_lt}
 use Rattle.std.proofs.lemmas.List.{append-nil, get_or_default, reverse-append, length-append, length-reverse, get_or-reverse, take_more, drop_more, take-append-drop, take_all, drop_all}
@@ -56,7 +56,7 @@ Among-turned x k ring among =
       | inr after ↦ Among-append_left x (drop k ring) (take k ring) after
     ]
 
--- what is written of a cycle is the cycle, with the same members
+-- the written form of a cycle is a cycle
 pub IsCycle-written : (links : ℕ → ℕ → Bool) → Simple links → (ring loop : List ℕ) → IsWritten ring loop → IsCycle links ring → IsCycle links loop
 IsCycle-written links simple ring loop written cycle =
     let round = IsCycle-begun_at links ring cycle written.goes_round.0 in
@@ -73,7 +73,7 @@ Among-written x ring loop written among =
       | inr same ↦ subst (Among x) (sym same) (Among-reverse x (turned written.goes_round.0 ring) round)
     ]
 
--- the loop of a pinch, as it is written, is a cycle with two members that are not linked
+-- the written loop of a pinch is a cycle with two members that are not linked
 pub loop_cycle : (links : ℕ → ℕ → Bool) → Simple links → (b a c : ℕ) (rest ring loop : List ℕ) → IsPinch links b a c → FirstWalk links b a c rest → ring ≡ b ∷ a ∷ rest → IsWritten ring loop →
     IsCycle links loop × HasUnlinked links loop
 loop_cycle links simple b a c rest ring loop pinch walk is written =
@@ -89,13 +89,13 @@ loop_cycle links simple b a c rest ring loop pinch walk is written =
       ),
     )
 
--- that of the first pinch is the one that is named
+-- the loop of the first pinch is the named one
 pub NamedLoop-written : (links : ℕ → ℕ → Bool) → Simple links → (b a c : ℕ) (rest ring loop : List ℕ) → FirstPinch links b a c → FirstWalk links b a c rest → ring ≡ b ∷ a ∷ rest → IsWritten ring loop → NamedLoop links loop
 NamedLoop-written links simple b a c rest ring loop first walk is written =
     let (cycle, unlinked) = loop_cycle links simple b a c rest ring loop first.pinch walk is written in
     record { cycle = cycle; unlinked = unlinked; named = (ring, (b, a, c, rest, first, walk, is), written) }
 
--- of two different ends of a list, the greater is second, or else first when it is reversed
+-- of two different ends of a list, the greater is second, or is first after reversal
 reversed_smaller : (x : ℕ) (xs : List ℕ) → Different (x ∷ xs) → 0 < length xs → get_or (x ∷ xs) (length xs) 0 ≤ x → get_or (reverse (x ∷ xs)) 0 0 < get_or (reverse (x ∷ xs)) (length xs) 0
 reversed_smaller x [] different long le = absurd (omega arith)
 reversed_smaller x (y ∷ ys) different long le =
@@ -124,7 +124,7 @@ pub length-turned : (ring : List ℕ) (k : ℕ) → length (turned k ring) ≡ l
 length-turned ring k =
     length-append (drop k ring) (take k ring) ∙ (omega (arith, length-append (take k ring) (drop k ring), ap length (take-append-drop k ring)))
 
--- what stands at a place is read there
+-- the item at an index
 at_place : (xs : List ℕ) (i x : ℕ) → IsAt xs i x → get_or xs i 0 ≡ x
 at_place xs i x at = sym (get_or_default xs i x 0 at.0) ∙ at.1
 
@@ -137,7 +137,7 @@ smallest_first ring loop k is least m x at among =
     let p = Among-index x 0 ring among in
     split_le m x (omega (arith, least p.0 p.1, p.2, at_place loop 0 m at))
 
--- the two neighbours of the first, where they are read as numbers
+-- the two neighbours of the first member, as numbers
 sides : (loop : List ℕ) → get_or loop 1 0 < get_or loop (length loop - 1) 0 → (second last : ℕ) → IsAt loop 1 second → IsAt loop (length loop - 1) last → second < last
 sides loop smaller second last at_second at_last =
     omega (arith, smaller, at_place loop 1 second at_second, at_place loop (length loop - 1) last at_last)

@@ -1,4 +1,4 @@
--- Linked siblings: all are linked with each other exactly where each sees the same ones as the least that it sees.
+-- Linked siblings: all are linked with each other exactly if each sees the same ones as the least that it sees.
 use Rattle.std.proofs.Common.{◌≡◌, ◌≢◌, ◌⊎◌, inl, inr, sym, subst, ◌∙◌, ℕ, ◌≤◌, le_antisymm, Bool, IsTrue}
 use Rattle.std.proofs.lemmas.Bool.{cases_eq}
 use Rattle.model_graph.specs.Walk.{Simple}
@@ -17,7 +17,7 @@ Sees-sym linked simple level parent x y h =
     ]
 
 module _ (linked : ℕ → ℕ → Bool) (simple : Simple linked) (level parent : ℕ → ℕ) where
-  -- where links keep to the family, what is seen by one that is seen is seen
+  -- if links keep to the family, Sees is transitive
   pub Sees-trans : KeepsToFamily linked level parent → (x y z : ℕ) → Sees linked level parent x y → Sees linked level parent y z →
       Sees linked level parent x z
   Sees-trans keeps x y z first second =
@@ -34,7 +34,7 @@ module _ (linked : ℕ → ℕ → Bool) (simple : Simple linked) (level parent 
         ]
       ]
 
-  -- where each sees what the least that it sees sees, and nothing else, linked siblings see the same
+  -- if each sees exactly what its least sibling sees, linked siblings see the same
   pub siblings-from_least : (least : ℕ → ℕ) →
       ((x y : ℕ) → Sees linked level parent x y → least x ≤ y) →
       ((x y : ℕ) → Sees linked level parent x y → Sees linked level parent (least x) y) →

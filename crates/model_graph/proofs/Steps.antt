@@ -5,7 +5,7 @@ use Rattle.model_graph.specs.Walk.{Simple, Among, Walk}
 use Rattle.model_graph.specs.Beyond.{FirstStep}
 use Rattle.model_graph.proofs.Walks.{link_from, linked_differ}
 
--- the part of a walk from the last member on that a test takes
+-- the part of a walk from the last member that passes a test
 pub record LastTaken {A : Type 0} (linked : A → A → Bool) (test : A → Bool) (b : A) (rest : List A) (u : A) (part : List A) : Type 0 where
   pub taken : IsTrue (test u)
   pub walk : Walk linked u part b
@@ -13,7 +13,7 @@ pub record LastTaken {A : Type 0} (linked : A → A → Bool) (test : A → Bool
   pub shorter : length part ≤ length rest
 
 module _ {A : Type 0} (linked : A → A → Bool) where
-  -- a test takes no member of a walk, or there is a last one that it takes
+  -- no member of a walk passes a test, or there is a last one that passes
   pub last_taken : (test : A → Bool) (a : A) (rest : List A) (b : A) → Walk linked a rest b →
       ((y : A) → Among y (a ∷ rest) → ¬ IsTrue (test y)) ⊎ ((u : A) × (part : List A) × LastTaken linked test b rest u part)
   last_taken test a [] b w =
@@ -34,7 +34,7 @@ module _ {A : Type 0} (linked : A → A → Bool) where
         ]
       ]
 
-  -- a walk to another member does not pass x, if it passes no link of x behind its first member
+  -- a walk to another member does not pass x, if it passes no link of x after its first member
   pub past_no_link-around : (x f : A) → x ≢ f → (a : A) (rest : List A) → Walk linked a rest f →
       ((y : A) → Among y rest → ¬ IsTrue (linked x y)) → ¬ Among x rest
   past_no_link-around x f other a [] w none h = h
@@ -45,7 +45,7 @@ module _ {A : Type 0} (linked : A → A → Bool) where
         | inr t ↦ past_no_link-around x f other c (d ∷ rest) w.1 (λ y i. none y (inr i)) t
       ]
 
-  -- on a walk from x to another member there is a first step from x, and it is nearer
+  -- a walk from x to another member has a first step from x, which is nearer
   pub first_step : Simple linked → (x f : A) → x ≢ f → (rest : List A) → Walk linked x rest f →
       (step : A) × (part : List A) × FirstStep linked f x step part × (length part < length rest)
   first_step simple x f other [] w = absurd (other w)

@@ -7,7 +7,7 @@ use Rattle.model_graph.proofs.Members.{Among-append_cases, Different-push}
 use Rattle.model_graph.proofs.Walks.{link_to, walk_append}
 use Rattle.model_graph.proofs.Cycles.{cycle_turned}
 
--- the first member of a list reversed stands last
+-- reversal puts the first member last
 pub reverse-cons : {A : Type 0} (x : A) (xs : List A) → reverse (x ∷ xs) ≡ reverse xs ++ x ∷ []
 reverse-cons x xs = reverse-append (x ∷ []) xs
 
@@ -46,7 +46,7 @@ module _ {A : Type 0} (linked : A → A → Bool) where
       subst P (append_assoc back (first ∷ []) front) (IsCycle-rotated front (back ++ first ∷ []) turned)
 
   module _ (simple : Simple linked) where
-    -- a walk from s to l, turned round behind a member that is linked with l
+    -- a walk from s to l, reversed, after a member that is linked with l
     walk_reversed : (first s : A) (rest : List A) (l : A) → IsTrue (linked first l) → Walk linked s rest l → Walk linked first (reverse (s ∷ rest)) s
     walk_reversed first s [] l link w = (link_to linked first l s (sym w) link, refl)
     walk_reversed first s (t ∷ rest) l link w =

@@ -1,4 +1,4 @@
--- One member's links given a level, where they have none yet, and put at the end of the queue.
+-- The links of one member get a level if they have none yet, and join the queue.
 use Rattle.std.proofs.Common.{◌≡◌, ◌≢◌, ◌==◌, ◌+◌, ◌<◌, ◌++◌, ◌⊎◌, ℕ, zero, suc, true, false, IsTrue, Option, Some, None, is_some, List, [], ◌∷◌, length, get_or, set, refl, sym, ap, ◌∙◌, subst, arith, inl, inr}
 use Rattle.std.specs.List.{list_any}
 use Rattle.std.proofs.lemmas.Bool.{cases_eq, cases_lt, true≢false, false≢true}
@@ -34,7 +34,7 @@ unlevelled-set (Some m ∷ levels) zero level lt e = absurd (none-some m (sym e)
 unlevelled-set (None ∷ levels) (suc i) level lt e = omega (arith, unlevelled-set levels i level (omega arith) e)
 unlevelled-set (Some m ∷ levels) (suc i) level lt e = unlevelled-set levels i level (omega arith) e
 
--- a link that is to be left out, or that has a level already
+-- a link that is left out, or that already has a level
 pub Visited-passed : (links : List ℕ) (count without level : ℕ) (old new : List (Option ℕ)) (queue longer : List ℕ) → Visited links count without level old new queue longer → (get_or links count 0 ≢ without → (m : ℕ) × (level_of new (get_or links count 0) ≡ Some m)) → Visited links (count + 1) without level old new queue longer
 Visited-passed links count without level old new queue longer v here = record {
   same_length = v.same_length;

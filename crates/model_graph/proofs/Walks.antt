@@ -1,18 +1,18 @@
--- Walks joined, turned round, and cut.
+-- Walks joined, reversed, and cut.
 use Rattle.std.proofs.Common.{◌≡◌, ◌≢◌, inl, inr, refl, sym, subst, ◌∙◌, ◌≤◌, le_of_suc-le-suc, arith, Bool, IsTrue, List, [], ◌∷◌, ◌++◌, length}
 use Rattle.model_graph.specs.Walk.{Simple, Among, Different, Walk, Reaches, Connected}
 use Rattle.model_graph.proofs.Members.{CanTell, Among-at, Among-cases, Among-append_cases}
 
 module _ {A : Type 0} (linked : A → A → Bool) where
-  -- a link from a is one from b, if they are one
+  -- a link from a is one from b, if they are equal
   pub link_from : (a b c : A) → a ≡ b → IsTrue (linked a c) → IsTrue (linked b c)
   link_from a b c e h = let P : A → Type 0 = λ m. IsTrue (linked m c) in subst P e h
 
-  -- a link to a is one to b, if they are one
+  -- a link to a is one to b, if they are equal
   pub link_to : (c a b : A) → a ≡ b → IsTrue (linked c a) → IsTrue (linked c b)
   link_to c a b e h = let P : A → Type 0 = λ m. IsTrue (linked c m) in subst P e h
 
-  -- a walk from a is one from b, if they are one
+  -- a walk from a is one from b, if they are equal
   pub walk_from : (a b : A) (rest : List A) (c : A) → a ≡ b → Walk linked a rest c → Walk linked b rest c
   walk_from a b rest c e w = let P : A → Type 0 = λ m. Walk linked m rest c in subst P e w
 
@@ -30,7 +30,7 @@ module _ {A : Type 0} (linked : A → A → Bool) where
   pub Reaches-trans : (a b c : A) → Reaches linked a b → Reaches linked b c → Reaches linked a c
   Reaches-trans a b c first second = (first.0 ++ second.0, walk_append a first.0 b second.0 c first.1 second.1)
 
-  -- what links keep, walks keep
+  -- a property that links keep, walks keep
   pub Reaches-keeps : (P : A → Type 0) → ((x y : A) → P x → IsTrue (linked x y) → P y) → (a c : A) → Reaches linked a c → P a → P c
   Reaches-keeps P next a c reaches = along a reaches.0 reaches.1
     where
@@ -39,11 +39,11 @@ module _ {A : Type 0} (linked : A → A → Bool) where
       along a (d ∷ rest) w at_a = along d rest w.1 (next a d at_a w.0)
 
 module _ {A : Type 0} (linked : A → A → Bool) (simple : Simple linked) where
-  -- linked members are two
+  -- linked members differ
   pub linked_differ : (a b : A) → IsTrue (linked a b) → a ≢ b
   linked_differ a b link e = simple.no_self a (link_to linked a b a (sym e) link)
 
-  -- a walk turned round, with the same members
+  -- a walk reversed, with the same members
   pub walk_back : (a : A) (rest : List A) (b : A) → Walk linked a rest b →
       (back : List A) × Walk linked b back a × ((x : A) → Among x (b ∷ back) → Among x (a ∷ rest))
   walk_back a [] b w = ([], sym w, λ x h. elim h [ inl e ↦ inl (e ∙ sym w) | inr t ↦ inr t ])
@@ -60,11 +60,11 @@ module _ {A : Type 0} (linked : A → A → Bool) (simple : Simple linked) where
   pub Reaches-sym : (a b : A) → Reaches linked a b → Reaches linked b a
   Reaches-sym a b reaches = let (back, w, _) = walk_back a reaches.0 b reaches.1 in (back, w)
 
-  -- a link of y reaches what y reaches
+  -- a link of y reaches all that y reaches
   pub Reaches-link : (y c f : A) → IsTrue (linked y c) → Reaches linked y f → Reaches linked c f
   Reaches-link y c f link reaches = (y ∷ reaches.0, (simple.both_ways y c link, reaches.1))
 
-  -- behind the first member of a walk each has a link
+  -- each member of a walk after the first has a link
   pub walk_links : (a : A) (rest : List A) (b : A) → Walk linked a rest b → (x : A) → Among x rest → (y : A) × IsTrue (linked x y)
   walk_links a [] b w x h = absurd h
   walk_links a (d ∷ rest) b w x h =
@@ -125,7 +125,7 @@ module _ {A : Type 0} (can : CanTell A) (linked : A → A → Bool) where
         )
       ]
 
-  -- a walk that passes u behind its first member has a part from u on there
+  -- a walk that passes u after its first member has a part from u on there
   pub part_behind : (u a : A) (rest : List A) (b : A) → Walk linked a rest b → Among u rest →
       (part : List A) × Walk linked u part b × ((x : A) → Among x (u ∷ part) → Among x rest)
   part_behind u a [] b w h = absurd h
@@ -150,7 +150,7 @@ module _ {A : Type 0} (can : CanTell A) (linked : A → A → Bool) where
         )
       ]
 
-  -- of the walks from a to b around x those with the fewest members have no repeats
+  -- the shortest walks from a to b around x have no repeats
   pub fewest-different : (x a : A) (rest : List A) (b : A) → Walk linked a rest b → ¬ Among x (a ∷ rest) →
       ((other : List A) → Walk linked a other b → ¬ Among x (a ∷ other) → length rest ≤ length other) → Different (a ∷ rest)
   fewest-different x a [] b w avoids fewest = (λ h. h, tt)

@@ -1,16 +1,16 @@
--- The cycle that shows that not all are fully linked, and how it is written, in an order of the members.
+-- The cycle that shows that not all members are fully linked, and its written form in an order of the members.
 use Rattle.std.specs.Prelude.{◌≡◌, ◌≢◌, ◌++◌, ◌-◌, ◌<◌, ◌≤◌, ◌⊎◌, ℕ, Bool, IsTrue, List, [], ◌∷◌, length, take, drop, reverse}
 use Rattle.model_graph.specs.Walk.{Among, Different, IsAt, Walk}
 use Rattle.model_graph.specs.Cycle.{IsCycle}
 use Rattle.model_graph.specs.Pinches.{FirstPinchBy, NotAfter}
 
--- the first list has the earlier member where the two first differ, or ends there
+-- The first list has the earlier member at the first difference, or ends there.
 abbrev pub NoLaterBy : {A : Type 0} → (A → A → Type 0) → List A → List A → Type 0
 NoLaterBy Before [] ys = Unit {0}
 NoLaterBy Before (x ∷ xs) [] = ⊥
 NoLaterBy Before (x ∷ xs) (y ∷ ys) = Before x y ⊎ ((x ≡ y) × NoLaterBy Before xs ys)
 
--- of the walks from a to c that do not pass b this has the fewest members, and of those it is the least
+-- Of the walks from a to c that do not pass b this has the fewest members, and of those it is the least.
 pub record FirstWalkBy {A : Type 0} (Before : A → A → Type 0) (linked : A → A → Bool) (b a c : A) (rest : List A) : Type 0 where
   pub walk : Walk linked a rest c
   pub around : ¬ Among b (a ∷ rest)
@@ -18,33 +18,33 @@ pub record FirstWalkBy {A : Type 0} (Before : A → A → Type 0) (linked : A �
   pub fewest : (other : List A) → Walk linked a other c → ¬ Among b (a ∷ other) → length rest ≤ length other
   pub least : (other : List A) → Walk linked a other c → ¬ Among b (a ∷ other) → length other ≡ length rest → NoLaterBy Before rest other
 
--- the ring from place k on, and round to it
+-- The ring from place k on, and round to it.
 abbrev pub turned : {A : Type 0} → ℕ → List A → List A
 turned k ring = drop k ring ++ take k ring
 
--- the loop begins at the first member of the ring in the order, and goes to the earlier of its neighbours
+-- The loop begins at the first member of the ring in the order, and goes to the earlier of its neighbours.
 pub record IsWrittenBy {A : Type 0} (Before : A → A → Type 0) (ring loop : List A) : Type 0 where
   pub goes_round : (k : ℕ) × ((loop ≡ turned k ring) ⊎ (loop ≡ reverse (turned k ring)))
   pub smallest : (first x : A) → IsAt loop 0 first → Among x ring → NotAfter Before first x
   pub smaller_side : (second last : A) → IsAt loop 1 second → IsAt loop (length loop - 1) last → Before second last
 
--- two of these members are not linked
+-- Two of these members are not linked.
 abbrev pub HasUnlinked : {A : Type 0} → (A → A → Bool) → List A → Type 0
 HasUnlinked {A} linked loop = (x : A) × (y : A) × Among x loop × Among y loop × (x ≢ y) × ¬ IsTrue (linked x y)
 
--- the loop of the first pinch, with the first walk around it
+-- The loop of the first pinch, with the first walk around it.
 abbrev pub IsFirstRing : {A : Type 0} → (A → A → Type 0) → (A → A → Bool) → List A → Type 0
 IsFirstRing {A} Before linked ring =
     (b : A) × (a : A) × (c : A) × (rest : List A) ×
     FirstPinchBy Before linked b a c × FirstWalkBy Before linked b a c rest × (ring ≡ b ∷ a ∷ rest)
 
--- a cycle with two members that are not linked: the chosen one of all, as it is written
+-- A cycle with two members that are not linked: the chosen one of all, as it is written.
 pub record NamedLoopBy {A : Type 0} (Before : A → A → Type 0) (linked : A → A → Bool) (loop : List A) : Type 0 where
   pub cycle : IsCycle linked loop
   pub unlinked : HasUnlinked linked loop
   pub named : (ring : List A) × IsFirstRing Before linked ring × IsWrittenBy Before ring loop
 
--- the same of numbers
+-- The definitions above for numbers.
 abbrev pub NoLater : List ℕ → List ℕ → Type 0
 NoLater xs ys = NoLaterBy (λ x y. x < y) xs ys
 

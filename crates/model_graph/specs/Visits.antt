@@ -3,13 +3,13 @@ use Rattle.std.specs.Prelude.{◌≡◌, ◌≢◌, ◌==◌, ◌+◌, ◌<◌, 
 use Rattle.std.specs.List.{list_any}
 use Rattle.model_graph.specs.Levels.{level_of}
 
--- how many have no level yet
+-- The number of members without a level.
 abbrev pub unlevelled : List (Option ℕ) → ℕ
 unlevelled [] = 0
 unlevelled (None ∷ levels) = unlevelled levels + 1
 unlevelled (Some level ∷ levels) = unlevelled levels
 
--- the effect of the first `count` of the links
+-- The effect of the first `count` of the links.
 pub record Visited (links : List ℕ) (count without level : ℕ) (old new : List (Option ℕ)) (queue longer : List ℕ) : Type 0 where
   pub same_length : length new ≡ length old
   pub grows : length queue ≤ length longer

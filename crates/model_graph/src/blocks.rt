@@ -1,6 +1,6 @@
 //! The blocks of a graph's members.
 
-ghost use Rattle.std.specs.Prelude.{◌≡◌, ℕ, ◌↔◌, None, IfOk, IsTrue, slice_index_or};
+ghost use Rattle.std.specs.Prelude.{◌≡◌, ◌↔◌, None, IfOk, IsTrue, slice_index_or};
 ghost use Rattle.model_graph.specs.Blocks.{block_of, top_of, rank_of, full_of, InOneBlock, IsBlockOfLink, IsInFull, LastMembers, OnOneSide};
 
 use std::alloc::{AllocError, Global};

@@ -2,7 +2,6 @@
 
 ghost use Rattle.std.specs.Prelude.{◌≡◌, ◌<◌, ℕ, IfOk, length, vec_len};
 ghost use Rattle.model_graph.specs.Rows.{linked, IsGraph};
-ghost use Rattle.model_graph.specs.Levels.{level_of};
 ghost use Rattle.model_graph.specs.Forest.{IsForest, IsParentAt, parent_of};
 
 use crate::graph::Graph;

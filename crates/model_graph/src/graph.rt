@@ -1,6 +1,6 @@
 //! The members of a graph and their links.
 
-ghost use Rattle.std.specs.Prelude.{◌≡◌, ◌<◌, ◌↔◌, ℕ, List, IsTrue, ◌==◌, length};
+ghost use Rattle.std.specs.Prelude.{◌≡◌, ◌<◌, ℕ, List, ◌==◌, length};
 ghost use Rattle.std.specs.List.{list_any};
 ghost use Rattle.model_graph.specs.Rows.{links_at, linked, IsGraph, IsAscending};
 

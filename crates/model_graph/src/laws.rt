@@ -1,6 +1,6 @@
 //! Laws about the definitions. Each law is the contract of a function that does nothing.
 
-ghost use Rattle.std.specs.Prelude.{◌≡◌, ◌≢◌, ◌↔◌, ℕ, ◌<◌, Bool, IsTrue, List, ◌++◌, length, map, reverse};
+ghost use Rattle.std.specs.Prelude.{◌≢◌, ◌↔◌, ℕ, ◌<◌, Bool, IsTrue, List, ◌++◌, length, map, reverse};
 ghost use Rattle.model_graph.specs.Walk.{Simple, Walk, Reaches};
 ghost use Rattle.model_graph.specs.Cycle.{Cycle, IsCycle, NoCycle, Polygons};
 ghost use Rattle.model_graph.specs.Renaming.{IsRenaming};
@@ -46,8 +46,7 @@ pub fn further_out()
         (d ≢ y) × (¬ IsTrue (linked y d)) }
 {}
 
-/// A property of f spreads to all members that reach f, if each member takes it over from the next one on its
-/// way to f.
+/// A property of f spreads to all members that reach f. Each member takes it over from the next one on its way to f.
 pub fn along_ways()
     ensures { (linked : ℕ → ℕ → Bool) → Simple linked → Parted linked →
         (f : ℕ) (test : ℕ → Bool) → IsTrue (test f) →

@@ -1,6 +1,6 @@
 //! A search by levels: the number of links between a member and the start.
 
-ghost use Rattle.std.specs.Prelude.{◌≡◌, ◌<◌, ◌≢◌, ℕ, IfOk, None, OnOk, length, vec_len};
+ghost use Rattle.std.specs.Prelude.{◌≡◌, ◌<◌, ◌≢◌, IfOk, None, OnOk, length, vec_len};
 ghost use Rattle.model_graph.specs.Rows.{links_at, linked, IsGraph};
 ghost use Rattle.model_graph.specs.Levels.{level_of, AreLevels};
 ghost use Rattle.model_graph.specs.Visits.{Visited};

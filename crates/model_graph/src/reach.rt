@@ -39,7 +39,7 @@ fn first_without_level(levels: &[Option<usize>]) -> Option<usize>
     None
 }
 
-/// The first member of each part, ascending, but for the part of member 0: the members that no walk from an earlier one
+/// The first member of each part except the part of member 0, ascending: the members that no walk from an earlier one
 /// reaches. Fails only when out of memory. Takes about the time of one search.
 pub fn other_parts(alloc: Global, graph: &Graph) -> Result<Vec<usize>, AllocError>
     ensures ascending { IfOk result (λ firsts. IsAscending firsts.items) }

@@ -1,7 +1,7 @@
 //! Are rows of links a graph?
 
-ghost use Rattle.std.specs.Prelude.{◌≡◌, ◌≢◌, ◌<◌, ◌↔◌, ℕ, IsTrue, length, slice_index};
-ghost use Rattle.model_graph.specs.Rows.{links_at, linked, IsAscending, IsGraph, Answered, EachAnswered};
+ghost use Rattle.std.specs.Prelude.{◌≡◌, ◌<◌, ◌↔◌, ℕ, IsTrue, length};
+ghost use Rattle.model_graph.specs.Rows.{links_at, IsAscending, IsGraph, Answered, EachAnswered};
 
 use crate::graph::{Links, has_link};
 

@@ -10,7 +10,6 @@ use Rattle.model_steps.specs.declared.draft.Draft.{Draft}
 use Rattle.model_steps.specs.declared.stamp.Stamp.{Stamp}
 use Rattle.model_steps.specs.declared.fault.PostFault.{PostFault}
 use Rattle.model_steps.specs.declared.fault.PostFault.TheVariants as fault
-use Rattle.model_steps.specs.declared.fault.ScanFault.TheVariants as scan_fault
 use Rattle.model_steps.specs.declared.packet.Packet.{Packet}
 use Rattle.model_steps.specs.Posting.{IsPostFault, post_refusal, posted, posting}
 use Rattle.model_steps.specs.SystemState.{SystemState, state_with}
@@ -30,11 +29,11 @@ set-change i f [] y d h e = absurd (omega arith)
 set-change zero f (x ∷ xs) y d h e = ap (λ (z : _). z ∷ xs) e
 set-change (suc i) f (x ∷ xs) y d h e = ap (λ (ys : List _). x ∷ ys) (set-change i f xs y d (omega arith) e)
 
--- nothing more is put at the end of the base
+-- no message joins the base
 pub state_with-none : (s : SystemState) → state_with s None ≡ s
 state_with-none s = let e = append-nil s.base in λ i. record { file = s.file; base = e i; cursor = s.cursor }
 
--- a posting that nothing refuses, and one that is refused
+-- a posting that is accepted, and one that is refused
 posting-some : (o : SystemState) (tag : List ℕ) (draft : Draft) (serial : ℕ) (stamp : Stamp) → post_refusal o.file o.base tag draft serial stamp ≡ None
     → posting o.file o.base tag draft serial stamp ≡ Some (posted o.file tag draft serial stamp)
 unfolding posting
@@ -50,7 +49,7 @@ after_refusal : (o : SystemState) (tag : List ℕ) (draft : Draft) (serial : ℕ
 after_refusal o tag draft serial stamp f n e same =
     same ∙ sym (state_with-none o) ∙ ap (state_with o) (sym (posting-none o tag draft serial stamp f e))
 
--- what was filed, or refused for another cause than memory, is what happens in a run
+-- a posting that is filed, or refused for another cause than memory, has the effect of a run's event
 pub posted-after : (o : SystemState) (tag : List ℕ) (draft : Draft) (serial : ℕ) (stamp : Stamp) (n : SystemState) → post_refusal o.file o.base tag draft serial stamp ≡ None
     → n ≡ state_with o (Some (posted o.file tag draft serial stamp)) → n ≡ after_posting tag draft serial stamp o
 posted-after o tag draft serial stamp n free h = h ∙ ap (state_with o) (sym (posting-some o tag draft serial stamp free))
@@ -65,7 +64,7 @@ refused-after o tag draft serial stamp fault.BadStamp n h other same = after_ref
 refused-after o tag draft serial stamp fault.BadReply n h other same = after_refusal o tag draft serial stamp fault.BadReply n h same
 refused-after o tag draft serial stamp fault.KnownSerial n h other same = after_refusal o tag draft serial stamp fault.KnownSerial n h same
 
--- the own_addresses stay where one system changes and its link file stays
+-- the addresses stay if one system changes and its link file stays
 pub set-addresses : (ss : List SystemState) (i : ℕ) (s d : SystemState) → s.file ≡ (get_or ss i d).file → own_addresses (set ss i s) ≡ own_addresses ss
 set-addresses ss i s d e = map-set_same (λ (x : SystemState). x.file.system) ss i s d (ap (λ (f : LinkFile). f.system) e)
 
@@ -75,7 +74,7 @@ with_past world i f h =
     let e = sym (change-past i f world.systems h) in
     λ j. record { systems = e j; packets = world.packets }
 
--- where the index is one of a system, that system changes
+-- the system at the index changes
 pub with_set : (systems : List SystemState) (packets : List Exported) (world : WorldState) (i : ℕ) (f : SystemState → SystemState) (s t d : SystemState)
     → record { systems = systems; packets = packets } ≡ world → i < length systems → t ≡ get_or systems i d → s ≡ f t
     → record { systems = set systems i s; packets = packets } ≡ with_change world i f
@@ -90,15 +89,15 @@ pub addresses_stay : (systems : List SystemState) (packets : List Exported) (wor
 addresses_stay systems packets world i s t d view there same =
     set-addresses systems i s d (same ∙ ap (λ (x : SystemState). x.file) there) ∙ ap (λ (w : WorldState). own_addresses w.systems) view
 
--- the item that was read is the one of its index
+-- the item read is the one at its index
 pub nth-read : {X : Type 0} (xs : List X) (i : ℕ) (x : X) → i < length xs → x ≡ get_or xs i x → nth i xs ≡ Some x
 nth-read xs i x within there = sym (nth-slice_get i xs) ∙ slice_get_read xs (length xs) i x refl within there
 
--- the item of an index is what is read there
+-- the item at an index
 pub read-nth : {X : Type 0} (xs : List X) (i : ℕ) (x d : X) → nth i xs ≡ Some x → get_or xs i d ≡ x
 read-nth xs i x d there = get_or_from_slice_get xs i x d (nth-slice_get i xs ∙ there)
 
--- a system scanned, and its packets were put last
+-- a system scanned, and its packets were appended
 pub scanned-set : (systems : List SystemState) (packets now : List Exported) (world : WorldState) (i : ℕ) (stamp : Stamp) (ps : List Packet) (s t : SystemState)
     → record { systems = systems; packets = packets } ≡ world → i < length systems → t ≡ get_or systems i t → s ≡ after_scan stamp t
     → ps ≡ made_by stamp t → now ≡ packets ++ map made ps

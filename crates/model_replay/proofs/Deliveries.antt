@@ -15,7 +15,7 @@ use Rattle.model_replay.proofs.Exports.{exported-nth, within-nth}
 use Rattle.model_replay.proofs.Runs.{delivered-run}
 use Rattle.model_replay.proofs.Taken.{state_stays}
 
--- where the system that changes stays as it was, all do
+-- if the changing system keeps its state, all do
 states_stay : (i : ℕ) (f : System → System) (ss : List System) → ((s : System) → nth i ss ≡ Some s → state_of (f s) ≡ state_of s)
     → map state_of (change i f ss) ≡ map state_of ss
 states_stay i f [] same = refl
@@ -42,7 +42,7 @@ again-run world run k p is are came there = by (nth (receiver run p) run.systems
         let W : List ℕ → Type 0 = λ ds. IsWorldOf world (record { systems = change (receiver run p) f run.systems; packets = run.packets; delivered = ds }) in
         subst W (sym once) (record { systems = is.systems ∙ sym stay; packets = is.packets; fit = is.fit; delivered = is.delivered })
 
--- what is asked of a delivery: a packet that is not there, or came before, changes nothing, another comes to the first system of its destination
+-- a missing or repeated packet changes nothing; another comes to the first system of its destination
 pub delivery-run : (world new : WorldState) (run : Run) (k : ℕ) → IsWorldOf world run → AreTaken run → (nth k world.packets ≡ None → new ≡ world)
     → ((e : Exported) → nth k world.packets ≡ Some e → e.came ≡ true → new ≡ world)
     → ((p : Packet) → Fits p → nth k world.packets ≡ Some (record { bytes = encoded p; to = destination p; came = false }) → new ≡ world_after world k p)

@@ -10,7 +10,7 @@ use Rattle.model_run.specs.Run.{change, destination, nth, with_index}
 use Rattle.model_run.specs.World.{missing}
 use Rattle.model_replay.specs.Worlds.{Exported, arrived, encoded, exported_packet, exported_from, made}
 
--- the item of an index, by either name
+-- the item at an index, by either name
 pub nth-slice_get : {X : Type 0} (i : ℕ) (xs : List X) → slice_get xs i ≡ nth i xs
 nth-slice_get i [] = refl
 nth-slice_get zero (x ∷ xs) = refl
@@ -25,19 +25,19 @@ pub exported-length : (delivered : List ℕ) (k : ℕ) (ps : List Packet) → le
 exported-length delivered k [] = refl
 exported-length delivered k (p ∷ ps) = ap suc (exported-length delivered (k + 1) ps)
 
--- the bytes of the packet of an index
+-- the bytes of the packet at an index
 pub exported-bytes : (delivered : List ℕ) (k i : ℕ) (ps : List Packet) → option_map (λ e. e.bytes) (nth i (exported_from delivered k ps)) ≡ option_map encoded (nth i ps)
 exported-bytes delivered k i [] = refl
 exported-bytes delivered k zero (p ∷ ps) = refl
 exported-bytes delivered k (suc i) (p ∷ ps) = exported-bytes delivered (k + 1) i ps
 
--- whom the packet of an index is for
+-- the destination of the packet at an index
 pub exported-to : (delivered : List ℕ) (k i : ℕ) (ps : List Packet) → option_map (λ e. e.to) (nth i (exported_from delivered k ps)) ≡ option_map destination (nth i ps)
 exported-to delivered k i [] = refl
 exported-to delivered k zero (p ∷ ps) = refl
 exported-to delivered k (suc i) (p ∷ ps) = exported-to delivered (k + 1) i ps
 
--- how many did not come
+-- the number of packets that did not come
 turned : (b : Bool) → ◌≡◌ {A = ℕ} (cond (not b) 1 0) (cond b 0 1)
 turned true = refl
 turned false = refl
@@ -50,7 +50,7 @@ exported-missing delivered k (p ∷ ps) =
     ∙ ap (λ (n : ℕ). n + count_by (λ e. not e.came) (exported_from delivered (k + 1) ps)) (turned came)
     ∙ ap (λ (n : ℕ). cond came 0 1 + n) (exported-missing delivered (k + 1) ps)
 
--- more packets go last
+-- more packets follow
 pub exported-append : (delivered : List ℕ) (k : ℕ) (ps qs : List Packet) → exported_from delivered k (ps ++ qs) ≡ exported_from delivered k ps ++ exported_from delivered (k + length ps) qs
 exported-append delivered k [] qs = let e : k ≡ k + 0 = omega arith in ap (λ (n : ℕ). exported_from delivered n qs) e
 exported-append delivered k (p ∷ ps) qs =
@@ -58,7 +58,7 @@ exported-append delivered k (p ∷ ps) qs =
     ap (λ (es : List Exported). exported_packet delivered k p ∷ es)
     (exported-append delivered (k + 1) ps qs ∙ ap (λ (n : ℕ). exported_from delivered (k + 1) ps ++ exported_from delivered n qs) e)
 
--- an index past all that were delivered is none of them
+-- an index past all delivered packets is not among them
 pub none_past : (delivered : List ℕ) (k : ℕ) → ((d : ℕ) → Among d delivered → d < k) → list_any (λ d. d == k) delivered ≡ false
 none_past [] k below = refl
 none_past (d ∷ later) k below =
@@ -66,7 +66,7 @@ none_past (d ∷ later) k below =
     let other : d ≢ k = λ e. omega (arith, e, less) in
     or_from (d == k) (list_any (λ x. x == k) later) (ne_eqb d k other) (none_past later k (λ x among. below x (inr among)))
 
--- packets past all that were delivered are newly made
+-- packets past all delivered ones are newly made
 pub exported-made : (delivered : List ℕ) (k : ℕ) (qs : List Packet) → ((d : ℕ) → Among d delivered → d < k) → exported_from delivered k qs ≡ map made qs
 exported-made delivered k [] below = refl
 exported-made delivered k (q ∷ qs) below =
@@ -74,7 +74,7 @@ exported-made delivered k (q ∷ qs) below =
     (λ i. record { bytes = encoded q; to = destination q; came = none i } ∷ exported_from delivered (k + 1) qs)
     ∙ ap (λ (es : List Exported). made q ∷ es) (exported-made delivered (k + 1) qs (λ d among. let h = below d among in omega arith))
 
--- an index that was put in is there, and the others are as before
+-- a new index is in the list, and the others stay
 there_once : (n : ℕ) (delivered : List ℕ) → list_any (λ d. d == n) (with_index n delivered) ≡ true
 there_once n delivered = elim (cases_Bool (list_any (λ d. d == n) delivered)) [
   | inl h ↦ ap (λ (ds : List ℕ). list_any (λ d. d == n) ds) (cond-true (list_any (λ d. d == n) delivered) delivered (n ∷ delivered) h) ∙ h
@@ -97,7 +97,7 @@ later_stay n k delivered (p ∷ ps) less =
     let rest = later_stay n (k + 1) delivered ps (omega arith) in
     λ i. record { bytes = encoded p; to = destination p; came = same i } ∷ rest i
 
--- the packet of an index comes: it is marked, and its index is among those that were delivered
+-- the packet at an index comes: it is marked, and its index joins the delivered ones
 pub exported-came : (delivered : List ℕ) (k i n : ℕ) (ps : List Packet) → n ≡ k + i → i < length ps
     → change i arrived (exported_from delivered k ps) ≡ exported_from (with_index n delivered) k ps
 exported-came delivered k i n [] at within = absurd (omega arith)
@@ -112,7 +112,7 @@ exported-came delivered k (suc i) n (p ∷ ps) at within =
     let rest = exported-came delivered (k + 1) i n ps (omega (arith, at)) (omega arith) in
     λ j. record { bytes = encoded p; to = destination p; came = same j } ∷ rest j
 
--- an index that was put in is below what all were below
+-- a new index keeps the bound of the others
 pub below-with : (delivered : List ℕ) (n most : ℕ) → ((k : ℕ) → Among k delivered → k < most) → n < most → (k : ℕ) → Among k (with_index n delivered) → k < most
 below-with delivered n most below less k among = elim (cases_Bool (list_any (λ d. d == n) delivered)) [
   | inl h ↦
@@ -127,7 +127,7 @@ below-with delivered n most below less k among = elim (cases_Bool (list_any (λ 
     by (inl e) = omega (arith, e)
     by (inr there) = below k there
 
--- the packet of an index, as it was exported_packet
+-- the packet at an index, as it was exported
 pub exported-nth : (delivered : List ℕ) (k i : ℕ) (ps : List Packet) → nth i (exported_from delivered k ps) ≡ option_map (exported_packet delivered (k + i)) (nth i ps)
 exported-nth delivered k i [] = refl
 exported-nth delivered k zero (p ∷ ps) = let e : k ≡ k + zero = omega arith in λ j. Some (exported_packet delivered (e j) p)

@@ -28,7 +28,7 @@ all_digits radix (b ∷ ds) h =
     let parts = and_parts (nat_lt (digit_value b) radix) _ h in
     (ltb-true (digit_value b) radix parts.0, all_digits radix ds parts.1)
 
--- so it has room
+-- so the value has room
 pub digested_small : (radix : ℕ) (ds : List ℕ) (i value : ℕ) → 2 ≤ radix → radix ^ length ds ≤ 2 ^ 32 → i ≤ length ds → Digested radix ds i value → value < 2 ^ 32
 digested_small radix ds i value least room le d =
     let below = digits_value-lt radix (take i ds) (all_digits radix (take i ds) d.each) in
@@ -61,7 +61,7 @@ next_digit radix ds i value code digit lt is below worth d =
     let P : ℕ → Type 0 = λ b. digit_value b < radix in
     subst (λ n. Digested radix ds (i + 1) (value * radix + n)) (sym (worth ∙ ap digit_value is)) (digested_more radix ds i value lt (subst P is below) d)
 
--- it has room
+-- the value has room
 pub next_fits : (radix : ℕ) (ds : List ℕ) (i value code digit : ℕ) → 2 ≤ radix → radix ^ length ds ≤ 2 ^ 32 → i < length ds → code ≡ get_or ds i 0
     → digit_value code < radix → digit ≡ digit_value code → Digested radix ds i value → value * radix + digit < 2 ^ 32
 next_fits radix ds i value code digit least room lt is below worth d =

@@ -1,4 +1,4 @@
--- What is read off a world is what is read off its run.
+-- A world reads as its run does.
 use Rattle.std.proofs.Common.{◌≡◌, ℕ, zero, suc, cond, arith, ◌+◌, ◌<◌, ◌==◌, ◌&&◌, not, Bool, false, List, [], ◌∷◌, length, drop, sym, ap, ◌∙◌}
 use Rattle.std.proofs.lemmas.List.{length-map}
 use Rattle.std.proofs.lemmas.List.Sums.{sum_by-cons}
@@ -12,7 +12,7 @@ use Rattle.model_run.specs.World.{area_count, is_settled, undelivered}
 use Rattle.model_replay.specs.Worlds.{Exported, IsWorldOf, WorldState, encoded, exported_from, state_of}
 use Rattle.model_replay.proofs.Exports.{exported-bytes, exported-length, exported-missing, exported-to, nth-slice_get}
 
--- how many packets did not come
+-- the number of packets that did not come
 pub missing-is : (world : WorldState) (run : Run) → IsWorldOf world run → count_by (λ e. not e.came) world.packets ≡ undelivered run
 missing-is world run is = ap (λ (es : List Exported). count_by (λ e. not e.came) es) is.packets ∙ exported-missing run.delivered 0 run.packets
 
@@ -30,29 +30,29 @@ settled-is world run is =
     let b = missing-is world run is in
     λ i. a i && (b i == 0)
 
--- the bytes of the packet of an index
+-- the bytes of the packet at an index
 pub bytes-are : (world : WorldState) (run : Run) → IsWorldOf world run → (k : ℕ) → option_map (λ e. e.bytes) (slice_get world.packets k) ≡ option_map encoded (nth k run.packets)
 bytes-are world run is k =
     ap (λ (es : List Exported). option_map (λ e. e.bytes) (slice_get es k)) is.packets
     ∙ ap (option_map (λ e. e.bytes)) (nth-slice_get k (exported_from run.delivered 0 run.packets))
     ∙ exported-bytes run.delivered 0 k run.packets
 
--- whom the packet of an index is for
+-- the destination of the packet at an index
 pub destinations-are : (world : WorldState) (run : Run) → IsWorldOf world run → (k : ℕ) → option_map (λ e. e.to) (slice_get world.packets k) ≡ option_map destination (nth k run.packets)
 destinations-are world run is k =
     ap (λ (es : List Exported). option_map (λ e. e.to) (slice_get es k)) is.packets
     ∙ ap (option_map (λ e. e.to)) (nth-slice_get k (exported_from run.delivered 0 run.packets))
     ∙ exported-to run.delivered 0 k run.packets
 
--- how many systems there are
+-- the number of systems
 pub system_count : (world : WorldState) (run : Run) → IsWorldOf world run → length world.systems ≡ length run.systems
 system_count world run is = ap (λ (ss : List SystemState). length ss) is.systems ∙ length-map run.systems state_of
 
--- how many packets there are
+-- the number of packets
 pub packet_count : (world : WorldState) (run : Run) → IsWorldOf world run → length world.packets ≡ length run.packets
 packet_count world run is = ap (λ (es : List Exported). length es) is.packets ∙ exported-length run.delivered 0 run.packets
 
--- whether the message of an index is of the area; it is counted, and those after it are left
+-- whether the message at an index belongs to the area; it is counted, and later ones are left
 abbrev pub is_of : List ℕ → List Filed → ℕ → Bool
 is_of tag base i = unwrap_or (option_map (λ m. bytes_eq m.echo.tag tag) (slice_get base i)) false
 

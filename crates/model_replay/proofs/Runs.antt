@@ -1,4 +1,4 @@
--- What happens to a world happens to its run.
+-- An event changes a world as it changes its run.
 use Rattle.std.proofs.Common.{◌≡◌, ℕ, zero, suc, ◌+◌, ◌<◌, ◌≤◌, nat_lt, not, Bool, true, false, cond, List, [], ◌∷◌, ◌++◌, length, get_or, take, map, refl, sym, ap, subst, ◌∙◌, Option, Some, None, arith, inl, inr}
 use Rattle.std.specs.Prelude.{option_map}
 use Rattle.std.specs.List.{All, position_or_len}
@@ -32,7 +32,7 @@ use Rattle.model_replay.proofs.Readings.{system_count as count-is}
 use Rattle.model_run.proofs.HarmLists.{nth-below as nth-within}
 use Rattle.model_run.proofs.HarmSteps.{after-append}
 
--- filing leaves the history aside
+-- the state after a filing does not depend on the history
 state-filing : (s : System) (o : Option Filed) → state_of (filing s o) ≡ state_with (state_of s) o
 state-filing s None = let e = sym (append-nil s.base) in λ i. record { file = s.file; base = e i; cursor = s.cursor }
 state-filing s (Some m) = refl
@@ -61,7 +61,7 @@ posted-run world run i tag draft serial stamp is =
 pub purged-run : (world : WorldState) (run : Run) (i : ℕ) → IsWorldOf world run → IsWorldOf (with_change world i after_purge) (changing run i purging_at)
 purged-run world run i is = changed-run world run i purging_at after_purge (λ s. refl) is
 
--- a toss of a packet does to a system in a run what it does to its state
+-- the toss of a packet changes a system's state as it changes the system in a run
 pub state-taking : (p : Packet) (s : System) → state_of (taking p (length p.messages) s) ≡ after_toss p (state_of s)
 state-taking p s =
     ap (λ (ms : List Message). state_of (tossing_at (sender_of s.file p.header) ms s)) (take_all (length p.messages) p.messages whole)
@@ -122,7 +122,7 @@ scanned-run world run i stamp is fits =
       | inr h ↦ scan-refused world run i stamp s h is
     ]
 
--- the first that passes, of items that are read so
+-- the first mapped item that passes
 pub first-map : {X Y : Type 0} (p : Y → Bool) (f : X → Y) (xs : List X) → position_or_len p (map f xs) ≡ position_or_len (λ x. p (f x)) xs
 first-map p f xs =
     is_position_or_len (λ ys. position_or_len p (map f ys)) (λ x. p (f x)) refl (λ x ys. by (p (f x)) (position_or_len p (map f ys))) xs
@@ -131,7 +131,7 @@ first-map p f xs =
     by true n = refl
     by false n = refl
 
--- the first system of an address is the same in both
+-- the first system of an address has the same index in both
 first-is : (world : WorldState) (run : Run) (p : Packet) → IsWorldOf world run → first_at world (destination p) ≡ receiver run p
 first-is world run p is =
     ap (λ (ss : List SystemState). position_or_len (λ s. same_address s.file.system (destination p)) ss) is.systems
@@ -170,7 +170,7 @@ delivered-run world run k p is there =
           (subst Q (sym (nth-past (receiver run p) run.systems past)) is)
     ]
 
--- the own_addresses at first
+-- the addresses at first
 pub addresses-first : (files : List LinkFile) → own_addresses (map state_at_first files) ≡ map (λ f. f.system) files
 addresses-first [] = refl
 addresses-first (f ∷ files) = ap (λ (all : List Address). f.system ∷ all) (addresses-first files)
@@ -197,7 +197,7 @@ first-run files = record {
     map_again [] = refl
     map_again (f ∷ fs) = ap (λ (ss : List SystemState). state_at_first f ∷ ss) (map_again fs)
 
--- where a look-up led: to the first system that has the packet's destination
+-- a look-up led to the first system with the packet's destination
 pub record LedTo (world : WorldState) (k : ℕ) (p : Packet) (i : ℕ) : Type 0 where
   pub system : SystemState
   pub there : nth i world.systems ≡ Some system
@@ -225,7 +225,7 @@ led-to world k p i to whom place within =
           ∙ sym (cond-true (nat_lt (first_at world (destination p)) (length world.systems)) come world (lt-ltb (first_at world (destination p)) (length world.systems) reached));
     }
 
--- or to none: the packet comes nowhere
+-- or to no system: the packet comes nowhere
 pub led-nowhere : (world : WorldState) (k : ℕ) (p : Packet) (to : Address) → to ≡ destination p
     → position_or_len (λ b. same_address b to) (own_addresses world.systems) ≡ length (own_addresses world.systems) → world ≡ world_after world k p
 led-nowhere world k p to whom none =

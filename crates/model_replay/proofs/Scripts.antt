@@ -57,7 +57,7 @@ module _ (bytes rest line after : List ℕ) (number : ℕ) (events : List Event)
         ∙ ap (λ es. es ++ events_in (file_lines after)) (sym is);
   }
 
-  -- one of another form
+  -- a line of another form
   pub lines_other : (refused : ScriptFault) → script_line_fault (number + 1) line ≡ Some refused → script_fault bytes ≡ Some refused
   unfolding script_fault
   lines_other refused bad =
@@ -90,7 +90,7 @@ one_answer bytes (Err refused) (Err again) h g = ap (λ (f : ScriptFault). Err f
     same : (f g : ScriptFault) → (let o : Option ScriptFault = Some f in o ≡ Some g) → f ≡ g
     same f g e = cc
 
--- so what is so of the bytes is what was answered
+-- so the answer for the bytes is the right one
 pub only_answer : {V : Type 0} (items : V → List Event) (bytes : List ℕ) (answer : Result V ScriptFault)
     → MatchResult answer (λ v. ScriptOf bytes (Ok (items v))) (λ f. (f ≡ fault.Memory) ⊎ ScriptOf bytes (Err f)) → (other : Result (List Event) ScriptFault)
     → ScriptOf bytes other → MatchResult answer (λ v. other ≡ Ok (items v)) (λ f. (f ≡ fault.Memory) ⊎ (other ≡ Err f))

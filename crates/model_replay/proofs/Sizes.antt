@@ -1,4 +1,4 @@
--- Messages of few bytes keep a great limit.
+-- Few messages keep within a great limit.
 use Rattle.std.proofs.Common.{◌≡◌, ℕ, ◌+◌, ◌<◌, ◌≤◌, List, [], ◌∷◌, length, take, get_or, sym, subst}
 use Rattle.std.specs.List.{AllByRecursion}
 use Rattle.echo_packet.specs.Message.{IsMessage, Message}

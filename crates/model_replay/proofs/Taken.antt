@@ -36,7 +36,7 @@ use Rattle.model_replay.specs.Worlds.{state_of}
 use Rattle.model_replay.proofs.Exports.{below-with, within-nth}
 use Rattle.model_replay.proofs.Runs.{first-map, state-taking}
 
--- what is known in the one base is known in the other
+-- the second base knows each key that the first knows
 abbrev Knows : List Filed → List Filed → Type 0
 Knows base more = (key : Key) → is_known base key ≡ true → is_known more key ≡ true
 
@@ -60,7 +60,7 @@ known-last base m =
     any-to (λ n. same_key (key_of n) (key_of m)) m (base ++ m ∷ []) (Among-append_right m base (m ∷ []) (inl refl))
     ((same_key_decides (key_of m) (key_of m)).1 refl)
 
--- what becomes of a message whose text is echomail, by the tests
+-- the outcome of a message with an echomail text, by the tests
 abbrev outcome_by : Bool → Bool → Bool → Outcome
 outcome_by area link known =
     if not area then outcome.NoArea else if not link then outcome.NotLinked else if known then outcome.Known else outcome.Filed
@@ -77,7 +77,7 @@ unfiled-known false link known m h = refl
 unfiled-known true false known m h = refl
 unfiled-known true true known m h = ap (λ (b : Bool). where_filed (outcome_by true true b) m) h
 
--- a message that is not filed is not filed where more is known
+-- a message that is not filed is not filed if more keys are known
 still_unfiled : (file : LinkFile) (base more : List Filed) (sender : Address) (packed : Message) → Knows base more
     → tossing file base sender packed ≡ None → tossing file more sender packed ≡ None
 unfolding tossing toss_outcome
@@ -93,7 +93,7 @@ still_unfiled file base more sender packed knows none = by (text_refusal packed.
     by (Some text.Memory) h = refl
     by (Some text.BadMsgId) h = refl
 
--- nor is one that is known
+-- nor is a known message
 known_unfiled : (file : LinkFile) (base : List Filed) (sender : Address) (packed : Message) → is_known base (key_of (received sender packed)) ≡ true
     → tossing file base sender packed ≡ None
 unfolding tossing toss_outcome
@@ -150,14 +150,14 @@ none_after file base sender (packed ∷ ms) =
     let next = base ++ option_to_list (tossing file base sender packed) in
     (still_unfiled file next (tossed file next sender ms) sender packed (knows-tossed file next sender ms) (unfiled_after file base sender packed), none_after file next sender ms)
 
--- and a toss that files none leaves the base as it was
+-- and a toss that files nothing leaves the base unchanged
 none_tossed : (file : LinkFile) (base : List Filed) (sender : Address) (ms : List Message) → NoneIsFiled file base sender ms → tossed file base sender ms ≡ base
 none_tossed file base sender [] h = refl
 none_tossed file base sender (packed ∷ ms) h =
     ap (λ (o : Option Filed). tossed file (base ++ option_to_list o) sender ms) h.0
     ∙ ap (λ (b : List Filed). tossed file b sender ms) (append-nil base) ∙ none_tossed file base sender ms h.1
 
--- a system keeps its link file, and what it knows
+-- a system keeps its link file and its known keys
 record Grows (s z : System) : Type 0 where
   file : z.file ≡ s.file
   knows : Knows s.base z.base
@@ -281,12 +281,12 @@ events-taken : (events : List RunEvent) (run : Run) → AreTaken run → AreTake
 events-taken [] run are = are
 events-taken (event ∷ events) run are = events-taken events (after_event run event) (event-taken run event are)
 
--- in every run what was delivered is taken
+-- in every run each delivered packet is taken
 pub run-taken : (files : List LinkFile) (events : List RunEvent) → AreTaken (run_of files events)
 run-taken files events =
     events-taken events (start files) (record { there = λ k among. absurd among; taken = λ k p s among at here. absurd among })
 
--- a system that has taken the packet is as it was after it comes again
+-- a system that has taken the packet stays unchanged when it comes again
 pub state_stays : (s : System) (p : Packet) → HasTaken s p → state_of (taking p (length p.messages) s) ≡ state_of s
 state_stays s p taken =
     let e = none_tossed s.file s.base (sender_of s.file p.header) p.messages taken in

@@ -1,9 +1,9 @@
--- How many packets were made, event by event.
+-- The numbers of packets made, event by event.
 use Rattle.std.specs.Prelude.{ℕ, List, [], ◌∷◌, length}
 use Rattle.model_run.specs.Event.{RunEvent}
 use Rattle.model_run.specs.Run.{Run, after_event}
 
--- how many there are after each of these events, in order
+-- The number of packets after each of these events, in order.
 abbrev pub packet_counts : Run → List RunEvent → List ℕ
 packet_counts run [] = []
 packet_counts run (event ∷ later) = length (after_event run event).packets ∷ packet_counts (after_event run event) later

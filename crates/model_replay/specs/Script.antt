@@ -17,7 +17,7 @@ use Rattle.model_replay.specs.declared.script.ScriptFault.TheVariants as fault
 abbrev pub moment : Stamp
 moment = record { year = 2000; month = 1; day = 1; hour = 0; minute = 0; second = 0 }
 
--- The number that the bytes write, where each is a digit of the radix.
+-- The number that the bytes write, if each is a digit of the radix.
 unfoldable pub number_in : ℕ → List ℕ → Option ℕ
 number_in radix bytes = if list_all (λ b. nat_lt (digit_value b) radix) bytes then Some (digits_value radix bytes) else None
 
@@ -37,12 +37,12 @@ after_first_word line = drop (length (first_of (tokens line))) (drop (position_o
 abbrev pub draft_of : List ℕ → List ℕ → Draft
 draft_of serial body = record { to_name = codes "All"; from_name = codes "Sysop"; subject = serial; reply = []; body = body }
 
--- A posting of an index, a tag and a serial, where both numbers are ones.
+-- A posting with an index, a tag and a serial, if index and serial are numbers.
 abbrev pub posting_with : Option ℕ → List ℕ → List ℕ → Option ℕ → List ℕ → Option Event
 posting_with (Some i) tag digits (Some serial) body = Some (Post i tag (draft_of digits body) serial moment)
 posting_with _ tag digits _ body = None
 
--- A posting of these words and body: an index, a tag and a serial are first.
+-- A posting with these words and body: the words begin with an index, a tag and a serial.
 abbrev pub posting_of : List (List ℕ) → List ℕ → Option Event
 posting_of (i ∷ (tag ∷ (serial ∷ more))) body = posting_with (index_in i) tag serial (serial_in serial) body
 posting_of _ body = None
@@ -71,20 +71,20 @@ event_in line =
     if list_any is_control_byte line then None
     else event_of (first_of (tokens line)) (after_first_word line) (after_first_of (tokens line))
 
--- A line that is neither skipped nor an event, of this number.
+-- The fault of a line with this number that is neither skipped nor an event.
 abbrev pub script_line_fault : ℕ → List ℕ → Option ScriptFault
 script_line_fault number line = if is_skipped line then None else if is_some (event_in line) then None else Some (fault.Line number)
 
--- The first such line, where the first of the lines has this number.
+-- The first such fault; the first of the lines has this number.
 abbrev pub first_script_fault : ℕ → List (List ℕ) → Option ScriptFault
 first_script_fault number [] = None
 first_script_fault number (line ∷ later) = option_or (script_line_fault number line) (first_script_fault (number + 1) later)
 
--- The events of lines, one a line that is not skipped.
+-- The events of lines: one for each line that is not skipped.
 abbrev pub events_in : List (List ℕ) → List Event
 events_in lines = filter_map event_in (filter (λ line. not (is_skipped line)) lines)
 
--- The first line of a script that has another form.
+-- The fault of the first line of a script that has another form.
 unfoldable pub script_fault : List ℕ → Option ScriptFault
 script_fault bytes = first_script_fault 1 (file_lines bytes)
 
@@ -92,7 +92,7 @@ script_fault bytes = first_script_fault 1 (file_lines bytes)
 unfoldable pub events_of : List ℕ → List Event
 events_of bytes = events_in (file_lines bytes)
 
--- The right answer for a script: its events if no line has another form, otherwise the first line that has.
+-- The right answer for a script: its events, or the fault of the first line that has another form.
 abbrev pub ScriptOf : List ℕ → Result (List Event) ScriptFault → Type 0
 ScriptOf bytes (Ok events) = (script_fault bytes ≡ None) × (events ≡ events_of bytes)
 ScriptOf bytes (Err refused) = script_fault bytes ≡ Some refused

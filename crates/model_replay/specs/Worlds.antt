@@ -1,4 +1,4 @@
--- What a replay keeps of a run: the systems without their histories, and the packets as bytes.
+-- The part of a run that a replay keeps: the systems without their histories, and the packets as bytes.
 use Rattle.std.specs.Prelude.{◌≡◌, ◌+◌, ◌-◌, ◌^◌, ◌<◌, ◌==◌, ℕ, nat_lt, Bool, true, false, if◌then◌else◌, MatchOption, Option, Some, List, [], ◌∷◌, ◌++◌, map, length, slice_get, option_map, unwrap_or, None}
 use Rattle.std.specs.List.{All, list_any, position_or_len}
 use Rattle.std.specs.Map.{lookup}
@@ -20,7 +20,7 @@ use Rattle.model_steps.specs.Tossing.{sender_of, tossed}
 use Rattle.model_run.specs.Run.{Run, System, change, destination, nth}
 pub use Rattle.model_run.specs.Run.{state_of}
 
--- An exported_packet packet: its bytes, whom it is for, and whether it came.
+-- An exported packet: its bytes, its destination, and whether it came.
 pub record Exported : Type 0 where
   pub bytes : List ℕ
   pub to : Address
@@ -35,20 +35,20 @@ pub record WorldState : Type 0 where
 abbrev pub encoded : Packet → List ℕ
 encoded packet = packet_bytes packet.header packet.messages
 
--- A packet, and whether its index is among those that were delivered.
+-- A packet, and whether its index is among the delivered ones.
 abbrev pub exported_packet : List ℕ → ℕ → Packet → Exported
 exported_packet delivered k packet = record { bytes = encoded packet; to = destination packet; came = list_any (λ d. d == k) delivered }
 
--- Packets, of which the first has this index.
+-- Packets; the first of them has this index.
 abbrev pub exported_from : List ℕ → ℕ → List Packet → List Exported
 exported_from delivered k [] = []
 exported_from delivered k (packet ∷ later) = exported_packet delivered k packet ∷ exported_from delivered (k + 1) later
 
--- A packet that was just made.
+-- A packet just made.
 abbrev pub made : Packet → Exported
 made packet = record { bytes = encoded packet; to = destination packet; came = false }
 
--- Nothing is too long.
+-- The greatest limits.
 abbrev pub unlimited : Limits
 unlimited = record { text = 2 ^ 64 - 1; messages = 2 ^ 64 - 1 }
 
@@ -56,34 +56,34 @@ unlimited = record { text = 2 ^ 64 - 1; messages = 2 ^ 64 - 1 }
 abbrev pub Fits : Packet → Type 0
 Fits packet = PacketOf unlimited packet.header packet.messages (encoded packet)
 
--- The world is that of the run: its systems, and its packets as bytes, with which of them were delivered.
+-- The world is that of the run: its systems, and its packets as bytes with their deliveries.
 pub record IsWorldOf (world : WorldState) (run : Run) : Type 0 where
   pub systems : world.systems ≡ map state_of run.systems
   pub packets : world.packets ≡ exported_from run.delivered 0 run.packets
   pub fit : All Fits run.packets
   pub delivered : (k : ℕ) → Among k run.delivered → k < length run.packets
 
--- the message of a number at the system of an index
+-- The message with a number at the system with an index.
 abbrev pub message_at : Run → ℕ → ℕ → Option Filed
 message_at run i number = unwrap_or (option_map (λ s. slice_get s.base number) (nth i run.systems)) None
 
--- The answer for the system of an index: it exists just if the system does, and then this holds for both.
+-- The answer for the system with an index exists exactly if the system does, and then the property holds for both.
 abbrev pub OfSystem : {A : Type 0} → Option A → Option System → (A → System → Type 0) → Type 0
 OfSystem None None Holds = Unit {0}
 OfSystem None (Some s) Holds = ⊥
 OfSystem (Some answer) None Holds = ⊥
 OfSystem (Some answer) (Some s) Holds = Holds answer s
 
--- The place that a look-up found is the first that passes, or none passes.
+-- A look-up found the first index that passes, or none passes.
 abbrev pub IsFirst : Option ℕ → (Address → Bool) → List Address → Type 0
 IsFirst found passes systems =
     MatchOption found (position_or_len passes systems ≡ length systems) (λ i. (i ≡ position_or_len passes systems) × (i < length systems))
 
--- The entries lead from each address to the first of the systems that has it.
+-- The entries lead from each address to the first system with this address.
 abbrev pub LeadsToFirst : List (Address × ℕ) → List Address → Type 0
 LeadsToFirst entries systems = (a : Address) → IsFirst (lookup (λ k. same_address a k) entries) (λ b. same_address b a) systems
 
--- The own own_addresses of the systems.
+-- The addresses of the systems.
 abbrev pub own_addresses : List SystemState → List Address
 own_addresses ss = map (λ s. s.file.system) ss
 
@@ -91,7 +91,7 @@ own_addresses ss = map (λ s. s.file.system) ss
 abbrev pub with_change : WorldState → ℕ → (SystemState → SystemState) → WorldState
 with_change world i f = record { systems = change i f world.systems; packets = world.packets }
 
--- A system after a posting, with the message where nothing refuses it.
+-- A system after a posting, with the message unless it is refused.
 abbrev pub after_posting : List ℕ → Draft → ℕ → Stamp → SystemState → SystemState
 after_posting tag draft serial stamp s = state_with s (posting s.file s.base tag draft serial stamp)
 
@@ -99,7 +99,7 @@ after_posting tag draft serial stamp s = state_with s (posting s.file s.base tag
 abbrev pub after_purge : SystemState → SystemState
 after_purge s = record { file = s.file; base = purged s.base s.cursor; cursor = s.cursor }
 
--- The packets of a scan, none where its stamp is out of range.
+-- The packets of a scan; none if its stamp is out of range.
 abbrev pub made_by : Stamp → SystemState → List Packet
 made_by stamp s = if is_stamp stamp then scanned s.file s.base s.cursor stamp else []
 
@@ -128,11 +128,11 @@ after_toss packet s = record { file = s.file; base = tossed s.file s.base (sende
 abbrev pub arrived : Exported → Exported
 arrived e = record { bytes = e.bytes; to = e.to; came = true }
 
--- The index of the first system of the address, the number of systems where there is none.
+-- The index of the first system with the address, or the number of systems without one.
 abbrev pub first_at : WorldState → Address → ℕ
 first_at world to = position_or_len (λ s. same_address s.file.system to) world.systems
 
--- The world after the packet of an index came.
+-- The world after the packet with an index came.
 abbrev pub world_after : WorldState → ℕ → Packet → WorldState
 world_after world k packet =
     if nat_lt (first_at world (destination packet)) (length world.systems)

@@ -1,8 +1,7 @@
 //! What one event does to a net.
 
-ghost use Rattle.std.specs.Prelude.{◌≡◌, ◌≢◌, ◌++◌, ◌∷◌, [], ◌<◌, length, map, Bool, true, false, List, None, Some, IfOk, OnOk};
+ghost use Rattle.std.specs.Prelude.{◌≡◌, ◌≢◌, ◌++◌, ◌∷◌, [], ◌<◌, length, map, Bool, true, false, None, Some, IfOk, OnOk};
 ghost use Rattle.std.specs.List.{All};
-ghost use Rattle.echo_addr.specs.declared.address.Address.{Address};
 ghost use Rattle.model_steps.specs.declared.fault.PostFault.TheVariants as post_fault;
 ghost use Rattle.model_run.specs.Event.{run_event};
 ghost use Rattle.model_run.specs.Run.{Run, after_event, change, destination, nth};

@@ -1,7 +1,7 @@
 //! What holds of every replay, by the laws of runs. Each law is the contract of a function that does
 //! nothing.
 
-ghost use Rattle.std.specs.Prelude.{◌≡◌, ℕ, ◌≤◌, List, map};
+ghost use Rattle.std.specs.Prelude.{ℕ, ◌≤◌, List, map};
 ghost use Rattle.model_graph.specs.Walk.{Among};
 ghost use Rattle.echo_links.specs.Links.{LinkFile};
 ghost use Rattle.echo_filed.specs.declared.key.Key.{Key};

@@ -1,12 +1,12 @@
-//! What would happen to a net (FTS-0004): events are replayed over the bytes of real packets.
+//! A trial of events on a net (FTS-0004): they are replayed over the bytes of real packets.
 //!
 //! The contract for the layer above is that of `replay`. It returns the world of the run of these events on these
 //! files, and the laws of runs hold for that run.
 //!
-//! Begin with `world` (the systems and packets after the events, and what can be read of them) and `replaying`. They
-//! use `receivers` (which system has an address), `fitting` (what is known of a packet without its bytes), `happening`
-//! (the effect of one event) and `replay_progress` (progress reports). `script` reads events from text, and `laws` has
-//! what holds of every replay.
+//! Begin with `world` (the systems and packets after the events, and how to read them) and `replaying`. They use
+//! `receivers` (which system has an address) and `fitting` (the fit of a packet without its bytes). `happening` has
+//! the effect of one event, `replay_progress` has progress reports. `script` reads events from text, and `laws` has what
+//! holds of every replay.
 #![tactic(auto)]
 
 mod fitting;

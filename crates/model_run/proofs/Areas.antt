@@ -1,4 +1,4 @@
--- What link files say of an area, and the keys of its messages.
+-- The area in link files, and the keys of its messages.
 use Rattle.std.proofs.Common.{◌≡◌, inl, inr, refl, sym, subst, ap, ◌∙◌, ℕ, IsTrue, List, [], ◌∷◌, map, Option, Some, None}
 use Rattle.std.specs.Prelude.{Bool, true, false, bytes_eq, option_map, unwrap_or, is_some, ◌&&◌}
 use Rattle.std.specs.List.{list_any}
@@ -22,7 +22,7 @@ use Rattle.model_run.proofs.TosserPremises.{Laws}
 use Rattle.model_run.proofs.Lists.{not_both, and-parts, and-from, any-to, any-from}
 use Rattle.model_run.proofs.RulesLists.{Among-map_to, Among-map_from}
 
--- the area of a key is that of its message
+-- the area of a message's key is the area of the message
 pub key-tag : (m : Filed) → tag_of (key_of m) ≡ m.echo.tag
 unfolding key_of
 key-tag m = with_id (msgid_of m.echo.kept)
@@ -31,7 +31,7 @@ key-tag m = with_id (msgid_of m.echo.kept)
     with_id None = refl
     with_id (Some id) = refl
 
--- the key of an own id in the area
+-- the key of an id of this address in the area
 abbrev pub Wrote : List ℕ → Address → Key → Type 0
 Wrote tag a k = IsAddress a × ((serial : ℕ) × (k ≡ ById tag (id_of a serial)))
 
@@ -48,7 +48,7 @@ module _ (laws : Laws) where
   bytes-equal x y e =
       (and-parts (bytes_eq x y) (bytes_eq [] []) (laws.keys.full (ById x []) (ById y []) (ap (λ (t : List ℕ). ById t []) e))).0
 
-  -- who wrote a key
+  -- a key has one writer
   pub one-writer : (tag : List ℕ) (f g : Address) (k : Key) → Wrote tag f k → Wrote tag g k → f ≡ g
   one-writer tag f g k wrote_f wrote_g =
       let (serial, e) = wrote_f.1 in
@@ -56,7 +56,7 @@ module _ (laws : Laws) where
       let same : id_of f serial ≡ id_of g other = cc in
       laws.ids f g serial other wrote_f.0 wrote_g.0 same
 
--- of two lists by one test of their places, members with one name are one
+-- members of a list without repeated names are equal if their names are
 pub one_name : {X Y : Type 0} (g : X → Y) (xs : List X) → Different (map g xs) → (x y : X) → Among x xs → Among y xs → g x ≡ g y → x ≡ y
 one_name g [] d x y i j e = absurd i
 one_name g (z ∷ xs) d x y i j e =
@@ -75,7 +75,7 @@ pub map-map : {X Y Z : Type 0} (g : Y → Z) (f : X → Y) (xs : List X) → map
 map-map g f [] = refl
 map-map g f (x ∷ xs) = ap (λ (zs : List _). g (f x) ∷ zs) (map-map g f xs)
 
--- a link of an area is one of an area that is there
+-- a file with a link of an area has the area
 pub link-has_area : (file : LinkFile) (tag : List ℕ) (a : Address) → is_link file tag a ≡ true → has_area file tag ≡ true
 unfolding links_of
 link-has_area file tag a h = found (area_of file tag) h
@@ -140,6 +140,6 @@ module _ (laws : Laws) (files : List LinkFile) (tag : List ℕ) (tidy : files_ar
     area-carries s at_s h = any-to (λ file. same_address file.system (address_of s) && has_area file tag) s.file files (file-in s at_s)
         (and-from (same_address (address_of s) (address_of s)) (has_area s.file tag) (laws.addresses.full (address_of s) (address_of s) refl) h)
 
-    -- the systems have addresses of their own
+    -- no two systems have one address
     pub one-system : (s z : System) → Among s ss → Among z ss → address_of s ≡ address_of z → s ≡ z
     one-system = one_name address_of ss addresses_differ

@@ -1,4 +1,4 @@
--- Base files by computation: what is saved, what is read, and each fault.
+-- Base files by computation: saved bytes, reading them, and each fault.
 use Rattle.std.proofs.Common.{◌≡◌, ℕ, List, [], ◌∷◌, ◌++◌, ◌^◌, ◌<◌, refl, true, false, codes, length, lit<, lit≤, inl}
 use Rattle.std.specs.Fmt.{digits}
 use Rattle.echo_addr.specs.Entries.{entries, pair_of, tokens}
@@ -28,7 +28,7 @@ small n = n ∷ (0 ∷ (0 ∷ (0 ∷ [])))
 abbrev pub fields_bytes : ℕ → List ℕ
 fields_bytes kind = kind ∷ (0 ∷ (0 ∷ (0 ∷ (0 ∷ (0 ∷ (0 ∷ (date_bytes ++ (3 ∷ codes "All" ++ (3 ∷ codes "Ann" ++ (2 ∷ codes "Hi"))))))))))
 
--- and of the whole message, in a base
+-- the bytes of the whole message, in a base
 abbrev pub text_bytes : List ℕ
 text_bytes = codes "AREA:TEST" ++ 13 ∷ kept_text 49
 
@@ -38,7 +38,7 @@ whole_bytes kind = fields_bytes kind ++ (small 78 ++ text_bytes)
 abbrev short_bytes : List ℕ
 short_bytes = fields_bytes 2 ++ (4 ∷ codes "TEST" ++ (small 15 ++ id_text))
 
--- what is saved: no message, the posting before the scan, the posting after the scan and a purge
+-- saved bytes: no message, the posting before the scan, the posting after the scan and a purge
 empty_base : saved_bytes [] 0 ≡ codes "ECHOBAS2" ++ (small 0 ++ small 0)
 unfolding saved_bytes head_bytes
 empty_base = refl
@@ -63,7 +63,7 @@ saved_purged = refl
 purged_size : length purged_base ≡ 78
 purged_size = refl
 
--- a purge changes the message, and a second purge none
+-- a purge changes the message, and a second purge changes nothing
 purge_changes_one : changed (first_posting ∷ []) 1 ≡ 1
 unfolding changed is_stub msgid_of begins after_word trimmed posted posted_lines id_of lines digits date_of
 purge_changes_one = refl
@@ -76,7 +76,7 @@ purge_before_scan : changed (first_posting ∷ []) 0 ≡ 0
 unfolding changed
 purge_before_scan = refl
 
--- the message as it is stored, with this first byte, zone of a sender and text
+-- the stored message with this first byte, zone of a sender and text
 abbrev pub stored_with : ℕ → ℕ → List ℕ → Stored
 stored_with kind zone last = record {
   kind = kind;
@@ -91,14 +91,14 @@ stored_with kind zone last = record {
   last = last;
 }
 
--- with this first byte alone, and in short
+-- with just this first byte, and in short
 abbrev pub stored : ℕ → Stored
 stored kind = stored_with kind 0 text_bytes
 
 abbrev stored_short : ℕ → Stored
 stored_short kind = record (stored kind) { tag = codes "TEST"; last = id_text }
 
--- its fields are of their sizes
+-- its fields fit their sizes
 pub size_with : (version : Version) (kind zone : ℕ) (last : List ℕ) → kind < 2 ^ 8 → zone < 2 ^ 16 → length last < 2 ^ 32
     → IsStored version (stored_with kind zone last)
 size_with version kind zone last small_kind small_zone short_last = record {
@@ -118,7 +118,7 @@ size_with version kind zone last small_kind small_zone short_last = record {
 pub stored_size : (version : Version) (kind : ℕ) → kind < 2 ^ 8 → IsStored version (stored kind)
 stored_size version kind small_kind = size_with version kind 0 text_bytes small_kind (lit< tt) (lit< tt)
 
--- a base of version 1 says the same message
+-- a base of version 1 with the same message
 first_version : BaseOf (first_posting ∷ []) 0 (codes "ECHOBAS1" ++ (small 0 ++ (small 1 ++ whole_bytes 0)))
 unfolding head_bytes stored_bytes is_damaged message_in echo_of text_refusal lines begins after_word trimmed kept_of seen_lists path_lists entry_set entries tokens pair_of text_of short_lines is_stub msgid_of posted posted_lines id_of digits date_of
 first_version = record {
@@ -134,7 +134,7 @@ first_version = record {
   messages = refl;
 }
 
--- F1: another beginning, also where little is there
+-- F1: another beginning, also of just a few bytes
 other_beginning : IsNoBase (codes "ECHOBAS3")
 other_beginning = inl refl
 
@@ -148,7 +148,7 @@ seven_bytes = inl (refl, refl, lit< tt)
 no_byte : BaseFaultOf [] (fault.Truncated 0)
 no_byte = inl (refl, refl, lit< tt)
 
--- F2 before F3: a message that would be damaged is not there whole
+-- F2 before F3: a damaged message that is not whole
 cut_before_judged : EndsInside 0 (codes "ECHOBAS2" ++ (small 0 ++ (small 1 ++ fields_bytes 5)))
 unfolding head_bytes stored_bytes
 cut_before_judged = record {
@@ -185,7 +185,7 @@ no_echomail : is_damaged Second 0 [] (record (stored 0) { last = codes "Hello" }
 unfolding is_damaged text_refusal lines begins after_word trimmed
 no_echomail = refl
 
--- received from 0:0/0 is no damage
+-- 0:0/0 as a sender is no damage
 received_from_nobody : is_damaged Second 0 [] (stored 1) ≡ false
 unfolding is_damaged message_in echo_of text_refusal lines begins after_word trimmed kept_of seen_lists path_lists entry_set entries tokens pair_of text_of short_lines
 received_from_nobody = refl
@@ -227,7 +227,7 @@ short_blank_after_id : is_damaged Second 1 [] (record (stored_short 2) { last = 
 unfolding is_damaged trimmed
 short_blank_after_id = refl
 
--- a message of an id line alone is stored in short once it was scanned, and not before
+-- a message with just an id line is stored in short after its scan, and not before
 abbrev of_id : ℕ → List ℕ → Stored
 of_id kind line = record (stored kind) { last = codes "AREA:TEST" ++ 13 ∷ (1 ∷ line ++ 13 ∷ []) }
 

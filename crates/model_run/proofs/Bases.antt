@@ -1,4 +1,4 @@
--- A base and the list of its messages as they were filed.
+-- A base, and its history of filed messages.
 use Rattle.std.proofs.Common.{◌≡◌, ◌≢◌, ◌⊎◌, inl, inr, refl, sym, subst, ap, ◌∙◌, ℕ, zero, suc, ◌≤◌, arith, List, [], ◌∷◌, ◌++◌, length, take, drop, map, Option, Some, None}
 use Rattle.std.specs.Prelude.{true, false, bytes_eq, if◌then◌else◌, unwrap_or, option_map}
 use Rattle.std.specs.List.{list_any}
@@ -20,7 +20,7 @@ use Rattle.model_run.proofs.TosserPremises.{Laws}
 use Rattle.model_run.proofs.Lists.{any-to, any-from, and-parts}
 use Rattle.model_run.proofs.Targets.{some_same}
 
--- a message of the base is the one that was filed, or what a purge leaves of it
+-- a message of the base is the filed message, or its stub
 pub record IsKept (b h : Filed) : Type 0 where
   pub form : (b ≡ h) ⊎ (b ≡ stub_of h)
   pub key : key_of b ≡ key_of h
@@ -29,7 +29,7 @@ pub record IsKept (b h : Filed) : Type 0 where
 IsKept-itself : (m : Filed) → IsKept m m
 IsKept-itself m = record { form = inl refl; key = refl; sender = refl }
 
--- before the cursor each message of the base is kept; from there on the base is what was filed
+-- before the cursor the base keeps each filed message or its stub; from there on it equals the history
 abbrev pub Kept : ℕ → List Filed → List Filed → Type 0
 Kept zero base history = base ≡ history
 Kept (suc c) [] history = ⊥
@@ -47,7 +47,7 @@ same_kept : (base : List Filed) → Kept (length base) base base
 same_kept [] = refl
 same_kept (b ∷ base) = (IsKept-itself b, same_kept base)
 
--- the cursor put at the end
+-- the cursor moves to the end
 pub Kept-scanned : (c : ℕ) (base history : List Filed) → Kept c base history → Kept (length base) base history
 Kept-scanned zero base history k = let P : List Filed → Type 0 = λ ms. Kept (length base) base ms in subst P k (same_kept base)
 Kept-scanned (suc c) [] history k = absurd k
@@ -80,7 +80,7 @@ Kept-count key (suc c) (b ∷ base) (h ∷ history) k =
     let P : Key → ℕ = λ own. if same_key own key then 1 else 0 in
     omega (arith, ap P k.0.key, Kept-count key c base history k.1)
 
--- what was filed has its key in the base
+-- the base has the key of each filed message
 pub Kept-in : (c : ℕ) (base history : List Filed) → Kept c base history → (h : Filed) → Among h history →
     (b : Filed) × Among b base × (key_of b ≡ key_of h)
 Kept-in zero base history k m i = (m, (let P : List Filed → Type 0 = λ ms. Among m ms in subst P (sym k) i), refl)
@@ -92,7 +92,7 @@ Kept-in (suc c) (b ∷ base) (h ∷ history) k m i =
       | inr t ↦ (let (n, j, e) = Kept-in c base history k.1 m t in (n, inr j, e))
     ]
 
--- what the base has was filed with its key
+-- each message of the base was filed with its key
 pub Kept-back : (c : ℕ) (base history : List Filed) → Kept c base history → (b : Filed) → Among b base →
     (h : Filed) × Among h history × IsKept b h
 Kept-back zero base history k m i = (m, (let P : List Filed → Type 0 = λ ms. Among m ms in subst P k i), IsKept-itself m)
@@ -104,7 +104,7 @@ Kept-back (suc c) (b ∷ base) (h ∷ history) k m i =
       | inr t ↦ (let (n, j, e) = Kept-back c base history k.1 m t in (n, inr j, e))
     ]
 
--- what the base has before the cursor was filed before it
+-- each message of the base before the cursor was filed before it
 pub Kept-front : (c : ℕ) (base history : List Filed) → Kept c base history → (b : Filed) → Among b (take c base) →
     (h : Filed) × Among h (take c history) × IsKept b h
 Kept-front zero base history k m i = absurd i
@@ -116,7 +116,7 @@ Kept-front (suc c) (b ∷ base) (h ∷ history) k m i =
       | inr t ↦ (let (n, j, e) = Kept-front c base history k.1 m t in (n, inr j, e))
     ]
 
--- what stands at one place of both
+-- messages at one index of base and history
 pub Kept-at : (c : ℕ) (base history : List Filed) → Kept c base history → (i : ℕ) (b h : Filed) →
     nth i base ≡ Some b → nth i history ≡ Some h → IsKept b h
 Kept-at zero base history k i b h e f =
@@ -160,12 +160,12 @@ module _ (laws : Laws) where
   unfolding purged
   Kept-purged c base history k = purged_kept c base history k
 
--- counts are counts
+-- this count is the count of `Counts`
 pub count-is : (key : Key) (ms : List Filed) → count key ms ≡ counts.count key_of same_key key ms
 count-is key [] = refl
 count-is key (m ∷ ms) = omega (arith, count-is key ms)
 
--- of a system at any time
+-- the invariant of a system
 pub record SystemOk (s : System) : Type 0 where
   pub file : IsFile s.file
   pub kept : Kept s.cursor s.base s.history
@@ -183,14 +183,14 @@ module _ (laws : Laws) (s : System) (ok : SystemOk s) where
       let (b, i, e) = Kept-in s.cursor s.base s.history ok.kept has.0 has.1 in
       any-to (λ m. same_key (key_of m) key) b s.base i (laws.keys.full (key_of b) key (e ∙ has.2))
 
-  -- what is known the history has
+  -- the history has each key that the base knows
   pub known-in_history : (key : Key) → is_known s.base key ≡ true → HasKey key s.history
   known-in_history key known =
       let (b, i, t) = any-from (λ m. same_key (key_of m) key) s.base known in
       let (h, j, e) = Kept-back s.cursor s.base s.history ok.kept b i in
       (h, j, sym e.key ∙ laws.keys.sound (key_of b) key t)
 
-  -- so is the id of a message that the history has
+  -- and the id of a message in the history
   has_id-from_key : (m : Filed) (tag id : List ℕ) → key_of m ≡ ById tag id → has_id id m ≡ true
   unfolding key_of
   has_id-from_key m tag id e = with_id (msgid_of m.echo.kept) e

@@ -1,4 +1,4 @@
--- Control lines in the body of a posting, by computation: they are lines of the body like others, on each hop.
+-- Control lines in the body of a posting, by computation: they are ordinary lines of the body on each hop.
 use Rattle.std.proofs.Common.{◌≡◌, ℕ, List, [], ◌∷◌, ◌++◌, refl, Some, codes, length}
 use Rattle.std.specs.Fmt.{digits}
 use Rattle.echo_addr.specs.Entries.{entries, pair_of, tokens}
@@ -36,7 +36,7 @@ body_lines : body_posting.echo.kept ≡ body_kept
 unfolding posted posted_lines id_of trimmed lines digits
 body_lines = refl
 
--- the id is that of the first MSGID line, and the SEEN-BY line keeps nobody out
+-- the id is that of the first MSGID line, and the SEEN-BY line of the body excludes no link
 body_id : msgid_of body_posting.echo.kept ≡ Some id_text
 unfolding posted posted_lines id_of trimmed lines digits msgid_of begins after_word
 body_id = refl
@@ -45,7 +45,7 @@ body_targets : targets first_file body_posting ≡ system 2 ∷ []
 unfolding posted targets links_of
 body_targets = refl
 
--- the text that goes out
+-- the text in the packet
 abbrev body_out : List ℕ
 body_out =
     codes "AREA:TEST" ++ 13 ∷ (1 ∷ codes "MSGID: 1:10/1 00000001" ++ 13 ∷ (codes "SEEN-BY: 10/2" ++ 13
@@ -78,7 +78,7 @@ body_twice : outcomes second_file [] (system 1) (body_copy ∷ (body_copy ∷ []
 unfolding toss_outcome tossing received text_refusal echo_of lines begins after_word trimmed kept_of seen_lists path_lists entry_set entries tokens pair_of links_of key_of msgid_of
 body_twice = refl
 
--- and the last one too, with the same lines
+-- and so does the last one, with the same lines
 abbrev third_file : LinkFile
 third_file = record {
   system = system 3;

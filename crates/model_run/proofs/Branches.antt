@@ -1,4 +1,4 @@
--- A posting spreads in branches, one for each link of the poster: links join no two branches but at those links.
+-- A posting spreads in branches, one for each link of the poster; links join two branches only at those links.
 use Rattle.std.proofs.Common.{◌≡◌, ◌≢◌, ◌⊎◌, inl, inr, refl, sym, subst, ap, ◌∙◌, ℕ, zero, suc, ◌≤◌, arith, IsTrue, List, [], ◌∷◌, ◌++◌, length, Some}
 use Rattle.std.specs.Prelude.{Bool, true, false}
 use Rattle.echo_addr.specs.declared.address.Address.{Address}
@@ -10,7 +10,7 @@ use Rattle.model_steps.specs.Scanning.{is_seen_by}
 use Rattle.model_run.proofs.Lists.{not_both, yes_or_no}
 use Rattle.model_run.proofs.Spreads.{Came, IsNear, Spread, came_from, first_seen, from_poster, longer, near-is, one_or_two, source}
 
--- the second entry of a path, or the entry of the system itself where it has none
+-- the second entry of a path, or the system's entry if there is none
 abbrev pub second : NetNode → List NetNode → NetNode
 second own [] = own
 second own (e ∷ []) = own
@@ -21,7 +21,7 @@ second-more own e g [] = refl
 second-more own e g (h ∷ []) = refl
 second-more own e g (h ∷ k ∷ path) = refl
 
--- the first system that the message went to from the poster: it stands second in PATH, or holds the message itself
+-- the first system after the poster on the message's way: the second entry of PATH, or the holder itself
 abbrev branch : Address → Filed → NetNode
 branch x m = second (net_node_of x) m.echo.path
 
@@ -31,7 +31,7 @@ module _ (linked : Address → Address → Bool) (Carrier : Address → Type 0) 
     (apart : (a b : Address) → Carrier a → Carrier b → net_node_of a ≡ net_node_of b → a ≡ b) where
   open spread use {posting}
 
-  -- what comes from a system other than the poster is of its branch
+  -- a message from a system other than the poster keeps its branch
   same_branch : (x : Address) (m : Filed) (c : Came linked Holds x m) → c.from ≢ f → branch x m ≡ branch c.from c.original
   same_branch x m c other =
       elim (source linked Carrier f Holds spread c.from c.original c.holds) [
@@ -54,7 +54,7 @@ module _ (linked : Address → Address → Bool) (Carrier : Address → Type 0) 
       let none : c.original.echo.path ≡ [] = ap (λ (n : Filed). n.echo.path) is_posting ∙ spread.no_path in
       ap (λ (es : List NetNode). second (net_node_of x) es) (c.path ∙ ap (λ (es : List NetNode). es ++ net_node_of c.from ∷ []) none)
 
-  -- whom a system sends the message is of its branch
+  -- a system other than the poster sends a message within its branch
   sent_on : (u : Address) (n : Filed) → Holds u n → u ≢ f → (y : Address) (k : Filed) → Holds y k → IsTrue (linked u y) →
       is_seen_by n y ≡ false → branch u n ≡ branch y k
   sent_on u n at_u u_other y k at_y link unseen =
@@ -67,7 +67,7 @@ module _ (linked : Address → Address → Bool) (Carrier : Address → Type 0) 
       let Q : Address → Type 0 = λ a. branch a c.original ≡ branch u c.original in
       sym (same_branch y k c (λ e. u_other (sym from ∙ e)) ∙ (subst Q (sym from) refl ∙ ap (λ (m : Filed). branch u m) same))
 
-  -- who stands in SEEN-BY is a link of the poster or of the branch
+  -- a system in SEEN-BY is a link of the poster, or belongs to the branch
   module _ (y : Address) (k : Filed) (at_y : Holds y k) (y_other : y ≢ f) where
     seen_side : (n : ℕ) (x : Address) (m : Filed) → length m.echo.path ≤ n → Holds x m → x ≢ f → is_seen_by m y ≡ true →
         IsTrue (linked f y) ⊎ (branch x m ≡ branch y k)
@@ -132,7 +132,7 @@ module _ (linked : Address → Address → Bool) (Carrier : Address → Type 0) 
         ]
       ]
 
--- d is a, or a link of it
+-- d is a or a link of a
 abbrev pub Touches : (Address → Address → Bool) → Address → Address → Type 0
 Touches linked a d = (d ≡ a) ⊎ IsTrue (linked a d)
 
@@ -146,7 +146,7 @@ touches-cases linked a d =
       ]
     ]
 
--- of two links of b that are linked with each other c touches both or neither, where b is all that is linked so
+-- of two linked links of b, c touches both or neither, if c is in no kite
 pub closed-by : (linked : Address → Address → Bool) (b c : Address) → ¬ IsTrue (linked b b) →
     ((x y : Address) → IsTrue (linked c x) → IsTrue (linked b y) → IsTrue (linked x y) → y ≢ c → ¬ IsTrue (linked c y) → b ≡ x) →
     (x y : Address) → IsTrue (linked b x) → IsTrue (linked b y) → IsTrue (linked x y) → Touches linked c x → Touches linked c y
@@ -167,7 +167,7 @@ module _ (linked : Address → Address → Bool) (Carrier : Address → Type 0) 
     (known : (a b : Address) → IsTrue (linked a b) → Carrier b)
     (apart : (a b : Address) → Carrier a → Carrier b → net_node_of a ≡ net_node_of b → a ≡ b) (a : Address)
     (closed : (x y : Address) → IsTrue (linked f x) → IsTrue (linked f y) → IsTrue (linked x y) → Touches linked a x → Touches linked a y) where
-  -- a system of a branch whose first system is a, or a link of it
+  -- a system that holds a message of a branch; the branch begins with a or a link of a
   record IsClose (x : Address) : Type 0 where
     message : Filed
     holds : Holds x message

@@ -52,7 +52,7 @@ both a b h =
 simple : Simple linked
 simple = record { both_ways = both; no_self = λ a h. elim (chain-parts a a h).2 [ inl e ↦ omega (arith, e) | inr e ↦ omega (arith, e) ] }
 
--- of three in a row that differ the one between is 1
+-- of three different systems in a row the middle one is 1
 middle : (a b c : ℕ) → IsTrue (linked a b) → IsTrue (linked b c) → a ≢ c → b ≡ 1
 middle a b c to_b to_c other =
     let (a_below, b_below, near) = chain-parts a b to_b in
@@ -70,7 +70,7 @@ no-cycle first (b ∷ c ∷ rest) cycle =
     let at_b = middle first b c walk.0 walk.1.0 (λ e. cycle.different.0 (inr (inl e))) in
     behind rest last walk.1.1 back cycle.different.1 at_b walk.1.0
   where
-    -- then c, between b and what is behind it, is 1 too
+    -- then c, between b and its next member, is 1 too
     behind : (rest : List ℕ) (last : ℕ) → Walk linked c rest last → IsTrue (linked last first) → Different (b ∷ c ∷ rest) → b ≡ 1 →
         IsTrue (linked b c) → ⊥
     behind [] last walk back different at_b link =

@@ -1,4 +1,4 @@
--- The link files change, where the area has settled or the change is one of other areas.
+-- The link files change after the area has settled, or only in other areas.
 use Rattle.std.proofs.Common.{◌≡◌, ◌≢◌, ◌⊎◌, inl, inr, refl, sym, subst, ap, ◌∙◌, ℕ, List, [], ◌++◌, take, drop, map}
 use Rattle.std.specs.Prelude.{Bool, true}
 use Rattle.std.proofs.lemmas.List.{take-append-drop}
@@ -33,7 +33,7 @@ use Rattle.model_run.proofs.OverChanges.{Outlives, change-outlives, events-outli
 use Rattle.model_run.proofs.Unchanged.{one-message}
 use Rattle.model_run.proofs.HarmLists.{among-nth}
 
--- systems that get other files filed the same
+-- systems with new files filed the same messages
 module _ (tag : List ℕ) (part : System → List Filed) (keeps : (s z : System) → Renewed s z → part z ≡ part s) (systems : List System) (files : List LinkFile)
     (same : SameSystems systems files) (m : RFiled) where
   renewed-filed : IsFiledIn tag part systems m → IsFiledIn tag part (with_files files systems) m
@@ -80,7 +80,7 @@ history-renewed tag run files same events history = record {
     scanned s z r = ap (λ (n : ℕ). take n z.history) r.cursor ∙ ap (λ (ms : List Filed). take s.cursor ms) r.history
 
 module _ (laws : Laws) (tag : List ℕ) where
-  -- a run of tidy files, and what has passed
+  -- a run of tidy files, and its past
   pub record Stands (files : List LinkFile) (run : Run) : Type 0 where
     pub tidy : Tidy files tag
     pub past : List REvent
@@ -99,7 +99,7 @@ module _ (laws : Laws) (tag : List ℕ) where
       sym (map-map (λ (file : LinkFile). file.system) (λ (s : System). s.file) run.systems)
       ∙ (ap (λ (fs : List LinkFile). addresses fs) same_files ∙ same)
 
-  -- where the area has settled, so have the events
+  -- if the area has settled, so have the events
   pub all-settled : (files : List LinkFile) (run : Run) (st : Stands files run) → Settled run tag → IsSettled (st.standing.recent ++ st.past)
   all-settled files run st settled =
       let at = st.standing in
@@ -147,7 +147,7 @@ module _ (laws : Laws) (tag : List ℕ) where
     same-net : SameArea tag files next → net_of files tag ≡ net_of next tag
     same-net area = λ i. record { carries = λ a. area.carriers a i; linked = λ a b. area.links a b i; net_node = net_node_of }
 
-    -- what passed until now is a past, or the past stays
+    -- the events up to now become the past, or the past stays
     pub entered : Settled run tag ⊎ SameArea tag files next → Stands next changed
     entered (inl settled) =
         let at = st.standing in
@@ -167,7 +167,7 @@ module _ (laws : Laws) (tag : List ℕ) where
       let begun = entered files run epoch.files st change.fit change.tidy (same-systems files run epoch.files st.standing.same_files change.same) change.settled in
       record { tidy = begun.tidy; past = begun.past; standing = events-stand laws epoch.files tag begun.tidy begun.past epoch.events (changed_to run epoch.files) begun.standing }
 
-  -- some system has posted it
+  -- some system has posted the message
   abbrev pub Posted : Run → Filed → Type 0
   Posted run m = (f : System) × Among f run.systems × Among m f.history × IsPosting tag m
 
@@ -181,13 +181,13 @@ module _ (laws : Laws) (tag : List ℕ) where
   abbrev pub IsNewKey : List REvent → Key → Type 0
   IsNewKey past k = (n : RFiled) → Among n (rules.filed past) → k ≢ n.text.key
 
-  -- what is owed of a posting: in the past just those got it who had the area (`was`), or it is new and just these have the area
+  -- exactly the systems with `was` got the posting in the past, or it is new and exactly they have the area
   pub record Owed (was : Address → Type 0) (files : List LinkFile) (past : List REvent) (run : Run) (m : Filed) : Type 0 where
     pub posted : Posted run m
     pub due : Given was past (key_of m) ⊎ (IsNewKey past (key_of m) × ((a : Address) → was a → Carries files tag a) × ((a : Address) → Carries files tag a → was a))
 
   module _ (was : Address → Type 0) (m : Filed) (files : List LinkFile) (run : Run) (st : Stands files run) (owed : Owed was files st.past run m) where
-    -- it was filed by the events
+    -- the events filed it
     abbrev at : Standing files tag st.past run
     at = st.standing
 
@@ -210,7 +210,7 @@ module _ (laws : Laws) (tag : List ℕ) where
     still : Given was st.past (key_of m) → Given was whole (key_of m)
     still given = still-given (can laws) (can_keys laws) (net_of files tag) (tidy-net laws files tag st.tidy) Equal equal-compares st.past at.recent at.since was (key_of m) given
 
-    -- where all has settled it is given
+    -- if all has settled, the receivers got it
     pub paid : Settled run tag → Given was whole (key_of m)
     paid settled = elim owed.due [
       | inl given ↦ still given
@@ -218,7 +218,7 @@ module _ (laws : Laws) (tag : List ℕ) where
           (all-settled files run st settled) owed.posted.3.own was new.1 new.2
     ]
 
-    -- the others never have it
+    -- other systems never have it
     pub spared : (a : Address) → ¬ was a → (¬ rules.Has a (key_of m) (rules.filed whole)) × (¬ Among (a, key_of m) (map goal (rules.copies whole)))
     spared a without = elim owed.due [
       | inl given ↦ (still given).to_others a without
@@ -226,7 +226,7 @@ module _ (laws : Laws) (tag : List ℕ) where
           p (recent-p new.0) a (λ c. without (new.2 a c))
     ]
 
-    -- what is owed stays so over a change and an epoch
+    -- a posting keeps its receivers over a change and an epoch
     pub owed-epoch : (epoch : Epoch) (change : Change files run epoch.files) → Owed was epoch.files (stands-epoch files run epoch st change).past (after_epoch run epoch) m
     unfolding entered stands-epoch
     owed-epoch epoch change = record {
@@ -255,7 +255,7 @@ module _ (laws : Laws) (tag : List ℕ) where
           )
         ]
 
-  -- what was posted in an epoch is owed to those who have the area in it
+  -- the receivers of a posting of an epoch are the systems with the area in it
   pub owed-begins : (files : List LinkFile) (begun : Run) (st : Stands files begun) (after : Run) (at : Standing files tag st.past after) → Outlives begun after → (before : Run) →
       ((z : System) → Among z begun.systems → (m : Filed) → Among m z.history → (s : System) × Among s before.systems × (address_of s ≡ address_of z) × Among m s.history) →
       (m : Filed) → PostedBetween tag before after m → Owed (Carries files tag) files st.past after m

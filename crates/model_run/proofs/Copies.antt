@@ -1,4 +1,4 @@
--- What stands in the packets of a scan.
+-- The contents of the packets of a scan.
 use Rattle.std.proofs.Common.{◌≡◌, ◌≢◌, inl, inr, refl, sym, subst, ap, ◌∙◌, ℕ, List, [], ◌∷◌, ◌++◌, map, Option, Some, None}
 use Rattle.std.specs.Prelude.{Bool, true, false, filter, not, ◌&&◌, is_none, unwrap_or, option_map}
 use Rattle.std.specs.List.{flat_map}
@@ -24,7 +24,7 @@ use Rattle.model_run.proofs.TosserPremises.{Laws}
 use Rattle.model_run.proofs.Lists.{not_both, yes_or_no, and-parts, and-from, any-to, any-from, filter-yes, Among-filter_from, Among-filter_to}
 use Rattle.model_run.specs.Keeping.{content_of}
 
--- the copy of a message, as whoever gets it files it
+-- the copy of a message, as its receiver files it
 unfoldable pub copied : LinkFile → Filed → Filed
 copied file m = record {
   sender = Some file.system;
@@ -98,7 +98,7 @@ module _ (laws : Laws) (file : LinkFile) where
   unfolding packet_to header_to
   packet-destination stamp waiting address = refl
 
-  -- who is a target
+  -- the address is a target
   pub record Targeted (m : Filed) (a : Address) : Type 0 where
     pub link : is_link file m.echo.tag a ≡ true
     pub not_sender : m.sender ≢ Some a

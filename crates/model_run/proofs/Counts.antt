@@ -1,4 +1,4 @@
--- How many messages of a list have a key.
+-- The number of messages in a list with a key.
 use Rattle.std.proofs.Common.{◌≡◌, ◌≢◌, ◌⊎◌, inl, inr, refl, sym, subst, ap, ◌∙◌, ℕ, ◌+◌, ◌≤◌, arith, Bool, IsTrue, List, [], ◌∷◌, ◌++◌, cond, map}
 use Rattle.std.specs.Prelude.{true, false}
 use Rattle.std.proofs.lemmas.Bool.{cases_Bool, both_ways}
@@ -16,7 +16,7 @@ Tells-can same tells a b =
       | inr f ↦ inr (λ e. both_ways (same a b) f (tells.full a b e))
     ]
 
--- 1 where the test says yes
+-- 1 if the test says yes
 abbrev pub one_if : Bool → ℕ
 one_if b = cond b 1 0
 
@@ -33,7 +33,7 @@ one_if-most true = omega arith
 one_if-most false = omega arith
 
 module _ {K M : Type 0} (key : M → K) (same : K → K → Bool) where
-  -- how many of the messages have the key
+  -- the number of messages with the key
   abbrev pub count : K → List M → ℕ
   count k [] = 0
   count k (m ∷ ms) = one_if (same (key m) k) + count k ms
@@ -61,7 +61,7 @@ module _ {K M : Type 0} (key : M → K) (same : K → K → Bool) (tells : Tells
   count-none k [] h = refl
   count-none k (x ∷ ms) h = omega (arith, none k x (h x (inl refl)), count-none k ms (λ m i. h m (inr i)))
 
-  -- none has the key, or one has
+  -- no message has the key, or some message has it
   pub count-cases : (k : K) (ms : List M) → (count key same k ms ≡ 0) ⊎ ((m : M) × Among m ms × (key m ≡ k))
   count-cases k [] = inl refl
   count-cases k (x ∷ ms) =
@@ -73,7 +73,7 @@ module _ {K M : Type 0} (key : M → K) (same : K → K → Bool) (tells : Tells
         ]
       ]
 
-  -- a key that is there at most once names one message
+  -- a key that occurs at most once names one message
   pub count-names_one : (k : K) (ms : List M) → count key same k ms ≤ 1 → (a b : M) → Among a ms → Among b ms →
       key a ≡ k → key b ≡ k → a ≡ b
   count-names_one k [] h a b at_a at_b e q = absurd at_a
@@ -90,7 +90,7 @@ module _ {K M : Type 0} (key : M → K) (same : K → K → Bool) (tells : Tells
         ]
       ]
 
-  -- where no two are alike a key is there at most once
+  -- if no two messages are alike, a key occurs at most once
   pub count-different : (k : K) (ms : List M) → Different (map key ms) → count key same k ms ≤ 1
   count-different k [] d = omega arith
   count-different k (x ∷ ms) d =

@@ -1,4 +1,4 @@
--- What a system keeps by itself it keeps in every run.
+-- An invariant of each single system holds in every run.
 use Rattle.std.proofs.Common.{refl, subst, sym, ℕ, List, [], ◌∷◌, length, Option, Some, None}
 use Rattle.std.specs.Prelude.{Bool, true, false, ◌++◌, take, if◌then◌else◌}
 use Rattle.echo_addr.specs.declared.address.Address.{Address}
@@ -70,7 +70,7 @@ module _ (P : System → Type 0) (filed : (s : System) (o : Option Filed) → P 
       let (file, i, e) = Among-map_from fresh s files h in
       subst P (sym e) (begins file))
 
--- bases are what was filed
+-- the base equals the history, or has stubs for it
 abbrev pub IsBaseKept : System → Type 0
 IsBaseKept s = Kept s.cursor s.base s.history
 

@@ -1,4 +1,4 @@
--- Targets of a message, and what an exported copy lists.
+-- Targets of a message, and the entries of an exported copy.
 use Rattle.std.proofs.Common.{◌≡◌, ◌≢◌, ◌⊎◌, inl, inr, refl, sym, subst, ap, ℕ, List, [], ◌∷◌, ◌++◌, map, Option, Some, None}
 use Rattle.std.specs.Prelude.{Bool, true, false, not, ◌&&◌, option_map, unwrap_or}
 use Rattle.echo_addr.specs.declared.address.Address.{Address}
@@ -20,7 +20,7 @@ not-true : (b : Bool) → not b ≡ true → b ≡ false
 not-true true e = absurd (not_both false e refl)
 not-true false e = refl
 
--- whether an address is a link, and among the links
+-- an address that is a link is among the links
 pub link-among : (file : LinkFile) (tag : List ℕ) (a : Address) → is_link file tag a ≡ true → Among a (links_of file tag)
 link-among file tag a h =
     let (b, i, e) = any-from (same_address a) (links_of file tag) h in
@@ -30,7 +30,7 @@ link-among file tag a h =
 pub among-link : (file : LinkFile) (tag : List ℕ) (a : Address) → Among a (links_of file tag) → is_link file tag a ≡ true
 among-link file tag a h = any-to (same_address a) a (links_of file tag) h ((same_address_decides a a).1 refl)
 
--- a target is a link that does not stand in SEEN-BY
+-- a target is a link that is not in SEEN-BY
 pub target-link : (file : LinkFile) (m : Filed) (a : Address) → Among a (targets file m) → Among a (links_of file m.echo.tag)
 unfolding targets
 target-link file m a h = (Among-filter_from (λ link. not (is_sender m link) && not (is_seen_by m link)) a (links_of file m.echo.tag) h).0
@@ -96,7 +96,7 @@ pub exported-tag : (file : LinkFile) (e : EchoText) → (exported file e).tag �
 unfolding exported
 exported-tag file e = refl
 
--- an entry stands in SEEN-BY
+-- a seen address has its entry in SEEN-BY
 pub seen-among : (m : Filed) (a : Address) → is_seen_by m a ≡ true → Among (net_node_of a) m.echo.seen
 seen-among m a h =
     let (n, i, e) = any-from (same_entry (net_node_of a)) m.echo.seen h in

@@ -1,5 +1,5 @@
--- Nets whose link files change, by computation: one that stays in order, and for each premise of the law on
--- such nets a run that misses it and is not orderly.
+-- Nets with changing link files, by computation: one that stays in order, and for each premise of the law on such nets
+-- a run that misses it and is not orderly.
 use Rattle.std.proofs.Common.{◌≡◌, ℕ, List, [], ◌∷◌, refl, codes, map}
 use Rattle.std.specs.Prelude.{Bool, true, filter}
 use Rattle.std.specs.Fmt.{digits}
@@ -48,7 +48,7 @@ by_second = key_by (codes "1:10/2 00000002")
 abbrev post_again : ℕ → RunEvent
 post_again i = Posting i (codes "TEST") draft 2 stamp
 
--- how often each system filed the key, how often each was sent it, and whether all has settled
+-- the number of times each system filed the key and was sent it, and whether all has settled
 record Shown : Type 0 where
   filed_there : List ℕ
   sent_there : List ℕ
@@ -84,8 +84,8 @@ chain_anew = file 1 (3 ∷ []) ∷ (file 2 (3 ∷ []) ∷ (file 3 (1 ∷ (2 ∷ 
 abbrev on_its_way : Run
 on_its_way = run_of_epochs (epoch chain (post 0 ∷ (scan 0 ∷ [])) ∷ (epoch chain_anew (Delivery 0 ∷ (scan 1 ∷ (scan 2 ∷ []))) ∷ []))
 
--- the star of 1:10/1 with 1:10/2 and 1:10/3, to which 1:10/4 comes, and all are linked with all, while both
--- packets are on their way
+-- the star of 1:10/1 with 1:10/2 and 1:10/3; then 1:10/4 joins, and all are linked with all, while both packets are on
+-- their way
 abbrev star : List LinkFile
 star = file 1 (2 ∷ (3 ∷ [])) ∷ (file 2 (1 ∷ []) ∷ (file 3 (1 ∷ []) ∷ (without 4 ∷ [])))
 
@@ -100,15 +100,15 @@ sent_by_two = run_of_epochs (
     ∷ (epoch all_linked (Delivery 0 ∷ (Delivery 1 ∷ (scan 1 ∷ (scan 2 ∷ [])))) ∷ [])
     )
 
--- the pair, of which 1:10/2 no longer lists the other one
+-- the pair; 1:10/2 no longer lists the other system
 abbrev one_lists : List LinkFile
 one_lists = file 1 (2 ∷ []) ∷ (file 2 [] ∷ (without 3 ∷ []))
 
 abbrev untidy_since : Run
 untidy_since = run_of_epochs (epoch pair [] ∷ (epoch one_lists (post 0 ∷ (scan 0 ∷ (Delivery 0 ∷ []))) ∷ []))
 
--- a system that begins anew with an empty base, at the address of one that moved to another address, and
--- that posts with a serial that was used there
+-- a system starts over with an empty base, at the address of one that moved to another address; it posts with a
+-- serial used there before
 abbrev anew : List LinkFile
 anew = without 9 ∷ (file 2 (1 ∷ []) ∷ (without 3 ∷ (file 1 (2 ∷ []) ∷ [])))
 
@@ -121,21 +121,21 @@ begun_anew = run_of_epochs (
     ∷ (epoch anew (Posting 3 (codes "TEST") other_draft 1 stamp ∷ (scan 3 ∷ (Delivery 1 ∷ []))) ∷ [])
     )
 
--- the subjects of what each system filed with the key
+-- the subjects of the messages that each system filed with the key
 abbrev subjects : Key → Run → List (List (List ℕ))
 subjects key run = map (λ s. map (λ m. m.subject) (filter (λ m. same_key (key_of m) key) s.history)) run.systems
 
 record Epochs : Type 0 where
-  -- late packets change nothing, who left is sent nothing more, and who joins nothing of former times
+  -- late packets change nothing; a system that left is sent nothing more, and a new one nothing from before
   first_stays : shown first in_order ≡ line (1 ∷ (1 ∷ (0 ∷ []))) (0 ∷ (1 ∷ (0 ∷ []))) true
   second_came : shown by_second in_order ≡ line (0 ∷ (1 ∷ (1 ∷ []))) (0 ∷ (0 ∷ (1 ∷ []))) true
   -- a change while a packet is on its way: two systems are never served
   not_served : shown first on_its_way ≡ line (1 ∷ (0 ∷ (0 ∷ []))) (0 ∷ (1 ∷ (0 ∷ []))) true
-  -- or one is sent a message twice
+  -- or one system is sent a message twice
   sent_twice : sent_count (address 4) first sent_by_two.packets ≡ 2
-  -- a change to files that are not tidy: what comes is not filed
+  -- a change to files that are not tidy: the arriving message is not filed
   not_linked : shown first untidy_since ≡ line (1 ∷ (0 ∷ (0 ∷ []))) (0 ∷ (1 ∷ (0 ∷ []))) true
-  -- a system begun anew: its posting is taken for the old one, which 1:10/2 has
+  -- a system that starts over: 1:10/2 takes its posting for the old one with that key
   taken_for_old : subjects first begun_anew ≡ (codes "00000001" ∷ []) ∷ ((codes "00000001" ∷ []) ∷ ([] ∷ ((codes "Other" ∷ []) ∷ [])))
   and_settled : is_settled begun_anew ≡ true
 

@@ -1,5 +1,5 @@
--- A net whose links change where all has settled: a past that has settled, and what happened since, by the
--- rules in the net of now.
+-- A net with changes of links after all has settled: a settled past, and the events since then by the rules of the
+-- present net.
 use Rattle.std.proofs.Common.{◌≡◌, ◌≢◌, ◌⊎◌, inl, inr, refl, sym, subst, ap, ◌∙◌, IsTrue, List, [], ◌∷◌, ◌++◌, append_assoc, map, Some, None}
 use Rattle.std.specs.Prelude.{true, false}
 use Rattle.std.proofs.lemmas.List.{map-append}
@@ -14,7 +14,7 @@ use Rattle.model_run.proofs.RulesLists.{Among-map_from, Among-map_to, Different-
 use Rattle.model_run.proofs.Runs.{ByRules, always, every_run-orderly, nothing-by_rules}
 
 module _ {A N K C : Type 0} where
-  -- what is read off two lists of events, one after the other
+  -- each list read off two lists of events, one after the other
   pub filed-append : (xs ys : List (Event A N K C)) → filed (xs ++ ys) ≡ filed xs ++ filed ys
   filed-append [] ys = refl
   filed-append (Posts at text ∷ xs) ys = ap (λ (fs : List (Filed A N K C)). record { at = at; sender = None; text = text } ∷ fs) (filed-append xs ys)
@@ -41,7 +41,7 @@ module _ {A N K C : Type 0} where
   came-append (Exports m to text ∷ xs) ys = came-append xs ys
   came-append (Comes copy is_filed ∷ xs) ys = ap (λ (cs : List (Copy A N K C)). copy ∷ cs) (came-append xs ys)
 
-  -- what came was sent
+  -- each copy that came was sent
   came-sent : (net : Net A N) (run : List (Event A N K C)) → Always (IsPossible net) run → (c : Copy A N K C) → Among c (came run) → Among c (copies run)
   came-sent net [] h c i = i
   came-sent net (Posts at text ∷ run) h c i = came-sent net run h.1 c i
@@ -52,7 +52,7 @@ module _ {A N K C : Type 0} where
         | inr t ↦ came-sent net run h.1 c t
       ]
 
--- what was filed or sent in two times, one after the other
+-- messages filed or sent in two eras, one after the other
 module _ {A N K C : Type 0} (recent past : List (Event A N K C)) where
   pub filed-cases : (m : Filed A N K C) → Among m (filed (recent ++ past)) → Among m (filed recent) ⊎ Among m (filed past)
   filed-cases m h =
@@ -100,7 +100,7 @@ module _ {A N K C : Type 0} (Same : C → C → Type 0) where
     same = λ m p h i own e. absurd h;
   }
 
-  -- what happened since: no posting of it has a key of the past
+  -- the events since then: no posting among them has a key of the past
   pub record Since (net : Net A N) (past recent : List (Event A N K C)) : Type 0 where
     pub rest : Rest past
     pub by_rules : ByRules net Same recent
@@ -109,7 +109,7 @@ module _ {A N K C : Type 0} (Same : C → C → Type 0) where
   pub begins : (net : Net A N) (past : List (Event A N K C)) → Rest past → Since net past []
   begins net past rest = record { rest = rest; by_rules = nothing-by_rules K C net Same; apart = λ p h own m i. absurd h }
 
--- in the past just these got what has this key
+-- in the past exactly the systems with `was` got the message with this key
 pub record Given {A N K C : Type 0} (was : A → Type 0) (past : List (Event A N K C)) (k : K) : Type 0 where
   pub someone : (m : Filed A N K C) × Among m (filed past) × (m.text.key ≡ k)
   pub to_all : (a : A) → was a → Has a k (filed past)
@@ -123,7 +123,7 @@ module _ {A N K C : Type 0} (can : CanTell A) (can_keys : CanTell K) (net : Net 
   pub inv : Invariant net Same (view_of recent)
   inv = always can can_keys net tidy Same compares recent since.by_rules
 
-  -- whose keys are of which time
+  -- keys of recent messages differ from those of the past
   pub filed-apart : (m : Filed A N K C) → Among m (filed recent) → (n : Filed A N K C) → Among n (filed past) → m.text.key ≢ n.text.key
   filed-apart m h n i e =
       let good = inv.good m h in
@@ -144,7 +144,7 @@ module _ {A N K C : Type 0} (can : CanTell A) (can_keys : CanTell K) (net : Net 
       let (n, k, q) = Among-map_from place g (filed past) i in
       filed-apart m j n k (ap (λ (g : A × K). g.1) (sym e ∙ q)))))
 
-  -- a goal of now is none of the past
+  -- no recent goal is a goal of the past
   goals-apart : (c d : Copy A N K C) → Among c (copies recent) → Among d (copies past) → goal c ≢ goal d
   goals-apart c d h i e =
       let (n, j, at, key) = since.rest.known d i in
@@ -198,7 +198,7 @@ module _ {A N K C : Type 0} (can : CanTell A) (can_keys : CanTell K) (net : Net 
     ]
   ]
 
-  -- where the whole has settled, so has what happened since
+  -- if the whole has settled, so have the recent events
   module _ (settled : IsSettled whole) where
     exported-now : (m : Filed A N K C) → Among m (filed recent) → Among m (exported recent)
     exported-now m h =
@@ -220,13 +220,13 @@ module _ {A N K C : Type 0} (can : CanTell A) (can_keys : CanTell K) (net : Net 
     pub settled-now : IsSettled recent
     settled-now = record { all_exported = exported-now; all_came = came-now }
 
-    -- each system with the area has what was posted since
+    -- each system with the area has each recent posting
     pub all-have : (p : Filed A N K C) → Among p (filed recent) → p.sender ≡ None → (x : A) → IsTrue (net.carries x) → Has x p.text.key (filed whole)
     all-have p h own x at_x =
         let (m, i, at, key, same) = (every_run-orderly can can_keys net tidy Same compares recent since.by_rules.0 since.by_rules.1).all_filed settled-now p h own x at_x in
         (m, filed-recent recent past m i, at, key)
 
-    -- and all of it is a past
+    -- and the whole is a past
     pub rests : Rest Same whole
     rests = record {
       filed_once = whole-filed_once;
@@ -253,7 +253,7 @@ module _ {A N K C : Type 0} (can : CanTell A) (can_keys : CanTell K) (net : Net 
       same = whole-same;
     }
 
-  -- what is given stays so
+  -- a message given in the past is given in the whole
   pub still-given : (was : A → Type 0) (k : K) → Given was past k → Given was whole k
   still-given was k given =
       let (m, i, key) = given.someone in
@@ -274,7 +274,7 @@ module _ {A N K C : Type 0} (can : CanTell A) (can_keys : CanTell K) (net : Net 
         );
       }
 
-  -- what was posted since no system without the area has or was sent
+  -- no system without the area has or was sent a recent posting
   module _ (p : Filed A N K C) (at_p : Among p (filed recent)) where
     pub not-given : (a : A) → ¬ IsTrue (net.carries a) → (¬ Has a p.text.key (filed whole)) × (¬ Among (a, p.text.key) (map goal (copies whole)))
     not-given a without = (
@@ -290,7 +290,7 @@ module _ {A N K C : Type 0} (can : CanTell A) (can_keys : CanTell K) (net : Net 
           ]),
     )
 
-    -- and where all has settled, each with the area has it
+    -- if all has settled, each system with the area has it
     pub given-now : IsSettled whole → p.sender ≡ None → (was : A → Type 0) → ((a : A) → was a → IsTrue (net.carries a)) → ((a : A) → IsTrue (net.carries a) → was a) →
         Given was whole p.text.key
     given-now settled own was to back = record {

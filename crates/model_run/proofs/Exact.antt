@@ -1,4 +1,4 @@
--- Where each carrier's posting does no harm, the area is tidy: so an area is tidy, or some posting does harm.
+-- If no carrier's posting does harm, the area is tidy. So an area is tidy, or some posting does harm.
 use Rattle.std.proofs.Common.{◌≡◌, ◌≢◌, ◌⊎◌, inl, inr, sym, subst, ap, ◌∙◌, ℕ, zero, suc, ◌<◌, arith, IsTrue, List, ◌∷◌, length, Some}
 use Rattle.std.specs.Prelude.{Bool, true}
 use Rattle.std.proofs.lemmas.Bool.{cases_eq}
@@ -44,7 +44,7 @@ module _ (files : List LinkFile) (known : LawsOfRuns files) (tag : List ℕ) (on
         Spread linked (Carries files tag) file.system (Held i file is area)
     spread-at i file is area = spread files known tag one_file all_known i file is area (moves i) (rests i).only_moves (none i file is area)
 
-    -- what is true of the poster wherever a posting spreads is true of each carrier
+    -- a property of the poster of every posting that spreads holds of each carrier
     of_carriers : (P : Address → Type 0) →
         ((f : Address) (Has : Address → Filed → Type 0) → Spread linked (Carries files tag) f Has → P f) → (a : Address) → Carries files tag a → P a
     of_carriers P each a carries =
@@ -61,14 +61,14 @@ module _ (files : List LinkFile) (known : LawsOfRuns files) (tag : List ℕ) (on
     connected a b at_a at_b =
         of_carriers (λ f. Reaches linked f b) (λ f Has spreads. reached linked (Carries files tag) f Has spreads b at_b) a at_a
 
-    -- a poster is sent nothing of its own
+    -- a poster is not sent its own posting
     pub no_self : (a : Address) → ¬ IsTrue (linked a a)
     no_self a link =
         of_carriers (λ f. (IsTrue (linked f f) → ⊥))
         (λ f Has spreads to_self. none_some (sym spreads.own ∙ from_poster linked (Carries files tag) f Has spreads f spreads.posting to_self spreads.at_poster))
         a (lister-carries files tag a a link) link
 
-    -- nobody is hidden in a SEEN-BY from the first
+    -- the first SEEN-BY hides no carrier
     open_to : (a y : Address) → Carries files tag a → Carries files tag y → IsNear linked a y → y ≢ a → IsTrue (linked a y)
     open_to a y at_a at_y near other =
         of_carriers (λ f. (IsNear linked f y → y ≢ f → IsTrue (linked f y)))
@@ -90,7 +90,7 @@ module _ (files : List LinkFile) (known : LawsOfRuns files) (tag : List ℕ) (on
       simple : Simple linked
       simple = record { both_ways = both; no_self = no_self }
 
-      -- of the links of b those that c touches are linked with no others
+      -- of two linked links of b, c touches both or neither
       closed : (b c : Address) → IsTrue (linked b c) → (x y : Address) → IsTrue (linked b x) → IsTrue (linked b y) → IsTrue (linked x y) →
           Touches linked c x → Touches linked c y
       closed b c to_c = closed-by linked b c (no_self b) (λ x y near to_y side other unlinked.

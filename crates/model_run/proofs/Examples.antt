@@ -50,14 +50,14 @@ posting_of serial = posted first_file (codes "TEST") draft serial stamp
 abbrev pub first_posting : Filed
 first_posting = posting_of 1
 
--- its parts
+-- the parts of the message
 abbrev pub date_bytes : List ℕ
 date_bytes = codes "03 Jul 26  12:34:56" ++ 0 ∷ []
 
 abbrev pub id_text : List ℕ
 id_text = codes "1:10/1 00000001"
 
--- its kept lines in a text, where its id ends in this digit
+-- its kept lines in a text, with an id that ends in this digit
 abbrev pub kept_text : ℕ → List ℕ
 kept_text digit =
     1 ∷ codes "MSGID: 1:10/1 0000000" ++ digit ∷ 13 ∷ (codes "Hello" ++ 13 ∷ (codes "--- echonet" ++ 13 ∷
@@ -76,7 +76,7 @@ first_targets : targets first_file first_posting ≡ system 2 ∷ []
 unfolding posted targets links_of
 first_targets = refl
 
--- the text that goes out
+-- the text in the packet
 abbrev text_out : ℕ → List ℕ
 text_out digit = codes "AREA:TEST" ++ 13 ∷ (kept_text digit ++ (codes "SEEN-BY: 10/1 2" ++ 13 ∷ (1 ∷ codes "PATH: 10/1" ++ 13 ∷ [])))
 
@@ -108,12 +108,12 @@ scanned_first = refl
 packet_size : length first_packet ≡ 212
 packet_size = refl
 
--- nothing waits after it
+-- nothing waits after the scan
 scanned_twice : scanned first_file (first_posting ∷ []) 1 stamp ≡ []
 unfolding scanned packets_of recipients address_set
 scanned_twice = refl
 
--- two postings go out in one packet, the second message at 210
+-- two postings are in one packet, the second message at 210
 abbrev two_packet : List ℕ
 two_packet = first_header ++ (message_out 49 ++ (message_out 50 ++ (0 ∷ 0 ∷ [])))
 
@@ -154,7 +154,7 @@ copied_first : copy_to first_file (system 2) first_posting ≡ first_copy
 unfolding copy_to posted posted_lines id_of trimmed lines digits exported links_of entry_set short_lines text_of date_of
 copied_first = refl
 
--- as it is filed there
+-- the message as it is filed there
 abbrev pub first_received : Filed
 first_received = record {
   sender = Some (system 1);

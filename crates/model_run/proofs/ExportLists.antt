@@ -18,7 +18,7 @@ use Rattle.model_run.specs.Exports.{Export, event_exports, export_of, exports_af
 use Rattle.model_run.proofs.Lists.{yes_or_no, filter-all, filter-no, filter-none, filter-yes}
 use Rattle.model_run.proofs.RulesLists.{Among-map_from}
 
--- counts of lists put together
+-- the count of a joined list is the sum of the counts
 pub count-append : (k : Key) (ms ns : List Filed) → count k (ms ++ ns) ≡ count k ms + count k ns
 count-append k [] ns = omega arith
 count-append k (m ∷ ms) ns = omega (arith, count-append k ms ns)

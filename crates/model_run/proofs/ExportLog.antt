@@ -1,4 +1,4 @@
--- Which scan made which packet, at all times, on every net.
+-- The scan that made each packet, at all times, on every net.
 use Rattle.std.proofs.Common.{◌≡◌, ◌≢◌, inl, inr, refl, sym, subst, ap, ◌∙◌, ℕ, ◌+◌, ◌<◌, arith, List, [], ◌∷◌, ◌++◌, length, take, map, Option, Some, None}
 use Rattle.std.specs.Prelude.{Bool, true, false, ◌==◌, if◌then◌else◌}
 use Rattle.std.proofs.lemmas.Bool.{eq-eqb}
@@ -33,7 +33,7 @@ sent-by_own e all h =
     Among-map_to (λ (x : Export). x.packet) e _ (Among-filter_to (λ x. x.system == e.system) e all h (eq-eqb e.system e.system refl))
 
 module _ (laws : Laws) where
-  -- of the run so far and its exports
+  -- the invariant of a run and its exports so far
   pub record Logged (run : Run) (n : ℕ) (all : List Export) : Type 0 where
     pub early : (e : Export) → Among e all → e.event < n
     pub made : (i : ℕ) (s : System) → nth i run.systems ≡ Some s → Made s (sent_by i all)
@@ -41,7 +41,7 @@ module _ (laws : Laws) where
     pub one_scan : (e f : Export) → Among e all → Among f all → e.system ≡ f.system →
         (c d : Filed) → Among c (copies e.packet) → Among d (copies f.packet) → key_of c ≡ key_of d → e.event ≡ f.event
 
-  -- who made an export is there yet
+  -- the maker of an export stays
   maker-changed : (run : Run) (e : Export) → (s : System) × (nth e.system run.systems ≡ Some s) → (i : ℕ) (f : System → System) →
       (s : System) × (nth e.system (change i f run.systems) ≡ Some s)
   maker-changed run e maker i f = elim (nth-changed i e.system f maker.0 run.systems maker.1) [
@@ -103,7 +103,7 @@ module _ (laws : Laws) where
         let P : List Packet → Type 0 = λ ps. Made z ps in
         subst P (sym (sent_by-append j all new ∙ (ap (λ (ps : List Packet). sent_by j all ++ ps) (sent_by-other n i j made_packets other) ∙ append-nil (sent_by j all)))) made
 
-    -- a message that is exported now was not exported before
+    -- a message exported now was not exported before
     new-keys : (e f : Export) → Among e all → Among f new → e.system ≡ f.system →
         (c d : Filed) → Among c (copies e.packet) → Among d (copies f.packet) → key_of c ≢ key_of d
     new-keys e f h g same c d at_c at_d q =
@@ -228,7 +228,7 @@ module _ (laws : Laws) where
       (m : ℕ) × Logged (run_of files events) m (exports files events)
   run-logged files fit events = events-logged events (start files) 0 [] (start-ok laws files fit) (start-logged files)
 
-  -- who made an export, and what of
+  -- the maker of an export, and the exported messages
   pub export-made : (run : Run) (n : ℕ) (all : List Export) → Logged run n all → (e : Export) → Among e all →
       (s : System) × (nth e.system run.systems ≡ Some s) × (origin e.packet ≡ s.file.system) ×
       ((copy : Filed) → Among copy (copies e.packet) → (m : Filed) × Among m (take s.cursor s.history) × IsSentCopy s.file m (destination e.packet) copy)

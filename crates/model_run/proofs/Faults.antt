@@ -1,4 +1,4 @@
--- Each grave fault does harm, and where none of them stands the area is tidy.
+-- Each grave fault does harm, and an area without one is tidy.
 use Rattle.std.proofs.Common.{◌≡◌, ◌⊎◌, inl, inr, ℕ, arith, IsTrue, List, [], ◌∷◌}
 use Rattle.std.specs.List.{list_any}
 use Rattle.echo_addr.specs.declared.address.Address.{Address}
@@ -31,7 +31,7 @@ harm-breaks run tag harm orderly =
     ]
 
 module _ (files : List LinkFile) (known : LawsOfRuns files) (tag : List ℕ) where
-  -- a system that lists itself is sent what it posts
+  -- a system that lists itself is sent its own posting
   pub self_link-harms : (a : Address) → IsTrue (lists files tag a a) → IsHarmed files tag
   self_link-harms a lists_itself =
       let (i, harm) = listed-sent files known tag a lists_itself in
@@ -44,9 +44,9 @@ module _ (files : List LinkFile) (known : LawsOfRuns files) (tag : List ℕ) whe
       none (full first others cycle x y at_x at_y other)
 
   module _ (one_file : HaveOwnAddresses files) (all_known : AllAreCarriers files tag) where
-    -- however messages move
+    -- for any moves
     module _ (moves : ℕ → List RunEvent) (rests : (i : ℕ) → ComesToRest files tag i (moves i)) where
-      -- where no posting does harm, no fault is grave
+      -- if no posting does harm, no fault is grave
       pub not_grave : NoneHarms files known tag one_file all_known moves rests → ¬ GraveFault files tag
       not_grave none (SelfLink a link) = no_self files known tag one_file all_known moves rests none a link
       not_grave none (OneSided a b link no_answer) = no_answer (both files known tag one_file all_known moves rests none a b link)
@@ -93,7 +93,7 @@ module _ (files : List LinkFile) (known : LawsOfRuns files) (tag : List ℕ) whe
               | inr none ↦ inl (tidy-by none)
             ]
 
-    -- messages can move so
+    -- such moves exist
     moves : ℕ → List RunEvent
     moves i = (runs-settle files known tag all_known (trial_posting i tag ∷ [])).0
 

@@ -1,4 +1,4 @@
--- What is filed came from somewhere, and what is due is filed.
+-- Every filed message came from somewhere, and every due message is filed.
 use Rattle.std.proofs.Common.{◌≡◌, ◌⊎◌, inl, inr, refl, sym, subst, ap, ◌∙◌, ℕ, arith, List, [], ◌∷◌, ◌++◌, Option, Some, None}
 use Rattle.std.specs.Prelude.{Bool, true, false, if◌then◌else◌, is_none, ◌||◌}
 use Rattle.std.proofs.lemmas.Bool.{cond-true, cond-false}
@@ -29,7 +29,7 @@ use Rattle.model_run.proofs.Stubs.{IsLoneLeft, event-left, first-left, run-left}
 use Rattle.model_run.proofs.Growing.{events-last, filing-grows, filed-later, grown-later, run-append, run-file, tossing-append, tossing-grows}
 use Rattle.model_run.proofs.Areas.{link-has_area as area-has}
 
--- where the one that may be filed is this one, what was filed is old or it is
+-- a filed message was there before, or is the one that `filing` adds
 pub filing-from : (s : System) (o : Option Filed) (m : Filed) → Among m (filing s o).history → Among m s.history ⊎ (o ≡ Some m)
 filing-from s None m h = inl h
 filing-from s (Some n) m h =
@@ -80,7 +80,7 @@ event-from s (ScanHere stamp) m h = inl (scans (is_stamp stamp) h)
     scans false h = h
 event-from s PurgeHere m h = inl h
 
--- the event of some that filed a message, and what was before it
+-- the event that filed a message, and the events before it
 abbrev pub IsFiledAmong : LoneSystem → LinkFile → List LoneEvent → Filed → Type 0
 IsFiledAmong s file events m =
     (earlier : List LoneEvent) × (event : LoneEvent) × (later : List LoneEvent) × (events ≡ earlier ++ event ∷ later)
@@ -111,7 +111,7 @@ pub run-from : (file : LinkFile) (events : List LoneEvent) (m : Filed) → Among
 run-from file events m h =
     elim (events-from events (lone_at_first file) (first-left file) m h) [ inl none ↦ absurd none | inr found ↦ found ]
 
--- what is filed at an event is there after later ones
+-- a message filed at an event is there after later ones
 event-stays : (file : LinkFile) (earlier later : List LoneEvent) (event : LoneEvent) (m : Filed) →
     Among m (after_lone (lone_run file earlier) event).system.history → Among m (lone_run file (earlier ++ event ∷ later)).system.history
 event-stays file earlier later event m h =
@@ -161,7 +161,7 @@ unknown key (m ∷ base) h =
     any-rest true b f e = absurd (not_both true refl f)
     any-rest false b f e = e
 
--- what comes from a link with a new key is filed
+-- a message from a link with a new key is filed
 pub new-filed : (s : System) (sender : Address) (q : Message) → IsFromLink s.file sender q → is_known s.base (key_of (received sender q)) ≡ false →
     Among (received sender q) (filing s (tossing s.file s.base sender q)).history
 new-filed s sender q from new =

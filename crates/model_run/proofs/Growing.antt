@@ -1,4 +1,4 @@
--- What events make of one system grows; nothing of it is asked.
+-- Events only add to a system; this needs no premise.
 use Rattle.std.proofs.Common.{◌≡◌, refl, sym, subst, ap, ◌∙◌, ◌≤◌, arith, List, [], ◌∷◌, ◌++◌, Option, Some, None}
 use Rattle.std.specs.Prelude.{Bool, true, false, if◌then◌else◌}
 use Rattle.std.proofs.lemmas.List.{append_assoc, append-nil}
@@ -18,7 +18,7 @@ use Rattle.model_run.specs.Run.{IsLater, System, filing, tossing_at}
 use Rattle.model_run.specs.Lone.{LoneEvent, LoneSystem, PostHere, PurgeHere, ScanHere, TossHere, after_all_lone, after_lone, lone_at_first, lone_run, with_scanned, with_system}
 use Rattle.model_run.proofs.Stubs.{IsLoneLeft, event-left, first-left, left-length, run-left}
 
--- a system that filed more: its file and cursor stay
+-- a system that filed more messages: its file and cursor stay
 pub record Grows (s z : System) : Type 0 where
   pub file : z.file ≡ s.file
   pub cursor : z.cursor ≡ s.cursor
@@ -47,12 +47,12 @@ tossing-grows sender (q ∷ ms) s =
     let next = filing s (tossing s.file s.base sender q) in
     Grows-again s next (tossing_at sender ms next) (filing-grows s (tossing s.file s.base sender q)) (tossing-grows sender ms next)
 
--- a toss of some messages is that of the first ones and then that of the others
+-- a toss of two lists of messages is that of the first and then that of the second
 pub tossing-append : (sender : Address) (ms ns : List Message) (s : System) → tossing_at sender (ms ++ ns) s ≡ tossing_at sender ns (tossing_at sender ms s)
 tossing-append sender [] ns s = refl
 tossing-append sender (q ∷ ms) ns s = tossing-append sender ms ns (filing s (tossing s.file s.base sender q))
 
--- what has come to be of a system and its packets stays
+-- the history of a system and its sent packets only grow
 pub record Lasts (s z : LoneSystem) : Type 0 where
   pub system : IsLater s.system z.system
   pub sent : (since : List Packet) × (z.sent ≡ s.sent ++ since)
@@ -80,7 +80,7 @@ Lasts-again s t z a b = record {
   );
 }
 
--- events keep what has come to be
+-- events let the history and the sent packets only grow
 scan-lasts : (s : LoneSystem) (stamp : Stamp) (b : Bool) → IsLoneLeft s → Lasts s (if b then with_scanned stamp s else s)
 scan-lasts s stamp true left = record {
   system = record {
@@ -129,13 +129,13 @@ run-lasts file earlier later =
 pub run-file : (file : LinkFile) (events : List LoneEvent) → (lone_run file events).system.file ≡ file
 run-file file events = (events-last events (lone_at_first file) (first-left file)).system.file
 
--- what a system has filed it has later
+-- a system keeps its filed messages
 pub filed-later : (s z : System) → IsLater s z → (m : Filed) → Among m s.history → Among m z.history
 filed-later s z later m h =
     let P : List Filed → Type 0 = λ ms. Among m ms in
     subst P (sym later.filed.1) (Among-append_left m s.history later.filed.0 h)
 
--- how far a purge came is not forgotten
+-- the mark of the last purge does not fall
 event-purged : (s : LoneSystem) (event : LoneEvent) → IsLoneLeft s → s.purged_to ≤ (after_lone s event).purged_to
 event-purged s (PostHere tag draft serial stamp) left = omega arith
 event-purged s (TossHere sender messages) left = omega arith

@@ -1,4 +1,4 @@
--- How often a key is filed, and how often it is sent by one system and by all.
+-- The number of times a key is filed, and sent by one system and by all.
 use Rattle.std.proofs.Common.{◌≡◌, ◌≢◌, ◌⊎◌, inl, inr, refl, sym, ap, ◌∙◌, ℕ, zero, suc, ◌+◌, ◌≤◌, ◌==◌, arith, List, [], ◌∷◌, map}
 use Rattle.std.specs.Prelude.{Bool, true, false, filter, if◌then◌else◌}
 use Rattle.std.proofs.lemmas.Bool.{cond-true, cond-false, eqb-true}
@@ -30,7 +30,7 @@ has-one key (x ∷ ms) m h e =
       | inr t ↦ (let later = has-one key ms m t e in omega arith)
     ]
 
--- what is counted is there
+-- a counted message is in the list
 pub counted : (key : Key) (ms : List Filed) → 1 ≤ count key ms → (m : Filed) × Among m ms × (key_of m ≡ key)
 counted key [] h = absurd (omega (arith, h))
 counted key (m ∷ ms) h =
@@ -41,7 +41,7 @@ counted key (m ∷ ms) h =
           (n, inr i, e))
     ]
 
--- what is sent stands in a packet to the address
+-- a sent message is in a packet to the address
 pub sent-packet : (a : Address) (key : Key) (ps : List Packet) → 1 ≤ sent_count a key ps →
     (q : Packet) × Among q ps × (destination q ≡ a) × ((m : Filed) × Among m (copies q) × (key_of m ≡ key))
 sent-packet a key [] h = absurd (omega (arith, h))
@@ -58,7 +58,7 @@ sent-packet a key (q ∷ ps) h =
           ])
     ]
 
--- and is one message, where it is counted once
+-- and is one message, if it is counted once
 pub counted-one : (key : Key) (ms : List Filed) → count key ms ≤ 1 → (m n : Filed) → Among m ms → Among n ms → key_of m ≡ key → key_of n ≡ key → m ≡ n
 counted-one key [] few m n h i e q = absurd h
 counted-one key (x ∷ ms) few m n h i e q =
@@ -82,7 +82,7 @@ counted-one key (x ∷ ms) few m n h i e q =
     ]
 
 module _ (a : Address) (key : Key) where
-  -- how often one packet holds it
+  -- the number of times one packet holds it
   abbrev held : Export → ℕ
   held e = if same_address (destination e.packet) a then count key (copies e.packet) else 0
 
@@ -98,7 +98,7 @@ module _ (a : Address) (key : Key) where
       ap (λ (all : List Export). sent_count a key (map (λ (x : Export). x.packet) all))
       (cond-false (e.system == i) (e ∷ filter (λ (x : Export). x.system == i) es) (filter (λ (x : Export). x.system == i) es) f)
 
-  -- what one system sent is part of what all sent
+  -- the messages sent by one system are part of all sent
   pub sent-part : (i : ℕ) (es : List Export) → sent_count a key (sent_by i es) ≤ sent_count a key (map (λ (e : Export). e.packet) es)
   sent-part i [] = omega arith
   sent-part i (e ∷ es) =
@@ -108,7 +108,7 @@ module _ (a : Address) (key : Key) where
         | inr f ↦ omega (arith, sent-other i e es f, later)
       ]
 
-  -- and so is what two sent
+  -- and so are those sent by two systems
   pub sent-two : (i j : ℕ) → i ≢ j → (es : List Export) →
       sent_count a key (sent_by i es) + sent_count a key (sent_by j es) ≤ sent_count a key (map (λ (e : Export). e.packet) es)
   sent-two i j other [] = omega arith

@@ -1,4 +1,4 @@
--- Runs event by event: what all events keep, the files that stay, and what a toss may file.
+-- Runs event by event: invariants, the files that stay, and the messages that a toss may file.
 use Rattle.std.proofs.Common.{◌≡◌, ◌⊎◌, inl, inr, refl, sym, subst, ◌∙◌, List, [], ◌∷◌, ◌++◌, map, Some}
 use Rattle.std.specs.List.{AllByRecursion}
 use Rattle.std.proofs.lemmas.List.{append_assoc, append-nil}
@@ -21,12 +21,12 @@ pub after-append : (events later : List RunEvent) (run : Run) → after_events r
 after-append [] later run = refl
 after-append (event ∷ events) later run = after-append events later (after_event run event)
 
--- what holds after one event more
+-- an invariant after one event more
 pub after_one_more : (P : Run → Type 0) (files : List LinkFile) (events : List RunEvent) (event : RunEvent) →
     P (after_event (run_of files events) event) → P (run_of files (events ++ event ∷ []))
 after_one_more P files events event h = subst P (sym (after-append events (event ∷ []) (start files))) h
 
--- what each of these events keeps, all of them keep
+-- a property that each of these events keeps holds after all of them
 pub along : (Allowed : RunEvent → Type 0) (P : List RunEvent → Type 0) →
     ((earlier : List RunEvent) (event : RunEvent) → Allowed event → P earlier → P (earlier ++ event ∷ [])) →
     (earlier events : List RunEvent) → AllByRecursion Allowed events → P earlier → P (earlier ++ events)
@@ -58,7 +58,7 @@ pub tossing-is : (file : LinkFile) (base : List Filed) (sender : Address) (q : M
 unfolding tossing
 tossing-is file base sender q m h = where_filed-is (toss_outcome file base sender q) (received sender q) m h
 
--- a message that messages of one sender brought: filed when it was not known
+-- a message among those of one sender: filed if it was not known
 pub record Brought (s : System) (sender : Address) (ms : List Message) (m : Filed) : Type 0 where
   pub packed : Message
   pub of : Among packed ms

@@ -1,4 +1,4 @@
--- What can be read off a run tells that a posting does no harm.
+-- Observations on a run that show that a posting does no harm.
 use Rattle.std.proofs.Common.{◌≡◌, inl, inr, refl, sym, subst, ap, ◌∙◌, ℕ, ◌≤◌, arith, List, [], ◌∷◌, Some}
 use Rattle.std.specs.Prelude.{Bool, true, bytes_eq, if◌then◌else◌, slice_get}
 use Rattle.std.specs.List.{AllByRecursion}
@@ -37,7 +37,7 @@ some_of-area tag (m ∷ ms) h =
     ]
 
 module _ (files : List LinkFile) (known : LawsOfRuns files) (tag : List ℕ) (i : ℕ) (file : LinkFile) (is : nth i files ≡ Some file) (area : has_area file tag ≡ true) where
-  -- the posting goes by its id
+  -- the key of the posting is its id
   pub posting-key : key_of (post_of file tag) ≡ ById tag (id_of file.system 1)
   posting-key =
       let fits = known.fit file (nth-among i file files is) in
@@ -47,7 +47,7 @@ module _ (files : List LinkFile) (known : LawsOfRuns files) (tag : List ℕ) (i 
     abbrev run : Run
     run = run_of files (trial_posting i tag ∷ more)
 
-    -- it is the first that its poster has
+    -- it is the first message of its poster
     pub record First : Type 0 where
       pub system : System
       pub at : nth i run.systems ≡ Some system

@@ -1,4 +1,4 @@
--- Every run of a tidy area is orderly: it is the case of one epoch.
+-- Every run of a tidy area is orderly, as the case of one epoch.
 use Rattle.std.proofs.Common.{◌≡◌, inl, inr, refl, sym, subst, ap, ◌∙◌, ℕ, arith, List, [], ◌∷◌, length}
 use Rattle.std.proofs.lemmas.List.{length-append}
 use Rattle.model_graph.specs.Walk.{Among}

@@ -1,4 +1,4 @@
--- The history of an area, as one system changes or scans.
+-- The history of an area over a change or a scan of one system.
 use Rattle.std.proofs.Common.{◌≡◌, ◌⊎◌, inl, inr, refl, sym, subst, ap, ◌∙◌, ℕ, List, [], take, Some}
 use Rattle.echo_addr.specs.declared.address.Address.{Address}
 use Rattle.echo_addr.specs.declared.address.NetNode.{NetNode}
@@ -23,9 +23,9 @@ RCopy = Copy Address NetNode Key Content
 abbrev pub REvent : Type 0
 REvent = Event Address NetNode Key Content
 
--- the system of an index changes
+-- the system at an index changes
 module _ (systems : List System) (i : ℕ) (f : System → System) (s : System) (at_s : nth i systems ≡ Some s) where
-  -- it is there then, and each other one was there before
+  -- the changed system is in the run, and each other system was there before
   pub there-then : Among (f s) (change i f systems)
   there-then = elim (nth-changed i i f s systems at_s) [
     | inl other ↦ absurd (other.0 refl)
@@ -53,7 +53,7 @@ module _ (systems : List System) (i : ℕ) (f : System → System) (s : System) 
 
 module _ (tag : List ℕ) (systems : List System) (i : ℕ) (f : System → System) (s : System) (at_s : nth i systems ≡ Some s)
     (same : address_of (f s) ≡ address_of s) where
-  -- what was filed since in this part of the system
+  -- messages filed since then in this part of the system
   abbrev pub IsNew : List Filed → RFiled → Type 0
   IsNew new m = (n : Filed) × Among n new × (n.echo.tag ≡ tag) × (m ≡ filed_as (address_of s) n)
 
@@ -93,7 +93,7 @@ module _ (tag : List ℕ) (systems : List System) (i : ℕ) (f : System → Syst
         let (n, h, area, e) = is in
         record { system = f s; there = there-then systems i f s at_s; message = n; filed = comes n h; area = area; same = e ∙ ap (λ (a : Address). filed_as a n) (sym same) }
 
--- the same was filed as before the change, and these; what was scanned stays, and no packet is made
+-- a change adds the new filed messages; scanned messages stay, and no packet is made
 module _ (tag : List ℕ) (run : Run) (i : ℕ) (f : System → System) (s : System) (at_s : nth i run.systems ≡ Some s)
     (same : address_of (f s) ≡ address_of s) (events next : List REvent) (history : IsHistory tag run events) (new : List Filed)
     (more : (n : Filed) → Among n (f s).history → Among n s.history ⊎ Among n new)

@@ -1,4 +1,4 @@
--- In an orderly run that has settled after one posting, the posting came to each carrier from one link alone.
+-- In an orderly run that has settled after one posting, each carrier got the posting from just one link.
 use Rattle.std.proofs.Common.{◌≡◌, ◌≢◌, ◌⊎◌, inl, inr, refl, sym, subst, ap, ◌∙◌, ℕ, zero, suc, ◌≤◌, arith, IsTrue, List, [], ◌∷◌, take, drop, map, Option, Some, None}
 use Rattle.std.specs.Prelude.{Bool, true, false}
 use Rattle.std.specs.List.{AllByRecursion}
@@ -37,7 +37,7 @@ use Rattle.model_run.proofs.HarmSteps.{run-files}
 use Rattle.model_run.proofs.Tags.{link-area}
 use Rattle.model_run.proofs.Targets.{some_same}
 
--- some item is such, or all are others
+-- some item has the property, or all have the other one
 some-or_all : {X : Type 0} (P Q : X → Type 0) → ((x : X) → P x ⊎ Q x) → (xs : List X) → ((x : X) × Among x xs × P x) ⊎ ((x : X) → Among x xs → Q x)
 some-or_all P Q decide [] = inr (λ x h. absurd h)
 some-or_all P Q decide (y ∷ xs) =
@@ -49,7 +49,7 @@ some-or_all P Q decide (y ∷ xs) =
       ]
     ]
 
--- of systems with the area
+-- for systems with the area
 where_area : {P Q : Type 0} (has : Bool) → P ⊎ Q → ((has ≡ true) × P) ⊎ (has ≡ true → Q)
 where_area true (inl h) = inl (refl, h)
 where_area true (inr h) = inr (λ _. h)
@@ -124,14 +124,14 @@ module _ (files : List LinkFile) (known : LawsOfRuns files) (tag : List ℕ) (on
   p_posting : IsPosting tag p
   p_posting = record { own = posting-own file tag; area = posting-tag }
 
-  -- the posting does no harm: no carrier is sent it again, the poster not at all, and each has it
+  -- the posting does no harm: no carrier is sent it again, the poster is not sent it, and each carrier has it
   pub record Unharmed : Type 0 where
     pub settled : Settled run tag
     pub sent_once : (s : System) → Among s run.systems → has_area s.file tag ≡ true → sent_count s.file.system (key_of p) run.packets ≤ 1
     pub never_own : sent_count f (key_of p) run.packets ≡ 0
     pub filed : (s : System) → Among s run.systems → has_area s.file tag ≡ true → 1 ≤ count (key_of p) s.base
 
-  -- a posting that has settled does harm or none
+  -- a posting that has settled does harm or no harm
   pub harm-or_none : Settled run tag → Harm run tag ⊎ Unharmed
   harm-or_none settled =
       elim (some-or_all (λ s. (has_area s.file tag ≡ true) × (2 ≤ sent_count s.file.system (key_of p) run.packets))
@@ -203,7 +203,7 @@ module _ (files : List LinkFile) (known : LawsOfRuns files) (tag : List ℕ) (on
         let (m, l, key) = counted (key_of p) s.history (let one = once j s at has_s in omega arith) in
         (m, record { index = j; system = s; at = at; address = ap (λ (g : LinkFile). g.system) (sym same) ∙ e; area_there = has_s; filed = l; key = key })
 
-    -- two that hold at one address are one
+    -- two messages that one address holds are equal
     same-system : (x : Address) (m n : Filed) (a : Holds x m) (b : Holds x n) → (a.index ≡ b.index) × (a.system ≡ b.system)
     same-system x m n a b =
         let e = one-system files known one_file events a.index b.index a.system b.system a.at b.at (a.address ∙ sym b.address) in
@@ -217,7 +217,7 @@ module _ (files : List LinkFile) (known : LawsOfRuns files) (tag : List ℕ) (on
         let few = once a.index a.system a.at a.area_there in
         counted-one (key_of p) a.system.history (omega (arith, few)) m n a.filed (subst P (sym same) b.filed) a.key b.key
 
-    -- who sent what came
+    -- the sender of a message that came
     record Sent (x : Address) (m : Filed) : Type 0 where
       export : Export
       maker : System
@@ -335,7 +335,7 @@ module _ (files : List LinkFile) (known : LawsOfRuns files) (tag : List ℕ) (on
               )
         ]
 
-    -- what is filed was scanned
+    -- each filed message was scanned
     was_scanned : (x : Address) (m : Filed) (a : Holds x m) → Among m (take a.system.cursor a.system.history)
     was_scanned x m a =
         let s = a.system in

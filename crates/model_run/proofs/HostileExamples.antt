@@ -1,4 +1,4 @@
--- The base of a first posting spoiled in one place, by computation: what loading it is to answer, in each version.
+-- The base of a first posting, spoiled in one place, by computation: the right answer of loading it, in each version.
 use Rattle.std.proofs.Common.{◌≡◌, ℕ, ◌+◌, ◌^◌, ◌<◌, List, [], ◌∷◌, ◌++◌, refl, sym, ap, subst, ◌∙◌, true, false, Ok, Err, codes, length, replicate, lit<, lit≤, inr}
 use Rattle.std.proofs.lemmas.List.{length-append, length-replicate}
 use Rattle.std.specs.Fmt.{digits}
@@ -25,7 +25,7 @@ use Rattle.model_run.proofs.BaseExamples.{fields_bytes, size_with, small, stored
 abbrev base_of : Version → ℕ → ℕ → List ℕ → List ℕ
 base_of version cursor number messages = magic version ++ (small cursor ++ (small number ++ messages))
 
--- the posting is the whole base
+-- the base is just the posting
 posting_base : (version : Version) (bytes : List ℕ) → is_damaged version 0 [] (stored 0) ≡ false → first_posting ≡ message_in version (stored 0)
     → bytes ≡ head_bytes version 0 1 ++ ((stored_bytes version (stored 0) ++ []) ++ []) → BaseOf (first_posting ∷ []) 0 bytes
 posting_base version bytes sound same whole = record {
@@ -63,13 +63,13 @@ cursor_two : (version : Version) → LoadOf (base_of version 2 1 (whole_bytes 0)
 cursor_two First = inr (lit≤ tt, lit< tt)
 cursor_two Second = inr (lit≤ tt, lit< tt)
 
--- a first byte that no version has
+-- a first byte that no version knows
 fifth_kind : (version : Version) → LoadOf (base_of version 0 1 (whole_bytes 5)) (Err (fault.Damaged 0))
 unfolding head_bytes stored_bytes is_damaged
 fifth_kind First = first_damaged First (stored 5) (base_of First 0 1 (whole_bytes 5)) (stored_size First 5 (lit< tt)) refl refl
 fifth_kind Second = first_damaged Second (stored 5) (base_of Second 0 1 (whole_bytes 5)) (stored_size Second 5 (lit< tt)) refl refl
 
--- posted here, with a zone of a sender
+-- a message posted here, but with the zone of a sender
 abbrev with_zone : Stored
 with_zone = stored_with 0 1 text_bytes
 
@@ -82,7 +82,7 @@ unfolding head_bytes stored_bytes is_damaged
 zone_of_poster First = first_damaged First with_zone (base_of First 0 1 with_zone_bytes) (size_with First 0 1 text_bytes (lit< tt) (lit< tt) (lit< tt)) refl refl
 zone_of_poster Second = first_damaged Second with_zone (base_of Second 0 1 with_zone_bytes) (size_with Second 0 1 text_bytes (lit< tt) (lit< tt) (lit< tt)) refl refl
 
--- a small letter in the tag, which no text is written with
+-- a small letter in the tag, as no text has it
 abbrev small_letter_text : List ℕ
 small_letter_text = codes "AREA:tEST" ++ 13 ∷ kept_text 49
 
@@ -126,7 +126,7 @@ unfolding head_bytes stored_bytes is_damaged message_in echo_of text_refusal lin
 message_twice First = second_damaged First (base_of First 0 2 (whole_bytes 0 ++ whole_bytes 0)) refl refl refl
 message_twice Second = second_damaged Second (base_of Second 0 2 (whole_bytes 0 ++ whole_bytes 0)) refl refl refl
 
--- a text of more bytes than are there
+-- a text with more bytes than the file has
 abbrev long_text : ℕ → Stored
 long_text more = stored_with 0 0 (text_bytes ++ replicate more 0)
 
@@ -170,7 +170,7 @@ ends_in_text version more some fits = record {
 longest_length : (version : Version) → LoadOf (base_of version 0 1 (fields_bytes 0 ++ (255 ∷ (255 ∷ (255 ∷ (255 ∷ text_bytes)))))) (Err (fault.Truncated 0))
 longest_length version = inr (ends_in_text version 4294967217 (lit< tt) (lit< tt))
 
--- what follows the last message is left unread
+-- bytes after the last message are left unread
 abbrev five_more_bytes : Version → List ℕ
 five_more_bytes version = base_of version 0 1 (whole_bytes 0 ++ codes "hello")
 

@@ -1,4 +1,4 @@
--- Messages of an id line alone, by computation: what is saved of them, and whether a purge changes them.
+-- Messages with just an id line, by computation: their saved bytes, and whether a purge changes them.
 use Rattle.std.proofs.Common.{◌≡◌, ℕ, List, [], ◌∷◌, ◌++◌, refl, None, codes, lit<, lit≤}
 use Rattle.echo_addr.specs.Entries.{entries, pair_of, tokens}
 use Rattle.echo_text.specs.Lines.{after_word, begins, lines, trimmed}
@@ -26,7 +26,7 @@ blank_line = 1 ∷ codes "MSGID: x"
 abbrev close_line : List ℕ
 close_line = 1 ∷ codes "MSGID:x"
 
--- its bytes in a base: the first byte, the sender, what follows up to the subject, and the rest
+-- its bytes in a base: the first byte, the sender, the fields up to the subject, and the rest
 abbrev line_bytes : ℕ → List ℕ → List ℕ → List ℕ
 line_bytes kind sender last =
     codes "ECHOBAS2" ++ (small 1 ++ (small 1 ++ (kind ∷ (sender ++ (date_bytes ++ (3 ∷ codes "All" ++ (3 ∷ codes "Ann" ++ (2 ∷ codes "Hi" ++ last))))))))
@@ -37,7 +37,7 @@ first_sender = 1 ∷ (0 ∷ (10 ∷ (0 ∷ (1 ∷ (0 ∷ [])))))
 abbrev tag_and_id : List ℕ
 tag_and_id = 4 ∷ codes "TEST" ++ (small 1 ++ codes "x")
 
--- the line is what a purge leaves: once scanned it is saved in short, purged or not
+-- the line is one that a purge leaves: once scanned it is saved in short, purged or not
 is_as_purged : stub_of (of_line blank_line) ≡ of_line blank_line
 unfolding stub_of msgid_of begins after_word trimmed
 is_as_purged = refl

@@ -1,4 +1,4 @@
--- What is true of a run by the rules at all times.
+-- Properties of a run by the rules at all times.
 use Rattle.std.proofs.Common.{◌≡◌, ◌≢◌, ◌⊎◌, IsTrue, List, map, Some, None}
 use Rattle.model_graph.specs.Walk.{Among, Different}
 use Rattle.model_graph.specs.Beyond.{Beyond, IsWay}
@@ -6,20 +6,20 @@ use Rattle.model_run.specs.Nets.{Net}
 use Rattle.model_run.specs.Events.{Text, Filed, Copy, Event, filed, exported, copies, came, Has}
 use Rattle.model_run.specs.RulesOrderly.{place, goal}
 
--- a message of f came to y from u: all walks to f pass u; its SEEN-BY has all links of both, and of what
--- lies beyond y nothing but y
+-- a message of f came to y from u. All walks to f pass u. Its SEEN-BY has all links of both, and of the systems beyond y
+-- only y
 pub record Parent {A N : Type 0} (net : Net A N) (y f : A) (seen : List N) (u : A) : Type 0 where
   pub way : IsWay net.linked f y u
   pub outside : (d : A) → IsTrue (net.carries d) → Beyond net.linked y f d → d ≢ y → ¬ Among (net.net_node d) seen
   pub links : (l : A) → IsTrue (net.linked u l) → IsTrue (net.linked y l) → Among (net.net_node l) seen
 
--- a message was posted where it is and lists no other carrier, or came from a link
+-- a message was posted here and lists no other carrier, or came from a link
 abbrev pub Source : {A N K C : Type 0} → Net A N → A → Filed A N K C → Type 0
 Source {A} net f m =
     ((f ≡ m.at) × (m.sender ≡ None) × ((d : A) → IsTrue (net.carries d) → Among (net.net_node d) m.text.seen → d ≡ m.at))
     ⊎ ((u : A) × (m.sender ≡ Some u) × Parent net m.at f m.text.seen u)
 
--- what was filed, what was exported, the copies that were sent, and those that came
+-- the filed and exported messages, the copies sent, and the copies that came
 pub record View (A N K C : Type 0) : Type 0 where
   pub filed : List (Filed A N K C)
   pub exported : List (Filed A N K C)
@@ -30,7 +30,7 @@ abbrev pub view_of : {A N K C : Type 0} → List (Event A N K C) → View A N K 
 view_of run = record { filed = filed run; exported = exported run; copies = copies run; came = came run }
 
 module _ {A N K C : Type 0} (net : Net A N) (Same : C → C → Type 0) (v : View A N K C) where
-  -- p is the posting of which a text was made
+  -- p is the posting of this text
   pub record IsPoster (p : Filed A N K C) (text : Text N K C) : Type 0 where
     pub is_filed : Among p v.filed
     pub own : p.sender ≡ None
@@ -38,14 +38,14 @@ module _ {A N K C : Type 0} (net : Net A N) (Same : C → C → Type 0) (v : Vie
     pub same_key : p.text.key ≡ text.key
     pub same_content : Same text.content p.text.content
 
-  -- of a message that was filed
+  -- the invariant of a filed message
   pub record Good (m : Filed A N K C) : Type 0 where
     pub carrier : IsTrue (net.carries m.at)
     pub poster : Filed A N K C
     pub posted : IsPoster poster m.text
     pub source : Source net poster.at m
 
-  -- of a copy that was sent
+  -- the invariant of a sent copy
   pub record Sent (c : Copy A N K C) : Type 0 where
     pub carrier : IsTrue (net.carries c.to)
     pub poster : Filed A N K C

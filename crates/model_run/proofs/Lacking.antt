@@ -1,4 +1,4 @@
--- How many of some keys each system lacks: fewer with each message that is filed.
+-- The number of some keys that each system lacks: it falls with each filed message.
 use Rattle.std.proofs.Common.{◌≡◌, ◌⊎◌, inl, inr, refl, sym, subst, ap, ◌∙◌, ℕ, zero, suc, ◌+◌, ◌<◌, ◌≤◌, arith, List, [], ◌∷◌, ◌++◌, Option, Some, None}
 use Rattle.std.specs.Prelude.{Bool, true, false, if◌then◌else◌}
 use Rattle.echo_addr.specs.declared.address.Address.{Address}
@@ -14,21 +14,21 @@ use Rattle.model_run.specs.Run.{System, change, filing, tossing_at}
 use Rattle.model_run.proofs.Lists.{any-from, any-to, not_both}
 use Rattle.model_run.proofs.HarmSteps.{tossing-is}
 
--- 1 for what is not known
+-- 1 for an unknown key
 abbrev pub weight : Bool → ℕ
 weight b = if b then 0 else 1
 
--- how many of the keys no message of the base has
+-- the number of keys that no message of the base has
 abbrev pub lacking : List Key → List Filed → ℕ
 lacking [] base = 0
 lacking (key ∷ keys) base = weight (is_known base key) + lacking keys base
 
--- and all systems together
+-- the sum over all systems
 abbrev pub all_lacking : List Key → List System → ℕ
 all_lacking keys [] = 0
 all_lacking keys (s ∷ ss) = lacking keys s.base + all_lacking keys ss
 
--- what is known stays known
+-- a known key stays known
 known-more : (base : List Filed) (m : Filed) (key : Key) → is_known base key ≡ true → is_known (base ++ m ∷ []) key ≡ true
 known-more base m key h =
     let (n, i, e) = any-from (λ n. same_key (key_of n) key) base h in
@@ -53,7 +53,7 @@ lacking-less (key ∷ keys) base m = omega (
   less_weight (is_known base key) (is_known (base ++ m ∷ []) key) (known-more base m key),
 )
 
--- fewer, where one of them is filed anew
+-- fewer, if one of them is filed now
 lacking-fewer : (keys : List Key) (base : List Filed) (m : Filed) → Among (key_of m) keys → is_known base (key_of m) ≡ false →
     lacking keys (base ++ m ∷ []) < lacking keys base
 lacking-fewer [] base m h new = absurd h
@@ -89,7 +89,7 @@ one keys sender q ms in_keys s new (Some m) e later =
       | inr less ↦ inr (omega (arith, here, less))
     ]
 
--- a system that tosses messages with these keys stays as it is, or lacks fewer
+-- a system that tosses messages with these keys stays unchanged, or lacks fewer
 pub tossing-fewer : (keys : List Key) (sender : Address) (ms : List Message) →
     ((q : Message) → Among q ms → Among (key_of (received sender q)) keys) →
     ((s : System) (q : Message) (m : Filed) → tossing s.file s.base sender q ≡ Some m → is_known s.base (key_of m) ≡ false) →

@@ -1,4 +1,4 @@
--- What a system has it keeps, whatever happens.
+-- A system keeps its messages over all events.
 use Rattle.std.proofs.Common.{◌≡◌, inl, inr, refl, sym, subst, ap, ◌∙◌, ℕ, arith, List, [], ◌∷◌, ◌++◌, length, Option, Some, None}
 use Rattle.std.specs.Prelude.{Bool, true, false, take, if◌then◌else◌}
 use Rattle.std.proofs.lemmas.List.{append_assoc, append-nil}
@@ -56,7 +56,7 @@ tossing-later sender (q ∷ ms) s =
 taking-later : (p : Packet) (messages : ℕ) (s : System) → IsLater s (taking p messages s)
 taking-later p messages s = tossing-later (sender_of s.file p.header) (take messages p.messages) s
 
--- what became of the system of an index
+-- the system at an index later
 abbrev Lasts : List System → List System → Type 0
 Lasts before after = (i : ℕ) (s : System) → nth i before ≡ Some s → (z : System) × (nth i after ≡ Some z) × IsLater s z
 

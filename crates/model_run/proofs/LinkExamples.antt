@@ -1,4 +1,4 @@
--- Link files by computation: what they say, and each of their faults.
+-- Link files by computation: their parts, and each of their faults.
 use Rattle.std.proofs.Common.{◌≡◌, ℕ, List, [], ◌∷◌, ◌++◌, refl, Some, None, codes, replicate}
 use Rattle.std.specs.Fmt.{digits}
 use Rattle.echo_addr.specs.Address.{refusal as address_refusal}
@@ -19,7 +19,7 @@ sound_first : file_fault (line (codes "SYSTEM 1:10/1") ++ (codes " NAME Alpha " 
 unfolding file_fault file_lines words line_fault address_refusal
 sound_first = refl
 
--- a NAME line without a text is the empty name, no NAME line is `echonet`
+-- a NAME line without a text is the empty name; without a NAME line the name is `echonet`
 empty_name : origin_line (file_of (line (codes "SYSTEM 1:10/1") ++ codes "NAME")) ≡ codes " * Origin:  (1:10/1)"
 unfolding file_of file_lines words digits
 empty_name = refl
@@ -49,7 +49,7 @@ remark_with_return : file_fault (codes ";" ++ 13 ∷ []) ≡ Some (fault.NoSyste
 unfolding file_fault file_lines words line_fault
 remark_with_return = refl
 
--- L1 before L4, and L4 before what else is wrong with the line
+-- L1 before L4, and L4 before other faults of the line
 control_byte_first : file_fault (line (codes "NAME a") ++ (codes "NAME b" ++ 1 ∷ [])) ≡ Some (fault.UnknownWord 2)
 unfolding file_fault file_lines words line_fault
 control_byte_first = refl

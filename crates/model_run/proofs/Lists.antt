@@ -1,4 +1,4 @@
--- Items of lists by their index, and members of lists that were made of others.
+-- Items of lists by their index, and members of mapped and filtered lists.
 use Rattle.std.proofs.Common.{◌≡◌, ◌≢◌, ◌⊎◌, inl, inr, refl, sym, subst, ap, ◌∙◌, ℕ, zero, suc, ◌+◌, arith, List, [], ◌∷◌, ◌++◌, length, take, drop, map, Some, None}
 use Rattle.std.specs.Prelude.{Bool, true, false, filter, not, ◌&&◌, ◌||◌, ◌==◌, if◌then◌else◌}
 use Rattle.std.specs.List.{list_any, position_or_len}
@@ -60,7 +60,7 @@ nth-among {X} i x [] h = absurd (none_some h)
 nth-among zero x (y ∷ xs) h = inl (let e : Some y ≡ Some x = h in cc)
 nth-among (suc i) x (y ∷ xs) h = inr (nth-among i x xs h)
 
--- where an item is changed: what is at an index was there before, or is the changed item
+-- after a change an item at an index is an old item, or the changed one
 pub nth-change : {X : Type 0} (i j : ℕ) (f : X → X) (z : X) (xs : List X) → nth j (change i f xs) ≡ Some z →
     ((i ≢ j) × (nth j xs ≡ Some z)) ⊎ ((i ≡ j) × ((x : X) × (nth j xs ≡ Some x) × (z ≡ f x)))
 nth-change {X} i j f z [] h = absurd (none_some h)
@@ -73,7 +73,7 @@ nth-change (suc i) (suc j) f z (x ∷ xs) h =
       | inr k ↦ inr (ap suc k.0, k.1)
     ]
 
--- and what was there is there yet, or changed
+-- each old item stays, or is changed
 pub nth-changed : {X : Type 0} (i j : ℕ) (f : X → X) (x : X) (xs : List X) → nth j xs ≡ Some x →
     ((i ≢ j) × (nth j (change i f xs) ≡ Some x)) ⊎ ((i ≡ j) × (nth j (change i f xs) ≡ Some (f x)))
 nth-changed {X} i j f x [] h = absurd (none_some h)
@@ -86,7 +86,7 @@ nth-changed (suc i) (suc j) f x (y ∷ xs) h =
       | inr k ↦ inr (ap suc k.0, k.1)
     ]
 
--- the first item that passes does
+-- the first item that passes, passes
 pub first_passes : {X : Type 0} (p : X → Bool) (x : X) (xs : List X) → nth (position_or_len p xs) xs ≡ Some x → p x ≡ true
 first_passes {X} p x [] h = absurd (none_some h)
 first_passes {X} p x (y ∷ xs) h =
@@ -114,7 +114,7 @@ filter-yes p x xs t = cond-true (p x) (x ∷ filter p xs) (filter p xs) t
 pub filter-no : {X : Type 0} (p : X → Bool) (x : X) (xs : List X) → p x ≡ false → filter p (x ∷ xs) ≡ filter p xs
 filter-no p x xs f = cond-false (p x) (x ∷ filter p xs) (filter p xs) f
 
--- none passes, or all do
+-- no item passes, or all do
 pub filter-none : {X : Type 0} (p : X → Bool) (xs : List X) → ((x : X) → Among x xs → p x ≡ false) → filter p xs ≡ []
 filter-none p [] h = refl
 filter-none p (x ∷ xs) h = filter-no p x xs (h x (inl refl)) ∙ filter-none p xs (λ y i. h y (inr i))
@@ -215,7 +215,7 @@ map-change g i f same [] = refl
 map-change g zero f same (x ∷ xs) = (let e = same x in cc)
 map-change g (suc i) f same (x ∷ xs) = (let e = map-change g i f same xs in cc)
 
--- an index that was put to others is the new one or one of them
+-- an index in the longer list is the new one or an old one
 pub with_index-from : (k j : ℕ) (ks : List ℕ) → Among j (with_index k ks) → (j ≡ k) ⊎ Among j ks
 with_index-from k j ks h = cases (list_any (λ d. d == k) ks) h
   where
@@ -236,7 +236,7 @@ nth-append {X} i x [] ys h = absurd (none_some h)
 nth-append zero x (z ∷ xs) ys h = h
 nth-append (suc i) x (z ∷ xs) ys h = nth-append i x xs ys h
 
--- what holds of each item, and of what it is changed to, holds of each item after the change
+-- a property of each item that the change keeps holds after the change
 pub change-all : {X : Type 0} (P : X → Type 0) (i : ℕ) (f : X → X) → ((x : X) → P x → P (f x)) → (xs : List X) →
     ((x : X) → Among x xs → P x) → (z : X) → Among z (change i f xs) → P z
 change-all P i f keeps xs all z h =

@@ -10,7 +10,7 @@ use Rattle.model_run.proofs.Targets.{some_same}
 use Rattle.model_run.proofs.Chain.{chain, chain-parts, chain-tidy}
 use Rattle.model_run.proofs.SmallNets.{polygon, polygon-tidy, linked-parts}
 
--- a message of key 7 with this content, that lists no one
+-- a message of key 7 with this content and an empty SEEN-BY
 abbrev says : ℕ → Text ℕ ℕ ℕ
 says content = record { key = 7; content = content; seen = [] }
 
@@ -21,7 +21,7 @@ posted at = record { at = at; sender = None; text = says 1 }
 abbrev received : ℕ → Filed ℕ ℕ ℕ ℕ
 received content = record { at = 1; sender = Some 0; text = says content }
 
--- and goes out as this
+-- and it is sent as this copy
 abbrev copied : ℕ → Copy ℕ ℕ ℕ ℕ
 copied content = record { from = 0; to = 1; text = says content }
 
@@ -34,7 +34,7 @@ send content = Exports (posted 0) (1 ∷ []) (λ x. says content)
 abbrev come : ℕ → Event ℕ ℕ ℕ ℕ
 come content = Comes (copied content) true
 
--- one who is to be sent a message of 0 of two systems is 1
+-- the only target of a message of 0 in a net of two systems is 1
 only_target : (x : ℕ) → IsTarget (polygon 2) (posted 0) x → Among x (1 ∷ [])
 only_target x target = let (below, under, other) = linked-parts 2 0 x target.link in inl (omega (arith, under, λ (e : x ≡ 0). other (sym e)))
 
@@ -55,7 +55,7 @@ sent_once earlier is_filed first = record {
   one_each = (λ h. h, tt);
 }
 
--- 1 alone is told nothing wrong by an empty SEEN-BY
+-- an empty SEEN-BY misleads no receiver if 1 is the only one
 told : (x : ℕ) → Among x (1 ∷ []) → HasSeenBy (polygon 2) (posted 0) (1 ∷ []) x []
 told x h = record {
   others = λ l i link. absurd (elim h [
@@ -68,7 +68,7 @@ told x h = record {
   behind = λ d carrier beyond other i. absurd i;
 }
 
--- 1 has not filed what 0 posted
+-- 1 has not filed the posting of 0
 not_at_1 : ¬ Has 1 7 (posted 0 ∷ [])
 not_at_1 has = elim has.1 [
   | inl e ↦ (let here = ap (λ (m : Filed ℕ ℕ ℕ ℕ). m.at) e in let there = has.2 in absurd (omega (arith, here, there)))
@@ -124,7 +124,7 @@ settling-kept content sending apart = (
 settling-kept content telling apart = (λ x h. absurd h, (tt, (told, (λ d carrier h. absurd h, tt))))
 settling-kept content keys apart = (tt, (tt, (tt, (λ m h. absurd h, tt))))
 
--- all rules are kept where the content stays
+-- all rules are kept if the content stays
 pub can-be-kept : IsMet
 can-be-kept = record {
   net = polygon 2;
@@ -143,7 +143,7 @@ can-be-kept = record {
     kept telling = settling-kept 1 telling (λ e. cc)
     kept keys = settling-kept 1 keys (λ e. cc)
 
--- where a copy has another content, so has what is filed
+-- without the rule, a copy may have another content, and so the filed message
 pub keeping-needed : IsNeeded keeping
 keeping-needed = record {
   net = polygon 2;
@@ -177,7 +177,7 @@ sending-needed = record {
     others telling apart = (told, (told, (λ d carrier h. absurd h, tt)))
     others keys apart = (tt, (tt, (λ m h. absurd h, tt)))
 
--- in a triangle 1 is not told that 2 is sent the message too, and sends it there
+-- in a triangle the SEEN-BY for 1 lacks 2, which is sent the message too, and 1 sends it there again
 abbrev untold : List (Event ℕ ℕ ℕ ℕ)
 untold = Exports (received 1) (2 ∷ []) (λ x. says 1) ∷ come 1 ∷ Exports (posted 0) (1 ∷ 2 ∷ []) (λ x. says 1) ∷ post 0 ∷ []
 
@@ -238,7 +238,7 @@ telling-needed = record {
     others telling apart = absurd (apart refl)
     others keys apart = (tt, (tt, (tt, (λ m h. absurd h, tt))))
 
--- in a chain 1 is told that 2 has the message, and does not pass it on
+-- in a chain the SEEN-BY for 1 lists 2, and 1 does not pass the message on
 abbrev hides : Text ℕ ℕ ℕ
 hides = record { key = 7; content = 1; seen = 1 ∷ 2 ∷ [] }
 
@@ -301,7 +301,7 @@ hiding_none-needed = (
     others telling apart = absurd (apart refl)
     others keys apart = (tt, (tt, (tt, (λ m h. absurd h, tt))))
 
--- two systems give one key to two messages, and one is sent what has the key of its own
+-- two systems give one key to two messages, and one system is sent the other message with its own key
 pub keys-needed : IsNeeded keys
 keys-needed = record {
   net = polygon 2;

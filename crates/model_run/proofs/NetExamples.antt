@@ -54,8 +54,8 @@ post i = Posting i (codes "TEST") draft 1 stamp
 abbrev pub scan : ℕ → RunEvent
 scan i = Scanning i stamp
 
--- what is printed of a run: messages of the area filed and waiting, system by system; packets, and packets
--- that did not come; whether all has settled
+-- the printed numbers of a run: messages of the area filed and waiting, system by system; packets, and packets that did
+-- not come; whether all has settled
 pub record Shown : Type 0 where
   pub filed_there : List ℕ
   pub waiting_there : List ℕ
@@ -75,7 +75,7 @@ shown run = record {
   settled = is_settled run;
 }
 
--- files 0 to 2, and in the ring 0 to 3, are 1:10/1 and those after it
+-- files 0 to 2, or 0 to 3 in the ring, belong to 1:10/1 and the next nodes
 abbrev pub chain : List LinkFile
 chain = file 1 (2 ∷ []) ∷ (file 2 (1 ∷ 3 ∷ []) ∷ (file 3 (2 ∷ []) ∷ []))
 
@@ -106,7 +106,7 @@ purged_run = run_of chain (
     post 0 ∷ (scan 0 ∷ (Purging 0 ∷ (Delivery 0 ∷ (Purging 1 ∷ (scan 1 ∷ (Purging 1 ∷ (Delivery 1 ∷ (Delivery 0 ∷ (post 0 ∷ [])))))))))
     )
 
--- two messages in one packet, whose toss stops after the first, and then comes whole
+-- two messages in one packet; the toss stops after the first, and then the whole packet comes
 abbrev two_posted : List RunEvent
 two_posted = post 0 ∷ (Posting 0 (codes "TEST") draft 2 stamp ∷ (scan 0 ∷ []))
 
@@ -120,9 +120,9 @@ tossed_again_run = run_of chain (two_posted ++ PartDelivery 0 1 ∷ (Delivery 0 
 abbrev pub first_key : Key
 first_key = ById (codes "TEST") (codes "1:10/1 00000001")
 
--- On the chain and on the triangle all have the message, and nothing waits; on the star the packet to
--- 1:10/3 was lost. On the ring, which is not tidy, each filed the message once. On the purged chain, where
--- ids alone are left, what comes again is known, and a known serial is refused.
+-- On the chain and on the triangle all have the message, and nothing waits; on the star the packet to 1:10/3 was lost.
+-- On the ring, which is not tidy, each filed the message once. On the purged chain only ids are left: a repeated message
+-- is known, and a known serial is refused.
 record Runs : Type 0 where
   chain_shown : shown chain_run ≡ line (1 ∷ (1 ∷ (1 ∷ []))) (0 ∷ (0 ∷ (0 ∷ []))) 2 0 true
   came_twice : chain_run.delivered ≡ 1 ∷ (0 ∷ [])
@@ -150,7 +150,7 @@ runs = record {
   purged_shown = refl;
 }
 
--- the same events as a program has them
+-- the same events in the program's form
 program_events : map run_event (
     Post 0 (codes "TEST") draft 1 stamp ∷ (Scan 0 stamp ∷ (Deliver 0 ∷ (Purge 0 ∷ [])))
     ) ≡ post 0 ∷ (scan 0 ∷ (Delivery 0 ∷ (Purging 0 ∷ [])))
@@ -180,17 +180,17 @@ beside = file 4 [] ∷ triangle
 abbrev pub all_done : List LinkFile → Run
 all_done files = run_of files (post 0 ∷ (scan 0 ∷ (Delivery 0 ∷ (scan 1 ∷ (Delivery 1 ∷ (scan 2 ∷ []))))))
 
--- what becomes of them once nothing waits and every packet came: none is orderly
+-- the results once nothing waits and every packet came: no run is orderly
 record Untidy : Type 0 where
   -- clause 2: the second of two files of one address gets nothing
   not_served : shown (all_done two_files) ≡ line (1 ∷ (1 ∷ (0 ∷ []))) (0 ∷ (0 ∷ (0 ∷ []))) 1 0 true
   -- clause 3: a system that lists itself is sent its own message
   own_sent : sent_count (address 1) first_key (all_done own_link).packets ≡ 1
-  -- clause 5: what a system gets from one that it does not list it does not file
+  -- clause 5: a system does not file messages from a system that it does not list
   not_linked : shown (all_done one_sided) ≡ line (1 ∷ (0 ∷ [])) (0 ∷ (0 ∷ [])) 1 0 true
-  -- clause 6: a system with the poster's net and node is taken for served
+  -- clause 6: a system with the poster's net and node seems served
   taken_for_served : shown (all_done over_zones) ≡ line (1 ∷ (1 ∷ (0 ∷ []))) (0 ∷ (0 ∷ (0 ∷ []))) 1 0 true
-  -- clause 7: there is no way to the others
+  -- clause 7: no walk leads to the others
   no_way : shown (all_done beside) ≡ line (1 ∷ (0 ∷ (0 ∷ (0 ∷ [])))) (0 ∷ (0 ∷ (0 ∷ (0 ∷ [])))) 0 0 true
   -- clause 8: on a ring two send the message to one
   twice : sent_count (address 2) first_key ring_run.packets ≡ 2
@@ -206,7 +206,7 @@ untidy = record {
   twice = refl;
 }
 
--- what no run of these systems shows, since ids of theirs differ and SEEN-BY lists a sender
+-- cases that no run of these systems has, since their ids differ and SEEN-BY lists the sender
 abbrev two_areas : LinkFile
 two_areas = record {
   system = address 1;
@@ -217,7 +217,7 @@ two_areas = record {
 abbrev posted_in : List ℕ → Filed
 posted_in tag = posted two_areas tag draft 1 stamp
 
--- a message from 1:10/2 whose SEEN-BY lists no one
+-- a message from 1:10/2 with an empty SEEN-BY
 abbrev unlisted : Filed
 unlisted = record {
   sender = Some (address 2);
@@ -231,9 +231,9 @@ unlisted = record {
 record Steps : Type 0 where
   -- a known serial is refused in another area too
   known_serial : posting two_areas (posted_in (codes "TEST") ∷ []) (codes "OTHER") draft 1 stamp ≡ None
-  -- one id in two areas is that of two messages
+  -- one id in two areas names two messages
   other_area : is_known (posted_in (codes "TEST") ∷ []) (key_of (posted_in (codes "OTHER"))) ≡ false
-  -- a message does not go back to its sender, whatever its SEEN-BY says
+  -- a message does not go back to its sender, for any SEEN-BY
   sender_left_out : targets (file 1 (2 ∷ (3 ∷ []))) unlisted ≡ address 3 ∷ []
 
 steps : Steps

@@ -1,4 +1,4 @@
--- Where nothing waits and nothing is missing, each area has settled.
+-- If nothing waits and nothing is missing, each area has settled.
 use Rattle.std.proofs.Common.{◌≡◌, inl, inr, sym, subst, ap, ◌∙◌, ℕ, ◌+◌, ◌==◌, arith, IsTrue, List, [], ◌∷◌, ◌++◌, length}
 use Rattle.std.specs.Prelude.{Bool, true, nat_le, if◌then◌else◌}
 use Rattle.std.specs.List.{list_all, list_any}

@@ -1,4 +1,4 @@
--- What goes to an address that no file has never comes.
+-- A packet to an address without a file never comes.
 use Rattle.std.proofs.Common.{◌≡◌, ◌≢◌, inl, inr, refl, sym, subst, ap, ◌∙◌, ℕ, IsTrue, List, [], ◌∷◌, ◌++◌, length, Option, Some, None}
 use Rattle.std.specs.Prelude.{Bool, true, false, if◌then◌else◌}
 use Rattle.std.specs.List.{AllByRecursion, list_any}
@@ -32,7 +32,7 @@ use Rattle.model_run.proofs.HarmSteps.{after_one_more, along, run-files}
 use Rattle.model_run.proofs.RulesLists.{Among-map_to}
 use Rattle.model_run.proofs.Targets.{some_same}
 
--- where no file has the area, there is nothing that could go wrong
+-- an area that no file has is orderly
 pub nobody-orderly : (files : List LinkFile) (tag : List ℕ) → ¬ IsTrue (list_any (λ (file : LinkFile). has_area file tag) files) →
     (events : List RunEvent) → Orderly (run_of files events) tag
 nobody-orderly files tag none events = record {
@@ -48,7 +48,7 @@ nobody-orderly files tag none events = record {
         none (any-to (λ (file : LinkFile). has_area file tag) s.file files
         (subst P (run-files files events) (Among-map_to (λ (z : System). z.file) s (run_of files events).systems h)) has)
 
--- a packet that is for the address of a file
+-- a packet for the address of a file
 record ToFile (files : List LinkFile) (run : Run) (k : ℕ) : Type 0 where
   packet : Packet
   at : nth k run.packets ≡ Some packet
@@ -57,7 +57,7 @@ record ToFile (files : List LinkFile) (run : Run) (k : ℕ) : Type 0 where
   address : file.system ≡ destination packet
 
 module _ (files : List LinkFile) (p : Packet) where
-  -- the packet is there, and each packet that was delivered was for the address of a file
+  -- the packet exists, and each delivered packet was for the address of a file
   record Kept (run : Run) : Type 0 where
     packet : Among p run.packets
     delivered : (k : ℕ) → Among k run.delivered → ToFile files run k
@@ -154,7 +154,7 @@ scanning-delivered run i stamp (Some s) = scans (is_stamp stamp)
     scans true = refl
     scans false = refl
 
--- once a packet is there that holds a message of the area and is for the address of no file, the area never settles
+-- after a packet with a message of the area for an address without a file, the area never settles
 never_settles : (files : List LinkFile) (known : LawsOfRuns files) (tag : List ℕ) (events : List RunEvent) (q : Packet) → Kept files q (run_of files events) →
     ((file : LinkFile) → Among file files → file.system ≢ destination q) → (m : Filed) → Among m (copies q) → m.echo.tag ≡ tag →
     (more : List RunEvent) → ¬ Settled (run_of files (events ++ more)) tag
@@ -167,7 +167,7 @@ never_settles files known tag events q first nobody m in_copies of_area more set
     let same : came.packet ≡ q = some_same (sym came.at ∙ subst P (sym whole) (nth-middle q before after)) in
     nobody came.file came.there (came.address ∙ ap (λ (x : Packet). destination x) same)
 
--- a system that lists an address of no file posts and scans: that packet never comes
+-- a system that lists an address without a file posts and scans: this packet never comes
 pub nobody-never_rests : (files : List LinkFile) → LawsOfRuns files → (tag : List ℕ) → ListsNobody files tag → NeverSettles files tag
 nobody-never_rests files known tag lost =
     let (file, h, _, link) = lists-file files tag lost.system lost.link lost.listed in

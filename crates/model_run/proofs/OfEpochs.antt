@@ -1,4 +1,4 @@
--- What is filed stays over changes of link files, and each posting is of some epoch.
+-- Filed messages stay over changes of link files, and each posting belongs to some epoch.
 use Rattle.std.proofs.Common.{◌≡◌, inl, inr, refl, sym, subst, ap, ◌∙◌, ℕ, arith, List, [], ◌∷◌, ◌++◌, append_assoc, map}
 use Rattle.std.specs.Prelude.{Bool, ◌&&◌}
 use Rattle.std.specs.List.{list_any}
@@ -28,7 +28,7 @@ use Rattle.model_run.proofs.Throughout.{epochs-append}
 abbrev names_of : Run → List Address
 names_of run = map address_of run.systems
 
--- the epochs have systems of these addresses, and files that were read
+-- the epochs have systems with these addresses, and files that were read
 abbrev Named : List Address → List Epoch → Type 0
 Named names epochs = (epoch : Epoch) → Among epoch epochs → (addresses epoch.files ≡ names) × FilesFit epoch.files
 
@@ -68,7 +68,7 @@ outlives-itself run = record {
 }
 
 module _ (laws : Laws) (names : List Address) where
-  -- what holds of a run between epochs
+  -- the invariant of a run between epochs
   record Between (run : Run) : Type 0 where
     same : names_of run ≡ names
     ok : RunOk run
@@ -119,7 +119,7 @@ module _ (laws : Laws) (names : List Address) where
   between-some [] epoch named = between-first epoch [] named
   between-some (first ∷ earlier) epoch named = between-first first (earlier ++ epoch ∷ []) named
 
-  -- what is filed stays
+  -- filed messages stay
   pub epochs-keep : (earlier later : List Epoch) → Named names (earlier ++ later) → Outlives (run_of_epochs earlier) (run_of_epochs (earlier ++ later))
   epochs-keep [] later named = record { later = λ s h. absurd h }
   epochs-keep (first ∷ earlier) later named =
@@ -138,7 +138,7 @@ module _ (laws : Laws) (names : List Address) where
     between-named [] named y h = absurd h
     between-named (first ∷ rest) named y h = between-first first rest named
 
-    -- at the end of the epochs the system has it, and it had it not before the later ones
+    -- at the end of the epochs the system has the message, and it did not have it before the later ones
     find : (later earlier : List Epoch) → Named names (earlier ++ later) → (s : System) → Among s (run_of_epochs (earlier ++ later)).systems → Among m s.history →
         ((z : System) → Among z (run_of_epochs earlier).systems → address_of z ≡ address_of s → ¬ Among m z.history) → IsOfSome tag (earlier ++ later) m
     find [] earlier named s h i before =
@@ -176,7 +176,7 @@ module _ (laws : Laws) (names : List Address) where
               (any-to (λ x. same_key (key_of x) (key_of m)) m z.history l (laws.keys.full (key_of m) (key_of m) refl)))) f)))
         ]
       where
-        -- what has its key at an earlier time is the message itself
+        -- an earlier message with its key is the message itself
         is-there : (now : List Epoch) → Named names (now ++ later) → (y : System) → Among y (run_of_epochs (now ++ later)).systems → Among m y.history →
             (z : System) → Among z (run_of_epochs now).systems → address_of z ≡ address_of y → (n : Filed) → Among n z.history → key_of n ≡ key_of m → Among m z.history
         is-there now named_now y at_y i z j here n k same =
@@ -193,7 +193,7 @@ module _ (laws : Laws) (names : List Address) where
     pub is-of_some : (epochs : List Epoch) → Named names epochs → (s : System) → Among s (run_of_epochs epochs).systems → Among m s.history → IsOfSome tag epochs m
     is-of_some epochs named s h i = find epochs [] named s h i (λ z j e l. absurd j)
 
--- of epochs that are tidy throughout
+-- for epochs that are tidy throughout
 pub posting-of_some : (laws : Laws) (epochs : List Epoch) (tag : List ℕ) → TidyThroughout epochs tag → (s : System) → Among s (run_of_epochs epochs).systems →
     (m : Filed) → Among m s.history → IsPosting tag m → IsOfSome tag epochs m
 posting-of_some laws [] tag t s h m i posting = absurd h

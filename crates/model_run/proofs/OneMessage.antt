@@ -1,4 +1,4 @@
--- One system posts, and from then on messages only move: who has the message, and from whom.
+-- One system posts, and then messages only move: the holders of the message, and their senders.
 use Rattle.std.proofs.Common.{◌≡◌, ◌⊎◌, inl, inr, refl, sym, subst, ap, ◌∙◌, ℕ, ◌≤◌, ◌==◌, arith, List, [], ◌∷◌, ◌++◌, length, take, map, Option, Some, None}
 use Rattle.std.specs.Prelude.{Bool, true, false, is_none, if◌then◌else◌}
 use Rattle.std.specs.List.{AllByRecursion}
@@ -31,7 +31,7 @@ use Rattle.model_run.proofs.Tags.{upper-same}
 use Rattle.model_run.proofs.WholeRuns.{taking-file}
 use Rattle.model_run.proofs.Targets.{some_same}
 
--- the message that it files
+-- the message that the system files
 abbrev pub post_of : LinkFile → List ℕ → Filed
 post_of file tag = posted file tag trial_draft 1 trial_moment
 
@@ -60,7 +60,7 @@ pub record Arrived (run : Run) (s : System) (m : Filed) : Type 0 where
   pub copy : Among m (copies packet)
   pub link : is_link s.file m.echo.tag (origin packet) ≡ true
 
--- only this message is filed, by its poster and where it came in a packet, and nothing was purged
+-- only this message is filed, by its poster and by receivers of a packet, and nothing was purged
 pub record OnlyPosted (i : ℕ) (p : Filed) (run : Run) : Type 0 where
   pub from : (j : ℕ) (s : System) → nth j run.systems ≡ Some s → (m : Filed) → Among m s.history → ((j ≡ i) × (m ≡ p)) ⊎ Arrived run s m
   pub whole : (j : ℕ) (s : System) → nth j run.systems ≡ Some s → s.base ≡ s.history
@@ -74,7 +74,7 @@ tossing-whole sender [] s e = e
 tossing-whole sender (q ∷ ms) s e =
     tossing-whole sender ms (filing s (tossing s.file s.base sender q)) (filing-whole s (tossing s.file s.base sender q) e)
 
--- a packet with more of the run, or a system that stays the one of its file
+-- the run has more packets, or the system stays the one with its file
 arrived-more : (run after : Run) (s z : System) (m : Filed) → ((q : Packet) → Among q run.packets → Among q after.packets) → z.file ≡ s.file →
     Arrived run s m → Arrived after z m
 arrived-more run after s z m more same a = record {
@@ -86,7 +86,7 @@ arrived-more run after s z m more same a = record {
 }
 
 module _ (files : List LinkFile) (known : LawsOfRuns files) (i : ℕ) (p : Filed) where
-  -- the first messages of a packet come to the system that it is for
+  -- the first messages of a packet come to its receiver
   module _ (events : List RunEvent) (only : OnlyPosted i p (run_of files events)) (q : Packet) (at : Among q (run_of files events).packets) (n : ℕ) where
     abbrev run : Run
     run = run_of files events

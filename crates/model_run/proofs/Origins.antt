@@ -35,7 +35,7 @@ use Rattle.model_run.proofs.RulesLists.{Among-map_to, Among-map_from}
 abbrev pub Origin : List System → Filed → Type 0
 Origin ss m = (f : System) × Among f ss × ((o : Filed) × Among o f.history × (o.sender ≡ None) × (key_of o ≡ key_of m) × (content_of o ≡ content_of m))
 
--- what has the key and the content of a message has its origin
+-- a message with the key and the content of another has its origin
 Origin-same : (ss : List System) (m n : Filed) → key_of n ≡ key_of m → content_of n ≡ content_of m → Origin ss m → Origin ss n
 Origin-same ss m n key content from =
     let (f, at_f, rest) = from in
@@ -56,7 +56,7 @@ Among-changed_to (suc i) f x (y ∷ xs) h =
       | inr t ↦ (let (z, j, e) = Among-changed_to i f x xs t in (z, inr j, e))
     ]
 
--- what a system has it keeps
+-- a system keeps its messages
 abbrev pub Keeps : (System → System) → Type 0
 Keeps f = (s : System) (m : Filed) → Among m s.history → Among m (f s).history
 
@@ -90,7 +90,7 @@ tossing-new sender (q ∷ ms) s m h =
     ]
 
 module _ (laws : Laws) where
-  -- one system changes: what is new there has an origin
+  -- one system changes: each new message has an origin
   change-traced : (run : Run) → Traced run → (i : ℕ) (f : System → System) → Keeps f →
       ((s : System) → Among s run.systems → Among (f s) (change i f run.systems) → (m : Filed) → Among m (f s).history → Among m s.history ⊎ Origin (change i f run.systems) m) →
       (s : System) → Among s (change i f run.systems) → (m : Filed) → Among m s.history → Origin (change i f run.systems) m

@@ -14,7 +14,7 @@ any-map : {X Y : Type 0} (p : Y → Bool) (g : X → Y) (xs : List X) → list_a
 any-map p g [] = refl
 any-map p g (x ∷ xs) = ap (λ (b : Bool). p (g x) || b) (any-map p g xs)
 
--- what tells of an entry whether the system of an address has the area, and lists a link
+-- whether an entry says that the system of an address has the area, and lists a link
 abbrev entry_carries : Address → (Address × Option Area) → Bool
 entry_carries a entry = same_address entry.0 a && is_some entry.1
 

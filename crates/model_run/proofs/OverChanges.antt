@@ -1,4 +1,4 @@
--- Over changes of link files systems keep what they filed.
+-- Systems keep their filed messages over changes of link files.
 use Rattle.std.proofs.Common.{inl, inr, refl, sym, ap, ◌∙◌, arith, List, [], ◌∷◌}
 use Rattle.std.proofs.lemmas.List.{append-nil}
 use Rattle.model_graph.specs.Walk.{Among}
@@ -15,7 +15,7 @@ use Rattle.model_run.proofs.LaterSystems.{events-last}
 use Rattle.model_run.proofs.Renewal.{SameSystems, renewed-ok, renewed-to}
 use Rattle.model_run.proofs.HarmLists.{among-nth}
 
--- each system of the one run is in the other one, where it has filed no less
+-- each system of the first run is in the second, and has filed no less there
 pub record Outlives (run after : Run) : Type 0 where
   pub later : (s : System) → Among s run.systems → (z : System) × Among z after.systems × HasGrown s z
 
@@ -44,7 +44,7 @@ module _ (laws : Laws) where
   events-ok : (run : Run) → RunOk run → (events : List RunEvent) → RunOk (after_events run events)
   events-ok run ok events = along (λ r. RunOk r) (λ r event. event-ok laws r event) events run ok
 
-  -- on every list of epochs
+  -- for every list of epochs
   pub epoch-ok : (run : Run) (epoch : Epoch) → FilesFit epoch.files → RunOk run → RunOk (after_epoch run epoch)
   epoch-ok run epoch fit ok = events-ok (changed_to run epoch.files) (renewed-ok laws run epoch.files fit ok) epoch.events
 

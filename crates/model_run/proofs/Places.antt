@@ -1,4 +1,4 @@
--- In a net where each address has one file: which system has an address, and which links it lists.
+-- A net with one file for each address: the system of an address, and the links that it lists.
 use Rattle.std.proofs.Common.{◌≡◌, refl, sym, subst, ap, ◌∙◌, ℕ, zero, suc, IsTrue, List, [], ◌∷◌, map, Some}
 use Rattle.std.specs.Prelude.{true, ◌&&◌}
 use Rattle.echo_addr.specs.declared.address.Address.{Address}
@@ -19,7 +19,7 @@ use Rattle.model_run.proofs.RulesLists.{Among-map_to}
 use Rattle.model_run.proofs.Targets.{some_same, none_some}
 use Rattle.model_run.proofs.Areas.{one_name as different-same}
 
--- in a list of different images an image stands at one index
+-- in a list of different images an image has one index
 different-index : {X Y : Type 0} (g : X → Y) (xs : List X) → Different (map g xs) → (i j : ℕ) (x y : X) → nth i xs ≡ Some x → nth j xs ≡ Some y → g x ≡ g y → i ≡ j
 different-index {X} {Y} g [] d i j x y at_i at_j e = absurd (none_some at_i)
 different-index g (z ∷ xs) d zero zero x y at_i at_j e = refl
@@ -82,7 +82,7 @@ carrier-area files tag one_file file h a e carries =
     let same = different-same (λ (f : LinkFile). f.system) files one_file file own h i (e ∙ sym q) in
     ap (λ (f : LinkFile). has_area f tag) same ∙ area
 
--- who lists a link is a carrier
+-- a system that lists a link is a carrier
 pub lister-carries : (files : List LinkFile) (tag : List ℕ) (a b : Address) → IsTrue (lists files tag a b) → Carries files tag a
 lister-carries files tag a b link =
     let (file, h, e, t) = lists-file files tag a b link in

@@ -50,7 +50,7 @@ module _ (files : List LinkFile) (known : LawsOfRuns files) (tag : List ℕ) (i 
       let all = ap (λ (ps : List Packet). sent_count a (key_of p) ps) (known.packets events) in
       omega (arith, one, all, sent-part a (key_of p) i (exports files events))
 
-  -- it is sent its own, where it lists itself
+  -- a system that lists itself is sent its own posting
   pub own-sent : is_link file tag file.system ≡ true → SentItsOwn (run_of files (post_and_scan i tag)) tag
   own-sent link = record {
     system = scanned-poster;
@@ -62,7 +62,7 @@ module _ (files : List LinkFile) (known : LawsOfRuns files) (tag : List ℕ) (i 
     sent = sent-to_link file.system link;
   }
 
--- who lists itself is sent its own at once
+-- a system that lists itself is sent its posting at once
 pub listed-sent : (files : List LinkFile) → LawsOfRuns files → (tag : List ℕ) (a : Address) → IsTrue (lists files tag a a) →
     (i : ℕ) × SentItsOwn (run_of files (post_and_scan i tag)) tag
 listed-sent files known tag a lists_itself =

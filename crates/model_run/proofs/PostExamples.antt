@@ -1,4 +1,4 @@
--- Postings by computation: what is accepted, and the first refusal that applies.
+-- Postings by computation: accepted ones, and the first refusal that applies.
 use Rattle.std.proofs.Common.{◌≡◌, [], ◌∷◌, refl, Some, None, codes, replicate}
 use Rattle.std.specs.Fmt.{digits}
 use Rattle.echo_text.specs.Lines.{after_word, begins, lines, trimmed}
@@ -44,7 +44,7 @@ longest : post_refusal first_file [] (codes "TEST") (record draft { to_name = re
 unfolding post_refusal
 longest = refl
 
--- B5: each part by itself, so that the 31st of February is accepted
+-- B5: each part by itself, so the 31st of February is accepted
 month_thirteen : post_refusal first_file [] (codes "TEST") draft 1 (record stamp { month = 13 }) ≡ Some fault.BadStamp
 unfolding post_refusal
 month_thirteen = refl
@@ -57,7 +57,7 @@ february : post_refusal first_file [] (codes "TEST") draft 1 (record stamp { mon
 unfolding post_refusal
 february = refl
 
--- B6; blanks alone are no empty reply
+-- B6; a reply of blanks is no empty reply
 no_id : post_refusal first_file [] (codes "TEST") (record draft { reply = codes "x" }) 1 stamp ≡ Some fault.BadReply
 unfolding post_refusal is_id trimmed
 no_id = refl
@@ -77,7 +77,7 @@ reply_before_serial : post_refusal first_file (first_posting ∷ []) (codes "TES
 unfolding post_refusal is_id trimmed
 reply_before_serial = refl
 
--- B4: in each area, also where the message came from a link
+-- B4: in each area, also if the message came from a link
 abbrev two_areas : LinkFile
 two_areas = record first_file { areas = record { tag = codes "OTHER"; links = [] } ∷ first_file.areas }
 
@@ -97,7 +97,7 @@ next_serial : posting first_file (first_posting ∷ []) (codes "TEST") draft 2 s
 unfolding posting post_refusal posted posted_lines id_of trimmed lines digits msgid_of begins after_word
 next_serial = refl
 
--- an empty line of the body is kept, also the last one
+-- the posting keeps an empty line of the body, also the last one
 empty_line_kept : lines (97 ∷ (13 ∷ (13 ∷ []))) ≡ (97 ∷ []) ∷ ([] ∷ [])
 unfolding lines
 empty_line_kept = refl

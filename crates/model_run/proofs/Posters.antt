@@ -1,4 +1,4 @@
--- Whose posting shows a fault.
+-- The poster that shows each fault.
 use Rattle.std.proofs.Common.{◌≡◌, ◌≢◌, ◌⊎◌, inl, inr, sym, subst, ◌∙◌, ℕ, IsTrue, List, ◌∷◌}
 use Rattle.std.specs.Prelude.{Bool}
 use Rattle.echo_addr.specs.declared.address.Address.{Address}
@@ -37,7 +37,7 @@ module _ (files : List LinkFile) (known : LawsOfRuns files) (tag : List ℕ) (on
             (spread files known tag one_file all_known trial.index file trial.at area trial.moves trial.rests.only_moves unharmed)
       ]
 
-  -- where it cannot spread, it does harm
+  -- if it cannot spread, it does harm
   refuted : (P : Address → Type 0) → ((f : Address) (Has : Address → Filed → Type 0) → Spread linked Carrier f Has → P f → ⊥) →
       (a : Address) → Carrier a → P a → (trial : Trial files tag a) → ShowsHarm files tag a trial
   refuted P never a carries holds trial =
@@ -75,7 +75,7 @@ module _ (files : List LinkFile) (known : LawsOfRuns files) (tag : List ℕ) (on
       hidden-shown alone.by b (lister-carries files tag alone.by a alone.lists_it) twins.second
       (inr (a, alone.lists_it, sym twins.one_net_node)) (λ e. alone.another.1 (sym e)) alone.not_the_other
 
-  -- a pinch is shown by the posting of b, or by that of one of the two links
+  -- the posting of b, or that of one of the two links, shows a pinch
   module _ (joined : Joined files tag) (b a c : Address) (pinch : IsPinched files tag b a c) where
     simple : Simple linked
     simple = record { both_ways = joined.both; no_self = joined.no_self }

@@ -1,4 +1,4 @@
--- Systems that get other link files keep what they have.
+-- Systems with other link files keep their messages.
 use Rattle.std.proofs.Common.{◌≡◌, inl, inr, refl, sym, subst, ap, arith, List, [], ◌∷◌, map, length}
 use Rattle.model_graph.specs.Walk.{Among}
 use Rattle.echo_links.specs.Links.{LinkFile}
@@ -10,7 +10,7 @@ use Rattle.model_run.proofs.Bases.{SystemOk}
 use Rattle.model_run.proofs.WellFormed.{RunOk, start-ok}
 use Rattle.model_run.proofs.Areas.{address_of}
 
--- the files are of these systems, in order
+-- the files belong to these systems, in order
 abbrev pub SameSystems : List System → List LinkFile → Type 0
 SameSystems ss files = map address_of ss ≡ addresses files
 
@@ -29,7 +29,7 @@ later_same e = cc
 none_left : {X : Type 0} {x : X} {xs : List X} → [] ≡ x ∷ xs → ⊥
 none_left {X} {x} {xs} e = absurd (omega (arith, ap (λ (ys : List X). length ys) e))
 
--- each system was one before, and each has become one
+-- each new system was one before, and each old one has become one
 pub renewed-back : (files : List LinkFile) (ss : List System) (z : System) → SameSystems ss files → Among z (with_files files ss) →
     (s : System) × Among s ss × Renewed s z
 renewed-back [] [] z same h = absurd h
@@ -61,7 +61,7 @@ renewed-files [] (s ∷ ss) same = absurd (none_left (sym same))
 renewed-files (file ∷ files) (s ∷ ss) same = ap (λ (fs : List LinkFile). file ∷ fs) (renewed-files files ss (later_same same))
 
 module _ (laws : Laws) where
-  -- what holds of systems on every net holds of them with files that were read, whichever systems they are of
+  -- a property of systems on every net is one of systems with any files that were read
   renewed-each : (files : List LinkFile) → FilesFit files → (ss : List System) → ((s : System) → Among s ss → SystemOk s) →
       (z : System) → Among z (with_files files ss) → SystemOk z
   renewed-each files fit [] each z h = (start-ok laws files fit).systems z h

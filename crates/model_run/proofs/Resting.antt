@@ -1,4 +1,4 @@
--- Any run is brought to rest by scans and deliveries.
+-- Scans and deliveries bring any run to rest.
 use Rattle.std.proofs.Common.{◌≡◌, ◌≢◌, ◌⊎◌, inl, inr, refl, sym, subst, ap, ◌∙◌, ℕ, zero, suc, ◌<◌, ◌≤◌, ◌==◌, arith, List, [], ◌∷◌, ◌++◌, length, take, drop, map, Option, Some, None}
 use Rattle.std.specs.Prelude.{Bool, true, false, ◌&&◌, filter, is_none, if◌then◌else◌}
 use Rattle.std.specs.List.{AllByRecursion, list_any}
@@ -35,7 +35,7 @@ use Rattle.model_run.proofs.HarmSteps.{after_one_more, all-append, run-files, to
 use Rattle.model_run.proofs.RulesLists.{Among-map_to, Among-map_from}
 use Rattle.model_run.proofs.Targets.{some_same, none_some}
 
--- the key of a received message does not hang on its sender
+-- the key of a received message does not depend on its sender
 key-same : (a b : Address) (q : Message) (o : Option (List ℕ)) → key_with (received a q) o ≡ key_with (received b q) o
 unfolding received
 key-same a b q None = refl
@@ -46,7 +46,7 @@ unfolding key_of received
 received-key a b q = key-same a b q (msgid_of (echo_of q.text).kept)
 
 module _ (files : List LinkFile) (known : LawsOfRuns files) where
-  -- a system of a run has one of the files, and each file is a system's
+  -- a system of a run has one of the files, and each file has a system
   pub file-there : (events : List RunEvent) (s : System) → Among s (run_of files events).systems → Among s.file files
   file-there events s h =
       let P : List LinkFile → Type 0 = λ fs. Among s.file fs in
@@ -73,7 +73,7 @@ module _ (files : List LinkFile) (known : LawsOfRuns files) where
       Among-map_from (λ (e : Export). e.packet) p (exports files events) (subst P (sym (known.packets events)) h)
 
   module _ (keys : List Key) where
-    -- all that was filed has some of these keys
+    -- each filed message has one of these keys
     abbrev pub Within : Run → Type 0
     Within run = (s : System) → Among s run.systems → (m : Filed) → Among m s.history → Among (key_of m) keys
 
@@ -94,7 +94,7 @@ module _ (files : List LinkFile) (known : LawsOfRuns files) where
         let to_file = (known.toss s.file s.base sender q).0 (h ∙ ap (λ (x : Filed). Some x) same) in
         ap (λ (x : Filed). is_known s.base (key_of x)) same ∙ to_file.new
 
-    -- what a delivery does: no system changes, or more is filed
+    -- the effect of a delivery: no system changes, or more is filed
     record Fewer (before after : Run) : Type 0 where
       within : Within after
       fewer : all_lacking keys after.systems < all_lacking keys before.systems
@@ -103,7 +103,7 @@ module _ (files : List LinkFile) (known : LawsOfRuns files) where
     abbrev Quiet : Run → Type 0
     Quiet run = (s : System) → Among s run.systems → drop s.cursor s.base ≡ []
 
-    -- no file is of the address that the packet goes to
+    -- no file has the address that the packet goes to
     abbrev GoesNowhere : Packet → Type 0
     GoesNowhere p = (file : LinkFile) → Among file files → file.system ≢ destination p
 
@@ -151,7 +151,7 @@ module _ (files : List LinkFile) (known : LawsOfRuns files) where
                 ])
           ]
 
-      -- before that others may have come
+      -- other packets may have come before it
       module _ (before : Run) (rests : Rests before run k) where
         earlier : (after : List ℕ) → ((j : ℕ) → Among j run.delivered → Among j after) → (j : ℕ) (q : Packet) → j < k → nth j run.packets ≡ Some q →
             Among j after ⊎ GoesNowhere q
@@ -305,7 +305,7 @@ module _ (files : List LinkFile) (known : LawsOfRuns files) where
         }
 
     module _ (tag : List ℕ) (all_known : AllAreCarriers files tag) where
-      -- a packet with a message of the area goes somewhere
+      -- a packet with a message of the area has a receiver
       goes_somewhere : (events : List RunEvent) (p : Packet) → Among p (run_of files events).packets → (c : Filed) → Among c (copies p) → c.echo.tag ≡ tag →
           ¬ GoesNowhere p
       goes_somewhere events p h c i of_area nowhere =
@@ -322,7 +322,7 @@ module _ (files : List LinkFile) (known : LawsOfRuns files) where
           let (file, j, t) = any-from (λ file. same_address file.system to && has_area file tag) files (all_known s.file.system to listed) in
           nowhere file j ((same_address_decides file.system to).0 (and-parts (same_address file.system to) (has_area file tag) t).0 ∙ ap (λ (x : Packet). destination x) (sym same))
 
-      -- one round: all systems scan, and packets come until one of them is news
+      -- one round: all systems scan, and packets come until one of them brings something new
       record Round (events : List RunEvent) : Type 0 where
         more : List RunEvent
         moves : AllByRecursion IsMove more
@@ -391,7 +391,7 @@ module _ (files : List LinkFile) (known : LawsOfRuns files) where
             | inr settled ↦ record { more = one.more; moves = one.moves; settled = settled }
           ]
 
--- the keys of all that systems filed
+-- the keys of all filed messages
 all_keys : List System → List Key
 all_keys [] = []
 all_keys (s ∷ ss) = map key_of s.history ++ all_keys ss

@@ -1,4 +1,4 @@
--- Rounds bring one message to rest: each is news to a system, or the last.
+-- Rounds bring one message to rest: each round brings it to a new system, or is the last.
 use Rattle.std.proofs.Common.{◌≡◌, ◌⊎◌, inl, inr, refl, sym, subst, ap, ◌∙◌, ℕ, zero, suc, ◌+◌, ◌<◌, ◌≤◌, ◌==◌, arith, List, [], ◌∷◌, ◌++◌, length, take, drop, Option, Some, None}
 use Rattle.std.specs.Prelude.{Bool, true, false, ◌&&◌, if◌then◌else◌, nat_le}
 use Rattle.std.specs.List.{flat_map, list_all, list_any}
@@ -46,13 +46,13 @@ among-flat g y (x ∷ xs) h =
       | inr later ↦ (let (z, i, there) = among-flat g y xs later in (z, inr i, there))
     ]
 
--- a packet of a scan goes to a target of something that waits
+-- a packet of a scan goes to a target of a waiting message
 recipient-target : (file : LinkFile) (waiting : List Filed) (a : Address) → Among a (recipients file waiting) →
     (m : Filed) × Among m waiting × Among a (targets file m)
 unfolding recipients
 recipient-target file waiting a h = among-flat (targets file) a waiting (the_laws.addresses_only a (flat_map (targets file) waiting) h)
 
--- nothing is missing where all indexes are delivered
+-- nothing is missing if all indexes are delivered
 none-missing : (delivered : List ℕ) (k : ℕ) (ps : List Packet) → ((j : ℕ) → j < length ps → Among (k + j) delivered) → missing delivered k ps ≡ 0
 none-missing delivered k [] all = refl
 none-missing delivered k (p ∷ ps) all =
@@ -67,7 +67,7 @@ none-missing delivered k (p ∷ ps) all =
     is-same : (n : ℕ) → (n == n) ≡ true
     is-same n = grind (arith, nat_tests)
 
--- nothing waits where each list from the cursor on is empty
+-- nothing waits if each list is empty from the cursor on
 all-scanned : (ss : List System) → ((s : System) → Among s ss → drop s.cursor s.base ≡ []) → list_all (λ s. nat_le (length s.base) s.cursor) ss ≡ true
 all-scanned [] quiet = refl
 all-scanned (s ∷ ss) quiet =
@@ -83,7 +83,7 @@ all-scanned (s ∷ ss) quiet =
     both true b e f = f
     both false b e f = absurd (not_both false e refl)
 
--- each system lacks one key at most
+-- each system lacks at most one key
 few_lack : (key : Key) (ss : List System) → all_lacking (key ∷ []) ss ≤ length ss
 few_lack key [] = omega arith
 few_lack key (s ∷ ss) = omega (arith, few_lack key ss, one (is_known s.base key))
@@ -249,7 +249,7 @@ module _ (files : List LinkFile) (known : LawsOfRuns files) (tag : List ℕ) (al
       subst Q (append_assoc events (deliveries n) (Delivery n ∷ []))
       (after_one_more P files before (Delivery n) (one_comes start before n so_far (nth n (run_of files before).packets) refl))
 
-  -- after so many rounds the run has settled, or so few systems lack the message
+  -- after `n` rounds the run has settled, or at least `n` systems have the message
   pub record Progress (events : List RunEvent) (n : ℕ) : Type 0 where
     pub within : Only (run_of files events)
     home : Home (run_of files events)
@@ -297,7 +297,7 @@ module _ (files : List LinkFile) (known : LawsOfRuns files) (tag : List ℕ) (al
       sizes : (es : List RunEvent) → length (run_of files es).systems ≡ length files
       sizes es = sym (length-map (run_of files es).systems (λ (s : System). s.file)) ∙ ap (λ (fs : List LinkFile). length fs) (run-files files es)
 
-  -- nothing but the posting has happened
+  -- only the posting has happened
   pub first-progress : Progress (trial_posting i tag ∷ []) 0
   first-progress =
       let run = run_of files (trial_posting i tag ∷ []) in
@@ -314,7 +314,7 @@ module _ (files : List LinkFile) (known : LawsOfRuns files) (tag : List ℕ) (al
         out = inr (omega (arith, few_lack (key_of (post_of file tag)) run.systems, size));
       }
 
-  -- there are no more rounds than systems, and one
+  -- more rounds than systems are enough
   pub rounds-settle : (events : List RunEvent) (n : ℕ) → length files < n → Progress events n → is_settled (run_of files events) ≡ true
   rounds-settle events n many so_far =
       elim so_far.out [

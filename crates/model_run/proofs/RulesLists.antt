@@ -1,4 +1,4 @@
--- Members of lists that were made of others, and lists in which none stands twice.
+-- Members of lists that were made of others, and lists without repeats.
 use Rattle.std.proofs.Common.{◌≡◌, inl, inr, refl, ap, List, [], ◌∷◌, ◌++◌, map}
 use Rattle.model_graph.specs.Walk.{Among, Different}
 use Rattle.model_graph.proofs.Members.{Among-append_cases}

@@ -15,7 +15,7 @@ use Rattle.model_run.proofs.RulesLists.{Among-map_from}
 use Rattle.model_run.proofs.Steps.{Has-cases, posting-keeps, arrival-keeps, coming-keeps, exporting-keeps}
 
 module _ {A N K C : Type 0} (net : Net A N) (Same : C → C → Type 0) where
-  -- what is known of a run by the rules
+  -- a run by the rules
   abbrev pub ByRules : List (Event A N K C) → Type 0
   ByRules run = Always (IsPossible net) run × ((rule : Rule) → Kept net Same run rule)
 
@@ -48,7 +48,7 @@ module _ {A N K C : Type 0} (net : Net A N) (Same : C → C → Type 0) where
       each telling = (h.1 telling).1
       each keys = (h.1 keys).1
 
--- before anything happened nothing was against them
+-- the empty run keeps the rules
 pub nothing-by_rules : {A N : Type 0} (K C : Type 0) (net : Net A N) (Same : C → C → Type 0) → ByRules {K = K} net Same []
 nothing-by_rules K C net Same = (tt, each)
   where
@@ -61,7 +61,7 @@ nothing-by_rules K C net Same = (tt, each)
 
 module _ {A N K C : Type 0} (can : CanTell A) (can_keys : CanTell K) (net : Net A N) (tidy : Tidy net)
     (Same : C → C → Type 0) (compares : Compares Same) where
-  -- before anything happened
+  -- the invariant of the empty run
   nothing-yet : Invariant {K = K} net Same (view_of [])
   nothing-yet = record {
     once = tt;
@@ -102,7 +102,7 @@ module _ {A N K C : Type 0} (can : CanTell A) (can_keys : CanTell K) (net : Net 
   always (event ∷ run) h = event-keeps event run (always run (earlier-by_rules net Same event run h)) h
 
   module _ (run : List (Event A N K C)) (inv : Invariant net Same (view_of run)) where
-    -- no system is sent what it posted
+    -- no system is sent its own posting
     never-own : (m : Filed A N K C) → Among m (filed run) → m.sender ≡ None → ¬ Among (place m) (map goal (copies run))
     never-own m h own sent_back =
         let (c, i, e) = Among-map_from goal (place m) (copies run) sent_back in
@@ -117,7 +117,7 @@ module _ {A N K C : Type 0} (can : CanTell A) (can_keys : CanTell K) (net : Net 
           | inr t ↦ t
         ]
 
-    -- where the run has settled, a posting is at each carrier
+    -- if the run has settled, each carrier has the posting
     module _ (settled : IsSettled run) (p : Filed A N K C) (at_p : Among p (filed run)) (own : p.sender ≡ None) where
       arrives : (x : A) → IsTrue (net.carries x) → Has x p.text.key (filed run)
       arrives x at_x =

@@ -1,4 +1,4 @@
--- What one scan makes, on every net.
+-- The packets of one scan, on every net.
 use Rattle.std.proofs.Common.{◌≡◌, ◌≢◌, inl, inr, refl, sym, subst, ap, ◌∙◌, ℕ, arith, List, [], ◌∷◌, drop, map}
 use Rattle.std.specs.Prelude.{true, false, filter, if◌then◌else◌, Some}
 use Rattle.std.specs.List.{list_any}
@@ -70,7 +70,7 @@ module _ (laws : Laws) (s : System) (ok : SystemOk s) (stamp : Stamp) where
       let (address, _, e) = scanned-from laws s.file s.base s.cursor stamp p h in
       ap (λ (q : Packet). origin q) e ∙ packet-origin s.file stamp waits address
 
-  -- each message of a packet is the copy of one that waits, for one of its targets
+  -- each message of a packet is the copy of a waiting message, for one of its targets
   pub scanned-copied : (p : Packet) → Among p (scanned s.file s.base s.cursor stamp) → (c : Filed) → Among c (copies p) →
       (m : Filed) × Among m (drop s.cursor s.history) × Targeted laws s.file m (destination p) × (c ≡ copied s.file m)
   scanned-copied p h c i =
@@ -102,7 +102,7 @@ module _ (laws : Laws) (s : System) (ok : SystemOk s) (stamp : Stamp) where
         }),
       )
 
-  -- and each target of one that waits is sent it
+  -- and each target of a waiting message is sent it
   pub target-packet : (m : Filed) → Among m (drop s.cursor s.history) → (a : Address) → Targeted laws s.file m a →
       (p : Packet) × Among p (scanned s.file s.base s.cursor stamp) × (origin p ≡ s.file.system) × (destination p ≡ a) × Among (copied s.file m) (copies p)
   target-packet m h a target =
@@ -118,7 +118,7 @@ module _ (laws : Laws) (s : System) (ok : SystemOk s) (stamp : Stamp) where
             (Among-filter_to (goes_to s.file a) m waits i (goes-to laws s.file m a target))),
       )
 
-  -- and of each that goes to an address the copy for it is in a packet to it
+  -- the copy of each message for an address is in a packet to it
   pub copy-packet : (m : Filed) → Among m (drop s.cursor s.history) → (a : Address) → goes_to s.file a m ≡ true →
       (p : Packet) × Among p (scanned s.file s.base s.cursor stamp) × (destination p ≡ a) × Among (copy_to s.file a m) p.messages
   copy-packet m h a goes =
@@ -183,7 +183,7 @@ module _ (laws : Laws) (s : System) (ok : SystemOk s) (stamp : Stamp) where
         to-none a k (recipients s.file waits) not_there ∙ ap (λ (ms : List Filed). count k ms) (sym (none-goes a not_there)))
   ]
 
-  -- each target of a message that waits gets one copy of it
+  -- each target of a waiting message gets one copy of it
   pub scanned-count : (a : Address) (k : Key) →
       sent_count a k (scanned s.file s.base s.cursor stamp) ≡ count k (filter (goes_to s.file a) (drop s.cursor s.history))
   scanned-count a k =

@@ -1,4 +1,4 @@
--- A scan exports what it passes, one message at a time.
+-- A scan exports the waiting messages, one at a time.
 use Rattle.std.proofs.Common.{◌≡◌, ◌≢◌, ◌⊎◌, ◌↔◌, inl, inr, refl, sym, subst, ap, ◌∙◌, ℕ, ◌+◌, arith, List, [], ◌∷◌, ◌++◌, append_assoc, length, take, drop, map, Some}
 use Rattle.std.specs.Prelude.{Bool, false, bytes_eq, filter, ◌&&◌}
 use Rattle.std.proofs.lemmas.Bool.{cond-false}
@@ -32,7 +32,7 @@ use Rattle.model_run.proofs.Histories.{RCopy, REvent, RFiled, filed-after, filed
 use Rattle.model_run.proofs.RulesLists.{Among-map_to, Among-map_from}
 use Rattle.model_run.proofs.Targets.{some_same}
 
--- how many copies went to an address, of lists put together, and of one message
+-- the number of copies to an address, for joined lists, and for one message
 copy_count-append : (x : Address) (k : Key) (cs ds : List RCopy) → copy_count x k (cs ++ ds) ≡ copy_count x k cs + copy_count x k ds
 copy_count-append x k [] ds = omega arith
 copy_count-append x k (c ∷ cs) ds = omega (arith, copy_count-append x k cs ds)
@@ -125,7 +125,7 @@ module _ (laws : Laws) (tag : List ℕ) (s : System) (ok : SystemOk s) where
         | inr t ↦ Among-append_right (copy_of x m) (map (copy_to (filed_as (address_of s) n) (λ x. text_of n)) (targets_of n)) (new_copies ms) (new-to ms m x t i)
       ]
 
-  -- as many copies as messages that go there
+  -- there are as many copies as messages that go there
   count-new : (x : Address) (k : Key) (ms : List Filed) → copy_count x k (new_copies ms) ≡ count k (filter (goes_to s.file x) ms)
   count-new x k [] = refl
   count-new x k (m ∷ ms) =
@@ -152,7 +152,7 @@ module _ (laws : Laws) (tag : List ℕ) (s : System) (ok : SystemOk s) where
         )
       ]
 
-  -- of those of the area where the key is of the area
+  -- for a key of the area, only messages of the area count
   abbrev in_area : Filed → Bool
   in_area m = bytes_eq m.echo.tag tag
 
@@ -177,7 +177,7 @@ module _ (laws : Laws) (tag : List ℕ) (s : System) (ok : SystemOk s) where
             ])
       ]
 
-  -- what waits of the area
+  -- the waiting messages of the area
   abbrev pub waits : List Filed
   waits = filter in_area (drop s.cursor s.history)
 

@@ -1,4 +1,4 @@
--- What goes to an address goes to the first file of it: a second one gets nothing.
+-- Packets go to the first file with their address: a second file gets nothing.
 use Rattle.std.proofs.Common.{◌≡◌, ◌≢◌, inl, inr, sym, subst, ap, ◌∙◌, ℕ, zero, suc, ◌+◌, ◌<◌, ◌≤◌, arith, List, [], ◌∷◌, ◌++◌, length, map, Option, Some, None}
 use Rattle.std.specs.Prelude.{Bool, true, false, not, if◌then◌else◌}
 use Rattle.std.specs.List.{position_or_len}
@@ -25,7 +25,7 @@ use Rattle.model_run.proofs.Resting.{runs-settle}
 use Rattle.model_run.proofs.HarmSteps.{after_one_more, along, run-files}
 use Rattle.model_run.proofs.Targets.{some_same, none_some}
 
--- no item that passes stands before the first
+-- no item before the first passes
 first_is_least : {X : Type 0} (p : X → Bool) (xs : List X) (i : ℕ) (x : X) → nth i xs ≡ Some x → p x ≡ true → position_or_len p xs ≤ i
 first_is_least {X} p [] i x at t = absurd (none_some at)
 first_is_least {X} p (y ∷ xs) i x at t =
@@ -105,7 +105,7 @@ module _ (files : List LinkFile) (i j : ℕ) (before : i < j) (first second : Li
   moved-nothing events (Scanning k stamp) move empty = scanned-nothing events empty k stamp (nth k (run_of files events).systems)
   moved-nothing events (Delivery k) move empty = delivered-nothing events empty k (nth k (run_of files events).packets)
 
-  -- where another system posts, and all settles, the second file's lacks the posting
+  -- if another system posts, and all settles, the system of the second file lacks the posting
   module _ (known : LawsOfRuns files) (tag : List ℕ) (all_known : AllAreCarriers files tag) (area : has_area second tag ≡ true)
       (k : ℕ) (other : k ≢ j) (third : LinkFile) (third_at : nth k files ≡ Some third) (third_area : has_area third tag ≡ true) where
     nothing_first : HasNothing (run_of files (trial_posting k tag ∷ []))

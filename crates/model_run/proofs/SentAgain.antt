@@ -1,4 +1,4 @@
--- What a system sends again is in packets that it made before.
+-- Messages sent again are in packets that the system made before.
 use Rattle.std.proofs.Common.{◌≡◌, inl, inr, refl, sym, subst, ap, ◌∙◌, ℕ, List, take, Option, Some, None}
 use Rattle.std.specs.Prelude.{Bool, true, filter, not, is_some, bytes_eq, ◌&&◌, ◌==◌}
 use Rattle.std.proofs.lemmas.Bool.{eqb-true, true≢false}
@@ -26,7 +26,7 @@ use Rattle.model_run.proofs.WholeRuns.{run-ok}
 use Rattle.model_run.proofs.ExportLog.{run-logged}
 use Rattle.model_run.proofs.RulesLists.{Among-map_from}
 
--- what is a stub and is not purged has no id
+-- a stub that is not purged has no id
 no-id : (id : Option (List ℕ)) (stub : Bool) → not (is_some id && stub) ≡ true → stub ≡ true → id ≡ None
 no-id None stub whole is = refl
 no-id (Some id) stub whole is = absurd (true≢false (sym (let P : Bool → Type 0 = λ b. not b ≡ true in subst P is whole)))
@@ -43,7 +43,7 @@ unstubbed b h key none = by-id (msgid_of h.echo.kept) (ap (λ (o : Option (List 
         other : ByContent b.echo.tag b.date b.to_name b.from_name b.subject b.echo.kept ≡ ById h.echo.tag id → ⊥
         other e = cc
 
--- a message that is not purged is as it was filed
+-- a message that is not purged equals the filed one
 as-filed : (area : List ℕ) (b h : Filed) → IsKept b h → is_whole_in area b ≡ true → b ≡ h
 as-filed area b h kept whole =
     elim kept.form [

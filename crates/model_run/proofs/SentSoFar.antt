@@ -1,4 +1,4 @@
--- What was sent, at all times.
+-- The packets sent so far, at all times.
 use Rattle.std.proofs.Common.{◌≡◌, ◌≢◌, inl, inr, refl, sym, subst, ap, ◌∙◌, ℕ, zero, suc, ◌+◌, ◌≤◌, arith, List, [], ◌∷◌, ◌++◌, length, take, drop, None}
 use Rattle.std.specs.Prelude.{Bool, true, false, filter, if◌then◌else◌}
 use Rattle.std.proofs.lemmas.Bool.{cond-true}
@@ -34,7 +34,7 @@ use Rattle.model_run.proofs.Stubs.{IsLoneLeft, event-left, left-length, run-left
 use Rattle.model_run.proofs.Growing.{Grows, events-last, filing-grows, run-append, run-file, tossing-grows}
 use Rattle.model_run.proofs.WellFiled.{event-ok, first-ok, run-ok}
 
--- what was scanned
+-- the scanned messages
 abbrev pub done : System → List Filed
 done s = take s.cursor s.history
 
@@ -44,12 +44,12 @@ pub record IsOwn (s : System) (p : Packet) : Type 0 where
   pub echomail : (packed : Message) → Among packed p.messages → text_refusal packed.text ≡ None
   pub copy : (c : Filed) → Among c (copies p) → (m : Filed) × Among m (done s) × IsSentCopy s.file m (destination p) c
 
--- of all packets so far: their counts are those of what was scanned
+-- the counts in all packets so far are those of the scanned messages
 pub record IsSentSoFar (s : LoneSystem) : Type 0 where
   pub counts_are : (a : Address) (k : Key) → sent_count a k s.sent ≡ count k (filter (goes_to s.system.file a) (done s.system))
   pub packets : (p : Packet) → Among p s.sent → IsOwn s.system p
 
--- a system whose file stays, and what it scanned
+-- a system with the same file and the same scanned messages
 record StaysDone (s z : System) : Type 0 where
   file : z.file ≡ s.file
   done_is : done z ≡ done s
@@ -62,7 +62,7 @@ grown-done s z g within = record {
       ∙ (ap (λ (ms : List Filed). take s.cursor ms) g.filed.1 ∙ take-append-le s.cursor s.history g.filed.0 within);
 }
 
--- what was scanned is no less at a later time
+-- scanned messages stay at later times
 own-later : (s z : System) (p : Packet) → z.file ≡ s.file → ((m : Filed) → Among m (done s) → Among m (done z)) → IsOwn s p → IsOwn z p
 own-later s z p same more own = record {
   origin_is = own.origin_is ∙ ap (λ (f : LinkFile). f.system) (sym same);
@@ -83,14 +83,14 @@ quiet-sent s z stays sofar = record {
       (λ m i. (let P : List Filed → Type 0 = λ ms. Among m ms in subst P (sym stays.done_is) i)) (sofar.packets p h);
 }
 
--- what was scanned was scanned
+-- a message scanned before is scanned later
 take-more : (m : Filed) (n k : ℕ) (ms ns : List Filed) → n ≤ k → Among m (take n ms) → Among m (take k (ms ++ ns))
 take-more m zero k ms ns h i = absurd i
 take-more m (suc n) k [] ns h i = absurd i
 take-more m (suc n) zero (x ∷ ms) ns h i = absurd (omega arith)
 take-more m (suc n) (suc k) (x ∷ ms) ns h i = elim i [ inl e ↦ inl e | inr j ↦ inr (take-more m n k ms ns (omega arith) j) ]
 
--- a scan comes to all that was filed before it
+-- a scan covers all messages filed before it
 scan-done : (file : LinkFile) (earlier later : List LoneEvent) (stamp : Stamp) → is_stamp stamp ≡ true →
     (m : Filed) → Among m (lone_run file earlier).system.history → Among m (done (lone_run file (earlier ++ ScanHere stamp ∷ later)).system)
 scan-done file earlier later stamp in_range m h =
@@ -193,7 +193,7 @@ module _ (laws : Laws) where
   run-sent file fits events plain =
       events-sent events (lone_at_first file) plain (first-ok laws file fits) (record { counts_are = λ a k. refl; packets = λ p h. absurd h })
 
-  -- of any system so far
+  -- for any system so far
   module _ (s : LoneSystem) (ok : SystemOk s.system) (sofar : IsSentSoFar s) where
     owed-goes : (m : Filed) (a : Address) → IsOwed s.system.file m a → goes_to s.system.file a m ≡ true
     owed-goes m a owed = goes-to laws s.system.file m a (record { link = owed.link; not_sender = owed.not_sender; not_seen = owed.unlisted })
@@ -251,7 +251,7 @@ module _ (laws : Laws) where
           ok.once (key_of m),
         )))
 
-  -- of the system of a link file
+  -- for the system of a link file
   module _ (file : LinkFile) (fits : IsFile file) (events : List LoneEvent) (plain : AreOfPackets events) where
     abbrev at_end : LoneSystem
     at_end = lone_run file events
@@ -268,7 +268,7 @@ module _ (laws : Laws) where
     pub owed-back : (m : Filed) (a : Address) → IsOwed at_end.system.file m a → IsOwed file m a
     owed-back m a owed = let P : LinkFile → Type 0 = λ f. IsOwed f m a in subst P (run-file file events) owed
 
-    -- each copy in its packets is of a message that was scanned, for an address that is to get it
+    -- each copy in its packets is the copy of a scanned message, for an address that should get it
     pub copy-owed : (p : Packet) → Among p at_end.sent → (c : Filed) → Among c (copies p) →
         (m : Filed) × Among m (done at_end.system) × IsSentCopy file m (destination p) c × IsOwed file m (destination p)
     copy-owed p h c i =
@@ -278,7 +278,7 @@ module _ (laws : Laws) where
         (laws.addresses.full (destination p) (destination p) refl) in
         (m, j, subst P (run-file file events) sent, owed-back m (destination p) (goes-owed at_end end-ok end-sent m (destination p) goes))
 
-  -- a scan sends all that was filed before it
+  -- a scan sends all messages filed before it
   pub scan-sends : (file : LinkFile) → IsFile file → (earlier later : List LoneEvent) (stamp : Stamp) → AreOfPackets (earlier ++ ScanHere stamp ∷ later) →
       is_stamp stamp ≡ true → (m : Filed) → Among m (lone_run file earlier).system.history →
       (a : Address) → IsOwed file m a → sent_count a (key_of m) (lone_run file (earlier ++ ScanHere stamp ∷ later)).sent ≡ 1

@@ -1,4 +1,4 @@
--- A posting that came to every carrier, each of which was sent it by one system alone: what that says of the links.
+-- A posting came to every carrier from just one system: the consequences for the links.
 use Rattle.std.proofs.Common.{◌≡◌, ◌≢◌, ◌⊎◌, inl, inr, refl, sym, subst, ap, ◌∙◌, ℕ, zero, suc, ◌+◌, ◌≤◌, arith, IsTrue, List, [], ◌∷◌, ◌++◌, length, length-append, Some, None}
 use Rattle.std.specs.Prelude.{Bool, true, false}
 use Rattle.echo_addr.specs.declared.address.Address.{Address}
@@ -30,8 +30,8 @@ pub record Came (linked : Address → Address → Bool) (Holds : Address → Fil
   pub seen_from : (y : Address) → is_seen_by m y ≡ true → (is_seen_by original y ≡ true) ⊎ IsNear linked from y
   pub seen_to : (y : Address) → (is_seen_by original y ≡ true) ⊎ IsNear linked from y → is_seen_by m y ≡ true
 
--- each carrier holds the message, once, and but for the poster it has it from a link; a link that is not listed has
--- it from nobody else
+-- each carrier holds the message once; each except the poster has it from a link; an unlisted link has it from no other
+-- system
 pub record Spread (linked : Address → Address → Bool) (Carrier : Address → Type 0) (f : Address) (Holds : Address → Filed → Type 0) : Type 0 where
   pub posting : Filed
   pub at_poster : Holds f posting
@@ -56,7 +56,7 @@ module _ (linked : Address → Address → Bool) (Carrier : Address → Type 0) 
     (spread : Spread linked Carrier f Holds) where
   open spread use {posting}
 
-  -- what a system holds is the posting at the poster, or came
+  -- a system holds the posting as its poster, or its message came
   pub source : (x : Address) (m : Filed) → Holds x m → ((x ≡ f) × (m ≡ posting)) ⊎ Came linked Holds x m
   source x m h =
       elim (spread.came x m h) [
@@ -64,7 +64,7 @@ module _ (linked : Address → Address → Bool) (Carrier : Address → Type 0) 
         | inr came ↦ inr came
       ]
 
-  -- what has a sender came from it
+  -- a message with a sender came from it
   pub came_from : (x : Address) (m : Filed) → Holds x m → (u : Address) → m.sender ≡ Some u → (c : Came linked Holds x m) × (c.from ≡ u)
   came_from x m h u e =
       elim (source x m h) [
@@ -80,7 +80,7 @@ module _ (linked : Address → Address → Bool) (Carrier : Address → Type 0) 
   pub longer : (x : Address) (m : Filed) (c : Came linked Holds x m) → length m.echo.path ≡ length c.original.echo.path + 1
   longer x m c = ap (λ (es : List NetNode). length es) c.path ∙ length-append c.original.echo.path (net_node_of c.from ∷ [])
 
-  -- some walk leads from the poster to all who hold it
+  -- some walk leads from the poster to each holder
   walks : (n : ℕ) (x : Address) (m : Filed) → length m.echo.path ≤ n → Holds x m → Reaches linked f x
   walks zero x m few h =
       elim (source x m h) [
@@ -103,7 +103,7 @@ module _ (linked : Address → Address → Bool) (Carrier : Address → Type 0) 
       let P : Address → Type 0 = λ a. IsTrue (linked y a) in
       subst P from c.back
 
-  -- who stands in SEEN-BY from the poster on is sent it by nobody but the poster
+  -- only the poster sends the message to a system in the poster's SEEN-BY
   module _ (y : Address) (near : IsNear linked f y) where
     listed : (n : ℕ) (x : Address) (m : Filed) → length m.echo.path ≤ n → Holds x m → x ≢ f → is_seen_by m y ≡ true
     listed zero x m few h other =
@@ -120,7 +120,7 @@ module _ (linked : Address → Address → Bool) (Carrier : Address → Type 0) 
           ]
         ]
 
-    -- so no carrier but a link of the poster is hidden so
+    -- so no carrier is hidden in it unless it is a link of the poster
     pub not_hidden : Carrier y → y ≢ f → IsTrue (linked f y)
     not_hidden carries other =
         let (m, h) = spread.all y carries in
@@ -132,7 +132,7 @@ module _ (linked : Address → Address → Bool) (Carrier : Address → Type 0) 
           ]
         ]
 
-  -- where links are carriers and carriers differ by net and node
+  -- if links are carriers, and carriers differ by net and node
   module _ (known : (a b : Address) → IsTrue (linked a b) → Carrier b)
       (apart : (a b : Address) → Carrier a → Carrier b → net_node_of a ≡ net_node_of b → a ≡ b) where
     pub near-is : (u y : Address) → Carrier u → Carrier y → IsNear linked u y → (y ≡ u) ⊎ IsTrue (linked u y)

@@ -1,4 +1,4 @@
--- What is true of a run of tidy files at all times: its history in the area is one by the rules.
+-- Properties of a run of tidy files at all times: its history in the area keeps the rules.
 use Rattle.std.proofs.Common.{◌≡◌, ◌≢◌, ◌⊎◌, inl, inr, refl, sym, subst, ap, ◌∙◌, ℕ, List, [], ◌∷◌, ◌++◌, take, map, Option, Some, None}
 use Rattle.std.specs.Prelude.{true, false}
 use Rattle.std.proofs.lemmas.List.{take-append-le}
@@ -45,8 +45,8 @@ module _ (laws : Laws) where
   pub can_keys : CanTell Key
   can_keys = Tells-can same_key laws.keys
 
--- of a run of these files: the history of the area is a past in which all had settled, and what happened since
--- by the rules in the net of these files
+-- the history of the area in a run of these files: a settled past, and the events since then by the rules of the net of
+-- these files
 pub record Standing (files : List LinkFile) (tag : List ℕ) (past : List REvent) (run : Run) : Type 0 where
   pub ok : RunOk run
   pub same_files : map (λ (s : System). s.file) run.systems ≡ files
@@ -63,12 +63,12 @@ module _ (laws : Laws) (files : List LinkFile) (tag : List ℕ) (tidy : Tidy fil
   abbrev whole : List REvent
   whole = st.recent ++ past
 
-  -- a message of the area that a system has was filed, by the events
+  -- the events filed each message of the area that a system has
   pub filed-event : (s : System) → Among s run.systems → (m : Filed) → Among m s.history → m.echo.tag ≡ tag → Among (filed_as (address_of s) m) (rules.filed whole)
   filed-event s h m i area =
       (st.history.filed (filed_as (address_of s) m)).1 (record { system = s; there = h; message = m; filed = i; area = area; same = refl })
 
-  -- and what was filed at its address it has
+  -- and it has each message filed at its address
   pub filed-here : (s : System) → Among s run.systems → (k : Key) → rules.Has (address_of s) k (rules.filed whole) → HasKey k s.history
   filed-here s h k has =
       let (m, i, at, key) = has in
@@ -78,7 +78,7 @@ module _ (laws : Laws) (files : List LinkFile) (tag : List ℕ) (tidy : Tidy fil
       let P : System → Type 0 = λ t. Among is.message t.history in
       (is.message, subst P one is.filed, ap (λ (f : RFiled). f.text.key) (sym is.same) ∙ key)
 
-  -- what was posted by the events was posted by a system that wrote its id
+  -- the system of a posting event wrote the posting's id
   pub wrote-event : (p : RFiled) → Among p (rules.filed whole) → p.sender ≡ None → Wrote tag p.at p.text.key
   wrote-event p h own =
       let is = (st.history.filed p).0 h in
@@ -86,7 +86,7 @@ module _ (laws : Laws) (files : List LinkFile) (tag : List ℕ) (tidy : Tidy fil
       let P : RFiled → Type 0 = λ f. Wrote tag f.at f.text.key in
       subst P (sym is.same) (st.wrote is.system is.there is.message is.filed (record { own = sender; area = is.area }))
 
-  -- a key that a system wrote and has not filed no system has
+  -- no system has a key that its writer has not filed
   new-key : (s : System) → Among s run.systems → (k : Key) → Wrote tag (address_of s) k → ¬ HasKey k s.history → (m : RFiled) → Among m (rules.filed whole) → m.text.key ≢ k
   new-key s h k wrote fresh m i e =
       let (p, j, own, key) = whole-poster (can laws) (can_keys laws) net (tidy-net laws files tag tidy) Equal equal-compares past st.recent st.since m i in
@@ -94,7 +94,7 @@ module _ (laws : Laws) (files : List LinkFile) (tag : List ℕ) (tidy : Tidy fil
       let same = one-writer laws tag p.at (address_of s) k (subst P (key ∙ e) (wrote-event p j own)) wrote in
       fresh (filed-here s h k (p, j, same, key ∙ e))
 
-  -- the system of an index changes
+  -- the system at an index changes
   module _ (i : ℕ) (s : System) (at_s : nth i run.systems ≡ Some s) (f : System → System) (files_stay : (t : System) → (f t).file ≡ t.file)
       (ok : RunOk (changing run i f)) where
     abbrev after : Run
@@ -172,7 +172,7 @@ module _ (laws : Laws) (files : List LinkFile) (tag : List ℕ) (tidy : Tidy fil
       pub done : take (f s).cursor (f s).history ≡ take s.cursor s.history
       done = ap (λ (t : System). take t.cursor t.history) is ∙ take-append-le s.cursor s.history (m ∷ []) (Kept-cursor s.cursor s.base s.history ok_s.kept)
 
-      -- of another area
+      -- for a message of another area
       abbrev pub stands-other : m.echo.tag ≢ tag → Standing files tag past after
       stands-other other = stands-still (m ∷ []) (λ n h same. elim h [
         | inl e ↦ other (ap (λ (x : Filed). x.echo.tag) (sym e) ∙ same)
@@ -268,7 +268,7 @@ module _ (laws : Laws) (files : List LinkFile) (tag : List ℕ) (tidy : Tidy fil
             ]
           ])
 
-    -- a copy came that is known, and nothing is filed
+    -- a known copy came, and nothing is filed
     abbrev pub stands-known : (nothing : f s ≡ s) (c : RCopy) → Among c (rules.copies st.recent) → c.to ≡ address_of s →
         (n : Filed) → Among n s.history → key_of n ≡ c.text.key → n.echo.tag ≡ tag → Standing files tag past after
     stands-known nothing c sent to n h key area =

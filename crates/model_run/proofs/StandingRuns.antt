@@ -1,4 +1,4 @@
--- Each event goes on by the rules.
+-- Each event keeps the rules.
 use Rattle.std.proofs.Common.{◌≡◌, inl, inr, refl, sym, subst, ap, ◌∙◌, ℕ, zero, suc, arith, List, [], ◌∷◌, ◌++◌, length, take, Option, Some, None}
 use Rattle.std.specs.Prelude.{Bool, true, false, bytes_eq, filter, is_none, if◌then◌else◌}
 use Rattle.std.proofs.lemmas.List.{take_all}
@@ -50,7 +50,7 @@ posted-parts : (file : LinkFile) (tag : List ℕ) (draft : Draft) (serial : ℕ)
 unfolding posted
 posted-parts file tag draft serial stamp = (refl, refl)
 
--- a change of what has the index is one by what becomes of it
+-- changes with the same effect on the item at the index are equal
 change-at : {X : Type 0} (i : ℕ) (f g : X → X) (x : X) (xs : List X) → nth i xs ≡ Some x → f x ≡ g x → change i f xs ≡ change i g xs
 change-at i f g x [] at e = refl
 change-at zero f g x (y ∷ xs) at e =
@@ -59,7 +59,7 @@ change-at zero f g x (y ∷ xs) at e =
 change-at (suc i) f g x (y ∷ xs) at e = ap (λ (ys : List _). y ∷ ys) (change-at i f g x xs at e)
 
 module _ (laws : Laws) (files : List LinkFile) (tag : List ℕ) (tidy : Tidy files tag) (past : List REvent) where
-  -- where there is no such system nothing happens
+  -- without such a system nothing happens
   no-system : (run : Run) → Standing files tag past run → (i : ℕ) (f : System → System) → nth i run.systems ≡ None → Standing files tag past (changing run i f)
   no-system run st i f none =
       let P : List System → Type 0 = λ ss. Standing files tag past (record { systems = ss; packets = run.packets; delivered = run.delivered }) in

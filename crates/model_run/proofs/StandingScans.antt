@@ -1,4 +1,4 @@
--- A scan goes on by the rules.
+-- A scan keeps the rules.
 use Rattle.std.proofs.Common.{◌≡◌, ◌↔◌, inl, inr, refl, sym, subst, ap, ◌∙◌, ℕ, ◌+◌, ◌≤◌, arith, IsTrue, List, [], ◌∷◌, ◌++◌, take, drop, map, Some}
 use Rattle.std.specs.Prelude.{true, bytes_eq}
 use Rattle.std.proofs.lemmas.List.{take-append-drop}
@@ -75,7 +75,7 @@ module _ (laws : Laws) (files : List LinkFile) (tag : List ℕ) (tidy : Tidy fil
     })),
   )
 
-  -- and tells whom it goes to
+  -- and its SEEN-BY is plain
   tells : (m : Filed) → m.echo.tag ≡ tag → HasPlainSeenBy net (filed_as (address_of s) m) (targets_of m) (copied s.file m).echo.seen
   tells m area = record {
     all = λ l j.
@@ -94,7 +94,7 @@ module _ (laws : Laws) (files : List LinkFile) (tag : List ℕ) (tidy : Tidy fil
     ];
   }
 
-  -- what was exported of the system was scanned
+  -- each exported message of the system was scanned
   exported-done : (k : Key) → rules.Has (address_of s) k (rules.exported (st.recent ++ past)) → 1 ≤ count k (take s.cursor s.history)
   exported-done k has =
       let (m, h, at, key) = has in

@@ -1,4 +1,4 @@
--- Messages of a packet come by the rules, whether they are filed or known.
+-- Messages of a packet come by the rules, filed or known.
 use Rattle.std.proofs.Common.{◌≡◌, ◌≢◌, ◌⊎◌, inl, inr, refl, sym, subst, ap, ◌∙◌, ℕ, zero, suc, IsTrue, List, [], ◌∷◌, ◌++◌, Option, Some, None}
 use Rattle.std.specs.Prelude.{true, bytes_eq, filter, is_none, ◌==◌}
 use Rattle.std.proofs.lemmas.Bool.{cond-false, ne_eqb}
@@ -95,7 +95,7 @@ module _ (laws : Laws) (files : List LinkFile) (tag : List ℕ) (tidy : Tidy fil
       abbrev c : RCopy
       c = sent_as p m
 
-      -- where nothing is filed all stays
+      -- if nothing is filed, all stays
       module _ (none : tossing s.file s.base (origin p) q ≡ None) where
         stays : one s ≡ s
         stays = ap (λ (o : Option Filed). filing s o) none
@@ -103,7 +103,7 @@ module _ (laws : Laws) (files : List LinkFile) (tag : List ℕ) (tidy : Tidy fil
         abbrev still : Standing files tag past (changing run i one)
         still = stands-idle laws files tag tidy past run st i s at_s one files_stay ok_after stays
 
-        -- it is known then
+        -- then it is known
         known-here : m.echo.tag ≡ tag → Among c (rules.copies st.recent) → HasKey (key_of m) s.history
         known-here area sent =
             let link = ((inv (can laws) (can_keys laws) (net_of files tag) (tidy-net laws files tag tidy) Equal equal-compares past st.recent st.since).sent c sent).parent.way.link in
@@ -172,7 +172,7 @@ module _ (laws : Laws) (files : List LinkFile) (tag : List ℕ) (tidy : Tidy fil
                   (n, filed-past st.recent past n h, at ∙ sym here, key))))
             ]
 
-      -- of another area nothing is seen
+      -- a message of another area does not show
       tossed-other : m.echo.tag ≢ tag → (standing : Standing files tag past (changing run i one)) → ((c : RCopy) → Among c (came_of st) → Among c (came_of standing)) →
           Tossed run (changing run i one) st (q ∷ [])
       tossed-other other standing grows = record {

@@ -1,4 +1,4 @@
--- What one system made of what it scanned, whatever came to it.
+-- The packets of one system for its scanned messages, for any received bytes.
 use Rattle.std.proofs.Common.{◌≡◌, ◌≢◌, inl, inr, refl, sym, subst, ap, ◌∙◌, ◌+◌, ◌≤◌, arith, List, [], ◌∷◌, ◌++◌, length, take, drop, Option, Some, None}
 use Rattle.std.specs.Prelude.{true, filter}
 use Rattle.std.proofs.lemmas.List.{take-append-drop, take-append-le, take_all}
@@ -24,7 +24,7 @@ use Rattle.model_run.proofs.Bases.{Kept-cursor, Kept-length, SystemOk, count-is}
 use Rattle.model_run.proofs.ScanPackets.{copy-packet, scanned-copy, scanned-count, scanned-origin}
 use Rattle.model_run.proofs.ExportLists.{count-append, count-filter, sent-append}
 
--- what was scanned of a system stays
+-- the scanned messages of a system stay
 pub record SameDone (s z : System) : Type 0 where
   pub file : z.file ≡ s.file
   pub done : take z.cursor z.history ≡ take s.cursor s.history
@@ -65,8 +65,8 @@ tossing-done sender (q ∷ ms) s within =
 pub purging-done : (s : System) → SameDone s (purging_at s)
 purging-done s = record { file = refl; done = refl }
 
--- all packets that a system of this file made of what it scanned: each message stands in as many to an address
--- as it goes to it, each of a packet is the copy of one that was scanned, and each copy for an address is in a packet to it
+-- all packets of a system with this file, for its scanned messages: each message is in as many packets to an address as it
+-- goes there; each copy in them is that of a scanned message, and each copy for an address is in a packet to it
 pub record MadeOf (file : LinkFile) (done : List Filed) (sent : List Packet) : Type 0 where
   pub counts : (a : Address) (k : Key) → sent_count a k sent ≡ count k (filter (goes_to file a) done)
   pub origins : (p : Packet) → Among p sent → origin p ≡ file.system
@@ -88,7 +88,7 @@ made-same s z sent same made =
     subst Q (sym same.done) (subst P (sym same.file) made)
 
 module _ (laws : Laws) where
-  -- a system has no key both among what was scanned and what waits
+  -- no key is both among the scanned messages and the waiting ones
   pub apart : (s : System) → SystemOk s → (m n : Filed) → Among m (take s.cursor s.history) → Among n (drop s.cursor s.history) → key_of m ≢ key_of n
   apart s ok m n i j e =
       let k = key_of n in
@@ -107,7 +107,7 @@ module _ (laws : Laws) where
 
   -- a system scans
   module _ (s : System) (ok : SystemOk s) (stamp : Stamp) (sent : List Packet) (made : Made s sent) where
-    -- after the scan all was scanned
+    -- after the scan all messages are scanned
     all-done : take (length s.base) s.history ≡ s.history
     all-done = take_all (length s.base) s.history (omega (arith, Kept-length s.cursor s.base s.history ok.kept))
 
@@ -147,7 +147,7 @@ module _ (laws : Laws) where
               ];
         }
 
-  -- what was scanned was sent to each target once and to no one else, what waits to no one
+  -- scanned messages were sent to each target once and to no other address, waiting messages to no address
   module _ (s : System) (ok : SystemOk s) (sent : List Packet) (made : Made s sent) where
     abbrev done : List Filed
     done = take s.cursor s.history

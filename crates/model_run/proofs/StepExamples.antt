@@ -1,4 +1,4 @@
--- Steps by computation: what each call may answer, and what it leaves.
+-- Steps by computation: the possible answers of each call, and its effects.
 use Rattle.std.proofs.Common.{ℕ, List, [], ◌∷◌, refl, Ok, Err, codes, inr}
 use Rattle.std.specs.Fmt.{digits}
 use Rattle.echo_addr.specs.Entries.{entries, pair_of, tokens}
@@ -35,7 +35,7 @@ post_refuses : PostStep {A = Unit {0}} (at first_file (first_posting ∷ []) 1) 
 unfolding post_refusal posted posted_lines id_of trimmed lines digits msgid_of begins after_word
 post_refuses = (refl, refl)
 
--- out of memory may stand in its place, and leaves the base too
+-- out of memory may be the answer instead, and leaves the base too
 post_wants_memory : PostStep {A = Unit {0}} (at first_file (first_posting ∷ []) 1) (codes "test") draft 1 stamp (Err post.Memory) (at first_file (first_posting ∷ []) 1)
 unfolding post_refusal posted posted_lines id_of trimmed lines digits msgid_of begins after_word
 post_wants_memory = (inr refl, refl)
@@ -56,7 +56,7 @@ scan_moves = (refl, refl, refl)
 scan_refuses : ScanStep (at first_file (first_posting ∷ []) 0) (record stamp { month = 13 }) (Err scan.BadStamp) (at first_file (first_posting ∷ []) 0)
 scan_refuses = (refl, refl)
 
--- a purge leaves the id of what was scanned
+-- a purge leaves the id of a scanned message
 purge_leaves : PurgeStep {E = Unit {0}} (at first_file (first_received ∷ (first_posting ∷ [])) 1) (Ok 1) (at first_file (record first_received { echo = bare (codes "TEST") id_text } ∷ (first_posting ∷ [])) 1)
 unfolding changed purged is_stub stub_of msgid_of begins after_word trimmed
 purge_leaves = (refl, refl)

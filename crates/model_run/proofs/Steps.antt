@@ -1,4 +1,4 @@
--- Each event keeps what is true of a run by the rules.
+-- Each event keeps the invariant of a run by the rules.
 use Rattle.std.proofs.Common.{◌≡◌, ◌≢◌, ◌⊎◌, inl, inr, refl, sym, subst, ap, ◌∙◌, IsTrue, List, [], ◌∷◌, ◌++◌, map, Some, None}
 use Rattle.std.proofs.lemmas.List.{map-append}
 use Rattle.model_graph.specs.Walk.{Among, Different}
@@ -73,7 +73,7 @@ module _ {A N K C : Type 0} (net : Net A N) (Same : C → C → Type 0) (v w : V
 
 module _ {A N K C : Type 0} (can : CanTell A) (net : Net A N) (tidy : Tidy net) (Same : C → C → Type 0) (compares : Compares Same)
     (v : View A N K C) (old : Invariant net Same v) where
-  -- a message that is new where it is filed, and everywhere if it is posted
+  -- a message that is new to its system, and new everywhere if it is posted
   module _ (m : Filed A N K C) (new : ¬ Has m.at m.text.key v.filed)
       (new_key : m.sender ≡ None → (p : Filed A N K C) → Among p v.filed → p.text.key ≢ m.text.key) where
     abbrev after_filing : View A N K C
@@ -130,7 +130,7 @@ module _ {A N K C : Type 0} (can : CanTell A) (net : Net A N) (tidy : Tidy net) 
       source = inl (refl, own, unseen);
     })
 
-    -- what a copy says that was sent
+    -- the facts of a copy that was sent
     pub arrival-keeps : (c : Copy A N K C) → Among c v.copies → m ≡ record { at = c.to; sender = Some c.from; text = c.text } →
         Invariant net Same after_filing
     arrival-keeps c h e =
@@ -147,7 +147,7 @@ module _ {A N K C : Type 0} (can : CanTell A) (net : Net A N) (tidy : Tidy net) 
   abbrev after_coming : Copy A N K C → View A N K C
   after_coming c = record { filed = v.filed; exported = v.exported; copies = v.copies; came = c ∷ v.came }
 
-  -- a copy came that is known where it came
+  -- a copy came that its receiver knows
   pub coming-keeps : (c : Copy A N K C) → Has c.to c.text.key v.filed → Invariant net Same (after_coming c)
   coming-keeps c has = record {
     once = old.once;
@@ -163,7 +163,7 @@ module _ {A N K C : Type 0} (can : CanTell A) (net : Net A N) (tidy : Tidy net) 
     ];
   }
 
-  -- a message is exported for the first time, to just its targets
+  -- a message is exported for the first time, to exactly its targets
   module _ (m : Filed A N K C) (to : List A) (text : A → Text N K C) (is_filed : Among m v.filed) (first : ¬ Has m.at m.text.key v.exported)
       (targets : (x : A) → Among x to → IsTarget net m x) (all : (x : A) → IsTarget net m x → Among x to) (one_each : Different to)
       (keeps : (x : A) → Among x to → ((text x).key ≡ m.text.key) × Same (text x).content m.text.content)

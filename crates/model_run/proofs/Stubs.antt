@@ -1,4 +1,4 @@
--- The base is what was filed, as the last purge left it.
+-- The base is the history, as the last purge left it.
 use Rattle.std.proofs.Common.{◌≡◌, refl, sym, ap, ◌∙◌, ℕ, zero, suc, ◌+◌, ◌≤◌, arith, List, [], ◌∷◌, ◌++◌, length, drop, Option, Some, None}
 use Rattle.std.specs.Prelude.{Bool, true, false, if◌then◌else◌}
 use Rattle.echo_addr.specs.declared.address.Address.{Address}
@@ -42,7 +42,7 @@ purged-more (suc n) (x ∷ ms) m h =
     ∙ (ap (λ (ns : List Filed). stub_of x ∷ ns) (purged-more n ms m (omega arith))
     ∙ ap (λ (ns : List Filed). ns ++ m ∷ []) (sym (purged-cons x ms n)))
 
--- a later purge takes what the one before it left
+-- a later purge covers the one before it
 purged-again : (n c : ℕ) (ms : List Filed) → n ≤ c → purged (purged ms n) c ≡ purged ms c
 purged-again zero c ms h = ap (λ (ns : List Filed). purged ns c) (purged-none ms)
 purged-again (suc n) zero ms h = absurd (omega arith)
@@ -53,7 +53,7 @@ purged-again (suc n) (suc c) (m ∷ ms) h =
     ∙ (ap (λ (x : Filed). x ∷ purged (purged ms n) c) (stub_of_stub m)
     ∙ (ap (λ (ns : List Filed). stub_of m ∷ ns) (purged-again n c ms (omega arith)) ∙ sym (purged-cons m ms c))))
 
--- from any place on that no purge came to, all is as it was filed
+-- all messages past the last purge are as they were filed
 purged-waiting : (n c : ℕ) (ms : List Filed) → n ≤ c → drop c (purged ms n) ≡ drop c ms
 purged-waiting zero c ms h = ap (λ (ns : List Filed). drop c ns) (purged-none ms)
 purged-waiting (suc n) zero ms h = absurd (omega arith)
@@ -61,7 +61,7 @@ purged-waiting (suc n) (suc c) [] h = ap (λ (ns : List Filed). drop (suc c) ns)
 purged-waiting (suc n) (suc c) (m ∷ ms) h =
     ap (λ (ns : List Filed). drop (suc c) ns) (purged-cons m ms n) ∙ purged-waiting n c ms (omega arith)
 
--- of a system that was last purged when so many messages had been scanned
+-- the invariant of a system; `n` messages had been scanned before its last purge
 pub record IsLeft (s : System) (n : ℕ) : Type 0 where
   pub purged_before : n ≤ s.cursor
   pub within : s.cursor ≤ length s.history

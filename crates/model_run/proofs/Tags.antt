@@ -1,4 +1,4 @@
--- The tag of an area that was read has no small letters, so a posting in it can be asked for by the tag itself.
+-- The tag of an area that was read has no small letters. So a posting in it can name the tag itself.
 use Rattle.std.proofs.Common.{◌≡◌, inl, inr, refl, sym, ap, ◌∙◌, ℕ, ◌-◌, arith, List, [], ◌∷◌, length, cond, nat_lt, Option, Some, None}
 use Rattle.std.specs.Prelude.{Bool, true, false, not, ◌&&◌, nat_le, bytes_eq, find, is_some, option_map, unwrap_or}
 use Rattle.std.specs.Char.{to_ascii_uppercase}
@@ -50,7 +50,7 @@ upper-same file tag fits h =
     let is = found file.areas tag fits.each_area h in
     upper-bytes tag (and-parts (nat_lt 0 (length tag) && nat_le (length tag) 60) (list_all is_tag_byte tag) is).1
 
--- a link is a link of an area that is there
+-- a file with a link of an area has the area
 pub link-area : (file : LinkFile) (tag : List ℕ) (a : Address) → Among a (links_of file tag) → has_area file tag ≡ true
 unfolding links_of
 link-area file tag a h = there (area_of file tag) h

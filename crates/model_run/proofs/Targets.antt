@@ -32,14 +32,14 @@ module _ {A N : Type 0} (can : CanTell A) (net : Net A N) (tidy : Tidy net) wher
   beyond_itself : (y f x : A) → f ≡ y → Beyond net.linked y f x
   beyond_itself y f x e rest w = Among-at y f (x ∷ rest) (sym e) (walk_ends net.linked x rest f w)
 
-  -- where y parts x from f, what x parts from f it parts from y
+  -- if y parts x from f, all that x parts from f it also parts from y
   behind : (f y x d : A) → y ≢ x → Reaches net.linked x f → Beyond net.linked y f x → Beyond net.linked x f d → Beyond net.linked x y d
   behind f y x d other reaches beyond_y beyond_x =
       Beyond-from_no_around can net.linked x y d (λ around.
       no_around-from_Beyond net.linked x f d beyond_x
       (Around-trans net.linked x d y f around (Around-from_Beyond can net.linked simple f x y other reaches beyond_y)))
 
-  -- where y parts x from f, it parts the links of x from f
+  -- if y parts x from f, it parts the links of x from f
   links_beyond : (f y x l : A) → y ≢ x → IsTrue (net.linked x l) → Beyond net.linked y f x → Beyond net.linked y f l
   links_beyond f y x l other link beyond =
       Beyond-from_no_around can net.linked y f l (λ around.
@@ -85,7 +85,7 @@ module _ {A N : Type 0} (can : CanTell A) (net : Net A N) (tidy : Tidy net) wher
               })
         ]
 
-    -- what a target is told is in order there
+    -- the SEEN-BY for a target is in order there
     pub told-parent : (to : List A) → ((l : A) → IsTarget net m l → Among l to) → (x : A) (seen : List N) →
         IsTarget net m x → HasSeenBy net m to x seen → Parent net x f seen m.at
     told-parent to all x seen target told =

@@ -1,4 +1,4 @@
--- Who tells plainly tells as the rule asks.
+-- A plain SEEN-BY keeps the rule.
 use Rattle.std.proofs.Common.{◌≡◌, ◌≢◌, ◌⊎◌, inl, inr, refl, sym, ◌∙◌, IsTrue, List, [], ◌∷◌, subst}
 use Rattle.model_graph.specs.Beyond.{Beyond}
 use Rattle.model_run.specs.Nets.{Net, Tidy}
@@ -11,7 +11,7 @@ module _ {A N K C : Type 0} (net : Net A N) (tidy : Tidy net) (m : Filed A N K C
   differ : x ≢ m.at
   differ e = let P : A → Type 0 = λ a. IsTrue (net.linked m.at a) in tidy.no_self m.at (subst P e link)
 
-  -- behind x is neither the sender nor a link of it but x
+  -- behind x are neither the sender nor its other links
   not-behind : (d : A) → Beyond net.linked x m.at d → d ≢ x → (l : A) → d ≡ l → (l ≡ m.at) ⊎ IsTrue (net.linked m.at l) → ⊥
   not-behind d beyond other l same near =
       let P : A → Type 0 = λ a. Beyond net.linked x m.at a in

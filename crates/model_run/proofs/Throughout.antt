@@ -44,7 +44,7 @@ abbrev last_files : List LinkFile → List Epoch → List LinkFile
 last_files files [] = files
 last_files files (epoch ∷ later) = last_files epoch.files later
 
--- how many copies went somewhere, counted by their goals
+-- the number of copies with each goal
 abbrev same_goal : (Address × Key) → (Address × Key) → Bool
 same_goal g h = same_address g.0 h.0 && same_key g.1 h.1
 
@@ -74,7 +74,7 @@ module _ (laws : Laws) (tag : List ℕ) where
   stands-after (epoch ∷ later) files run st go =
       stands-after later epoch.files (after_epoch run epoch) (stands-epoch laws tag files run epoch st go.0) go.1
 
-  -- what is owed at the end of all epochs
+  -- the receivers of a message at the end of all epochs
   record Ended (was : Address → Type 0) (run : Run) (m : Filed) : Type 0 where
     files : List LinkFile
     stands : Stands laws tag files run
@@ -118,7 +118,7 @@ module _ (laws : Laws) (tag : List ℕ) where
       let begun = begun-first epoch fit tidy in
       record { tidy = tidy; past = begun.past; standing = events-stand laws epoch.files tag tidy begun.past epoch.events (start epoch.files) begun.standing }
 
-  -- what is owed of a message of some epoch, at the end
+  -- the receivers of a message of some epoch, at the end
   owed-of : (earlier : List Epoch) (epoch : Epoch) (later : List Epoch) → TidyThroughout (earlier ++ epoch ∷ later) tag → (m : Filed) →
       IsOf tag earlier epoch m → Ended (Carries epoch.files tag) (run_of_epochs (earlier ++ epoch ∷ later)) m
   unfolding begun-first stands-first stands-epoch
@@ -151,7 +151,7 @@ module _ (laws : Laws) (tag : List ℕ) where
       subst R (sym (epochs-append earlier (epoch ∷ later) begins))
       (owed-after (Carries epoch.files tag) m later epoch.files (after_epoch run epoch) now go_epoch.1 owed)
 
-  -- the same of epochs that are these
+  -- the same for equal lists of epochs
   owed-at : (epochs : List Epoch) → TidyThroughout epochs tag → (earlier : List Epoch) (epoch : Epoch) (later : List Epoch) → epochs ≡ earlier ++ epoch ∷ later →
       (m : Filed) → IsOf tag earlier epoch m → Ended (Carries epoch.files tag) (run_of_epochs epochs) m
   owed-at epochs t earlier epoch later e m is_of =
@@ -159,7 +159,7 @@ module _ (laws : Laws) (tag : List ℕ) where
       let Q : List Epoch → Type 0 = λ es. Ended (Carries epoch.files tag) (run_of_epochs es) m in
       subst Q (sym e) (owed-of earlier epoch later (subst P e t) m is_of)
 
-  -- who was to have it has filed it once, unchanged
+  -- each receiver has filed the message once, unchanged
   had-it : (run : Run) (m : Filed) (was : Address → Type 0) → Ended was run m → Settled run tag → (s : System) → Among s run.systems → was (address_of s) → FiledUnchanged s m
   had-it run m was ended settled s h had =
       let st = ended.stands in
@@ -184,7 +184,7 @@ module _ (laws : Laws) (tag : List ℕ) where
   run-ok : (epochs : List Epoch) → TidyThroughout epochs tag → RunOk (run_of_epochs epochs)
   run-ok epochs t = epochs-ok laws epochs nothing_yet t.fit (record { systems = λ s h. absurd h; packets = λ p h. absurd h })
 
-  -- what was sent, by the events
+  -- the copies sent, by the events
   module _ (files : List LinkFile) (run : Run) (st : Stands laws tag files run) where
     abbrev whole : List REvent
     whole = st.standing.recent ++ st.past
@@ -235,7 +235,7 @@ module _ (laws : Laws) (tag : List ℕ) where
         all_came = λ settled earlier epoch later e m is_of s h c. had-it run m (Carries epoch.files tag) (owed-at epochs t earlier epoch later e m is_of) settled s h c;
       }
 
-  -- who did not have the area in the epoch of a message is not sent it, and does not file it
+  -- a system without the area in the epoch of a message is not sent it, and does not file it
   pub no-others : (epochs : List Epoch) → TidyThroughout epochs tag → (earlier : List Epoch) (epoch : Epoch) (later : List Epoch) → epochs ≡ earlier ++ epoch ∷ later →
       (m : Filed) → IsOf tag earlier epoch m → (s : System) → Among s (run_of_epochs epochs).systems → (¬ Carries epoch.files tag s.file.system) →
       (sent_count s.file.system (key_of m) (run_of_epochs epochs).packets ≡ 0) × (count (key_of m) s.base ≡ 0)

@@ -1,4 +1,4 @@
--- A net that is tidy, and for each clause of `Tidy` a net that is not, by that clause.
+-- A net that is tidy, and for each clause of `Tidy` a net that breaks it.
 use Rattle.std.proofs.Common.{◌≡◌, ◌≢◌, ◌⊎◌, inl, inr, refl, sym, subst, ap, ◌∙◌, ℕ, arith, IsTrue, List, [], ◌∷◌, codes, map}
 use Rattle.std.specs.Prelude.{◌&&◌, true, false}
 use Rattle.echo_addr.specs.declared.address.Address.{Address}
@@ -27,7 +27,7 @@ one_node i j e = ap (λ (a : Address). a.node) e
 no_carrier : ¬ Tidy (file 1 [] ∷ []) (codes "OTHER")
 no_carrier t = is_false t.joined.some
 
--- clause 2: two files of one address
+-- clause 2: two files with one address
 same_address_twice : ¬ Tidy two_files test
 same_address_twice t = t.joined.one_file.1.0 (inl refl)
 
@@ -36,23 +36,23 @@ lists_itself : ¬ Tidy own_link test
 unfolding links_of
 lists_itself t = t.joined.no_self (address 1) refl
 
--- clause 4: a link that has no file
+-- clause 4: a link without a file
 unknown_link : ¬ Tidy (file 1 (9 ∷ []) ∷ []) test
 unfolding links_of
 unknown_link t = is_false (t.joined.known (address 1) (address 9) refl)
 
--- clause 5: a link that stands in one file
+-- clause 5: a link in just one file
 in_one_file : ¬ Tidy one_sided test
 unfolding links_of
 in_one_file t = is_false (t.joined.both (address 1) (address 2) refl)
 
--- clause 6: a chain over two zones, whose ends have one net and node
+-- clause 6: a chain over two zones; its ends have one net and node
 same_net_node : ¬ Tidy over_zones test
 same_net_node t =
     let e = t.joined.apart (address 1) far refl refl refl in
     absurd (omega (arith, ap (λ (a : Address). a.zone) e))
 
--- clause 7: a triangle beside a lone system
+-- clause 7: a triangle and a lone system
 no_walk : ¬ Tidy beside test
 unfolding links_of
 no_walk t = stuck (t.joined.connected (address 4) (address 1) refl refl)
@@ -140,7 +140,7 @@ all-linked a b h k =
         let Q : Address → Type 0 = λ y. OneOrLinked (address i) y in
         subst P (sym p) (subst Q (sym q) here)
 
--- and no others
+-- and no other systems are linked
 record Ends (a b : Address) : Type 0 where
   first : OneOfThree a
   second : OneOfThree b

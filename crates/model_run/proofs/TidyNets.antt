@@ -1,4 +1,4 @@
--- Tidy link files say a tidy net.
+-- The net of tidy link files is tidy.
 use Rattle.std.proofs.Common.{ℕ, List}
 use Rattle.echo_links.specs.Links.{LinkFile}
 use Rattle.model_run.specs.AreaNets.{IsTidyNet}

@@ -35,13 +35,13 @@ two_areas : outcomes file [] (system 1) (in_area (codes "TEST") id_line ∷ (in_
 unfolding toss_outcome tossing received text_refusal echo_of lines begins after_word trimmed kept_of seen_lists path_lists entry_set entries tokens pair_of links_of key_of msgid_of
 two_areas = refl
 
--- no id: the content tells
+-- without an id the content is the key
 no_id_twice : outcomes file [] (system 1) (in_area (codes "TEST") (codes "Hello") ∷ (in_area (codes "TEST") (codes "Hello") ∷ (in_area (codes "TEST") (codes "Hallo") ∷ []))) ≡
     outcome.Filed ∷ (outcome.Known ∷ (outcome.Filed ∷ []))
 unfolding toss_outcome tossing received text_refusal echo_of lines begins after_word trimmed kept_of seen_lists path_lists entry_set entries tokens pair_of links_of key_of msgid_of
 no_id_twice = refl
 
--- the same id with another text is known; it is not filed, and what was filed stays
+-- the same id with another text is known: it is not filed, and the filed message stays
 id_tells : tossed file (tossed file [] (system 1) (in_area (codes "TEST") id_line ∷ [])) (system 1) (in_area (codes "TEST") (id_line ++ codes "Hello") ∷ []) ≡
     tossed file [] (system 1) (in_area (codes "TEST") id_line ∷ [])
 unfolding toss_outcome tossing received text_refusal echo_of lines begins after_word trimmed kept_of seen_lists path_lists entry_set entries tokens pair_of links_of key_of msgid_of
@@ -85,7 +85,7 @@ filed : tossing file [] (system 1) first_copy ≡ Some first_received
 unfolding tossing toss_outcome received text_refusal echo_of lines begins after_word trimmed kept_of seen_lists path_lists entry_set entries tokens pair_of links_of key_of msgid_of
 filed = refl
 
--- neither the sender nor who stands in SEEN-BY is a target
+-- neither the sender nor a system in SEEN-BY is a target
 sender_left_out : targets file (record first_received { echo = record first_received.echo { seen = [] } }) ≡ system 3 ∷ []
 unfolding targets links_of
 sender_left_out = refl
@@ -94,7 +94,7 @@ seen_left_out : targets file (record first_received { echo = record first_receiv
 unfolding targets links_of
 seen_left_out = refl
 
--- a zone of 0 is the receiver's own, also where that is another than the sender's
+-- zone 0 means the receiver's own zone, even if the sender's differs
 abbrev other_zone : LinkFile
 other_zone = record {
   system = record { zone = 2; net = 10; node = 2 };

@@ -29,7 +29,7 @@ use Rattle.echo_filed.proofs.Texts.{written_accepted, written_back}
 use Rattle.model_run.proofs.Lists.{not_both}
 use Rattle.model_run.proofs.TosserPremises.{Laws}
 
--- an own id names its system
+-- an id names its system
 ids-differ : (a b : Address) (serial other : ℕ) → IsAddress a → IsAddress b → id_of a serial ≡ id_of b other → a ≡ b
 unfolding id_of
 ids-differ a b serial other at_a at_b e =
@@ -53,7 +53,7 @@ unfolding key_of posted
 posted-key file tag draft serial stamp fits =
     ap (λ (o : Option (List ℕ)). key_with (posted file tag draft serial stamp) o) (posted_id file fits tag draft serial stamp)
 
--- what ascends has no member twice
+-- an ascending list has no repeats
 ascending-differ : {X : Type 0} (before : X → X → Bool) → IsOrder before → (xs : List X) → Ascending before xs → Different xs
 ascending-differ before order [] up = tt
 ascending-differ {X} before order (x ∷ xs) up = (later xs up.0, ascending-differ before order xs up.1)

@@ -1,4 +1,4 @@
--- What the run of a net rests on: the laws of one tosser.
+-- The premises of a net's runs: the laws of one tosser.
 use Rattle.std.proofs.Common.{◌≡◌, ℕ, List, None}
 use Rattle.echo_addr.specs.declared.address.Address.{Address}
 use Rattle.echo_addr.specs.declared.address.NetNode.{NetNode}

@@ -1,4 +1,4 @@
--- Where a posting of each carrier does no harm, no fault is grave.
+-- If a posting of each carrier does no harm, no fault is grave.
 use Rattle.std.proofs.Common.{◌≡◌, inl, inr, sym, subst, ap, ◌∙◌, ℕ, List, [], ◌∷◌, Some}
 use Rattle.std.specs.Prelude.{true}
 use Rattle.std.specs.List.{AllByRecursion}
@@ -26,7 +26,7 @@ module _ (files : List LinkFile) (known : LawsOfRuns files) (tag : List ℕ) (on
     pub only_moves : AllByRecursion IsMove moves
     pub unharmed : Unharmed files known tag one_file all_known i file is area moves only_moves
 
-  -- and of any system
+  -- the same for any system
   record Moved (i : ℕ) : Type 0 where
     moves : List RunEvent
     rests : ComesToRest files tag i moves

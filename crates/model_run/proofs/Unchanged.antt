@@ -1,4 +1,4 @@
--- What a system filed once, unchanged.
+-- A system filed a message once, unchanged.
 use Rattle.std.proofs.Common.{◌≡◌, ◌⊎◌, refl, sym, subst, ap, ◌∙◌, ◌≤◌, arith}
 use Rattle.model_graph.specs.Walk.{Among}
 use Rattle.echo_filed.specs.Filed.{Filed, key_of, same_key}
@@ -10,7 +10,7 @@ use Rattle.model_run.proofs.Counts as counts
 use Rattle.model_run.proofs.TosserPremises.{Laws}
 use Rattle.model_run.proofs.Bases.{Kept-back, Kept-count, SystemOk, count-is}
 
--- two messages of one content have the same content, part by part
+-- messages with equal content agree part by part
 pub same-parts : (m o : Filed) → content_of m ≡ content_of o → SameContent m o
 same-parts m o e = record {
   date = ap (λ (c : Content). c.date) e;
@@ -21,7 +21,7 @@ same-parts m o e = record {
 }
 
 module _ (laws : Laws) where
-  -- what a system filed with one key is one message
+  -- messages that a system filed with one key are equal
   pub one-message : (s : System) → SystemOk s → (m n : Filed) → Among m s.history → Among n s.history → key_of m ≡ key_of n → m ≡ n
   one-message s ok m n i j e =
       let few : counts.count key_of same_key (key_of n) s.history ≤ 1 = omega (arith, count-is (key_of n) s.history, ok.once (key_of n)) in

@@ -1,5 +1,5 @@
--- Nets that `check` refuses though nothing goes wrong in the run that is computed: for these clauses a No is more careful than it
--- has to be. And a net with a cycle that is tidy, which a rule against all cycles would refuse.
+-- Nets that `check` refuses though their computed run does no harm: for these clauses a no is more careful than
+-- necessary. And a tidy net with a cycle, which a rule against all cycles would refuse.
 use Rattle.std.proofs.Common.{◌≡◌, ◌≢◌, inl, inr, refl, ap, ℕ, arith, List, [], ◌∷◌, codes}
 use Rattle.std.specs.Prelude.{true, false}
 use Rattle.std.specs.Fmt.{digits}
@@ -40,11 +40,11 @@ second_file = file 1 (2 ∷ []) ∷ (file 2 (1 ∷ []) ∷ (without 2 ∷ []))
 abbrev to_another : List LinkFile
 to_another = file 1 (2 ∷ (3 ∷ [])) ∷ (file 2 (1 ∷ []) ∷ (without 3 ∷ []))
 
--- clause 6: two systems of one net and node, which are linked with each other alone
+-- clause 6: two systems with one net and node, linked only with each other
 abbrev twins : List LinkFile
 twins = carrier (address 1) (far ∷ []) ∷ (carrier far (address 1 ∷ []) ∷ [])
 
--- none of them is tidy
+-- these nets are not tidy
 two_of_one_address : ¬ Tidy second_file test
 two_of_one_address t = t.joined.one_file.1.0 (inl refl)
 
@@ -60,8 +60,8 @@ one_net_node t =
     let e = t.joined.apart (address 1) far refl refl refl in
     absurd (omega (arith, ap (λ (a : Address). a.zone) e))
 
--- but a posting of the first system comes to each that has the area once, and the others are sent nothing again; so
--- does one of the second twin
+-- but a posting of the first system comes to each carrier once, and nothing is sent again; so does a posting of the
+-- second twin
 abbrev from_second : Run
 from_second = run_of twins (post 1 ∷ (scan 1 ∷ (Delivery 0 ∷ (scan 0 ∷ []))))
 

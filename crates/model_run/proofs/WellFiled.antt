@@ -1,4 +1,4 @@
--- What holds of one system at all times, where no text that comes holds 00.
+-- Properties of one system at all times, if no received text has a byte 00.
 use Rattle.std.proofs.Common.{◌≡◌, inl, inr, refl, sym, subst, ◌≤◌, arith, List, [], ◌∷◌, Option, Some, None}
 use Rattle.std.specs.Prelude.{Bool, true, false, if◌then◌else◌}
 use Rattle.echo_addr.specs.declared.address.Address.{Address}
@@ -79,7 +79,7 @@ module _ (laws : Laws) where
   key-later : (key : Key) (s z : System) → IsLater s z → HasKey key s.history → HasKey key z.history
   key-later key s z later has = (has.0, filed-later s z later has.0 has.1, has.2)
 
-  -- what came from a link is known then
+  -- the key of a message from a link is known then
   key-filed : (s : System) → SystemOk s → (sender : Address) (q : Message) → IsFromLink s.file sender q →
       HasKey (key_of (received sender q)) (filing s (tossing s.file s.base sender q)).history
   key-filed s ok sender q from =

@@ -1,4 +1,4 @@
--- What is true of every run, on every net.
+-- Properties of every run, on every net.
 use Rattle.std.proofs.Common.{◌≡◌, ◌≢◌, inl, inr, refl, sym, subst, ◌∙◌, ℕ, ◌≤◌, arith, List, [], ◌∷◌, ◌++◌, length, take, drop, Option, Some, None}
 use Rattle.std.specs.Prelude.{Bool, true, false, filter, if◌then◌else◌}
 use Rattle.std.specs.List.{list_any}
@@ -35,7 +35,7 @@ use Rattle.model_steps.proofs.Received.{tossing_received}
 use Rattle.model_run.proofs.Bases.{Kept-count, Kept-scanned, Kept-purged, Kept-waiting, SystemOk, HasKey, known-from_history, id-from_history, filing-ok}
 use Rattle.model_run.proofs.RulesLists.{Among-map_from}
 
--- of a packet at any time
+-- the invariant of a packet
 pub record PacketOk (p : Packet) : Type 0 where
   pub zone : p.header.orig_zone ≢ 0
   pub messages : (q : Message) → Among q p.messages → (text_refusal q.text ≡ None) × IsEcho (echo_of q.text)
@@ -103,7 +103,7 @@ module _ (laws : Laws) where
     once = ok.once;
   }
 
-  -- what waits is as it was filed
+  -- waiting messages are as they were filed
   pub waiting-valid : (s : System) → SystemOk s → (m : Filed) → Among m (drop s.cursor s.base) → IsEcho m.echo
   waiting-valid s ok m h =
       let P : List Filed → Type 0 = λ ms. Among m ms in

@@ -1,4 +1,4 @@
--- What holds along whole runs: the link files stay, and all is well formed.
+-- Invariants of whole runs: the link files stay, and all is well formed.
 use Rattle.std.proofs.Common.{◌≡◌, refl, subst, ap, ◌∙◌, ℕ, List, [], ◌∷◌, ◌++◌, length, take, map, Option, Some, None}
 use Rattle.std.specs.Prelude.{Bool, true, false, if◌then◌else◌}
 use Rattle.echo_addr.specs.declared.address.Address.{Address}
@@ -82,12 +82,12 @@ fresh-empty files s h m i =
     let P : System → Type 0 = λ t. Among m t.history in
     subst P e i
 
--- what each event keeps holds after all of them
+-- a property that each event keeps holds after all of them
 pub along : (P : Run → Type 0) → ((run : Run) (event : RunEvent) → P run → P (after_event run event)) →
     (events : List RunEvent) → (run : Run) → P run → P (after_events run events)
 along P keeps [] run at = at
 along P keeps (event ∷ later) run at = along P keeps later (after_event run event) (keeps run event at)
 
--- on every net
+-- for every net
 pub run-ok : (laws : Laws) (files : List LinkFile) → FilesFit files → (events : List RunEvent) → RunOk (run_of files events)
 run-ok laws files fit events = along (λ run. RunOk run) (λ run event. event-ok laws run event) events (start files) (start-ok laws files fit)

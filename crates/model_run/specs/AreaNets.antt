@@ -1,4 +1,4 @@
--- The net in one area that link files say.
+-- The net in one area, according to link files.
 use Rattle.std.specs.Prelude.{ℕ, List}
 use Rattle.echo_addr.specs.declared.address.Address.{Address}
 use Rattle.echo_addr.specs.declared.address.NetNode.{NetNode}
@@ -7,10 +7,10 @@ use Rattle.echo_links.specs.Links.{LinkFile}
 use Rattle.model_run.specs.Nets.{Net, Tidy}
 use Rattle.model_run.specs.Tidy.{carries, lists}
 
--- which addresses have the area, which links each lists in it, and the net and node of each
+-- Which addresses have the area, which links each lists in it, and the net and node of each.
 abbrev pub net_of : List LinkFile → List ℕ → Net Address NetNode
 net_of files tag = record { carries = carries files tag; linked = lists files tag; net_node = net_node_of }
 
--- that net is in order for any tossers
+-- This net is in order for any tossers.
 abbrev pub IsTidyNet : List LinkFile → List ℕ → Type 0
 IsTidyNet files tag = Tidy (net_of files tag)

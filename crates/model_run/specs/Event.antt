@@ -5,8 +5,8 @@ use Rattle.model_steps.specs.declared.stamp.Stamp.{Stamp}
 use Rattle.model_run.specs.declared.event.Event.{Event}
 use Rattle.model_run.specs.declared.event.Event.TheVariants.{Deliver, Post, Purge, Scan}
 
--- A system posts, scans or purges; a packet comes, or its toss stops after its first messages. Systems
--- go by their index in the list of files, packets by their order of export.
+-- A system posts, scans or purges; a packet comes, or its toss stops after its first messages. An index names a system
+-- in the list of files, or a packet in order of export.
 pub data RunEvent : Type 0 where
   Posting : (system : ℕ) (tag : List ℕ) (draft : Draft) (serial : ℕ) (stamp : Stamp) → RunEvent
   Scanning : (system : ℕ) (stamp : Stamp) → RunEvent
@@ -14,7 +14,7 @@ pub data RunEvent : Type 0 where
   PartDelivery : (packet messages : ℕ) → RunEvent
   Purging : (system : ℕ) → RunEvent
 
--- an event of the program as an event of a run
+-- An event of the program as an event of a run.
 abbrev pub run_event : Event → RunEvent
 run_event (Post system tag draft serial stamp) = Posting system tag draft serial stamp
 run_event (Scan system stamp) = Scanning system stamp

@@ -13,42 +13,42 @@ use Rattle.model_run.specs.Event.{RunEvent, Scanning}
 use Rattle.model_run.specs.Run.{System, Run, after_event, nth, start}
 use Rattle.model_run.specs.Orderly.{SameContent}
 
--- a packet, the index of the system that made it, and the place in the list of events of the scan that made it
+-- A packet, the index of the system that made it, and the index of the scan that made it in the list of events.
 pub record Export : Type 0 where
   pub event : ℕ
   pub system : ℕ
   pub packet : Packet
 
--- a packet that the scan of this place made
+-- A packet that the scan at this index made.
 abbrev pub export_of : ℕ → ℕ → Packet → Export
 export_of n i packet = record { event = n; system = i; packet = packet }
 
--- the exports of a scan, if the system exists and the stamp is in range
+-- The exports of a scan, if the system exists and the stamp is in range.
 abbrev pub scan_exports : ℕ → ℕ → Stamp → Option System → List Export
 scan_exports n i stamp None = []
 scan_exports n i stamp (Some s) =
     if is_stamp stamp then map (export_of n i) (scanned s.file s.base s.cursor stamp) else []
 
--- the exports of the event at this place
+-- The exports of the event at this index.
 abbrev pub event_exports : Run → ℕ → RunEvent → List Export
 event_exports run n (Scanning i stamp) = scan_exports n i stamp (nth i run.systems)
 event_exports run n other = []
 
--- the exports of events; the first event has this place
+-- The exports of events; the first event has this index.
 abbrev pub exports_after : Run → ℕ → List RunEvent → List Export
 exports_after run n [] = []
 exports_after run n (event ∷ later) = event_exports run n event ++ exports_after (after_event run event) (n + 1) later
 
--- all packets of the run of these events, in order, with who made them and when
+-- All packets of the run of these events, in order, with their systems and scans.
 abbrev pub exports : List LinkFile → List RunEvent → List Export
 exports files events = exports_after (start files) 0 events
 
--- the packets that one system made
+-- The packets that one system made.
 abbrev pub sent_by : ℕ → List Export → List Packet
 sent_by i all = map (λ e. e.packet) (filter (λ e. e.system == i) all)
 
--- a system sends a copy of a message: the content is the same, and the text says who has seen it. The address is a
--- target, did not send the message, and its net and node are not in the message's SEEN-BY
+-- A system sends a copy of a message: the same content and key, and the text as a scan exports it. The address is a
+-- target, did not send the message, and its net and node are not in the message's SEEN-BY.
 pub record IsSentCopy (file : LinkFile) (m : Filed) (to : Address) (copy : Filed) : Type 0 where
   pub sender : copy.sender ≡ Some file.system
   pub content : SameContent copy m

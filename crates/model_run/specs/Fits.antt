@@ -3,6 +3,6 @@ use Rattle.std.specs.Prelude.{List}
 use Rattle.model_graph.specs.Walk.{Among}
 use Rattle.echo_links.specs.Links.{IsFile, LinkFile}
 
--- each of the files is one that was read
+-- Each of the files was read.
 abbrev pub FilesFit : List LinkFile → Type 0
 FilesFit files = (file : LinkFile) → Among file files → IsFile file

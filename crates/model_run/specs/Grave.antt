@@ -9,48 +9,48 @@ use Rattle.echo_links.specs.Links.{LinkFile, has_area}
 use Rattle.model_run.specs.Run.{nth}
 use Rattle.model_run.specs.Tidy.{Carries, Joined, lists}
 
--- no two files have one address
+-- No two files have one address.
 abbrev pub HaveOwnAddresses : List LinkFile → Type 0
 HaveOwnAddresses files = Different (map (λ file. file.system) files)
 
--- every link of a carrier is a carrier
+-- Every link of a carrier is a carrier.
 abbrev pub AllAreCarriers : List LinkFile → List ℕ → Type 0
 AllAreCarriers files tag = (a b : Address) → IsTrue (lists files tag a b) → Carries files tag b
 
--- two carriers have the same net and node
+-- Two carriers have the same net and node.
 pub record AreTwins (files : List LinkFile) (tag : List ℕ) (a b : Address) : Type 0 where
   pub first : Carries files tag a
   pub second : Carries files tag b
   pub two : a ≢ b
   pub one_net_node : net_node_of a ≡ net_node_of b
 
--- another system lists a, and does not list b
+-- Another system lists a, and does not list b.
 pub record IsListedAlone (files : List LinkFile) (tag : List ℕ) (a b : Address) : Type 0 where
   pub by : Address
   pub another : (by ≢ a) × (by ≢ b)
   pub lists_it : IsTrue (lists files tag by a)
   pub not_the_other : ¬ IsTrue (lists files tag by b)
 
--- the two look like one system: neither lists the other, or some third system lists just one of them
+-- The two look like one system: neither lists the other, or a third system lists just one of them.
 abbrev pub AreTakenForOne : List LinkFile → List ℕ → Address → Address → Type 0
 AreTakenForOne files tag a b =
     ((¬ IsTrue (lists files tag a b)) × (¬ IsTrue (lists files tag b a)))
     ⊎ (IsListedAlone files tag a b ⊎ IsListedAlone files tag b a)
 
--- a fault of an area with links that are carriers, each with its own file
+-- A fault of an area with links that are carriers, each with its own file.
 pub data GraveFault (files : List LinkFile) (tag : List ℕ) : Type 0 where
-  -- V3: a carrier lists itself
+  -- V3: a carrier lists itself.
   SelfLink : (a : Address) → IsTrue (lists files tag a a) → GraveFault files tag
-  -- V5: a lists b, and b does not list a
+  -- V5: a lists b, and b does not list a.
   OneSided : (a b : Address) → IsTrue (lists files tag a b) → ¬ IsTrue (lists files tag b a) → GraveFault files tag
-  -- V6: twins that look like one system
+  -- V6: twins that look like one system.
   SameNetNode : (a b : Address) → AreTwins files tag a b → AreTakenForOne files tag a b → GraveFault files tag
-  -- V7: no walk leads from one carrier to another
+  -- V7: no walk leads from one carrier to another.
   Apart : (a b : Address) → Carries files tag a → Carries files tag b → ¬ Reaches (lists files tag) a b → GraveFault files tag
-  -- V8: two systems of a cycle are not linked, where all else is in order
+  -- V8: two systems of a cycle are not linked, and all else is in order.
   Loop : (loop : List Address) → Joined files tag → IsCycle (lists files tag) loop → HasUnlinked (lists files tag) loop → GraveFault files tag
 
--- a file with the area is not the first of its address, and some other file has the area too
+-- A file with the area is not the first with its address, and another file has the area too.
 pub record HasSecondCarrier (files : List LinkFile) (tag : List ℕ) : Type 0 where
   pub earlier : ℕ
   pub later : ℕ
@@ -67,7 +67,7 @@ pub record HasSecondCarrier (files : List LinkFile) (tag : List ℕ) : Type 0 wh
   pub two : other ≢ later
   pub other_carries : IsTrue (has_area third tag)
 
--- a system lists an address in the area that no file has
+-- A system lists an address in the area that no file has.
 pub record ListsNobody (files : List LinkFile) (tag : List ℕ) : Type 0 where
   pub system : Address
   pub link : Address

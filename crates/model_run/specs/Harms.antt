@@ -1,4 +1,4 @@
--- What goes wrong in an area that is not tidy.
+-- The harms in an area that is not tidy.
 use Rattle.std.specs.Prelude.{◌≡◌, ◌⊎◌, ◌++◌, ℕ, ◌≤◌, IsTrue, List}
 use Rattle.model_graph.specs.Walk.{Among}
 use Rattle.echo_links.specs.Links.{LinkFile, has_area}
@@ -8,7 +8,7 @@ use Rattle.model_run.specs.Event.{RunEvent}
 use Rattle.model_run.specs.Run.{Run, System, run_of}
 use Rattle.model_run.specs.Orderly.{IsPosting, Orderly, Settled, count, sent_count, tag_of}
 
--- a system with the area is sent a message of it more than once
+-- A system with the area is sent a message of it more than once.
 pub record SentAgain (run : Run) (tag : List ℕ) : Type 0 where
   pub system : System
   pub there : Among system run.systems
@@ -17,7 +17,7 @@ pub record SentAgain (run : Run) (tag : List ℕ) : Type 0 where
   pub of_area : tag_of key ≡ tag
   pub again : 2 ≤ sent_count system.file.system key run.packets
 
--- a system with the area is sent a message that it posted
+-- A system with the area is sent a message that it posted.
 pub record SentItsOwn (run : Run) (tag : List ℕ) : Type 0 where
   pub system : System
   pub there : Among system run.systems
@@ -27,7 +27,7 @@ pub record SentItsOwn (run : Run) (tag : List ℕ) : Type 0 where
   pub posting : IsPosting tag message
   pub sent : 1 ≤ sent_count system.file.system (key_of message) run.packets
 
--- the area has settled, and a system that has it lacks a posting
+-- The area has settled, and a system that has it lacks a posting.
 pub record NeverGets (run : Run) (tag : List ℕ) : Type 0 where
   pub settled : Settled run tag
   pub poster : System
@@ -40,18 +40,18 @@ pub record NeverGets (run : Run) (tag : List ℕ) : Type 0 where
   pub carries : IsTrue (has_area system.file tag)
   pub lacks : count (key_of message) system.base ≡ 0
 
--- one of these
+-- One of these harms.
 abbrev pub Harm : Run → List ℕ → Type 0
 Harm run tag = SentAgain run tag ⊎ SentItsOwn run tag ⊎ NeverGets run tag
 
--- some events do harm
+-- Some events do harm.
 abbrev pub IsHarmed : List LinkFile → List ℕ → Type 0
 IsHarmed files tag = (events : List RunEvent) × Harm (run_of files events) tag
 
--- some events break the promise
+-- Some events break the promise.
 abbrev pub BreaksPromise : List LinkFile → List ℕ → Type 0
 BreaksPromise files tag = (events : List RunEvent) × ¬ Orderly (run_of files events) tag
 
--- after some events the area never settles, whatever happens then
+-- After some events the area never settles, for all later events.
 abbrev pub NeverSettles : List LinkFile → List ℕ → Type 0
 NeverSettles files tag = (events : List RunEvent) × ((more : List RunEvent) → ¬ Settled (run_of files (events ++ more)) tag)

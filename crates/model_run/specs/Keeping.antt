@@ -1,4 +1,4 @@
--- How any tossers see a run of this one: when it agrees with a run of their events in an area.
+-- When a run of this model agrees with a run of any tossers in an area.
 use Rattle.std.specs.Prelude.{◌≡◌, ◌↔◌, ◌&&◌, ℕ, ◌+◌, List, [], ◌∷◌, take, Some, if◌then◌else◌}
 use Rattle.echo_addr.specs.declared.address.Address.{Address}
 use Rattle.echo_addr.specs.declared.address.NetNode.{NetNode}
@@ -12,7 +12,7 @@ use Rattle.model_run.specs.Events as rules
 use Rattle.model_run.specs.Run.{System, Run, destination, nth}
 use Rattle.model_run.specs.Orderly.{copies, origin, sent_count, tag_of}
 
--- the parts of a message that stay on its way: its DateTime, names, subject and kept lines
+-- The parts of a message that stay on its way: its DateTime, names, subject and kept lines.
 pub record Content : Type 0 where
   pub date : List ℕ
   pub to_name : List ℕ
@@ -23,19 +23,19 @@ pub record Content : Type 0 where
 abbrev pub content_of : Filed → Content
 content_of m = record { date = m.date; to_name = m.to_name; from_name = m.from_name; subject = m.subject; kept = m.echo.kept }
 
--- the text of a message
+-- The text of a message.
 abbrev pub said : Filed → Text NetNode Key Content
 said m = record { key = key_of m; content = content_of m; seen = m.echo.seen }
 
--- a message that the system of this address filed
+-- A message that the system of this address filed.
 abbrev pub filed_as : Address → Filed → rules.Filed Address NetNode Key Content
 filed_as a m = record { at = a; sender = m.sender; text = said m }
 
--- a message in a packet
+-- A message in a packet.
 abbrev pub sent_as : Packet → Filed → Copy Address NetNode Key Content
 sent_as packet m = record { from = origin packet; to = destination packet; text = said m }
 
--- one of the systems has it in this part of its messages, in the area
+-- One of the systems has the message in this part of its messages, in the area.
 pub record IsFiledIn (tag : List ℕ) (part : System → List Filed) (systems : List System) (m : rules.Filed Address NetNode Key Content) : Type 0 where
   pub system : System
   pub there : Among system systems
@@ -44,7 +44,7 @@ pub record IsFiledIn (tag : List ℕ) (part : System → List Filed) (systems : 
   pub area : message.echo.tag ≡ tag
   pub same : m ≡ filed_as system.file.system message
 
--- one of the packets holds it, in the area
+-- One of the packets holds the copy, in the area.
 pub record IsSent (tag : List ℕ) (packets : List Packet) (c : Copy Address NetNode Key Content) : Type 0 where
   pub packet : Packet
   pub there : Among packet packets
@@ -53,20 +53,20 @@ pub record IsSent (tag : List ℕ) (packets : List Packet) (c : Copy Address Net
   pub area : message.echo.tag ≡ tag
   pub same : c ≡ sent_as packet message
 
--- the number of copies with the key for the address
+-- The number of copies with the key for the address.
 abbrev pub copy_count : Address → Key → List (Copy Address NetNode Key Content) → ℕ
 copy_count a key [] = 0
 copy_count a key (c ∷ later) = (if same_address c.to a && same_key c.text.key key then 1 else 0) + copy_count a key later
 
--- the run and these events are one history of the area
+-- The run and these events are one history of the area.
 pub record IsHistory (tag : List ℕ) (run : Run) (events : List (Event Address NetNode Key Content)) : Type 0 where
-  -- the same was filed, by the same systems
+  -- The same systems filed the same messages.
   pub filed : (m : rules.Filed Address NetNode Key Content) → Among m (rules.filed events) ↔ IsFiledIn tag (λ s. s.history) run.systems m
-  -- the exported messages are those before a cursor
+  -- The exported messages are those before a cursor.
   pub exported : (m : rules.Filed Address NetNode Key Content) → Among m (rules.exported events) ↔ IsFiledIn tag (λ s. take s.cursor s.history) run.systems m
-  -- the copies that were sent are those in packets, with their SEEN-BY, and as many to each address with each key
+  -- The copies that were sent are those in packets, with their SEEN-BY, and as many to each address with each key.
   pub sent : (c : Copy Address NetNode Key Content) → Among c (rules.copies events) ↔ IsSent tag run.packets c
   pub as_many : (a : Address) (key : Key) → tag_of key ≡ tag → copy_count a key (rules.copies events) ≡ sent_count a key run.packets
-  -- all copies came of each packet that was delivered
+  -- All copies of each delivered packet came.
   pub came : (k : ℕ) → Among k run.delivered → (packet : Packet) → nth k run.packets ≡ Some packet →
       (m : Filed) → Among m (copies packet) → m.echo.tag ≡ tag → Among (sent_as packet m) (rules.came events)

@@ -19,7 +19,7 @@ use Rattle.model_run.specs.Orderly.{copies, count, origin, sent_count}
 use Rattle.model_run.specs.Exports.{Export, IsSentCopy, exports, sent_by}
 use Rattle.model_run.specs.Fits.{FilesFit}
 
--- the public laws of runs and steps
+-- The public laws of runs and steps.
 pub record LawsOfRuns (files : List LinkFile) : Type 0 where
   pub fit : FilesFit files
   pub stays : (events later : List RunEvent) (i : ℕ) (s : System) → nth i (run_of files events).systems ≡ Some s →

@@ -12,29 +12,29 @@ use Rattle.model_steps.specs.Stamps.{is_stamp}
 use Rattle.model_run.specs.Run.{System, fresh, posting_at, purging_at, scanning_at, tossing_at}
 
 -- The system posts, tosses, scans or is purged. It may toss any messages under any sender. If the toss of a packet
--- stops inside, they are the first messages of the packet.
+-- stops inside, the event has the first messages of the packet.
 pub data LoneEvent : Type 0 where
   PostHere : (tag : List ℕ) (draft : Draft) (serial : ℕ) (stamp : Stamp) → LoneEvent
   TossHere : (sender : Address) (messages : List Message) → LoneEvent
   ScanHere : (stamp : Stamp) → LoneEvent
   PurgeHere : LoneEvent
 
--- the system, the packets of all its scans in order, and the number of messages scanned before its last purge, 0
--- without one
+-- The system, the packets of all its scans in order, and the number of messages scanned before its last purge (0 without
+-- a purge).
 pub record LoneSystem : Type 0 where
   pub system : System
   pub sent : List Packet
   pub purged_to : ℕ
 
--- a system of this link file that has nothing yet
+-- An empty system with this link file.
 abbrev pub lone_at_first : LinkFile → LoneSystem
 lone_at_first file = record { system = fresh file; sent = []; purged_to = 0 }
 
--- the system has changed, and nothing was sent
+-- The system has changed, and nothing was sent.
 abbrev pub with_system : LoneSystem → System → LoneSystem
 with_system s system = record { system = system; sent = s.sent; purged_to = s.purged_to }
 
--- the packets of a scan join those that were sent, and the cursor moves to the end
+-- The packets of a scan join those that were sent, and the cursor moves to the end.
 abbrev pub with_scanned : Stamp → LoneSystem → LoneSystem
 with_scanned stamp s = record {
   system = scanning_at s.system;
@@ -42,27 +42,27 @@ with_scanned stamp s = record {
   purged_to = s.purged_to;
 }
 
--- the effect of an event; a refused posting has none, nor has a scan with a stamp out of range
+-- The effect of an event. A refused posting has no effect, nor has a scan with a stamp out of range.
 abbrev pub after_lone : LoneSystem → LoneEvent → LoneSystem
 after_lone s (PostHere tag draft serial stamp) = with_system s (posting_at tag draft serial stamp s.system)
 after_lone s (TossHere sender messages) = with_system s (tossing_at sender messages s.system)
 after_lone s (ScanHere stamp) = if is_stamp stamp then with_scanned stamp s else s
 after_lone s PurgeHere = record { system = purging_at s.system; sent = s.sent; purged_to = s.system.cursor }
 
--- the effect of events in order
+-- The effect of events in order.
 abbrev pub after_all_lone : LoneSystem → List LoneEvent → LoneSystem
 after_all_lone s [] = s
 after_all_lone s (event ∷ later) = after_all_lone (after_lone s event) later
 
--- the system of this link file after these events, which had nothing before them
+-- The system with this link file after these events, from an empty start.
 abbrev pub lone_run : LinkFile → List LoneEvent → LoneSystem
 lone_run file events = after_all_lone (lone_at_first file) events
 
--- no text of a tossed message has 00, since a 00 ends a text in a packet
+-- No text of a tossed message has a byte 00, since a 00 ends a text in a packet.
 abbrev pub IsOfPackets : LoneEvent → Type 0
 IsOfPackets (TossHere sender messages) = (packed : Message) → Among packed messages → HasNoZero packed.text
 IsOfPackets other = Unit {0}
 
--- packets can have the tossed messages
+-- Packets can have all tossed messages.
 abbrev pub AreOfPackets : List LoneEvent → Type 0
 AreOfPackets events = (event : LoneEvent) → Among event events → IsOfPackets event

@@ -3,23 +3,23 @@ use Rattle.std.specs.Prelude.{◌≡◌, Bool, IsTrue}
 use Rattle.model_graph.specs.Walk.{Connected}
 use Rattle.model_graph.specs.Cycle.{Polygons}
 
--- a net in one area: which addresses have it, which links each has in it, and the net and node of each
+-- A net in one area: which addresses have it, which links each has in it, and the net and node of each.
 pub record Net (A N : Type 0) : Type 0 where
   pub carries : A → Bool
   pub linked : A → A → Bool
   pub net_node : A → N
 
--- the net is in order
+-- The net is in order.
 pub record Tidy {A N : Type 0} (net : Net A N) : Type 0 where
-  -- no system is a link of itself
+  -- No system is a link of itself.
   pub no_self : (a : A) → ¬ IsTrue (net.linked a a)
-  -- links are answered
+  -- Each link is in both systems.
   pub both : (a b : A) → IsTrue (net.linked a b) → IsTrue (net.linked b a)
-  -- who has a link has the area
+  -- A system with a link has the area.
   pub carriers : (a b : A) → IsTrue (net.linked a b) → IsTrue (net.carries a)
-  -- no two systems with the area have one net and node
+  -- No two systems with the area have one net and node.
   pub apart : (a b : A) → IsTrue (net.carries a) → IsTrue (net.carries b) → net.net_node a ≡ net.net_node b → a ≡ b
-  -- between any two of them there is a walk
+  -- Between any two systems with the area there is a walk.
   pub connected : Connected (λ a. IsTrue (net.carries a)) net.linked
-  -- the systems of every cycle are all linked with each other
+  -- The systems of every cycle are all linked with each other.
   pub cycles : Polygons net.linked

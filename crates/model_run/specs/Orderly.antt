@@ -12,42 +12,42 @@ use Rattle.echo_filed.specs.Filed.{Filed, key_of, same_key}
 use Rattle.model_steps.specs.Tossing.{received}
 use Rattle.model_run.specs.Run.{System, Run, destination}
 
--- the area of a key
+-- The area of a key.
 abbrev pub tag_of : Key → List ℕ
 tag_of (ById tag msgid) = tag
 tag_of (ByContent tag date to from subject kept) = tag
 
--- how many of the messages have the key
+-- The number of messages with the key.
 abbrev pub count : Key → List Filed → ℕ
 count key [] = 0
 count key (m ∷ later) = (if same_key (key_of m) key then 1 else 0) + count key later
 
--- who sent a packet
+-- The sender of a packet.
 abbrev pub origin : Packet → Address
 origin packet = record { zone = packet.header.orig_zone; net = packet.header.orig_net; node = packet.header.orig_node }
 
--- the echomail messages of a packet, as they are filed
+-- The echomail messages of a packet, in their filed form.
 abbrev pub copies : Packet → List Filed
 copies packet = map (received (origin packet)) (filter (λ packed. is_none (text_refusal packed.text)) packet.messages)
 
--- the number of messages with the key in the packets to an address
+-- The number of messages with the key in the packets to an address.
 abbrev pub sent_count : Address → Key → List Packet → ℕ
 sent_count address key [] = 0
 sent_count address key (packet ∷ later) =
     (if same_address (destination packet) address then count key (copies packet) else 0) + sent_count address key later
 
--- the message was posted where it is, in this area
+-- The message was posted in this system, in this area.
 pub record IsPosting (tag : List ℕ) (m : Filed) : Type 0 where
   pub own : m.sender ≡ None
   pub area : m.echo.tag ≡ tag
 
--- no message of the area waits for a scan, and each packet with one was delivered
+-- No message of the area waits for a scan, and each packet with one was delivered.
 pub record Settled (run : Run) (tag : List ℕ) : Type 0 where
   pub scanned : (s : System) → Among s run.systems → (m : Filed) → Among m (drop s.cursor s.base) → m.echo.tag ≢ tag
   pub delivered : (before : List Packet) (packet : Packet) (after : List Packet) → run.packets ≡ before ++ packet ∷ after →
       (m : Filed) → Among m (copies packet) → m.echo.tag ≡ tag → Among (length before) run.delivered
 
--- two messages have one DateTime, and the same names, subject and kept lines
+-- Two messages have one DateTime, and the same names, subject and kept lines.
 pub record SameContent (m o : Filed) : Type 0 where
   pub date : m.date ≡ o.date
   pub to_name : m.to_name ≡ o.to_name
@@ -55,26 +55,26 @@ pub record SameContent (m o : Filed) : Type 0 where
   pub subject : m.subject ≡ o.subject
   pub kept : m.echo.kept ≡ o.echo.kept
 
--- the system has filed the posting exactly once, unchanged
+-- The system has filed the posting exactly once, unchanged.
 pub record FiledUnchanged (s : System) (posting : Filed) : Type 0 where
-  -- just one message of its base has the key, and just one of those that it filed
+  -- Exactly one message of its base has the key, and exactly one of its history.
   pub once : count (key_of posting) s.base ≡ 1
   pub filed_once : count (key_of posting) s.history ≡ 1
-  -- the one in the base is the filed one, or its stub
+  -- The one in the base is the filed one, or its stub.
   pub kept : (m filed : Filed) → Among m s.base → Among filed s.history → key_of m ≡ key_of posting → key_of filed ≡ key_of posting →
       (m ≡ filed) ⊎ (m ≡ stub_of filed)
-  -- and that one has the content of the posting
+  -- The filed one has the content of the posting.
   pub unchanged : (filed : Filed) → Among filed s.history → key_of filed ≡ key_of posting → SameContent filed posting
 
--- of the carriers of the area and its keys
+-- The promise, for the carriers of the area and its keys.
 pub record Orderly (run : Run) (tag : List ℕ) : Type 0 where
-  -- (i) each system filed each message at most once
+  -- (i) Each system filed each message at most once.
   pub filed_once : (s : System) → Among s run.systems → IsTrue (has_area s.file tag) → (key : Key) → tag_of key ≡ tag → count key s.base ≤ 1
-  -- (ii) was sent each at most once, over all senders and scans, and never one that it posted
+  -- (ii) It was sent each at most once, over all senders and scans, and never one that it posted.
   pub sent_once : (s : System) → Among s run.systems → IsTrue (has_area s.file tag) → (key : Key) → tag_of key ≡ tag →
       sent_count s.file.system key run.packets ≤ 1
   pub never_own : (s : System) → Among s run.systems → IsTrue (has_area s.file tag) → (m : Filed) → Among m s.base → IsPosting tag m →
       sent_count s.file.system (key_of m) run.packets ≡ 0
-  -- (iii) and where nothing waits, it has filed each posting once, unchanged
+  -- (iii) If nothing waits, it has filed each posting once, unchanged.
   pub all_came : Settled run tag → (f : System) → Among f run.systems → (posting : Filed) → Among posting f.history → IsPosting tag posting →
       (s : System) → Among s run.systems → IsTrue (has_area s.file tag) → FiledUnchanged s posting

@@ -12,21 +12,21 @@ use Rattle.model_steps.specs.Posting.{IsAllowed, posted}
 use Rattle.model_steps.specs.Tossing.{received}
 use Rattle.model_run.specs.Lone.{LoneEvent, PostHere, TossHere}
 
--- a message that comes is echomail of an area, from one of its links
+-- The received message is echomail of an area, from a link of the area.
 pub record IsFromLink (file : LinkFile) (sender : Address) (packed : Message) : Type 0 where
   pub text : text_refusal packed.text ≡ None
   pub link : is_link file (echo_of packed.text).tag sender ≡ true
 
--- the event filed the message: it is its posting, not refused by this base, or came with it, unchanged, from a link
--- of its area
+-- The event filed the message. It posted it, and this base did not refuse it; or the message came with it, unchanged,
+-- from a link of its area.
 abbrev pub IsFiledBy : LinkFile → List Filed → Filed → LoneEvent → Type 0
 IsFiledBy file base m (PostHere tag draft serial stamp) =
     (m ≡ posted file tag draft serial stamp) × IsAllowed file base tag draft serial stamp
 IsFiledBy file base m (TossHere sender messages) = (packed : Message) × Among packed messages × IsFromLink file sender packed × (m ≡ received sender packed)
 IsFiledBy file base m other = ⊥
 
--- the address should get the message: it is a link of the area, not the sender, and not in the message's first
--- SEEN-BY
+-- The address should get the message: it is a link of the area, is not the sender, and is not in the message's first
+-- SEEN-BY.
 pub record IsOwed (file : LinkFile) (m : Filed) (address : Address) : Type 0 where
   pub link : is_link file m.echo.tag address ≡ true
   pub not_sender : m.sender ≢ Some address

@@ -5,16 +5,16 @@ use Rattle.model_run.specs.Event.{RunEvent, Delivery, Scanning}
 use Rattle.model_run.specs.Run.{run_of}
 use Rattle.model_run.specs.Postings.{trial_moment}
 
--- this many systems scan, from the first on
+-- A scan of each of the first `count` systems.
 abbrev pub scans : ℕ → List RunEvent
 scans zero = []
 scans (suc n) = scans n ++ Scanning n trial_moment ∷ []
 
--- this many packets arrive, from the first on
+-- The arrival of each of the first `count` packets.
 abbrev pub deliveries : ℕ → List RunEvent
 deliveries zero = []
 deliveries (suc n) = deliveries n ++ Delivery n ∷ []
 
--- the round that follows these events: all systems scan, then all packets arrive
+-- The round that follows these events: all systems scan, then all packets arrive.
 abbrev pub round_after : List LinkFile → List RunEvent → List RunEvent
 round_after files events = scans (length files) ++ deliveries (length (run_of files (events ++ scans (length files))).packets)

@@ -5,40 +5,40 @@ use Rattle.model_run.specs.Nets.{Net, Tidy}
 use Rattle.model_run.specs.Events.{Filed, Copy, Event, filed, exported, copies, came}
 use Rattle.model_run.specs.Rules.{Always, IsPossible, Kept, Rule}
 
--- any two are one, or two
+-- Any two are equal or not.
 abbrev pub AreToldApart : Type 0 → Type 0
 AreToldApart X = (x y : X) → (x ≡ y) ⊎ (x ≢ y)
 
--- contents may be compared by this: an equivalence, or an order such as "has further lines"
+-- Contents may be compared by this: an equivalence, or an order such as "has further lines".
 pub record Compares {C : Type 0} (Same : C → C → Type 0) : Type 0 where
   pub itself : (a : C) → Same a a
   pub joined : (a b c : C) → Same a b → Same b c → Same a c
 
--- a message in a system
+-- A message in a system.
 abbrev pub place : {A N K C : Type 0} → Filed A N K C → A × K
 place m = (m.at, m.text.key)
 
--- a message on its way to a system
+-- A message on its way to a system.
 abbrev pub goal : {A N K C : Type 0} → Copy A N K C → A × K
 goal copy = (copy.to, copy.text.key)
 
--- all that was filed was exported, and all copies came
+-- All filed messages were exported, and all copies came.
 pub record IsSettled {A N K C : Type 0} (run : List (Event A N K C)) : Type 0 where
   pub all_exported : (m : Filed A N K C) → Among m (filed run) → Among m (exported run)
   pub all_came : (copy : Copy A N K C) → Among copy (copies run) → Among copy (came run)
 
 pub record Orderly {A N K C : Type 0} (net : Net A N) (Same : C → C → Type 0) (run : List (Event A N K C)) : Type 0 where
-  -- each system filed each message at most once
+  -- Each system filed each message at most once.
   pub filed_once : Different (map place (filed run))
-  -- was sent each at most once, by all systems together, and never one that it posted
+  -- Each was sent each message at most once, by all systems together, and never one that it posted.
   pub sent_once : Different (map goal (copies run))
   pub never_own : (m : Filed A N K C) → Among m (filed run) → m.sender ≡ None → ¬ Among (place m) (map goal (copies run))
-  -- and where the run has settled, each system with the area has filed each posting, with an equivalent content
+  -- If the run has settled, each system with the area has filed each posting, with an equivalent content.
   pub all_filed : IsSettled run → (posting : Filed A N K C) → Among posting (filed run) → posting.sender ≡ None →
       (x : A) → IsTrue (net.carries x) →
       (m : Filed A N K C) × Among m (filed run) × (m.at ≡ x) × (m.text.key ≡ posting.text.key) × Same m.text.content posting.text.content
 
--- the rule is needed: in some tidy net some run keeps all rules but this one, and is not orderly
+-- The rule is needed: in some tidy net some run keeps all rules but this one, and is not orderly.
 pub record IsNeeded (rule : Rule) : Type 0 where
   pub net : Net ℕ ℕ
   pub tidy : Tidy net
@@ -47,7 +47,7 @@ pub record IsNeeded (rule : Rule) : Type 0 where
   pub others : (other : Rule) → other ≢ rule → Kept net (λ a b. a ≡ b) run other
   pub broken : ¬ Orderly net (λ a b. a ≡ b) run
 
--- the rules can be kept: in some tidy net by a run that has settled, in which a copy was sent
+-- The rules can be kept: in some tidy net a run keeps them, has settled, and sent a copy.
 pub record IsMet : Type 0 where
   pub net : Net ℕ ℕ
   pub tidy : Tidy net

@@ -16,81 +16,81 @@ use Rattle.model_steps.specs.Stamps.{is_stamp}
 use Rattle.model_steps.specs.Purging.{purged}
 use Rattle.model_run.specs.Event.{RunEvent, Posting, Scanning, Delivery, PartDelivery, Purging}
 
--- a system: its link file, its base and cursor, and the messages of its base as they were filed
+-- A system: its link file, its base and cursor, and its history: the messages of its base as they were filed.
 pub record System : Type 0 where
   pub file : LinkFile
   pub base : List Filed
   pub cursor : ℕ
   pub history : List Filed
 
--- a system without its history
+-- A system without its history.
 abbrev pub state_of : System → SystemState
 state_of s = record { file = s.file; base = s.base; cursor = s.cursor }
 
--- the systems, all packets ever exported, and the indexes of those that were delivered, each once
+-- The systems, all packets ever exported, and the indexes of the delivered packets, each once.
 pub record Run : Type 0 where
   pub systems : List System
   pub packets : List Packet
   pub delivered : List ℕ
 
--- the same system at a later time: its file stays, its cursor has not fallen, and its earlier messages come first,
--- unchanged
+-- The same system at a later time. Its file stays, its cursor has not fallen, and its earlier messages come first,
+-- unchanged.
 pub record IsLater (s z : System) : Type 0 where
   pub file : z.file ≡ s.file
   pub cursor : s.cursor ≤ z.cursor
   pub filed : (since : List Filed) × (z.history ≡ s.history ++ since)
 
--- a system that has nothing yet
+-- An empty system.
 abbrev pub fresh : LinkFile → System
 fresh file = record { file = file; base = []; cursor = 0; history = [] }
 
--- the message, if there is one, is appended to the base
+-- The message, if there is one, is appended to the base.
 abbrev pub filing : System → Option Filed → System
 filing s None = s
 filing s (Some m) = record { file = s.file; base = s.base ++ m ∷ []; cursor = s.cursor; history = s.history ++ m ∷ [] }
 
--- a system posts: the message is filed, where nothing refuses it
+-- A system posts: the message is filed, unless it is refused.
 abbrev pub posting_at : List ℕ → Draft → ℕ → Stamp → System → System
 posting_at tag draft serial stamp s = filing s (posting s.file s.base tag draft serial stamp)
 
--- a system tosses messages of one sender, in order
+-- A system tosses messages of one sender, in order.
 abbrev pub tossing_at : Address → List Message → System → System
 tossing_at sender [] s = s
 tossing_at sender (packed ∷ later) s = tossing_at sender later (filing s (tossing s.file s.base sender packed))
 
--- a system has scanned: its cursor is at the end
+-- After a scan the cursor of the system is at the end.
 abbrev pub scanning_at : System → System
 scanning_at s = record { file = s.file; base = s.base; cursor = length s.base; history = s.history }
 
--- a purge of a system: messages before the cursor become stubs
+-- A purge of a system: messages before the cursor become stubs.
 abbrev pub purging_at : System → System
 purging_at s = record { file = s.file; base = purged s.base s.cursor; cursor = s.cursor; history = s.history }
 
--- the item with this index
+-- The item with this index.
 abbrev pub nth : {X : Type 0} → ℕ → List X → Option X
 nth i [] = None
 nth zero (x ∷ xs) = Some x
 nth (suc i) (x ∷ xs) = nth i xs
 
--- the list with the item of this index changed
+-- The list with the item of this index changed.
 abbrev pub change : {X : Type 0} → ℕ → (X → X) → List X → List X
 change i f [] = []
 change zero f (x ∷ xs) = f x ∷ xs
 change (suc i) f (x ∷ xs) = x ∷ change i f xs
 
--- the address that a packet is for
+-- The address that a packet is for.
 abbrev pub destination : Packet → Address
 destination packet = record { zone = packet.header.dest_zone; net = packet.header.dest_net; node = packet.header.dest_node }
 
--- the index of the first system of this address, or the number of systems without one
+-- The index of the first system of this address, or the number of systems without one.
 abbrev pub receiver : Run → Packet → ℕ
 receiver run packet = position_or_len (λ s. same_address s.file.system (destination packet)) run.systems
 
--- one system changes
+-- One system changes.
 abbrev pub changing : Run → ℕ → (System → System) → Run
 changing run i f = record { systems = change i f run.systems; packets = run.packets; delivered = run.delivered }
 
--- a scan of a system, if it exists and the stamp is in range
+-- A scan of a system, if it exists and the stamp is in range.
 abbrev pub scanning : Run → ℕ → Stamp → Option System → Run
 scanning run i stamp None = run
 scanning run i stamp (Some s) =
@@ -102,15 +102,15 @@ scanning run i stamp (Some s) =
     }
     else run
 
--- a system tosses the first messages of a packet
+-- A system tosses the first messages of a packet.
 abbrev pub taking : Packet → ℕ → System → System
 taking packet messages s = tossing_at (sender_of s.file packet.header) (take messages packet.messages) s
 
--- the index is added once, however often it comes
+-- The index is added if it is new.
 abbrev pub with_index : ℕ → List ℕ → List ℕ
 with_index k delivered = if list_any (λ d. d == k) delivered then delivered else k ∷ delivered
 
--- the packet of this index arrives, if the system exists
+-- The packet of this index arrives, if the system exists.
 abbrev pub coming : Run → ℕ → Packet → Option System → Run
 coming run k packet None = run
 coming run k packet (Some s) = record {
@@ -119,17 +119,17 @@ coming run k packet (Some s) = record {
   delivered = with_index k run.delivered;
 }
 
--- the packet comes, if there is one
+-- The packet comes, if it exists.
 abbrev pub delivery : Run → ℕ → Option Packet → Run
 delivery run k None = run
 delivery run k (Some packet) = coming run k packet (nth (receiver run packet) run.systems)
 
--- the toss of a packet stops after its first messages
+-- The toss of a packet stops after its first messages.
 abbrev pub part_delivery : Run → ℕ → Option Packet → Run
 part_delivery run messages None = run
 part_delivery run messages (Some packet) = changing run (receiver run packet) (taking packet messages)
 
--- the effect of an event; one that names nothing, or is refused, has none
+-- The effect of an event. An event with an unknown index has no effect, nor has a refused one.
 abbrev pub after_event : Run → RunEvent → Run
 after_event run (Posting i tag draft serial stamp) = changing run i (posting_at tag draft serial stamp)
 after_event run (Scanning i stamp) = scanning run i stamp (nth i run.systems)
@@ -137,15 +137,15 @@ after_event run (Delivery k) = delivery run k (nth k run.packets)
 after_event run (PartDelivery k messages) = part_delivery run messages (nth k run.packets)
 after_event run (Purging i) = changing run i purging_at
 
--- the effect of events in order
+-- The effect of events in order.
 abbrev pub after_events : Run → List RunEvent → Run
 after_events run [] = run
 after_events run (event ∷ later) = after_events (after_event run event) later
 
--- systems of these files that have nothing yet
+-- Empty systems with these files.
 abbrev pub start : List LinkFile → Run
 start files = record { systems = map fresh files; packets = []; delivered = [] }
 
--- the run of these events, on systems of these files that begin with nothing
+-- The run of these events, on empty systems with these files.
 abbrev pub run_of : List LinkFile → List RunEvent → Run
 run_of files events = after_events (start files) events

@@ -9,7 +9,7 @@ use Rattle.model_run.specs.Tidy.{lists}
 use Rattle.model_run.specs.Harms.{Harm}
 use Rattle.model_run.specs.Postings.{ComesToRest, trial_posting}
 
--- a posting of the system of this address, and the events until the area was at rest
+-- A posting of the system of this address, and the events until the area was at rest.
 pub record Trial (files : List LinkFile) (tag : List ℕ) (a : Address) : Type 0 where
   pub index : ℕ
   pub file : LinkFile
@@ -18,11 +18,11 @@ pub record Trial (files : List LinkFile) (tag : List ℕ) (a : Address) : Type 0
   pub moves : List RunEvent
   pub rests : ComesToRest files tag index moves
 
--- it does harm
+-- The trial does harm.
 abbrev pub ShowsHarm : (files : List LinkFile) (tag : List ℕ) (a : Address) → Trial files tag a → Type 0
 ShowsHarm files tag a trial = Harm (run_of files (trial_posting trial.index tag ∷ trial.moves)) tag
 
--- b lists a and c, which are not linked with each other, and some walk leads from a to c around b
+-- The address b lists a and c, which are not linked with each other, and some walk leads from a to c around b.
 pub record IsPinched (files : List LinkFile) (tag : List ℕ) (b a c : Address) : Type 0 where
   pub one : IsTrue (lists files tag b a)
   pub other : IsTrue (lists files tag b c)

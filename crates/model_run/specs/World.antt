@@ -5,27 +5,27 @@ use Rattle.model_steps.specs.declared.packet.Packet.{Packet}
 use Rattle.echo_filed.specs.Filed.{Filed}
 use Rattle.model_run.specs.Run.{Run, nth}
 
--- the number of messages of the area
+-- The number of messages of the area.
 abbrev pub area_count : List ℕ → List Filed → ℕ
 area_count tag ms = count_by (λ m. bytes_eq m.echo.tag tag) ms
 
--- the number of messages of the area at the system of this index, 0 without such a system
+-- The number of messages of the area at the system of this index, 0 without such a system.
 abbrev pub filed_at : Run → ℕ → List ℕ → ℕ
 filed_at run i tag = unwrap_or (option_map (λ s. area_count tag s.base) (nth i run.systems)) 0
 
--- the number of them that wait for a scan
+-- The number of these messages that wait for a scan.
 abbrev pub waiting_at : Run → ℕ → List ℕ → ℕ
 waiting_at run i tag = unwrap_or (option_map (λ s. area_count tag (drop s.cursor s.base)) (nth i run.systems)) 0
 
--- the number of packets that were not delivered; the first has this index
+-- The number of packets that were not delivered; the first packet has this index.
 abbrev pub missing : List ℕ → ℕ → List Packet → ℕ
 missing delivered k [] = 0
 missing delivered k (packet ∷ later) = (if list_any (λ d. d == k) delivered then 0 else 1) + missing delivered (k + 1) later
 
--- how many packets were not delivered
+-- The number of packets that were not delivered.
 abbrev pub undelivered : Run → ℕ
 undelivered run = missing run.delivered 0 run.packets
 
--- whether no message waits for a scan and every packet was delivered
+-- Whether no message waits for a scan and every packet was delivered.
 abbrev pub is_settled : Run → Bool
 is_settled run = list_all (λ s. nat_le (length s.base) s.cursor) run.systems && (undelivered run == 0)

@@ -12,7 +12,7 @@
 //! For areas that are not tidy: `Harms` (what goes wrong in a run), `Grave` (the faults that always do harm),
 //! `Postings` and `Shown` (which posting shows a fault). `LawsOfRuns` has the laws that these proofs use.
 //!
-//! The modules of proofs/ whose names end in `Examples` are worked examples, by computation.
+//! Modules of proofs/ with names in `Examples` are worked examples, by computation.
 #![tactic(auto)]
 
 mod epoch_laws;

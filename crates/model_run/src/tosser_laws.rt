@@ -61,8 +61,8 @@ pub fn hiding_none_is_needed()
     ensures { (needed : IsNeeded telling) × Always (ListsAll needed.net) needed.run }
 {}
 
-/// Without the fifth: two systems give one key to two messages, and one of them is sent a message
-/// with the key of its own.
+/// Without the fifth: two systems give one key to two messages. One of them is sent the other message, with the key of
+/// its posting.
 pub fn new_keys_are_needed()
     ensures { IsNeeded keys }
 {}

@@ -1,4 +1,4 @@
--- Copies of a message that a scan makes, and what a toss reads in them.
+-- The copies that a scan makes of a message, and their content in a toss.
 use Rattle.std.proofs.Common.{◌≡◌, ℕ, zero, suc, Bool, List, [], ◌∷◌, ◌++◌, map, drop, refl, sym, ap, subst, ◌∙◌, Option, Some, None, arith, inl, inr}
 use Rattle.std.specs.Prelude.{bytes_eq, filter, find, option_map, unwrap_or}
 use Rattle.std.specs.List.{AllByRecursion}
@@ -49,7 +49,7 @@ set_fits : (all : List NetNode) → AllByRecursion IsNetNode all → AllByRecurs
 unfolding entry_set
 set_fits all h = set_all entry_before IsNetNode all h
 
--- what goes out has a text that is read back
+-- an exported text reads back
 pub exported_is_echo : (file : LinkFile) → IsFile file → (e : EchoText) → IsEcho e → IsEcho (exported file e)
 unfolding exported
 exported_is_echo file h e is =
@@ -67,7 +67,7 @@ exported_is_echo file h e is =
           (All-from_recursion IsNetNode (net_node_of file.system ∷ []) (net_node_fits file.system h.address, tt));
     }
 
--- a copy is echomail, and says what was exported
+-- a copy is echomail with the exported parts
 pub copy_accepted : (file : LinkFile) (to : Address) (m : Filed) → IsFile file → IsEcho m.echo → text_refusal ((copy_to file to m).text) ≡ None
 unfolding copy_to
 copy_accepted file to m h is = written_accepted (exported file m.echo) (exported_is_echo file h m.echo is)
@@ -95,7 +95,7 @@ exported_key file m from = key_same m from (msgid_of m.echo.kept)
 pub copy_keeps_key : (file : LinkFile) (from to : Address) (m : Filed) → IsFile file → IsEcho m.echo → key_of (received from (copy_to file to m)) ≡ key_of m
 copy_keeps_key file from to m h is = ap key_of (copy_read_back file from to m h is) ∙ exported_key file m (Some from)
 
--- what holds of each of a list holds of those that pass a test, and of the last ones
+-- a fact about each element holds for those that pass a test, and for the last ones
 pub all_filter : {X : Type 0} (P : X → Type 0) (p : X → Bool) (xs : List X) → AllByRecursion P xs → AllByRecursion P (filter p xs)
 all_filter P p [] all = tt
 all_filter {X} P p (x ∷ xs) all =
@@ -110,7 +110,7 @@ all_later P zero xs all = all
 all_later P (suc n) [] all = tt
 all_later P (suc n) (x ∷ xs) all = all_later P n xs all.1
 
--- what is made of each of a list passes where this does
+-- a fact about each element gives one about each image
 all_made : {X Y : Type 0} (P : X → Type 0) (Q : Y → Type 0) (f : X → Y) → ((x : X) → P x → Q (f x)) → (xs : List X) → AllByRecursion P xs → AllByRecursion Q (map f xs)
 all_made P Q f step [] all = tt
 all_made P Q f step (x ∷ xs) all = (step x all.0, all_made P Q f step xs all.1)

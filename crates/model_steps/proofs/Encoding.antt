@@ -10,7 +10,7 @@ use Rattle.echo_packet.proofs.MessageByMessage.{messages_bytes-push}
 use Rattle.echo_filed.proofs.Plain.{all_append}
 use Rattle.echo_packet.proofs.Outcome.{length-messages as counted}
 
--- a message of a text of its own length
+-- a message with its own text length as the limit
 abbrev pub IsWhole : Message → Type 0
 IsWhole m = IsMessage (length m.text) m
 

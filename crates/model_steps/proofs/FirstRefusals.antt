@@ -25,7 +25,7 @@ use Rattle.model_steps.specs.Tossing.{IsOutcome, outcome_after, received, toss_o
 use Rattle.echo_filed.proofs.Choices.{same_some}
 use Rattle.model_steps.proofs.Posted.{allowed}
 
--- the refusals of a posting in order, by what each test answered
+-- the refusals of a posting in order, by the result of each test
 abbrev chain : Bool → Bool → Bool → Bool → Bool → Bool → Option PostFault
 chain area zero long moment reply known =
     cond (not area) (Some fault.NoArea)
@@ -61,7 +61,7 @@ first_chain a z l m r k fault.BadReply h = λ i. chain (h.0 i) (h.1 i) (h.2 i) (
 first_chain a z l m r k fault.KnownSerial h = λ i. chain (h.0 i) (h.1 i) (h.2 i) (h.3 i) (h.4 i) (h.5 i)
 first_chain a z l m r k fault.Memory h = absurd h
 
--- by cases on the fault, what applies first is the same in both spellings
+-- by cases on the fault, both definitions have the same first refusal
 to_first : (file : LinkFile) (base : List Filed) (tag : List ℕ) (draft : Draft) (serial : ℕ) (stamp : Stamp) (f : PostFault)
     → First (has_area file (upper tag)) (holds_zero draft) (is_too_long draft) (is_stamp stamp) ((length draft.reply == 0) || is_id draft.reply) (list_any (has_id (id_of file.system serial)) base) f
     → IsFirstRefusal file base tag draft serial stamp f
@@ -93,7 +93,7 @@ refusal_first file base tag draft serial stamp f = (
   λ h. first_chain _ _ _ _ _ _ f (of_first file base tag draft serial stamp f h),
 )
 
--- and there is none just where none applies
+-- no refusal exactly if no test refuses
 pub refusal_none : (file : LinkFile) (base : List Filed) (tag : List ℕ) (draft : Draft) (serial : ℕ) (stamp : Stamp)
     → (post_refusal file base tag draft serial stamp ≡ None) ↔ IsAllowed file base tag draft serial stamp
 unfolding post_refusal
@@ -118,7 +118,7 @@ of_text : (bytes : List ℕ) → IsOfText (text_refusal bytes)
 unfolding text_refusal
 of_text bytes = two_refusals (is_area (first_line (lines bytes))) (is_tag (area_tag (first_line (lines bytes))))
 
--- the outcomes of a message whose text is echomail, in order
+-- the outcomes of a message with an echomail text, in order
 abbrev outcomes_chain : Bool → Bool → Bool → Outcome
 outcomes_chain area link known = cond (not area) outcome.NoArea (cond (not link) outcome.NotLinked (cond known outcome.Known outcome.Filed))
 

@@ -1,4 +1,4 @@
--- What is filed keeps what holds of each base.
+-- A filed message keeps the rules of each base.
 use Rattle.std.proofs.Common.{◌≡◌, ℕ, ◌-◌, ◌*◌, ◌≤◌, nat_lt, true, false, List, [], ◌∷◌, ◌++◌, length, drop, codes, sym, ap, subst, ◌∙◌, Some, None, arith}
 use Rattle.std.specs.List.{list_any}
 use Rattle.std.proofs.lemmas.Bool.{ltb-false, or_parts}
@@ -75,7 +75,7 @@ posted_new file base tag draft serial stamp h ok =
     ap (key_with (posted file tag draft serial stamp)) (posted_id file h tag draft serial stamp) in
     ap (is_known base) key ∙ none_known base ((posted file tag draft serial stamp).echo.tag) (id_of file.system serial) ok.new
 
--- a posting keeps what holds of each base
+-- a posting keeps the rules of each base
 pub posting_keeps : (file : LinkFile) (base : List Filed) (cursor : ℕ) (tag : List ℕ) (draft : Draft) (serial : ℕ) (stamp : Stamp) (m : Filed)
     → IsFile file → IsBase base cursor → posting file base tag draft serial stamp ≡ Some m → IsBase (base ++ m ∷ []) cursor
 posting_keeps file base cursor tag draft serial stamp m h is e =
@@ -101,7 +101,7 @@ received_filed most sender packed small is text =
           is.text.no_zero said.1;
     }
 
--- a toss keeps what holds of each base
+-- a toss keeps the rules of each base
 pub tossing_keeps : (most : ℕ) (file : LinkFile) (base : List Filed) (cursor : ℕ) (sender : Address) (packed : Message) (m : Filed)
     → HasSmallSender (Some sender) → IsMessage most packed → IsBase base cursor → tossing file base sender packed ≡ Some m → IsBase (base ++ m ∷ []) cursor
 tossing_keeps most file base cursor sender packed m small is h e =

@@ -1,4 +1,4 @@
--- What a posting files.
+-- The message that a posting files.
 use Rattle.std.proofs.Common.{◌≡◌, ℕ, ◌==◌, ◌||◌, Bool, true, false, cond, not, List, [], ◌∷◌, ◌++◌, length, codes, refl, sym, ap, subst, ◌∙◌, Option, Some, None, is_none, arith, inl, inr}
 use Rattle.std.specs.Prelude.{bytes_eq, find, is_some}
 use Rattle.std.specs.List.{AllByRecursion, AllPass, list_all, list_any}
@@ -64,7 +64,7 @@ posting_posted file base tag draft serial stamp m h =
     let parts = where_none (post_refusal file base tag draft serial stamp) (posted file tag draft serial stamp) m h in
     record { allowed = allowed file base tag draft serial stamp parts.0; is = parts.1 }
 
--- the tag of an area that is there
+-- the tag of an area in the link file
 found_tag : (tag : List ℕ) (areas : List Area) → AllByRecursion IsArea areas → is_some (find (λ (area : Area). bytes_eq area.tag tag) areas) ≡ true → is_tag tag ≡ true
 found_tag tag [] all h = absurd (cc)
 found_tag tag (first ∷ later) all h = elim (cases_Bool (bytes_eq first.tag tag)) [
@@ -155,11 +155,11 @@ no_tail file draft serial =
     (some_before (lines draft.body) (codes "--- echonet" ∷ (origin_line file ∷ []))
     (one_before (codes "--- echonet") (origin_line file ∷ []) (origin_last (file.name ++ (codes " (" ++ (address_text file.system ++ codes ")")))))))
 
--- no line at all is none of the shed kinds
+-- an empty list has no shed line
 none_shed : (all : List (List ℕ)) → all ≡ [] → AllPass (λ line. not (is_shed line)) all
 none_shed all empty = λ k d inside. absurd (omega (arith, ap length empty))
 
--- what a posting files is echomail
+-- a posted message is echomail
 pub posted_is_echo : (file : LinkFile) (base : List Filed) (tag : List ℕ) (draft : Draft) (serial : ℕ) (stamp : Stamp)
     → IsFile file → IsAllowed file base tag draft serial stamp → IsEcho ((posted file tag draft serial stamp).echo)
 unfolding posted

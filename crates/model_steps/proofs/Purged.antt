@@ -1,4 +1,4 @@
--- A purge keeps what holds of each base.
+-- A purge keeps the rules of each base.
 use Rattle.std.proofs.Common.{ℕ, List}
 use Rattle.echo_filed.specs.Filed.{Filed}
 use Rattle.base_file.specs.Base.{IsBase}

@@ -1,4 +1,4 @@
--- What a toss files.
+-- The message that a toss files.
 use Rattle.std.proofs.Common.{◌≡◌, Bool, true, false, cond, not, List, refl, ap, ◌∙◌, Option, Some, None}
 use Rattle.std.proofs.lemmas.Bool.{cond-false, not-false, not_from_true}
 use Rattle.echo_addr.specs.declared.address.Address.{Address}
@@ -27,7 +27,7 @@ failed : (b : Bool) (o : Outcome) (rest : Outcome) → (o ≡ outcome.Filed → 
 failed true o rest other h = absurd (other h)
 failed false o rest other h = (refl, h)
 
--- what an outcome of Filed tells
+-- the facts about a message with the outcome Filed
 record IsToFile (file : LinkFile) (base : List Filed) (sender : Address) (m : Filed) : Type 0 where
   area : has_area file m.echo.tag ≡ true
   link : is_link file m.echo.tag sender ≡ true

@@ -15,21 +15,21 @@ use Rattle.echo_text.specs.Ids.{id_of, is_id, is_zero}
 use Rattle.model_steps.specs.Stamps.{date_of, is_stamp}
 use Rattle.model_steps.specs.SystemState.{SystemState, state_with}
 
--- the line that names the message that is replied to, if any
+-- The REPLY line, if the draft answers a message.
 abbrev pub reply_lines : List ℕ → List (List ℕ)
 reply_lines reply = if length reply == 0 then [] else id_line reply_word (trimmed reply) ∷ []
 
--- the origin line of a system
+-- The origin line of a system.
 abbrev pub origin_line : LinkFile → List ℕ
 origin_line file = origin_word ++ (file.name ++ (codes " (" ++ (address_text file.system ++ codes ")")))
 
--- the kept lines of a posting: its id, the reply, the body, the tear line and the origin line
+-- The kept lines of a posting: its id, the reply, the body, the tear line and the origin line.
 unfoldable pub posted_lines : LinkFile → Draft → ℕ → List (List ℕ)
 posted_lines file draft serial =
     id_line msgid_word (id_of file.system serial)
     ∷ (reply_lines draft.reply ++ (lines draft.body ++ codes "--- echonet" ∷ (origin_line file ∷ [])))
 
--- the message that is filed for a draft
+-- The filed message of a draft.
 unfoldable pub posted : LinkFile → List ℕ → Draft → ℕ → Stamp → Filed
 posted file tag draft serial stamp = record {
   sender = None;
@@ -40,19 +40,19 @@ posted file tag draft serial stamp = record {
   echo = record { tag = upper tag; kept = posted_lines file draft serial; seen = []; path = [] };
 }
 
--- a field of the draft holds 00
+-- A field of the draft contains a 00.
 abbrev pub holds_zero : Draft → Bool
 holds_zero draft =
     list_any is_zero draft.to_name
     || (list_any is_zero draft.from_name
     || (list_any is_zero draft.subject || (list_any is_zero draft.reply || list_any is_zero draft.body)))
 
--- a name or the subject is too long for a packed message
+-- A name or the subject is too long for a packed message.
 abbrev pub is_too_long : Draft → Bool
 is_too_long draft =
     nat_lt max_name (length draft.to_name) || (nat_lt max_name (length draft.from_name) || nat_lt max_subject (length draft.subject))
 
--- the first refusal that applies to a posting
+-- The first refusal that applies to a posting.
 unfoldable pub post_refusal : LinkFile → List Filed → List ℕ → Draft → ℕ → Stamp → Option PostFault
 post_refusal file base tag draft serial stamp =
     if not (has_area file (upper tag)) then Some fault.NoArea
@@ -63,7 +63,7 @@ post_refusal file base tag draft serial stamp =
     else if list_any (has_id (id_of file.system serial)) base then Some fault.KnownSerial
     else None
 
--- no refusal applies to a posting
+-- No refusal applies to a posting.
 pub record IsAllowed (file : LinkFile) (base : List Filed) (tag : List ℕ) (draft : Draft) (serial : ℕ) (stamp : Stamp) : Type 0 where
   pub area : has_area file (upper tag) ≡ true
   pub zero : holds_zero draft ≡ false
@@ -72,7 +72,7 @@ pub record IsAllowed (file : LinkFile) (base : List Filed) (tag : List ℕ) (dra
   pub reply : ((length draft.reply == 0) || is_id draft.reply) ≡ true
   pub new : list_any (has_id (id_of file.system serial)) base ≡ false
 
--- this refusal applies, and none before it in the order B1, B2, B3, B5, B6, B4
+-- This refusal is the first that applies, in the order B1, B2, B3, B5, B6, B4.
 abbrev pub IsFirstRefusal : LinkFile → List Filed → List ℕ → Draft → ℕ → Stamp → PostFault → Type 0
 IsFirstRefusal file base tag draft serial stamp fault.NoArea = has_area file (upper tag) ≡ false
 IsFirstRefusal file base tag draft serial stamp fault.ByteZero = (has_area file (upper tag) ≡ true) × (holds_zero draft ≡ true)
@@ -88,18 +88,18 @@ IsFirstRefusal file base tag draft serial stamp fault.KnownSerial =
     × (((length draft.reply == 0) || is_id draft.reply) ≡ true) × (list_any (has_id (id_of file.system serial)) base ≡ true)
 IsFirstRefusal file base tag draft serial stamp fault.Memory = ⊥
 
--- the message that a posting files
+-- The message that a posting files.
 unfoldable pub posting : LinkFile → List Filed → List ℕ → Draft → ℕ → Stamp → Option Filed
 posting file base tag draft serial stamp =
     if is_none (post_refusal file base tag draft serial stamp) then Some (posted file tag draft serial stamp) else None
 
--- the answers of a refused posting: the first refusal that applies, or out of memory for a draft without fault
+-- A refused posting returns the first refusal that applies, or out of memory for a draft without fault.
 abbrev pub IsPostFault : LinkFile → List Filed → List ℕ → Draft → ℕ → Stamp → PostFault → Type 0
 IsPostFault file base tag draft serial stamp fault.Memory =
     (post_refusal file base tag draft serial stamp ≡ None) ⊎ (post_refusal file base tag draft serial stamp ≡ Some fault.KnownSerial)
 IsPostFault file base tag draft serial stamp refused = post_refusal file base tag draft serial stamp ≡ Some refused
 
--- a posting: the message is appended to the base, or a refusal changes nothing
+-- A posting appends the message to the base, or a refusal changes nothing.
 abbrev pub PostStep : {A : Type 0} → SystemState → List ℕ → Draft → ℕ → Stamp → Result A PostFault → SystemState → Type 0
 PostStep old tag draft serial stamp (Ok done) new =
     (post_refusal old.file old.base tag draft serial stamp ≡ None) × (new ≡ state_with old (Some (posted old.file tag draft serial stamp)))

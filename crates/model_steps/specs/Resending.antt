@@ -1,44 +1,34 @@
--- Packets made again, of messages that were scanned.
-use Rattle.std.specs.Prelude.{◌≡◌, ℕ, ◌&&◌, not, Bool, true, false, List, map, filter, take, drop, bytes_eq, is_some, Result, Ok, Err}
+-- Packets made again from scanned messages.
+use Rattle.std.specs.Prelude.{ℕ, ◌&&◌, not, Bool, List, map, filter, take, drop, bytes_eq, is_some}
 use Rattle.echo_addr.specs.declared.address.Address.{Address}
 use Rattle.echo_packet.specs.Message.{Message}
 use Rattle.echo_text.specs.Echo.{msgid_of}
 use Rattle.echo_links.specs.Links.{LinkFile}
 use Rattle.echo_filed.specs.Filed.{Filed}
 use Rattle.echo_filed.specs.Stubs.{is_stub}
-use Rattle.model_steps.specs.declared.fault.ScanFault.{ScanFault}
-use Rattle.model_steps.specs.declared.fault.ScanFault.TheVariants as fault
 use Rattle.model_steps.specs.declared.packet.Packet.{Packet}
 use Rattle.model_steps.specs.declared.stamp.Stamp.{Stamp}
 use Rattle.model_steps.specs.Scanning.{copy_to, goes_to, header_to}
-use Rattle.model_steps.specs.Stamps.{is_stamp}
-use Rattle.model_steps.specs.SystemState.{SystemState}
 
--- whether the message is of the area, and no purge took its text
+-- The message belongs to the area, and no purge removed its text.
 abbrev pub is_whole_in : List ℕ → Filed → Bool
 is_whole_in area m = bytes_eq m.echo.tag area && not (is_some (msgid_of m.echo.kept) && is_stub m)
 
--- whether it is sent again to the address: it is such a message, and the address is one of its targets
+-- The message is sent again to the address: it has its text, and the address is one of its targets.
 abbrev pub is_resent : LinkFile → List ℕ → Address → Filed → Bool
 is_resent file area to m = is_whole_in area m && goes_to file to m
 
--- the scanned messages of a base from this number on
+-- The scanned messages of a base from this number on.
 abbrev pub scanned_from : ℕ → List Filed → ℕ → List Filed
 scanned_from first base cursor = drop first (take cursor base)
 
--- the copies of those of them that are sent again, as scans export them
+-- The copies of these messages for the address, as scans export them.
 abbrev pub resent : LinkFile → List ℕ → Address → ℕ → List Filed → ℕ → List Message
 resent file area to first base cursor = map (copy_to file to) (filter (is_resent file area to) (scanned_from first base cursor))
 
--- the packet of these copies
+-- The packet of these copies.
 abbrev pub resent_packet : LinkFile → Stamp → List ℕ → Address → ℕ → List Filed → ℕ → Packet
 resent_packet file stamp area to first base cursor = record {
   header = header_to file stamp to;
   messages = resent file area to first base cursor;
 }
-
--- the answer of a system that is asked for such a packet; it changes nothing
-abbrev pub IsResent : SystemState → Stamp → List ℕ → Address → ℕ → Result Packet ScanFault → Type 0
-IsResent s stamp area to first (Ok packet) = (is_stamp stamp ≡ true) × (packet ≡ resent_packet s.file stamp area to first s.base s.cursor)
-IsResent s stamp area to first (Err fault.BadStamp) = is_stamp stamp ≡ false
-IsResent s stamp area to first (Err fault.Memory) = is_stamp stamp ≡ true

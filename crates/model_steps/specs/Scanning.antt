@@ -17,20 +17,20 @@ use Rattle.echo_filed.specs.Filed.{Filed}
 use Rattle.model_steps.specs.Stamps.{is_stamp}
 use Rattle.model_steps.specs.SystemState.{SystemState}
 
--- whether the address sent the message here
+-- The address sent the message here.
 abbrev pub is_sender : Filed → Address → Bool
 is_sender m address = unwrap_or (option_map (same_address address) m.sender) false
 
--- whether the message's SEEN-BY has the net and node of the address
+-- The SEEN-BY of the message has the net and node of the address.
 abbrev pub is_seen_by : Filed → Address → Bool
 is_seen_by m address = list_any (same_entry (net_node_of address)) m.echo.seen
 
--- the receivers of a message: the links of its area that did not send it and are not in its SEEN-BY
+-- The receivers of a message: the links of its area that did not send it and are not in its SEEN-BY.
 unfoldable pub targets : LinkFile → Filed → List Address
 targets file m =
     filter (λ link. not (is_sender m link) && not (is_seen_by m link)) (links_of file m.echo.tag)
 
--- the exported text: the own net/node and those of the links join SEEN-BY, the own ends PATH
+-- The exported text. Its SEEN-BY gains the own net/node and those of the links, its PATH ends with the own.
 unfoldable pub exported : LinkFile → EchoText → EchoText
 exported file e = record {
   tag = e.tag;
@@ -39,7 +39,7 @@ exported file e = record {
   path = e.path ++ net_node_of file.system ∷ [];
 }
 
--- a message with this text for an address
+-- A message with this text for an address.
 abbrev pub message_out : LinkFile → Address → Filed → List ℕ → Message
 message_out file address m text = record {
   orig_node = file.system.node;
@@ -55,11 +55,11 @@ message_out file address m text = record {
   text = text;
 }
 
--- the copy of a message for an address
+-- The copy of a message for an address.
 unfoldable pub copy_to : LinkFile → Address → Filed → Message
 copy_to file address m = message_out file address m (text_of (exported file m.echo))
 
--- the header of a packet to an address
+-- The header of a packet to an address.
 unfoldable pub header_to : LinkFile → Stamp → Address → Header
 header_to file stamp address = record {
   orig_node = file.system.node;
@@ -81,30 +81,30 @@ header_to file stamp address = record {
   fill = replicate 20 0;
 }
 
--- whether an address receives a message
+-- The address receives the message.
 abbrev pub goes_to : LinkFile → Address → Filed → Bool
 goes_to file address m = list_any (same_address address) (targets file m)
 
--- the packet of messages to an address
+-- The packet of messages to an address.
 unfoldable pub packet_to : LinkFile → Stamp → List Filed → Address → Packet
 packet_to file stamp waiting address = record {
   header = header_to file stamp address;
   messages = map (copy_to file address) (filter (goes_to file address) waiting);
 }
 
--- the addresses that get some of the messages, ascending
+-- The addresses that receive some of the messages, ascending.
 unfoldable pub recipients : LinkFile → List Filed → List Address
 recipients file waiting = address_set (flat_map (targets file) waiting)
 
--- one packet for each of these addresses
+-- One packet for each of these addresses.
 unfoldable pub packets_of : LinkFile → Stamp → List Filed → List Packet
 packets_of file stamp waiting = map (packet_to file stamp waiting) (recipients file waiting)
 
--- the packets of a scan: of the messages from the cursor on
+-- The packets of a scan, made from the messages after the cursor.
 unfoldable pub scanned : LinkFile → List Filed → ℕ → Stamp → List Packet
 scanned file base cursor stamp = packets_of file stamp (drop cursor base)
 
--- a scan: the packets, and the cursor at the end of the base, or a refusal that changes nothing
+-- A scan returns the packets and moves the cursor to the end of the base, or a refusal changes nothing.
 abbrev pub ScanStep : SystemState → Stamp → Result (List Packet) ScanFault → SystemState → Type 0
 ScanStep old stamp (Ok packets) new =
     (is_stamp stamp ≡ true) × (packets ≡ scanned old.file old.base old.cursor stamp)

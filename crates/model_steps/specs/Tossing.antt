@@ -14,7 +14,7 @@ use Rattle.echo_filed.specs.Filed.{Filed, key_of}
 use Rattle.base_file.specs.Base.{is_known}
 use Rattle.model_steps.specs.SystemState.{SystemState, state_with}
 
--- the filed form of a received message
+-- The filed form of a received message.
 unfoldable pub received : Address → Message → Filed
 received sender packed = record {
   sender = Some sender;
@@ -25,7 +25,7 @@ received sender packed = record {
   echo = echo_of packed.text;
 }
 
--- the outcome of a message with an echomail text
+-- The outcome of a message with an echomail text.
 abbrev pub outcome_of_filed : LinkFile → List Filed → Address → Filed → Outcome
 outcome_of_filed file base sender m =
     if not (has_area file m.echo.tag) then outcome.NoArea
@@ -33,34 +33,34 @@ outcome_of_filed file base sender m =
     else if is_known base (key_of m) then outcome.Known
     else outcome.Filed
 
--- the outcome of a message with a text that may be refused
+-- The outcome of a message with a text that may be refused.
 abbrev pub outcome_after : LinkFile → List Filed → Address → Filed → Option TextFault → Outcome
 outcome_after file base sender m None = outcome_of_filed file base sender m
 outcome_after file base sender m (Some text.NotEcho) = outcome.NotEcho
 outcome_after file base sender m (Some refused) = outcome.BadTag
 
--- the outcome of a message: the first one that applies
+-- The outcome of a message: the first one that applies.
 unfoldable pub toss_outcome : LinkFile → List Filed → Address → Message → Outcome
 toss_outcome file base sender packed =
     outcome_after file base sender (received sender packed) (text_refusal packed.text)
 
--- the message, where it is to be filed
+-- The message, if its outcome is `Filed`.
 abbrev pub where_filed : Outcome → Filed → Option Filed
 where_filed outcome.Filed m = Some m
 where_filed other m = None
 
--- the message that a toss files
+-- The message that a toss files.
 unfoldable pub tossing : LinkFile → List Filed → Address → Message → Option Filed
 tossing file base sender packed = where_filed (toss_outcome file base sender packed) (received sender packed)
 
--- a message is to be filed: its text is echomail of an area in the link file, from a link, and not known
+-- A toss files the message: its text is echomail of an area in the link file, from a link, and not known.
 pub record IsToBeFiled (file : LinkFile) (base : List Filed) (from : Address) (packed : Message) : Type 0 where
   pub text : text_refusal packed.text ≡ None
   pub area : has_area file (echo_of packed.text).tag ≡ true
   pub link : is_link file (echo_of packed.text).tag from ≡ true
   pub new : is_known base (key_of (received from packed)) ≡ false
 
--- this is the outcome of a message, and no outcome before it applies
+-- This is the outcome of a message, and no earlier outcome applies.
 abbrev pub IsOutcome : LinkFile → List Filed → Address → Message → Outcome → Type 0
 IsOutcome file base from packed outcome.NotEcho = text_refusal packed.text ≡ Some text.NotEcho
 IsOutcome file base from packed outcome.BadTag = text_refusal packed.text ≡ Some text.BadTag
@@ -72,33 +72,33 @@ IsOutcome file base from packed outcome.Known =
     × (is_known base (key_of (received from packed)) ≡ true)
 IsOutcome file base from packed outcome.Filed = IsToBeFiled file base from packed
 
--- a toss: the message is appended to the base if it is filed, otherwise nothing changes; nor does it without memory
+-- A toss appends the message to the base if its outcome is `Filed`. Otherwise, or out of memory, nothing changes.
 abbrev pub TossStep : {E : Type 0} → SystemState → Address → Message → Result Outcome E → SystemState → Type 0
 TossStep old sender packed (Ok answer) new =
     (answer ≡ toss_outcome old.file old.base sender packed) × (new ≡ state_with old (tossing old.file old.base sender packed))
 TossStep old sender packed (Err refused) new = new ≡ old
 
--- the base after messages of one sender were tossed in order
+-- The base after tossing messages of one sender in order.
 abbrev pub tossed : LinkFile → List Filed → Address → List Message → List Filed
 tossed file base sender [] = base
 tossed file base sender (packed ∷ later) =
     tossed file (base ++ option_to_list (tossing file base sender packed)) sender later
 
--- the outcome of each of them
+-- The outcome of each of these messages.
 abbrev pub outcomes : LinkFile → List Filed → Address → List Message → List Outcome
 outcomes file base sender [] = []
 outcomes file base sender (packed ∷ later) =
     toss_outcome file base sender packed
     ∷ outcomes file (base ++ option_to_list (tossing file base sender packed)) sender later
 
--- a zone of a header: 0 means the receiver's own
+-- A zone of a header, where 0 means the receiver's own zone.
 abbrev pub zone_of : LinkFile → ℕ → ℕ
 zone_of file zone = if zone == 0 then file.system.zone else zone
 
--- who sent a packet
+-- The sender of a packet.
 abbrev pub sender_of : LinkFile → Header → Address
 sender_of file header = record { zone = zone_of file header.orig_zone; net = header.orig_net; node = header.orig_node }
 
--- the address that a packet is for
+-- The destination of a packet.
 abbrev pub destination_of : LinkFile → Header → Address
 destination_of file header = record { zone = zone_of file header.dest_zone; net = header.dest_net; node = header.dest_node }

@@ -15,14 +15,14 @@ pub struct Packet {
     pub messages: Items<PackedCopy>,
 }
 
-// How many bytes a packet has beside its messages: those of the header, and 00 00.
+// The number of bytes of a packet outside its messages: the header, and 00 00.
 fn size_beside(header: Header) -> usize
     ensures { result ≡ length (header_bytes header) + 2 }
 {
     HEADER_BYTES + 2
 }
 
-// The bytes of a message beside its strings, the 00 after each among them.
+// The number of bytes of a message outside its strings, with the 00 after each.
 const FIXED: usize = 38;
 
 /// How many bytes a message has.

@@ -14,11 +14,11 @@ use Rattle.model_run.specs.Run.{destination, nth}
 use Rattle.model_why.proofs.Counting.{total}
 use Rattle.model_why.specs.Carrying.{crossing, crossing_at, crossings_from, step_of}
 
--- who sent a packet, if it holds the message
+-- the sender of a packet, if it holds the message
 abbrev pub sender_if : Key → Packet → Option Address
 sender_if key p = cond (nat_lt 0 (count key (copies p))) (Some (origin p)) None
 
--- the packet of an index is the first of those that are left there
+-- the packet at an index is the first of those left there
 left_at : (k : ℕ) (ps : List Packet) → k < length ps → (p : Packet) × (nth k ps ≡ Some p) × (drop k ps ≡ p ∷ drop (suc k) ps)
 left_at k [] h = absurd (omega arith)
 left_at zero (p ∷ ps) h = (p, refl, refl)
@@ -39,7 +39,7 @@ crossings-more counts to key k n ps old new all within next added so =
     ∙ ap (λ (t : List Packet). old ++ crossings_from counts to key k t) (sym left)
     ∙ so
 
--- the packet of an index is for the address, and holds the message, or does not
+-- the packet at an index is for the address and holds the message, or not
 pub crossing-there : (counts : List ℕ) (to from : Address) (key : Key) (k step : ℕ) (p : Packet) → same_address (destination p) to ≡ true → step ≡ step_of counts k →
     Some from ≡ sender_if key p → (let one : Crossing = record { step = step; from = from; to = to } in one ∷ []) ≡ crossing_at counts to key k p
 crossing-there counts to from key k step p for is found = by (nat_lt 0 (count key (copies p))) (same_address (destination p) to) for found

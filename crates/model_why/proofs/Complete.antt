@@ -1,4 +1,4 @@
--- A message that is not found in a run is not there.
+-- A message that is not found in a run is not in it.
 use Rattle.std.proofs.Common.{◌≡◌, ◌∙◌, refl, sym, subst, ap, ℕ, ◌<◌, ◌≤◌, arith, List, Option, Some, None}
 use Rattle.std.specs.Prelude.{Bool, true, false, ◌&&◌, MatchOption, bytes_eq, option_map, unwrap_or}
 use Rattle.echo_addr.specs.declared.address.Address.{Address}
@@ -28,7 +28,7 @@ pub at_none : {X : Type 0} (P : Type 0) (Q : X → Type 0) (o : Option X) → ((
 at_none P Q None other h = h
 at_none P Q (Some x) other h = absurd (other x refl)
 
--- the message that is read off is the posting
+-- the message that was read is the posting
 pub no_message : {m : Filed} → (let none : Option Filed = None in none ≡ Some m) → ⊥
 no_message e = cc
 
@@ -51,7 +51,7 @@ passes m tag id of found is_of is_found key =
     let test = λ (t : List ℕ) (o : Option (List ℕ)). bytes_eq t tag && unwrap_or (option_map (λ (f : List ℕ). bytes_eq f id) o) false in
     (λ i. test (is_of i) (is_found i)) ∙ (sym (has_key m tag id) ∙ (same_key_decides (key_of m) (ById tag id)).1 key)
 
--- one that is sent the message less than twice
+-- a carrier that is sent the message less than twice
 pub few-at : (run : Run) (i : ℕ) (tag id : List ℕ) (a : Address) (times : ℕ) → CarriesAt run i tag a → times ≡ sent_count a (ById tag id) run.packets → times < 2 →
     (s : System) → nth i run.systems ≡ Some s → sent_count s.file.system (ById tag id) run.packets ≤ 1
 few-at run i tag id a times carrier sent few s at =
@@ -65,14 +65,14 @@ none-at run i tag id a times posted sent none s at =
     let P : Address → Type 0 = λ b. sent_count b (ById tag id) run.packets ≡ 0 in
     subst P (sym posted.carrier.address ∙ ap (λ (z : System). z.file.system) (same_system (sym posted.carrier.at ∙ at))) (omega (arith, sent, none))
 
--- one that has filed some
+-- a carrier that has filed some message
 pub filed-here : (run : Run) (i : ℕ) (tag : List ℕ) (n : ℕ) → n ≡ filed_at run i tag → 0 < n →
     (s : System) → nth i run.systems ≡ Some s → 1 ≤ area_count tag s.base
 filed-here run i tag n filed some s at =
     let here = ap (λ (o : Option System). unwrap_or (option_map (λ (z : System). area_count tag z.base) o) 0) at in
     omega (arith, here, filed, some)
 
--- the id that was made of the file at this index
+-- the id made from the file at this index
 pub named_as : {V : Type 0} (o : Option V) (v : V) (items : V → List ℕ) (i : ℕ) (fs files : List LinkFile) (file : LinkFile) → fs ≡ files → o ≡ Some v →
     MatchOption o (nth i fs ≡ None) (λ w. (f : LinkFile) → nth i fs ≡ Some f → items w ≡ id_of f.system 1) → nth i files ≡ Some file →
     items v ≡ id_of file.system 1

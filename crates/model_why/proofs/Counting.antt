@@ -19,7 +19,7 @@ use Rattle.model_replay.specs.Worlds.{Fits, encoded, unlimited}
 use Rattle.model_run.specs.Run.{destination, nth}
 use Rattle.model_run.specs.Orderly.{copies, count, sent_count}
 
--- how many copies a packet has for an address
+-- the number of copies in a packet for an address
 abbrev pub copies_for : Address → Key → Packet → ℕ
 copies_for to key p = if same_address (destination p) to then count key (copies p) else 0
 
@@ -42,7 +42,7 @@ sent-more to key k n p ps e h =
 abbrev pub is_one : Address → Key → Message → Bool
 is_one sender key q = is_none (text_refusal q.text) && same_key (key_of (received sender q)) key
 
--- how many copies there are among messages
+-- the number of copies among messages
 abbrev pub total : Address → Key → List Message → ℕ
 total sender key ms = count key (map (received sender) (filter (λ q. is_none (text_refusal q.text)) ms))
 
@@ -91,7 +91,7 @@ pub has_key : (m : Filed) (tag id : List ℕ) →
 unfolding key_of
 has_key m tag id = with_id m tag id (msgid_of m.echo.kept)
 
--- the same of what a received text says
+-- the same for a received text
 pub has_key-received : (sender : Address) (q : Message) (tag id : List ℕ) →
     same_key (key_of (received sender q)) (ById tag id)
     ≡ bytes_eq (echo_of q.text).tag tag && unwrap_or (option_map (λ (found : List ℕ). bytes_eq found id) (msgid_of (echo_of q.text).kept)) false

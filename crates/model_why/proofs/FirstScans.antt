@@ -1,4 +1,4 @@
--- What the packets of a system that posts and scans show at once.
+-- The packets of a system that posts and scans show some faults at once.
 use Rattle.std.proofs.Common.{◌≡◌, ◌≢◌, ap, ◌∙◌, subst, ℕ, ◌<◌, ◌≤◌, IsTrue, true, List, length, map, Some}
 use Rattle.std.specs.List.{list_any}
 use Rattle.echo_addr.specs.declared.address.Address.{Address}
@@ -32,12 +32,12 @@ file-there files events s h =
     subst P (along (λ run. map (λ (z : System). z.file) run.systems ≡ files) (λ run event same. event-files run event ∙ same) events (start files) (fresh-files files))
     (Among-map_to (λ (z : System). z.file) s (run_of files events).systems h)
 
--- if the system of this index lists the system of the guess, the guess is wrong of its first scan
+-- if the system at this index lists the guessed system, the guess is wrong for its first scan
 abbrev pub IsWrongOfListed : List LinkFile → List ℕ → ℕ → Guess → Type 0
 IsWrongOfListed files tag i guess =
     (file : LinkFile) → nth i files ≡ Some file → IsTrue (is_link file tag (guessed_link file.system guess)) → IsWrongAtOnce files tag i guess
 
--- the guess is wrong, whoever posts and scans
+-- the guess is wrong for any system that posts and scans
 abbrev pub IsAlwaysWrong : List LinkFile → List ℕ → Guess → Type 0
 IsAlwaysWrong files tag guess = (i : ℕ) → i < length files → IsWrongOfListed files tag i guess
 
@@ -55,7 +55,7 @@ own_shows files known tag a listed wrong =
       sent = subst P (posting-key files known tag i file is area) (sent-to_link files known tag i file is area file.system own);
     })
 
--- and the packet to an address that no file has shows that it is listed
+-- and the packet to an address without a file shows that it is listed
 pub nobody_shows : (files : List LinkFile) → LawsOfRuns files → (tag : List ℕ) (a b : Address) → IsTrue (lists files tag a b) →
     ((file : LinkFile) → Among file files → file.system ≢ b) → ¬ IsAlwaysWrong files tag (Nobody b)
 nobody_shows files known tag a b listed nobody wrong =

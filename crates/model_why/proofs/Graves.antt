@@ -1,4 +1,4 @@
--- A fault that always does harm is one that the trials show.
+-- The trials show each fault that always does harm.
 use Rattle.std.proofs.Common.{IsTrue, ℕ, List}
 use Rattle.echo_addr.specs.declared.address.Address.{Address}
 use Rattle.echo_links.specs.Links.{LinkFile}
@@ -9,7 +9,7 @@ use Rattle.model_run.specs.Tidy.{lists}
 use Rattle.model_run.specs.Grave as grave
 use Rattle.model_run.specs.Grave.{AllAreCarriers, GraveFault, HaveOwnAddresses}
 
--- V5, V7 and V8 come after it is known that each link of a carrier is a carrier
+-- V5, V7 and V8 apply only if each link of a carrier is a carrier
 abbrev pub ComesAfterCarriers : NetFault → Type 0
 ComesAfterCarriers (OneSided a b) = Unit {0}
 ComesAfterCarriers (Apart a b) = Unit {0}

@@ -1,4 +1,4 @@
--- A guess that is not found in a run is wrong of it.
+-- A guess that is not found in a run is wrong for it.
 use Rattle.std.proofs.Common.{◌≡◌, ℕ, ◌≤◌, arith, List, Some}
 use Rattle.std.specs.Prelude.{true, IfOk, Result, Ok, Err}
 use Rattle.echo_filed.specs.declared.key.Key.TheVariants.{ById}
@@ -8,7 +8,7 @@ use Rattle.model_run.specs.Orderly.{sent_count}
 use Rattle.model_run.specs.World.{area_count, is_settled}
 use Rattle.model_why.specs.Guesses.{IsAgain, IsLacking, IsOwn}
 
--- what follows from what holds of an answer holds of it
+-- a weaker property holds of the answer too
 pub ok_more : {T E : Type 0} (r : Result T E) (P Q : T → Type 0) → ((x : T) → P x → Q x) → IfOk r P → IfOk r Q
 ok_more (Ok x) P Q more h = more x h
 ok_more (Err e) P Q more h = h

@@ -1,4 +1,4 @@
--- Where no posting does harm, no fault is grave.
+-- If no posting does harm, no fault is grave.
 use Rattle.std.proofs.Common.{◌≡◌, ap, ◌∙◌, ℕ, List, map, Option, Some, None}
 use Rattle.std.specs.Prelude.{true, option_map, slice_get, unwrap_or}
 use Rattle.echo_text.specs.Ids.{id_of}

@@ -1,4 +1,4 @@
--- The harms that are shown are harms.
+-- The shown harms are harms.
 use Rattle.std.proofs.Common.{◌≡◌, ◌∙◌, ◌⊎◌, inl, inr, refl, sym, subst, ap, ℕ, ◌≤◌, arith, List, length, Option, Some, None}
 use Rattle.echo_addr.specs.declared.address.Address.{Address}
 use Rattle.model_graph.specs.Walk.{Among}
@@ -41,7 +41,7 @@ record WasPosted (run : Run) (tag id : List ℕ) : Type 0 where
   posting : IsPosting tag message
   key : key_of message ≡ ById tag id
 
--- what the laws say of bases
+-- the laws about bases
 abbrev pub AreStubs : Run → Type 0
 AreStubs run = (s : System) → Among s run.systems → (i : ℕ) (m filed : Filed) → nth i s.base ≡ Some m → nth i s.history ≡ Some filed →
     (m ≡ filed) ⊎ (m ≡ stub_of filed)

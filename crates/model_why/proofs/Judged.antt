@@ -63,7 +63,7 @@ posted-at run i tag id a m carrier found is =
       key = is.1;
     }
 
--- where no message of the area is filed, none has a key of it
+-- if no message of the area is filed, no message has a key of it
 abbrev one_if : Bool → ℕ
 one_if b = cond b 1 0
 
@@ -84,7 +84,7 @@ none_of-area tag id (m ∷ ms) h =
       ap one_if (has_key m tag id),
     )
 
--- the carrier, and the poster, of an index are systems of the run
+-- the carrier and the poster at an index are systems of the run
 abbrev carrier-there : (run : Run) (i : ℕ) (tag : List ℕ) (a : Address) → CarriesAt run i tag a → IsCarrierAt run tag a
 carrier-there run i tag a carrier = record {
   system = carrier.system;

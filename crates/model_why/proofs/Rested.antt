@@ -25,7 +25,7 @@ only-moves [] = tt
 only-moves (Scan system ∷ moves) = (tt, only-moves moves)
 only-moves (Deliver packet ∷ moves) = (tt, only-moves moves)
 
--- how far the rounds have come
+-- the progress of the rounds
 abbrev pub SoFar : List LinkFile → List ℕ → ℕ → List Move → ℕ → Type 0
 SoFar files tag poster moves n =
     (known : LawsOfRuns files) (all_known : AllAreCarriers files tag) (file : LinkFile) (is : nth poster files ≡ Some file) (area : has_area file tag ≡ true) →

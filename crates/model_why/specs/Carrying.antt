@@ -1,4 +1,4 @@
--- How the message of a harm reaches the system that the harm names: the packets to that system that hold it.
+-- The way of a harm's message to the system that the harm names: the packets to that system that hold it.
 use Rattle.std.specs.Prelude.{ℕ, ◌+◌, ◌&&◌, nat_le, nat_lt, Bool, count_by, if◌then◌else◌, List, [], ◌∷◌, ◌++◌, Option, Some, None}
 use Rattle.echo_addr.specs.declared.address.Address.{Address}
 use Rattle.echo_links.specs.Links.{LinkFile, same_address}
@@ -38,7 +38,7 @@ crossing counts k p = record { step = step_of counts k; from = origin p; to = de
 abbrev pub crossing_at : List ℕ → Address → Key → ℕ → Packet → List Crossing
 crossing_at counts to key k p = if brings to key p then crossing counts k p ∷ [] else []
 
--- Those that bring it, among packets the first of which has this index.
+-- The packets that bring it; the first of the packets has this index.
 abbrev pub crossings_from : List ℕ → Address → Key → ℕ → List Packet → List Crossing
 crossings_from counts to key k [] = []
 crossings_from counts to key k (p ∷ later) = crossing_at counts to key k p ++ crossings_from counts to key (k + 1) later

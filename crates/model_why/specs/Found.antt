@@ -30,7 +30,7 @@ pub record HasPosted (run : Run) (tag id : List ℕ) : Type 0 where
   pub posting : IsPosting tag message
   pub key : key_of message ≡ ById tag id
 
--- The packets to a carrier hold the message so many times, and more than once.
+-- The packets to a carrier hold the message this many times, and more than once.
 pub record IsSentAgain (run : Run) (tag id : List ℕ) (a : Address) (times : ℕ) : Type 0 where
   pub carrier : IsCarrierAt run tag a
   pub sent : sent_count a (ById tag id) run.packets ≡ times
@@ -89,7 +89,7 @@ pub record CarriesAt (run : Run) (index : ℕ) (tag : List ℕ) (a : Address) : 
   pub carries : IsTrue (has_area system.file tag)
   pub address : system.file.system ≡ a
 
--- And it posted the message of this id.
+-- This system posted the message with this id.
 pub record PostedAt (run : Run) (index : ℕ) (tag id : List ℕ) (a : Address) : Type 0 where
   pub carrier : CarriesAt run index tag a
   pub message : Filed

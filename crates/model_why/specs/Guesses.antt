@@ -38,7 +38,7 @@ pub record IsToNobody (run : Run) (tag id : List ℕ) (to : Address) : Type 0 wh
   pub nobody : (s : System) → Among s run.systems → s.file.system ≢ to
   pub sent : 1 ≤ sent_count to (ById tag id) run.packets
 
--- The guess is right for the message of this id that the system of this index posted.
+-- The guess is right for the message with this id, which the system with this index posted.
 abbrev pub IsRight : Run → ℕ → List ℕ → List ℕ → Guess → Type 0
 IsRight run poster tag id (Again i) = IsAgain run tag id i
 IsRight run poster tag id Own = IsOwn run poster tag id
@@ -50,14 +50,14 @@ abbrev pub GuessBreaks : Guess → Type 0
 GuessBreaks (Nobody to) = ⊥
 GuessBreaks _ = Unit {0}
 
--- It is wrong for the run in which the system of this index posts and scans, and nothing else happens.
+-- The guess is wrong for the run in which just the system with this index posts and scans.
 abbrev pub IsWrongAtOnce : List LinkFile → List ℕ → ℕ → Guess → Type 0
 IsWrongAtOnce files tag poster guess =
     (file : LinkFile) → nth poster files ≡ Some file → IsTrue (has_area file tag) →
     ¬ IsRight (run_of files (post_and_scan poster tag)) poster tag (id_of file.system 1) guess
 
--- The destination of a packet of the first scan. The guess is that a system is sent its own message, or that a packet goes to an address
--- without a system.
+-- The system to which a packet of the first scan goes. The guess is that this system is sent its own message, or that the
+-- packet goes to an address without a system.
 abbrev pub guessed_link : Address → Guess → Address
 guessed_link own (Nobody to) = to
 guessed_link own _ = own

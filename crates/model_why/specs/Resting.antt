@@ -1,4 +1,4 @@
--- One posting after which all messages rest, and which does no harm.
+-- A posting after which all messages rest, and which does no harm.
 use Rattle.std.specs.Prelude.{◌≡◌, ◌≤◌, ℕ, IsTrue, List, Some}
 use Rattle.model_graph.specs.Walk.{Among}
 use Rattle.echo_text.specs.Ids.{id_of}
@@ -13,7 +13,7 @@ use Rattle.model_run.specs.Grave.{AllAreCarriers}
 use Rattle.model_plan.specs.declared.plan.Move.{Move}
 use Rattle.model_why.specs.Shown.{shown_run}
 
--- Nothing waits, every packet was delivered, and only the message of this id was filed.
+-- Nothing waits, every packet was delivered, and only the message with this id was filed.
 pub record IsAtRest (run : Run) (tag id : List ℕ) : Type 0 where
   pub settled : IsTrue (is_settled run)
   pub only : (s : System) → Among s run.systems → (m : Filed) → Among m s.history → key_of m ≡ ById tag id
@@ -24,7 +24,7 @@ RestsWith files tag poster moves =
     AllAreCarriers files tag → (file : LinkFile) → nth poster files ≡ Some file → IsTrue (has_area file tag) →
     IsAtRest (shown_run files poster tag moves) tag (id_of file.system 1)
 
--- The first message of the system of this index is the posting of this id.
+-- The first message of the system with this index is the posting with this id.
 pub record PostsFirst (run : Run) (i : ℕ) (tag id : List ℕ) : Type 0 where
   pub system : System
   pub at : nth i run.systems ≡ Some system
@@ -39,7 +39,7 @@ pub record IsWell (run : Run) (tag id : List ℕ) (s : System) : Type 0 where
   pub once : sent_count s.file.system (ById tag id) run.packets ≤ 1
   pub filed : 1 ≤ area_count tag s.base
 
--- Its poster is not sent it, and each carrier is well.
+-- The poster is not sent the message, and each carrier is well.
 pub record DoesNoHarm (run : Run) (poster : ℕ) (tag id : List ℕ) : Type 0 where
   pub never_own : (s : System) → nth poster run.systems ≡ Some s → sent_count s.file.system (ById tag id) run.packets ≡ 0
   pub well : (i : ℕ) (s : System) → nth i run.systems ≡ Some s → IsTrue (has_area s.file tag) → IsWell run tag id s

@@ -1,4 +1,4 @@
--- One posting and what follows it, as events of a run.
+-- One posting and the moves after it, as events of a run.
 use Rattle.std.specs.Prelude.{ℕ, List, ◌∷◌, map}
 use Rattle.echo_links.specs.Links.{LinkFile}
 use Rattle.model_run.specs.Event.{RunEvent, Delivery, Scanning}

@@ -3,6 +3,6 @@ use Rattle.std.specs.Prelude.{ℕ, List, map}
 use Rattle.echo_links.specs.Links.{LinkFile}
 use Rattle.echo_links.specs.LinkLines.{file_of}
 
--- the link file of each of them
+-- The link file of each of these byte strings.
 abbrev pub files_of : List (List ℕ) → List LinkFile
 files_of sources = map file_of sources

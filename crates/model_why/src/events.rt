@@ -1,6 +1,6 @@
 //! The events of a posting and of the moves after it.
 
-ghost use Rattle.std.specs.Prelude.{◌≡◌, IfOk, codes, map, [], ◌∷◌};
+ghost use Rattle.std.specs.Prelude.{◌≡◌, IfOk, map};
 ghost use Rattle.model_run.specs.Event.{run_event};
 ghost use Rattle.model_run.specs.Postings.{trial_draft, trial_posting};
 ghost use Rattle.model_why.specs.Shown.{posting_and_moves, run_move};

@@ -19,8 +19,8 @@ use model_plan::Guess;
 use std::alloc::{AllocError, Global};
 use std::hash::RandomState;
 
-/// A run that does harm in the area of the tag, on the net of these link files, if the verdict on it is no and a run
-/// is found. Look-ups go by the hasher. Fails if some bytes are no link file, and when out of memory.
+/// A run on the net of these link files that does harm in the area of the tag. There is none if the verdict on the area
+/// is yes, or no run is found. Look-ups go by the hasher. Fails if some bytes are no link file, and when out of memory.
 ///
 /// It is the run of `find_harm`. If that breaks no promise, and the fault always does harm, each system posts in turn
 /// until one posting does.

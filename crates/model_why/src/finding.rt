@@ -11,8 +11,8 @@ use model_plan::plan_for;
 use std::alloc::{AllocError, Global};
 use std::hash::RandomState;
 
-/// A run that does harm in the area of the tag, on the net of these link files, if the verdict on it is no and a run
-/// is found. It was tried on real packets. Look-ups go by the hasher. Fails only when out of memory.
+/// A run on the net of these link files that does harm in the area of the tag. There is none if the verdict is yes, or no
+/// run is found. It was tried on real packets. Look-ups go by the hasher. Fails only when out of memory.
 pub fn find_harm(
     alloc: Global,
     files: Vec<LinkFile>,

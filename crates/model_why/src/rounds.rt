@@ -1,6 +1,6 @@
 //! A system posts, and rounds follow until nothing moves any more.
 
-ghost use Rattle.std.specs.Prelude.{◌≡◌, ◌++◌, ◌+◌, ◌<◌, length, map, IfOk, OnOk, List};
+ghost use Rattle.std.specs.Prelude.{◌≡◌, ◌++◌, ◌+◌, ◌<◌, map, IfOk, OnOk};
 ghost use Rattle.model_run.specs.Rounds.{deliveries, round_after, scans};
 ghost use Rattle.model_replay.specs.Worlds.{IsWorldOf};
 ghost use Rattle.model_run.specs.Fits.{FilesFit};

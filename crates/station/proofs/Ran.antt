@@ -1,4 +1,4 @@
--- A command on a store that was opened, as one on the station.
+-- A command on an opened store, as a command on the station.
 use Rattle.std.proofs.Common.{◌≡◌, inl, inr, ⊎_elim, ◌∙◌, ℕ, List, Result, Ok, Err, ap, sym, subst}
 use Rattle.std.specs.Prelude.{Bool, true, false, IfErr, OnOk}
 use Rattle.base_file.specs.Base.{Base}
@@ -31,7 +31,7 @@ elsewhere_quiet place d0 d1 d2 kept quiet = record {
   honest = λ is. kept.honest (quiet.honest is);
 }
 
--- what stood elsewhere stands there after the command, and after the disk was taken out
+-- other files are unchanged after the command, and after the disk was taken out
 pub elsewhere_after : (place : Place) (d0 d2 : DiskState) (s0 s1 : StoreState) → IsOfPlace place d0 s0 → KeepsBeside s0 s1 → ChangesNothing s1.disk d2 → KeepsElsewhere place d0 d2
 elsewhere_after place d0 d2 s0 s1 of kept quiet =
     let off : (m : List ℕ) → (place.is_own m → ⊥) → s0.is_own m → ⊥ = λ m out own. out (of.own m own) in
@@ -61,7 +61,7 @@ module _ (place : Place) (d0 : DiskState) (s0 s1 : StoreState) (looks : LooksOn 
     elsewhere = elsewhere_quiet place d0 s0.disk s1.disk of.elsewhere looks.quiet;
   }
 
--- why the store held too much
+-- the reason why the store held too much
 pub past_of : {T : Type 0} (state : T → StoreState) (Adds : Base → Filed → Type 0) (May : Base → Base → Type 0) (held : Bool) (old new : StoreState) → StaysTooMany held state Adds May old new → IsPast held state Adds May old
 past_of state Adds May false old new stays = stays.past
 past_of state Adds May true old new stays = stays.past
@@ -71,7 +71,7 @@ module _ (place : Place) (d0 d2 : DiskState) (s0 s1 : StoreState) (begun : IsOpe
   outside_store c same m out named flushed =
       same m (λ own. out (of.own m own)) (of.elsewhere.named m out named) (of.elsewhere.flushed m out flushed) ∙ of.elsewhere.seen m out
 
-  -- what is committed stands, as it is seen and whatever a crash leaves
+  -- the files hold the committed base, as they are seen and after any crash
   module _ (next : Base) (same : IsSameStore s0 s1) (ready : s1.is_ready) (honest : s1.disk.is_honest) (is : s1.committed next) where
     to_place : (c : Files) → s1.stands next c → place.stands_for next c
     to_place c here = (of.stands next c).0 ((same.stands next c).0 here)
@@ -90,7 +90,7 @@ module _ (place : Place) (d0 d2 : DiskState) (s0 s1 : StoreState) (begun : IsOpe
       stands = left_so base same ready honest is;
     }
 
-    -- what a crash leaves where nothing was committed, and where at most the base from before was
+    -- after no commit, or one of the base from before, a crash leaves the base from before
     none_run : s1.disk.is_honest → CommitsNothing s0 s1 → LeavesOnly d0 s1.disk (StandsOrWasLeft place d0 base)
     none_run honest none =
         then_run d0 s0.disk s1.disk (StandsOrWasLeft place d0 base) (LeavesCommitted s0 base) (begun.run base stands)
@@ -103,7 +103,7 @@ module _ (place : Place) (d0 d2 : DiskState) (s0 s1 : StoreState) (begun : IsOpe
         (may.any_moment honest base base (begun.committed base stands) (begun.keeps base stands))
         (λ c s. inl (record { elsewhere = outside_store c s.beside; stands = (of.stands base c).0 (⊎_elim (λ was. was) (λ is. is) s.stands) }))
 
-    -- the same where the store held too much
+    -- the same if the store held too much
     pub refused_run : {T : Type 0} (state : T → StoreState) (Adds : Base → Filed → Type 0) (May : Base → Base → Type 0) (held : Bool) → s1.disk.is_honest → StaysTooMany held state Adds May s0 s1 → LeavesOnly d0 d2 (StandsOrWasLeft place d0 base)
     refused_run state Adds May false honest stays = then_nothing d0 s1.disk d2 (StandsOrWasLeft place d0 base) (none_run honest stays.commits) quiet
     refused_run state Adds May true honest stays = then_nothing d0 s1.disk d2 (StandsOrWasLeft place d0 base) (may_run honest stays.commits) quiet

@@ -1,4 +1,4 @@
--- Paths beside others are of the same folder.
+-- A staging path is in the folder of its path.
 use Rattle.std.proofs.Common.{◌≡◌, ◌≢◌, ◌∙◌, ◌<◌, ◌^◌, ℕ, List, ◌++◌, All, codes, length, sym, subst, ap, arith, append_assoc, length-append}
 use Rattle.std.specs.Fmt.{decimal}
 use Rattle.std.proofs.lemmas.List.Elements.{All-append, All-from_recursion}
@@ -25,7 +25,7 @@ plain_dotted a zone net node =
     All-append IsPlain (decimal a.zone) _ (plain_decimal a.zone zone)
     (All-append IsPlain (codes ".") _ plain_dot (All-append IsPlain (decimal a.net) _ (plain_decimal a.net net) (All-append IsPlain (codes ".") _ plain_dot (plain_decimal a.node node))))
 
--- the name of a system in range
+-- the dotted name of a system in range
 pub plain_address : (a b : Address) → a ≡ b → IsAddress b → All IsPlain (dotted a)
 plain_address a b same is =
     let zone = is.zone.1 in

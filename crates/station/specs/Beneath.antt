@@ -9,17 +9,17 @@ use Rattle.base_store.specs.Store.{IsSameStore, StoreState}
 abbrev pub KeepsOwn : StoreState → DiskState → DiskState → Type 0
 KeepsOwn s lent back = ChangesOnly (λ m. s.is_own m → ⊥) lent back
 
--- Whether files hold a base depends on the store's own files alone.
+-- Only the store's own files decide whether files hold a base.
 abbrev pub AreSettledByOwn : StoreState → Type 0
 AreSettledByOwn s = (base : Base) (before after : Files) → ((m : List ℕ) → s.is_own m → after m ≡ before m) → s.stands base before → s.stands base after
 
--- The store holds what it held, and what was committed is still committed.
+-- The store holds the base from before, and a committed base stays committed.
 pub record HoldsAsBefore (old new : StoreState) : Type 0 where
   pub ready : new.is_ready
   pub keeps : (base : Base) → old.keeps base → new.keeps base
   pub committed : (base : Base) → old.committed base → new.committed base
 
--- The store after its disk is returned. If nothing has changed at the paths that it owns, it holds what it held.
+-- The store after its disk is returned. If nothing has changed at the paths that it owns, it holds the base from before.
 pub record IsGivenBack (old : StoreState) (lent back : DiskState) (new : StoreState) : Type 0 where
   pub settled : AreSettledByOwn old
   pub same : IsSameStore old new

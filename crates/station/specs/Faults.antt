@@ -18,7 +18,7 @@ abbrev pub IsFaultAt : List ℕ → DiskError → Fault → Type 0
 IsFaultAt path disk_error.Memory told = told ≡ OutOfMemory
 IsFaultAt path disk_error.Device told = IsCannotUse path told
 
--- There was no memory, or the file with this path cannot be used, as a device failed.
+-- Memory ran out, or the file with this path cannot be used, since a device failed.
 abbrev pub FailsAt : List ℕ → Type 0 → Fault → Type 0
 FailsAt path failed fault = (fault ≡ OutOfMemory) ⊎ (IsCannotUse path fault × failed)
 
@@ -31,7 +31,7 @@ HasSize (Some bytes) size = size ≡ Some (length bytes)
 abbrev pub most_links : ℕ
 most_links = 1048576
 
--- There was no memory, there is no such link file, a device failed, or the file has more bytes than allowed.
+-- Memory ran out, the link file does not exist, a device failed, or the file has more bytes than allowed.
 abbrev pub LinksUnread : DiskState → List ℕ → Type 0 → Fault → Type 0
 LinksUnread disk path failed fault =
     (fault ≡ OutOfMemory)

@@ -1,4 +1,4 @@
--- What the link file of a station says.
+-- The link file of a station.
 use Rattle.std.specs.Prelude.{◌≡◌, ◌⊎◌, ℕ, List, Some, Ok, Err}
 use Rattle.disk_io.specs.Disk.{DiskState}
 use Rattle.echo_links.specs.LinkLines.{LinksOf}
@@ -9,13 +9,13 @@ use Rattle.station.specs.Faults.{LinksUnread}
 use Rattle.cmd_status.specs.declared.fault.Fault.{Fault}
 use Rattle.cmd_status.specs.declared.fault.Fault.TheVariants.{Link}
 
--- The bytes of the link file are read as this.
+-- The bytes of the link file read as this.
 pub record AreLinks (disk : DiskState) (links : List ℕ) (file : LinkFile) : Type 0 where
   pub bytes : List ℕ
   pub seen : disk.seen links ≡ Some bytes
   pub judged : LinksOf bytes (Ok file)
 
--- The link file has a fault, which this reports.
+-- The link file has a fault, and this is its report.
 pub record AreFaulty (disk : DiskState) (links : List ℕ) (fault : Fault) : Type 0 where
   pub bytes : List ℕ
   pub seen : disk.seen links ≡ Some bytes
@@ -23,6 +23,6 @@ pub record AreFaulty (disk : DiskState) (links : List ℕ) (fault : Fault) : Typ
   pub judged : LinksOf bytes (Err why)
   pub told : fault ≡ Link why
 
--- The link file cannot be read, or there was no memory to judge it, or it has a fault.
+-- The link file cannot be read, or memory ran out during its check, or it has a fault.
 abbrev pub NoLinks : DiskState → List ℕ → Type 0 → Fault → Type 0
 NoLinks disk links failed fault = LinksUnread disk links failed fault ⊎ ((fault ≡ Link link.Memory) ⊎ AreFaulty disk links fault)

@@ -1,4 +1,4 @@
--- How a station is opened as a store.
+-- The opening of a station as a store.
 use Rattle.std.specs.Prelude.{◌≡◌, ◌≤◌, ◌⊎◌, ℕ, List, Option, None}
 use Rattle.base_file.specs.Base.{Base}
 use Rattle.disk_io.specs.Device.{Failed}
@@ -9,7 +9,7 @@ use Rattle.cmd_status.specs.declared.fault.Fault.{Fault}
 use Rattle.base_store.specs.Store.{StoreState}
 use Rattle.station.specs.Place.{IsOfPlace, KeepsElsewhere, Place, StandsOrWasLeft}
 
--- neither lock holds a file
+-- Neither lock holds a file.
 abbrev pub AreFree : Option (List ℕ) → Option (List ℕ) → Type 0
 AreFree links base = (links ≡ None) × (base ≡ None)
 

@@ -1,19 +1,19 @@
--- What is known of the reader of a packet file.
+-- The state of a packet file's reader.
 use Rattle.std.specs.Prelude.{ℕ, List, Option, Some}
 use Rattle.station.specs.declared.packet_reader.PacketReader.{PacketReader}
 use Rattle.station.specs.declared.packet_reader.PacketReader.TheVariants.{Held, Streamed}
 
--- the bytes that are left, where they are known
+-- The bytes left to read, if they are known.
 abbrev pub held_remaining : {R : Type 0} → (R → Option (List ℕ)) → PacketReader R → Option (List ℕ)
 held_remaining remaining (Held bytes) = Some bytes
 held_remaining remaining (Streamed reader) = remaining reader
 
--- how often the device failed; memory never does
+-- The number of the device's failures; memory never fails.
 abbrev pub held_failures : {R : Type 0} → (R → ℕ) → PacketReader R → ℕ
 held_failures failures (Held bytes) = 0
 held_failures failures (Streamed reader) = failures reader
 
--- the bytes that are already there
+-- The bytes already in memory.
 abbrev pub held_front : {R : Type 0} → (R → List ℕ) → PacketReader R → List ℕ
 held_front front (Held bytes) = bytes
 held_front front (Streamed reader) = front reader

@@ -7,12 +7,12 @@ use Rattle.cmd_report.specs.Coming.{Coming, Fails, Holds, Unknown}
 abbrev pub most_held : ℕ
 most_held = 1048576
 
--- The fact known of a packet file that the path has. One that is too large to be held is read by a reader of which nothing is known.
+-- The contents of a packet file at a path. A file too large for memory has a reader with unknown contents.
 abbrev pub coming_of : List ℕ → Option (List ℕ) → Coming
 coming_of path None = Fails path
 coming_of path (Some bytes) = if nat_lt most_held (length bytes) then Unknown else Holds bytes
 
--- The same of one by its name, which may be none that can be opened.
+-- The contents of a file by its name, which may be a name that cannot be opened.
 abbrev pub coming_at : Files → Bool → List ℕ → Coming
 coming_at seen true path = coming_of path (seen path)
 coming_at seen false path = Fails path

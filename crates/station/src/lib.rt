@@ -1,12 +1,12 @@
 //! A station opened as a store, for every kind of base, and one function that runs a command on it.
 //!
 //! The contract for the commands: the link file is read as the disk shows it, at most a MiB, and never before its lock
-//! is held. What a command promises on a store, `run_command` promises on the disk.
+//! is held. `run_command` turns each promise of a command about a store into one about the disk.
 //!
-//! Begin with `opening` (the trait of a kind of station) and `running`. They use `locks` (the locks of a station), `paths`
-//! (the own name in paths), `reading` and `links` (the link file) and `progress` (progress while a base file is read).
-//! `before` is what a program does with the store before the command. `lending` passes the disk of a store on for other
-//! files. `packets` opens the packet files of `toss`, `packet_reader` reads them, and `held_bytes` are those in memory.
+//! Begin with `opening` (the trait of a kind of station) and `running`. They use `locks` (the locks of a station) and
+//! `paths` (the own name in paths). `reading` and `links` read the link file; `progress` has progress while a base file
+//! is read. `before` is what a program does with the store before the command. `lending` passes the disk of a store on for
+//! other files. `packets` opens the packet files of `toss`, `packet_reader` reads them, `held_bytes` are those in memory.
 #![tactic(auto)]
 
 mod before;

@@ -132,7 +132,7 @@ fn find_packet<D: Disk>(alloc: Global, disk: &mut D, path: &[u8]) -> Result<Foun
     }
 }
 
-// A file of this size. If another program changes its size meanwhile, its bytes are not held.
+// A file of this size. If another program changes its size during the read, its bytes are not held.
 fn hold_bytes<D: Disk>(
     alloc: Global,
     disk: &mut D,

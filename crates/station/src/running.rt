@@ -1,5 +1,5 @@
 //! A command is run on a station.
-ghost use Rattle.std.specs.Prelude.{◌≡◌, ◌⊎◌, IsErrOf, OnOk};
+ghost use Rattle.std.specs.Prelude.{◌⊎◌, IsErrOf, OnOk};
 ghost use Rattle.disk_io.specs.Disk.{Honestly};
 ghost use Rattle.disk_io.specs.Runs.{ChangesNothing};
 ghost use Rattle.cmd_status.specs.Devices.{output_of};

@@ -1,4 +1,4 @@
--- A folder that was begun, as a station that is open.
+-- A folder that was begun, as an open station.
 use Rattle.std.proofs.Common.{◌≤◌, inl, inr, ⊎_elim, ℕ, Bool, List}
 use Rattle.base_file.specs.Base.{Base}
 use Rattle.disk_io.specs.Disk.{DiskState, Honestly}
@@ -18,7 +18,7 @@ module _ (keyed : ℕ → ℕ → List ℕ → ℕ) (path : List ℕ) (d0 : Disk
   elsewhere_of : (d1 : DiskState) → KeepsOutside path d0 d1 → KeepsElsewhere (folder_place keyed path) d0 d1
   elsewhere_of d1 outside = record { seen = outside.seen; named = outside.named; flushed = outside.flushed; alone = outside.alone; honest = outside.honest }
 
-  -- what a crash leaves
+  -- the state that a crash leaves
   left_as : (d1 : DiskState) (base : Base) → LeavesOnly d0 d1 (StandsForBaseOrWasLeft keyed path d0 base) → LeavesOnly d0 d1 (StandsOrWasLeft (folder_place keyed path) d0 base)
   left_as d1 base run =
       weaker_run d0 d1 (StandsForBaseOrWasLeft keyed path d0 base) (StandsOrWasLeft (folder_place keyed path) d0 base) run

@@ -1,16 +1,15 @@
--- The entries of the first messages of a base file, one more, and all of them.
-use Rattle.std.proofs.Common.{◌≡◌, ℕ, ◌+◌, ◌-◌, ◌*◌, ◌/◌, ◌<◌, ◌≤◌, ◌^◌, not, nat_lt, Bool, false, true, List, [], ◌∷◌, ◌++◌, length, map, take, drop, if◌then◌else◌, refl, sym, ap, subst, ◌∙◌, Ok, arith, append_assoc, length-append, length-drop}
+-- The entries of the first messages of a base file, of one more, and of all.
+use Rattle.std.proofs.Common.{◌≡◌, ℕ, ◌+◌, ◌-◌, ◌*◌, ◌/◌, ◌<◌, ◌≤◌, ◌^◌, nat_lt, Bool, false, List, [], ◌∷◌, ◌++◌, length, map, take, drop, refl, sym, ap, subst, ◌∙◌, Ok, arith, append_assoc, length-append, length-drop}
 use Rattle.std.specs.List.{AllByRecursion, flat_map}
-use Rattle.std.proofs.lemmas.Bool.{and_parts, cond-false, cond-true, or_from, or_parts, true≢false}
 use Rattle.std.proofs.lemmas.List.{append-nil, drop-append-le, drop-drop, drop_at, length-map, length-take-le, take-append-drop, take_at}
 use Rattle.echo_filed.specs.Filed.{Filed}
-use Rattle.echo_filed.specs.Stored.{Stored, has_tag, is_short, message_in, stored_bytes}
+use Rattle.echo_filed.specs.Stored.{Stored, message_in, stored_bytes}
 use Rattle.echo_filed.specs.declared.key.Key.{Key}
 use Rattle.echo_filed.specs.declared.stored.Version.{Version}
 use Rattle.echo_filed.specs.declared.stored.Version.TheVariants.{Second}
-use Rattle.base_file.specs.Alone.{MayStandAlone, cursor_alone}
+use Rattle.base_file.specs.Alone.{MayStandAlone}
 use Rattle.base_file.specs.Base.{Base, IsBase, is_known}
-use Rattle.base_file.specs.BaseFile.{AreSound, BaseOf, Begins, LoadOf, Loaded, has_wrong_form, has_wrong_last, has_wrong_sender, has_wrong_string, head_bytes, is_damaged, is_other_kind, magic, stored_from}
+use Rattle.base_file.specs.BaseFile.{AreSound, BaseOf, Begins, LoadOf, Loaded, head_bytes, magic, stored_from}
 use Rattle.base_file.specs.Pieces.{BeginsWith, IsJudged}
 use Rattle.base_file.specs.declared.piece.Next.TheVariants as next
 use Rattle.base_file.specs.declared.base.loading.Head.{Head}

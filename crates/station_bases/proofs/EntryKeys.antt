@@ -1,4 +1,4 @@
--- Which entries a look-up goes to.
+-- The entries that a look-up reads.
 use Rattle.std.proofs.Common.{◌≡◌, ℕ, List, refl}
 use Rattle.base_log.specs.Standing.{BaseBytes}
 use Rattle.base_file.specs.Base.{Base}
@@ -13,7 +13,7 @@ use Rattle.echo_filed.specs.declared.key.Key.{Key}
 use Rattle.station_bases.specs.Entries.{AreEntriesOf, entry_digest, message_bytes}
 use Rattle.station_bases.specs.declared.entries.Entries.{Entries}
 
--- the entries and bytes, as a base folder has them
+-- the entries and bytes, in the form of a base folder
 abbrev as_folder : List ℕ → Entries → ℕ → BaseBytes
 as_folder file e cursor = record { messages = message_bytes file e; keys = e.keys.items; cursor = cursor; mark = record { owner = 0; first = e.digest.first; second = e.digest.second } }
 

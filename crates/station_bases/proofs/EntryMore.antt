@@ -1,4 +1,4 @@
--- One message more behind a base file, and all of them scanned.
+-- One more message after a base file, and all messages scanned.
 use Rattle.std.proofs.Common.{◌≡◌, ℕ, ◌+◌, ◌-◌, ◌*◌, ◌/◌, ◌<◌, ◌≤◌, ◌^◌, ◌&&◌, nat_lt, Bool, false, true, List, [], ◌∷◌, ◌++◌, length, take, drop, refl, sym, ap, subst, ◌∙◌, Some, Ok, ◌⊎◌, arith, append_assoc, length-append, length-drop, ⊎_elim}
 use Rattle.std.specs.Prelude.{slice_get}
 use Rattle.std.specs.List.{flat_map, list_all}
@@ -23,7 +23,7 @@ use Rattle.base_log.specs.Standing.{BaseBytes}
 use Rattle.station_bases.specs.Entries.{HoldEntries, KeepForms, entry_digest, file_bytes, message_bytes}
 use Rattle.station_bases.specs.declared.entries.Entries.{Entries}
 
--- a message stored so wherever it is scanned
+-- a message with the same stored form before and after its scan
 same_form : (short : Bool) (c d place : ℕ) → c ≤ d → (nat_lt place c ≡ false → short ≡ false) → (nat_lt place c && short) ≡ (nat_lt place d && short)
 same_form short c d place le keeps = ⊎_elim
     (λ (h : place < c).
@@ -55,7 +55,7 @@ keep_later c d place (m ∷ later) le keeps = (
   keep_later c d (place + 1) later le keeps.1,
 )
 
--- one more that keeps its form
+-- one more message that keeps its form
 pub keep_more : (c place : ℕ) (messages : List Filed) (m : Filed) → KeepForms c place messages → (nat_lt (place + length messages) c ≡ false → is_short Second 1 0 m ≡ false) → KeepForms c place (messages ++ m ∷ [])
 keep_more c place [] m keeps one = (λ past. one (ap (λ n. nat_lt n c) (omega arith) ∙ past), tt)
 keep_more c place (x ∷ later) m keeps one = (
@@ -91,7 +91,7 @@ scanned file e base plain was =
       cursor = omega (arith, many);
     }
 
--- a message behind those of a base
+-- a message after those of a base
 module _ (cursor : ℕ) (messages : List Filed) (m : Filed) (within : cursor ≤ length messages) where
   abbrev pub with_last : List Filed
   with_last = messages ++ m ∷ []
@@ -125,12 +125,12 @@ module _ (cursor : ℕ) (messages : List Filed) (m : Filed) (within : cursor ≤
       let more = enough_more cursor (length messages) with_last m here before (ap is_short_enough (sym form) ∙ room) in
       sym (countable_if cursor with_last (omega (arith, length-append messages (m ∷ []), few))) ∙ ap (λ l. list_all is_short_enough (stored_from cursor 0 l)) (sym whole) ∙ more
 
--- what one message more makes of a base folder
+-- the base folder with one more message
 abbrev pub HoldsOneMore : Type 0
 HoldsOneMore = (keyed : ℕ → ℕ → List ℕ → ℕ) (held : BaseBytes) (base : Base) (m : Filed) (bytes : List ℕ) → HoldsBase keyed held base → IsStoredAlone m bytes → IsFiled m → is_known base.messages (key_of m) ≡ false
     → length (held.messages ++ bytes) < 2 ^ 64 → HoldsBase keyed (with_stored held bytes (digest_by keyed held.mark (digested m))) (with_message base m)
 
--- a message that waits behind those of a base file
+-- a message that waits after those of a base file
 pub added : HoldsOneMore → (file : List ℕ) (e f : Entries) (base : Base) (m : Filed) (bytes : List ℕ) (number : ℕ) → HoldEntries file e base → e.end ≤ length file → 16 ≤ e.end → IsStoredAlone m bytes → IsFiled m
     → bytes ≡ stored_bytes Second (stored_as false m) → is_short_enough (stored_as false m) ≡ true → length e.keys.items / 16 + 1 < 2 ^ 32 → e.end - 16 + length e.waiting.items + length bytes < 2 ^ 64
     → is_known base.messages (key_of m) ≡ false → number ≡ entry_digest e (digested m)
@@ -160,7 +160,7 @@ added law file e f base m bytes number was reach head alone filed is short room 
       cursor = cursor ∙ was.cursor;
     }
 
--- the same messages held otherwise
+-- the same messages, held in another way
 pub held_still : (file later : List ℕ) (e f : Entries) (base : Base) → message_bytes file e ≡ message_bytes later f → f.digest ≡ e.digest → f.cursor ≡ e.cursor → f.odd ≡ e.odd → f.keys.items ≡ e.keys.items
     → HoldEntries file e base → HoldEntries later f base
 held_still file later e f base more digest cursor odd keys was = record {
@@ -173,13 +173,13 @@ held_still file later e f base more digest cursor odd keys was = record {
   cursor = cursor ∙ was.cursor;
 }
 
--- so many entries it has
+-- the number of its entries
 pub many_held : (file : List ℕ) (e : Entries) (base : Base) → HoldEntries file e base → length e.keys.items / 16 ≡ length base.messages
 many_held file e base was =
     let many = (stand_where_told (entry_digest e) base.messages base.cursor (message_bytes file e) e.keys.items was.files).many in
     omega (arith, many)
 
--- which four bytes count
+-- and four bytes count them
 pub few_held : (file : List ℕ) (e : Entries) (base : Base) → HoldEntries file e base → (2 ^ 32 ≤ e.cursor) ⊎ (2 ^ 32 ≤ length e.keys.items / 16) → ⊥
 few_held file e base was past =
     let few = ltb-true (length base.messages) (2 ^ 32) (countable_parts base.cursor base.messages was.countable).0 in
@@ -188,18 +188,18 @@ few_held file e base was past =
     let cursor = was.cursor in
     ⊎_elim (λ (h : 2 ^ 32 ≤ e.cursor). omega (arith, h, few, within, many, cursor)) (λ (h : 2 ^ 32 ≤ length e.keys.items / 16). omega (arith, h, few, many)) past
 
--- its bytes are those that are saved of the base
+-- its bytes are the saved bytes of the base
 pub saved_held : (file : List ℕ) (e : Entries) (base : Base) → HoldEntries file e base → file_bytes file e ≡ saved_bytes base.messages base.cursor
 saved_held file e base was =
     (λ i. head_bytes Second (was.cursor i) (many_held file e base was i) ++ was.saved i) ∙ saved_parts base.cursor base.messages
 
--- and are loaded as the base
+-- and load as the base
 pub held_loads : (file bytes : List ℕ) (e : Entries) (base : Base) → bytes ≡ file_bytes file e → HoldEntries file e base → LoadOf bytes (Ok (base.messages, base.cursor, length (saved_bytes base.messages base.cursor)))
 held_loads file bytes e base is was =
     subst (λ (l : List ℕ). LoadOf l (Ok (base.messages, base.cursor, length (saved_bytes base.messages base.cursor)))) (append-nil (saved_bytes base.messages base.cursor) ∙ sym (is ∙ saved_held file e base was))
     (saved_loads base.messages base.cursor [] was.files.holds was.countable)
 
--- the bytes of a base file behind its head
+-- the bytes of a base file after its head
 pub head_long : (cursor number : ℕ) → length (head_bytes Second cursor number) ≡ 16
 unfolding head_bytes
 head_long cursor number = refl
@@ -229,7 +229,7 @@ module _ (file later : List ℕ) (e f : Entries) (inside : e.end ≤ length file
       sym ((λ i. drop 16 (all i) ++ none i) ∙ append-nil (drop 16 later) ∙ ap (λ (l : List ℕ). drop 16 l) is
       ∙ drop_at (head_bytes Second e.cursor (length e.keys.items / 16)) (message_bytes file e) 16 (head_long e.cursor (length e.keys.items / 16)))
 
--- the entries from one on
+-- the entries from an index on
 pub piece_behind : (keys : List ℕ) (from : ℕ) → 16 * (length keys / 16) ≡ length keys → from < length keys / 16 → IsPieceOf keys from (take (length keys - 16 * from) (drop (16 * from) keys))
 piece_behind keys from even less =
     let long = length-drop (16 * from) keys in

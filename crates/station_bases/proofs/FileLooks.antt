@@ -1,4 +1,4 @@
--- Why calls of a store on a base file failed.
+-- The reasons of failed calls of a store on a base file.
 use Rattle.std.proofs.Common.{◌≡◌, ◌≤◌, ◌⊎◌, ◌/◌, ◌^◌, ℕ, List, length, Result, Ok, Err, Some, refl, subst}
 use Rattle.std.specs.Prelude.{All, IsErrOf, OnErr, OnOk, ◌≢◌}
 use Rattle.disk_io.specs.Disk.{DiskState, Honestly, bytes_in}
@@ -31,7 +31,7 @@ module _ {S T : Type 0} (path own : List ℕ) (held later : Held S T) (d0 d1 : D
     damaged = λ honest is base keeps. not_damaged (P base) r (answers honest base keeps) is;
   }
 
--- a commit of a base file whose messages stay in it
+-- a commit of a base file with its messages in the file
 module _ (S T : Type 0) (path own : List ℕ) (e f : Entries) (d0 d1 : DiskState) (p0 p1 : ℕ) where
   abbrev before : StoreState
   before = file_state {S = S} {T = T} d0 path own (Apart e) p0

@@ -1,9 +1,8 @@
--- The disk of a base folder that was used beneath it.
+-- The disk of a base folder after its use for other files.
 use Rattle.std.proofs.Common.{◌≡◌, ◌≢◌, ◌↔◌, ◌≤◌, ◌++◌, inl, inr, ℕ, Bool, true, false, All, IsTrue, List, Option, length, sym, take, drop, ◌∙◌, ap, refl, subst}
 use Rattle.std.proofs.lemmas.List.{drop_at}
 use Rattle.std.specs.Prelude.{IsSome}
 use Rattle.echo_filed.specs.Filed.{Filed}
-use Rattle.base_file.specs.Base.{Base}
 use Rattle.disk_io.specs.Disk.{DiskState, Files, IsIn, bytes_in}
 use Rattle.disk_io.specs.Runs.{OneStepOn}
 use Rattle.disk_io.specs.Synced.{IsOnDisk}
@@ -23,7 +22,7 @@ use Rattle.base_folder_store.specs.declared.folder.Folder.{Folder}
 use Rattle.disk_atomic.specs.Changes.{ChangesOnly, DifferAt}
 use Rattle.station.specs.Beneath.{HoldsAsBefore, IsGivenBack}
 
--- files with the same files of the folder end alike
+-- states with the same files in the folder end alike
 ended_same : (path : List ℕ) (bodies : List (List ℕ)) (a c : Files) → ((m : List ℕ) → IsIn path m → c m ≡ a m) → IsEnded path bodies a → IsEnded path bodies c
 ended_same path bodies a c same (inl shut) = inl (subst (λ f. IsShutAt (length (opened bodies)) (bytes_in f)) (sym (same (log_of path) (log_in path))) shut)
 ended_same path bodies a c same (inr new) = inr (record {
@@ -34,7 +33,7 @@ ended_same path bodies a c same (inr new) = inr (record {
   };
 })
 
--- and stand for the same base
+-- and hold the same base
 stands_same : (path : List ℕ) (base : BaseBytes) (a c : Files) → ((m : List ℕ) → IsIn path m → c m ≡ a m) → StandsFor path base a → StandsFor path base c
 stands_same path base a c same was =
     let told = last_told was.bodies in
@@ -70,7 +69,7 @@ module _ (path : List ℕ) (d e : DiskState) (run : ChangesOnly (Outside path) d
     alone = run.alone m (inside m is) on.alone;
   }
 
-  -- what is staged is so still
+  -- a staged base stays staged
   staged_same : (end : End) (told : CommitRecord) → IsStaged d path end told → IsStaged e path end told
   staged_same end told was =
       let m_in = messages_in path told.number in
@@ -107,7 +106,7 @@ module _ (path : List ℕ) (d e : DiskState) (run : ChangesOnly (Outside path) d
       }
 
 module _ (keyed : ℕ → ℕ → List ℕ → ℕ) (f : Folder) (message : Option Filed) (d e : DiskState) where
-  -- an open folder is open still, holds what it held, and has committed what it had
+  -- an open folder stays open, with its base and its committed base
   as_before : ChangesOnly (Outside (path_of f)) d e → IsUsable d f → HoldsAsBefore (state_of d keyed f message) (state_of e keyed f message)
   as_before run usable =
       let held : held_by e f ≡ held_by d f = ap (λ (b : BaseBytes). and_waiting b f.waiting) (base_same (path_of f) d e run f.told) in
@@ -133,7 +132,7 @@ module _ (keyed : ℕ → ℕ → List ℕ → ℕ) (f : Folder) (message : Opti
     holds = λ usable run. as_before run usable;
   }
 
--- a path that begins with that of the folder is in it just where the rest is plain
+-- a path that begins with that of the folder is in it exactly if the rest is plain
 pub is_in_by : (folder path name : List ℕ) (plain : Bool) → path ≡ folder ++ name → (plain ≡ true → All (λ b. b ≢ 47) name) → (plain ≡ false → All (λ b. b ≢ 47) name → ⊥) → IsTrue plain ↔ IsIn folder path
 is_in_by folder path name true parts plainly slashed = (λ is. record { name = name; parts = parts; plain = plainly refl }, λ there. refl)
 is_in_by folder path name false parts plainly slashed = (
@@ -143,6 +142,6 @@ is_in_by folder path name false parts plainly slashed = (
       absurd (slashed refl (subst (λ (l : List ℕ). All (λ b. b ≢ 47) l) (sym same) there.plain)),
 )
 
--- one that does not is not in it
+-- another path is not in it
 pub not_in : (folder path : List ℕ) → ((rest : List ℕ) → path ≢ folder ++ rest) → IsTrue false ↔ IsIn folder path
 not_in folder path other = (λ (is : false ≡ true). absurd cc, λ there. absurd (other there.name there.parts))

@@ -1,4 +1,4 @@
--- A folder that is opened after a look at the disk.
+-- A folder opened after a look at the disk.
 use Rattle.std.proofs.Common.{◌≡◌, ℕ, Bool, List, subst, sym}
 use Rattle.echo_addr.specs.declared.address.Address.{Address}
 use Rattle.base_file.specs.Base.{Base}
@@ -26,7 +26,7 @@ left_alone d e f unread.Device quiet left = tt
 left_alone d e f unread.Raced quiet left = tt
 left_alone d e f (unread.Wrong why) quiet left = nothing_twice d e f quiet left
 
--- what is not opened after a look, for the system that the link file names
+-- a refusal after a look, for the system that the link file names
 pub not_opened : (own other : Address) (strange : Bool) (base path : List ℕ) (part failed : Type 0) (d e f : DiskState) (fault : Fault) → other ≡ own → (part → failed) → ChangesNothing d e
     → IsNotOpened other strange base path part e f fault → IsNotOpened own strange base path failed d f fault
 not_opened own other strange base path part failed d e f fault same more quiet shut = record {
@@ -37,7 +37,7 @@ not_opened own other strange base path part failed d e f fault same more quiet s
   cause = λ is. more (shut.cause is);
 }
 
--- as a run
+-- the same for a run
 pub opens_since : (path : List ℕ) (d e f : DiskState) → ChangesNothing d e → OpensOnly path e f → OpensOnly path d f
 opens_since path d e f quiet run = record {
   any_moment = λ honest keyed base stands. opened_run_since keyed path d e f base quiet (run.any_moment honest keyed base (quiet_stands keyed path base d e quiet stands));

@@ -1,4 +1,4 @@
--- The disk of a base file that was used beneath it, and the paths beside it.
+-- The disk of a base file after its use for other files, and the staging paths.
 use Rattle.std.proofs.Common.{◌≡◌, ◌≢◌, ◌↔◌, ◌++◌, ℕ, Bool, true, false, IsTrue, List, length, drop, inr, sym, ◌∙◌, ap, refl, subst}
 use Rattle.std.proofs.lemmas.List.{drop_at}
 use Rattle.base_file.specs.Base.{Base}
@@ -13,7 +13,7 @@ use Rattle.station_bases.specs.declared.held.Held.{Held}
 use Rattle.station_bases.proofs.Reach.{held_seen, reach_seen}
 
 module _ {S T : Type 0} (path own : List ℕ) (held : Held S T) (place : ℕ) (d e : DiskState) where
-  -- the paths that are not the file's
+  -- the paths that do not belong to the file
   abbrev Others : List ℕ → Type 0
   Others m = IsOfFile path own m → ⊥
 
@@ -39,7 +39,7 @@ module _ {S T : Type 0} (path own : List ℕ) (held : Held S T) (place : ℕ) (d
     };
   }
 
--- a path that begins so is one of these just where the rest is
+-- a path with this beginning is one of them exactly if its rest is
 module _ (a path : List ℕ) (f : List ℕ → List ℕ) where
   pub prefix_by : (rest : List ℕ) (r : Bool) → path ≡ a ++ rest → IsTrue r ↔ ((own : List ℕ) × (rest ≡ f own)) → IsTrue r ↔ ((own : List ℕ) × (path ≡ a ++ f own))
   prefix_by rest r parts iff = (
@@ -50,7 +50,7 @@ module _ (a path : List ℕ) (f : List ℕ → List ℕ) where
   pub prefix_none : ((rest : List ℕ) → path ≢ a ++ rest) → IsTrue false ↔ ((own : List ℕ) × (path ≡ a ++ f own))
   prefix_none other = (λ (is : false ≡ true). absurd cc, λ from. absurd (other (f from.0) from.1))
 
--- one that ends so has some front
+-- a path with this ending has some beginning
 pub suffix_by : (b name own : List ℕ) → name ≡ own ++ b → IsTrue true ↔ ((own : List ℕ) × (name ≡ own ++ b))
 suffix_by b name own parts = (λ is. (own, parts), λ from. refl)
 

@@ -1,4 +1,4 @@
--- What loading answers of the bytes of a base.
+-- The answer of loading the bytes of a base.
 use Rattle.std.proofs.Common.{◌≡◌, ◌≢◌, ◌<◌, ◌≤◌, ◌-◌, ◌^◌, ℕ, [], ap, refl, Result, Ok, Err, arith, ⊎_elim}
 use Rattle.disk_io.specs.Device.{Failed}
 use Rattle.base_file.specs.Base.{Base}
@@ -18,7 +18,7 @@ is_loaded base found count answers = ap (λ r. base_in r) answers.1
 never_failed : Failed 0 0 → ⊥
 never_failed failed = ⊎_elim (λ (more : 0 < 0). omega (arith, more)) (λ (at : (2 ^ 64 - 1 ≤ 0) × (0 ≡ 0)). omega (arith, at.0)) failed
 
--- a base is refused only where memory is
+-- loading a sound base fails only if memory runs out
 pub refused_not : (x : Loaded) (f : BaseFault) → AnswersLoad (Err f) (Ok x) → CountsLoad {A = Base} (Err f) 0 0 → f ≢ fault.Memory → ⊥
 refused_not x fault.NotBase answers counts other = ok_no_err x fault.NotBase answers
 refused_not x (fault.Truncated n) answers counts other = ok_no_err x (fault.Truncated n) answers

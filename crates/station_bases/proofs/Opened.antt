@@ -27,7 +27,7 @@ pub same_loaded : (result : Result Base BaseFault) (base : Base) (size : ℕ) �
 same_loaded (Ok b) base size answers = ap (λ r. base_in r) answers.1
 same_loaded (Err why) base size answers = tt
 
--- and with one it is loaded from its bytes
+-- and an existing file is loaded from its bytes
 pub given_loads : (f : Option (List ℕ)) (messages : List Filed) (cursor : ℕ) → IsSome f → IsBaseGiven f messages cursor → (size : ℕ) × LoadOf (bytes_in f) (Ok (messages, cursor, size))
 given_loads None messages cursor some given = absurd (cc)
 given_loads (Some bytes) messages cursor some given = given

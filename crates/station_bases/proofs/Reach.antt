@@ -1,4 +1,4 @@
--- A base file that is as it was.
+-- A base file that is unchanged.
 use Rattle.std.proofs.Common.{◌≡◌, ◌≤◌, ℕ, List, length, sym, ap, subst, Option}
 use Rattle.std.specs.Prelude.{IsSome}
 use Rattle.disk_io.specs.Disk.{DiskState, bytes_in}
@@ -31,7 +31,7 @@ module _ (d0 d1 : DiskState) (path : List ℕ) (quiet : ChangesNothing d0 d1) wh
         };
   }
 
--- the same where only this file is
+-- the same if only this file is unchanged
 pub reach_seen : {S T : Type 0} (d0 d1 : DiskState) (path : List ℕ) (held : Held S T) → d1.seen path ≡ d0.seen path → (d1.is_honest → d0.is_honest) → IsWithinReach d0 path held → IsWithinReach d1 path held
 reach_seen d0 d1 path (Apart e) seen before was = record {
   indexed = was.indexed;

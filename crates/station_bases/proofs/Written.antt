@@ -1,4 +1,4 @@
--- A base that was put in the place of its file.
+-- A base that replaced its file.
 use Rattle.std.proofs.Common.{◌≡◌, inl, inr, ⊎_elim, ◌∙◌, ℕ, List, Some, subst, sym}
 use Rattle.base_file.specs.Base.{Base}
 use Rattle.std.specs.Prelude.{All, ◌≢◌}
@@ -28,7 +28,7 @@ put_now path bytes base d says on = record {
   left = λ c left. stands_now path bytes base c says (d.on_disk path on.named on.flushed c left ∙ on.seen);
 }
 
--- what was committed is so still
+-- a committed base stays committed
 pub in_file_still : (path : List ℕ) (d0 d1 : DiskState) (base : Base) → ChangesNothing d0 d1 → IsInFile d0 path base → IsInFile d1 path base
 in_file_still path d0 d1 base quiet was = record {
   seen = subst (λ f. IsBaseGiven f base.messages base.cursor) (sym (quiet.seen path)) was.seen;
@@ -86,7 +86,7 @@ module _ {S T : Type 0} (path own : List ℕ) (held later : Held S T) (d0 d1 : D
   pub quiet_goes_on : ChangesNothing d0 d1 → All (λ b. b ≢ 47) own → IsWithinReach d1 path later → GoesOn old new
   quiet_goes_on quiet plain reach = record { ready = (plain, reach); committed = λ honest b is. in_file_still path d0 d1 b quiet is; honest = quiet.honest }
 
-  -- a crash during a commit leaves what was committed, or what is put in its place
+  -- a crash during a commit leaves the base committed before, or the new one
   pub may_commit : ChangesOnly (IsOfFile path own) d0 d1 → (Honestly d1 ((b : Base) → IsHeld d0 path held b → LeavesOnly d0 d1 (OneStepOn (PutsBase path own b) d0))) → MayCommit old new
   may_commit changes run = record {
     any_moment = λ honest first next was is.

@@ -1,4 +1,4 @@
--- The messages of a base file are judged one after another, and their entries made.
+-- The messages of a base file are judged one after another, and get their entries.
 use Rattle.std.specs.Prelude.{◌≡◌, ◌≤◌, ℕ, ◌+◌, Bool, false, List, [], ◌++◌, length, map, take, drop}
 use Rattle.disk_io.specs.Disk.{DiskState, Honestly, bytes_in}
 use Rattle.echo_filed.specs.Stored.{Stored, message_in}
@@ -18,7 +18,7 @@ pub record IsPartOf (file : List ℕ) (piece : Piece) : Type 0 where
   pub within : piece.begins + length piece.bytes.items ≤ length file
   pub same : piece.bytes.items ≡ drop piece.begins (take (piece.begins + length piece.bytes.items) file)
 
--- The entries are those of the first messages of a file with this head, and the next one begins where they end.
+-- The entries are those of the first messages of a file with this head, and the next message begins after them.
 pub record AreJudged (file : List ℕ) (head : Head) (e : Entries) : Type 0 where
   pub all : List Stored
   pub begins : Begins Second head.cursor head.number all (drop e.end file) file
@@ -39,7 +39,7 @@ pub record StaysIndexed (old new : Entries) : Type 0 where
   pub indexed : AreIndexed new
   pub cursor : new.cursor ≡ old.cursor
 
--- A message that no rule refuses by itself is in front of these bytes.
+-- These bytes begin with a message that no rule refuses by itself.
 pub record IsSoundIn (cursor place : ℕ) (bytes : List ℕ) (key : Key) (size : ℕ) (short : Bool) : Type 0 where
   pub piece : List ℕ
   pub more : List ℕ

@@ -17,7 +17,7 @@ use Rattle.station_bases.specs.declared.held.Held.TheVariants.{Apart, Whole}
 abbrev pub StandsInFile : List ℕ → Base → Files → Type 0
 StandsInFile path base c = IsBaseGiven (c path) base.messages base.cursor
 
--- So it is seen, and whatever a crash leaves.
+-- The file holds the base, as it is seen and after any crash.
 pub record IsInFile (disk : DiskState) (path : List ℕ) (base : Base) : Type 0 where
   pub seen : StandsInFile path base disk.seen
   pub left : (c : Files) → disk.may_leave c → StandsInFile path base c
@@ -26,11 +26,11 @@ pub record IsInFile (disk : DiskState) (path : List ℕ) (base : Base) : Type 0 
 abbrev pub IsOfFile : List ℕ → List ℕ → List ℕ → Type 0
 IsOfFile path own m = (m ≡ staging_path path own) ⊎ (m ≡ path)
 
--- four bytes do not count its messages, or the bytes of a text
+-- Four bytes cannot count its messages, or the bytes of a text.
 abbrev pub IsUncounted : Base → Type 0
 IsUncounted base = is_countable base.messages base.cursor ≡ false
 
--- The base that is held.
+-- The base that the entries, or the memory, hold.
 abbrev pub IsHeld : {S T : Type 0} → DiskState → List ℕ → Held S T → Base → Type 0
 IsHeld disk path (Apart e) b = HoldEntries (bytes_in (disk.seen path)) e b
 IsHeld disk path (Whole base) b = b ≡ base
@@ -45,22 +45,22 @@ abbrev pub IsWithinReach : {S T : Type 0} → DiskState → List ℕ → Held S 
 IsWithinReach disk path (Apart e) = CanLookUp disk path e
 IsWithinReach disk path (Whole base) = Unit {0}
 
--- The message that was fetched last, by its number where all are in memory.
+-- The message that was fetched last; in memory it has this number.
 abbrev pub fetched_last : {S T : Type 0} → Held S T → ℕ → Option Filed
 fetched_last (Apart e) place = e.message
 fetched_last (Whole base) place = slice_get base.messages place
 
--- Numbers in a base file do not count what is held.
+-- The numbers of a base file cannot count the base in memory.
 abbrev pub IsFullHeld : {S T : Type 0} → Held S T → Type 0
 IsFullHeld (Apart e) = ⊥
 IsFullHeld (Whole base) = IsUncounted base
 
--- They count this message too.
+-- The numbers can count this message too.
 abbrev pub HasRoomHeld : {S T : Type 0} → Held S T → Filed → Type 0
 HasRoomHeld (Apart e) m = HasRoomFor (length e.keys.items / 16) m
 HasRoomHeld (Whole base) m = HasRoomFor (length base.messages) m
 
--- A base file, with what is held of it and is not committed yet.
+-- A store on a base file, with changes that are not committed yet.
 abbrev pub file_state : {S T : Type 0} → DiskState → List ℕ → List ℕ → Held S T → ℕ → StoreState
 file_state disk path own held place = record {
   disk = disk;
@@ -77,11 +77,11 @@ file_state disk path own held place = record {
   shown = λ honest ready b is. is.seen;
 }
 
--- The same, of what a store has but its disk.
+-- The same from the store's parts without its disk.
 abbrev pub rest_state : {S T : Type 0} → DiskState → FileRest S T → StoreState
 rest_state disk rest = file_state disk rest.path.now rest.own rest.held rest.place
 
--- The path has its old file or a file of this base. The staging path may have anything, and all else is unchanged.
+-- The path has its old file or a file of this base. The staging path may have any file, and all else is unchanged.
 pub record PutsBase (path own : List ℕ) (base : Base) (before after : Files) : Type 0 where
   pub others : DifferAt (IsOfFile path own) before after
   pub either : (after path ≡ before path) ⊎ StandsInFile path base after

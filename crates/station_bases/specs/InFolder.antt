@@ -10,15 +10,15 @@ use Rattle.station.specs.Links.{AreLinks}
 use Rattle.cmd_status.specs.declared.fault.Fault.{Fault}
 use Rattle.station.specs.Place.{Place}
 
--- where a base folder is
+-- The place of a base folder.
 abbrev pub folder_place : (ℕ → ℕ → List ℕ → ℕ) → List ℕ → Place
 folder_place keyed path = record { stands_for = λ base c. StandsForBase keyed path base c; is_own = λ m. IsIn path m }
 
--- the link file says this, and the folder is no other system's
+-- The link file reads as this, and the folder belongs to no other system.
 pub record IsOwnLinks (links path : List ℕ) (strange : Bool) (disk : DiskState) (file : LinkFile) : Type 0 where
   pub of_links : AreLinks disk links file
   pub ours : (address : Address) → IsOfOther file.system strange path disk.seen address → ⊥
 
--- why the folder is not opened
+-- The reason why the folder is not opened.
 abbrev pub IsFolderShut : List ℕ → List ℕ → List ℕ → Bool → Type 0 → DiskState → DiskState → Fault → Type 0
 IsFolderShut links base path strange failed old new fault = IsLockedOut links base failed old new fault ⊎ IsShut links base path strange failed old new fault

@@ -37,7 +37,7 @@ pub record IsShut (links base path : List ℕ) (strange : Bool) (failed : Type 0
   pub of_links : AreLinks old links file
   pub folder : IsNotOpened file.system strange base path failed old new fault
 
--- A store on a folder is open for the system of a link file. It holds the base that the folder's files held, and has committed it.
+-- A store on a folder is open for the system of a link file. It holds the base in the folder's files, and has committed it.
 pub record IsBegun (keyed : ℕ → ℕ → List ℕ → ℕ) (links path : List ℕ) (strange : Bool) (old : DiskState) (s : StoreState) (file : LinkFile) : Type 0 where
   pub of_links : AreLinks old links file
   pub ours : (address : Address) → IsOfOther file.system strange path old.seen address → ⊥
@@ -45,14 +45,14 @@ pub record IsBegun (keyed : ℕ → ℕ → List ℕ → ℕ) (links path : List
   pub committed : (base : Base) → StandsForBase keyed path base old.seen → s.committed base
   pub run : (base : Base) → StandsForBase keyed path base old.seen → LeavesOnly old s.disk (StandsForBaseOrWasLeft keyed path old base)
 
--- The link file is read, and the folder is open for its system. It is no other system's, and holds the base that its files held.
+-- The link file is read, and the folder is open for its system. The folder is no other system's, and holds the same base.
 pub record IsOpenStation (links path : List ℕ) (strange : Bool) (first second : ℕ) (old new : DiskState) (file : LinkFile) (folder : Folder) : Type 0 where
   pub of_links : Honestly new (AreLinks old links file)
   pub own : IsOpenedFor path file.system first second new folder
   pub other : Honestly new ((address : Address) → IsOfOther file.system strange path old.seen address → ⊥)
   pub same : Honestly new ((keyed : ℕ → ℕ → List ℕ → ℕ) (base : Base) → HaveRoom keyed → StandsForBase keyed path base old.seen → HasOpened keyed new base folder)
 
--- it is that of this folder, calls are allowed, and nothing outside has changed
+-- The store is that of this folder, calls are allowed, and nothing outside has changed.
 pub record IsOfFolder (keyed : ℕ → ℕ → List ℕ → ℕ) (path : List ℕ) (old : DiskState) (s : StoreState) : Type 0 where
   pub ready : s.is_ready
   pub own : (m : List ℕ) → s.is_own m ↔ IsIn path m

@@ -1,4 +1,4 @@
--- The files of a station with its base in a file are read.
+-- The reading of the files of a station with its base in a file.
 use Rattle.std.specs.Prelude.{◌≤◌, ◌⊎◌, ℕ, List}
 use Rattle.disk_io.specs.Disk.{DiskState}
 use Rattle.disk_io.specs.Runs.{ChangesNothing}
@@ -14,24 +14,24 @@ use Rattle.station_bases.specs.InFile.{IsOfFile, StandsInFile}
 abbrev pub file_place : List ℕ → Place
 file_place path = record { stands_for = λ base c. StandsInFile path base c; is_own = λ m. (own : List ℕ) × IsOfFile path own m }
 
--- Nothing has changed, and no failure of the device is forgotten.
+-- Nothing has changed, and the count of the device's failures has not fallen.
 pub record ReadsOnly (old new : DiskState) (before now : ℕ) : Type 0 where
   pub quiet : ChangesNothing old new
   pub later : before ≤ now
 
--- A name of the file has all its bytes on the disk, or that there is no file is on it.
+-- The file with its name and bytes is on the disk, or its absence is.
 pub record IsSettled (disk : DiskState) (path : List ℕ) : Type 0 where
   pub named : disk.is_named path
   pub flushed : disk.is_flushed path
 
--- Why the base file was not read.
+-- The reason why the base file was not read.
 abbrev pub IsUnreadFor : List ℕ → Type 0 → DiskState → Fault → Type 0
 IsUnreadFor path failed old fault = FailsAt path failed fault ⊎ (IsOutOfMemory fault ⊎ IsBaseFault (old.seen path) fault)
 
--- Why the station was not read.
+-- The reason why the station was not read.
 abbrev pub IsFileShut : List ℕ → List ℕ → Type 0 → DiskState → Fault → Type 0
 IsFileShut links path failed old fault = NoLinks old links failed fault ⊎ IsUnreadFor path failed old fault
 
--- And nothing has changed.
+-- The station was not read, and nothing has changed.
 abbrev pub IsShutFor : List ℕ → List ℕ → Type 0 → DiskState → DiskState → Fault → Type 0
 IsShutFor links path failed old new fault = ChangesNothing old new × IsFileShut links path failed old fault

@@ -1,4 +1,4 @@
-//! A base file whose messages stay in it: in memory are the place and the digest of each.
+//! A base file with its messages left in the file: in memory are the place and the digest of each.
 ghost use Rattle.std.specs.Prelude.{◌≡◌, ◌≤◌, ◌<◌, ◌+◌, ◌-◌, ◌/◌, ◌++◌, List, length, IfOk, IsErrOf, IsSome, Some, drop, slice_get, take};
 ghost use Rattle.disk_io.specs.Disk.{Honestly, bytes_in};
 ghost use Rattle.disk_io.specs.Runs.{ChangesNothing, HasCause};
@@ -19,7 +19,7 @@ pub(crate) const HEAD: usize = 16;
 /// How many bytes an entry has.
 pub(crate) const ENTRY: usize = 16;
 
-/// What is known of a base file of version 2, and of messages that wait to be written behind it.
+/// The entries of a base file of version 2, and messages that wait to be written after them.
 #[derive(Drop)]
 pub struct Entries {
     pub(crate) digest: SipDigest,

@@ -1,5 +1,5 @@
-//! The calls of a store on a base file whose messages stay in it.
-ghost use Rattle.std.specs.Prelude.{◌≡◌, ◌<◌, ◌≤◌, ◌/◌, ℕ, List, false, length, slice_get, option_copied, IfErr, IsErrOf, OnErr, OnOk};
+//! The calls of a store on a base file with its messages left in the file.
+ghost use Rattle.std.specs.Prelude.{◌≡◌, ◌<◌, ◌≤◌, ◌/◌, ℕ, List, false, length, slice_get, option_copied, IsErrOf, OnErr, OnOk};
 ghost use Rattle.std.specs.List.{list_any};
 ghost use Rattle.disk_io.specs.Disk.{Honestly, bytes_in};
 ghost use Rattle.disk_io.specs.Runs.{ChangesNothing};
@@ -114,7 +114,7 @@ impl Entries {
         self.add(alloc, message, digest)
     }
 
-    /// All messages are scanned. None of them is stored in another form then.
+    /// All messages are scanned. No message changes its stored form then.
     pub(crate) fn move_to_end(&mut self)
         requires { self.old.odd ≡ false }
         ensures held { (file : List ℕ) (base : Base) → HoldEntries file self.old base → HoldEntries file self.new (all_scanned base) }

@@ -7,7 +7,7 @@ ghost use Rattle.echo_filed.specs.Filed.{Filed};
 ghost use Rattle.base_store.specs.Index.{IsIndexOf, covered};
 ghost use Rattle.base_store.specs.Keys.{StandWhereTold};
 ghost use Rattle.base_folder_store.specs.Answers.{Answers, HasReadCause, HaveDigest};
-ghost use Rattle.station_bases.specs.Entries.{AreIndexed, CanLookUp, IsWithinFile, message_bytes};
+ghost use Rattle.station_bases.specs.Entries.{AreIndexed, CanLookUp, message_bytes};
 
 use crate::entries::{ENTRY, Entries};
 use base_folder_store::{Sought, is_stored};

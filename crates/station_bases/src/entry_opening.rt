@@ -1,5 +1,5 @@
 //! A base file of version 2 is opened: its messages are judged where they are, and their entries made.
-ghost use Rattle.std.specs.Prelude.{◌≡◌, ◌≤◌, ◌<◌, ◌+◌, ◌-◌, ◌/◌, ◌++◌, ◌||◌, ◌&&◌, ◌^◌, not, nat_lt, min, ℕ, [], List, true, false, length, drop, IfOk, IfSome, IsSome, OnErr, OnOk, Ok};
+ghost use Rattle.std.specs.Prelude.{◌≡◌, ◌≤◌, ◌<◌, ◌+◌, ◌-◌, ◌/◌, ◌++◌, ◌||◌, ◌&&◌, not, nat_lt, min, ℕ, [], List, true, false, length, drop, IfOk, IfSome, IsSome, OnErr, OnOk, Ok};
 ghost use Rattle.disk_io.specs.Disk.{Honestly, bytes_in};
 ghost use Rattle.disk_io.specs.Runs.{ChangesNothing, HasCause};
 ghost use Rattle.echo_filed.specs.Filed.{Filed};
@@ -8,7 +8,7 @@ ghost use Rattle.base_file.specs.Base.{Base, is_known};
 ghost use Rattle.base_file.specs.BaseFile.{LoadOf};
 ghost use Rattle.base_file.specs.Pieces.{BeginsWith};
 ghost use Rattle.base_store.specs.Keys.{digested_key, entry};
-ghost use Rattle.station_bases.specs.Entries.{AreEntriesOf, AreIndexed, CanLookUp, HoldEntries, IsWithinFile, entry_digest};
+ghost use Rattle.station_bases.specs.Entries.{AreEntriesOf, AreIndexed, CanLookUp, HoldEntries, entry_digest};
 ghost use Rattle.station_bases.specs.EntryOpening.{AreJudged, HasJudged, IsPartOf, IsSoundIn, StaysIndexed};
 
 use crate::entries::{Entries, HEAD};
@@ -287,7 +287,7 @@ fn second_head(bytes: &[u8]) -> Option<Head>
     }
 }
 
-/// The entries of a base file of version 2 that has no fault; none of another. Its reading is watched.
+/// The entries of a faultless base file of version 2; nothing for another file. Its reading is watched.
 pub(crate) fn open_entries<D: Disk, T: MessageProgress>(
     alloc: Global,
     disk: &mut D,

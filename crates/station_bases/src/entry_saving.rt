@@ -1,5 +1,5 @@
 //! A base file is replaced by one with the messages that wait behind it, or is read whole.
-ghost use Rattle.std.specs.Prelude.{◌≡◌, ◌≢◌, ◌≤◌, ◌/◌, ◌++◌, ℕ, List, All, Ok, drop, take, length, IfOk, IsErrOf, IsSome, OnOk};
+ghost use Rattle.std.specs.Prelude.{◌≡◌, ◌≢◌, ◌≤◌, ◌/◌, ℕ, All, Ok, length, IfOk, IsErrOf, IsSome, OnOk};
 ghost use Rattle.disk_io.specs.Disk.{Honestly, bytes_in};
 ghost use Rattle.disk_io.specs.Runs.{ChangesNothing, HasCause, LeavesOnly, OneStepOn};
 ghost use Rattle.disk_atomic.specs.Changes.{ChangesOnly, HasOnDisk};
@@ -10,7 +10,7 @@ ghost use Rattle.echo_filed.specs.declared.stored.Version.TheVariants.{Second};
 ghost use Rattle.base_file.specs.Base.{Base as TheBase};
 ghost use Rattle.base_file.specs.BaseFile.{LoadOf, head_bytes};
 ghost use Rattle.base_folder_store.specs.Answers.{Answers, HasReadCause};
-ghost use Rattle.station_bases.specs.Entries.{AreIndexed, CanLookUp, HoldEntries, IsRefusedUncounted, IsWithinFile, file_bytes, message_bytes};
+ghost use Rattle.station_bases.specs.Entries.{CanLookUp, HoldEntries, IsRefusedUncounted, file_bytes};
 ghost use Rattle.station_bases.specs.InFile.{IsOfFile};
 
 use crate::entries::{Entries, HEAD};

@@ -1,5 +1,5 @@
 //! What a store on a base file has but its disk.
-ghost use Rattle.std.specs.Prelude.{◌≡◌, ◌<◌, length, slice_get, IfOk, IsErrOf, OnErr, OnOk};
+ghost use Rattle.std.specs.Prelude.{◌≡◌, ◌<◌, length, slice_get, IfOk, IsErrOf, OnOk};
 ghost use Rattle.std.specs.List.{list_any};
 ghost use Rattle.disk_io.specs.Disk.{Honestly};
 ghost use Rattle.disk_io.specs.Runs.{ChangesNothing};
@@ -17,7 +17,7 @@ use echo_filed::Key;
 use std::alloc::Global;
 use std::hash::BuildHasher;
 
-/// What is held of a base file, and its path, which a commit replaces. `own` is the name of the system in the staging
+/// The part of a base file in memory, and its path, which a commit replaces. `own` is the name of the system in the staging
 /// path.
 #[derive(Drop)]
 pub struct FileRest<'a, S: BuildHasher> {

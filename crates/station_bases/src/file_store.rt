@@ -12,7 +12,7 @@ use echo_filed::{Filed, Key};
 use std::alloc::Global;
 use std::hash::BuildHasher;
 
-/// What is held of a base file, and the disk that has the file.
+/// The part of a base file in memory, and the disk that has the file.
 #[derive(Drop)]
 pub struct FileStore<'a, D: Disk, S: BuildHasher> {
     alloc: Global,

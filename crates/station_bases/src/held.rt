@@ -8,6 +8,6 @@ use std::hash::BuildHasher;
 pub enum Held<S: BuildHasher> {
     /// The messages stay in the file.
     Apart(Entries),
-    /// They are in memory: there is no such file, it is of version 1, or a message is to be changed.
+    /// They are in memory: the file does not exist, has version 1, or one of its messages will change.
     Whole(Base<S>),
 }

@@ -1,10 +1,10 @@
 //! The two kinds of stations: the base is a file, or it is a folder. Each promises what `station` asks of a kind.
 //!
-//! Begin with `file_station` and `folder_station`. For a base file: `entries` (its messages stay in it), `entry_opening`,
-//! `entry_lookups`, `entry_adding`, `entry_saving` and `entry_calls` (its calls), `held`, `file_rest` and `file_store` (with a base in
-//! memory where that is needed), `saving` (a base replaces its file), `loading` (the link file and the base file are read)
-//! and `lending` (the disk is used for other files). For a base folder: `place` (where it is), `opening` (its files,
-//! locked and opened), `beginning` (the folder as a store) and `folder_lending`.
+//! Begin with `file_station` and `folder_station`. For a base file: `entries` (its messages stay in it) with
+//! `entry_opening`, `entry_lookups`, `entry_adding`, `entry_saving` and `entry_calls`. `held`, `file_rest` and `file_store`
+//! have a base in memory too. `saving` replaces the file, `loading` reads the link file and the base file, and `lending`
+//! uses the disk for other files. For a base folder: `place` (its path), `opening` (its files, locked and opened),
+//! `beginning` (the folder as a store) and `folder_lending`.
 #![tactic(auto)]
 
 mod beginning;

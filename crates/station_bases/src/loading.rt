@@ -25,7 +25,7 @@ use station::{Followed, Locks, links_at, lock_at, system_name};
 use std::alloc::Global;
 use std::hash::BuildHasher;
 
-/// A link file, the name of its system, and what is held of the base file.
+/// A link file, the name of its system, and the part of the base file in memory.
 #[derive(Drop)]
 pub(crate) struct Read<S: BuildHasher> {
     pub links: LinkFile,
@@ -77,7 +77,7 @@ fn digest_by<S: BuildHasher>(hasher: &S) -> SipDigest {
     SipDigest::keyed(hasher.hash_one(&0u8), hasher.hash_one(&1u8))
 }
 
-// Opens a synced file whose messages can stay in it. Without a file the base is empty, and in memory.
+// Opens a synced file, leaving its messages in it. Without a file the base is empty, and in memory.
 fn open_apart<D: Disk, S: BuildHasher + Drop, T: MessageProgress>(
     alloc: Global,
     disk: &mut D,

@@ -1,5 +1,5 @@
 //! Which packets earlier scans left.
-ghost use Rattle.std.specs.Prelude.{◌≡◌, ◌≤◌, true, false, All, Contains, IfOk, IfSome, OnOk, None};
+ghost use Rattle.std.specs.Prelude.{◌≡◌, true, false, All, Contains, IfOk, IfSome, OnOk, None};
 ghost use Rattle.disk_io.specs.Disk.{Honestly};
 ghost use Rattle.disk_io.specs.Runs.{ChangesNothing, HasCause};
 ghost use Rattle.station_scan.specs.declared.finding.LeftPaths.{LeftPaths};

@@ -1,5 +1,5 @@
 //! The packets that earlier scans left are named or removed.
-ghost use Rattle.std.specs.Prelude.{◌≡◌, ◌≢◌, ◌≤◌, ◌⊎◌, List, All, IfOk, IsErrOf};
+ghost use Rattle.std.specs.Prelude.{◌≢◌, ◌≤◌, ◌⊎◌, List, All, IfOk, IsErrOf};
 ghost use Rattle.disk_io.specs.Device.{Failed};
 ghost use Rattle.disk_io.specs.Disk.{Honestly};
 ghost use Rattle.disk_atomic.specs.Changes.{ChangesOnly};

@@ -1,5 +1,5 @@
 //! The staging files of packets grow by the copies of a group of messages.
-ghost use Rattle.std.specs.Prelude.{◌≡◌, ◌<◌, ◌++◌, ℕ, List, length, All, IsErrOf, OnOk};
+ghost use Rattle.std.specs.Prelude.{◌<◌, ◌++◌, ℕ, List, length, All, IsErrOf, OnOk};
 ghost use Rattle.disk_io.specs.Disk.{Honestly, IsIn};
 ghost use Rattle.disk_atomic.specs.Outgoing.{IsAtStaging, IsFree};
 ghost use Rattle.disk_atomic.specs.Publishing.{HasPlacingCause};

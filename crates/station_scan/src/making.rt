@@ -1,5 +1,5 @@
 //! The packets of the messages so far get the copies of a group.
-ghost use Rattle.std.specs.Prelude.{◌≡◌, ◌≢◌, ◌++◌, ℕ, List, All, IfErr, IfOk, IsErrOf, OnOk, map};
+ghost use Rattle.std.specs.Prelude.{◌≢◌, ◌++◌, ℕ, List, All, IfErr, IfOk, IsErrOf, OnOk};
 ghost use Rattle.disk_io.specs.Disk.{Honestly};
 ghost use Rattle.disk_atomic.specs.Publishing.{HasPlacingCause};
 ghost use Rattle.echo_toss.specs.Exports.{Outgoing as Sent};

@@ -1,5 +1,4 @@
 //! What comes next in each packet of a scan: its header, the copies of a group of messages, its end.
-ghost use Rattle.std.specs.Prelude.{◌≡◌, ℕ, List, IfOk};
 ghost use Rattle.echo_packet.specs.Header.{header_bytes, word};
 ghost use Rattle.echo_packet.specs.Message.{messages_bytes};
 ghost use Rattle.model_steps.specs.Scanning.{header_to};

@@ -1,5 +1,5 @@
 //! Packets and the commit of a store, together.
-ghost use Rattle.std.specs.Prelude.{◌≡◌, ◌⊎◌, All, IfErr, OnOk, IsErrOf};
+ghost use Rattle.std.specs.Prelude.{◌⊎◌, All, IfErr, OnOk, IsErrOf};
 ghost use Rattle.disk_io.specs.Disk.{Honestly};
 ghost use Rattle.disk_atomic.specs.Outgoing.{ArePlaced, IsFree, IsOfOne};
 ghost use Rattle.disk_atomic.specs.Publishing.{IsApartFrom};

@@ -1,7 +1,7 @@
 use echo_addr::{Address, Items};
 use echo_packet::Limits;
 use echo_toss::{
-    Draft, LinkFault, LinkFile, PostFault, Resend, Stamp, Tally, TossCause, TossFault, Tosser,
+    Draft, LinkFault, LinkFile, PostFault, Stamp, Tally, TossCause, TossFault, Tosser,
 };
 use std::alloc::{AllocError, Global};
 use std::hash::{BuildHasherDefault, FoldHasher};

@@ -1,6 +1,5 @@
 //! Crashes before the calls of some commits, with unsynced writes torn in several ways. After each the folder is
 //! opened, and commits go on, up to the next crash.
-ghost use Rattle.std.specs.Prelude.{◌≡◌};
 ghost use Rattle.disk_io.specs.Disk.{Honestly};
 ghost use Rattle.base_log.specs.Opening.{AreAlone};
 ghost use Rattle.test_disks.specs.declared.crashes.TheConstants.{FOLDER};

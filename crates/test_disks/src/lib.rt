@@ -2,8 +2,8 @@
 //!
 //! On a disk in memory a command crashes before each of its calls, with a base folder and with a base file. Writes that
 //! were not synced are torn in several ways. On a file system that fails at each call, files are read and made whole.
-//! On one whose files are cut before a call, packets are opened. On files of the system, the disk of the program and a
-//! base folder on it are tested. Begin with `crashes`.
+//! On one that cuts files before a call, packets are opened. On files of the system, the disk of the program and a base
+//! folder on it are tested. Begin with `crashes`.
 #![tactic(auto)]
 
 #[cfg(test)]

@@ -2,7 +2,7 @@
 ghost use Rattle.std.specs.Prelude.{◌≡◌, ◌^◌, ◌<◌, ◌≤◌, length, IfOk, OnOk, OnErr, true};
 ghost use Rattle.std.specs.List.{flat_map, list_all};
 ghost use Rattle.disk_io.specs.Device.{Failed, Sends};
-ghost use Rattle.indexmap.specs.IndexMap.{index_map_len, values};
+ghost use Rattle.indexmap.specs.IndexMap.{values};
 ghost use Rattle.echo_filed.specs.declared.stored.Version.TheVariants.{Second};
 ghost use Rattle.echo_filed.specs.Stored.{is_short_enough, stored_bytes};
 ghost use Rattle.echo_filed.specs.Sending.{CountsUnsent};

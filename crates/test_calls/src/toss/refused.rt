@@ -21,7 +21,7 @@ fn a_refused_post(rt: HostRuntime) -> Result<(), Fail> {
     Ok(())
 }
 
-// A refused scan leaves all waiting, and a second one takes it. A resend and a purge that are refused change nothing.
+// A refused scan leaves all waiting, and a second one takes it. A refused purge changes nothing.
 #[test]
 fn a_refused_scan(rt: HostRuntime) -> Result<(), Fail> {
     let mut alpha = ready(rt.alloc(), ALPHA)?;
@@ -32,17 +32,6 @@ fn a_refused_scan(rt: HostRuntime) -> Result<(), Fail> {
         assert_eq!(rt; alpha.waiting(), 1);
         assert_eq!(rt; alpha.scan(STAMP)?.len(), 1);
     }
-    let asked = Resend {
-        area: b"TEST",
-        to: BETA_ADDRESS,
-        first: 0,
-        stamp: STAMP,
-    };
-    let packet = match alpha.resend(asked) {
-        Ok(packet) => packet,
-        Err(_) => alpha.resend(asked)?,
-    };
-    assert_eq!(rt; packet.messages.len(), 1);
     let purged = match alpha.purge() {
         Ok(count) => count,
         Err(AllocError) => alpha.purge()?,

@@ -8,7 +8,7 @@ use Rattle.base_folder.proofs.filling.add_from.Given as given
 use Rattle.base_folder.proofs.filling.add_from.Goals.{After-add_next}
 use Rattle.base_folder.proofs.filling.add_from.Goals as goal
 
--- the run so far, once one message more was to be added
+-- the run up to the call for one more message
 run : (g : given.Over) (c : After-add_next g)
     → StagesOnly (path_of c.args.folder.now) (committed_by (g.D.Disk.state c.args.disk.now) c.args.folder.now) (g.D.Disk.state c.args.disk.now) (g.D.Disk.state c.add_next.new.disk)
 run g c =

@@ -1,4 +1,4 @@
--- Nothing was changed by the tries so far, and where the disk is honest there was none.
+-- The earlier tries changed nothing, and on an honest disk there was no earlier one.
 use Rattle.std.proofs.Common.{◌≡◌, ◌≤◌}
 use Rattle.disk_io.specs.Disk.{Honestly}
 use Rattle.disk_io.specs.Runs.{ChangesNothing}

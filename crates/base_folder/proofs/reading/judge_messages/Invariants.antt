@@ -1,4 +1,4 @@
--- Each message so far has the digest of its entry.
+-- Each earlier message has the digest in its entry.
 use Rattle.std.proofs.Common.{◌≤◌, ◌<◌, ℕ}
 use Rattle.disk_io.specs.Disk.{Honestly}
 use Rattle.disk_io.specs.Runs.{ChangesNothing}

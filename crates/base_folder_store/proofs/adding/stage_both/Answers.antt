@@ -24,7 +24,7 @@ stage_bytes-requires-2-clause-staged g c = record {
 pub stage_bytes-requires-2-clause-room : goal.stage_bytes-requires-2-clause-room
 stage_bytes-requires-2-clause-room g c = subst (λ (n : ℕ). n + length c.args.keys.now < 2 ^ 64) (sym (ap (λ (t : CommitRecord). t.keys) c.in_ok-more.ensures.told)) c.requires.keys_room
 
--- what the second call added to what the first one did
+-- the bytes of the second call, after those of the first
 both : (path : List ℕ) (d e f : DiskState) (end : End) (told more : CommitRecord) (bytes keys : List ℕ) (r : Result CommitRecord DiskError) → (f.is_honest → e.is_honest) → more ≡ record told { messages = told.messages + length bytes }
     → Honestly e (HoldsNext e path end.told (base_at d path end.told) (and_messages (base_at d path told) bytes) more) → IfOk r (λ m. m ≡ record more { keys = more.keys + length keys })
     → Honestly f (IfOk r (λ m. IsStaged f path end m)) → Honestly f (IfOk r (HoldsNext f path end.told (base_at e path end.told) (and_keys (base_at e path more) keys)))

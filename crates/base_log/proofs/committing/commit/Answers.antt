@@ -14,7 +14,7 @@ use Rattle.base_log.proofs.committing.commit.Given as given
 use Rattle.base_log.proofs.committing.commit.Goals.{After-sync-2, After-write_synced, After-write_synced-2}
 use Rattle.base_log.proofs.committing.commit.Goals as goal
 
--- what is outside the folder, once both files are synced
+-- everything outside the folder, after both files are synced
 quiet_outside : (g : given.Over) (c : After-sync-2 g) → KeepsOutside (folder_of c.args.names.now) (g.D.Disk.state c.args.disk.now) (g.D.Disk.state c.sync-2.new.self)
 quiet_outside g c =
     let path = folder_of c.args.names.now in

@@ -1,4 +1,4 @@
--- The tags of the files so far are there.
+-- The tags of the files so far are added.
 use Rattle.std.proofs.Common.{◌≡◌, Global, List, take, Vec, ℕ}
 use Rattle.std.specs.List.{list_any}
 use Rattle.echo_links.specs.Links.{has_area}

@@ -1,4 +1,4 @@
--- The link files of the systems so far are there.
+-- The link files of the systems so far are added.
 use Rattle.std.proofs.Common.{take}
 use Rattle.cmd_check.specs.Assuming.{AddsEach}
 use Rattle.cmd_check.proofs.assuming.push_each.Given as goal

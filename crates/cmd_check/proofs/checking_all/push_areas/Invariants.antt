@@ -1,4 +1,4 @@
--- The lines of the areas so far are there.
+-- The lines of the areas so far are added.
 use Rattle.std.proofs.Common.{◌≤◌, map, take}
 use Rattle.std.specs.Option.{option_copied}
 use Rattle.cmd_print.specs.Pushed.{Pushes}

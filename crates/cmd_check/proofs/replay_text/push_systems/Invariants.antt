@@ -1,4 +1,4 @@
--- The lines of the systems so far are there.
+-- The lines of the systems so far are added.
 use Rattle.std.proofs.Common.{◌≡◌, ◌++◌, take, map, length}
 use Rattle.model_run.specs.Run.{Run, System}
 use Rattle.model_replay.specs.Worlds.{IsWorldOf}

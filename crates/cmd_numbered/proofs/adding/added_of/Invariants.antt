@@ -1,4 +1,4 @@
--- What the messages so far add.
+-- The additions of the messages so far.
 use Rattle.std.proofs.Common.{◌≡◌, ◌≤◌}
 use Rattle.base_file.specs.Base.{Base}
 use Rattle.cmd_numbered.specs.JamAdded.{added_in, added_of}

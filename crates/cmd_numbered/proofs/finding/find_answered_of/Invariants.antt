@@ -1,4 +1,4 @@
--- What the last message so far with the id gives.
+-- The parts from the last message so far with the id.
 use Rattle.std.proofs.Common.{◌≡◌, ◌≤◌}
 use Rattle.std.specs.Option.{option_map}
 use Rattle.base_file.specs.Base.{Base}

@@ -1,4 +1,4 @@
--- Where to go on behind the messages so far.
+-- The number to go on from after the messages so far.
 use Rattle.std.proofs.Common.{◌≡◌, ◌≤◌, option_copied}
 use Rattle.base_file.specs.Base.{Base}
 use Rattle.cmd_numbered.specs.Numbered.{resumed}

@@ -1,4 +1,4 @@
--- What the bytes so far become is there.
+-- The lines have the converted earlier bytes.
 use Rattle.std.proofs.Common.{◌≡◌, ◌++◌, drop}
 use Rattle.cmd_report.specs.Posted.{draft_after, draft_body}
 use Rattle.cmd_report.proofs.posting.draft_body.Given as goal

@@ -1,4 +1,4 @@
--- The names and the lines of the packets so far are there.
+-- The lists have the names and the lines of the earlier packets.
 use Rattle.std.proofs.Common.{◌≡◌, ◌++◌, map, take}
 use Rattle.std.specs.List.{flat_map}
 use Rattle.cmd_report.specs.Scanned.{counted_line, planned_for}

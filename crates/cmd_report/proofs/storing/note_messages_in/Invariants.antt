@@ -1,4 +1,4 @@
--- The messages so far were tossed into the store and noted, and the reader lost them.
+-- The store took the earlier messages with their notes, and the reader consumed them.
 use Rattle.std.proofs.Common.{◌-◌}
 use Rattle.cmd_report.specs.Lines.{HasTallyRoom}
 use Rattle.cmd_report.proofs.NotedIn.{HasNotedIn}

@@ -1,4 +1,4 @@
--- The lines of the entries that are left complete those of all.
+-- The lines so far, and those of the entries left, are all.
 use Rattle.std.proofs.Common.{◌≡◌, ◌++◌, length}
 use Rattle.std.specs.List.{flat_map}
 use Rattle.cmd_show.specs.AreasListed.{area_line}

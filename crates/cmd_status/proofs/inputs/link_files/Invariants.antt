@@ -1,4 +1,4 @@
--- The inputs so far are link files.
+-- The earlier inputs are link files.
 use Rattle.std.proofs.Common.{take}
 use Rattle.cmd_status.specs.Inputs.{AreLinkFiles}
 use Rattle.cmd_status.proofs.inputs.link_files.Given as goal

@@ -1,4 +1,4 @@
--- The serials so far are taken, and nothing was filed.
+-- All earlier serials are in use, and no message was filed.
 use Rattle.cmd_store.proofs.FreePostings.{HasLooked}
 use Rattle.cmd_store.proofs.serials.file_free.Given as goal
 

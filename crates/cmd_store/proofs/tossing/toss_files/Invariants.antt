@@ -1,4 +1,4 @@
--- What the files that are left do is what all files do.
+-- The remaining files have the same effect as all files.
 use Rattle.std.proofs.Common.{length}
 use Rattle.cmd_status.specs.Devices.{device_of}
 use Rattle.cmd_store.proofs.TossedFiles.{HasTossedFiles}

@@ -1,4 +1,4 @@
--- Nothing stands beside the packets up to here, and those from here on are as they were.
+-- The earlier packets have no staging files, and the later ones are unchanged.
 use Rattle.std.proofs.Common.{◌≤◌, length}
 use Rattle.std.specs.List.{AllWithin}
 use Rattle.disk_atomic.specs.Changes.{ChangesOnly}

@@ -1,4 +1,4 @@
--- The bytes so far are copied.
+-- The copy has the earlier bytes.
 use Rattle.std.proofs.Common.{◌≡◌, ◌-◌, ◌≤◌, ◌++◌, take, drop}
 use Rattle.disk_io.specs.Disk.{Honestly, bytes_in}
 use Rattle.disk_io.specs.Runs.{KeepsNamed}

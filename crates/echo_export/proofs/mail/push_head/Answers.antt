@@ -1,4 +1,4 @@
-use Rattle.std.proofs.Common.{◌≡◌, ap, subst, ◌++◌, ◌∙◌, codes, Option, None, option_copied}
+use Rattle.std.proofs.Common.{◌≡◌, subst, ◌++◌, codes, Option, None, option_copied}
 use Rattle.echo_charset.specs.declared.charset.Charset.{Charset}
 use Rattle.echo_export.specs.HeaderText.{found_line}
 use Rattle.echo_export.specs.MailText.{echo_head, form_lines, mailbox_line, name_lines}

@@ -8,7 +8,7 @@ use Rattle.echo_filed.proofs.StoredFields.{short_field, text_field}
 use Rattle.echo_filed.proofs.Taken.{breaks_as, breaks_behind}
 use Rattle.echo_filed.proofs.field.read_last.Goals as goal
 
--- the pair breaks so, where it has a tag, or has none
+-- the same break, with the test under another name
 told : (b with_tag : Bool) → b ≡ with_tag → (old new : Option (List ℕ)) (e : Broken) → Breaks (List ℕ × List ℕ) (LastFits b) (last_of b) old new e
     → Breaks (List ℕ × List ℕ) (LastFits with_tag) (last_of with_tag) old new e
 told b with_tag same old new e h = subst (λ t. Breaks (List ℕ × List ℕ) (LastFits t) (last_of t) old new e) same h

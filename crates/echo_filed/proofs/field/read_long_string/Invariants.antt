@@ -1,4 +1,4 @@
--- The parts that are there came from the source.
+-- The source gave the earlier parts.
 use Rattle.std.proofs.Common.{◌≡◌, ◌+◌, length}
 use Rattle.std.specs.Io.KnownBytes.{Consumes}
 use Rattle.std.specs.List.{flat_map}

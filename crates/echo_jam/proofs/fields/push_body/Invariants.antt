@@ -1,4 +1,4 @@
--- What is there, and what the lines that are left add, is all.
+-- The bytes so far, and those that the lines left add, are all.
 use Rattle.std.proofs.Common.{◌≡◌, ◌++◌, length}
 use Rattle.std.specs.List.{flat_map}
 use Rattle.echo_text.specs.Lines.{lines}

@@ -15,7 +15,7 @@ use Rattle.echo_net.proofs.Graphs.{is_apart, is_loop, is_tidy, loop_within}
 use Rattle.echo_net.proofs.Numbers.{parts, simple_numbers}
 use Rattle.echo_net.proofs.graph_faults.graph_fault.Goals as goal
 
--- what is found of the graph, of the numbered links
+-- the result of a search of the graph, for the numbered links
 renamed : (rows links : ℕ → ℕ → Bool) (m n : ℕ) (found : Option ℕ) → rows ≡ links → m ≡ n →
     MatchOption found (Connected (λ i. i < m) rows) (FirstUnreached rows m) → MatchOption found (Connected (λ i. i < n) links) (FirstUnreached links n)
 renamed rows links m n found same size h =

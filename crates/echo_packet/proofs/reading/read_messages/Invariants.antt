@@ -1,4 +1,4 @@
--- The messages so far, and what the slice still has.
+-- The messages already read, and the remaining bytes of the slice.
 use Rattle.std.proofs.Common.{length}
 use Rattle.echo_packet.proofs.Slices.{HasGiven}
 use Rattle.echo_packet.proofs.reading.read_messages.Given as goal

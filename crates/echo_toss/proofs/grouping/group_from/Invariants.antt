@@ -1,4 +1,4 @@
--- What goes out of the messages so far was gathered, and the store was only looked at.
+-- The group has the outgoing forms of the earlier messages, and the calls only looked at the store.
 use Rattle.std.proofs.Common.{◌≡◌, ◌≤◌, ◌<◌, ◌-◌, ◌++◌, drop}
 use Rattle.disk_io.specs.Disk.{Honestly}
 use Rattle.base_file.specs.Base.{Base}

@@ -1,4 +1,4 @@
--- The messages so far were tossed into the store, and the reader lost them.
+-- The store took the earlier messages, and the reader consumed them.
 use Rattle.std.proofs.Common.{◌-◌}
 use Rattle.echo_toss.proofs.PacketsIn.{HasGoneIn}
 use Rattle.echo_toss.proofs.packets.toss_messages.Given as goal

@@ -31,7 +31,7 @@ part_of-requires-clause-within c =
       | inr is ↦ omega (arith, top.0, is)
     ]
 
--- what is found of the part, of the placed links
+-- if the search of a part finds no pinch, the placed links have none
 none_placed : (part sub : ℕ → ℕ → Bool) (found : Option Pinch) → part ≡ sub → found ≡ None → MatchOption found ((b a c : ℕ) → ¬ IsPinch part b a c) (λ (p : Pinch). FirstPinch part p.at p.one p.other) →
     (b a c : ℕ) → ¬ IsPinch sub b a c
 none_placed part sub found same none h =

@@ -15,7 +15,7 @@ use Rattle.model_graph.proofs.polygons.loop_of.Goals as goal
 first_of : (links : ℕ → ℕ → Bool) (found : Option Pinch) (pinch : Pinch) → found ≡ Some pinch → MatchOption found ((b a c : ℕ) → ¬ IsPinch links b a c) (λ pinch. FirstPinch links pinch.at pinch.one pinch.other) → FirstPinch links pinch.at pinch.one pinch.other
 first_of links found pinch is = MatchOption-at_some ((b a c : ℕ) → ¬ IsPinch links b a c) (λ (pinch : Pinch). FirstPinch links pinch.at pinch.one pinch.other) pinch is
 
--- where links are not parted there is a pinch
+-- if links are not parted, there is a pinch
 pinched : (links : ℕ → ℕ → Bool) (parted : Bool) (found : Option Pinch) → Simple links → (IsTrue parted ↔ Parted links) → parted ≡ false → MatchOption found ((b a c : ℕ) → ¬ IsPinch links b a c) (λ (pinch : Pinch). FirstPinch links pinch.at pinch.one pinch.other) → IsSome found
 pinched links parted None simple told apart none = absurd (both_ways parted apart (told.1 (Parted-from_no_pinch links simple none)))
 pinched links parted (Some pinch) simple told apart first = refl

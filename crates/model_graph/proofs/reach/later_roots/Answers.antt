@@ -1,4 +1,4 @@
-use Rattle.std.proofs.Common.{◌≡◌, ◌+◌, ◌<◌, ◌∙◌, ℕ, List, Option, ap, arith, length, sym, subst}
+use Rattle.std.proofs.Common.{◌+◌, ◌<◌, ◌∙◌, ℕ, List, Option, ap, arith, sym, subst}
 use Rattle.model_graph.proofs.PartStarts.{RootsBefore, RootsBefore-passed, RootsBefore-pushed, all_roots}
 use Rattle.model_graph.proofs.reach.later_roots.Goals as goal
 use Rattle.model_graph.proofs.reach.later_roots.Goals.{then-has_level+in_ok-push, else-has_level}

@@ -15,7 +15,7 @@ both_ok : {A E : Type 0} (P Q : Type 0) (r : Result A E) → OnOk r P → OnOk r
 both_ok P Q (Ok x) p q = (p, q)
 both_ok P Q (Err e) p q = tt
 
--- the run after the event, whose name is known, as the world is after it
+-- the world after the named event is that of the run
 known : (world : WorldState) (run : Run) (event named : Event) → event ≡ named → IsWorldOf world (after_event run (run_event named)) → IsWorldOf world (after_event run (run_event event))
 known world run event named e = subst (λ (x : Event). IsWorldOf world (after_event run (run_event x))) (sym e)
 

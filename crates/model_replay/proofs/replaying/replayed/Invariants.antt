@@ -5,7 +5,7 @@ use Rattle.model_replay.specs.Counts.{packet_counts}
 use Rattle.model_replay.specs.Worlds.{IsWorldOf, LeadsToFirst, own_addresses}
 use Rattle.model_replay.proofs.replaying.replayed.Given as goal
 
--- the world is that of the events so far, the packets after each of them are counted, and each address leads to its first system
+-- the world is that of the events so far; the packets after each are counted; each address leads to its first system
 abbrev pub invariant-events : goal.invariant-events
 invariant-events g l = record {
   leads : LeadsToFirst l.receivers.first.entries (own_addresses l.world.systems);

@@ -1,4 +1,4 @@
--- So are the bytes up to here.
+-- The bytes up to here are plain.
 use Rattle.std.specs.Prelude.{◌≢◌}
 use Rattle.std.specs.List.{AllWithin}
 use Rattle.station_bases.proofs.folder_lending.is_plain.Given as goal

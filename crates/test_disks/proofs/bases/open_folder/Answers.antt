@@ -1,4 +1,4 @@
-use Rattle.std.proofs.Common.{◌≡◌, ◌∙◌, List, ℕ, ap, sym, subst}
+use Rattle.std.proofs.Common.{◌∙◌, List, ℕ, ap, sym, subst}
 use Rattle.disk_io.specs.Disk.{bytes_in}
 use Rattle.disk_io.proofs.Moments.{nothing_twice}
 use Rattle.base_log.specs.AtRest.{IsAtRest}

@@ -12,7 +12,7 @@ use Rattle.base_folder_store.proofs.Legible.{keys_all, legible_quiet}
 use Rattle.base_folder_store.proofs.Looked.{none_found, passed_on, some_message, stored_of}
 use Rattle.base_folder_store.proofs.folder.Folder.find_covered.Goals as goal
 
--- so many messages are below a bound
+-- the number of messages below a bound
 few : (below count place : ℕ) (keys : List ℕ) (base : List Filed) → length keys ≡ count → length keys ≡ 16 * length base → below ≤ count / 16 → place < below → place < length base
 few below count place keys base all many within under = omega (arith, all, many, within, under)
 

@@ -23,7 +23,7 @@ messages-init g c = record {
   cause = omega arith;
 }
 
--- the run so far, once one message more was to be left
+-- the run up to the call for one more message
 left : (g : given.Over) (c : After-leave_next g)
     → StagesOnly (path_of c.args.next.now) (committed_by (g.D.Disk.state c.args.disk.now) c.args.next.now) (g.D.Disk.state c.args.disk.now) (g.D.Disk.state c.leave_next.new.disk)
 left g c =

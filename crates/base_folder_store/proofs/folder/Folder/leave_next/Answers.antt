@@ -33,11 +33,11 @@ use Rattle.base_folder_store.proofs.folder.Folder.leave_next.Goals as goal
 pub stored-requires-clause-legible : goal.stored-requires-clause-legible
 stored-requires-clause-legible g c honest = (c.requires.purged.paired.readable honest).legible
 
--- the run so far, once the message was read
+-- the run after the read of the message
 read : (g : given.Over) (c : After-stored g) → StagesOnly (path_of c.args.next.now) (committed_by (g.D.Disk.state c.args.disk.now) c.args.next.now) (g.D.Disk.state c.args.disk.now) (g.D.Disk.state c.stored.new.disk)
 read g c = run_quiet (g.D.Disk.state c.args.disk.now) (g.D.Disk.state c.stored.new.disk) c.args.next.now c.requires.purged.opened c.stored.ensures.quiet
 
--- and once what is left of it was staged
+-- the run after staging the purged message
 left : (g : given.Over) (c : After-stage_left g) → StagesOnly (path_of c.args.next.now) (committed_by (g.D.Disk.state c.args.disk.now) c.args.next.now) (g.D.Disk.state c.args.disk.now) (g.D.Disk.state c.stage_left.new.disk)
 left g c =
     let n = c.args.next.now in
@@ -75,7 +75,7 @@ stage_left-requires g c = record {
       open_quiet (g.D.Disk.state c.args.disk.now) (g.D.Disk.state c.stored.new.disk) c.args.next.now quiet (c.requires.purged.opened (quiet.honest honest));
 }
 
--- what was read of it, and what is left of that
+-- the message that was read, and its purged form
 record Here (g : given.Over) (c : After-stage_left g) (base : Base) : Type 0 where
   s : Stored
   is : (d : Filed) → get_or base.messages c.args.place d ≡ message_in Second s

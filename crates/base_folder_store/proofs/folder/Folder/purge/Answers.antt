@@ -38,7 +38,7 @@ leave_all-requires g c =
       };
     }
 
--- the run so far, once what is left was to be staged
+-- the run up to the call that stages the purged messages
 record Left (g : given.Over) (c : After-leave_all g) : Type 0 where
   same : Honestly (g.D.Disk.state c.leave_all.new.disk) (committed_by (g.D.Disk.state c.anew.new.disk) c.in_ok-next.next ≡ held_by (g.D.Disk.state c.args.disk.now) c.args.self.now)
   run : CommitsOnly (path_of c.args.self.now) (committed_by (g.D.Disk.state c.args.disk.now) c.args.self.now) (held_by (g.D.Disk.state c.args.disk.now) c.args.self.now) (g.D.Disk.state c.args.disk.now) (g.D.Disk.state c.leave_all.new.disk)

@@ -15,7 +15,7 @@ use Rattle.base_folder_store.proofs.folder.Folder.remove_former.Given as given
 use Rattle.base_folder_store.proofs.folder.Folder.remove_former.Goals.{After-remove_files}
 use Rattle.base_folder_store.proofs.folder.Folder.remove_former.Goals as goal
 
--- nothing has happened yet
+-- the run before its first call
 nothing : (d : DiskState) (f : Folder) → Honestly d (IsAtRest d (path_of f) f.end) → StagesOnly (path_of f) (committed_by d f) d d
 nothing d f rest = record {
   any_moment = λ honest. alone_run d (path_of f) f.end (rest honest) d (alone_first d (path_of f) f.end (rest honest));

@@ -50,7 +50,7 @@ stored_by-requires-clause-within g c =
     let same = ap (λ (l : List ℕ). length l) c.deref.ensures.value in
     omega (arith, within, long, same)
 
--- the bytes of the message, as its entry tells
+-- the bytes of the message, by its entry
 has_entry : (g : given.Over) (c : After-stored_by g) → (g.D.Disk.state c.stored_by.new.disk).is_honest → (s : Stored) → HasBytesOf (held_by (g.D.Disk.state c.args.disk.now) c.args.self.now).messages (held_by (g.D.Disk.state c.args.disk.now) c.args.self.now).keys c.args.place s
     → HasBytesOf (held_by (g.D.Disk.state c.entry_at.new.disk) c.args.self.now).messages c.deref.result.now 0 s
 has_entry g c honest s has =

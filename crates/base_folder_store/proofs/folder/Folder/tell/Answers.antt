@@ -37,7 +37,7 @@ returns-clause-done g c =
       settled = c.in_ok-end.ensures.settled;
     }
 
--- what a commit leaves, of a folder of which nothing waits
+-- a commit of a folder without waiting bytes, as a run
 run_of : (d e : DiskState) (f : Folder) → IsWritten f → Honestly e (LeavesOnly d e (IsBeforeOrAfter (path_of f) d (committed_by d f) (base_at d (path_of f) f.told))) → KeepsOutside (path_of f) d e
     → CommitsOnly (path_of f) (committed_by d f) (held_by d f) d e
 run_of d e f none run kept = subst (λ (b : BaseBytes). CommitsOnly (path_of f) (committed_by d f) b d e) (sym (written_held d f none)) (record { any_moment = run; outside = kept })

@@ -1,4 +1,4 @@
--- A trace of no call, made of nothing.
+-- A trace without calls, empty at run time.
 use Rattle.std.proofs.Common.{[], ◌∷◌, refl}
 use base.Fml.{ftrue}
 use types.Kit.{‵, raw, ◌$◌, ◌∵◌, !, qed, keep, join, suffices, done}

@@ -1,4 +1,4 @@
--- A trace with one call more, made of nothing.
+-- A trace with one call more, empty at run time.
 use Rattle.std.proofs.Common.{List, [], ◌∷◌, refl}
 use base.Fml.{ftrue}
 use mir.Syntax.{named}

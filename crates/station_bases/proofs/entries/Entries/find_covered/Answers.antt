@@ -16,7 +16,7 @@ use Rattle.station_bases.specs.declared.entries.Entries.{Entries}
 use Rattle.station_bases.proofs.Reach.{reach_still, same_file}
 use Rattle.station_bases.proofs.entries.Entries.find_covered.Goals as goal
 
--- so many messages are below a bound
+-- this many messages are below a bound
 few : (below count place : ℕ) (keys : List ℕ) (base : List Filed) → length keys ≡ count → length keys ≡ 16 * length base → below ≤ count / 16 → place < below → place < length base
 few below count place keys base all many within under = omega (arith, all, many, within, under)
 
