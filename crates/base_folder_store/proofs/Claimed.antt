@@ -12,8 +12,9 @@ use Rattle.base_store.specs.Store.{CommitsNothing, GoesOn}
 use Rattle.base_folder_store.specs.Held.{HoldsBase, digest_by}
 use Rattle.base_folder_store.specs.Opened.{IsOpen, held_by}
 use Rattle.base_folder_store.specs.Owned.{IsUnclaimed, with_mark}
-use Rattle.base_folder_store.specs.State.{IsIndexed, IsUsable, state_of}
+use Rattle.base_folder_store.specs.State.{IsCached, IsUsable, state_of}
 use Rattle.base_folder_store.specs.declared.folder.Folder.{Folder}
+use Rattle.base_folder_store.specs.declared.read_ahead.Buffers.{Buffers}
 use Rattle.base_folder_store.proofs.Legible.{keys_all, legible_open}
 use Rattle.base_folder_store.proofs.Runs.{run_none}
 use Rattle.base_folder_store.proofs.Stated.{stages}
@@ -94,5 +95,5 @@ claim_commits keyed d f g mark result k claim usable =
     (stages d d keyed f f k k refl (run_none d f usable.opened))
     (λ free. stages d d keyed f (with_mark f mark) k k refl (run_none d f usable.opened))
 
-pub claim_indexed : (d : DiskState) (f g : Folder) (mark : FolderIdentity) (result : Bool) (i : Index) → IsClaim f g mark result → IsIndexed d f i → IsIndexed d g i
-claim_indexed d f g mark result i claim was = by_claim (λ (x : Folder). IsIndexed d x i) f g mark result claim was (λ free. was)
+pub claim_cached : (d : DiskState) (f g : Folder) (mark : FolderIdentity) (result : Bool) (i : Index) (b : Buffers) → IsClaim f g mark result → IsCached d f i b → IsCached d g i b
+claim_cached d f g mark result i b claim was = by_claim (λ (x : Folder). IsCached d x i b) f g mark result claim was (λ free. was)

@@ -1,9 +1,10 @@
+pub mod Ahead
 pub mod Bases
 mod Beside
+mod Cached
 pub mod Causes
 pub mod Claimed
 mod Fits
-mod Indexed
 pub mod Legible
 pub mod Looked
 pub mod Numbered

@@ -1,7 +1,7 @@
 -- A message is at the place in the entry of its number.
 use Rattle.std.proofs.Common.{◌≡◌, ℕ, ◌≤◌, ◌<◌, ◌+◌, ◌-◌, ◌*◌, ◌/◌, List, ◌++◌, length, min, take, drop, nat_lt, sym, ◌∙◌, ap, subst, arith, ⊎_elim, length-append, length-drop}
 use Rattle.std.proofs.lemmas.Bool.{cases_lt, cond-false, cond-true, le-ltb, lt-ltb}
-use Rattle.std.proofs.lemmas.List.{drop-append-le, drop-drop, length-take-le, take-append-drop, take-append-le, take-take}
+use Rattle.std.proofs.lemmas.List.{drop-append-le, drop-drop, length-take-le, take-append-drop, take-append-le}
 use Rattle.std.specs.Int.{w64, from_le_bytes}
 use Rattle.echo_filed.specs.Stored.{Stored, stored_bytes}
 use Rattle.echo_filed.specs.declared.stored.Version.TheVariants.{Second}
@@ -10,20 +10,16 @@ use Rattle.base_store.specs.declared.index.Index.{Index}
 use Rattle.base_store.specs.Keys.{HasBytesOf, IsPieceOf, digest_at, place_at, place_behind}
 use Rattle.base_store.proofs.Found.{piece_digest}
 
-module _ (file keys : List ℕ) (all place begins ends : ℕ) (s : Stored) (room : all ≤ length file) (told : HasBytesOf (take all file) keys place s)
-    (at : begins ≡ place_at keys place) (behind : ends ≡ place_behind (take all file) keys place) where
+module _ (file keys : List ℕ) (place begins ends : ℕ) (s : Stored) (told : HasBytesOf file keys place s) (at : begins ≡ place_at keys place)
+    (behind : ends ≡ place_behind file keys place) where
   pub in_order : begins ≤ ends
   in_order = let order = told.begins in omega arith
 
-  pub within : ends ≤ all
-  within = let last = told.ends in let long = length-take-le all file room in omega arith
+  pub within : ends ≤ length file
+  within = let last = told.ends in omega arith
 
   pub piece_is : drop begins (take ends file) ≡ stored_bytes Second s
-  piece_is =
-      ap (λ (l : List ℕ). drop begins l) (sym (take-take ends all file within))
-      ∙ ap (λ (n : ℕ). drop n (take ends (take all file))) at
-      ∙ ap (λ (n : ℕ). drop (place_at keys place) (take n (take all file))) behind
-      ∙ told.bytes
+  piece_is = (λ i. drop (at i) (take (behind i) file)) ∙ told.bytes
 
 -- the places in a piece of the keys are those in the keys
 pub piece_place : (keys : List ℕ) (from : ℕ) (piece : List ℕ) (i : ℕ) → IsPieceOf keys from piece → i < length piece / 16 → place_at keys (from + i) ≡ place_at piece i

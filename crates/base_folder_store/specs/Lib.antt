@@ -1,4 +1,5 @@
 pub mod Added
+pub mod Ahead
 pub mod Answers
 pub mod Calls
 pub mod Held

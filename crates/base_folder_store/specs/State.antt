@@ -6,9 +6,11 @@ use Rattle.base_store.specs.Index.{IsIndexOf}
 use Rattle.base_store.specs.declared.index.Index.{Index}
 use Rattle.base_store.specs.Store.{StoreState}
 use Rattle.base_folder_store.specs.Added.{HasRoomFor, IsFull}
+use Rattle.base_folder_store.specs.Ahead.{AreParts}
 use Rattle.base_folder_store.specs.Held.{HoldsBase, StandsForBase}
 use Rattle.base_folder_store.specs.Opened.{IsNamed, IsOpen, committed_by, held_by, path_of}
 use Rattle.base_folder_store.specs.declared.folder.Folder.{Folder}
+use Rattle.base_folder_store.specs.declared.read_ahead.Buffers.{Buffers}
 
 -- The folder has the paths of its files, and if the disk was honest, these agree with its record of them.
 pub record IsUsable (disk : DiskState) (folder : Folder) : Type 0 where
@@ -32,9 +34,9 @@ state_of disk keyed folder message = record {
   shown = λ honest usable base is. record { bytes = committed_by disk folder; stands = (usable.opened honest).staged.shown; holds = is };
 }
 
--- If the disk was honest, the index is one of the folder's keys.
-abbrev pub IsIndexed : DiskState → Folder → Index → Type 0
-IsIndexed disk folder index = Honestly disk (IsIndexOf (held_by disk folder).keys index)
+-- If the disk was honest, the index is one of the folder's keys, and the buffers are parts of the folder's bytes.
+abbrev pub IsCached : DiskState → Folder → Index → Buffers → Type 0
+IsCached disk folder index buffers = Honestly disk (IsIndexOf (held_by disk folder).keys index × AreParts (held_by disk folder).messages (held_by disk folder).keys buffers)
 
 -- The store, with one more premise for its calls.
 abbrev pub where_so : StoreState → Type 0 → StoreState

@@ -5,11 +5,12 @@ ghost use Rattle.base_file.specs.Base.{Base};
 ghost use Rattle.base_folder_store.specs.Held.{HoldsBase};
 ghost use Rattle.base_folder_store.specs.Opened.{IsNamed, IsOpen, committed_by, held_by};
 ghost use Rattle.base_folder_store.specs.Owned.{IsUnclaimed, owner_of, with_mark};
-ghost use Rattle.base_folder_store.specs.State.{IsIndexed, state_of, where_so};
+ghost use Rattle.base_folder_store.specs.State.{IsCached, state_of, where_so};
 ghost use Rattle.base_store.specs.Store.{CommitsNothing, GoesOn, LooksOn};
 
 use crate::alone::bytes_alone;
 use crate::folder::Folder;
+use crate::read_ahead::Buffers;
 use crate::sought::Id;
 use base_log::FolderIdentity;
 use base_store::{Digest, Index, PurgedStore, Store, StoreError, bytes_of_key};
@@ -21,13 +22,14 @@ use std::marker::PhantomData;
 /// A base folder on a disk. After a call that failed in the middle of a change, open it again.
 ///
 /// Look-ups of expected messages take one pass over its keys, piece by piece. Of the others, the first ones of a run
-/// each take a pass, and the rest use an index in memory.
+/// each take a pass, and the rest use an index in memory. One read serves many messages that are fetched in order.
 #[derive(Drop)]
 pub struct FolderStore<D: Disk, H: Digest> {
     alloc: Global,
     disk: D,
     folder: Folder,
     index: Index,
+    buffers: Buffers,
     // The current message.
     message: Option<Filed>,
     digests: PhantomData<H>,
@@ -51,6 +53,7 @@ impl<D: Disk, H: Digest> FolderStore<D, H> {
             disk,
             folder,
             index: Index::new(alloc),
+            buffers: Buffers::new(alloc),
             message: None,
             digests: PhantomData,
         }
@@ -114,7 +117,7 @@ impl<D: Disk, H: Digest> FolderStore<D, H> {
 }
 
 impl<D: Disk, H: Digest> Store for FolderStore<D, H> {
-    ghost state = { λ store. where_so (state_of (D.state store.disk) H.keyed store.folder store.message) (IsIndexed (D.state store.disk) store.folder store.index) };
+    ghost state = { λ store. where_so (state_of (D.state store.disk) H.keyed store.folder store.message) (IsCached (D.state store.disk) store.folder store.index store.buffers) };
 
     ghost failures = { λ store. D.failures store.disk };
 
@@ -148,7 +151,9 @@ impl<D: Disk, H: Digest> Store for FolderStore<D, H> {
         if place >= self.folder.count() {
             return Err(StoreError::Damaged);
         }
-        let message = self.folder.read(self.alloc, &mut self.disk, place)?;
+        let message = self
+            .folder
+            .read(self.alloc, &mut self.disk, &mut self.buffers, place)?;
         self.message = Some(message);
         Ok(())
     }
@@ -178,6 +183,8 @@ impl<D: Disk, H: Digest> PurgedStore for FolderStore<D, H> {
     fn purge(&mut self) -> Result<u64, StoreError> {
         let index = Index::new(self.alloc);
         self.index = index;
+        let buffers = Buffers::new(self.alloc);
+        self.buffers = buffers;
         self.folder.purge(self.alloc, &mut self.disk)
     }
 }

@@ -1,18 +1,21 @@
 //! Messages and keys of an open base folder, read from its files and from what waits to be written.
-ghost use Rattle.std.specs.Prelude.{◌≡◌, ◌≤◌, ◌<◌, ◌+◌, ◌-◌, ◌*◌, ◌^◌, ◌/◌, ◌++◌, List, length, min, IfOk, IsErrOf, IfSome, IsSome, Some, drop, slice_get, take};
+ghost use Rattle.std.specs.Prelude.{◌≡◌, ◌≤◌, ◌<◌, ◌+◌, ◌-◌, ◌*◌, ◌^◌, ◌/◌, ◌++◌, ℕ, List, length, min, IfOk, IsErrOf, IfSome, IsSome, Some, drop, slice_get, take};
 ghost use Rattle.disk_io.specs.Disk.{Honestly, bytes_in};
 ghost use Rattle.disk_io.specs.Runs.{ChangesNothing, HasCause};
 ghost use Rattle.echo_filed.specs.Filed.{Filed};
-ghost use Rattle.echo_filed.specs.Stored.{Stored, stored_bytes};
+ghost use Rattle.echo_filed.specs.Stored.{IsStored, Stored, message_in, stored_bytes};
 ghost use Rattle.echo_filed.specs.declared.stored.Version.TheVariants.{Second};
+ghost use Rattle.base_file.specs.Alone.{MayStandAlone};
 ghost use Rattle.base_store.specs.Index.{IsIndexOf};
 ghost use Rattle.base_store.specs.Keys.{HasBytesOf, IsPieceOf, StandWhereTold, digest_at};
 ghost use Rattle.base_folder_store.specs.Added.{next_place};
+ghost use Rattle.base_folder_store.specs.Ahead.{AreParts, IsPartOf};
 ghost use Rattle.base_folder_store.specs.Answers.{Answers, HasReadCause, IsStoredOf};
 ghost use Rattle.base_folder_store.specs.Opened.{IsLegible, held_by};
 
 use crate::alone::read_alone;
 use crate::folder::{ENTRY, Folder};
+use crate::read_ahead::{Buffers, ReadAhead};
 use base_store::{Index, StoreError, digest_of, end_of, place_of};
 use disk_io::{Disk, DiskError, read_part};
 use echo_filed::Filed;
@@ -44,6 +47,31 @@ fn read_across<D: Disk>(
     Ok(part)
 }
 
+/// The places where a message begins and ends.
+#[derive(Clone, Copy, Drop)]
+pub struct Bounds {
+    pub begins: usize,
+    pub ends: usize,
+}
+
+/// The bounds of the message of this number, by its entry and the next one. All messages have so many bytes; `None` if
+/// one of its bytes is not among them.
+pub fn bounds_of(entries: &[u8], place: usize, all: usize) -> Option<Bounds>
+    requires { place < length entries.now / 16 }
+    ensures order { IfSome result (λ bounds. bounds.begins ≤ bounds.ends) }
+    ensures within { IfSome result (λ bounds. bounds.ends ≤ all) }
+    ensures bytes { (file : List ℕ) (s : Stored) → length file ≡ all → HasBytesOf file entries.now place s
+        → IfSome result (λ bounds. drop bounds.begins (take bounds.ends file) ≡ stored_bytes Second s) }
+    ensures some { (file : List ℕ) (s : Stored) → length file ≡ all → HasBytesOf file entries.now place s → IsSome result }
+{
+    let begins = place_of(entries, place) as usize;
+    let ends = end_of(entries, place, all as u64) as usize;
+    if begins > ends || ends > all {
+        return None;
+    }
+    Some(Bounds { begins, ends })
+}
+
 // The bytes of the message with this entry, before the next one's entry. Some messages wait to be written.
 fn stored_at<D: Disk>(
     alloc: Global,
@@ -65,12 +93,10 @@ fn stored_at<D: Disk>(
     let Some(all) = written.checked_add(waiting.len()) else {
         return Err(StoreError::TooMany);
     };
-    let begins = place_of(entry, 0) as usize;
-    let ends = end_of(entry, 0, all as u64) as usize;
-    if begins > ends || ends > all {
+    let Some(at) = bounds_of(entry, 0, all) else {
         return Err(StoreError::Damaged);
-    }
-    let bytes = read_across(alloc, disk, messages, written, waiting, begins, ends)?;
+    };
+    let bytes = read_across(alloc, disk, messages, written, waiting, at.begins, at.ends)?;
     Ok(bytes)
 }
 
@@ -115,6 +141,14 @@ impl Folder {
         Ok(piece)
     }
 
+    // The number behind the message of this number and the next one, if there is one.
+    fn behind_two(&self, place: usize) -> usize
+        requires { place < self.now.keys / 16 }
+        ensures { result ≡ place + min 2 (self.now.keys / 16 - place) }
+    {
+        place + (self.count() - place).min(2)
+    }
+
     // The entry of the message of this number, and the next one if there is one. They are read only if the index lacks
     // them.
     pub(crate) fn entry_at<D: Disk>(
@@ -134,7 +168,7 @@ impl Folder {
         ensures cause { HasReadCause (D.failures disk.old) (D.failures disk.new) result }
         ensures few { IsErrOf result StoreError.TooMany → ⊥ }
     {
-        let next = place + (self.count() - place).min(2);
+        let next = self.behind_two(place);
         let held = match index {
             Some(index) => index.piece(place, next),
             None => None,
@@ -191,22 +225,80 @@ impl Folder {
         Ok(StoredMessage { bytes, digest })
     }
 
-    /// The message of this number, counted from 0.
-    pub fn read<D: Disk>(
+    // The message with this entry. It is read ahead unless it waits to be written.
+    fn read_by<D: Disk>(
         &self,
         alloc: Global,
         disk: &mut D,
-        place: usize,
+        ahead: &mut ReadAhead,
+        entry: &[u8],
     ) -> Result<Filed, StoreError>
         requires legible { Honestly (D.state disk.old) (IsLegible (D.state disk.old) self.now) }
-        requires within { place < self.now.keys / 16 }
-        ensures read { Honestly (D.state disk.new) ((base : List Filed) → StandWhereTold base (held_by (D.state disk.old) self.now).messages (held_by (D.state disk.old) self.now).keys
-            → place < length base → Answers (λ message. slice_get base place ≡ Some message) result) }
+        requires part { Honestly (D.state disk.old) (IsPartOf (held_by (D.state disk.old) self.now).messages ahead.old) }
+        requires within { 0 < length entry.now / 16 }
+        ensures read { Honestly (D.state disk.new) ((s : Stored) → IsStored Second s → MayStandAlone s → HasBytesOf (held_by (D.state disk.old) self.now).messages entry.now 0 s
+            → Answers (λ message. message ≡ message_in Second s) result) }
+        ensures part { Honestly (D.state disk.new) (IsPartOf (held_by (D.state disk.old) self.now).messages ahead.new) }
         ensures quiet { ChangesNothing (D.state disk.old) (D.state disk.new) }
         ensures cause { HasReadCause (D.failures disk.old) (D.failures disk.new) result }
         ensures many { IsErrOf result StoreError.TooMany → 2 ^ 64 ≤ next_place self.now }
     {
-        let stored = self.stored(alloc, disk, None, place)?;
-        read_alone(alloc, &stored.bytes)
+        let written = self.told.messages;
+        let Some(all) = written.checked_add(self.waiting.messages.len()) else {
+            return Err(StoreError::TooMany);
+        };
+        let Some(at) = bounds_of(entry, 0, all) else {
+            return Err(StoreError::Damaged);
+        };
+        if at.ends > written {
+            let bytes = self.stored_by(alloc, disk, entry)?;
+            return read_alone(alloc, &bytes);
+        }
+        ahead.read(
+            alloc,
+            disk,
+            &self.names.messages,
+            written,
+            at.begins,
+            at.ends,
+        )?;
+        match ahead.part(at.begins, at.ends) {
+            Some(bytes) => read_alone(alloc, bytes),
+            None => Err(StoreError::Damaged),
+        }
+    }
+
+    /// The message of this number, counted from 0. It and its entry are read ahead unless they wait to be written.
+    pub(crate) fn read<D: Disk>(
+        &self,
+        alloc: Global,
+        disk: &mut D,
+        buffers: &mut Buffers,
+        place: usize,
+    ) -> Result<Filed, StoreError>
+        requires legible { Honestly (D.state disk.old) (IsLegible (D.state disk.old) self.now) }
+        requires parts { Honestly (D.state disk.old) (AreParts (held_by (D.state disk.old) self.now).messages (held_by (D.state disk.old) self.now).keys buffers.old) }
+        requires within { place < self.now.keys / 16 }
+        ensures read { Honestly (D.state disk.new) ((base : List Filed) → StandWhereTold base (held_by (D.state disk.old) self.now).messages (held_by (D.state disk.old) self.now).keys
+            → place < length base → Answers (λ message. slice_get base place ≡ Some message) result) }
+        ensures parts { Honestly (D.state disk.new) (AreParts (held_by (D.state disk.old) self.now).messages (held_by (D.state disk.old) self.now).keys buffers.new) }
+        ensures quiet { ChangesNothing (D.state disk.old) (D.state disk.new) }
+        ensures cause { HasReadCause (D.failures disk.old) (D.failures disk.new) result }
+        ensures many { IsErrOf result StoreError.TooMany → 2 ^ 64 ≤ next_place self.now }
+    {
+        let next = self.behind_two(place);
+        let (begins, ends) = (ENTRY * place, ENTRY * next);
+        let written = self.told.keys;
+        if ends > written {
+            let stored = self.stored(alloc, disk, None, place)?;
+            return read_alone(alloc, &stored.bytes);
+        }
+        buffers
+            .keys
+            .read(alloc, disk, &self.names.keys, written, begins, ends)?;
+        match buffers.keys.part(begins, ends) {
+            Some(entry) => self.read_by(alloc, disk, &mut buffers.messages, entry),
+            None => Err(StoreError::Damaged),
+        }
     }
 }

@@ -1,3 +1,4 @@
+pub mod Ahead
 pub mod Opened
 pub mod Written
 pub mod Lent

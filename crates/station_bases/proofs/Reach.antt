@@ -4,6 +4,8 @@ use Rattle.std.specs.Prelude.{IsSome}
 use Rattle.disk_io.specs.Disk.{DiskState, bytes_in}
 use Rattle.disk_io.specs.Runs.{ChangesNothing}
 use Rattle.base_file.specs.Base.{Base}
+use Rattle.base_folder_store.specs.Ahead.{IsPartOf}
+use Rattle.base_folder_store.specs.declared.read_ahead.ReadAhead.{ReadAhead}
 use Rattle.station_bases.specs.Entries.{AreIndexed, CanLookUp, HoldEntries, IsWithinFile}
 use Rattle.station_bases.specs.InFile.{IsHeld, IsWithinReach}
 use Rattle.station_bases.specs.declared.held.Held.{Held}
@@ -18,16 +20,18 @@ module _ (d0 d1 : DiskState) (path : List ℕ) (quiet : ChangesNothing d0 d1) wh
   reach_still e was = record {
     there = subst (λ (f : Option (List ℕ)). IsSome f) (sym (quiet.seen path)) was.there;
     long = subst (λ (f : Option (List ℕ)). e.end ≤ length (bytes_in f)) (sym (quiet.seen path)) was.long;
+    ahead = subst (λ (f : Option (List ℕ)). IsPartOf (bytes_in f) e.ahead) (sym (quiet.seen path)) was.ahead;
   }
 
-  pub look_still : (e f : Entries) → AreIndexed f → f.end ≡ e.end → CanLookUp d0 path e → CanLookUp d1 path f
-  look_still e f indexed end was = record {
+  pub look_still : (e f : Entries) → AreIndexed f → f.end ≡ e.end → f.ahead ≡ e.ahead → CanLookUp d0 path e → CanLookUp d1 path f
+  look_still e f indexed end ahead was = record {
     indexed = indexed;
     legible = λ honest.
         let before = was.legible (quiet.honest honest) in
         record {
           there = (reach_still e before).there;
           long = subst (λ (n : ℕ). n ≤ length (bytes_in (d1.seen path))) (sym end) (reach_still e before).long;
+          ahead = subst (λ (a : ReadAhead). IsPartOf (bytes_in (d1.seen path)) a) (sym ahead) (reach_still e before).ahead;
         };
   }
 
@@ -40,6 +44,7 @@ reach_seen d0 d1 path (Apart e) seen before was = record {
       record {
         there = subst (λ (f : Option (List ℕ)). IsSome f) (sym seen) reach.there;
         long = subst (λ (f : Option (List ℕ)). e.end ≤ length (bytes_in f)) (sym seen) reach.long;
+        ahead = subst (λ (f : Option (List ℕ)). IsPartOf (bytes_in f) e.ahead) (sym seen) reach.ahead;
       };
 }
 reach_seen d0 d1 path (Whole base) seen before was = tt

@@ -7,6 +7,7 @@ use Rattle.echo_filed.specs.Stored.{is_short, is_short_enough, stored_as, stored
 use Rattle.echo_filed.specs.declared.stored.Version.TheVariants.{Second}
 use Rattle.base_file.specs.Base.{Base}
 use Rattle.base_file.specs.BaseFile.{head_bytes, is_countable, stored_from}
+use Rattle.base_folder_store.specs.Ahead.{IsPartOf}
 use Rattle.base_store.specs.Index.{IsIndexOf}
 use Rattle.base_store.specs.Keys.{FolderStandsFor}
 use Rattle.base_store.specs.Sip.{sip_digest}
@@ -26,10 +27,11 @@ message_bytes file e = drop 16 (take e.end file) ++ e.waiting.items
 abbrev pub file_bytes : List ℕ → Entries → List ℕ
 file_bytes file e = head_bytes Second e.cursor (length e.keys.items / 16) ++ message_bytes file e
 
--- The file exists, with all messages that it is known to have.
+-- The file exists, with all messages that it is known to have. The buffer is a part of it.
 pub record IsWithinFile (disk : DiskState) (path : List ℕ) (e : Entries) : Type 0 where
   pub there : IsSome (disk.seen path)
   pub long : e.end ≤ length (bytes_in (disk.seen path))
+  pub ahead : IsPartOf (bytes_in (disk.seen path)) e.ahead
 
 -- The entries are whole, the index is one of them, and the messages end after the head of the file.
 pub record AreIndexed (e : Entries) : Type 0 where
@@ -80,3 +82,4 @@ pub record SameButAdded (old new : Entries) : Type 0 where
   pub cursor : new.cursor ≡ old.cursor
   pub end : new.end ≡ old.end
   pub message : new.message ≡ old.message
+  pub ahead : new.ahead ≡ old.ahead

@@ -34,10 +34,11 @@ pub record HasJudged (disk : DiskState) (path : List ℕ) (head : Head) (piece :
   pub part : Honestly disk (IsPartOf (bytes_in (disk.seen path)) piece)
   pub judged : Honestly disk (AreJudged (bytes_in (disk.seen path)) head e)
 
--- The entries are whole, and the cursor is the same.
+-- The entries are whole. The cursor, and what was read ahead, are the same.
 pub record StaysIndexed (old new : Entries) : Type 0 where
   pub indexed : AreIndexed new
   pub cursor : new.cursor ≡ old.cursor
+  pub ahead : new.ahead ≡ old.ahead
 
 -- These bytes begin with a message that no rule refuses by itself.
 pub record IsSoundIn (cursor place : ℕ) (bytes : List ℕ) (key : Key) (size : ℕ) (short : Bool) : Type 0 where

@@ -5,10 +5,11 @@ ghost use Rattle.disk_io.specs.Runs.{ChangesNothing, HasCause};
 ghost use Rattle.echo_filed.specs.Filed.{Filed};
 ghost use Rattle.base_store.specs.Keys.{StandWhereTold};
 ghost use Rattle.base_folder_store.specs.Answers.{Answers, HasReadCause, IsStoredOf};
-ghost use Rattle.station_bases.specs.Entries.{IsWithinFile, message_bytes};
+ghost use Rattle.base_folder_store.specs.Ahead.{IsPartOf};
+ghost use Rattle.station_bases.specs.Entries.{CanLookUp, IsWithinFile, message_bytes};
 
-use base_folder_store::read_alone;
-use base_store::{Index, SipDigest, StoreError, end_of, place_of};
+use base_folder_store::{ReadAhead, bounds_of, read_alone};
+use base_store::{Index, SipDigest, StoreError};
 use disk_io::{Disk, DiskError, read_part};
 use echo_filed::Filed;
 use std::alloc::Global;
@@ -33,6 +34,8 @@ pub struct Entries {
     pub(crate) index: Index,
     // The current message.
     pub(crate) message: Option<Filed>,
+    // The part of the file that was read ahead.
+    pub(crate) ahead: ReadAhead,
 }
 
 // The bytes between two places behind the head of a file. The last ones wait to be written.
@@ -107,33 +110,48 @@ impl Entries {
         let Some(all) = (self.end - HEAD).checked_add(self.waiting.len()) else {
             return Err(StoreError::Memory);
         };
-        let begins = place_of(&self.keys, place) as usize;
-        let ends = end_of(&self.keys, place, all as u64) as usize;
-        if begins > ends || ends > all {
+        let Some(at) = bounds_of(&self.keys, place, all) else {
             return Err(StoreError::Damaged);
-        }
-        let part = read_between(alloc, disk, path, self.end, &self.waiting, begins, ends)?;
+        };
+        let waiting = &self.waiting;
+        let part = read_between(alloc, disk, path, self.end, waiting, at.begins, at.ends)?;
         Ok(part)
     }
 
-    /// The message of this number, counted from 0.
+    /// The message of this number, counted from 0. It is read ahead unless it waits to be written.
     pub(crate) fn read<D: Disk>(
-        &self,
+        &mut self,
         alloc: Global,
         disk: &mut D,
         path: &[u8],
         place: usize,
     ) -> Result<Filed, StoreError>
-        requires legible { Honestly (D.state disk.old) (IsWithinFile (D.state disk.old) path.now self.now) }
-        requires head { 16 ≤ self.now.end }
-        requires within { place < length self.now.keys.items / 16 }
-        ensures read { Honestly (D.state disk.new) ((base : List Filed) → StandWhereTold base (message_bytes (bytes_in ((D.state disk.old).seen path.now)) self.now) self.now.keys.items
+        requires can { CanLookUp (D.state disk.old) path.now self.old }
+        requires within { place < length self.old.keys.items / 16 }
+        ensures read { Honestly (D.state disk.new) ((base : List Filed) → StandWhereTold base (message_bytes (bytes_in ((D.state disk.old).seen path.now)) self.old) self.old.keys.items
             → place < length base → Answers (λ message. slice_get base place ≡ Some message) result) }
+        ensures ahead { Honestly (D.state disk.new) (IsPartOf (bytes_in ((D.state disk.old).seen path.now)) self.new.ahead) }
+        ensures same { self.new ≡ record self.old { ahead = self.new.ahead } }
         ensures quiet { ChangesNothing (D.state disk.old) (D.state disk.new) }
         ensures cause { HasReadCause (D.failures disk.old) (D.failures disk.new) result }
         ensures few { IsErrOf result StoreError.TooMany → ⊥ }
     {
-        let bytes = self.stored(alloc, disk, path, place)?;
-        read_alone(alloc, &bytes)
+        let written = self.end - HEAD;
+        let Some(all) = written.checked_add(self.waiting.len()) else {
+            return Err(StoreError::Memory);
+        };
+        let Some(at) = bounds_of(&self.keys, place, all) else {
+            return Err(StoreError::Damaged);
+        };
+        if at.ends > written {
+            let bytes = self.stored(alloc, disk, path, place)?;
+            return read_alone(alloc, &bytes);
+        }
+        let (begins, ends) = (HEAD + at.begins, HEAD + at.ends);
+        self.ahead.read(alloc, disk, path, self.end, begins, ends)?;
+        match self.ahead.part(begins, ends) {
+            Some(bytes) => read_alone(alloc, bytes),
+            None => Err(StoreError::Damaged),
+        }
     }
 }

@@ -6,6 +6,7 @@ ghost use Rattle.disk_io.specs.Runs.{ChangesNothing};
 ghost use Rattle.echo_filed.specs.Filed.{has_id, key_of};
 ghost use Rattle.base_file.specs.Base.{Base, is_known};
 ghost use Rattle.base_store.specs.Store.{all_scanned, with_message};
+ghost use Rattle.base_folder_store.specs.Ahead.{IsPartOf};
 ghost use Rattle.base_folder_store.specs.Answers.{Answers, HasReadCause};
 ghost use Rattle.station_bases.specs.Entries.{AreIndexed, CanLookUp, HasRoomFor, HoldEntries, SameButAdded};
 
@@ -71,7 +72,8 @@ impl Entries {
         requires can { CanLookUp (D.state disk.old) path.now self.old }
         ensures fetched { Honestly (D.state disk.new) ((base : Base) → HoldEntries (bytes_in ((D.state disk.old).seen path.now)) self.old base
             → place < length base.messages → Answers (λ done. self.new.message ≡ slice_get base.messages place) result) }
-        ensures same { self.new ≡ record self.old { message = self.new.message } }
+        ensures same { self.new ≡ record self.old { message = self.new.message; ahead = self.new.ahead } }
+        ensures ahead { Honestly (D.state disk.new) (IsPartOf (bytes_in ((D.state disk.old).seen path.now)) self.new.ahead) }
         ensures quiet { ChangesNothing (D.state disk.old) (D.state disk.new) }
         ensures cause { HasReadCause (D.failures disk.old) (D.failures disk.new) result }
         ensures few { IsErrOf result StoreError.TooMany → ⊥ }

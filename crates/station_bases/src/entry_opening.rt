@@ -7,12 +7,14 @@ ghost use Rattle.echo_filed.specs.declared.stored.Version.TheVariants.{Second};
 ghost use Rattle.base_file.specs.Base.{Base, is_known};
 ghost use Rattle.base_file.specs.BaseFile.{LoadOf};
 ghost use Rattle.base_file.specs.Pieces.{BeginsWith};
+ghost use Rattle.base_folder_store.specs.Ahead.{IsPartOf as IsReadPart};
 ghost use Rattle.base_store.specs.Keys.{digested_key, entry};
 ghost use Rattle.station_bases.specs.Entries.{AreEntriesOf, AreIndexed, CanLookUp, HoldEntries, entry_digest};
 ghost use Rattle.station_bases.specs.EntryOpening.{AreJudged, HasJudged, IsPartOf, IsSoundIn, StaysIndexed};
 
 use crate::entries::{Entries, HEAD};
 use base_file::{Head, Next, head_of, judge_next};
+use base_folder_store::ReadAhead;
 use base_store::{Digest, Index, SipDigest, StoreError, bytes_of_key, entry};
 use cmd_status::MessageProgress;
 use disk_io::{Disk, DiskError, read_part};
@@ -150,6 +152,7 @@ impl Entries {
         ensures keys { result.keys.items ≡ [] }
         ensures waiting { result.waiting.items ≡ [] }
         ensures indexed { AreIndexed result }
+        ensures ahead { (file : List ℕ) → IsReadPart file result.ahead }
     {
         Entries {
             digest,
@@ -160,6 +163,7 @@ impl Entries {
             keys: Vec::new(alloc),
             index: Index::new(alloc),
             message: None,
+            ahead: ReadAhead::new(alloc),
         }
     }
 

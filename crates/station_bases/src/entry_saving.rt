@@ -15,6 +15,7 @@ ghost use Rattle.station_bases.specs.InFile.{IsOfFile};
 
 use crate::entries::{Entries, HEAD};
 use base_file::{Base, BaseFault};
+use base_folder_store::ReadAhead;
 use base_store::StoreError;
 use disk_atomic::{Kept, replace_around, staging_path};
 use disk_io::{Disk, DiskError, are_bytes, folder_of, read_part};
@@ -166,6 +167,8 @@ impl Entries {
         put_around(alloc, disk, path, own, kept)?;
         self.end = end;
         self.waiting.clear();
+        let ahead = ReadAhead::new(alloc);
+        self.ahead = ahead;
         Ok(())
     }
 }

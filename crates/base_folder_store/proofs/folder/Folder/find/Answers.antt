@@ -5,7 +5,7 @@ use Rattle.base_log.specs.Standing.{BaseBytes}
 use Rattle.base_folder_store.specs.Answers.{HaveDigest}
 use Rattle.base_folder_store.proofs.Bases.{told_quiet}
 use Rattle.base_folder_store.proofs.Causes.{answers_whole}
-use Rattle.base_folder_store.proofs.Indexed.{indexed_held}
+use Rattle.base_folder_store.proofs.Cached.{indexed_held}
 use Rattle.base_folder_store.proofs.Legible.{held_quiet, legible_quiet}
 use Rattle.base_folder_store.proofs.folder.Folder.find.Goals as goal
 

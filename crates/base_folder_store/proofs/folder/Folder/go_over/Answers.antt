@@ -2,7 +2,7 @@ use Rattle.std.proofs.Common.{sym, arith}
 use Rattle.disk_io.proofs.Moments.{nothing_twice}
 use Rattle.base_store.proofs.Runs.{quiet_disk}
 use Rattle.base_folder_store.specs.Opened.{held_by}
-use Rattle.base_folder_store.proofs.Indexed.{indexed_held}
+use Rattle.base_folder_store.proofs.Cached.{indexed_held}
 use Rattle.base_folder_store.proofs.Legible.{held_quiet, legible_quiet}
 use Rattle.base_folder_store.proofs.folder.Folder.go_over.Goals as goal
 

@@ -1,22 +1,54 @@
-use Rattle.std.proofs.Common.{◌≡◌, Some, refl, sym, ◌∙◌}
+use Rattle.std.proofs.Common.{◌≡◌, ◌-◌, ◌/◌, ◌∙◌, Some, length, min, refl, subst, sym, arith}
 use Rattle.std.specs.Prelude.{slice_get}
+use Rattle.base_log.specs.Names.{keys_of}
+use Rattle.base_log.specs.Standing.{BaseBytes}
+use Rattle.base_store.specs.Keys.{HasBytesOf, IsPieceOf}
 use Rattle.echo_filed.specs.Filed.{Filed}
 use Rattle.echo_filed.specs.Stored.{message_in}
 use Rattle.echo_filed.specs.declared.stored.Version.TheVariants.{Second}
-use Rattle.base_folder_store.specs.Answers.{IsStoredOf}
-use Rattle.base_folder_store.specs.declared.reading.StoredMessage.{StoredMessage}
-use Rattle.base_folder_store.proofs.Causes.{answers_error, answers_give}
+use Rattle.base_folder_store.specs.Ahead.{IsPartOf}
+use Rattle.base_folder_store.specs.Opened.{held_by, path_of}
+use Rattle.base_folder_store.proofs.Ahead.{part_kept}
+use Rattle.base_folder_store.proofs.Causes.{answers_give}
+use Rattle.base_folder_store.proofs.Legible.{held_quiet, keys_all}
+use Rattle.base_folder_store.proofs.Numbered.{piece_has, piece_of}
 use Rattle.base_folder_store.proofs.Seen.{message_at}
 use Rattle.base_folder_store.proofs.folder.Folder.read.Goals as goal
 
-pub returns-in_err-stored-clause-read : goal.returns-in_err-stored-clause-read
-returns-in_err-stored-clause-read g c honest = λ base told inside.
-    answers_error {T = StoredMessage} (λ (stored : StoredMessage). IsStoredOf base c.args.place stored.bytes.items) (λ (m : Filed). slice_get base c.args.place ≡ Some m) _ c.from_residual.result c.from_residual.ensures.1
-    (c.in_err-stored.ensures.stored honest base told inside)
-
-pub returns-clause-read : goal.returns-clause-read
-returns-clause-read g c honest = λ base told inside.
+pub returns-then-ends-written-clause-read : goal.returns-then-ends-written-clause-read
+returns-then-ends-written-clause-read g c honest = λ base told inside.
     let of = c.in_ok-stored.ensures.stored honest base told inside in
     let m = message_in Second of.s in
     answers_give (λ (x : Filed). x ≡ m) (λ (x : Filed). slice_get base c.args.place ≡ Some x) (λ x is. message_at base c.args.place x inside (λ d. of.is d ∙ sym is)) c.read_alone.result
     (c.read_alone.ensures.read m (record { s = of.s; size = of.size; alone = of.alone; is = refl; same = c.deref.ensures.value ∙ of.same }))
+
+pub read_by-requires-clause-within : goal.read_by-requires-clause-within
+read_by-requires-clause-within g c =
+    let within = c.requires.within in
+    omega (arith, c.in-Some.ensures.long, c.behind_two-next.ensures, within)
+
+pub returns-in-Some-clause-read : goal.returns-in-Some-clause-read
+returns-in-Some-clause-read g c honest = λ base told inside.
+    let d = g.D.Disk.state c.args.disk.now in
+    let e = g.D.Disk.state c.read.new.disk in
+    let f = c.args.self.now in
+    let place = c.args.place in
+    let next = c.behind_two-next.result in
+    let entry = c.in-Some.entry.now in
+    let h1 = c.read_by.ensures.quiet.honest honest in
+    let h0 = c.read.ensures.quiet.honest h1 in
+    let legible = c.requires.legible h0 in
+    let keys = (held_by d f).keys in
+    let part : IsPartOf keys c.read.new.self = part_kept d c.deref-2.result.now (keys_of (path_of f) f.told.number) f.told.keys f.waiting.keys.items c.args.buffers.now.keys c.read.new.self
+    (c.deref-2.ensures.value ∙ legible.names.keys) (c.read.ensures.part h1) (c.requires.parts h0).keys in
+    let within = c.requires.within in
+    let two = c.behind_two-next.ensures in
+    let all = keys_all d f legible in
+    let piece : IsPieceOf keys place entry = piece_of keys entry place next (omega (arith, two)) (omega (arith, within, two, all)) (c.in-Some.ensures.part keys part) in
+    let count : length entry / 16 ≡ min 2 (length keys / 16 - place) = omega (arith, c.in-Some.ensures.long, within, two, all) in
+    let stands = told.each place inside in
+    let has = piece_has (held_by d f).messages keys entry place piece (omega (arith, within, all)) count stands.s stands.bytes in
+    let m = message_in Second stands.s in
+    answers_give (λ (x : Filed). x ≡ m) (λ (x : Filed). slice_get base place ≡ Some x) (λ x is. message_at base place x inside (λ d. stands.is d ∙ sym is)) c.read_by.result
+    (c.read_by.ensures.read honest stands.s stands.size stands.alone
+    (subst (λ (b : BaseBytes). HasBytesOf b.messages entry 0 stands.s) (sym (held_quiet d e f c.read.ensures.quiet)) has))

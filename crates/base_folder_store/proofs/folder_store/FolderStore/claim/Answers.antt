@@ -1,5 +1,5 @@
-use Rattle.base_folder_store.specs.State.{IsIndexed, state_of}
-use Rattle.base_folder_store.proofs.Claimed.{IsClaim, claim_commits, claim_goes_on, claim_indexed, claim_keeps}
+use Rattle.base_folder_store.specs.State.{IsCached, state_of}
+use Rattle.base_folder_store.proofs.Claimed.{IsClaim, claim_commits, claim_goes_on, claim_cached, claim_keeps}
 use Rattle.base_folder_store.proofs.WhereSo.{goes_where, nothing_where}
 use Rattle.base_folder_store.proofs.folder_store.FolderStore.claim.Goals as goal
 
@@ -15,8 +15,8 @@ returns-clause-goes_on g c =
     let d = g.D.Disk.state s.disk in
     let keyed = g.H.Digest.keyed in
     let claim : IsClaim s.folder c.claim.new.self c.args.mark c.claim.result = record { claimed = c.claim.ensures.claimed; refused = c.claim.ensures.refused } in
-    goes_where (state_of d keyed s.folder s.message) (state_of d keyed c.claim.new.self s.message) (IsIndexed d s.folder s.index) (IsIndexed d c.claim.new.self s.index)
-    (claim_goes_on keyed d s.folder c.claim.new.self c.args.mark c.claim.result s.message claim c.requires.0) (claim_indexed d s.folder c.claim.new.self c.args.mark c.claim.result s.index claim c.requires.1)
+    goes_where (state_of d keyed s.folder s.message) (state_of d keyed c.claim.new.self s.message) (IsCached d s.folder s.index s.buffers) (IsCached d c.claim.new.self s.index s.buffers)
+    (claim_goes_on keyed d s.folder c.claim.new.self c.args.mark c.claim.result s.message claim c.requires.0) (claim_cached d s.folder c.claim.new.self c.args.mark c.claim.result s.index s.buffers claim c.requires.1)
 
 pub returns-clause-commits : goal.returns-clause-commits
 returns-clause-commits g c =
@@ -24,5 +24,5 @@ returns-clause-commits g c =
     let d = g.D.Disk.state s.disk in
     let keyed = g.H.Digest.keyed in
     let claim : IsClaim s.folder c.claim.new.self c.args.mark c.claim.result = record { claimed = c.claim.ensures.claimed; refused = c.claim.ensures.refused } in
-    nothing_where (state_of d keyed s.folder s.message) (state_of d keyed c.claim.new.self s.message) (IsIndexed d s.folder s.index) (IsIndexed d c.claim.new.self s.index)
+    nothing_where (state_of d keyed s.folder s.message) (state_of d keyed c.claim.new.self s.message) (IsCached d s.folder s.index s.buffers) (IsCached d c.claim.new.self s.index s.buffers)
     (claim_commits keyed d s.folder c.claim.new.self c.args.mark c.claim.result s.message claim c.requires.0)

@@ -3,7 +3,7 @@ use Rattle.std.proofs.lemmas.Result.{on_ok_weaker}
 use Rattle.base_log.specs.Standing.{BaseBytes}
 use Rattle.base_folder_store.specs.Held.{HoldsBase}
 use Rattle.base_folder_store.specs.Opened.{committed_by, held_by}
-use Rattle.base_folder_store.specs.State.{IsIndexed, IsUsable, state_of}
+use Rattle.base_folder_store.specs.State.{IsCached, IsUsable, state_of}
 use Rattle.base_folder_store.proofs.Causes.{at_error}
 use Rattle.base_folder_store.proofs.Stated.{may_commit, usable_after}
 use Rattle.base_folder_store.proofs.WhereSo.{may_commit_where}
@@ -26,7 +26,7 @@ pub returns-clause-ready : goal.returns-clause-ready
 returns-clause-ready g c =
     let e = g.D.Disk.state c.purge.new.disk in
     let now = c.purge.new.self in
-    on_ok_weaker {P = IsUsable e now} c.purge.result (λ usable. (usable, λ honest. c.new-index.ensures.index (held_by e now).keys))
+    on_ok_weaker {P = IsUsable e now} c.purge.result (λ usable. (usable, λ honest. (c.new-index.ensures.index (held_by e now).keys, c.new-buffers.ensures (held_by e now).messages (held_by e now).keys)))
     (usable_after e now c.purge.result c.purge.ensures.stays.named c.purge.ensures.stays.opened)
 
 pub returns-clause-undone : goal.returns-clause-undone
@@ -39,7 +39,7 @@ returns-clause-either g c =
     let e = g.D.Disk.state c.purge.new.disk in
     let keyed = g.H.Digest.keyed in
     let now = c.purge.new.self in
-    may_commit_where (state_of d keyed s.folder s.message) (state_of e keyed now s.message) (IsIndexed d s.folder s.index) (IsIndexed e now c.new-index.result)
+    may_commit_where (state_of d keyed s.folder s.message) (state_of e keyed now s.message) (IsCached d s.folder s.index s.buffers) (IsCached e now c.new-index.result c.new-buffers.result)
     (may_commit d e keyed s.folder now s.message s.message c.purge.ensures.stays.path c.purge.ensures.run)
 
 pub returns-clause-cause : goal.returns-clause-cause

@@ -1,5 +1,5 @@
-use Rattle.base_folder_store.specs.State.{IsIndexed, state_of}
-use Rattle.base_folder_store.proofs.Indexed.{indexed_same}
+use Rattle.base_folder_store.specs.State.{IsCached, state_of}
+use Rattle.base_folder_store.proofs.Cached.{cached_same}
 use Rattle.base_folder_store.proofs.Stated.{committed, may_commit, stages}
 use Rattle.base_folder_store.proofs.WhereSo.{commits_where, may_commit_where, nothing_where}
 use Rattle.base_folder_store.proofs.folder_store.FolderStoreStore.commit.Goals as goal
@@ -12,9 +12,9 @@ returns-clause-committed g c =
     let keyed = g.H.Digest.keyed in
     let now = c.commit.new.self in
     let says = c.commit.ensures in
-    commits_where (state_of d keyed s.folder s.message) (state_of e keyed now s.message) (IsIndexed d s.folder s.index) (IsIndexed e now s.index) c.commit.result
+    commits_where (state_of d keyed s.folder s.message) (state_of e keyed now s.message) (IsCached d s.folder s.index s.buffers) (IsCached e now s.index s.buffers) c.commit.result
     (committed d e keyed s.folder now s.message s.message c.commit.result says.stays says.done says.run.outside)
-    (indexed_same d e s.folder now s.index c.commit.result says.done.same says.run.outside.honest c.requires.1)
+    (cached_same d e s.folder now s.index s.buffers c.commit.result says.done.same says.run.outside.honest c.requires.1)
 
 pub returns-clause-either : goal.returns-clause-either
 returns-clause-either g c =
@@ -23,7 +23,7 @@ returns-clause-either g c =
     let e = g.D.Disk.state c.commit.new.disk in
     let keyed = g.H.Digest.keyed in
     let now = c.commit.new.self in
-    may_commit_where (state_of d keyed s.folder s.message) (state_of e keyed now s.message) (IsIndexed d s.folder s.index) (IsIndexed e now s.index)
+    may_commit_where (state_of d keyed s.folder s.message) (state_of e keyed now s.message) (IsCached d s.folder s.index s.buffers) (IsCached e now s.index s.buffers)
     (may_commit d e keyed s.folder now s.message s.message c.commit.ensures.stays.path c.commit.ensures.run)
 
 pub returns-clause-refused : goal.returns-clause-refused
@@ -33,5 +33,5 @@ returns-clause-refused g c is =
     let e = g.D.Disk.state c.commit.new.disk in
     let keyed = g.H.Digest.keyed in
     let now = c.commit.new.self in
-    nothing_where (state_of d keyed s.folder s.message) (state_of e keyed now s.message) (IsIndexed d s.folder s.index) (IsIndexed e now s.index)
+    nothing_where (state_of d keyed s.folder s.message) (state_of e keyed now s.message) (IsCached d s.folder s.index s.buffers) (IsCached e now s.index s.buffers)
     (stages d e keyed s.folder now s.message s.message c.commit.ensures.stays.path (record { any_moment = λ honest. c.commit.ensures.refused honest is; outside = c.commit.ensures.run.outside }))

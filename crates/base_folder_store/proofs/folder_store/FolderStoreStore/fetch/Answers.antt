@@ -3,12 +3,12 @@ use Rattle.std.specs.Prelude.{slice_get}
 use Rattle.std.proofs.lemmas.Result.{err_from_is_err_and}
 use Rattle.base_file.specs.Base.{Base}
 use Rattle.echo_filed.specs.Filed.{Filed}
-use Rattle.base_folder_store.specs.State.{IsIndexed, state_of, where_so}
+use Rattle.base_folder_store.specs.State.{IsCached, state_of, where_so}
 use Rattle.base_folder_store.specs.Opened.{held_by}
 use Rattle.base_folder_store.proofs.Bases.{told_where}
 use Rattle.base_folder_store.proofs.Causes.{handed_on}
 use Rattle.base_folder_store.proofs.Legible.{held_quiet, legible_open}
-use Rattle.base_folder_store.proofs.Indexed.{indexed_held}
+use Rattle.base_folder_store.proofs.Cached.{indexed_held, parts_held}
 use Rattle.base_folder_store.proofs.Seen.{many_messages}
 use Rattle.base_folder_store.proofs.Stated.{handed_cause, looks, none_there}
 use Rattle.base_folder_store.proofs.WhereSo.{looks_where}
@@ -20,7 +20,7 @@ returns-then-place-count-clause-cause g c =
     let d = g.D.Disk.state s.disk in
     let keyed = g.H.Digest.keyed in
     let past = c.if-place-count.true in
-    let store = where_so (state_of d keyed s.folder s.message) (IsIndexed d s.folder s.index) in
+    let store = where_so (state_of d keyed s.folder s.message) (IsCached d s.folder s.index s.buffers) in
     none_there store (g.D.Disk.failures s.disk) c.args.place c.count.result c.requires.within
     (λ honest base holds. c.count.ensures ∙ many_messages keyed d s.folder base (c.requires.ready.0.opened honest) holds) (omega (arith, past))
 
@@ -31,8 +31,8 @@ returns-in_err-message-clause-cause g c =
     let keyed = g.H.Digest.keyed in
     let p = err_from_is_err_and c.from_residual.result c.from_residual.ensures.1 in
     rw (p.1, p.2)
-    (handed_cause (where_so (state_of d keyed s.folder s.message) (IsIndexed d s.folder s.index))
-    (where_so (state_of (g.D.Disk.state c.read.new.disk) keyed s.folder s.message) (IsIndexed (g.D.Disk.state c.read.new.disk) s.folder s.index)) (λ (base : Base) (m : Filed). slice_get base.messages c.args.place ≡ Some m) (g.D.Disk.failures s.disk) (g.D.Disk.failures c.read.new.disk) c.in_err-message.field-0.0
+    (handed_cause (where_so (state_of d keyed s.folder s.message) (IsCached d s.folder s.index s.buffers))
+    (where_so (state_of (g.D.Disk.state c.read.new.disk) keyed s.folder s.message) (IsCached (g.D.Disk.state c.read.new.disk) s.folder s.index c.read.new.buffers)) (λ (base : Base) (m : Filed). slice_get base.messages c.args.place ≡ Some m) (g.D.Disk.failures s.disk) (g.D.Disk.failures c.read.new.disk) c.in_err-message.field-0.0
     c.in_err-message.ensures.cause (λ honest base holds.
     let was = c.in_err-message.ensures.quiet.honest honest in
     c.in_err-message.ensures.read honest base.messages (told_where keyed (held_by d s.folder) base holds) (c.requires.within was base holds)))
@@ -51,8 +51,12 @@ returns-in_err-message-clause-looks g c =
     let d = g.D.Disk.state s.disk in
     let e = g.D.Disk.state c.read.new.disk in
     let keyed = g.H.Digest.keyed in
-    looks_where (state_of d keyed s.folder s.message) (state_of e keyed s.folder s.message) (IsIndexed d s.folder s.index) (IsIndexed e s.folder s.index)
-    (looks d e keyed s.folder s.message s.message c.requires.ready.0 c.read.ensures.quiet) (λ honest. indexed_held d e s.folder s.folder s.index (held_quiet d e s.folder c.read.ensures.quiet) (c.requires.ready.1 (c.read.ensures.quiet.honest honest)))
+    looks_where (state_of d keyed s.folder s.message) (state_of e keyed s.folder s.message) (IsCached d s.folder s.index s.buffers) (IsCached e s.folder s.index c.read.new.buffers)
+    (looks d e keyed s.folder s.message s.message c.requires.ready.0 c.read.ensures.quiet) (λ honest.
+    let same = held_quiet d e s.folder c.read.ensures.quiet in (
+      indexed_held d e s.folder s.folder s.index same (c.requires.ready.1 (c.read.ensures.quiet.honest honest)).0,
+      parts_held d e s.folder s.folder c.read.new.buffers same (c.read.ensures.parts honest),
+    ))
 
 pub returns-clause-looks : goal.returns-clause-looks
 returns-clause-looks g c =
@@ -60,8 +64,12 @@ returns-clause-looks g c =
     let d = g.D.Disk.state s.disk in
     let e = g.D.Disk.state c.read.new.disk in
     let keyed = g.H.Digest.keyed in
-    looks_where (state_of d keyed s.folder s.message) (state_of e keyed s.folder (Some c.in_ok-message.message)) (IsIndexed d s.folder s.index) (IsIndexed e s.folder s.index)
-    (looks d e keyed s.folder s.message (Some c.in_ok-message.message) c.requires.ready.0 c.read.ensures.quiet) (λ honest. indexed_held d e s.folder s.folder s.index (held_quiet d e s.folder c.read.ensures.quiet) (c.requires.ready.1 (c.read.ensures.quiet.honest honest)))
+    looks_where (state_of d keyed s.folder s.message) (state_of e keyed s.folder (Some c.in_ok-message.message)) (IsCached d s.folder s.index s.buffers) (IsCached e s.folder s.index c.read.new.buffers)
+    (looks d e keyed s.folder s.message (Some c.in_ok-message.message) c.requires.ready.0 c.read.ensures.quiet) (λ honest.
+    let same = held_quiet d e s.folder c.read.ensures.quiet in (
+      indexed_held d e s.folder s.folder s.index same (c.requires.ready.1 (c.read.ensures.quiet.honest honest)).0,
+      parts_held d e s.folder s.folder c.read.new.buffers same (c.read.ensures.parts honest),
+    ))
 
 pub read-requires-clause-legible : goal.read-requires-clause-legible
 read-requires-clause-legible g c honest = legible_open (g.D.Disk.state c.args.self.now.disk) c.args.self.now.folder (c.requires.ready.0.opened honest)

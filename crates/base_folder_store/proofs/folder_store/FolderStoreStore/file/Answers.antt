@@ -3,9 +3,9 @@ use Rattle.base_store.proofs.Runs.{looks_commit, no_look}
 use Rattle.base_file.specs.Alone.{IsStoredAlone}
 use Rattle.base_folder_store.specs.Added.{LacksRoom}
 use Rattle.base_folder_store.specs.Opened.{held_by}
-use Rattle.base_folder_store.specs.State.{IsIndexed, state_of, where_so}
+use Rattle.base_folder_store.specs.State.{IsCached, state_of, where_so}
 use Rattle.base_folder_store.proofs.Causes.{at_error, done_both, handed_on}
-use Rattle.base_folder_store.proofs.Indexed.{indexed_more}
+use Rattle.base_folder_store.proofs.Cached.{cached_more}
 use Rattle.base_folder_store.proofs.Seen.{filed_more}
 use Rattle.base_folder_store.proofs.Stated.{stages, went_on}
 use Rattle.base_folder_store.proofs.WhereSo.{goes_on_where, nothing_where}
@@ -14,13 +14,13 @@ use Rattle.base_folder_store.proofs.folder_store.FolderStoreStore.file.Goals as 
 pub returns-in_err-bytes-clause-commits : goal.returns-in_err-bytes-clause-commits
 returns-in_err-bytes-clause-commits g c =
     let s = c.args.self.now in
-    let old = where_so (state_of (g.D.Disk.state s.disk) g.H.Digest.keyed s.folder s.message) (IsIndexed (g.D.Disk.state s.disk) s.folder s.index) in
+    let old = where_so (state_of (g.D.Disk.state s.disk) g.H.Digest.keyed s.folder s.message) (IsCached (g.D.Disk.state s.disk) s.folder s.index s.buffers) in
     looks_commit old old c.requires.ready (no_look old c.requires.ready)
 
 pub returns-in_err-digested-clause-commits : goal.returns-in_err-digested-clause-commits
 returns-in_err-digested-clause-commits g c =
     let s = c.args.self.now in
-    let old = where_so (state_of (g.D.Disk.state s.disk) g.H.Digest.keyed s.folder s.message) (IsIndexed (g.D.Disk.state s.disk) s.folder s.index) in
+    let old = where_so (state_of (g.D.Disk.state s.disk) g.H.Digest.keyed s.folder s.message) (IsCached (g.D.Disk.state s.disk) s.folder s.index s.buffers) in
     looks_commit old old c.requires.ready (no_look old c.requires.ready)
 
 pub returns-clause-filed : goal.returns-clause-filed
@@ -41,9 +41,9 @@ returns-clause-goes_on g c =
     let keyed = g.H.Digest.keyed in
     let now = c.stage.new.self in
     let says = c.stage.ensures in
-    goes_on_where (state_of d keyed s.folder s.message) (state_of e keyed now s.message) (IsIndexed d s.folder s.index) (IsIndexed e now s.index) c.stage.result
+    goes_on_where (state_of d keyed s.folder s.message) (state_of e keyed now s.message) (IsCached d s.folder s.index s.buffers) (IsCached e now s.index s.buffers) c.stage.result
     (went_on d e keyed s.folder now s.message s.message c.stage.result says.stays says.same says.run.outside)
-    (indexed_more d e s.folder now s.index c.stage.result c.deref-2.result.now c.digest-digest.result says.staged says.run.outside.honest c.requires.ready.1)
+    (cached_more d e s.folder now s.index s.buffers c.stage.result c.deref-2.result.now c.digest-digest.result says.staged says.run.outside.honest c.requires.ready.1)
 
 pub returns-clause-undone : goal.returns-clause-undone
 returns-clause-undone g c = at_error c.stage.result (λ honest undoes base holds. absurd undoes)
@@ -55,7 +55,7 @@ returns-clause-commits g c =
     let e = g.D.Disk.state c.stage.new.disk in
     let keyed = g.H.Digest.keyed in
     let now = c.stage.new.self in
-    nothing_where (state_of d keyed s.folder s.message) (state_of e keyed now s.message) (IsIndexed d s.folder s.index) (IsIndexed e now s.index)
+    nothing_where (state_of d keyed s.folder s.message) (state_of e keyed now s.message) (IsCached d s.folder s.index s.buffers) (IsCached e now s.index s.buffers)
     (stages d e keyed s.folder now s.message s.message c.stage.ensures.stays.path c.stage.ensures.run)
 
 pub returns-in_err-bytes-clause-many : goal.returns-in_err-bytes-clause-many

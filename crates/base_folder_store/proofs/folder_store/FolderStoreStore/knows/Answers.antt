@@ -2,9 +2,9 @@ use Rattle.std.proofs.Common.{◌≡◌, inl, Bool, ap, ◌∙◌}
 use Rattle.base_file.specs.Base.{Base, is_known}
 use Rattle.base_folder_store.specs.Held.{digest_by}
 use Rattle.base_folder_store.specs.Opened.{held_by}
-use Rattle.base_folder_store.specs.State.{IsIndexed, state_of, where_so}
+use Rattle.base_folder_store.specs.State.{IsCached, state_of, where_so}
 use Rattle.base_folder_store.proofs.Bases.{told_where}
-use Rattle.base_folder_store.proofs.Indexed.{indexed_held}
+use Rattle.base_folder_store.proofs.Cached.{indexed_held, parts_held}
 use Rattle.base_folder_store.proofs.Legible.{held_quiet, legible_open}
 use Rattle.base_folder_store.proofs.Seen.{key_digest}
 use Rattle.base_folder_store.proofs.Stated.{answered, looks, read_cause}
@@ -26,7 +26,7 @@ returns-clause-cause g c =
     let d = g.D.Disk.state s.disk in
     let keyed = g.H.Digest.keyed in
     let e = g.D.Disk.state c.find.new.disk in
-    read_cause (where_so (state_of d keyed s.folder s.message) (IsIndexed d s.folder s.index)) (where_so (state_of e keyed s.folder s.message) (IsIndexed e s.folder c.find.new.index)) (λ (base : Base) (found : Bool). found ≡ is_known base.messages c.args.key.now) (g.D.Disk.failures s.disk) (g.D.Disk.failures c.find.new.disk) c.find.result c.find.ensures.cause
+    read_cause (where_so (state_of d keyed s.folder s.message) (IsCached d s.folder s.index s.buffers)) (where_so (state_of e keyed s.folder s.message) (IsCached e s.folder c.find.new.index s.buffers)) (λ (base : Base) (found : Bool). found ≡ is_known base.messages c.args.key.now) (g.D.Disk.failures s.disk) (g.D.Disk.failures c.find.new.disk) c.find.result c.find.ensures.cause
     (λ honest base holds. c.find.ensures.found honest base.messages (told_where keyed (held_by d s.folder) base holds)
     (key_digest keyed (held_by d s.folder) base c.args.key.now c.digest-digest.result holds (c.digest-digest.ensures ∙ ap (digest_by keyed s.folder.told.mark) (c.deref.ensures.value ∙ c.in_ok-bytes.ensures))))
 
@@ -39,9 +39,13 @@ returns-clause-looks g c =
     let d = g.D.Disk.state s.disk in
     let e = g.D.Disk.state c.find.new.disk in
     let keyed = g.H.Digest.keyed in
-    looks_where (state_of d keyed s.folder s.message) (state_of e keyed s.folder s.message) (IsIndexed d s.folder s.index) (IsIndexed e s.folder c.find.new.index)
+    looks_where (state_of d keyed s.folder s.message) (state_of e keyed s.folder s.message) (IsCached d s.folder s.index s.buffers) (IsCached e s.folder c.find.new.index s.buffers)
     (looks d e keyed s.folder s.message s.message c.requires.0 c.find.ensures.quiet)
-    (λ honest. indexed_held d e s.folder s.folder c.find.new.index (held_quiet d e s.folder c.find.ensures.quiet) (c.find.ensures.indexed honest))
+    (λ honest.
+    let same = held_quiet d e s.folder c.find.ensures.quiet in (
+      indexed_held d e s.folder s.folder c.find.new.index same (c.find.ensures.indexed honest),
+      parts_held d e s.folder s.folder s.buffers same (c.requires.1 (c.find.ensures.quiet.honest honest)).1,
+    ))
 
 pub returns-clause-many : goal.returns-clause-many
 returns-clause-many g c is = inl (inl (c.find.ensures.many is))

@@ -11,7 +11,7 @@ returns-clause-held g c honest = λ base held.
     let d1 = g.D.Disk.state c.put_around.new.disk in
     let path = c.args.path.now in
     let e = c.args.self.now in
-    let f = record e { end = c.in-Some.end; waiting = c.clear.new.self } in
+    let f = record e { end = c.in-Some.end; waiting = c.clear.new.self; ahead = c.new-ahead.result } in
     let file = bytes_in (d0.seen path) in
     let on = c.in_ok-put_around.ensures.replaced honest in
     let reach = c.requires.can.legible (c.put_around.ensures.changes.honest honest) in
@@ -27,7 +27,7 @@ returns-clause-can g c =
     let d1 = g.D.Disk.state c.put_around.new.disk in
     let path = c.args.path.now in
     let e = c.args.self.now in
-    let f = record e { end = c.in-Some.end; waiting = c.clear.new.self } in
+    let f = record e { end = c.in-Some.end; waiting = c.clear.new.self; ahead = c.new-ahead.result } in
     let was = c.requires.can.indexed in
     let head = was.head in
     let end : c.in-Some.end ≡ e.end + length e.waiting.items = omega (arith, c.in-Some.ensures, c.len.ensures) in
@@ -42,5 +42,6 @@ returns-clause-can g c =
           record {
             there = subst (λ (s : Option (List ℕ)). IsSome s) (sym on.seen) refl;
             long = put_within file (bytes_in (d1.seen path)) e f reach.long head is end;
+            ahead = c.new-ahead.ensures (bytes_in (d1.seen path));
           };
     }

@@ -9,4 +9,4 @@ find_covered-requires-clause-can g c =
     let d = g.D.Disk.state c.args.disk.now in
     let e = c.args.self.now in
     let was = c.requires.can.indexed in
-    look_still d d c.args.path.now (quiet_disk d) e (record e { index = c.cover.new.index }) (record { even = was.even; index = subst (λ (l : List ℕ). IsIndexOf l c.cover.new.index) c.deref.ensures.value c.cover.ensures.indexed; head = was.head; fits = was.fits }) refl c.requires.can
+    look_still d d c.args.path.now (quiet_disk d) e (record e { index = c.cover.new.index }) (record { even = was.even; index = subst (λ (l : List ℕ). IsIndexOf l c.cover.new.index) c.deref.ensures.value c.cover.ensures.indexed; head = was.head; fits = was.fits }) refl refl c.requires.can

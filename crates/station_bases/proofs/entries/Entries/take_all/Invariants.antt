@@ -11,6 +11,7 @@ invariant-messages g l = record {
   cause : g.D.Disk.failures l.fn.disk ≤ g.D.Disk.failures l.disk;
   indexed : AreIndexed l.self;
   cursor : l.self.cursor ≡ l.fn.self.cursor;
+  ahead : l.self.ahead ≡ l.fn.self.ahead;
   part : Honestly (g.D.Disk.state l.disk) (IsPartOf (bytes_in ((g.D.Disk.state l.fn.disk).seen l.path)) l.piece);
   judged : Honestly (g.D.Disk.state l.disk) (AreJudged (bytes_in ((g.D.Disk.state l.fn.disk).seen l.path)) l.head l.self);
 }

@@ -1,4 +1,4 @@
-use Rattle.base_folder_store.specs.State.{IsIndexed, state_of, where_so}
+use Rattle.base_folder_store.specs.State.{IsCached, state_of, where_so}
 use Rattle.station_bases.proofs.Begun.{is_not_opened, is_opened}
 use Rattle.station_bases.proofs.folder_station.FolderStationOpenStation.open.Goals as goal
 
@@ -8,7 +8,7 @@ returns-in-Ok-clause-opened g c =
     let begun = c.in-Ok.begun in
     let store = begun.store in
     let disk = g.D.Disk.state store.disk in
-    let s = where_so (state_of disk g.H.Digest.keyed store.folder store.message) (IsIndexed disk store.folder store.index) in
+    let s = where_so (state_of disk g.H.Digest.keyed store.folder store.message) (IsCached disk store.folder store.index store.buffers) in
     is_opened g.H.Digest.keyed at.path.now (g.D.Disk.state c.args.disk) s at.links.now c.args.self.found.strange begun.links _ _
     c.in-Ok.ensures.of_folder.0.ready c.in-Ok.ensures.begun c.in-Ok.ensures.of_folder.0 c.in-Ok.ensures.later
 

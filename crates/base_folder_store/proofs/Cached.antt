@@ -1,0 +1,54 @@
+-- The index of a folder's keys and its buffers, before and after calls.
+use Rattle.std.proofs.Common.{◌≡◌, ℕ, List, length, Result, Ok, Err, sym, subst}
+use Rattle.std.specs.Prelude.{OnOk}
+use Rattle.disk_io.specs.Disk.{DiskState, Honestly}
+use Rattle.base_log.specs.Standing.{BaseBytes}
+use Rattle.base_store.specs.Index.{IsIndexOf}
+use Rattle.base_store.specs.Keys.{entry}
+use Rattle.base_store.specs.declared.index.Index.{Index}
+use Rattle.base_store.proofs.Found.{index_stays}
+use Rattle.base_store.specs.declared.store_error.StoreError.{StoreError}
+use Rattle.base_folder_store.specs.Added.{with_stored}
+use Rattle.base_folder_store.specs.Ahead.{AreParts}
+use Rattle.base_folder_store.specs.Opened.{held_by}
+use Rattle.base_folder_store.specs.State.{IsCached}
+use Rattle.base_folder_store.specs.declared.folder.Folder.{Folder}
+use Rattle.base_folder_store.specs.declared.read_ahead.Buffers.{Buffers}
+use Rattle.base_folder_store.proofs.Ahead.{part_grows}
+
+-- an index of the folder's bytes is one of equal bytes
+pub indexed_held : (d e : DiskState) (f g : Folder) (i : Index) → held_by e g ≡ held_by d f → IsIndexOf (held_by d f).keys i → IsIndexOf (held_by e g).keys i
+indexed_held d e f g i same is = subst (λ (b : BaseBytes). IsIndexOf b.keys i) (sym same) is
+
+-- Parts of the folder's bytes are parts of equal bytes.
+pub parts_held : (d e : DiskState) (f g : Folder) (b : Buffers) → held_by e g ≡ held_by d f → AreParts (held_by d f).messages (held_by d f).keys b
+    → AreParts (held_by e g).messages (held_by e g).keys b
+parts_held d e f g b same are = subst (λ (held : BaseBytes). AreParts held.messages held.keys b) (sym same) are
+
+-- Parts of a folder's bytes are parts of them with one message more.
+parts_more : (held : BaseBytes) (bytes : List ℕ) (digest : ℕ) (b : Buffers) → AreParts held.messages held.keys b
+    → AreParts (with_stored held bytes digest).messages (with_stored held bytes digest).keys b
+parts_more held bytes digest b are = record {
+  messages = part_grows held.messages bytes b.messages are.messages;
+  keys = part_grows held.keys (entry (length held.messages) digest) b.keys are.keys;
+}
+
+-- The index and the buffers still agree with the folder after a message is added.
+pub cached_more : {T : Type 0} (d e : DiskState) (f g : Folder) (i : Index) (b : Buffers) (r : Result T StoreError) (bytes : List ℕ) (digest : ℕ)
+    → Honestly e (OnOk r (held_by e g ≡ with_stored (held_by d f) bytes digest)) → (e.is_honest → d.is_honest) → IsCached d f i b → OnOk r (IsCached e g i b)
+cached_more d e f g i b (Ok done) bytes digest staged back cached =
+    let more : List ℕ = entry (length (held_by d f).messages) digest in
+    λ honest.
+    let was = cached (back honest) in
+    let same = sym (staged honest) in (
+      subst (λ (held : BaseBytes). IsIndexOf held.keys i) same (index_stays (held_by d f).keys more i was.0),
+      subst (λ (held : BaseBytes). AreParts held.messages held.keys b) same (parts_more (held_by d f) bytes digest b was.1),
+    )
+cached_more d e f g i b (Err failed) bytes digest staged back cached = tt
+
+-- They also agree with it if nothing is added.
+pub cached_same : {T : Type 0} (d e : DiskState) (f g : Folder) (i : Index) (b : Buffers) (r : Result T StoreError) → Honestly e (OnOk r (held_by e g ≡ held_by d f))
+    → (e.is_honest → d.is_honest) → IsCached d f i b → OnOk r (IsCached e g i b)
+cached_same d e f g i b (Ok done) same back cached =
+    λ honest. let was = cached (back honest) in (indexed_held d e f g i (same honest) was.0, parts_held d e f g b (same honest) was.1)
+cached_same d e f g i b (Err failed) same back cached = tt
