@@ -1,3 +1,4 @@
 pub mod Readings
 pub mod Gettings
 pub mod Resendings
+pub mod Addings

@@ -1,5 +1,6 @@
 -- Messages of a base that are added to a JAM base: their choice, their numbers, and their bytes in its files.
-use Rattle.std.specs.Prelude.{◌≡◌, ℕ, zero, suc, ◌+◌, ◌&&◌, not, nat_lt, max, Bool, false, is_some, List, [], ◌∷◌, ◌++◌, length, if◌then◌else◌, slice_get, Option, Some, None, Result}
+use Rattle.std.specs.Prelude.{◌≡◌, ℕ, zero, suc, ◌+◌, ◌&&◌, not, nat_lt, max, Bool, false, is_some, List, [], ◌∷◌, ◌++◌, length, if◌then◌else◌, slice_get, Option, Some, None, Result, Ok, Err, ◌⊎◌}
+use Rattle.std.specs.Io.KnownBytes.{Appends}
 use Rattle.echo_filed.specs.Filed.{Filed}
 use Rattle.echo_links.specs.Links.{upper}
 use Rattle.echo_jam.specs.Fields.{body_of, cuts_of}
@@ -7,13 +8,18 @@ use Rattle.echo_jam.specs.JamMessage.{entry_of, header_of}
 use Rattle.echo_jam.specs.Same.{is_same}
 use Rattle.echo_jam.specs.Unsent.{has_id}
 use Rattle.echo_text.specs.Echo.{msgid_of}
-use Rattle.cmd_status.specs.declared.fault.Fault.{Fault}
+use Rattle.cmd_status.specs.Ended.{IsOutOfMemory}
+use Rattle.cmd_status.specs.Inputs.{IsBaseFault}
+use Rattle.disk_io.specs.Device.{Failed}
 use Rattle.base_file.specs.Base.{Base}
+use Rattle.base_folder.specs.Fetching.{IsUnread}
 use Rattle.cmd_numbered.specs.declared.adding.Adding.{Adding}
 use Rattle.cmd_numbered.specs.declared.adding.JamEnd.{JamEnd}
 use Rattle.cmd_numbered.specs.declared.adding.JamExport.{JamExport}
+use Rattle.cmd_numbered.specs.declared.unsent.UnsentTexts.{UnsentTexts}
+use Rattle.cmd_numbered.specs.declared.unsent.UnsentTexts.TheVariants.{Messages, Device}
 use Rattle.cmd_numbered.specs.Numbered.{is_exported}
-use Rattle.cmd_numbered.specs.Reading.{AnswersFile}
+use Rattle.cmd_numbered.specs.Reading.{IsOfFile}
 
 -- The bytes added to headers, texts and index; the numbers of the messages in their base; the number of cut subfields.
 pub record Added : Type 0 where
@@ -23,14 +29,21 @@ pub record Added : Type 0 where
   pub messages : List ℕ
   pub cuts : ℕ
 
-abbrev pub added_in : Adding → Added
-added_in a = record {
+-- The additions, if these texts were sent.
+abbrev pub added_in : Adding → List ℕ → Added
+added_in a texts = record {
   headers = a.jam.headers.items;
-  texts = a.jam.texts.items;
+  texts = texts;
   index = a.jam.index.items;
   messages = a.messages.items;
   cuts = a.jam.cuts;
 }
+
+-- These are the additions: the sink got the texts, and the rest is in memory.
+pub record HasAdded (adding : Adding) (old new : Option (List ℕ)) (added : Added) : Type 0 where
+  pub added_is : added_in adding added.texts ≡ added
+  pub sent_is : adding.sent ≡ length added.texts
+  pub texts_are : Appends old new added.texts
 
 abbrev pub nothing_added : Added
 nothing_added = record { headers = []; texts = []; index = []; messages = []; cuts = 0 }
@@ -84,13 +97,30 @@ resumed_jam area first cursor headers last text base (suc n) =
     else resumed_jam area first cursor headers last text base n
 
 -- The additions for a base: its messages of the area from `first` on, or after the one that is the JAM base's last. Those
--- that the JAM base has from an editor are left out. The requested area may have letters of either case.
-pub record IsJamExport (area : List ℕ) (first : ℕ) (headers index : List ℕ) (last : Option ℕ) (text : List ℕ) (end : JamEnd) (base : Base) (exported : JamExport) : Type 0 where
+-- that the JAM base has from an editor are left out. The requested area may have letters of either case. The texts went
+-- to a sink, which changed from `old` to `new`.
+pub record IsJamExport (area : List ℕ) (first : ℕ) (headers index : List ℕ) (last : Option ℕ) (text : List ℕ) (end : JamEnd) (old new : Option (List ℕ)) (base : Base) (exported : JamExport) : Type 0 where
   pub from : ℕ
   pub from_is : from ≡ resumed_jam (upper area) first base.cursor headers last text base.messages (length base.messages)
-  pub added_is : added_in exported.adding ≡ added_of (upper area) from base.cursor headers index end base.messages (length base.messages)
+  pub added : HasAdded exported.adding old new (added_of (upper area) from base.cursor headers index end base.messages (length base.messages))
   pub end_is : exported.end ≡ max from (length base.messages)
 
+-- Memory ran out, and the sink did not fail, or it failed.
+abbrev pub IsUnadded : ℕ → ℕ → UnsentTexts → Type 0
+IsUnadded old new (Messages fault) = IsOutOfMemory fault × (new ≡ old)
+IsUnadded old new Device = Failed old new
+
+-- Memory ran out or a message of the base with this path was not read, and the sink did not fail. Or it failed.
+abbrev pub IsUnsent : List ℕ → ℕ → ℕ → ℕ → ℕ → UnsentTexts → Type 0
+IsUnsent path before now old new (Messages fault) = IsUnread path before now fault × (new ≡ old)
+IsUnsent path before now old new Device = Failed old new
+
+-- Why the messages of a base file were not added: memory ran out, the file has this fault, or the sink failed.
+abbrev pub IsUnsentFile : List ℕ → ℕ → ℕ → UnsentTexts → Type 0
+IsUnsentFile file old new (Messages fault) = (IsOutOfMemory fault ⊎ IsBaseFault (Some file) fault) × (new ≡ old)
+IsUnsentFile file old new Device = Failed old new
+
 -- The right answer if the messages of a base file are to be added to a JAM base.
-abbrev pub JamAnswers : List ℕ → ℕ → List ℕ → List ℕ → Option ℕ → List ℕ → JamEnd → List ℕ → Result JamExport Fault → Type 0
-JamAnswers area first headers index last text end file answer = AnswersFile (IsJamExport area first headers index last text end) file answer
+abbrev pub JamAnswers : (Base → JamExport → Type 0) → List ℕ → ℕ → ℕ → Result JamExport UnsentTexts → Type 0
+JamAnswers IsRight file old new (Ok exported) = IsOfFile IsRight file exported
+JamAnswers IsRight file old new (Err why) = IsUnsentFile file old new why

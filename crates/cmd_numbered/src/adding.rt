@@ -1,14 +1,16 @@
 //! Which messages are added to a JAM base, and what that adds.
-ghost use Rattle.std.specs.Prelude.{◌≡◌, ◌≤◌, ◌+◌, ◌&&◌, IfErr, IfOk, OnOk, length, option_copied};
+ghost use Rattle.std.specs.Prelude.{◌≡◌, ◌≤◌, ◌+◌, ◌++◌, ◌&&◌, ℕ, List, Option, [], IfErr, IfOk, OnOk, length, option_copied};
 ghost use Rattle.base_file.specs.Base.{Base};
 ghost use Rattle.base_folder.specs.Fetching.{IsUnread};
 ghost use Rattle.base_folder.specs.Source.{LooksAt};
-ghost use Rattle.cmd_numbered.specs.JamAdded.{IsJamExport, JamAnswers, added_at, added_in, added_of, is_added, is_last_jam, is_written_there, nothing_added, resumed_jam, with_message};
-ghost use Rattle.cmd_numbered.specs.Reading.{AnswersReading};
+ghost use Rattle.cmd_numbered.specs.JamAdded.{Added, HasAdded, IsJamExport, IsUnadded, IsUnsent, JamAnswers, added_at, added_in, added_of, is_added, is_last_jam, is_written_there, nothing_added, resumed_jam, with_message};
+ghost use Rattle.echo_jam.specs.Fields.{body_of};
 
 use crate::numbering::is_exported;
+use crate::unsent::UnsentTexts;
 use base_folder::{BaseReader, MessageSource, fetch_message};
 use cmd_status::Fault;
+use disk_io::{Sink, send};
 use echo_filed::Filed;
 use echo_jam::{Jam, has_id, is_same, push_jam};
 use std::alloc::{AllocError, Global};
@@ -33,10 +35,12 @@ pub struct JamBase<'a> {
     pub end: JamEnd,
 }
 
-/// The bytes to add to the files of a JAM base, and the numbers that its messages have in their base.
+/// The bytes to add to the headers and the index of a JAM base, and the numbers that its messages have in their base.
+/// `sent` bytes of texts were sent. The texts of `jam` are those of the last message, which are among them.
 #[derive(Debug, Drop)]
 pub struct Adding {
     pub jam: Jam,
+    pub sent: u64,
     pub messages: Vec<usize>,
 }
 
@@ -49,38 +53,45 @@ pub struct JamExport {
 
 /// `export --jam PATH --area TAG [--from I] BASE`: what the messages of the area add to a JAM base, from the number
 /// `first` on, or from behind the one that is its last: a run that was stopped goes on there. What the JAM base has from an
-/// editor is not added.
-pub fn export_jam<'a, S: BuildHasher + Drop>(
+/// editor is not added. Each text is sent before the next message is read.
+pub fn export_jam<'a, S: BuildHasher + Drop, W: Sink>(
     alloc: Global,
     area: &[u8],
     first: u64,
     jam: JamBase<'_>,
     base: &[u8],
     hasher: S,
-) -> Result<JamExport, Fault<'a>>
-    ensures { JamAnswers area.now first jam.entry.headers.now jam.entry.index.now jam.entry.last jam.entry.text.now jam.entry.end base.now result }
+    texts: &mut W,
+) -> Result<JamExport, UnsentTexts<'a>>
+    ensures { JamAnswers (IsJamExport area.now first jam.entry.headers.now jam.entry.index.now jam.entry.last jam.entry.text.now jam.entry.end (W.contents texts.old) (W.contents texts.new)) base.now (W.failures texts.old) (W.failures texts.new) result }
 {
     let mut messages = BaseReader::read(alloc, base, hasher)?;
-    export_jam_of(alloc, area, first, jam, "", &mut messages)
+    export_jam_of(alloc, area, first, jam, "", &mut messages, texts)
 }
 
 /// The same of messages that are read one by one, of the base with this path.
-pub fn export_jam_of<'a, M: MessageSource>(
+pub fn export_jam_of<'a, M: MessageSource, W: Sink>(
     alloc: Global,
     area: &[u8],
     first: u64,
     jam: JamBase<'_>,
     path: &'a str,
     messages: &mut M,
-) -> Result<JamExport, Fault<'a>>
+    texts: &mut W,
+) -> Result<JamExport, UnsentTexts<'a>>
     requires { (M.state messages.old).is_ready }
-    ensures { (M.state messages.new).is_honest → (base : Base) → (M.state messages.old).holds base
-        → AnswersReading (IsJamExport area.now first jam.entry.headers.now jam.entry.index.now jam.entry.last jam.entry.text.now jam.entry.end base) path.now (M.state messages.old).failures (M.state messages.new).failures result }
+    ensures added { (M.state messages.new).is_honest → (base : Base) → (M.state messages.old).holds base
+        → IfOk result (IsJamExport area.now first jam.entry.headers.now jam.entry.index.now jam.entry.last jam.entry.text.now jam.entry.end (W.contents texts.old) (W.contents texts.new) base) }
+    ensures fault { (M.state messages.new).is_honest → (base : Base) → (M.state messages.old).holds base
+        → IfErr result (IsUnsent path.now (M.state messages.old).failures (M.state messages.new).failures (W.failures texts.old) (W.failures texts.new)) }
+    ensures ok { OnOk result (W.failures texts.new ≡ W.failures texts.old) }
+    ensures looks { LooksAt (M.state messages.old) (M.state messages.new) }
+    ensures later { (M.state messages.old).failures ≤ (M.state messages.new).failures }
 {
     let area = area.to_ascii_uppercase(alloc)?;
     let count = messages.count();
     let from = resumed_jam(alloc, &area, first, jam, path, messages)?;
-    let adding = added_of(alloc, &area, from, jam, path, messages)?;
+    let adding = added_of(alloc, &area, from, jam, path, messages, texts)?;
     let end = from.max(count as u64);
     Ok(JamExport { adding, end })
 }
@@ -148,20 +159,22 @@ struct Selection<'a> {
     jam: JamBase<'a>,
 }
 
-// What the messages add.
-fn added_of<'a, M: MessageSource>(
+// What the messages add. Their texts are sent.
+fn added_of<'a, M: MessageSource, W: Sink>(
     alloc: Global,
     area: &[u8],
     first: u64,
     jam: JamBase<'_>,
     path: &'a str,
     messages: &mut M,
-) -> Result<Adding, Fault<'a>>
+    texts: &mut W,
+) -> Result<Adding, UnsentTexts<'a>>
     requires { (M.state messages.old).is_ready }
     ensures added { (M.state messages.new).is_honest → (base : Base) → (M.state messages.old).holds base
-        → IfOk result (λ adding. added_in adding ≡ added_of area.now first base.cursor jam.entry.headers.now jam.entry.index.now jam.entry.end base.messages (length base.messages)) }
+        → IfOk result (λ adding. HasAdded adding (W.contents texts.old) (W.contents texts.new) (added_of area.now first base.cursor jam.entry.headers.now jam.entry.index.now jam.entry.end base.messages (length base.messages))) }
     ensures fault { (M.state messages.new).is_honest → (base : Base) → (M.state messages.old).holds base
-        → IfErr result (IsUnread path.now (M.state messages.old).failures (M.state messages.new).failures) }
+        → IfErr result (IsUnsent path.now (M.state messages.old).failures (M.state messages.new).failures (W.failures texts.old) (W.failures texts.new)) }
+    ensures ok { OnOk result (W.failures texts.new ≡ W.failures texts.old) }
     ensures looks { LooksAt (M.state messages.old) (M.state messages.new) }
     ensures later { (M.state messages.old).failures ≤ (M.state messages.new).failures }
 {
@@ -176,13 +189,14 @@ fn added_of<'a, M: MessageSource>(
     let mut adding = nothing_added(alloc);
     'messages: for i in 0..count {
         fetch_message(messages, path, i)?;
-        add_if_wanted(alloc, &mut adding, wanted, i, messages.at_hand())?;
+        add_if_wanted(alloc, &mut adding, wanted, i, messages.at_hand(), texts)?;
     }
     Ok(adding)
 }
 
 fn nothing_added(alloc: Global) -> Adding
-    ensures { added_in result ≡ nothing_added }
+    ensures added { added_in result [] ≡ nothing_added }
+    ensures sent { result.sent ≡ 0 }
 {
     Adding {
         jam: Jam {
@@ -191,19 +205,24 @@ fn nothing_added(alloc: Global) -> Adding
             index: Vec::new(alloc),
             cuts: 0,
         },
+        sent: 0,
         messages: Vec::new(alloc),
     }
 }
 
-// Adds the message with this number, if it exists and is selected.
-fn add_if_wanted(
+// Adds the message with this number, if it exists and is selected, and sends its text.
+fn add_if_wanted<'a, W: Sink>(
     alloc: Global,
     adding: &mut Adding,
     wanted: Selection<'_>,
     i: usize,
     message: Option<&Filed>,
-) -> Result<(), AllocError>
-    ensures { OnOk result (added_in adding.new ≡ added_at wanted.entry.area.now wanted.entry.first wanted.entry.cursor wanted.entry.jam.headers.now wanted.entry.jam.index.now wanted.entry.jam.end i (option_copied message.entry) (added_in adding.old)) }
+    texts: &mut W,
+) -> Result<(), UnsentTexts<'a>>
+    ensures added { (start : Option (List ℕ)) (added : Added) → HasAdded adding.old start (W.contents texts.old) added
+        → OnOk result (HasAdded adding.new start (W.contents texts.new) (added_at wanted.entry.area.now wanted.entry.first wanted.entry.cursor wanted.entry.jam.headers.now wanted.entry.jam.index.now wanted.entry.jam.end i (option_copied message.entry) added)) }
+    ensures fault { IfErr result (IsUnadded (W.failures texts.old) (W.failures texts.new)) }
+    ensures ok { OnOk result (W.failures texts.new ≡ W.failures texts.old) }
 {
     let Some(message) = message else {
         return Ok(());
@@ -211,7 +230,8 @@ fn add_if_wanted(
     if !is_wanted(wanted, i, message) {
         return Ok(());
     }
-    add_message(alloc, adding, wanted.jam.end, i, message, i < wanted.cursor)
+    let scanned = i < wanted.cursor;
+    add_message(alloc, adding, wanted.jam.end, i, message, scanned, texts)
 }
 
 fn is_wanted(wanted: Selection<'_>, i: usize, message: &Filed) -> bool
@@ -231,8 +251,28 @@ fn is_written_there(jam: JamBase<'_>, message: &Filed) -> bool
     }
 }
 
-// Adds a message, which was scanned or waits.
-fn add_message(
+// Adds a message, which was scanned or waits, and sends its text.
+fn add_message<'a, W: Sink>(
+    alloc: Global,
+    adding: &mut Adding,
+    end: JamEnd,
+    i: usize,
+    message: &Filed,
+    scanned: bool,
+    texts: &mut W,
+) -> Result<(), UnsentTexts<'a>>
+    ensures added { (start : Option (List ℕ)) (added : Added) → HasAdded adding.old start (W.contents texts.old) added
+        → OnOk result (HasAdded adding.new start (W.contents texts.new) (with_message scanned end i message.now added)) }
+    ensures fault { IfErr result (IsUnadded (W.failures texts.old) (W.failures texts.new)) }
+    ensures ok { OnOk result (W.failures texts.new ≡ W.failures texts.old) }
+{
+    push_message(alloc, adding, end, i, message, scanned)?;
+    send(texts, &adding.jam.texts, &mut 0)?;
+    Ok(())
+}
+
+// Adds a message, whose text is the only one in memory, and counts its bytes as sent.
+fn push_message(
     alloc: Global,
     adding: &mut Adding,
     end: JamEnd,
@@ -240,18 +280,18 @@ fn add_message(
     message: &Filed,
     scanned: bool,
 ) -> Result<(), AllocError>
-    ensures { OnOk result (added_in adding.new ≡ with_message scanned end i message.now (added_in adding.old)) }
+    ensures added { (before : List ℕ) → adding.old.sent ≡ length before
+        → OnOk result (added_in adding.new (before ++ body_of message.now) ≡ with_message scanned end i message.now (added_in adding.old before)) }
+    ensures sent { OnOk result (adding.new.sent ≡ adding.old.sent + length (body_of message.now)) }
+    ensures text { OnOk result (adding.new.jam.texts.items ≡ body_of message.now) }
 {
     let number = number_behind(end.number, adding.messages.len())?;
-    push_jam(
-        alloc,
-        &mut adding.jam,
-        message,
-        scanned,
-        number,
-        end.headers,
-        end.texts,
-    )?;
+    let place = place_behind(end.texts, adding.sent)?;
+    let jam = &mut adding.jam;
+    jam.texts.clear();
+    push_jam(alloc, jam, message, scanned, number, end.headers, place)?;
+    let size = adding.jam.texts.len() as u64;
+    adding.sent = adding.sent.checked_add(size).ok_or(AllocError)?;
     adding.messages.push(i)?;
     Ok(())
 }
@@ -260,6 +300,13 @@ fn add_message(
 fn number_behind(first: u32, count: usize) -> Result<u32, AllocError>
     ensures { IfOk result (λ number. number ≡ first + count) }
 {
+    place_behind(first, count as u64)
+}
+
+// The place after so many bytes. One that four bytes do not count is refused as out of memory.
+fn place_behind(begin: u32, count: u64) -> Result<u32, AllocError>
+    ensures { IfOk result (λ place. place ≡ begin + count) }
+{
     let count = u32::try_from(count).map_err(|_| AllocError)?;
-    first.checked_add(count).ok_or(AllocError)
+    begin.checked_add(count).ok_or(AllocError)
 }

@@ -17,6 +17,7 @@ mod names;
 mod numbering;
 mod resending;
 mod telling;
+mod unsent;
 
 pub use adding::{Adding, JamBase, JamEnd, JamExport, export_jam, export_jam_of};
 pub use finding::{
@@ -27,3 +28,4 @@ pub use names::{is_left, number_in};
 pub use numbering::{Exported, Unexported, export_files, export_files_of};
 pub use resending::{resend, resend_of};
 pub use telling::{refuse_message, tell_added, tell_cuts, tell_exported, tell_refused};
+pub use unsent::UnsentTexts;

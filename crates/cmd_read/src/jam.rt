@@ -1,23 +1,28 @@
 //! `export --jam`: messages of a base added to the four files of a JAM base. The file of headers is locked from the
 //! first read until the last write, so that two runs at once add each message once.
 //!
-//! The new bytes are written in this order, each flushed before the next: texts, headers and index. Then come the
-//! counts, and the replies that earlier headers name. A reader sees only the messages of the index. So a run stopped at
-//! any point leaves a base with the first of its messages, and no reader sees bytes after these. Until the next run the
-//! number of active messages may be too small, and earlier headers may not name the last replies.
+//! The new bytes are written in this order, each flushed before the next: texts, headers and index. Each text goes to
+//! its file before the next message is read. Headers and index are in memory. Then come the counts, and the replies that
+//! earlier headers name. After a fault before the first entry of the index, the new texts and headers are removed.
+//!
+//! A reader sees only the messages of the index. So a run stopped at any point leaves a base with the first of its
+//! messages, and no reader sees bytes after these. Until the next run the number of active messages may be too small, and
+//! earlier headers may not name the last replies.
 
 use crate::locked::{begun_again, locked_headers};
 use crate::named::{bytes_of, jam_fault, open_file, open_or_make, write_at};
+use crate::texts::{ROOM, Texts};
 use base_folder::MessageSource;
 use cmd_input::{is_folder, load_base, look_into};
-use cmd_numbered::{JamBase, JamEnd, JamExport, export_jam_of, tell_added, tell_cuts};
+use cmd_numbered::{JamBase, JamEnd, JamExport, UnsentTexts, export_jam_of, tell_added, tell_cuts};
 use cmd_status::{Fault, Status, ended, number_of};
 use cmd_words::ExportWords;
-use disk_io::Sink;
+use disk_io::{Sink, Watched};
 use echo_jam::{Last, Standing, counts_after, link_replies, standing_in};
 use std::alloc::AllocError;
 use std::fs::File;
 use std::io;
+use std::io::Write;
 use std::os::unix::fs::FileExt;
 
 /// The offset of the counts in the headers.
@@ -50,11 +55,15 @@ pub fn run_export_jam<W: Sink, E: Sink>(
     out: &mut W,
     errors: &mut E,
 ) -> Status {
-    let (files, exported) = match jam_given(rt, words, path) {
+    let (files, exported, sent) = match jam_given(rt, words, path) {
         Ok(given) => given,
         Err(fault) => return fault.report(errors),
     };
-    let (made, stopped) = match write_jam(rt, &files, &exported) {
+    let written = match sent {
+        Ok(()) => write_jam(rt, &files, &exported),
+        failed => failed,
+    };
+    let (made, stopped) = match written {
         Ok(()) => (exported.adding.messages.len(), None),
         Err(fault) => (entries_made(&files, &exported), Some(fault)),
     };
@@ -72,12 +81,12 @@ pub fn run_export_jam<W: Sink, E: Sink>(
     }
 }
 
-// The JAM base, and the additions to it.
+// The JAM base, the additions to it, and whether their texts are in its file.
 fn jam_given<'a>(
     rt: &HostRuntime,
     words: &ExportWords<'a>,
     path: &'a str,
-) -> Result<(JamFiles, JamExport), Fault<'a>> {
+) -> Result<(JamFiles, JamExport, io::Result<()>), Fault<'a>> {
     let first = match words.from {
         Some(word) => number_of(word)?,
         None => 0,
@@ -99,7 +108,7 @@ fn jam_under<'a, M: MessageSource>(
     first: u64,
     headers: File,
     messages: &mut M,
-) -> Result<(JamFiles, JamExport), Fault<'a>>
+) -> Result<(JamFiles, JamExport, io::Result<()>), Fault<'a>>
     requires { (M.state messages.old).is_ready }
 {
     let files = jam_files(rt, path, headers)?;
@@ -111,8 +120,42 @@ fn jam_under<'a, M: MessageSource>(
         end: files.end,
     };
     let area = words.area.unwrap_or("").as_bytes();
-    let exported = export_jam_of(rt.alloc(), area, first, jam, words.base, messages)?;
-    Ok((files, exported))
+    let mut texts = Watched::new(Texts {
+        file: &files.texts,
+        at: u64::from(files.end.texts),
+        held: Vec::with_capacity(rt.alloc(), ROOM)?,
+        failed: None,
+    });
+    let exported = export_jam_of(
+        rt.alloc(),
+        area,
+        first,
+        jam,
+        words.base,
+        messages,
+        &mut texts,
+    );
+    let sent = match texts.flush() {
+        Ok(()) => files.texts.sync_all(),
+        failed => failed,
+    };
+    let fault = match exported {
+        Ok(exported) => return Ok((files, exported, sent)),
+        Err(UnsentTexts::Messages(fault)) => fault,
+        Err(UnsentTexts::Device) => Fault::CannotUse(path),
+    };
+    cut_back(&files.texts, files.end.texts);
+    Err(fault)
+}
+
+// Removes the bytes of a file after this place, if there are any.
+fn cut_back(file: &File, end: u32) {
+    let end = u64::from(end);
+    if let Ok(found) = file.metadata() {
+        if found.len() > end {
+            let _ = file.set_len(end);
+        }
+    }
 }
 
 // The files of the JAM base, and their contents.
@@ -183,8 +226,8 @@ fn last_text(
     Ok(text)
 }
 
-// Writes the new bytes. No byte changes if there are none, the count of active messages is right, and the index ends
-// without an entry of zeros.
+// Writes the new headers, the index and the counts. No byte changes if nothing was added, the count of active messages
+// is right, and the index ends without an entry of zeros.
 fn write_jam(rt: &HostRuntime, files: &JamFiles, exported: &JamExport) -> io::Result<()> {
     let standing = files.standing;
     let added = exported.adding.messages.len();
@@ -195,11 +238,6 @@ fn write_jam(rt: &HostRuntime, files: &JamFiles, exported: &JamExport) -> io::Re
     let jam = &exported.adding.jam;
     let counts = counts_after(rt.alloc(), standing, added)?;
     let headers = linked_headers(rt, files, exported)?;
-    write_at(
-        &files.texts,
-        jam.texts.as_slice(),
-        u64::from(files.end.texts),
-    )?;
     let new = headers.get(files.found.len()..).unwrap_or(&[]);
     write_at(&files.headers, new, u64::from(files.end.headers))?;
     if has_zeros {
@@ -257,13 +295,16 @@ fn place_in(entry: &[u8]) -> u32 {
     }
 }
 
-// How many of the messages are in the base after a write failed: as many as the index has whole entries of.
+// How many of the messages are in the base after a write failed: as many as the index has whole entries of. If there is
+// none, the new headers and texts are removed.
 fn entries_made(files: &JamFiles, exported: &JamExport) -> usize {
-    match files.index.metadata() {
-        Ok(found) => {
-            let entries = found.len().saturating_sub(files.index_end) / 8;
-            exported.adding.messages.len().min(entries as usize)
-        }
-        Err(_) => 0,
+    let Ok(found) = files.index.metadata() else {
+        return 0;
+    };
+    let entries = found.len().saturating_sub(files.index_end) / 8;
+    if entries == 0 {
+        cut_back(&files.headers, files.end.headers);
+        cut_back(&files.texts, files.end.texts);
     }
+    exported.adding.messages.len().min(entries as usize)
 }

@@ -8,8 +8,8 @@
 //! cannot be used, and `nets` has `check`, `why`, `picture` and `replay`. `files` reads a base file while a terminal
 //! shows the progress. `bases` and `listing` have `list` and `export`, for a base file and for a folder. `export --msg`
 //! is in `stored` (a file for each message), with `making` (new files). `export --jam` is in `jam`, with `named` (files of
-//! a JAM base, no links) and `locked` (a JAM base is begun, and locked). `outbox` reads and marks the messages that `post
-//! --jam` posts. `resending` has `resend`, and `converting` has `convert`.
+//! a JAM base, no links), `locked` (a JAM base is begun, and locked) and `texts` (a writer of its texts). `outbox` reads
+//! and marks the messages that `post --jam` posts. `resending` has `resend`, and `converting` has `convert`.
 #![tactic(auto)]
 
 mod bases;
@@ -26,6 +26,7 @@ mod outbox;
 mod printing;
 mod resending;
 mod stored;
+mod texts;
 
 pub use bases::{run_export, run_list};
 pub use converting::run_convert;

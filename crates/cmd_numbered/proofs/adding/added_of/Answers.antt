@@ -1,9 +1,11 @@
-use Rattle.std.proofs.Common.{◌≡◌, ◌∙◌, ℕ, add-one, arith, length, subst, sym}
+use Rattle.std.proofs.Common.{◌≡◌, ◌∙◌, ℕ, add-one, arith, length, refl, subst, sym}
+use Rattle.std.proofs.KnownBytes.{Appends-nil}
 use Rattle.base_folder.proofs.Fetchings.{unread_since}
 use Rattle.base_folder.proofs.Lookings.{err_is}
 use Rattle.base_folder.proofs.Readings.{looks_on}
-use Rattle.base_folder.specs.Fetching.{IsUnread}
-use Rattle.cmd_numbered.specs.JamAdded.{added_at, added_in, added_of}
+use Rattle.cmd_numbered.specs.JamAdded.{Added, HasAdded, IsUnsent, added_at, added_of}
+use Rattle.cmd_numbered.specs.declared.unsent.UnsentTexts.TheVariants as unsent
+use Rattle.cmd_numbered.proofs.Addings.{unadded_here}
 use Rattle.cmd_numbered.proofs.adding.added_of.Goals as goal
 
 pub messages-init : goal.messages-init
@@ -13,7 +15,12 @@ messages-init g c = record {
   honest = λ h. h;
   held = λ base held. held;
   later = omega arith;
-  so_far = λ honest base held. c.nothing_added-adding.ensures;
+  so_far = λ honest base held. record {
+    added_is = c.nothing_added-adding.ensures.added;
+    sent_is = c.nothing_added-adding.ensures.sent;
+    texts_are = Appends-nil (g.W.Write.contents c.args.texts.now);
+  };
+  failed = refl;
 }
 
 pub fetch_message-requires : goal.fetch_message-requires
@@ -26,8 +33,21 @@ returns-in_err-fetch_message-clause-fault g c = λ honest base held.
     let first = (g.M.MessageSource.state c.args.messages.now).failures in
     let before = (g.M.MessageSource.state c.messages.messages).failures in
     let now = (g.M.MessageSource.state c.fetch_message.new.messages).failures in
-    err_is (IsUnread path first now) fault c.from_residual.result c.from_residual.ensures.1
-    (unread_since path first before now fault c.messages.invariant.later (c.in_err-fetch_message.ensures.fault honest base (c.messages.invariant.held base held)))
+    err_is (IsUnsent path first now (g.W.Sink.failures c.args.texts.now) (g.W.Sink.failures c.messages.texts)) (unsent.Messages fault) c.from_residual.result c.from_residual.ensures.1 (
+      unread_since path first before now fault c.messages.invariant.later (c.in_err-fetch_message.ensures.fault honest base (c.messages.invariant.held base held)),
+      c.messages.invariant.failed,
+    )
+
+pub returns-in_err-add_if_wanted-clause-fault : goal.returns-in_err-add_if_wanted-clause-fault
+returns-in_err-add_if_wanted-clause-fault g c = λ honest base held.
+    let path = c.args.path.now in
+    let first = (g.M.MessageSource.state c.args.messages.now).failures in
+    let now = (g.M.MessageSource.state c.fetch_message.new.messages).failures in
+    let old = g.W.Sink.failures c.args.texts.now in
+    let after = g.W.Sink.failures c.add_if_wanted.new.texts in
+    let why = c.in_err-add_if_wanted.field-0.0 in
+    err_is (IsUnsent path first now old after) why c.from_residual-in_err-add_if_wanted.result c.from_residual-in_err-add_if_wanted.ensures.1
+    (unadded_here path first now old (g.W.Sink.failures c.messages.texts) after why c.messages.invariant.failed c.in_err-add_if_wanted.ensures.fault)
 
 pub returns-in_err-fetch_message-clause-looks : goal.returns-in_err-fetch_message-clause-looks
 returns-in_err-fetch_message-clause-looks g c = looks_on _ _ _ (record { honest = c.messages.invariant.honest; ready = λ ready. c.messages.invariant.ready; count = c.messages.invariant.many ∙ c.count-count.ensures.count; holds = c.messages.invariant.held }) c.fetch_message.ensures.looks
@@ -53,10 +73,16 @@ messages-preserved g c =
           let here = c.at_hand.ensures ∙ c.in_ok-fetch_message.ensures.fetched honest base (c.messages.invariant.held base held) in
           let at = c.cursor-cursor.ensures base held in
           let jam = c.args.jam in
-          rw add-one (c.in_ok-add_if_wanted.ensures ∙ (λ k. added_at c.args.area.now c.args.first (at k) jam.headers.now jam.index.now jam.end i (here k) (before k)));
+          let start = g.W.Write.contents c.args.texts.now in
+          let all = added_of c.args.area.now c.args.first base.cursor jam.headers.now jam.index.now jam.end base.messages i in
+          rw add-one
+          (subst (λ (a : Added). HasAdded c.add_if_wanted.new.adding start (g.W.Write.contents c.add_if_wanted.new.texts) a)
+          (λ k. added_at c.args.area.now c.args.first (at k) jam.headers.now jam.index.now jam.end i (here k) all)
+          (c.in_ok-add_if_wanted.ensures.added start all before));
+      failed = c.in_ok-add_if_wanted.ensures.ok ∙ c.messages.invariant.failed;
     }
 
 pub returns-clause-added : goal.returns-clause-added
 returns-clause-added g c = λ honest base held.
     let end : c.messages.i ≡ length base.messages = omega (arith, c.messages-test.false, c.messages.auto.i-end, c.count-count.ensures.all base held) in
-    subst (λ (n : ℕ). added_in c.messages.adding ≡ added_of c.args.area.now c.args.first base.cursor c.args.jam.headers.now c.args.jam.index.now c.args.jam.end base.messages n) end (c.messages.invariant.so_far honest base held)
+    subst (λ (n : ℕ). HasAdded c.messages.adding (g.W.Write.contents c.args.texts.now) (g.W.Write.contents c.messages.texts) (added_of c.args.area.now c.args.first base.cursor c.args.jam.headers.now c.args.jam.index.now c.args.jam.end base.messages n)) end (c.messages.invariant.so_far honest base held)
