@@ -1,5 +1,5 @@
 -- An item of a list is changed.
-use Rattle.std.proofs.Common.{◌≡◌, ◌≢◌, ℕ, zero, suc, ◌<◌, ◌≤◌, List, [], ◌∷◌, ◌++◌, length, get_or, set, map, cond, refl, sym, ap, subst, ◌∙◌, Option, Some, None, arith}
+use Rattle.std.proofs.Common.{◌≡◌, ◌≢◌, ℕ, zero, suc, ◌<◌, ◌≤◌, List, [], ◌∷◌, ◌++◌, length, get_or, set, map, cond, refl, sym, ap, ◌∙◌, Option, Some, None, arith}
 use Rattle.std.specs.Prelude.{is_none}
 use Rattle.std.specs.List.{All}
 use Rattle.std.proofs.lemmas.List.{append-nil}
@@ -56,13 +56,7 @@ posted-after o tag draft serial stamp n free h = h ∙ ap (state_with o) (sym (p
 
 pub refused-after : (o : SystemState) (tag : List ℕ) (draft : Draft) (serial : ℕ) (stamp : Stamp) (f : PostFault) (n : SystemState)
     → IsPostFault o.file o.base tag draft serial stamp f → f ≢ fault.Memory → n ≡ o → n ≡ after_posting tag draft serial stamp o
-refused-after o tag draft serial stamp fault.Memory n h other same = absurd (other refl)
-refused-after o tag draft serial stamp fault.NoArea n h other same = after_refusal o tag draft serial stamp fault.NoArea n h same
-refused-after o tag draft serial stamp fault.ByteZero n h other same = after_refusal o tag draft serial stamp fault.ByteZero n h same
-refused-after o tag draft serial stamp fault.FieldTooLong n h other same = after_refusal o tag draft serial stamp fault.FieldTooLong n h same
-refused-after o tag draft serial stamp fault.BadStamp n h other same = after_refusal o tag draft serial stamp fault.BadStamp n h same
-refused-after o tag draft serial stamp fault.BadReply n h other same = after_refusal o tag draft serial stamp fault.BadReply n h same
-refused-after o tag draft serial stamp fault.KnownSerial n h other same = after_refusal o tag draft serial stamp fault.KnownSerial n h same
+refused-after o tag draft serial stamp f n h1 h2 h3 = grind (arith, after_refusal)
 
 -- the addresses stay if one system changes and its link file stays
 pub set-addresses : (ss : List SystemState) (i : ℕ) (s d : SystemState) → s.file ≡ (get_or ss i d).file → own_addresses (set ss i s) ≡ own_addresses ss
@@ -70,17 +64,13 @@ set-addresses ss i s d e = map-set_same (λ (x : SystemState). x.file.system) ss
 
 -- an index past the systems changes nothing
 pub with_past : (world : WorldState) (i : ℕ) (f : SystemState → SystemState) → length world.systems ≤ i → world ≡ with_change world i f
-with_past world i f h =
-    let e = sym (change-past i f world.systems h) in
-    λ j. record { systems = e j; packets = world.packets }
+with_past world i f h = grind (arith, change-past)
 
 -- the system at the index changes
 pub with_set : (systems : List SystemState) (packets : List Exported) (world : WorldState) (i : ℕ) (f : SystemState → SystemState) (s t d : SystemState)
     → record { systems = systems; packets = packets } ≡ world → i < length systems → t ≡ get_or systems i d → s ≡ f t
     → record { systems = set systems i s; packets = packets } ≡ with_change world i f
-with_set systems packets world i f s t d view h there new =
-    let e : set systems i s ≡ change i f systems = set-change i f systems s d h (new ∙ ap f there) in
-    (λ j. record { systems = e j; packets = packets }) ∙ ap (λ (w : WorldState). with_change w i f) view
+with_set systems packets world i f s t d view h there new = grind (arith, set-change)
 
 -- and its address stays
 pub addresses_stay : (systems : List SystemState) (packets : List Exported) (world : WorldState) (i : ℕ) (s t d : SystemState)
@@ -102,21 +92,12 @@ pub scanned-set : (systems : List SystemState) (packets now : List Exported) (wo
     → record { systems = systems; packets = packets } ≡ world → i < length systems → t ≡ get_or systems i t → s ≡ after_scan stamp t
     → ps ≡ made_by stamp t → now ≡ packets ++ map made ps
     → record { systems = set systems i s; packets = now } ≡ scanned_world world i stamp (nth i world.systems)
-scanned-set systems packets now world i stamp ps s t view within there new made_is put =
-    let e = set-change i (after_scan stamp) systems s t within (new ∙ ap (after_scan stamp) there) in
-    let bytes : now ≡ packets ++ map made (made_by stamp t) = put ∙ ap (λ (qs : List Packet). packets ++ map made qs) made_is in
-    let here = sym (nth-read systems i t within there) in
-    (λ j. record { systems = e j; packets = bytes j })
-    ∙ ap (λ (o : Option SystemState). scanned_world (record { systems = systems; packets = packets }) i stamp o) here
-    ∙ ap (λ (w : WorldState). scanned_world w i stamp (nth i w.systems)) view
+scanned-set systems packets now world i stamp ps s t view within there new made_is put = grind (arith, set-change, nth-read)
 
 pub fits-set : (systems : List SystemState) (packets : List Exported) (world : WorldState) (i : ℕ) (stamp : Stamp) (ps : List Packet) (t : SystemState)
     → record { systems = systems; packets = packets } ≡ world → i < length systems → t ≡ get_or systems i t
     → ps ≡ made_by stamp t → All Fits ps → ScanFits stamp (nth i world.systems)
-fits-set systems packets world i stamp ps t view within there made_is fits =
-    let here = nth-read systems i t within there in
-    let P : WorldState → Type 0 = λ w. ScanFits stamp (nth i w.systems) in
-    subst P view (subst (ScanFits stamp) (sym here) (subst (All Fits) made_is fits))
+fits-set systems packets world i stamp ps t view within there made_is fits = grind (arith, nth-read)
 
 -- a packet came to a system
 pub arrived-set : (systems : List SystemState) (packets : List Exported) (world : WorldState) (i k : ℕ) (p : Packet) (s t d : SystemState) (e x y : Exported)
@@ -124,8 +105,4 @@ pub arrived-set : (systems : List SystemState) (packets : List Exported) (world 
     → t ≡ get_or systems i d → s ≡ after_toss p t → x ≡ get_or packets k y → e ≡ arrived x
     → ◌≡◌ {A = WorldState} (record { systems = set systems i s; packets = set packets k e })
     (record { systems = change i (after_toss p) world.systems; packets = change k arrived world.packets })
-arrived-set systems packets world i k p s t d e x y view within among there new found mark =
-    let a = set-change i (after_toss p) systems s d within (new ∙ ap (after_toss p) there) in
-    let b = set-change k arrived packets e y among (mark ∙ ap arrived found) in
-    (λ j. record { systems = a j; packets = b j })
-    ∙ ap (λ (w : WorldState). record { systems = change i (after_toss p) w.systems; packets = change k arrived w.packets }) view
+arrived-set systems packets world i k p s t d e x y view within among there new found mark = grind (arith, set-change)

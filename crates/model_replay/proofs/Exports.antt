@@ -1,5 +1,5 @@
 -- The packets of a world and those of the run.
-use Rattle.std.proofs.Common.{◌≡◌, ◌≢◌, ℕ, zero, suc, ◌+◌, ◌<◌, ◌≤◌, ◌==◌, ◌||◌, not, Bool, true, false, cond, List, [], ◌∷◌, ◌++◌, length, map, subst, refl, sym, ap, ◌∙◌, Some, None, arith, inl, inr, ◌⊎◌}
+use Rattle.std.proofs.Common.{◌≡◌, ◌≢◌, ℕ, zero, suc, ◌+◌, ◌<◌, ◌≤◌, ◌==◌, not, Bool, true, false, cond, List, [], ◌∷◌, ◌++◌, length, map, refl, sym, ap, ◌∙◌, Some, None, arith, inl, inr}
 use Rattle.std.specs.Prelude.{slice_get, option_map, count_by}
 use Rattle.std.specs.List.{list_any}
 use Rattle.std.proofs.lemmas.Bool.{cases_Bool, cond-false, cond-true, eq-eqb, ne_eqb, or_from}
@@ -76,18 +76,10 @@ exported-made delivered k (q ∷ qs) below =
 
 -- a new index is in the list, and the others stay
 there_once : (n : ℕ) (delivered : List ℕ) → list_any (λ d. d == n) (with_index n delivered) ≡ true
-there_once n delivered = elim (cases_Bool (list_any (λ d. d == n) delivered)) [
-  | inl h ↦ ap (λ (ds : List ℕ). list_any (λ d. d == n) ds) (cond-true (list_any (λ d. d == n) delivered) delivered (n ∷ delivered) h) ∙ h
-  | inr h ↦ ap (λ (ds : List ℕ). list_any (λ d. d == n) ds) (cond-false (list_any (λ d. d == n) delivered) delivered (n ∷ delivered) h)
-      ∙ ap (λ (b : Bool). b || list_any (λ d. d == n) delivered) (eq-eqb n n refl)
-]
+there_once n delivered = grind (arith, cases_Bool, cond-true, cond-false, eq-eqb)
 
 others_stay : (n k : ℕ) (delivered : List ℕ) → n ≢ k → list_any (λ d. d == k) (with_index n delivered) ≡ list_any (λ d. d == k) delivered
-others_stay n k delivered other = elim (cases_Bool (list_any (λ d. d == n) delivered)) [
-  | inl h ↦ ap (λ (ds : List ℕ). list_any (λ d. d == k) ds) (cond-true (list_any (λ d. d == n) delivered) delivered (n ∷ delivered) h)
-  | inr h ↦ ap (λ (ds : List ℕ). list_any (λ d. d == k) ds) (cond-false (list_any (λ d. d == n) delivered) delivered (n ∷ delivered) h)
-      ∙ ap (λ (b : Bool). b || list_any (λ d. d == k) delivered) (ne_eqb n k other)
-]
+others_stay n k delivered other = grind (arith, cases_Bool, cond-true, cond-false, ne_eqb)
 
 later_stay : (n k : ℕ) (delivered : List ℕ) (ps : List Packet) → n < k → exported_from (with_index n delivered) k ps ≡ exported_from delivered k ps
 later_stay n k delivered [] less = refl
@@ -114,18 +106,7 @@ exported-came delivered k (suc i) n (p ∷ ps) at within =
 
 -- a new index keeps the bound of the others
 pub below-with : (delivered : List ℕ) (n most : ℕ) → ((k : ℕ) → Among k delivered → k < most) → n < most → (k : ℕ) → Among k (with_index n delivered) → k < most
-below-with delivered n most below less k among = elim (cases_Bool (list_any (λ d. d == n) delivered)) [
-  | inl h ↦
-      let P : List ℕ → Type 0 = λ ds. Among k ds in
-      below k (subst P (cond-true (list_any (λ d. d == n) delivered) delivered (n ∷ delivered) h) among)
-  | inr h ↦
-      let P : List ℕ → Type 0 = λ ds. Among k ds in
-      by (subst P (cond-false (list_any (λ d. d == n) delivered) delivered (n ∷ delivered) h) among)
-]
-  where
-    by : (k ≡ n) ⊎ Among k delivered → k < most
-    by (inl e) = omega (arith, e)
-    by (inr there) = below k there
+below-with delivered n most below less k among = grind (arith, cases_Bool, cond-true, cond-false)
 
 -- the packet at an index, as it was exported
 pub exported-nth : (delivered : List ℕ) (k i : ℕ) (ps : List Packet) → nth i (exported_from delivered k ps) ≡ option_map (exported_packet delivered (k + i)) (nth i ps)

@@ -30,29 +30,17 @@ all_digits radix (b ∷ ds) h =
 
 -- so the value has room
 pub digested_small : (radix : ℕ) (ds : List ℕ) (i value : ℕ) → 2 ≤ radix → radix ^ length ds ≤ 2 ^ 32 → i ≤ length ds → Digested radix ds i value → value < 2 ^ 32
-digested_small radix ds i value least room le d =
-    let below = digits_value-lt radix (take i ds) (all_digits radix (take i ds) d.each) in
-    let shorter : length (take i ds) ≤ length ds = rw (length-take-le i ds le) le in
-    let more = pow-le-pow_right {n = radix} (omega arith) shorter in
-    let same = d.value_is in
-    omega (arith, below, more, room, same)
+digested_small radix ds i value least room le d = grind (arith, digits_value-lt, all_digits, length-take-le, pow-le-pow_right)
 
 -- all bytes are digits
 pub digested_all : (radix : ℕ) (ds : List ℕ) (i value : ℕ) → length ds ≤ i → Digested radix ds i value → number_in radix ds ≡ Some value
 unfolding number_in
-digested_all radix ds i value all d =
-    cond-true (list_all (λ b. nat_lt (digit_value b) radix) ds) (Some (digits_value radix ds)) None
-    (ap (list_all (λ b. nat_lt (digit_value b) radix)) (sym (take_all i ds all)) ∙ d.each)
-    ∙ ap (λ t. Some (digits_value radix t)) (sym (take_all i ds all))
-    ∙ ap (λ n. Some n) (sym d.value_is)
+digested_all radix ds i value all d = grind (arith, cond-true, nat_lt, take_all)
 
 -- a byte is no digit
 pub no_digit : (radix : ℕ) (ds : List ℕ) (i code : ℕ) → i < length ds → code ≡ get_or ds i 0 → (digit_value code < radix → ⊥) → number_in radix ds ≡ None
 unfolding number_in
-no_digit radix ds i code lt is other =
-    cond-false (list_all (λ b. nat_lt (digit_value b) radix) ds) (Some (digits_value radix ds)) None
-    (list_all_at (λ b. nat_lt (digit_value b) radix) ds i 0 lt
-    (ap (λ b. nat_lt (digit_value b) radix) (sym is) ∙ false_from_ne_true (nat_lt (digit_value code) radix) (λ h. other (ltb-true (digit_value code) radix h))))
+no_digit radix ds i code lt is other = grind (arith, cond-false, nat_lt, list_all_at, false_from_ne_true, ltb-true)
 
 -- one more digit
 pub next_digit : (radix : ℕ) (ds : List ℕ) (i value code digit : ℕ) → i < length ds → code ≡ get_or ds i 0 → digit_value code < radix → digit ≡ digit_value code

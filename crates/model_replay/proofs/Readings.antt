@@ -9,7 +9,7 @@ use Rattle.std.proofs.lemmas.List.Folds.{list_all-map}
 use Rattle.model_steps.specs.SystemState.{SystemState}
 use Rattle.model_run.specs.Run.{Run, destination, nth}
 use Rattle.model_run.specs.World.{area_count, is_settled, undelivered}
-use Rattle.model_replay.specs.Worlds.{Exported, IsWorldOf, WorldState, encoded, exported_from, state_of}
+use Rattle.model_replay.specs.Worlds.{Exported, IsWorldOf, WorldState, encoded, state_of}
 use Rattle.model_replay.proofs.Exports.{exported-bytes, exported-length, exported-missing, exported-to, nth-slice_get}
 
 -- the number of packets that did not come
@@ -19,9 +19,7 @@ missing-is world run is = ap (λ (es : List Exported). count_by (λ e. not e.cam
 -- whether nothing waits
 pub scanned-is : (world : WorldState) (run : Run) → IsWorldOf world run
     → list_all (λ s. nat_le (length s.base) s.cursor) world.systems ≡ list_all (λ s. nat_le (length s.base) s.cursor) run.systems
-scanned-is world run is =
-    ap (λ (ss : List SystemState). list_all (λ s. nat_le (length s.base) s.cursor) ss) is.systems
-    ∙ list_all-map (λ (s : SystemState). nat_le (length s.base) s.cursor) state_of run.systems
+scanned-is world run is = grind (arith, list_all-map)
 
 pub settled-is : (world : WorldState) (run : Run) → IsWorldOf world run
     → list_all (λ s. nat_le (length s.base) s.cursor) world.systems && (count_by (λ e. not e.came) world.packets == 0) ≡ is_settled run
@@ -32,17 +30,11 @@ settled-is world run is =
 
 -- the bytes of the packet at an index
 pub bytes-are : (world : WorldState) (run : Run) → IsWorldOf world run → (k : ℕ) → option_map (λ e. e.bytes) (slice_get world.packets k) ≡ option_map encoded (nth k run.packets)
-bytes-are world run is k =
-    ap (λ (es : List Exported). option_map (λ e. e.bytes) (slice_get es k)) is.packets
-    ∙ ap (option_map (λ e. e.bytes)) (nth-slice_get k (exported_from run.delivered 0 run.packets))
-    ∙ exported-bytes run.delivered 0 k run.packets
+bytes-are world run is k = grind (arith, nth-slice_get, exported-bytes)
 
 -- the destination of the packet at an index
 pub destinations-are : (world : WorldState) (run : Run) → IsWorldOf world run → (k : ℕ) → option_map (λ e. e.to) (slice_get world.packets k) ≡ option_map destination (nth k run.packets)
-destinations-are world run is k =
-    ap (λ (es : List Exported). option_map (λ e. e.to) (slice_get es k)) is.packets
-    ∙ ap (option_map (λ e. e.to)) (nth-slice_get k (exported_from run.delivered 0 run.packets))
-    ∙ exported-to run.delivered 0 k run.packets
+destinations-are world run is k = grind (arith, nth-slice_get, exported-to)
 
 -- the number of systems
 pub system_count : (world : WorldState) (run : Run) → IsWorldOf world run → length world.systems ≡ length run.systems

@@ -9,7 +9,6 @@ use Rattle.std.proofs.lemmas.List.Sums.{passes_at_first}
 use Rattle.echo_links.proofs.Addresses.{same_address_decides}
 use Rattle.std.proofs.lemmas.Bool.{cases_Bool, cond-false, cond-true, le-ltb, lt-ltb, ltb-false, ltb-true}
 use Rattle.echo_addr.specs.declared.address.Address.{Address}
-use Rattle.echo_packet.specs.Message.{Message}
 use Rattle.echo_links.specs.Links.{LinkFile, same_address}
 use Rattle.echo_filed.specs.Filed.{Filed}
 use Rattle.model_steps.specs.declared.draft.Draft.{Draft}
@@ -19,11 +18,10 @@ use Rattle.model_steps.specs.SystemState.{SystemState, state_at_first, state_wit
 use Rattle.model_steps.specs.Posting.{posting}
 use Rattle.model_steps.specs.Scanning.{scanned}
 use Rattle.model_steps.specs.Stamps.{is_stamp}
-use Rattle.model_steps.specs.Tossing.{sender_of}
 use Rattle.model_run.specs.Event.{run_event}
 use Rattle.model_run.specs.declared.event.Event.{Event}
 use Rattle.model_run.proofs.StandingRuns.{tossing-state}
-use Rattle.model_run.specs.Run.{Run, System, after_event, change, changing, coming, delivery, destination, filing, fresh, nth, posting_at, purging_at, receiver, run_of, scanning, scanning_at, start, taking, tossing_at}
+use Rattle.model_run.specs.Run.{Run, System, after_event, change, changing, coming, delivery, destination, filing, fresh, nth, posting_at, purging_at, receiver, run_of, scanning, scanning_at, start, taking}
 use Rattle.model_replay.specs.Worlds.{Exported, Fits, IsWorldOf, ScanFits, WorldState, own_addresses, after_posting, after_purge, after_scan, after_toss, arrived, exported_from, first_at, made, made_by, scanned_world, state_of, with_change, world_after}
 use Rattle.model_replay.proofs.Changes.{read-nth}
 use Rattle.model_replay.proofs.Exports.{below-with, exported-append, exported-came, exported-made, nth-map, nth-past, within-nth}
@@ -46,12 +44,7 @@ map-change (suc i) f g (s ∷ ss) same = ap (λ (xs : List SystemState). state_o
 
 changed-run : (world : WorldState) (run : Run) (i : ℕ) (f : System → System) (g : SystemState → SystemState) → ((s : System) → state_of (f s) ≡ g (state_of s))
     → IsWorldOf world run → IsWorldOf (with_change world i g) (changing run i f)
-changed-run world run i f g same is = record {
-  systems = ap (change i g) is.systems ∙ sym (map-change i f g run.systems same);
-  packets = is.packets;
-  fit = is.fit;
-  delivered = is.delivered;
-}
+changed-run world run i f g same is = grind (arith, map-change)
 
 pub posted-run : (world : WorldState) (run : Run) (i : ℕ) (tag : List ℕ) (draft : Draft) (serial : ℕ) (stamp : Stamp) → IsWorldOf world run
     → IsWorldOf (with_change world i (after_posting tag draft serial stamp)) (changing run i (posting_at tag draft serial stamp))
@@ -63,12 +56,7 @@ purged-run world run i is = changed-run world run i purging_at after_purge (λ s
 
 -- the toss of a packet changes a system's state as it changes the system in a run
 pub state-taking : (p : Packet) (s : System) → state_of (taking p (length p.messages) s) ≡ after_toss p (state_of s)
-state-taking p s =
-    ap (λ (ms : List Message). state_of (tossing_at (sender_of s.file p.header) ms s)) (take_all (length p.messages) p.messages whole)
-    ∙ tossing-state (sender_of s.file p.header) p.messages s
-  where
-    whole : length p.messages ≤ length p.messages
-    whole = omega arith
+state-taking p s = grind (arith, take_all, tossing-state)
 
 scan-taken : (world : WorldState) (run : Run) (i : ℕ) (stamp : Stamp) (s : System) → is_stamp stamp ≡ true → IsWorldOf world run → All Fits (made_by stamp (state_of s))
     → IsWorldOf (scanned_world world i stamp (Some (state_of s))) (scanning run i stamp (Some s))
@@ -133,9 +121,7 @@ first-map p f xs =
 
 -- the first system of an address has the same index in both
 first-is : (world : WorldState) (run : Run) (p : Packet) → IsWorldOf world run → first_at world (destination p) ≡ receiver run p
-first-is world run p is =
-    ap (λ (ss : List SystemState). position_or_len (λ s. same_address s.file.system (destination p)) ss) is.systems
-    ∙ first-map (λ (s : SystemState). same_address s.file.system (destination p)) state_of run.systems
+first-is world run p is = grind (arith, first-map)
 
 arrived-run : (world : WorldState) (run : Run) (k : ℕ) (p : Packet) (s : System) → IsWorldOf world run → k < length run.packets
     → IsWorldOf (record { systems = change (receiver run p) (after_toss p) world.systems; packets = change k arrived world.packets }) (coming run k p (Some s))
@@ -228,9 +214,4 @@ led-to world k p i to whom place within =
 -- or to no system: the packet comes nowhere
 pub led-nowhere : (world : WorldState) (k : ℕ) (p : Packet) (to : Address) → to ≡ destination p
     → position_or_len (λ b. same_address b to) (own_addresses world.systems) ≡ length (own_addresses world.systems) → world ≡ world_after world k p
-led-nowhere world k p to whom none =
-    let first : position_or_len (λ b. same_address b to) (own_addresses world.systems) ≡ first_at world (destination p) =
-    first-map (λ (b : Address). same_address b to) (λ (s : SystemState). s.file.system) world.systems ∙ ap (first_at world) whom in
-    let past : length world.systems ≤ first_at world (destination p) = omega (arith, none, first, length-map world.systems (λ (s : SystemState). s.file.system)) in
-    let come : WorldState = record { systems = change (first_at world (destination p)) (after_toss p) world.systems; packets = change k arrived world.packets } in
-    sym (cond-false (nat_lt (first_at world (destination p)) (length world.systems)) come world (le-ltb (first_at world (destination p)) (length world.systems) past))
+led-nowhere world k p to whom none = grind (arith, first-map, length-map, cond-false, nat_lt, le-ltb)

@@ -1,8 +1,7 @@
 -- Reading a script line by line.
-use Rattle.std.proofs.Common.{◌≡◌, ◌⊎◌, ℕ, ◌+◌, not, true, false, cond, List, [], ◌∷◌, ◌++◌, sym, ap, ◌∙◌, Option, Some, None, Result, Ok, Err, inl, inr}
-use Rattle.std.specs.Prelude.{MatchResult, filter, is_some}
+use Rattle.std.proofs.Common.{◌≡◌, ◌⊎◌, ℕ, ◌+◌, not, true, false, cond, List, [], ◌∷◌, ◌++◌, ap, ◌∙◌, Option, Some, None, Result, Ok, Err, arith}
+use Rattle.std.specs.Prelude.{MatchResult, is_some}
 use Rattle.std.specs.List.{cons_option, filter_map}
-use Rattle.std.specs.Option.{option_or}
 use Rattle.std.proofs.lemmas.List.{append_assoc, append-nil}
 use Rattle.std.proofs.lemmas.List.Elements.{filter-append, filter_map-append}
 use Rattle.echo_links.specs.LinkLines.{file_lines, is_skipped}
@@ -22,17 +21,13 @@ module _ (number : ℕ) (line : List ℕ) where
   skipped_events h = ap (λ b. filter_map event_in (cond (not b) (line ∷ []) [])) h
 
   pub event_fault : (event : Event) → is_skipped line ≡ false → event_in line ≡ Some event → script_line_fault number line ≡ None
-  event_fault event h is =
-      ap (λ b. cond b None (cond (is_some (event_in line)) None (Some (fault.Line number)))) h
-      ∙ ap (λ (o : Option Event). cond (is_some o) None (Some (fault.Line number))) is
+  event_fault event h is = grind arith
 
   pub event_events : (event : Event) → is_skipped line ≡ false → event_in line ≡ Some event → events_in (line ∷ []) ≡ event ∷ []
   event_events event h is = ap (λ b. filter_map event_in (cond (not b) (line ∷ []) [])) h ∙ ap (λ (o : Option Event). cons_option o []) is
 
   pub other_fault : is_skipped line ≡ false → event_in line ≡ None → script_line_fault number line ≡ Some (fault.Line number)
-  other_fault h is =
-      ap (λ b. cond b None (cond (is_some (event_in line)) None (Some (fault.Line number)))) h
-      ∙ ap (λ (o : Option Event). cond (is_some o) None (Some (fault.Line number))) is
+  other_fault h is = grind arith
 
 -- ---- all lines
 
@@ -42,58 +37,30 @@ pub record LinesTaken (bytes : List ℕ) (number : ℕ) (rest : List ℕ) (event
   pub whole : events_in (file_lines bytes) ≡ events ++ events_in (file_lines rest)
 
 events_next : (line : List ℕ) (later : List (List ℕ)) → events_in (line ∷ later) ≡ events_in (line ∷ []) ++ events_in later
-events_next line later =
-    ap (filter_map event_in) (filter-append (λ l. not (is_skipped l)) (line ∷ []) later)
-    ∙ filter_map-append event_in (filter (λ l. not (is_skipped l)) (line ∷ [])) (filter (λ l. not (is_skipped l)) later)
+events_next line later = grind (arith, filter-append, filter_map-append)
 
 module _ (bytes rest line after : List ℕ) (number : ℕ) (events : List Event) (h : LinesTaken bytes number rest events) (next : file_lines rest ≡ line ∷ file_lines after) where
   -- one more line
   pub lines_more : (new : List Event) → script_line_fault (number + 1) line ≡ None → new ≡ events ++ events_in (line ∷ []) → LinesTaken bytes (number + 1) after new
-  lines_more new fine is = record {
-    faults = h.faults ∙ ap (first_script_fault (number + 1)) next
-        ∙ ap (λ (o : Option ScriptFault). option_or o (first_script_fault (number + 1 + 1) (file_lines after))) fine;
-    whole = h.whole ∙ ap (λ ls. events ++ events_in ls) next ∙ ap (λ es. events ++ es) (events_next line (file_lines after))
-        ∙ sym (append_assoc events (events_in (line ∷ [])) (events_in (file_lines after)))
-        ∙ ap (λ es. es ++ events_in (file_lines after)) (sym is);
-  }
+  lines_more new fine is = grind (arith, events_next, append_assoc)
 
   -- a line of another form
   pub lines_other : (refused : ScriptFault) → script_line_fault (number + 1) line ≡ Some refused → script_fault bytes ≡ Some refused
   unfolding script_fault
-  lines_other refused bad =
-      h.faults ∙ ap (first_script_fault (number + 1)) next
-      ∙ ap (λ (o : Option ScriptFault). option_or o (first_script_fault (number + 1 + 1) (file_lines after))) bad
+  lines_other refused bad = grind arith
 
 -- no bytes are left
 pub lines_done : (bytes : List ℕ) (number : ℕ) (rest : List ℕ) (events : List Event) → LinesTaken bytes number rest events → rest ≡ []
     → ScriptOf bytes (Ok events)
 unfolding script_fault events_of
-lines_done bytes number rest events h nothing =
-    let none : file_lines rest ≡ [] = ap file_lines nothing ∙ no_lines_left in (
-      h.faults ∙ ap (first_script_fault (number + 1)) none,
-      sym (h.whole ∙ ap (λ ls. events ++ events_in ls) none ∙ append-nil events),
-    )
+lines_done bytes number rest events h nothing = grind (arith, no_lines_left, append-nil)
 
 -- there is one answer
 one_answer : (bytes : List ℕ) (answer other : Result (List Event) ScriptFault) → ScriptOf bytes answer → ScriptOf bytes other → other ≡ answer
-one_answer bytes (Ok events) (Ok others) h g = ap (λ (es : List Event). Ok es) (g.1 ∙ sym h.1)
-one_answer bytes (Ok events) (Err refused) h g = absurd (none_some refused (sym h.0 ∙ g))
-  where
-    none_some : (f : ScriptFault) → (let o : Option ScriptFault = None in o ≡ Some f) → ⊥
-    none_some f e = cc
-one_answer bytes (Err refused) (Ok others) h g = absurd (none_some refused (sym g.0 ∙ h))
-  where
-    none_some : (f : ScriptFault) → (let o : Option ScriptFault = None in o ≡ Some f) → ⊥
-    none_some f e = cc
-one_answer bytes (Err refused) (Err again) h g = ap (λ (f : ScriptFault). Err f) (same again refused (sym g ∙ h))
-  where
-    same : (f g : ScriptFault) → (let o : Option ScriptFault = Some f in o ≡ Some g) → f ≡ g
-    same f g e = cc
+one_answer bytes answer other h1 h2 = grind arith
 
 -- so the answer for the bytes is the right one
 pub only_answer : {V : Type 0} (items : V → List Event) (bytes : List ℕ) (answer : Result V ScriptFault)
     → MatchResult answer (λ v. ScriptOf bytes (Ok (items v))) (λ f. (f ≡ fault.Memory) ⊎ ScriptOf bytes (Err f)) → (other : Result (List Event) ScriptFault)
     → ScriptOf bytes other → MatchResult answer (λ v. other ≡ Ok (items v)) (λ f. (f ≡ fault.Memory) ⊎ (other ≡ Err f))
-only_answer items bytes (Ok v) so other h = one_answer bytes (Ok (items v)) other so h
-only_answer items bytes (Err f) (inl memory) other h = inl memory
-only_answer items bytes (Err f) (inr so) other h = inr (one_answer bytes (Err f) other so h)
+only_answer items bytes answer h1 other h2 = grind (arith, one_answer)

@@ -1,18 +1,14 @@
 -- A packet that was delivered brings nothing new: each of its messages is refused or known, and stays so.
-use Rattle.std.proofs.Common.{◌≡◌, ℕ, ◌||◌, Bool, true, false, not, List, [], ◌∷◌, ◌++◌, length, map, take, drop, refl, sym, ap, subst, ◌∙◌, Option, Some, None, inl, inr, arith}
+use Rattle.std.proofs.Common.{◌≡◌, ℕ, ◌||◌, Bool, true, false, not, List, [], ◌∷◌, ◌++◌, length, map, take, refl, sym, ap, subst, ◌∙◌, Option, Some, None, inl, inr, arith}
 use Rattle.std.specs.Prelude.{if◌then◌else◌, option_to_list}
 use Rattle.std.specs.List.{list_any, position_or_len}
 use Rattle.std.proofs.lemmas.List.{append-nil, length-append}
 use Rattle.echo_addr.specs.declared.address.Address.{Address}
 use Rattle.model_graph.proofs.Members.{Among-append_left, Among-append_right}
 use Rattle.echo_packet.specs.Message.{Message}
-use Rattle.echo_text.specs.declared.fault.TextFault.{TextFault}
-use Rattle.echo_text.specs.declared.fault.TextFault.TheVariants as text
-use Rattle.echo_text.specs.Refusal.{text_refusal}
-use Rattle.echo_links.specs.Links.{LinkFile, has_area, is_link, same_address}
+use Rattle.echo_links.specs.Links.{LinkFile, same_address}
 use Rattle.echo_filed.specs.declared.key.Key.{Key}
 use Rattle.echo_filed.specs.Filed.{Filed, key_of, same_key}
-use Rattle.echo_filed.specs.Stubs.{stub_of}
 use Rattle.echo_filed.proofs.Keys.{same_key_decides}
 use Rattle.base_file.specs.Base.{is_known}
 use Rattle.base_file.proofs.StubBases.{purged_keys}
@@ -23,8 +19,7 @@ use Rattle.model_steps.specs.Posting.{posting}
 use Rattle.model_steps.specs.Purging.{purged}
 use Rattle.model_steps.specs.Scanning.{scanned}
 use Rattle.model_steps.specs.Stamps.{is_stamp}
-use Rattle.model_steps.specs.SystemState.{SystemState}
-use Rattle.model_steps.specs.Tossing.{outcome_after, received, sender_of, toss_outcome, tossed, tossing, where_filed}
+use Rattle.model_steps.specs.Tossing.{received, sender_of, toss_outcome, tossed, tossing, where_filed}
 use Rattle.model_run.specs.Event.{RunEvent, Posting, Scanning, Delivery, PartDelivery, Purging}
 use Rattle.model_run.specs.Run.{Run, System, after_event, after_events, change, changing, coming, delivery, destination, filing, nth, part_delivery, posting_at, purging_at, receiver, run_of, scanning, scanning_at, start, taking, tossing_at}
 use Rattle.model_run.proofs.Lists as lists
@@ -41,9 +36,7 @@ abbrev Knows : List Filed → List Filed → Type 0
 Knows base more = (key : Key) → is_known base key ≡ true → is_known more key ≡ true
 
 knows-append : (base more : List Filed) → Knows base (base ++ more)
-knows-append base more key h =
-    let (n, i, e) = any-from (λ n. same_key (key_of n) key) base h in
-    any-to (λ n. same_key (key_of n) key) n (base ++ more) (Among-append_left n base more i) e
+knows-append base more key h = grind (arith, any-from, any-to, Among-append_left)
 
 by_keys : (base : List Filed) (key : Key) → is_known base key ≡ list_any (λ k. same_key k key) (map key_of base)
 by_keys [] key = refl
@@ -51,9 +44,7 @@ by_keys (m ∷ base) key = ap (λ b. same_key (key_of m) key || b) (by_keys base
 
 knows-purged : (base : List Filed) (cursor : ℕ) → Knows base (purged base cursor)
 unfolding purged
-knows-purged base cursor key h =
-    by_keys (map stub_of (take cursor base) ++ drop cursor base) key
-    ∙ ap (λ (keys : List Key). list_any (λ k. same_key k key) keys) (purged_keys cursor base) ∙ sym (by_keys base key) ∙ h
+knows-purged base cursor key h = grind (arith, by_keys, purged_keys)
 
 known-last : (base : List Filed) (m : Filed) → is_known (base ++ m ∷ []) (key_of m) ≡ true
 known-last base m =
@@ -67,54 +58,25 @@ outcome_by area link known =
 
 unfiled-more : (area link known more : Bool) (m : Filed) → (known ≡ true → more ≡ true) → where_filed (outcome_by area link known) m ≡ None
     → where_filed (outcome_by area link more) m ≡ None
-unfiled-more false link known more m later none = refl
-unfiled-more true false known more m later none = refl
-unfiled-more true true true more m later none = ap (λ (b : Bool). where_filed (outcome_by true true b) m) (later refl)
-unfiled-more true true false more m later none = absurd (none_some (sym none))
+unfiled-more area link known more m h1 h2 = grind (arith, none_some)
 
 unfiled-known : (area link known : Bool) (m : Filed) → known ≡ true → where_filed (outcome_by area link known) m ≡ None
-unfiled-known false link known m h = refl
-unfiled-known true false known m h = refl
-unfiled-known true true known m h = ap (λ (b : Bool). where_filed (outcome_by true true b) m) h
+unfiled-known area link known m h1 = grind arith
 
 -- a message that is not filed is not filed if more keys are known
 still_unfiled : (file : LinkFile) (base more : List Filed) (sender : Address) (packed : Message) → Knows base more
     → tossing file base sender packed ≡ None → tossing file more sender packed ≡ None
 unfolding tossing toss_outcome
-still_unfiled file base more sender packed knows none = by (text_refusal packed.text) none
-  where
-    by : (r : Option TextFault) → where_filed (outcome_after file base sender (received sender packed) r) (received sender packed) ≡ None
-        → where_filed (outcome_after file more sender (received sender packed) r) (received sender packed) ≡ None
-    by None h =
-        let m = received sender packed in
-        unfiled-more (has_area file m.echo.tag) (is_link file m.echo.tag sender) (is_known base (key_of m)) (is_known more (key_of m)) m (knows (key_of m)) h
-    by (Some text.NotEcho) h = refl
-    by (Some text.BadTag) h = refl
-    by (Some text.Memory) h = refl
-    by (Some text.BadMsgId) h = refl
+still_unfiled file base more sender packed knows none = grind (arith, unfiled-more)
 
 -- nor is a known message
 known_unfiled : (file : LinkFile) (base : List Filed) (sender : Address) (packed : Message) → is_known base (key_of (received sender packed)) ≡ true
     → tossing file base sender packed ≡ None
 unfolding tossing toss_outcome
-known_unfiled file base sender packed known = by (text_refusal packed.text)
-  where
-    by : (r : Option TextFault) → where_filed (outcome_after file base sender (received sender packed) r) (received sender packed) ≡ None
-    by None =
-        let m = received sender packed in
-        unfiled-known (has_area file m.echo.tag) (is_link file m.echo.tag sender) (is_known base (key_of m)) m known
-    by (Some text.NotEcho) = refl
-    by (Some text.BadTag) = refl
-    by (Some text.Memory) = refl
-    by (Some text.BadMsgId) = refl
+known_unfiled file base sender packed known = grind (arith, unfiled-known)
 
 where_filed-is : (o : Outcome) (m n : Filed) → where_filed o m ≡ Some n → m ≡ n
-where_filed-is outcome.NotEcho m n h = absurd (none_some h)
-where_filed-is outcome.BadTag m n h = absurd (none_some h)
-where_filed-is outcome.NoArea m n h = absurd (none_some h)
-where_filed-is outcome.NotLinked m n h = absurd (none_some h)
-where_filed-is outcome.Known m n h = absurd (none_some h)
-where_filed-is outcome.Filed m n h = some_same h
+where_filed-is o m n h1 = grind (arith, none_some, some_same)
 
 tossing-is : (file : LinkFile) (base : List Filed) (sender : Address) (packed : Message) (m : Filed) → tossing file base sender packed ≡ Some m → received sender packed ≡ m
 unfolding tossing
@@ -123,13 +85,7 @@ tossing-is file base sender packed m h = where_filed-is (toss_outcome file base 
 -- once tossed, a message is not filed again
 unfiled_after : (file : LinkFile) (base : List Filed) (sender : Address) (packed : Message)
     → tossing file (base ++ option_to_list (tossing file base sender packed)) sender packed ≡ None
-unfiled_after file base sender packed = by (tossing file base sender packed) refl
-  where
-    by : (o : Option Filed) → tossing file base sender packed ≡ o → tossing file (base ++ option_to_list o) sender packed ≡ None
-    by None e = ap (λ (b : List Filed). tossing file b sender packed) (append-nil base) ∙ e
-    by (Some m) e =
-        let K : Filed → Type 0 = λ n. is_known (base ++ m ∷ []) (key_of n) ≡ true in
-        known_unfiled file (base ++ m ∷ []) sender packed (subst K (sym (tossing-is file base sender packed m e)) (known-last base m))
+unfiled_after file base sender packed = grind (arith, append-nil, known_unfiled, tossing-is, known-last)
 
 still_none : (file : LinkFile) (base more : List Filed) (sender : Address) → Knows base more → (ms : List Message) → NoneIsFiled file base sender ms
     → NoneIsFiled file more sender ms
@@ -174,14 +130,10 @@ tossing-grows sender (packed ∷ ms) s =
     record { file = more.file ∙ one.file; knows = λ key h. more.knows key (one.knows key h) }
 
 still_taken : (s z : System) (p : Packet) → Grows s z → HasTaken s p → HasTaken z p
-still_taken s z p grows taken =
-    let P : LinkFile → Type 0 = λ f. NoneIsFiled f z.base (sender_of f p.header) p.messages in
-    subst P (sym grows.file) (still_none s.file s.base z.base (sender_of s.file p.header) grows.knows p.messages taken)
+still_taken s z p grows taken = grind (arith, still_none)
 
 taken_after : (s : System) (p : Packet) → HasTaken (taking p (length p.messages) s) p
-taken_after s p =
-    let P : SystemState → Type 0 = λ t. NoneIsFiled t.file t.base (sender_of t.file p.header) p.messages in
-    subst P (sym (state-taking p s)) (none_after s.file s.base (sender_of s.file p.header) p.messages)
+taken_after s p = grind (arith, state-taking, none_after)
 
 -- the first system of an address is the same after a change
 receiver_stays : (run : Run) (i : ℕ) (f : System → System) (p : Packet) → ((s : System) → Grows s (f s)) → receiver (changing run i f) p ≡ receiver run p
@@ -288,6 +240,4 @@ run-taken files events =
 
 -- a system that has taken the packet stays unchanged when it comes again
 pub state_stays : (s : System) (p : Packet) → HasTaken s p → state_of (taking p (length p.messages) s) ≡ state_of s
-state_stays s p taken =
-    let e = none_tossed s.file s.base (sender_of s.file p.header) p.messages taken in
-    state-taking p s ∙ (λ i. record { file = s.file; base = e i; cursor = s.cursor })
+state_stays s p taken = grind (arith, none_tossed, state-taking)

@@ -1,5 +1,5 @@
 -- The words of a script's lines.
-use Rattle.std.proofs.Common.{◌≡◌, ◌≢◌, ℕ, ◌<◌, ◌≤◌, ◌&&◌, nat_lt, not, Bool, true, false, cond, List, [], ◌∷◌, length, drop, codes, refl, sym, ap, ◌∙◌, None, arith}
+use Rattle.std.proofs.Common.{◌≡◌, ◌≢◌, ℕ, ◌<◌, ◌≤◌, ◌&&◌, nat_lt, not, true, false, cond, List, [], ◌∷◌, length, drop, codes, sym, ap, ◌∙◌, None, arith}
 use Rattle.std.specs.Prelude.{bytes_eq, nat_le, option_map}
 use Rattle.std.specs.Char.{is_ascii_uppercase}
 use Rattle.std.specs.List.{list_any, position_or_len}
@@ -17,22 +17,11 @@ index_empty word h = ap (λ n. cond (nat_lt 0 n && nat_le n 9) (number_in 10 wor
 
 pub index_long : (word : List ℕ) → 9 < length word → index_in word ≡ None
 unfolding index_in
-index_long word h =
-    ap (λ b. cond (nat_lt 0 (length word) && b) (number_in 10 word) None) (nat_above (length word) h)
-    ∙ ap (λ b. cond b (number_in 10 word) None) (and_false (nat_lt 0 (length word)))
-  where
-    and_false : (b : Bool) → (b && false) ≡ false
-    and_false true = refl
-    and_false false = refl
-
-    nat_above : (n : ℕ) → 9 < n → nat_le n 9 ≡ false
-    nat_above n lt = lt-leb n 9 lt
+index_long word h = grind (arith, nat_lt, lt-leb)
 
 pub index_short : (word : List ℕ) → length word ≢ 0 → length word ≤ 9 → index_in word ≡ number_in 10 word
 unfolding index_in
-index_short word some few =
-    cond-true (nat_lt 0 (length word) && nat_le (length word) 9) (number_in 10 word) None
-    (and_from _ _ (lt-ltb 0 (length word) (omega (arith, some))) (le-leb (length word) 9 few))
+index_short word some few = grind (arith, cond-true, nat_lt, and_from, lt-ltb, le-leb)
 
 -- ---- a serial
 
@@ -42,15 +31,11 @@ serial_of_other_length word h = ap (λ b. cond (b && not (list_any is_ascii_uppe
 
 pub serial_of_capitals : (word : List ℕ) → length word ≡ 8 → list_any is_ascii_uppercase word ≡ true → serial_in word ≡ None
 unfolding serial_in
-serial_of_capitals word eight h =
-    ap (λ b. cond (b && not (list_any is_ascii_uppercase word)) (number_in 16 word) None) (eq-eqb (length word) 8 eight)
-    ∙ ap (λ b. cond (not b) (number_in 16 word) None) h
+serial_of_capitals word eight h = grind (arith, eq-eqb)
 
 pub serial_of_eight : (word : List ℕ) → length word ≡ 8 → list_any is_ascii_uppercase word ≡ false → serial_in word ≡ number_in 16 word
 unfolding serial_in
-serial_of_eight word eight h =
-    ap (λ b. cond (b && not (list_any is_ascii_uppercase word)) (number_in 16 word) None) (eq-eqb (length word) 8 eight)
-    ∙ ap (λ b. cond (not b) (number_in 16 word) None) h
+serial_of_eight word eight h = grind (arith, eq-eqb)
 
 -- ---- a posting
 
@@ -80,12 +65,7 @@ two_words rest word after tag later cut next h =
 pub three_words : (rest word after tag later digits last : List ℕ) → Cut rest word after → Cut after tag later → Cut later digits last
     → posting_in rest ≡ posting_with (index_in word) tag digits (serial_in digits) (drop 1 last)
 unfolding posting_in
-three_words rest word after tag later digits last cut next third =
-    ap (λ ws. posting_of ws (drop 1 (after_first_word (after_first_word (after_first_word rest)))))
-    (cut.words_are ∙ ap (λ ws. word ∷ ws) (next.words_are ∙ ap (λ ws. tag ∷ ws) third.words_are))
-    ∙ ap (λ r. posting_with (index_in word) tag digits (serial_in digits) (drop 1 (after_first_word (after_first_word r)))) (rest_is rest word after cut)
-    ∙ ap (λ r. posting_with (index_in word) tag digits (serial_in digits) (drop 1 (after_first_word r))) (rest_is after tag later next)
-    ∙ ap (λ r. posting_with (index_in word) tag digits (serial_in digits) (drop 1 r)) (rest_is later digits last third)
+three_words rest word after tag later digits last cut next third = grind (arith, rest_is)
 
 -- ---- an event
 
@@ -95,16 +75,11 @@ control_event line h = cond-true (list_any is_control_byte line) None (event_of 
 
 pub wordless_event : (line : List ℕ) → list_any is_control_byte line ≡ false → tokens line ≡ [] → event_in line ≡ None
 unfolding event_in
-wordless_event line plain h =
-    cond-false (list_any is_control_byte line) None (event_of (first_of (tokens line)) (after_first_word line) (after_first_of (tokens line))) plain
-    ∙ ap (λ ws. event_of (first_of ws) (after_first_word line) (after_first_of ws)) h
+wordless_event line plain h = grind (arith, cond-false)
 
 pub worded_event : (line word rest : List ℕ) → list_any is_control_byte line ≡ false → Cut line word rest → event_in line ≡ event_of word rest (tokens rest)
 unfolding event_in
-worded_event line word rest plain cut =
-    cond-false (list_any is_control_byte line) None (event_of (first_of (tokens line)) (after_first_word line) (after_first_of (tokens line))) plain
-    ∙ ap (λ ws. event_of (first_of ws) (after_first_word line) (after_first_of ws)) cut.words_are
-    ∙ ap (λ r. event_of word r (tokens rest)) (rest_is line word rest cut)
+worded_event line word rest plain cut = grind (arith, cond-false, rest_is)
 
 module _ (word rest : List ℕ) (more : List (List ℕ)) where
   pub first_post : bytes_eq word (codes "POST") ≡ true → event_of word rest more ≡ posting_in rest
@@ -121,12 +96,8 @@ module _ (word rest : List ℕ) (more : List (List ℕ)) where
 
   pub first_purge : bytes_eq word (codes "POST") ≡ false → bytes_eq word (codes "SCAN") ≡ false → bytes_eq word (codes "DELIVER") ≡ false
       → bytes_eq word (codes "PURGE") ≡ true → event_of word rest more ≡ option_map (λ i. Purge i) (only_index more)
-  first_purge a b d h =
-      cond-false (bytes_eq word (codes "POST")) _ _ a ∙ cond-false (bytes_eq word (codes "SCAN")) _ _ b ∙ cond-false (bytes_eq word (codes "DELIVER")) _ _ d
-      ∙ cond-true (bytes_eq word (codes "PURGE")) _ _ h
+  first_purge a b d h = grind (arith, cond-false, cond-true)
 
   pub first_other : bytes_eq word (codes "POST") ≡ false → bytes_eq word (codes "SCAN") ≡ false → bytes_eq word (codes "DELIVER") ≡ false
       → bytes_eq word (codes "PURGE") ≡ false → event_of word rest more ≡ None
-  first_other a b d h =
-      cond-false (bytes_eq word (codes "POST")) _ _ a ∙ cond-false (bytes_eq word (codes "SCAN")) _ _ b ∙ cond-false (bytes_eq word (codes "DELIVER")) _ _ d
-      ∙ cond-false (bytes_eq word (codes "PURGE")) _ _ h
+  first_other a b d h = grind (arith, cond-false)

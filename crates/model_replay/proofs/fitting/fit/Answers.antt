@@ -1,7 +1,6 @@
-use Rattle.std.proofs.Common.{◌≡◌, ◌≤◌, ◌^◌, ◌<◌, ◌-◌, List, get_or, length, take, ap, subst, ◌∙◌, arith, refl}
+use Rattle.std.proofs.Common.{◌≡◌, ◌≤◌, ◌^◌, ◌<◌, ◌-◌, List, get_or, length, ap, subst, ◌∙◌, arith}
 use Rattle.std.proofs.lemmas.List.{take_all}
-use Rattle.std.specs.List.{AllByRecursion}
-use Rattle.echo_packet.specs.Message.{IsMessage, Message}
+use Rattle.echo_packet.specs.Message.{Message}
 use Rattle.model_replay.proofs.Sizes.{one_more_kept}
 use Rattle.model_replay.proofs.fitting.fit.Goals as goal
 
@@ -17,15 +16,4 @@ messages-preserved c =
     one_more_kept (2 ^ 64 - 1) ms i m within is c.messages.invariant c.in-Ok-put_copy.ensures.message room
 
 pub returns : goal.returns
-returns c =
-    let ms = c.args.packet.now.messages in
-    let done : take c.messages.message-index ms ≡ ms =
-    take_all c.messages.message-index ms (subst (λ (l : List Message). length l ≤ c.messages.message-index) c.as_slice-message-items.ensures c.messages-test.false) in
-    record {
-      header = c.begin.ensures.header;
-      messages = record {
-        each = subst (AllByRecursion (IsMessage (2 ^ 64 - 1))) done c.messages.invariant;
-        room = let size = c.message_count.ensures in let small = c.message_count.type_inv in omega (arith, size, small);
-      };
-      bytes = refl;
-    }
+returns c = grind (arith, take_all)

@@ -1,14 +1,11 @@
-use Rattle.std.proofs.Common.{◌≤◌, ◌<◌, length, subst, arith}
+use Rattle.std.proofs.Common.{◌<◌, length, arith}
 use Rattle.std.proofs.lemmas.Result.{on_ok_weaker}
-use Rattle.model_replay.specs.Worlds.{WorldState, after_posting}
+use Rattle.model_replay.specs.Worlds.{after_posting}
 use Rattle.model_replay.proofs.Changes.{addresses_stay, with_past, with_set}
 use Rattle.model_replay.proofs.happening.post.Goals as goal
 
 pub returns-then-system-len-clause-posted : goal.returns-then-system-len-clause-posted
-returns-then-system-len-clause-posted c =
-    let P : WorldState → Type 0 = λ w. length w.systems ≤ c.args.system in
-    with_past c.args.world.now c.args.system (after_posting c.args.tag.now c.args.draft.now c.args.serial c.args.stamp)
-    (subst P c.world.view_is (omega (arith, c.len.ensures, c.if-system-len.true)))
+returns-then-system-len-clause-posted c = grind (arith, with_past)
 
 pub returns-clause-addresses : goal.returns-clause-addresses
 returns-clause-addresses c =

@@ -1,14 +1,11 @@
-use Rattle.std.proofs.Common.{◌≤◌, ◌<◌, length, subst, arith}
+use Rattle.std.proofs.Common.{◌<◌, length, arith}
 use Rattle.std.proofs.lemmas.Result.{on_ok_weaker}
-use Rattle.model_replay.specs.Worlds.{WorldState, after_purge}
+use Rattle.model_replay.specs.Worlds.{after_purge}
 use Rattle.model_replay.proofs.Changes.{addresses_stay, with_past, with_set}
 use Rattle.model_replay.proofs.happening.purge.Goals as goal
 
 pub returns-then-system-len-clause-purged : goal.returns-then-system-len-clause-purged
-returns-then-system-len-clause-purged c =
-    let P : WorldState → Type 0 = λ w. length w.systems ≤ c.args.system in
-    with_past c.args.world.now c.args.system after_purge
-    (subst P c.world.view_is (omega (arith, c.len.ensures, c.if-system-len.true)))
+returns-then-system-len-clause-purged c = grind (arith, with_past)
 
 pub returns-clause-addresses : goal.returns-clause-addresses
 returns-clause-addresses c =

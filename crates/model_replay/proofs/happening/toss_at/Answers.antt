@@ -1,6 +1,5 @@
-use Rattle.std.proofs.Common.{◌≡◌, ◌==◌, ℕ, Bool, true, false, cond, List, [], refl, sym, ap, subst, Ok, Some}
+use Rattle.std.proofs.Common.{◌≡◌, ℕ, Bool, true, false, cond, List, [], refl, sym, subst, Ok, Some, arith}
 use Rattle.std.proofs.lemmas.List.{append-nil}
-use Rattle.echo_addr.specs.declared.address.Address.{Address}
 use Rattle.model_steps.specs.declared.packet.Packet.{Packet}
 use Rattle.echo_links.specs.Links.{LinkFile}
 use Rattle.model_run.specs.Run.{destination}
@@ -17,9 +16,7 @@ either false own zone e = e
 
 -- a packet for the system itself, even if its zone is 0
 for_us : (file : LinkFile) (p : Packet) → destination p ≡ file.system → destination_of file p.header ≡ file.system
-for_us file p e =
-    let zone = either (p.header.dest_zone == 0) file.system.zone p.header.dest_zone (ap (λ (a : Address). a.zone) e) in
-    λ i. record { zone = zone i; net = (e i).net; node = (e i).node }
+for_us file p e = grind (arith, either)
 
 pub returns-in-Ok-clause-tossed : goal.returns-in-Ok-clause-tossed
 returns-in-Ok-clause-tossed c = λ p fits is to.

@@ -1,10 +1,8 @@
-use Rattle.std.proofs.Common.{◌∙◌, List, [], map, take, sym, ap, subst}
+use Rattle.std.proofs.Common.{◌∙◌, List, [], map, take, sym, ap, subst, arith}
 use Rattle.std.proofs.lemmas.List.{take_all}
 use Rattle.echo_addr.specs.declared.address.Address.{Address}
 use Rattle.model_run.specs.Event.{run_event}
-use Rattle.model_run.specs.declared.event.Event.{Event}
-use Rattle.model_run.specs.Run.{Run, run_of, start}
-use Rattle.model_replay.specs.Counts.{packet_counts}
+use Rattle.model_run.specs.Run.{Run, run_of}
 use Rattle.model_replay.specs.Worlds.{IsWorldOf, LeadsToFirst, WorldState, own_addresses}
 use Rattle.model_replay.proofs.Counted.{counts-more}
 use Rattle.model_replay.proofs.Runs.{addresses-first, event-more, first-run}
@@ -41,12 +39,7 @@ events-preserved g c =
     }
 
 pub returns-clause-world : goal.returns-clause-world
-returns-clause-world g c =
-    let whole = take_all c.events.event-index c.args.events.now c.events-test.false in
-    let R : List Event → Type 0 = λ events. IsWorldOf c.events.world (run_of c.args.files.items (map run_event events)) in
-    subst R whole c.events.invariant.run
+returns-clause-world g c = grind (arith, take_all)
 
 pub returns-clause-counts : goal.returns-clause-counts
-returns-clause-counts g c =
-    let whole = take_all c.events.event-index c.args.events.now c.events-test.false in
-    c.events.invariant.counts ∙ ap (λ (events : List Event). packet_counts (start c.args.files.items) (map run_event events)) whole
+returns-clause-counts g c = grind (arith, take_all)

@@ -1,4 +1,4 @@
-use Rattle.std.proofs.Common.{◌∙◌, arith, inl, inr, length, sym}
+use Rattle.std.proofs.Common.{◌∙◌, arith, length, sym}
 use Rattle.std.proofs.lemmas.Bool.{eqb-true}
 use Rattle.std.proofs.lemmas.List.{drop_all}
 use Rattle.std.proofs.lemmas.Result.{err_from_is_err_and}
@@ -14,14 +14,7 @@ lines-preserved c = record {
 }
 
 pub returns-in_err-take_line : goal.returns-in_err-take_line
-returns-in_err-take_line c =
-    let p = err_from_is_err_and c.from_residual.result c.from_residual.ensures.1 in
-    rw (p.1, p.2) (elim c.in_err-take_line.ensures [
-      | inl memory ↦ inl memory
-      | inr h ↦
-          inr (lines_other c.args.bytes.now c.lines.rest.now c.split_line.result.0.now c.split_line.result.1.now c.lines.number c.lines.events.items
-          c.lines.invariant.read c.split_line.ensures.lines _ h)
-    ])
+returns-in_err-take_line c = grind (arith, err_from_is_err_and, lines_other)
 
 pub returns : goal.returns
 returns c =

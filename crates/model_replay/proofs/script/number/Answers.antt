@@ -1,11 +1,9 @@
-use Rattle.std.proofs.Common.{◌∙◌, arith, sym}
+use Rattle.std.proofs.Common.{arith, sym}
 use Rattle.model_replay.proofs.Numbers.{digested_all, next_digit, next_fits, no_digit}
 use Rattle.model_replay.proofs.script.number.Goals as goal
 
 pub returns-in_err-digit : goal.returns-in_err-digit
-returns-in_err-digit c =
-    c.from_residual.ensures
-    ∙ sym (no_digit c.args.radix c.args.digits.now c.loop-byte.byte-index c.from.result c.loop-byte-test.true c.from.ensures c.in_err-digit.ensures.value)
+returns-in_err-digit c = grind (arith, no_digit)
 
 pub overflow_mul-value : goal.overflow_mul-value
 overflow_mul-value c =
@@ -14,10 +12,7 @@ overflow_mul-value c =
     omega (arith, small)
 
 pub overflow_add-value : goal.overflow_add-value
-overflow_add-value c =
-    let small = next_fits c.args.radix c.args.digits.now c.loop-byte.byte-index c.loop-byte.value c.from.result c.in_ok-digit.digit c.requires.least c.requires.room
-    c.loop-byte-test.true c.from.ensures c.in_ok-digit.ensures.value.0 c.in_ok-digit.ensures.value.1 c.loop-byte.invariant in
-    omega (arith, small)
+overflow_add-value c = grind (arith, next_fits)
 
 pub loop-byte-preserved : goal.loop-byte-preserved
 loop-byte-preserved c =

@@ -1,4 +1,4 @@
-use Rattle.std.proofs.Common.{◌∙◌, ap, drop, sym, Option, Some}
+use Rattle.std.proofs.Common.{◌∙◌, ap, drop, sym, Option, Some, arith}
 use Rattle.model_run.specs.declared.event.Event.{Event}
 use Rattle.model_run.specs.declared.event.Event.TheVariants.{Post}
 use Rattle.model_replay.specs.Script.{draft_of, moment, posting_with, serial_in}
@@ -9,17 +9,10 @@ pub returns-in_default : goal.returns-in_default
 returns-in_default c = sym (no_words c.args.rest.now c.in_default.ensures.token)
 
 pub returns-in_default-next_token : goal.returns-in_default-next_token
-returns-in_default-next_token c =
-    sym (one_word c.args.rest.now c.in-Some.first.now c.in-Some.after_first.now
-    (record { words_are = c.in-Some.ensures.token; after = c.in-Some.ensures.after })
-    c.in_default-next_token.ensures.token)
+returns-in_default-next_token c = grind (arith, one_word)
 
 pub returns-in_default-next_token-2 : goal.returns-in_default-next_token-2
-returns-in_default-next_token-2 c =
-    sym (two_words c.args.rest.now c.in-Some.first.now c.in-Some.after_first.now c.in-Some-next_token.tag.now c.in-Some-next_token.after_tag.now
-    (record { words_are = c.in-Some.ensures.token; after = c.in-Some.ensures.after })
-    (record { words_are = c.in-Some-next_token.ensures.token; after = c.in-Some-next_token.ensures.after })
-    c.in_default-next_token-2.ensures.token)
+returns-in_default-next_token-2 c = grind (arith, two_words)
 
 pub returns-in_default-index : goal.returns-in_default-index
 returns-in_default-index c =

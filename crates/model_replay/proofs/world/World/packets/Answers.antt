@@ -1,9 +1,6 @@
-use Rattle.std.proofs.Common.{ap, ◌∙◌, length, List}
-use Rattle.model_replay.specs.Worlds.{Exported, WorldState}
+use Rattle.std.proofs.Common.{arith}
 use Rattle.model_replay.proofs.Readings.{packet_count}
 use Rattle.model_replay.proofs.world.World.packets.Goals as goal
 
 pub returns : goal.returns
-returns c = λ run is.
-    ap (λ (es : List Exported). length es) (c.as_slice-packets.ensures.value ∙ ap (λ (w : WorldState). w.packets) c.self.view_is)
-    ∙ packet_count c.args.self.now run is
+returns c = grind (arith, packet_count)
