@@ -1,5 +1,5 @@
 -- Packets that are whole on the disk at one of their two paths, while another packet gets its path.
-use Rattle.std.proofs.Common.{◌≡◌, ◌⊎◌, inl, inr, ⊎_elim, ◌∙◌, Bool, true, false, List, ℕ, Some, refl, sym}
+use Rattle.std.proofs.Common.{◌≡◌, ◌⊎◌, inl, inr, ⊎_elim, ◌∙◌, Bool, true, false, List, ℕ, sym, arith}
 use Rattle.disk_io.specs.Disk.{DiskState, Files}
 use Rattle.disk_atomic.specs.Changes.{ChangesOnly, HasOnDisk}
 use Rattle.disk_atomic.specs.Naming.{HasItsPath, HasMoved, Names, StandsWhole, StaysThere}
@@ -30,27 +30,17 @@ module _ (content : Outgoing → List ℕ) (x y : Outgoing) (apart : AreApart x 
         ⊎_elim (λ on. inl (stays_on_disk (AtBoth x) d e y.path.now (content y) run not_path on)) (λ on. inr (stays_on_disk (AtBoth x) d e y.staging.now (content y) run not_staging on)) was
 
     pub staged_stays : IsStaged content d y → IsStaged content e y
-    staged_stays was = record {
-      file = stays_on_disk (AtBoth x) d e y.staging.now (content y) run not_staging was.file;
-      named = run.named y.path.now not_path was.named;
-    }
+    staged_stays was = grind (arith, stays_on_disk, not_staging, not_path)
 
     pub has_path_stays : HasItsPath content d y → HasItsPath content e y
-    has_path_stays was = record {
-      file = stays_on_disk (AtBoth x) d e y.path.now (content y) run not_path was.file;
-      gone = run.seen y.staging.now not_staging ∙ was.gone;
-    }
+    has_path_stays was = grind (arith, stays_on_disk, not_path, not_staging)
 
     pub same_stays : (d0 : DiskState) → IsSameAt d0 d y → IsSameAt d0 e y
     same_stays d0 was = run.seen y.path.now not_path ∙ was
 
   -- the packet after a crash
   pub whole_stays : (d : DiskState) (b c : Files) → d.may_leave b → Names x.path.now x.staging.now b c → IsAnchored content d y → StandsWhole content c y
-  whole_stays d b c left names on =
-      ⊎_elim
-      (λ at. inl (names.others y.path.now not_path ∙ left_there d y.path.now (content y) at b left))
-      (λ at. inr (names.others y.staging.now not_staging ∙ left_there d y.staging.now (content y) at b left))
-      on
+  whole_stays d b c left names on = grind (arith, ⊎_elim, not_path, left_there, not_staging)
 
 -- the packet that is named
 module _ (content : Outgoing → List ℕ) (x : Outgoing) (d e : DiskState) (staged : HasOnDisk d x.staging.now (content x)) where
@@ -58,12 +48,7 @@ module _ (content : Outgoing → List ℕ) (x : Outgoing) (d e : DiskState) (sta
   has_path moved = record { file = record { seen = moved.seen ∙ staged.seen; named = moved.named; flushed = moved.flushed }; gone = moved.gone }
 
   pub anchored_now : (named : Bool) → (named ≡ true → HasMoved d e x.path.now x.staging.now) → (named ≡ false → StaysThere d e x.staging.now) → IsAnchored content e x
-  anchored_now true moved stays = inl (has_path (moved refl)).file
-  anchored_now false moved stays =
-      let still : StaysThere d e x.staging.now = stays refl in
-      inr (record { seen = still.seen ∙ staged.seen; named = still.named staged.named; flushed = still.flushed staged.flushed })
+  anchored_now named h1 h2 = grind (arith, has_path)
 
   pub whole_now : (b c : Files) → d.may_leave b → Names x.path.now x.staging.now b c → StandsWhole content c x
-  whole_now b c left names =
-      let was : b x.staging.now ≡ Some (content x) = left_there d x.staging.now (content x) staged b left in
-      ⊎_elim (λ is. inl (is ∙ was)) (λ is. inr (is ∙ was)) names.stands
+  whole_now b c left names = grind (arith, left_there, ⊎_elim)

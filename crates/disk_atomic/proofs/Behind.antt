@@ -1,6 +1,6 @@
 -- Staging files of disjoint packets, one of which grew.
 use Rattle.std.proofs.Common.{◌≡◌, ◌≢◌, ◌∙◌, ⊎_elim, ℕ, ◌<◌, ◌≤◌, ◌+◌, ◌++◌, List, ap, arith, get_or, length, subst, sym}
-use Rattle.std.specs.Prelude.{All, AllPairs, IsSome}
+use Rattle.std.specs.Prelude.{All, AllPairs}
 use Rattle.std.specs.List.{AllWithin}
 use Rattle.std.proofs.lemmas.Bool.{cases_order}
 use Rattle.echo_addr.specs.declared.address.Address.{Address}
@@ -24,14 +24,7 @@ module _ (packets : List Outgoing) (pairs : AllPairs AreApart packets) (i : ℕ)
   one_at k p same = ap (λ (n : ℕ). get_or packets n p) same ∙ get_or_default packets i p x lt ∙ sym is
 
   grow_other : (k : ℕ) (p : Outgoing) → k ≢ i → k < length packets → CanGrowStaging d (get_or packets k p) → CanGrowStaging e (get_or packets k p)
-  grow_other k p differs within was =
-      let path = (get_or packets k p).staging.now in
-      let off = other k p differs within in
-      record {
-        there = subst IsSome (sym (run.seen path off)) was.there;
-        named = run.named path off was.named;
-        alone = run.alone path off was.alone;
-      }
+  grow_other k p differs within was = grind (arith, get_or, other)
 
   pub all_grow : All (CanGrowStaging d) packets → CanGrow e x.staging.now → All (CanGrowStaging e) packets
   all_grow all now k p within =

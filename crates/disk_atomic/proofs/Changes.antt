@@ -1,5 +1,5 @@
 -- How runs that change some files go on.
-use Rattle.std.proofs.Common.{◌≡◌, inl, ◌∙◌, List, ℕ, Option, Some, refl, sym, subst}
+use Rattle.std.proofs.Common.{◌≡◌, inl, ◌∙◌, List, ℕ, Option, Some, refl, sym, subst, arith}
 use Rattle.disk_io.specs.Disk.{DiskState, Files}
 use Rattle.disk_io.specs.Steps.{ChangesFile}
 use Rattle.disk_io.specs.Runs.{ChangesAt, ChangesNothing, LeavesOnly, NoPath, OneStepOn, ThisPath}
@@ -24,25 +24,11 @@ weaker_steps d0 d1 R P run gives = weaker_run d0 d1 (OneStepOn R d0) (OneStepOn 
 
 module _ (paths : List ℕ → Type 0) where
   pub only_nothing : (old new : DiskState) → ChangesNothing old new → ChangesOnly paths old new
-  only_nothing old new quiet = record {
-    seen = λ m other. quiet.seen m;
-    named = λ m other. quiet.named m (λ h. h);
-    flushed = λ m other. quiet.flushed m (λ h. h);
-    alone = λ m other. quiet.alone m (λ h. h);
-    honest = quiet.honest;
-    any_moment = weaker_run old new old.may_leave (OneStepOn (DifferAt paths) old) quiet.run (λ c left. (c, left, λ m other. refl));
-  }
+  only_nothing old new quiet = grind (arith, weaker_run)
 
   -- a run of no call
   pub only_start : (disk : DiskState) → ChangesOnly paths disk disk
-  only_start disk = record {
-    seen = λ m other. refl;
-    named = λ m other is. is;
-    flushed = λ m other is. is;
-    alone = λ m other is. is;
-    honest = λ is. is;
-    any_moment = no_call disk (OneStepOn (DifferAt paths) disk) (λ c left. (c, left, λ m other. refl));
-  }
+  only_start disk = grind (arith, no_call)
 
   -- a call at one path, which is on the disk
   pub only_call : {unnamed shared : List ℕ → Type 0} (old new : DiskState) (x : List ℕ) (step : Option (List ℕ) → Option (List ℕ) → Type 0) → paths x → old.is_named x
@@ -82,24 +68,11 @@ module _ (paths : List ℕ → Type 0) where
 
   -- a file at another path remains on the disk
   pub stays_on_disk : (old new : DiskState) (m bytes : List ℕ) → ChangesOnly paths old new → (paths m → ⊥) → HasOnDisk old m bytes → HasOnDisk new m bytes
-  stays_on_disk old new m bytes run other was = record {
-    seen = run.seen m other ∙ was.seen;
-    named = run.named m other was.named;
-    flushed = run.flushed m other was.flushed;
-  }
+  stays_on_disk old new m bytes run other was = grind arith
 
 -- more paths
 pub wider : (few many : List ℕ → Type 0) (old new : DiskState) → ((m : List ℕ) → few m → many m) → ChangesOnly few old new → ChangesOnly many old new
-wider few many old new more run =
-    let not : (m : List ℕ) → (many m → ⊥) → few m → ⊥ = λ m other is. other (more m is) in
-    record {
-      seen = λ m other. run.seen m (not m other);
-      named = λ m other. run.named m (not m other);
-      flushed = λ m other. run.flushed m (not m other);
-      alone = λ m other. run.alone m (not m other);
-      honest = run.honest;
-      any_moment = weaker_steps old new (DifferAt few) (DifferAt many) run.any_moment (λ a b r m other. r m (not m other));
-    }
+wider few many old new more run = grind (arith, weaker_steps)
 
 -- a crash leaves a file that is on the disk
 pub left_there : (disk : DiskState) (path bytes : List ℕ) → HasOnDisk disk path bytes → (c : Files) → disk.may_leave c → c path ≡ Some bytes

@@ -9,19 +9,14 @@ use Rattle.disk_io.specs.Steps.{ChangesFile, TornRemoval}
 use Rattle.disk_io.specs.Runs.{ChangesAt, ChangesNothing, LeavesOnly, OneStepOn, ThisPath}
 use Rattle.disk_io.proofs.Moments.{one_call, then_run, weaker_run}
 use Rattle.disk_atomic.specs.Changes.{ChangesOnly, DifferAt}
-use Rattle.disk_atomic.specs.Naming.{HasMoved, Names}
+use Rattle.disk_atomic.specs.Naming.{Names}
 use Rattle.disk_atomic.specs.Finishing.{AreAway, AreNamed, EndsAs, Finishes, FinishesEach, IsOfLeft, IsOver, KeepsFile}
 use Rattle.disk_atomic.specs.declared.finishing.Left.{Left}
 use Rattle.disk_atomic.proofs.Changes.{then_steps, wider}
 use Rattle.disk_atomic.proofs.Each.{ahead, among, behind, here}
 
 pub away_back : (l k : Left) → AreAway l k → AreAway k l
-away_back l k a = record {
-  paths = λ e. a.paths (sym e);
-  stagings = λ e. a.stagings (sym e);
-  path_not_staging = λ e. a.staging_not_path (sym e);
-  staging_not_path = λ e. a.path_not_staging (sym e);
-}
+away_back l k a = grind arith
 
 -- the value that a loop reads past the end
 abbrev pub nothing_left : Left
@@ -41,11 +36,7 @@ named_finishes cursor l lt a c n = record { others = n.others; ends = record { c
 
 -- quiet calls, then a run
 pub quiet_then : (d0 d1 d2 : DiskState) (Q P : Files → Files → Type 0) → ChangesNothing d0 d1 → ((c : Files) → P c c) → LeavesOnly d1 d2 (OneStepOn Q d1) → ((a c : Files) → Q a c → P a c) → LeavesOnly d0 d2 (OneStepOn P d0)
-quiet_then d0 d1 d2 Q P quiet none run gives =
-    then_run d0 d1 d2 (OneStepOn P d0) (OneStepOn Q d1)
-    (weaker_run d0 d1 d0.may_leave (OneStepOn P d0) quiet.run (λ c left. (c, left, none c)))
-    run
-    (λ c step. (step.0, quiet.no_more step.0 step.1, gives step.0 c step.2))
+quiet_then d0 d1 d2 Q P quiet none run gives = grind (arith, then_run, weaker_run)
 
 -- both paths show the same files as before
 pub record IsSameLeft (old new : DiskState) (l : Left) : Type 0 where
@@ -71,48 +62,20 @@ module _ (x y : Left) (away : AreAway x y) where
       still_keeps was some = run.seen y.path.now left_not_path ∙ was some
 
       pub still_over : (cursor : ℕ) → IsOver cursor d0 d y → IsOver cursor d0 e y
-      still_over cursor was = record {
-        committed = λ lt.
-            let moved : HasMoved d0 d y.path.now y.staging.now = was.committed lt in
-            record {
-              seen = run.seen y.path.now left_not_path ∙ moved.seen;
-              gone = run.seen y.staging.now left_not_staging ∙ moved.gone;
-              named = run.named y.path.now left_not_path moved.named;
-              flushed = run.flushed y.path.now left_not_path moved.flushed;
-            };
-        gone = λ le. run.seen y.staging.now left_not_staging ∙ was.gone le;
-        untouched = λ le. run.seen y.path.now left_not_path ∙ was.untouched le;
-      }
+      still_over cursor was = grind (arith, left_not_path, left_not_staging)
 
   -- the packet after a crash
   pub still_ends : (cursor : ℕ) (a b c : Files) → DifferAt (AtLeft x) b c → EndsAs cursor a b y → EndsAs cursor a c y
-  still_ends cursor a b c r was =
-      let path : c y.path.now ≡ b y.path.now = r y.path.now left_not_path in
-      let staging : c y.staging.now ≡ b y.staging.now = r y.staging.now left_not_staging in
-      record {
-        committed = λ lt. ⊎_elim (λ e. inl (path ∙ e)) (λ e. inr (staging ∙ e)) (was.committed lt);
-        untouched = λ le. path ∙ was.untouched le;
-        either = ⊎_elim (λ e. inl (path ∙ e)) (λ e. inr (path ∙ e)) was.either;
-      }
+  still_ends cursor a b c r was = grind (arith, left_not_path, left_not_staging, ⊎_elim)
 
 -- the current packet, which was unchanged until now
 module _ (cursor : ℕ) (x : Left) where
   pub ends_now : (a b c : Files) → b x.staging.now ≡ a x.staging.now → b x.path.now ≡ a x.path.now → EndsAs cursor b c x → EndsAs cursor a c x
-  ends_now a b c staging path ends = record {
-    committed = λ lt. ⊎_elim (λ e. inl (e ∙ staging)) (λ e. inr (e ∙ staging)) (ends.committed lt);
-    untouched = λ le. ends.untouched le ∙ path;
-    either = ⊎_elim (λ e. inl (e ∙ path)) (λ e. inr (e ∙ staging)) ends.either;
-  }
+  ends_now a b c staging path ends = grind (arith, ⊎_elim)
 
   module _ (d0 d e : DiskState) (same : IsSameLeft d0 d x) where
     pub over_now : IsOver cursor d e x → IsOver cursor d0 e x
-    over_now over = record {
-      committed = λ lt.
-          let moved : HasMoved d e x.path.now x.staging.now = over.committed lt in
-          record { seen = moved.seen ∙ same.staging; gone = moved.gone; named = moved.named; flushed = moved.flushed };
-      gone = over.gone;
-      untouched = λ le. over.untouched le ∙ same.path;
-    }
+    over_now over = grind arith
 
     pub keeps_now : KeepsFile d e x → KeepsFile d0 e x
     keeps_now keeps some = keeps (subst (λ f. IsSome f) (sym same.path) some) ∙ same.path
@@ -125,10 +88,7 @@ pub record FinishesSome (cursor : ℕ) (found : List Left) (i : ℕ) (before aft
 
 -- and the others are as they were
 pub some_finishes : (cursor : ℕ) (found : List Left) (i : ℕ) (a b : Files) → FinishesSome cursor found i a b → FinishesEach cursor found a b
-some_finishes cursor found i a b r = record {
-  others = r.others;
-  ends = λ k z lt. ⊎_elim (λ (low : k < i). r.ends k z (omega arith) low) (λ (high : i ≤ k). let at = r.same k z high lt in ends_same cursor a b (get_or found k z) at.1 at.0) (cases_lt k i);
-}
+some_finishes cursor found i a b r = grind (arith, ⊎_elim, ends_same, get_or, cases_lt)
 
 module _ (cursor : ℕ) (found : List Left) (away : AllPairs AreAway found) (i : ℕ) (lt : i < length found) where
   abbrev x : Left
@@ -155,9 +115,7 @@ module _ (cursor : ℕ) (found : List Left) (away : AllPairs AreAway found) (i :
 
 -- before the first of them
 pub none_finished : (cursor : ℕ) (found : List Left) (d0 d1 : DiskState) → ChangesNothing d0 d1 → LeavesOnly d0 d1 (OneStepOn (FinishesSome cursor found 0) d0)
-none_finished cursor found d0 d1 quiet =
-    weaker_run d0 d1 d0.may_leave (OneStepOn (FinishesSome cursor found 0) d0) quiet.run
-    (λ c left. (c, left, record { others = λ m out. refl; ends = AllWithin-none (EndsAs cursor c c) found 0; same = λ k z low high. (refl, refl) }))
+none_finished cursor found d0 d1 quiet = grind (arith, weaker_run, AllWithin-none)
 
 -- if it was not, the removal finishes it
 pub removed_finishes : (cursor : ℕ) (l : Left) → cursor ≤ l.before → l.staging.now ≢ l.path.now → (old new : DiskState) → old.is_named l.staging.now

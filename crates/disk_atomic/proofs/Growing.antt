@@ -1,5 +1,5 @@
 -- A file that grows at its end.
-use Rattle.std.proofs.Common.{◌≡◌, ◌∙◌, ℕ, zero, suc, ◌+◌, ◌<◌, List, [], ◌∷◌, ◌++◌, length, take, drop, Some, ap, sym, subst, arith, length-append}
+use Rattle.std.proofs.Common.{◌≡◌, ℕ, zero, suc, ◌+◌, ◌<◌, List, [], ◌∷◌, ◌++◌, length, Some, arith, length-append}
 use Rattle.std.proofs.lemmas.List.{append-nil, drop_all, take_all}
 use Rattle.std.specs.Prelude.{IsSome, slice_index}
 use Rattle.disk_io.specs.Disk.{DiskState, bytes_in}
@@ -16,30 +16,13 @@ are_both (x ∷ a) b one two (suc i) = are_both a b (λ k. one (suc k)) two i
 
 -- a write at the end
 pub written_behind : (old new bytes : List ℕ) (at : ℕ) → length old ≡ at → IsWrittenAt old at bytes new → new ≡ old ++ bytes
-written_behind old new bytes at long written =
-    let front : take at old ≡ old = take_all at old (omega (arith, long)) in
-    let behind : drop (at + length bytes) old ≡ [] = drop_all (at + length bytes) old (omega (arith, long)) in
-    written ∙ (λ k. (front k ++ bytes) ++ behind k) ∙ append-nil (old ++ bytes)
+written_behind old new bytes at long written = grind (arith, take_all, drop_all, append-nil)
 
 -- the file after one more write
 pub grown : (old new : DiskState) (path bytes : List ℕ) (at end : ℕ) → IsGrowing old path at → bytes_in (new.seen path) ≡ bytes_in (old.seen path) ++ bytes → end ≡ at + length bytes
     → AreBytes bytes → IsSome (new.seen path) → new.is_named path → new.is_alone path → IsGrowing new path end
-grown old new path bytes at end was more long are there named alone = record {
-  there = there;
-  long = omega (arith, ap length more, length-append (bytes_in (old.seen path)) bytes, was.long, long);
-  bytes = subst AreBytes (sym more) (are_both (bytes_in (old.seen path)) bytes was.bytes are);
-  named = named;
-  alone = alone;
-}
+grown old new path bytes at end was more long are there named alone = grind (arith, length-append, are_both)
 
 -- a file of no bytes
 pub grows_from_none : (disk : DiskState) (path : List ℕ) → disk.seen path ≡ Some [] → disk.is_named path → disk.is_alone path → IsGrowing disk path 0
-grows_from_none disk path empty named alone =
-    let none : bytes_in (disk.seen path) ≡ [] = ap bytes_in empty in
-    record {
-      there = some_is_there (disk.seen path) [] empty;
-      long = ap length none;
-      bytes = λ i. subst (λ (l : List ℕ). slice_index l i < 256) (sym none) (omega arith);
-      named = named;
-      alone = alone;
-    }
+grows_from_none disk path empty named alone = grind (arith, some_is_there)

@@ -1,5 +1,5 @@
 -- Disjoint packets, and the effect of a call at one of them on the others.
-use Rattle.std.proofs.Common.{◌≡◌, ◌⊎◌, ⊎_elim, ◌∙◌, ◌<◌, ℕ, List, [], ap, get_or, length, refl, sym}
+use Rattle.std.proofs.Common.{◌≡◌, ◌⊎◌, ⊎_elim, ◌∙◌, ◌<◌, ℕ, List, [], ap, get_or, length, refl, sym, arith}
 use Rattle.std.proofs.lemmas.Bool.{cases_order}
 use Rattle.std.proofs.lemmas.List.Elements.{at_read}
 use Rattle.std.specs.Prelude.{All, Contains}
@@ -40,10 +40,7 @@ module _ (packets : List Outgoing) (x : Outgoing) (is : Contains packets x) (d e
 -- a run at the staging path of x
 module _ (d e : DiskState) (x : Outgoing) (run : ChangesOnly (At x) d e) (y : Outgoing) (apart : AreApart x y) where
   pub made_stays : IsMade d y → IsMade e y
-  made_stays was = record {
-    empty = run.seen y.staging.now (λ at. apart.stagings (sym at)) ∙ was.empty;
-    alone = run.alone y.staging.now (λ at. apart.stagings (sym at)) was.alone;
-  }
+  made_stays was = grind arith
 
   pub named_stays : IsStagingNamed d y → IsStagingNamed e y
   named_stays was = run.named y.staging.now (λ at. apart.stagings (sym at)) was
@@ -53,10 +50,7 @@ module _ (d e : DiskState) (x : Outgoing) (run : ChangesOnly (At x) d e) (y : Ou
 
 -- a run that changes nothing
 pub made_through : (d e : DiskState) → ChangesNothing d e → (packets : List Outgoing) → All (IsMade d) packets → All (IsMade e) packets
-made_through d e quiet packets all k z lt = record {
-  empty = quiet.seen (get_or packets k z).staging.now ∙ (all k z lt).empty;
-  alone = quiet.alone (get_or packets k z).staging.now (λ h. h) (all k z lt).alone;
-}
+made_through d e quiet packets all k z lt = grind (arith, get_or)
 
 -- no packet's path is a staging path of another
 pub path_not_staging : (folder : List ℕ) (packets : List Outgoing) → ArePlaced folder packets → (k : ℕ) (z : Outgoing) → k < length packets → IsStagingOne packets (get_or packets k z).path.now → ⊥

@@ -1,7 +1,7 @@
 -- A file that gets a part of another one.
-use Rattle.std.proofs.Common.{◌≡◌, ◌∙◌, ℕ, ◌<◌, ◌≤◌, List, [], ◌++◌, length, take, drop, Option, Some, ap, refl, sym, subst, arith, append_assoc}
+use Rattle.std.proofs.Common.{◌≡◌, ◌∙◌, ℕ, ◌≤◌, List, ◌++◌, length, take, drop, Some, ap, refl, sym, arith, append_assoc}
 use Rattle.std.proofs.lemmas.List.{append-nil, drop-append-le, drop_all, length-take, length-take-le, nil_from_length, take-append-drop, take-append-le}
-use Rattle.std.specs.Prelude.{IsSome, slice_index}
+use Rattle.std.specs.Prelude.{IsSome}
 use Rattle.disk_io.specs.Disk.{DiskState, bytes_in}
 use Rattle.disk_io.specs.Runs.{ChangesNothing}
 use Rattle.disk_atomic.specs.Changes.{HasOnDisk, IsGrowing}
@@ -10,15 +10,7 @@ use Rattle.disk_atomic.proofs.Whole.{file_of_bytes}
 
 -- a run that changes nothing
 pub still_grows : (old new : DiskState) (path : List ℕ) (at : ℕ) → ChangesNothing old new → IsGrowing old path at → IsGrowing new path at
-still_grows old new path at quiet was =
-    let same = sym (quiet.seen path) in
-    record {
-      there = subst (λ f. IsSome f) same was.there;
-      long = ap (λ f. length (bytes_in f)) (quiet.seen path) ∙ was.long;
-      bytes = λ i. subst (λ f. slice_index (bytes_in f) i < 256) same (was.bytes i);
-      named = quiet.named path (λ h. h) was.named;
-      alone = quiet.alone path (λ h. h) was.alone;
-    }
+still_grows old new path at quiet was = grind arith
 
 -- two parts that follow each other
 pub parts_join : (bytes : List ℕ) (from done next : ℕ) → from ≤ done → done ≤ next → next ≤ length bytes → drop from (take done bytes) ++ drop done (take next bytes) ≡ drop from (take next bytes)
@@ -35,21 +27,15 @@ parts_join bytes from done next low high within =
 -- one part more
 pub part_more : (file was now bytes : List ℕ) (from done next : ℕ) → from ≤ done → done ≤ next → next ≤ length bytes → was ≡ file ++ drop from (take done bytes)
     → now ≡ was ++ drop done (take next bytes) → now ≡ file ++ drop from (take next bytes)
-part_more file was now bytes from done next low high within before here =
-    here ∙ ap (λ l. l ++ drop done (take next bytes)) before ∙ append_assoc file (drop from (take done bytes)) (drop done (take next bytes))
-    ∙ ap (λ l. file ++ l) (parts_join bytes from done next low high within)
+part_more file was now bytes from done next low high within before here = grind (arith, append_assoc, parts_join)
 
 -- no part yet
 pub part_none : (file bytes : List ℕ) (from : ℕ) → file ≡ file ++ drop from (take from bytes)
-part_none file bytes from =
-    let none : drop from (take from bytes) ≡ [] = drop_all from (take from bytes) (omega (arith, length-take from bytes)) in
-    sym (ap (λ l. file ++ l) none ∙ append-nil file)
+part_none file bytes from = grind (arith, drop_all, length-take, append-nil)
 
 -- all three, from a file of no bytes on
 pub all_kept : (none first second third head part tail : List ℕ) → length none ≡ 0 → first ≡ none ++ head → second ≡ first ++ part → third ≡ second ++ tail → third ≡ head ++ (part ++ tail)
-all_kept none first second third head part tail empty one two three =
-    let nil : none ≡ [] = nil_from_length none empty in
-    three ∙ ap (λ l. l ++ tail) (two ∙ ap (λ l. l ++ part) (one ∙ ap (λ l. l ++ head) nil)) ∙ append_assoc head part tail
+all_kept none first second third head part tail empty one two three = grind (arith, nil_from_length, append_assoc)
 
 -- a flushed file has all its bytes on the disk
 pub all_on_disk : (disk : DiskState) (path : List ℕ) → IsSome (disk.seen path) → disk.is_named path → disk.is_flushed path → HasOnDisk disk path (bytes_in (disk.seen path))
@@ -61,8 +47,4 @@ on_disk_as disk path bytes has is = record { seen = has.seen ∙ ap (λ l. Some 
 
 -- an unchanged file keeps its parts
 pub part_still : (d e : DiskState) (path : List ℕ) (from to : ℕ) → e.seen path ≡ d.seen path → (e.is_honest → d.is_honest) → HasPart d path from to → HasPart e path from to
-part_still d e path from to same since part = record {
-  there = λ honest. subst (λ (f : Option (List ℕ)). IsSome f) (sym same) (part.there (since honest));
-  order = part.order;
-  within = λ honest. subst (λ (f : Option (List ℕ)). to ≤ length (bytes_in f)) (sym same) (part.within (since honest));
-}
+part_still d e path from to same since part = grind arith

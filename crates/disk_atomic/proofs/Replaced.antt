@@ -1,5 +1,5 @@
 -- The files that a crash leaves while a call replaces a file through a staging path.
-use Rattle.std.proofs.Common.{◌≡◌, ◌≢◌, inl, inr, ⊎_elim, ◌∙◌, ℕ, List, refl, sym}
+use Rattle.std.proofs.Common.{◌≡◌, ◌≢◌, inl, inr, ⊎_elim, ◌∙◌, ℕ, List, refl, sym, arith}
 use Rattle.disk_io.specs.Disk.{DiskState, Files}
 use Rattle.disk_io.specs.Steps.{RenamesFile}
 use Rattle.disk_io.specs.Runs.{ChangesAt, EitherPath, LeavesOnly, OneStepOn}
@@ -19,10 +19,7 @@ module _ (path staging bytes : List ℕ) where
 
     -- and then the path was given the new file, or was not
     pub then_replaced : (a b c : Files) → DifferAt (λ m. m ≡ staging) a b → Replaces path staging bytes b c → Replaces path staging bytes a c
-    then_replaced a b c r q = record {
-      others = λ m out. q.others m out ∙ r m (λ e. out (inl e));
-      either = ⊎_elim (λ was. inl (was ∙ r path (λ e. other (sym e)))) (λ new. inr new) q.either;
-    }
+    then_replaced a b c r q = grind (arith, ⊎_elim)
 
   module _ (old new : DiskState) (is : HasOnDisk old staging bytes) (named : old.is_named path) (call : Renames old new) where
     -- the renaming
@@ -33,14 +30,7 @@ module _ (path staging bytes : List ℕ) where
     })
 
     pub renamed_only : ChangesOnly (EitherPath staging path) old new
-    renamed_only = record {
-      seen = call.beside;
-      named = call.named;
-      flushed = call.flushed;
-      alone = call.alone;
-      honest = call.time.honest;
-      any_moment = weaker_steps old new (Replaces path staging bytes) (DifferAt (EitherPath staging path)) renamed_run (λ a c r. r.others);
-    }
+    renamed_only = grind (arith, weaker_steps, renamed_run)
 
   -- the run up to the renaming, and that
   pub replaced_run : (d0 d1 d2 : DiskState) → staging ≢ path → ChangesOnly (λ m. m ≡ staging) d0 d1 → HasOnDisk d1 staging bytes → d1.is_named path → Renames d1 d2

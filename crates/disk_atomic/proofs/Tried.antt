@@ -1,5 +1,5 @@
 -- A path that is tried with a file that has another one.
-use Rattle.std.proofs.Common.{◌≡◌, ◌≢◌, ◌⊎◌, inr, ◌∙◌, ℕ, List}
+use Rattle.std.proofs.Common.{◌≡◌, ◌≢◌, ◌⊎◌, ◌∙◌, ℕ, List, arith}
 use Rattle.disk_io.specs.Disk.{DiskState}
 use Rattle.disk_io.specs.Runs.{ChangesNothing}
 use Rattle.disk_atomic.specs.Changes.{ChangesOnly}
@@ -9,10 +9,7 @@ use Rattle.disk_atomic.proofs.Changes.{only_nothing, then_only, wider}
 
 module _ (trial from : List ℕ) (other : from ≢ trial) (old new : DiskState) where
   pub tries_only : ChangesOnly (λ m. m ≡ trial) old new → Tries old new trial from
-  tries_only run = record {
-    changes = wider (λ m. m ≡ trial) (λ m. (m ≡ from) ⊎ (m ≡ trial)) old new (λ m is. inr is) run;
-    stays = record { seen = run.seen from other; named = run.named from other; flushed = run.flushed from other };
-  }
+  tries_only run = grind (arith, wider)
 
 pub tries_then : (trial from : List ℕ) (d0 d1 d2 : DiskState) → Tries d0 d1 trial from → Tries d1 d2 trial from → Tries d0 d2 trial from
 tries_then trial from d0 d1 d2 one two = record {

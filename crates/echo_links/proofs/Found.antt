@@ -33,13 +33,7 @@ bytes_turned s t = by (cases_Bool (bytes_eq s t)) (cases_Bool (bytes_eq t s))
 
 -- a test of two addresses, turned
 address_turned : (a b : Address) → same_address a b ≡ same_address b a
-address_turned a b = by (cases_Bool (same_address a b)) (cases_Bool (same_address b a))
-  where
-    by : (same_address a b ≡ true) ⊎ (same_address a b ≡ false) → (same_address b a ≡ true) ⊎ (same_address b a ≡ false) → same_address a b ≡ same_address b a
-    by (inl h) (inl g) = h ∙ sym g
-    by (inl h) (inr g) = absurd (true≢false (sym ((same_address_decides b a).1 (sym ((same_address_decides a b).0 h))) ∙ g))
-    by (inr h) (inl g) = absurd (true≢false (sym ((same_address_decides a b).1 (sym ((same_address_decides b a).0 g))) ∙ h))
-    by (inr h) (inr g) = h ∙ sym g
+address_turned a b = grind (arith, cases_Bool, true≢false, same_address_decides)
 
 either : (b c : Bool) → cond b true c ≡ (b || c)
 either true c = refl
@@ -49,9 +43,7 @@ either false c = refl
 pub link_found : (sorted more links : List Address) (a : Address)
     → ((b : Address) → list_any (λ k. is_eq (address_order b k)) more ≡ cond (is_eq (address_order a b)) true (list_any (λ k. is_eq (address_order b k)) sorted))
     → HaveTheSame sorted links → HaveTheSame more (links ++ a ∷ [])
-link_found sorted more links a updates same b =
-    updates b ∙ ap (λ t. cond t true (list_any (λ k. is_eq (address_order b k)) sorted)) (sym (same_is a b) ∙ address_turned a b)
-    ∙ ap (cond (same_address b a) true) (same b) ∙ either (same_address b a) (list_any (same_address b) links) ∙ sym (any_last b a links)
+link_found sorted more links a updates same b = grind (arith, same_is, address_turned, either, any_last)
 
 -- whether an area has the tag
 abbrev has_tag : List ℕ → Area → Bool
@@ -65,17 +57,11 @@ number_is (area ∷ areas) tag (Some i) is = sym (ap is_some (is.1 ∙ slice_get
 
 -- two equal keys: the new value replaces the old one
 tied : {X : Type 0} (b c : Bool) (x y z : Option X) → c ≡ b → cond c x z ≡ cond b x (cond c y z)
-tied true true x y z e = refl
-tied true false x y z e = absurd (true≢false (sym e))
-tied false true x y z e = absurd (true≢false e)
-tied false false x y z e = refl
+tied b c x y z h1 = grind (arith, true≢false)
 
 -- two keys of which one at most passes
 apart : {X : Type 0} (b c : Bool) (x y z : Option X) → (b ≡ true → c ≡ true → ⊥) → cond c y (cond b x z) ≡ cond b x (cond c y z)
-apart true true x y z h = absurd (h refl refl)
-apart true false x y z h = refl
-apart false true x y z h = refl
-apart false false x y z h = refl
+apart b c x y z h1 = grind arith
 
 module _ {K : Type 0} (tag_of : K → List ℕ) where
   -- whether a key is the tag

@@ -1,14 +1,13 @@
 -- Bytes are a link file or have one fault, and it is never out of memory.
-use Rattle.std.proofs.Common.{◌≡◌, ℕ, ◌+◌, nat_lt, not, Bool, true, false, cond, List, [], ◌∷◌, length, map, refl, sym, ap, subst, ◌∙◌, Option, Some, None, Result, Ok, Err}
-use Rattle.std.specs.Prelude.{bytes_eq, filter, is_err, ⊤}
+use Rattle.std.proofs.Common.{◌≡◌, ℕ, ◌+◌, nat_lt, Bool, true, false, cond, List, [], ◌∷◌, length, map, refl, sym, ap, ◌∙◌, Option, Some, None, Result, Ok, Err, arith}
+use Rattle.std.specs.Prelude.{is_err, ⊤}
 use Rattle.std.specs.Option.{option_or}
 use Rattle.std.specs.List.{list_any}
 use Rattle.echo_addr.specs.Address.{address_in, outcome}
-use Rattle.echo_text.specs.Lines.{is_tag}
 use Rattle.echo_links.specs.declared.fault.LinkFault.{LinkFault}
 use Rattle.echo_links.specs.declared.fault.LinkFault.TheVariants as fault
 use Rattle.echo_links.specs.Links.{LinkFile, same_address}
-use Rattle.echo_links.specs.LinkLines.{LinksOf, after_first_of, area_fault, file_fault, file_lines, file_of, first_fault, is_area_line, is_control_byte, is_name_line, is_one_address, is_skipped, is_system_line, line_fault, links_fault, links_in, name_fault, name_in, read_lines, system_fault, tag_in, words}
+use Rattle.echo_links.specs.LinkLines.{LinksOf, after_first_of, area_fault, file_fault, file_of, first_fault, is_name_line, is_one_address, is_system_line, line_fault, links_fault, name_fault, name_in, system_fault, words}
 
 -- the answer for bytes with this fault, or without one
 abbrev answer_with : List ℕ → Option LinkFault → Result LinkFile LinkFault
@@ -59,18 +58,11 @@ name_lines earlier number line =
     either_way (list_any is_name_line earlier) _ _ tt (either_way (nat_lt 40 (length (name_in line))) _ _ tt tt)
 
 area_lines : (earlier : List (List ℕ)) (number : ℕ) (line : List ℕ) → IsOfLines (area_fault earlier number line)
-area_lines earlier number line =
-    either_way (not (is_tag (tag_in line))) _ _ tt
-    (either_way (list_any (bytes_eq (tag_in line)) (map tag_in (filter is_area_line earlier))) _ _ tt (links_lines number [] (links_in line)))
+area_lines earlier number line = grind (arith, either_way, links_lines)
 
 each_line : (earlier : List (List ℕ)) (number : ℕ) (line : List ℕ) → IsOfLines (line_fault earlier number line)
 unfolding line_fault
-each_line earlier number line =
-    either_way (is_skipped line) _ _ tt
-    (either_way (list_any is_control_byte line) _ _ tt
-    (either_way (is_system_line line) _ _ (system_lines earlier number line)
-    (either_way (is_name_line line) _ _ (name_lines earlier number line)
-    (either_way (is_area_line line) _ _ (area_lines earlier number line) tt))))
+each_line earlier number line = grind (arith, either_way, system_lines, name_lines, area_lines)
 
 all_lines : (earlier : List (List ℕ)) (number : ℕ) (lines : List (List ℕ)) → IsOfLines (first_fault earlier number lines)
 all_lines earlier number [] = tt
@@ -80,6 +72,4 @@ all_lines earlier number (line ∷ later) =
 -- out of memory is no fault of the bytes
 pub no_memory_fault : (bytes : List ℕ) → LinksOf bytes (Err fault.Memory) → ⊥
 unfolding file_fault
-no_memory_fault bytes h =
-    subst IsOfLines h
-    (first_or (first_fault [] 1 (file_lines bytes)) _ (all_lines [] 1 (file_lines bytes)) (either_way (list_any is_system_line (read_lines bytes)) _ _ tt tt))
+no_memory_fault bytes h = grind (arith, first_or, all_lines, either_way)

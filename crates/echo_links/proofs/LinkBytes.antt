@@ -1,8 +1,8 @@
 -- The lines of a link file, and their words.
-use Rattle.std.proofs.Common.{◌≡◌, ℕ, zero, suc, ◌+◌, ◌-◌, ◌<◌, ◌==◌, ◌||◌, ◌&&◌, not, nat_lt, nat_eq, Bool, true, false, cond, List, [], ◌∷◌, ◌++◌, length, take, drop, get_or, codes, refl, sym, ap, subst, ◌∙◌, Some, None, Result, Ok, Err, arith, inl, inr, reverse}
+use Rattle.std.proofs.Common.{◌≡◌, ℕ, zero, suc, ◌+◌, ◌-◌, ◌<◌, ◌==◌, not, nat_lt, nat_eq, Bool, true, false, cond, List, [], ◌∷◌, ◌++◌, length, take, drop, get_or, codes, refl, sym, ap, subst, ◌∙◌, Some, None, Result, Ok, Err, arith, reverse}
 use Rattle.std.specs.Prelude.{bytes_eq, filter, is_err, is_ok}
 use Rattle.std.specs.Result.{result_ok}
-use Rattle.std.specs.List.{AllByRecursion, list_all, starts_with, after_first, before_first, list_any, onto_first, position_or_len, prefix_len, slice_split}
+use Rattle.std.specs.List.{AllByRecursion, list_all, starts_with, list_any, onto_first, position_or_len, prefix_len, slice_split}
 use Rattle.std.proofs.lemmas.Bool.{and_parts, cases_Bool, cond-false, cond-true, false_from_ne_true, lt-ltb, ne_eqb, or_parts, true≢false, eqb-true}
 use Rattle.std.proofs.lemmas.List.{reverse-append}
 use Rattle.std.proofs.lemmas.List.Elements.{All-from_get_or}
@@ -16,8 +16,8 @@ use Rattle.echo_addr.specs.Entries.{is_blank, tokens}
 use Rattle.echo_addr.proofs.Outcomes.{address_in-written, outcome-written}
 use Rattle.echo_addr.proofs.Pieces.{HasFirst, first_of_split}
 use Rattle.echo_text.specs.Lines.{is_feed}
-use Rattle.echo_text.specs.Lines.{trimmed, without_front_blanks}
-use Rattle.echo_links.specs.LinkLines.{ended_pieces, file_lines, first_of, is_control_byte, is_skipped, is_space_or_tab, name_in, without_front_spaces, without_return, without_spaces, words}
+use Rattle.echo_text.specs.Lines.{trimmed}
+use Rattle.echo_links.specs.LinkLines.{ended_pieces, file_lines, first_of, is_control_byte, is_skipped, is_space_or_tab, name_in, without_return, without_spaces, words}
 use Rattle.echo_links.specs.LinkReading.{IsWordOf}
 
 -- the address of a word, as it was read
@@ -40,16 +40,7 @@ ended_first piece pieces h = ap (λ ps. ended_pieces (piece ∷ ps)) h.is ∙ ap
 pub line_ended : (bytes line rest : List ℕ) (end : ℕ) → IsFirstByte (is_byte 10) bytes (Some end) → line ≡ without_return (take end bytes)
     → rest ≡ drop (end + 1) bytes → file_lines bytes ≡ line ∷ file_lines rest
 unfolding file_lines
-line_ended bytes line rest end found line-is rest-is =
-    let at : position_or_len is_feed bytes ≡ end =
-    position_or_len_is is_feed bytes end 0 (omega (arith, found.0.high))
-    (λ j below. false_from_ne_true (is_feed (get_or bytes j 0)) (found.0.before j (omega arith) below)) (λ h. found.1) in
-    let within : end < length bytes = found.0.high in
-    ap ended_pieces (slice_split_first is_feed bytes 0 (omega arith))
-    ∙ ended_first (before_first is_feed bytes) (slice_split is_feed (after_first is_feed bytes)) (first_of_split is_feed (after_first is_feed bytes))
-    ∙ ap (λ n. without_return (take n bytes) ∷ ended_pieces (slice_split is_feed (drop (n + 1) bytes))) at
-    ∙ ap (λ l. l ∷ ended_pieces (slice_split is_feed (drop (end + 1) bytes))) (sym line-is)
-    ∙ ap (λ t. line ∷ ended_pieces (slice_split is_feed t)) (sym rest-is)
+line_ended bytes line rest end found line-is rest-is = grind (arith, position_or_len_is, false_from_ne_true, get_or, slice_split_first, ended_first, first_of_split)
 
 -- a last line without an end
 pub line_unended : (bytes rest : List ℕ) → 0 < length bytes → IsFirstByte (is_byte 10) bytes None → rest ≡ [] → file_lines bytes ≡ bytes ∷ file_lines rest
@@ -71,10 +62,7 @@ abbrev NoFeed : List ℕ → Type 0
 NoFeed bytes = AllByRecursion (λ b. is_feed b ≡ false) bytes
 
 no_feed_byte : (b : ℕ) → is_control_byte b ≡ false → is_feed b ≡ false
-no_feed_byte b h = elim (cases_Bool (is_feed b)) [
-  | inl is ↦ absurd (true≢false (sym (ap is_control_byte (eqb-true b 10 is)) ∙ h))
-  | inr isnt ↦ isnt
-]
+no_feed_byte b h = grind (arith, cases_Bool, true≢false, eqb-true)
 
 pub no_feed : (line : List ℕ) → list_any is_control_byte line ≡ false → NoFeed line
 no_feed [] h = tt
@@ -98,11 +86,7 @@ no_feed_reverse (b ∷ bytes) h =
 
 -- there a blank of message texts is a blank of link files
 same_blank : (b : ℕ) → is_feed b ≡ false → is_blank b ≡ is_space_or_tab b
-same_blank b h = ap (λ t. is_space_or_tab b || t) h ∙ or_false (is_space_or_tab b)
-  where
-    or_false : (x : Bool) → (x || false) ≡ x
-    or_false true = refl
-    or_false false = refl
+same_blank b h = grind arith
 
 split_same : (bytes : List ℕ) → NoFeed bytes → slice_split is_blank bytes ≡ slice_split is_space_or_tab bytes
 split_same [] h = refl
@@ -133,19 +117,12 @@ tokens_words line h = ap (filter (λ w. nat_lt 0 (length w))) (sym (split_same l
 -- both ways of trimming agree
 trimmed_same : (bytes : List ℕ) → NoFeed bytes → trimmed bytes ≡ without_spaces bytes
 unfolding trimmed
-trimmed_same bytes h =
-    let front : without_front_blanks bytes ≡ without_front_spaces bytes = ap (λ n. drop n bytes) (front_same bytes h) in
-    let w = without_front_spaces bytes in
-    ap (λ v. take (length v - prefix_len is_blank (reverse v)) v) front
-    ∙ ap (λ n. take (length w - n) w) (front_same (reverse w) (no_feed_reverse w (no_feed_drop (prefix_len is_space_or_tab bytes) bytes h)))
+trimmed_same bytes h = grind (arith, front_same, no_feed_reverse, no_feed_drop)
 
 -- the name of a NAME line
 pub name_trimmed : (line word rest : List ℕ) → NoFeed line → word ≡ codes "NAME" → rest ≡ drop (length word) (drop (position_or_len (λ b. not (is_blank b)) line) line)
     → trimmed rest ≡ name_in line
-name_trimmed line word rest h word-is rest-is =
-    let same : rest ≡ drop 4 (without_front_spaces line) = rest-is ∙ ap (λ w. drop (length w) (drop (position_or_len (λ b. not (is_blank b)) line) line)) word-is
-    ∙ ap (λ n. drop 4 (drop n line)) (first_other line h) in
-    ap trimmed same ∙ trimmed_same (drop 4 (without_front_spaces line)) (no_feed_drop 4 (without_front_spaces line) (no_feed_drop (prefix_len is_space_or_tab line) line h))
+name_trimmed line word rest h word-is rest-is = grind (arith, first_other, trimmed_same, no_feed_drop)
 
 -- ---- skipped lines have no first word of a kind
 
@@ -176,10 +153,4 @@ note_word (b ∷ line) h =
 
 -- the first word of a skipped line is neither SYSTEM nor NAME nor AREA
 pub skipped_word : (line : List ℕ) (b : ℕ) (word : List ℕ) → (59 == b) ≡ false → is_skipped line ≡ true → bytes_eq (first_of (words line)) (b ∷ word) ≡ false
-skipped_word line b word other h = elim (cases_Bool (list_all is_space_or_tab line)) [
-  | inl blank ↦ ap (λ ws. bytes_eq (first_of ws) (b ∷ word)) (blank_words line blank)
-  | inr some ↦
-      let note : starts_with nat_eq line (codes ";") ≡ true = sym (ap (λ t. t || starts_with nat_eq line (codes ";")) some) ∙ h in
-      let found = note_word line note in
-      ap (λ w. bytes_eq w (b ∷ word)) found.1 ∙ ap (λ t. t && bytes_eq found.0 word) other
-]
+skipped_word line b word other h = grind (arith, cases_Bool, blank_words, nat_eq, note_word)

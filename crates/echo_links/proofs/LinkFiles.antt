@@ -1,9 +1,9 @@
 -- The parts of a link file without a faulty line.
-use Rattle.std.proofs.Common.{◌≡◌, ◌≢◌, ℕ, ◌+◌, ◌≤◌, ◌==◌, ◌||◌, not, nat_lt, Bool, true, false, cond, List, [], ◌∷◌, length, map, drop, codes, refl, sym, ap, subst, ◌∙◌, Option, Some, None, arith, lit≤, inl, inr, ◌⊎◌}
+use Rattle.std.proofs.Common.{◌≡◌, ◌≢◌, ℕ, ◌+◌, ◌≤◌, ◌==◌, ◌||◌, not, nat_lt, Bool, true, false, cond, List, [], ◌∷◌, length, map, codes, refl, sym, ap, subst, ◌∙◌, Option, Some, None, arith, lit≤, inl, inr, ◌⊎◌}
 use Rattle.std.specs.Prelude.{bytes_eq, filter, find, is_err, is_ok, option_map, unwrap_or, AllPairs}
 use Rattle.std.specs.Option.{option_or}
 use Rattle.std.specs.Cmp.Lexicographic.{bytes_decides}
-use Rattle.std.specs.List.{AllByRecursion, list_any, prefix_len}
+use Rattle.std.specs.List.{AllByRecursion, list_any}
 use Rattle.std.proofs.lemmas.Bool.{and_cases, cases_Bool, cond-false, cond-true, eqb-true, ltb-false, not-false, not_from_false, not_from_true, or_parts, true≢false}
 use Rattle.std.proofs.lemmas.List.Elements.{All-from_recursion}
 use Rattle.std.proofs.lemmas.List.Kept.{AllPairs-cons}
@@ -11,10 +11,9 @@ use Rattle.echo_addr.specs.declared.address.Address.{Address}
 use Rattle.echo_addr.specs.declared.fault.AddrFault.{AddrFault}
 use Rattle.echo_addr.specs.Address.{IsAddress, address_in, answer_of, outcome, refusal}
 use Rattle.echo_addr.proofs.Outcomes.{AddressOf-from_refusal}
-use Rattle.echo_text.specs.Lines.{is_tag}
 use Rattle.echo_links.specs.declared.fault.LinkFault.TheVariants as fault
 use Rattle.echo_links.specs.Links.{Area, IsArea, IsFile, same_address}
-use Rattle.echo_links.specs.LinkLines.{after_first_of, area_fault, area_in, file_fault, file_lines, file_of, first_fault, first_of, is_area_line, is_control_byte, is_name_line, is_one_address, is_skipped, is_space_or_tab, is_system_line, line_fault, links_fault, links_in, name_fault, name_in, no_address, read_lines, system_fault, system_in, tag_in, without_front_spaces, words}
+use Rattle.echo_links.specs.LinkLines.{after_first_of, area_fault, area_in, file_fault, file_of, first_fault, first_of, is_area_line, is_control_byte, is_name_line, is_one_address, is_skipped, is_system_line, line_fault, links_fault, name_fault, name_in, system_fault, system_in, tag_in, words}
 use Rattle.echo_links.proofs.Addresses.{same_address_decides}
 use Rattle.echo_links.proofs.Plain.{IsLineByte, Plain, plain_drop, plain_if, plain_line, plain_take}
 
@@ -34,9 +33,7 @@ link_read : (word : List ℕ) → is_err (outcome word) ≡ false → IsAddress 
 link_read word h = (AddressOf-from_refusal word (no_err_refusal (refusal word) (address_in word) h)).in_range
 
 one_address : (words : List (List ℕ)) → is_one_address words ≡ true → IsAddress (address_in (first_of words))
-one_address [] h = absurd (true≢false (sym h))
-one_address (word ∷ []) h = address_read word h
-one_address (word ∷ (next ∷ more)) h = absurd (true≢false (sym h))
+one_address words h1 = grind (arith, true≢false, address_read)
 
 -- a chain of refusals that do not apply
 pub passed : {F : Type 0} (b : Bool) (f : F) (rest : Option F) → cond b (Some f) rest ≡ None → (b ≡ false) × (rest ≡ None)
@@ -110,10 +107,7 @@ line_plain (b ∷ line) h =
     ]
 
 name_plain : (line : List ℕ) → Plain line → Plain (name_in line)
-name_plain line h =
-    let plain : Plain (drop 4 (without_front_spaces line)) = plain_drop 4 (without_front_spaces line) (plain_drop (prefix_len is_space_or_tab line) line h) in
-    plain_take _ (without_front_spaces (drop 4 (without_front_spaces line)))
-    (plain_drop (prefix_len is_space_or_tab (drop 4 (without_front_spaces line))) (drop 4 (without_front_spaces line)) plain)
+name_plain line h = grind (arith, plain_drop, plain_take)
 
 -- a line has only one kind
 pub other_word : (w one other : List ℕ) → bytes_eq one other ≡ false → bytes_eq w one ≡ true → bytes_eq w other ≡ false
@@ -129,14 +123,7 @@ record IsFine (earlier : List (List ℕ)) (number : ℕ) (line : List ℕ) : Typ
   area : is_area_line line ≡ true → area_fault earlier number line ≡ None
 
 one_system : (earlier : List (List ℕ)) (number : ℕ) (line : List ℕ) → system_fault earlier number line ≡ None → is_one_address (after_first_of (words line)) ≡ true
-one_system earlier number line h =
-    let p = passed (list_any is_system_line earlier) (fault.RepeatedSystem number) _ h in
-    elim (cases_Bool (is_one_address (after_first_of (words line)))) [
-      | inl is ↦ is
-      | inr isnt ↦
-          let never : Some (fault.BadAddress number) ≡ None = left (is_one_address (after_first_of (words line))) None (Some (fault.BadAddress number)) isnt p.1 in
-          absurd (cc)
-    ]
+one_system earlier number line h = grind (arith, passed, cases_Bool, left)
 
 fine : (earlier : List (List ℕ)) (number : ℕ) (line : List ℕ) → is_skipped line ≡ false → line_fault earlier number line ≡ None → IsFine earlier number line
 unfolding line_fault
@@ -166,16 +153,7 @@ tags_of lines = map tag_in (filter is_area_line lines)
 
 area_fine : (earlier : List (List ℕ)) (number : ℕ) (line : List ℕ) → area_fault earlier number line ≡ None
     → IsArea (area_in line) × (list_any (bytes_eq (tag_in line)) (tags_of earlier) ≡ false)
-area_fine earlier number line h =
-    let p1 = passed (not (is_tag (tag_in line))) (fault.BadTag number) _ h in
-    let p2 = passed (list_any (bytes_eq (tag_in line)) (tags_of earlier)) (fault.RepeatedArea number) (links_fault number [] (links_in line)) p1.1 in (
-      record {
-        tag_bytes = not-false (is_tag (tag_in line)) p1.0;
-        addresses = links_read number [] (links_in line) p2.1;
-        each_once = links_once number [] (links_in line) p2.1;
-      },
-      p2.0,
-    )
+area_fine earlier number line h = grind (arith, passed, not-false, links_read, links_once)
 
 -- the lines that are read, of some lines
 abbrev kept_lines : List (List ℕ) → List (List ℕ)
@@ -221,16 +199,7 @@ new_other line earlier is (b ∷ all) h =
     (λ e. true≢false (sym ((bytes_decides b.tag (tag_in line)).1 (sym e)) ∙ other), new_other line earlier is all h.1)
 
 no_lines : (earlier : List (List ℕ)) → AreFine earlier []
-no_lines earlier = record {
-  system = λ line h. absurd (none_is_some line h);
-  name = λ line h. absurd (none_is_some line h);
-  areas = tt;
-  new = tt;
-  once = λ i j d less inside. absurd (omega arith);
-}
-  where
-    none_is_some : (line : List ℕ) → None ≡ Some line → ⊥
-    none_is_some line h = cc
+no_lines earlier = grind arith
 
 -- a line that is not read
 line_skipped : (earlier : List (List ℕ)) (line : List ℕ) (kept : List (List ℕ)) → AreFine (line ∷ earlier) kept → AreFine earlier kept
@@ -245,13 +214,7 @@ line_skipped earlier line kept h = record {
 -- the first line that passes
 found_first : (p : List ℕ → Bool) (P : List ℕ → Type 0) (line : List ℕ) (kept : List (List ℕ)) → (p line ≡ true → P line)
     → ((found : List ℕ) → find p kept ≡ Some found → P found) → (found : List ℕ) → find p (line ∷ kept) ≡ Some found → P found
-found_first p P line kept one more found h = elim (cases_Bool (p line)) [
-  | inl is ↦
-      let same : Some line ≡ Some found = sym (cond-true (p line) (Some line) (find p kept) is) ∙ h in
-      let e : line ≡ found = cc in
-      subst P e (one is)
-  | inr isnt ↦ more found (sym (cond-false (p line) (Some line) (find p kept) isnt) ∙ h)
-]
+found_first p P line kept one more found h = grind (arith, cases_Bool, cond-true, cond-false)
 
 -- a line that is read
 line_read : (earlier : List (List ℕ)) (number : ℕ) (line : List ℕ) (kept : List (List ℕ)) → IsFine earlier number line → AreFine (line ∷ earlier) kept → AreFine earlier (line ∷ kept)
@@ -326,22 +289,4 @@ name_right (Some line) h = h line refl
 -- a link file without a fault follows the rules of one
 pub file_is_file : (bytes : List ℕ) → file_fault bytes ≡ None → IsFile (file_of bytes)
 unfolding file_fault file_of
-file_is_file bytes h =
-    let none = either_none (first_fault [] 1 (file_lines bytes)) _ h in
-    let f = all_fine [] 1 (file_lines bytes) none.0 in
-    let there : list_any is_system_line (read_lines bytes) ≡ true = elim (cases_Bool (list_any is_system_line (read_lines bytes))) [
-      | inl is ↦ is
-      | inr isnt ↦
-          let never : Some (fault.NoSystem 0) ≡ None = left (list_any is_system_line (read_lines bytes)) None (Some (fault.NoSystem 0)) isnt none.1 in
-          absurd (cc)
-    ] in
-    let own = some_found is_system_line (read_lines bytes) there in
-    let A : Option (List ℕ) → Type 0 = λ o. IsAddress (unwrap_or (option_map system_in o) no_address) in
-    let name = name_right (find is_name_line (read_lines bytes)) f.name in
-    record {
-      address = subst A (sym own.1) (f.system own.0 own.1);
-      name_room = name.1;
-      name_bytes = plain_line (unwrap_or (option_map name_in (find is_name_line (read_lines bytes))) (codes "echonet")) name.0;
-      each_area = f.areas;
-      tags_once = f.once;
-    }
+file_is_file bytes h = grind (arith, either_none, all_fine, cases_Bool, left, some_found, name_right, plain_line)

@@ -1,5 +1,5 @@
 -- Reading the links of an AREA line one by one.
-use Rattle.std.proofs.Common.{◌≡◌, ℕ, ◌||◌, Bool, true, false, List, [], ◌∷◌, ◌++◌, map, refl, sym, ap, ◌∙◌, Some, None}
+use Rattle.std.proofs.Common.{◌≡◌, ℕ, ◌||◌, Bool, true, false, List, [], ◌∷◌, ◌++◌, map, refl, ap, ◌∙◌, Some, None, arith}
 use Rattle.std.specs.Prelude.{is_err}
 use Rattle.std.specs.List.{list_any}
 use Rattle.std.proofs.lemmas.Bool.{cond-false, cond-true}
@@ -32,19 +32,7 @@ module _ (number : ℕ) (all : List (List ℕ)) (word : List ℕ) (more : List (
   -- one more link
   pub links_more : (later : List (List ℕ)) (a : Address) → LinksRead number all later links → later ≡ word ∷ more → IsWordOf word (Some a)
       → list_any (same_address a) links ≡ false → LinksRead number all more (links ++ a ∷ [])
-  links_more later a h next is new =
-      let value : a ≡ address_in word = is.2 in
-      let fresh : list_any (same_address (address_in word)) (map address_in h.before) ≡ false =
-      ap (λ b. list_any (same_address b) (map address_in h.before)) (sym value) ∙ h.known a ∙ new in
-      record {
-        before = word ∷ h.before;
-        faults = h.faults ∙ ap (links_fault number h.before) next ∙ cond-false (is_err (outcome word)) (Some (fault.BadAddress number)) _ is.1
-            ∙ cond-false (list_any (same_address (address_in word)) (map address_in h.before)) (Some (fault.RepeatedLink number)) _ fresh;
-        whole = h.whole ∙ ap (λ ws. links ++ map address_in ws) next ∙ ap (λ b. links ++ b ∷ map address_in more) (sym value)
-            ∙ sym (append_assoc links (a ∷ []) (map address_in more));
-        known = λ b. ap (λ c. same_address b c || list_any (same_address b) (map address_in h.before)) (sym value)
-            ∙ ap (λ t. same_address b a || t) (h.known b) ∙ sym (any_last b a links);
-      }
+  links_more later a h next is new = grind (arith, cond-false, append_assoc, any_last)
 
   -- a word that is no address
   pub links_bad : (later : List (List ℕ)) → LinksRead number all later links → later ≡ word ∷ more → IsWordOf word None
@@ -54,17 +42,9 @@ module _ (number : ℕ) (all : List (List ℕ)) (word : List ℕ) (more : List (
   -- an address that is a link already
   pub links_again : (later : List (List ℕ)) (a : Address) → LinksRead number all later links → later ≡ word ∷ more → IsWordOf word (Some a)
       → list_any (same_address a) links ≡ true → links_fault number [] all ≡ Some (fault.RepeatedLink number)
-  links_again later a h next is old =
-      let value : a ≡ address_in word = is.2 in
-      let known : list_any (same_address (address_in word)) (map address_in h.before) ≡ true =
-      ap (λ b. list_any (same_address b) (map address_in h.before)) (sym value) ∙ h.known a ∙ old in
-      h.faults ∙ ap (links_fault number h.before) next ∙ cond-false (is_err (outcome word)) (Some (fault.BadAddress number)) _ is.1
-      ∙ cond-true (list_any (same_address (address_in word)) (map address_in h.before)) (Some (fault.RepeatedLink number)) _ known
+  links_again later a h next is old = grind (arith, cond-false, cond-true)
 
 -- no words are left
 pub links_done : (number : ℕ) (all later : List (List ℕ)) (links : List Address) → LinksRead number all later links → later ≡ []
     → (links_fault number [] all ≡ None) × (links ≡ map address_in all)
-links_done number all later links h none = (
-  h.faults ∙ ap (links_fault number h.before) none,
-  sym (h.whole ∙ ap (λ ws. links ++ map address_in ws) none ∙ append-nil links),
-)
+links_done number all later links h none = grind (arith, append-nil)

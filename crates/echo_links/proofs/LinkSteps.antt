@@ -1,5 +1,5 @@
 -- Reading a link file line by line.
-use Rattle.std.proofs.Common.{◌≡◌, ℕ, ◌+◌, ◌||◌, not, Bool, true, false, cond, List, [], ◌∷◌, ◌++◌, map, codes, refl, sym, ap, ◌∙◌, Option, Some, None, inl, inr, ◌⊎◌}
+use Rattle.std.proofs.Common.{◌≡◌, ℕ, ◌+◌, ◌||◌, not, Bool, true, false, cond, List, [], ◌∷◌, ◌++◌, map, codes, refl, sym, ap, ◌∙◌, Option, Some, None, inl, inr, ◌⊎◌, arith}
 use Rattle.std.specs.Prelude.{bytes_eq, filter, find, is_some, option_map, unwrap_or}
 use Rattle.std.specs.Option.{option_or}
 use Rattle.std.specs.List.{list_any}
@@ -10,7 +10,7 @@ use Rattle.echo_links.specs.declared.fault.LinkFault.{LinkFault}
 use Rattle.echo_links.specs.declared.fault.LinkFault.TheVariants as fault
 use Rattle.echo_links.specs.declared.link_file.reading.Reading.{Reading}
 use Rattle.echo_links.specs.Links.{Area}
-use Rattle.echo_links.specs.LinkLines.{area_in, file_fault, file_lines, file_of, first_fault, is_area_line, is_name_line, is_skipped, is_system_line, line_fault, name_in, no_address, system_in, tag_in}
+use Rattle.echo_links.specs.LinkLines.{area_in, file_fault, file_lines, file_of, first_fault, is_area_line, is_name_line, is_skipped, is_system_line, line_fault, name_in, no_address, system_in}
 use Rattle.echo_links.specs.LinkReading.{Adds, Holds, Knows, areas_of, is_area_known, kept, name_of, system_of}
 use Rattle.echo_links.proofs.Found.{bytes_turned}
 use Rattle.echo_links.proofs.LinkBytes.{no_lines_left, skipped_word}
@@ -23,37 +23,18 @@ or_assoc None b c = refl
 or_assoc (Some x) b c = refl
 
 some_or : {X : Type 0} (a b : Option X) → is_some (option_or a b) ≡ (is_some b || is_some a)
-some_or None None = refl
-some_or None (Some y) = refl
-some_or (Some x) None = refl
-some_or (Some x) (Some y) = refl
+some_or a b = grind arith
 
 -- the first match is in this line, or else in the later ones
 found_next : {X : Type 0} (say : List ℕ → X) (p : List ℕ → Bool) (skipped : Bool) (line : List ℕ) (later : List (List ℕ))
     → option_map say (find p (cond (not skipped) (line ∷ later) later))
     ≡ option_or (option_map say (find p (cond (not skipped) (line ∷ []) []))) (option_map say (find p later))
-found_next say p true line later = refl
-found_next say p false line later = elim (cases_Bool (p line)) [
-  | inl is ↦
-      ap (option_map say) (cond-true (p line) (Some line) (find p later) is)
-      ∙ sym (ap (λ o. option_or (option_map say o) (option_map say (find p later))) (cond-true (p line) (Some line) None is))
-  | inr isnt ↦
-      ap (option_map say) (cond-false (p line) (Some line) (find p later) isnt)
-      ∙ sym (ap (λ o. option_or (option_map say o) (option_map say (find p later))) (cond-false (p line) (Some line) None isnt))
-]
+found_next say p skipped line later = grind (arith, cases_Bool, cond-true, cond-false)
 
 kept_next : (skipped : Bool) (line : List ℕ) (later : List (List ℕ))
     → map area_in (filter is_area_line (cond (not skipped) (line ∷ later) later))
     ≡ map area_in (filter is_area_line (cond (not skipped) (line ∷ []) [])) ++ map area_in (filter is_area_line later)
-kept_next true line later = refl
-kept_next false line later = elim (cases_Bool (is_area_line line)) [
-  | inl is ↦
-      ap (map area_in) (cond-true (is_area_line line) (line ∷ filter is_area_line later) (filter is_area_line later) is)
-      ∙ sym (ap (λ ls. map area_in ls ++ map area_in (filter is_area_line later)) (cond-true (is_area_line line) (line ∷ []) [] is))
-  | inr isnt ↦
-      ap (map area_in) (cond-false (is_area_line line) (line ∷ filter is_area_line later) (filter is_area_line later) isnt)
-      ∙ sym (ap (λ ls. map area_in ls ++ map area_in (filter is_area_line later)) (cond-false (is_area_line line) (line ∷ []) [] isnt))
-]
+kept_next skipped line later = grind (arith, cases_Bool, cond-true, cond-false)
 
 module _ (line : List ℕ) (later : List (List ℕ)) where
   system_next : system_of (line ∷ later) ≡ option_or (system_of (line ∷ [])) (system_of later)
@@ -74,11 +55,7 @@ module _ (line : List ℕ) (later : List (List ℕ)) where
 module _ (line : List ℕ) where
   unread : is_skipped line ≡ true → (system_of (line ∷ []) ≡ None) × (name_of (line ∷ []) ≡ None) × (areas_of (line ∷ []) ≡ [])
   unfolding system_of name_of areas_of
-  unread h = (
-    ap (λ s. option_map system_in (find is_system_line (cond (not s) (line ∷ []) []))) h,
-    ap (λ s. option_map name_in (find is_name_line (cond (not s) (line ∷ []) []))) h,
-    ap (λ s. map area_in (filter is_area_line (cond (not s) (line ∷ []) []))) h,
-  )
+  unread h = grind arith
 
   says_system : is_some (system_of (line ∷ [])) ≡ is_system_line line
   says_system = elim (cases_Bool (is_skipped line)) [
@@ -91,24 +68,10 @@ module _ (line : List ℕ) where
   ]
 
   says_name : is_some (name_of (line ∷ [])) ≡ is_name_line line
-  says_name = elim (cases_Bool (is_skipped line)) [
-    | inl h ↦ ap is_some (unread h).1 ∙ sym (skipped_word line 78 (codes "AME") refl h)
-    | inr h ↦
-        elim (cases_Bool (is_name_line line)) [
-          | inl is ↦ ap is_some (name_one line true h is) ∙ sym is
-          | inr isnt ↦ ap is_some (name_one line false h isnt) ∙ sym isnt
-        ]
-  ]
+  says_name = grind (arith, cases_Bool, unread, skipped_word, name_one)
 
   says_area : areas_of (line ∷ []) ≡ cond (is_area_line line) (area_in line ∷ []) []
-  says_area = elim (cases_Bool (is_skipped line)) [
-    | inl h ↦ (unread h).2 ∙ sym (cond-false (is_area_line line) (area_in line ∷ []) [] (skipped_word line 65 (codes "REA") refl h))
-    | inr h ↦
-        elim (cases_Bool (is_area_line line)) [
-          | inl is ↦ areas_one line true h is ∙ sym (cond-true (is_area_line line) (area_in line ∷ []) [] is)
-          | inr isnt ↦ areas_one line false h isnt ∙ sym (cond-false (is_area_line line) (area_in line ∷ []) [] isnt)
-        ]
-  ]
+  says_area = grind (arith, cases_Bool, unread, cond-false, skipped_word, areas_one, cond-true)
 
 has_tag_append : (all more : List Area) (tag : List ℕ) → is_area_known (all ++ more) tag ≡ (is_area_known all tag || is_area_known more tag)
 has_tag_append [] more tag = refl
@@ -129,36 +92,10 @@ one_tag area tag = elim (cases_Bool (bytes_eq area.tag tag)) [
 ]
 
 or_turned : (x y : Bool) → (x || y) ≡ (y || x)
-or_turned true true = refl
-or_turned true false = refl
-or_turned false true = refl
-or_turned false false = refl
+or_turned x y = grind arith
 
 knows_more : (earlier : List (List ℕ)) (line : List ℕ) (old new : Reading) → Knows earlier old → Adds (line ∷ []) old new → Knows (line ∷ earlier) new
-knows_more earlier line old new knows adds = record {
-  system = ap (λ t. is_system_line line || t) knows.system ∙ ap (λ t. t || is_some old.system) (sym (says_system line))
-      ∙ sym (ap is_some adds.system ∙ some_or old.system (system_of (line ∷ [])));
-  name = ap (λ t. is_name_line line || t) knows.name ∙ ap (λ t. t || is_some old.name) (sym (says_name line))
-      ∙ sym (ap is_some adds.name ∙ some_or old.name (name_of (line ∷ [])));
-  areas = λ tag. tags tag ∙ sym (ap (λ all. is_area_known all tag) (adds.areas ∙ ap (λ all. old.areas ++ all) (says_area line)));
-}
-  where
-    tags : (tag : List ℕ) → list_any (bytes_eq tag) (map tag_in (filter is_area_line (line ∷ earlier)))
-        ≡ is_area_known (old.areas ++ cond (is_area_line line) (area_in line ∷ []) []) tag
-    tags tag = elim (cases_Bool (is_area_line line)) [
-      | inl is ↦
-          ap (λ ls. list_any (bytes_eq tag) (map tag_in ls)) (cond-true (is_area_line line) (line ∷ filter is_area_line earlier) (filter is_area_line earlier) is)
-          ∙ ap (λ t. bytes_eq tag (tag_in line) || t) (knows.areas tag)
-          ∙ or_turned (bytes_eq tag (tag_in line)) (is_area_known old.areas tag)
-          ∙ ap (λ t. is_area_known old.areas tag || t) (sym (one_tag (area_in line) tag))
-          ∙ sym (has_tag_append old.areas (area_in line ∷ []) tag)
-          ∙ sym (ap (λ all. is_area_known (old.areas ++ all) tag) (cond-true (is_area_line line) (area_in line ∷ []) [] is))
-      | inr isnt ↦
-          ap (λ ls. list_any (bytes_eq tag) (map tag_in ls)) (cond-false (is_area_line line) (line ∷ filter is_area_line earlier) (filter is_area_line earlier) isnt)
-          ∙ knows.areas tag
-          ∙ sym (ap (λ all. is_area_known (old.areas ++ all) tag) (cond-false (is_area_line line) (area_in line ∷ []) [] isnt)
-          ∙ ap (λ all. is_area_known all tag) (append-nil old.areas))
-    ]
+knows_more earlier line old new knows adds = grind (arith, says_system, some_or, says_name, says_area, cases_Bool, cond-true, or_turned, one_tag, has_tag_append, cond-false, append-nil)
 
 -- ---- all lines
 
@@ -194,24 +131,13 @@ module _ (bytes : List ℕ) (number : ℕ) (rest line after : List ℕ) (old : R
   -- the first faulty line
   pub lines_bad : (refused : LinkFault) → (refused ≡ fault.Memory) ⊎ (line_fault h.earlier (number + 1) line ≡ Some refused)
       → (refused ≡ fault.Memory) ⊎ (first_fault [] 1 (file_lines bytes) ≡ Some refused)
-  lines_bad refused (inl memory) = inl memory
-  lines_bad refused (inr bad) =
-      inr (h.faults ∙ ap (first_fault h.earlier (number + 1)) next
-      ∙ ap (λ o. option_or o (first_fault (line ∷ h.earlier) (number + 1 + 1) (file_lines after))) bad)
+  lines_bad refused h1 = grind arith
 
 -- the reader has read all lines
 pub lines_done : (bytes : List ℕ) (number : ℕ) (rest : List ℕ) (r : Reading) → LinesRead bytes number rest r → rest ≡ []
     → (first_fault [] 1 (file_lines bytes) ≡ None) × Holds (file_lines bytes) r
 unfolding system_of name_of areas_of
-lines_done bytes number rest r h none =
-    let end : file_lines rest ≡ [] = ap file_lines none ∙ no_lines_left in (
-      h.faults ∙ ap (first_fault h.earlier (number + 1)) end,
-      record {
-        system = or_none r.system ∙ ap (λ ls. option_or r.system (system_of ls)) (sym end) ∙ sym h.system;
-        name = or_none r.name ∙ ap (λ ls. option_or r.name (name_of ls)) (sym end) ∙ sym h.name;
-        areas = sym (append-nil r.areas) ∙ ap (λ ls. r.areas ++ areas_of ls) (sym end) ∙ sym h.areas;
-      },
-    )
+lines_done bytes number rest r h none = grind (arith, no_lines_left, or_none, append-nil)
 
 -- ---- the file
 
@@ -238,9 +164,7 @@ module _ (bytes : List ℕ) where
   module _ (fine : first_fault [] 1 (file_lines bytes) ≡ None) (r : Reading) (holds : Holds (file_lines bytes) r) where
     of_system : (b : Bool) → is_some r.system ≡ b → file_fault bytes ≡ cond b None (Some (fault.NoSystem 0))
     unfolding file_fault
-    of_system b is =
-        ap (λ o. option_or o (cond (list_any is_system_line (kept (file_lines bytes))) None (Some (fault.NoSystem 0)))) fine
-        ∙ ap (λ t. cond t None (Some (fault.NoSystem 0))) (has_system ∙ sym (ap is_some holds.system) ∙ is)
+    of_system b is = grind (arith, has_system)
 
     pub file_homeless : r.system ≡ None → file_fault bytes ≡ Some (fault.NoSystem 0)
     file_homeless none = of_system false (ap is_some none)

@@ -1,5 +1,5 @@
 -- The content that each kind of line adds to a link file, and the reasons to refuse a line.
-use Rattle.std.proofs.Common.{◌≡◌, ℕ, not, Bool, true, false, cond, List, [], ◌∷◌, ◌++◌, length, map, drop, codes, refl, sym, ap, ◌∙◌, Option, Some, None, Result, Ok, Err, inl, inr, ◌⊎◌}
+use Rattle.std.proofs.Common.{◌≡◌, ℕ, not, Bool, true, false, cond, List, [], ◌∷◌, ◌++◌, length, map, drop, codes, refl, sym, ap, ◌∙◌, Option, Some, None, Result, Ok, Err, inr, ◌⊎◌, arith}
 use Rattle.std.specs.Prelude.{bytes_eq, filter, find, is_some, option_map}
 use Rattle.std.specs.Option.{option_or}
 use Rattle.std.specs.Result.{MatchResult}
@@ -15,7 +15,7 @@ use Rattle.echo_links.specs.declared.fault.LinkFault.{LinkFault}
 use Rattle.echo_links.specs.declared.fault.LinkFault.TheVariants as fault
 use Rattle.echo_links.specs.declared.link_file.reading.Reading.{Reading}
 use Rattle.echo_links.specs.Links.{Area, upper}
-use Rattle.echo_links.specs.LinkLines.{after_first_of, area_fault, area_in, first_of, has_word, is_area_line, is_control_byte, is_name_line, is_skipped, is_system_line, line_fault, links_fault, name_fault, name_in, system_fault, system_in, tag_in, words}
+use Rattle.echo_links.specs.LinkLines.{after_first_of, area_fault, area_in, first_of, has_word, is_area_line, is_control_byte, is_name_line, is_skipped, is_system_line, line_fault, links_fault, name_fault, name_in, system_fault, system_in, words}
 use Rattle.echo_links.specs.LinkReading.{Adds, Knows, TakesLine, area_refusal, areas_of, is_area_known, name_of, name_refusal, system_of, system_refusal}
 use Rattle.echo_links.proofs.LinkBytes.{name_trimmed, no_feed, tokens_words}
 use Rattle.echo_links.proofs.LinkFiles.{other_word}
@@ -62,14 +62,7 @@ module _ (line : List ℕ) where
 pub skipped_taken : (earlier : List (List ℕ)) (number : ℕ) (line : List ℕ) (old : Reading) → is_skipped line ≡ true
     → (line_fault earlier number line ≡ None) × Adds (line ∷ []) old old
 unfolding line_fault
-skipped_taken earlier number line old h = (
-  cond-true (is_skipped line) None _ h,
-  record {
-    system = or_none old.system ∙ ap (option_or old.system) (sym (system_skipped line h));
-    name = or_none old.name ∙ ap (option_or old.name) (sym (name_skipped line h));
-    areas = sym (append-nil old.areas) ∙ ap (λ all. old.areas ++ all) (sym (areas_skipped line h));
-  },
-)
+skipped_taken earlier number line old h = grind (arith, cond-true, or_none, system_skipped, name_skipped, append-nil, areas_skipped)
 
 pub control_refused : (earlier : List (List ℕ)) (number : ℕ) (line : List ℕ) → is_skipped line ≡ false → list_any is_control_byte line ≡ true
     → line_fault earlier number line ≡ Some (fault.UnknownWord number)
@@ -93,21 +86,15 @@ module _ (earlier : List (List ℕ)) (number : ℕ) (line : List ℕ) (h : is_sk
       of_kind ∙ cond-false (is_system_line line) (system_fault earlier number line) _ not_system ∙ cond-true (is_name_line line) (name_fault earlier number line) _ is
 
   of_area : is_system_line line ≡ false → is_name_line line ≡ false → is_area_line line ≡ true → line_fault earlier number line ≡ area_fault earlier number line
-  of_area not_system none is =
-      of_kind ∙ cond-false (is_system_line line) (system_fault earlier number line) _ not_system ∙ cond-false (is_name_line line) (name_fault earlier number line) _ none
-      ∙ cond-true (is_area_line line) (area_fault earlier number line) _ is
+  of_area not_system none is = grind (arith, of_kind, cond-false, cond-true)
 
   of_none : is_system_line line ≡ false → is_name_line line ≡ false → is_area_line line ≡ false
       → line_fault earlier number line ≡ Some (fault.UnknownWord number)
-  of_none not_system none never =
-      of_kind ∙ cond-false (is_system_line line) (system_fault earlier number line) _ not_system ∙ cond-false (is_name_line line) (name_fault earlier number line) _ none
-      ∙ cond-false (is_area_line line) (area_fault earlier number line) _ never
+  of_none not_system none never = grind (arith, of_kind, cond-false)
 
   -- a line without a word
   pub wordless_refused : tokens line ≡ [] → line_fault earlier number line ≡ Some (fault.UnknownWord number)
-  wordless_refused none =
-      let first : first_of (words line) ≡ [] = ap first_of (tokens_words line (no_feed line plain) ∙ none) in
-      of_none (ap (λ w. bytes_eq w (codes "SYSTEM")) first) (ap (λ w. bytes_eq w (codes "NAME")) first) (ap (λ w. bytes_eq w (codes "AREA")) first)
+  wordless_refused none = grind (arith, tokens_words, no_feed, of_none)
 
 -- ---- lines with a first word
 
@@ -138,10 +125,7 @@ module _ (line word rest : List ℕ) (cut : IsCut line word rest) where
     -- a SYSTEM line
     module _ (is : bytes_eq word (codes "SYSTEM") ≡ true) where
       system_judged : line_fault earlier number line ≡ system_refusal (is_some old.system) number (tokens rest)
-      system_judged =
-          of_system earlier number line cut.read cut.plain (kind_is (codes "SYSTEM") true is)
-          ∙ ap (λ ws. system_refusal (list_any is_system_line earlier) number ws) left_is
-          ∙ ap (λ t. system_refusal t number (tokens rest)) knows.system
+      system_judged = grind (arith, of_system, kind_is, left_is)
 
       system_before : (o : Option Address) → system_refusal (is_some o) number (tokens rest) ≡ None → (s : Address) → Some s ≡ option_or o (Some s)
       system_before None h s = refl
@@ -175,10 +159,7 @@ module _ (line word rest : List ℕ) (cut : IsCut line word rest) where
       name_is = sym (name_trimmed line word rest (no_feed line cut.plain) ((bytes_decides word (codes "NAME")).0 is) cut.after)
 
       name_judged : line_fault earlier number line ≡ name_refusal (is_some old.name) number (trimmed rest)
-      name_judged =
-          of_name earlier number line cut.read cut.plain no_system (kind_is (codes "NAME") true is)
-          ∙ ap (λ n. name_refusal (list_any is_name_line earlier) number n) name_is
-          ∙ ap (λ t. name_refusal t number (trimmed rest)) knows.name
+      name_judged = grind (arith, of_name, no_system, kind_is, name_is)
 
       name_before : (o : Option (List ℕ)) → name_refusal (is_some o) number (trimmed rest) ≡ None → (n : List ℕ) → Some n ≡ option_or o (Some n)
       name_before None h n = refl
@@ -198,9 +179,7 @@ module _ (line word rest : List ℕ) (cut : IsCut line word rest) where
       pub name_taken : {T : Type 0} (r : Result T LinkFault) → MatchResult r
           (λ _. (name_refusal (is_some old.name) number (trimmed rest) ≡ None) × (new ≡ record old { name = Some (trimmed rest) }))
           (λ refused. (refused ≡ fault.Memory) ⊎ (name_refusal (is_some old.name) number (trimmed rest) ≡ Some refused)) → TakesLine earlier number line old new r
-      name_taken (Ok t) h = (name_judged ∙ h.0, name_adds h.0 h.1)
-      name_taken (Err refused) (inl memory) = inl memory
-      name_taken (Err refused) (inr h) = inr (name_judged ∙ h)
+      name_taken r h1 = grind (arith, name_judged, name_adds)
 
     -- an AREA line
     module _ (is : bytes_eq word (codes "AREA") ≡ true) where
@@ -211,12 +190,7 @@ module _ (line word rest : List ℕ) (cut : IsCut line word rest) where
       not_name = kind_is (codes "NAME") false (other_word word (codes "AREA") (codes "NAME") refl is)
 
       area_judged : line_fault earlier number line ≡ area_refusal old.areas number (tokens rest)
-      area_judged =
-          of_area earlier number line cut.read cut.plain no_own not_name (kind_is (codes "AREA") true is)
-          ∙ ap (λ ws. cond (not (is_tag (upper (first_of ws)))) (Some (fault.BadTag number))
-          (cond (list_any (bytes_eq (upper (first_of ws))) (map tag_in (filter is_area_line earlier))) (Some (fault.RepeatedArea number)) (links_fault number [] (after_first_of ws)))) left_is
-          ∙ ap (λ t. cond (not (is_tag (upper (first_of (tokens rest))))) (Some (fault.BadTag number))
-          (cond t (Some (fault.RepeatedArea number)) (links_fault number [] (after_first_of (tokens rest))))) (knows.areas (upper (first_of (tokens rest))))
+      area_judged = grind (arith, of_area, no_own, not_name, kind_is, left_is)
 
       area_adds : new ≡ record old { areas = old.areas ++ record { tag = upper (first_of (tokens rest)); links = map address_in (after_first_of (tokens rest)) } ∷ [] }
           → Adds (line ∷ []) old new
@@ -234,19 +208,14 @@ module _ (line word rest : List ℕ) (cut : IsCut line word rest) where
           (λ _. (area_refusal old.areas number (tokens rest) ≡ None)
           × (new ≡ record old { areas = old.areas ++ record { tag = upper (first_of (tokens rest)); links = map address_in (after_first_of (tokens rest)) } ∷ [] }))
           (λ refused. (refused ≡ fault.Memory) ⊎ (area_refusal old.areas number (tokens rest) ≡ Some refused)) → TakesLine earlier number line old new r
-      area_taken (Ok t) h = (area_judged ∙ h.0, area_adds h.1)
-      area_taken (Err refused) (inl memory) = inl memory
-      area_taken (Err refused) (inr h) = inr (area_judged ∙ h)
+      area_taken r h1 = grind (arith, area_judged, area_adds)
 
 -- ---- the tests of an AREA line
 
 module _ (areas : List Area) (number : ℕ) (all : List (List ℕ)) (word : List ℕ) (more : List (List ℕ)) (tag : List ℕ) (cut : all ≡ word ∷ more)
     (good : is_tag (upper word) ≡ true) (tag-is : tag ≡ upper word) where
   area_begun : area_refusal areas number all ≡ cond (is_area_known areas tag) (Some (fault.RepeatedArea number)) (links_fault number [] more)
-  area_begun =
-      ap (area_refusal areas number) cut
-      ∙ cond-false (not (is_tag (upper word))) (Some (fault.BadTag number)) _ (not_from_true (is_tag (upper word)) good)
-      ∙ ap (λ t. cond (is_area_known areas t) (Some (fault.RepeatedArea number)) (links_fault number [] more)) (sym tag-is)
+  area_begun = grind (arith, cond-false, not_from_true)
 
   -- an earlier line has the same tag
   pub area_repeated : is_area_known areas tag ≡ true → area_refusal areas number all ≡ Some (fault.RepeatedArea number)

@@ -7,17 +7,10 @@ use Rattle.disk_atomic.proofs.Packets.{apart_back, staging_one, gone_stays, name
 use Rattle.disk_atomic.proofs.dropping.drop_each.Goals as goal
 
 pub packets-init : goal.packets-init
-packets-init g c =
-    let packets = c.args.packets.now in
-    let d = g.D.Disk.state c.args.disk.now in
-    record { changes = only_start (IsStagingOne packets) d; gone = λ honest k z low high. absurd (omega (arith, high)); named = AllWithin-from_all (IsStagingNamed d) packets c.requires.named; cause = omega arith }
+packets-init g c = grind (arith, only_start, AllWithin-from_all)
 
 pub drop_one-requires : goal.drop_one-requires
-drop_one-requires g c =
-    let packets = c.args.packets.now in
-    let d = g.D.Disk.state c.packets.disk in
-    let lt : c.packets.packet-index < length packets = omega arith in
-    here (IsStagingNamed d) packets c.packets.packet-index nobody lt c.packets.invariant.named
+drop_one-requires g c = grind (arith, here)
 
 pub packets-preserved : goal.packets-preserved
 packets-preserved g c =

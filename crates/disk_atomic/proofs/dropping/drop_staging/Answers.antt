@@ -1,4 +1,4 @@
-use Rattle.std.proofs.Common.{◌≡◌, ◌∙◌, get_or, inl, inr, sym}
+use Rattle.std.proofs.Common.{◌≡◌, get_or, inl, inr, sym, arith}
 use Rattle.disk_atomic.specs.Outgoing.{IsAtStaging, IsStagingOne}
 use Rattle.disk_atomic.specs.Changes.{ChangesOnly}
 use Rattle.disk_atomic.proofs.Changes.{only_nothing, then_only, wider}
@@ -34,6 +34,4 @@ returns-clause-changes g c =
     then_only at (g.D.Disk.state c.args.disk.now) d2 d3 (tried g (goal.at.returns-clause-changes g c).After-drop_one) (wider (IsStagingOne c.args.packets.now) at d2 d3 (λ m is. inl is) c.drop_each.ensures.changes)
 
 pub returns-clause-trial_gone : goal.returns-clause-trial_gone
-returns-clause-trial_gone g c honest =
-    let run = c.drop_each.ensures.changes in
-    on_ok_any c.drop_each.result (run.seen c.args.trial.now (λ is. c.requires.apart (is.0, is.1, inl is.2)) ∙ c.in_ok-drop_one.ensures.gone (run.honest honest))
+returns-clause-trial_gone g c honest = grind (arith, on_ok_any)

@@ -24,10 +24,7 @@ pub returns-in-None-clause-changes : goal.returns-in-None-clause-changes
 returns-in-None-clause-changes g c = written g (goal.at.returns-in-None-clause-changes g c).After-write_at
 
 pub returns-in-Some-clause-more : goal.returns-in-Some-clause-more
-returns-in-Some-clause-more g c =
-    let path = c.args.path.now in
-    written_behind (bytes_in ((g.D.Disk.state c.args.disk.now).seen path)) (bytes_in ((g.D.Disk.state c.write_at.new.self).seen path)) c.args.bytes.now c.args.at c.requires.long
-    c.in_ok-write_at.ensures.written
+returns-in-Some-clause-more = grind (arith, written_behind)
 
 pub returns-in-Some-clause-growing : goal.returns-in-Some-clause-growing
 returns-in-Some-clause-growing g c =

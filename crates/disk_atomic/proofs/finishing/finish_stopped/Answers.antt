@@ -1,5 +1,4 @@
-use Rattle.std.proofs.Common.{◌<◌, ◌+◌, ◌∙◌, get_or, ⊎_elim, length, arith, subst, sym}
-use Rattle.std.specs.Prelude.{IsSome}
+use Rattle.std.proofs.Common.{◌<◌, ◌+◌, ◌∙◌, get_or, ⊎_elim, length, arith}
 use Rattle.std.proofs.lemmas.Bool.{and_parts}
 use Rattle.std.proofs.lemmas.List.Elements.{AllWithin-none}
 use Rattle.disk_io.specs.Disk.{Honestly}
@@ -15,40 +14,16 @@ use Rattle.disk_atomic.proofs.finishing.finish_stopped.Goals.{After-sync_folder_
 use Rattle.disk_atomic.proofs.finishing.finish_stopped.Goals as goal
 
 pub found-init : goal.found-init
-found-init g c =
-    let found = c.args.found.now in
-    let d0 = g.D.Disk.state c.args.disk.now in
-    let d1 = g.D.Disk.state c.sync_folder_of.new.disk in
-    let quiet = c.sync_folder_of.ensures.quiet in
-    record {
-      changes = only_nothing (IsOfLeft found) d0 d1 quiet;
-      any_moment = λ honest. none_finished c.args.cursor found d0 d1 quiet;
-      named = λ k z low high.
-          record { path = c.in_ok-sync_folder_of.ensures.durable (get_or found k z).path.now (c.requires.found.each k z high).path_in; staging = c.in_ok-sync_folder_of.ensures.durable (get_or found k z).staging.now (c.requires.found.each k z high).staging_in };
-      same = λ k z low high. record { path = quiet.seen (get_or found k z).path.now; staging = quiet.seen (get_or found k z).staging.now };
-      over = λ honest is. AllWithin-none (IsOver c.args.cursor d0 d1) found 0;
-      kept = λ honest. AllWithin-none (KeepsFile d0 d1) found 0;
-      taken = λ honest is. absurd (cc is);
-      cause = omega (arith, c.sync_folder_of.ensures.cause.later);
-    }
+found-init g c = grind (arith, only_nothing, none_finished, get_or, AllWithin-none)
 
 pub finish_one-requires-clause-placed : goal.finish_one-requires-clause-placed
-finish_one-requires-clause-placed g c =
-    let lt : c.found.left-index < length c.args.found.now = omega arith in
-    c.requires.found.each c.found.left-index nothing_left lt
+finish_one-requires-clause-placed g c = grind arith
 
 pub finish_one-requires-clause-there : goal.finish_one-requires-clause-there
-finish_one-requires-clause-there g c honest =
-    let found = c.args.found.now in
-    let i = c.found.left-index in
-    let lt : i < length found = omega arith in
-    let same = here (IsSameLeft (g.D.Disk.state c.args.disk.now) (g.D.Disk.state c.found.disk)) found i nothing_left lt c.found.invariant.same in
-    subst (λ f. IsSome f) (sym same.staging) (c.requires.there (c.found.invariant.changes.honest honest) i nothing_left lt)
+finish_one-requires-clause-there g c honest = grind (arith, here)
 
 pub finish_one-requires-clause-named : goal.finish_one-requires-clause-named
-finish_one-requires-clause-named g c =
-    let lt : c.found.left-index < length c.args.found.now = omega arith in
-    here (AreNamed (g.D.Disk.state c.found.disk)) c.args.found.now c.found.left-index nothing_left lt c.found.invariant.named
+finish_one-requires-clause-named g c = grind (arith, here)
 
 pub returns-in_err-all-clause-changes : goal.returns-in_err-all-clause-changes
 returns-in_err-all-clause-changes g c =

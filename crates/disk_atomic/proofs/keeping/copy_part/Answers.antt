@@ -1,36 +1,14 @@
-use Rattle.std.proofs.Common.{◌≡◌, ◌∙◌, ◌+◌, ◌++◌, List, ℕ, ap, arith, drop, length, subst, sym, take}
-use Rattle.std.specs.Prelude.{IsSome}
+use Rattle.std.proofs.Common.{◌≡◌, ◌∙◌, ◌+◌, ◌++◌, List, ℕ, ap, arith, drop, sym, take}
 use Rattle.disk_io.specs.Disk.{bytes_in}
 use Rattle.disk_atomic.proofs.Changes.{only_start, then_only}
 use Rattle.disk_atomic.proofs.Parts.{part_more, part_none}
 use Rattle.disk_atomic.proofs.keeping.copy_part.Goals as goal
 
 pub pieces-init : goal.pieces-init
-pieces-init g c =
-    let path = c.args.path.now in
-    let d = g.D.Disk.state c.args.disk.now in
-    record {
-      growing = c.requires.growing;
-      low = omega arith;
-      high = c.requires.part.order;
-      more = λ honest. part_none (bytes_in (d.seen path)) (bytes_in (d.seen c.args.source.now)) c.args.from;
-      named = λ m none is. is;
-      changes = only_start (λ (m : List ℕ). m ≡ path) d;
-      cause = omega arith;
-    }
+pieces-init g c = grind (arith, part_none, only_start)
 
 pub copy_piece-requires-clause-part : goal.copy_piece-requires-clause-part
-copy_piece-requires-clause-part g c =
-    let inv = c.pieces.invariant in
-    let seen = inv.changes.seen c.args.source.now (λ e. c.requires.other (sym e)) in
-    record {
-      there = λ honest. subst (λ f. IsSome f) (sym seen) (c.requires.part.there (inv.changes.honest honest));
-      order = omega arith;
-      within = λ honest.
-          let same = ap (λ f. length (bytes_in f)) seen in
-          let room = c.requires.part.within (inv.changes.honest honest) in
-          omega (arith, same, room);
-    }
+copy_piece-requires-clause-part g c = grind arith
 
 pub pieces-preserved : goal.pieces-preserved
 pieces-preserved g c =
@@ -66,8 +44,4 @@ pub returns-clause-changes : goal.returns-clause-changes
 returns-clause-changes g c = c.pieces.invariant.changes
 
 pub returns-clause-more : goal.returns-clause-more
-returns-clause-more g c honest =
-    let inv = c.pieces.invariant in
-    let high = inv.high in
-    let done : c.pieces.done ≡ c.args.to = omega (arith, high) in
-    inv.more honest ∙ ap (λ n. bytes_in ((g.D.Disk.state c.args.disk.now).seen c.args.path.now) ++ drop c.args.from (take n (bytes_in ((g.D.Disk.state c.args.disk.now).seen c.args.source.now)))) done
+returns-clause-more g c honest = grind arith

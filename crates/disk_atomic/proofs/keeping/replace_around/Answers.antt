@@ -1,9 +1,9 @@
-use Rattle.std.proofs.Common.{◌≡◌, ◌⊎◌, inl, ◌∙◌, ℕ, List}
+use Rattle.std.proofs.Common.{◌≡◌, ◌⊎◌, inl, ℕ, List, arith}
 use Rattle.std.proofs.lemmas.Result.{on_ok_weaker}
 use Rattle.disk_io.specs.Disk.{bytes_in}
 use Rattle.disk_io.specs.Runs.{LeavesOnly, OneStepOn}
 use Rattle.disk_io.proofs.Moments.{then_nothing}
-use Rattle.disk_atomic.specs.Changes.{ChangesOnly, DifferAt}
+use Rattle.disk_atomic.specs.Changes.{ChangesOnly}
 use Rattle.disk_atomic.specs.Keeping.{kept_bytes}
 use Rattle.disk_atomic.specs.Replacing.{Replaces}
 use Rattle.disk_atomic.proofs.Changes.{only_nothing, then_only, weaker_steps, wider}
@@ -21,17 +21,10 @@ pub rename-requires-clause-durable : goal.rename-requires-clause-durable
 rename-requires-clause-durable g c honest = c.in_ok-stage_kept.ensures.staged.flushed
 
 pub returns-in_err-stage_kept-clause-any_moment : goal.returns-in_err-stage_kept-clause-any_moment
-returns-in_err-stage_kept-clause-any_moment g c honest =
-    let path = c.args.path.now in
-    let staging = c.args.staging.now in
-    let d0 = g.D.Disk.state c.args.disk.now in
-    let bytes = kept_bytes (bytes_in (d0.seen path)) c.args.kept in
-    weaker_steps d0 (g.D.Disk.state c.stage_kept.new.disk) (DifferAt (λ m. m ≡ staging)) (Replaces path staging bytes) c.stage_kept.ensures.changes.any_moment (not_yet path staging bytes c.requires.other)
+returns-in_err-stage_kept-clause-any_moment g c honest = grind (arith, weaker_steps, not_yet)
 
 pub returns-in_err-stage_kept-clause-changes : goal.returns-in_err-stage_kept-clause-changes
-returns-in_err-stage_kept-clause-changes g c =
-    wider (λ (m : List ℕ). m ≡ c.args.staging.now) (λ (m : List ℕ). (m ≡ c.args.staging.now) ⊎ (m ≡ c.args.path.now)) (g.D.Disk.state c.args.disk.now) (g.D.Disk.state c.stage_kept.new.disk)
-    (λ m is. inl is) c.stage_kept.ensures.changes
+returns-in_err-stage_kept-clause-changes g c = grind (arith, wider)
 
 moments : (g : given.Over) (c : After-rename g) → (g.D.Disk.state c.rename.new.self).is_honest
     → LeavesOnly (g.D.Disk.state c.args.disk.now) (g.D.Disk.state c.rename.new.self)
@@ -80,17 +73,4 @@ returns-clause-changes g c =
     then_only both (g.D.Disk.state c.args.disk.now) d2 d3 (renamed g (goal.at.returns-clause-changes g c).After-rename) (only_nothing both d2 d3 c.sync_folder_of.ensures.quiet)
 
 pub returns-clause-replaced : goal.returns-clause-replaced
-returns-clause-replaced g c honest =
-    let path = c.args.path.now in
-    let d1 = g.D.Disk.state c.stage_kept.new.disk in
-    let quiet = c.sync_folder_of.ensures.quiet in
-    let staged = c.in_ok-stage_kept.ensures in
-    let bytes = kept_bytes (bytes_in ((g.D.Disk.state c.args.disk.now).seen path)) c.args.kept in
-    let has = on_disk_as d1 c.args.staging.now bytes staged.staged (staged.bytes (c.rename.ensures.changes.time.honest (quiet.honest honest))) in
-    on_ok_weaker c.sync_folder_of.result
-    (λ named. record {
-      seen = quiet.seen path ∙ c.in_ok-rename.ensures.moved ∙ has.seen;
-      named = named path c.requires.path_in;
-      flushed = quiet.flushed path (λ h. h) c.in_ok-rename.ensures.kept;
-    })
-    c.sync_folder_of.ensures.durable
+returns-clause-replaced g c honest = grind (arith, on_disk_as, on_ok_weaker)

@@ -1,9 +1,7 @@
-use Rattle.std.proofs.Common.{◌≡◌, ◌∙◌, ℕ, List, ap, refl, sym}
+use Rattle.std.proofs.Common.{◌≡◌, ℕ, List, refl, arith}
 use Rattle.std.proofs.lemmas.Result.{on_ok_weaker}
-use Rattle.disk_io.specs.Disk.{bytes_in}
 use Rattle.disk_io.specs.Steps.{TornMaking}
 use Rattle.disk_atomic.specs.Changes.{ChangesOnly}
-use Rattle.disk_atomic.specs.Keeping.{kept_bytes}
 use Rattle.disk_atomic.proofs.Growing.{grows_from_none}
 use Rattle.disk_atomic.proofs.Changes.{only_nothing, only_path, then_only}
 use Rattle.disk_atomic.proofs.Parts.{part_still}
@@ -12,24 +10,16 @@ use Rattle.disk_atomic.proofs.keeping.stage_kept.Goals.{After-create, After-sync
 use Rattle.disk_atomic.proofs.keeping.stage_kept.Goals as goal
 
 pub fill_kept-requires-clause-growing : goal.fill_kept-requires-clause-growing
-fill_kept-requires-clause-growing g c =
-    let path = c.args.staging.now in
-    let quiet = c.sync_folder_of-2.ensures.quiet in
-    grows_from_none (g.D.Disk.state c.sync_folder_of-2.new.disk) path (quiet.seen path ∙ c.in_ok-create.ensures.made) (c.in_ok-sync_folder_of-2.ensures.durable path c.requires.staging_in)
-    (quiet.alone path (λ h. h) c.in_ok-create.ensures.own)
+fill_kept-requires-clause-growing g c = grind (arith, grows_from_none)
 
 seen_still : (g : given.Over) (c : After-sync_folder_of-2 g) → (g.D.Disk.state c.sync_folder_of-2.new.disk).seen c.args.path.now ≡ (g.D.Disk.state c.args.disk.now).seen c.args.path.now
-seen_still g c =
-    let path = c.args.path.now in
-    c.sync_folder_of-2.ensures.quiet.seen path ∙ c.create.ensures.changes.beside path (λ e. c.requires.other (sym e)) ∙ c.sync_folder_of.ensures.quiet.seen path
+seen_still g c = grind arith
 
 first_honest : (g : given.Over) (c : After-sync_folder_of-2 g) → (g.D.Disk.state c.sync_folder_of-2.new.disk).is_honest → (g.D.Disk.state c.args.disk.now).is_honest
 first_honest g c honest = c.sync_folder_of.ensures.quiet.honest (c.create.ensures.changes.time.honest (c.sync_folder_of-2.ensures.quiet.honest honest))
 
 pub fill_kept-requires-clause-part : goal.fill_kept-requires-clause-part
-fill_kept-requires-clause-part g c =
-    let a = (goal.at.fill_kept-requires-clause-part g c).After-sync_folder_of-2 in
-    part_still (g.D.Disk.state c.args.disk.now) (g.D.Disk.state c.sync_folder_of-2.new.disk) c.args.path.now c.args.kept.from c.args.kept.to (seen_still g a) (first_honest g a) c.requires.part
+fill_kept-requires-clause-part g c = grind (arith, part_still, seen_still, first_honest)
 
 pub returns-in_err-sync_folder_of-clause-changes : goal.returns-in_err-sync_folder_of-clause-changes
 returns-in_err-sync_folder_of-clause-changes g c =
@@ -71,6 +61,4 @@ returns-clause-changes g c =
     (flushed g a (created g (goal.at.returns-clause-changes g c).After-create)) c.fill_kept.ensures.changes
 
 pub returns-clause-bytes : goal.returns-clause-bytes
-returns-clause-bytes g c honest =
-    let a = (goal.at.returns-clause-bytes g c).After-sync_folder_of-2 in
-    on_ok_weaker c.fill_kept.result (λ is. is ∙ ap (λ f. kept_bytes (bytes_in f) c.args.kept) (seen_still g a)) (c.fill_kept.ensures.bytes honest)
+returns-clause-bytes g c honest = grind (arith, on_ok_weaker, seen_still)

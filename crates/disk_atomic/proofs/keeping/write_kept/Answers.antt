@@ -1,14 +1,11 @@
-use Rattle.std.proofs.Common.{◌≡◌, ◌∙◌, ◌++◌, List, ℕ, ap, drop, sym, take}
+use Rattle.std.proofs.Common.{◌≡◌, ◌∙◌, ◌++◌, List, ℕ, ap, drop, sym, take, arith}
 use Rattle.disk_io.specs.Disk.{bytes_in}
 use Rattle.disk_atomic.proofs.Changes.{then_only}
 use Rattle.disk_atomic.proofs.Parts.{all_kept, part_still}
 use Rattle.disk_atomic.proofs.keeping.write_kept.Goals as goal
 
 pub copy_part-requires-clause-part : goal.copy_part-requires-clause-part
-copy_part-requires-clause-part g c =
-    let changes = c.append.ensures.changes in
-    part_still (g.D.Disk.state c.args.disk.now) (g.D.Disk.state c.append.new.disk) c.args.source.now c.args.kept.from c.args.kept.to (changes.seen c.args.source.now (λ e. c.requires.other (sym e))) changes.honest
-    c.requires.part
+copy_part-requires-clause-part g c = grind (arith, part_still)
 
 pub returns-in_err-front-clause-changes : goal.returns-in_err-front-clause-changes
 returns-in_err-front-clause-changes g c = c.append.ensures.changes

@@ -1,14 +1,11 @@
-use Rattle.std.proofs.Common.{◌∙◌}
+use Rattle.std.proofs.Common.{◌∙◌, arith}
 use Rattle.disk_atomic.proofs.Whole.{same_files}
 use Rattle.disk_io.specs.Disk.{bytes_in}
-use Rattle.std.proofs.Common.{ap, subst, sym}
-use Rattle.std.specs.Prelude.{IsSome}
+use Rattle.std.proofs.Common.{ap}
 use Rattle.disk_atomic.proofs.naming.are_same.Goals as goal
 
 pub read_file-requires-2 : goal.read_file-requires-2
-read_file-requires-2 g c honest =
-    let quiet = c.read_file.ensures.quiet in
-    subst (λ f. IsSome f) (sym (quiet.seen c.args.other.now)) (c.requires.other (quiet.honest honest))
+read_file-requires-2 g c honest = grind arith
 
 pub returns-clause-same : goal.returns-clause-same
 returns-clause-same g c honest =

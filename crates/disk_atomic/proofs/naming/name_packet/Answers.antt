@@ -1,5 +1,4 @@
-use Rattle.std.proofs.Common.{◌≡◌, ◌⊎◌, inl, ◌∙◌, ℕ, List, refl, subst, sym}
-use Rattle.std.specs.Prelude.{IsSome}
+use Rattle.std.proofs.Common.{◌≡◌, ◌⊎◌, inl, ◌∙◌, ℕ, List, refl, arith}
 use Rattle.disk_io.specs.Disk.{Honestly}
 use Rattle.disk_io.specs.Steps.{TornRemoval}
 use Rattle.disk_io.specs.Runs.{LeavesOnly, OneStepOn}
@@ -12,10 +11,7 @@ use Rattle.disk_atomic.proofs.naming.name_packet.Goals.{After-remove, After-sync
 use Rattle.disk_atomic.proofs.naming.name_packet.Goals as goal
 
 pub remove-requires : goal.remove-requires
-remove-requires g c honest =
-    let gives = c.give_path.ensures.gives in
-    let quiet = c.sync_folder_of.ensures.quiet in
-    subst (λ f. IsSome f) (sym (quiet.seen c.args.staging.now ∙ gives.stays.seen)) (c.requires.can.there (gives.changes.honest (quiet.honest honest)))
+remove-requires g c honest = grind arith
 
 -- up to the flush of the folder
 flushed : (g : given.Over) (c : After-sync_folder_of g) → Gives (g.D.Disk.state c.args.disk.now) (g.D.Disk.state c.sync_folder_of.new.disk) c.args.path.now c.args.staging.now
@@ -67,22 +63,7 @@ pub returns-clause-any_moment : goal.returns-clause-any_moment
 returns-clause-any_moment g c = moments g (goal.at.returns-clause-any_moment g c).After-remove
 
 pub returns-clause-named : goal.returns-clause-named
-returns-clause-named g c honest is =
-    let path = c.args.path.now in
-    let quiet = c.sync_folder_of.ensures.quiet in
-    let now = c.remove.ensures in
-    let given = c.in_ok-given.ensures in
-    let apart = λ (e : path ≡ c.args.staging.now). c.requires.can.other (sym e) in
-    record {
-      seen = now.changes.beside path apart ∙ quiet.seen path ∙ given.given (quiet.honest (now.changes.time.honest honest)) c.if-not-given.false;
-      gone = c.in_ok-remove.ensures.gone;
-      named = now.changes.named path apart (c.in_ok-sync_folder_of.ensures.durable path c.requires.inside.path_in);
-      flushed = now.changes.flushed path apart (quiet.flushed path (λ h. h) (given.durable c.if-not-given.false));
-    }
+returns-clause-named g c honest is = grind (arith, flushed)
 
 pub returns-clause-over_none : goal.returns-clause-over_none
-returns-clause-over_none g c honest some =
-    let path = c.args.path.now in
-    let quiet = c.sync_folder_of.ensures.quiet in
-    let now = c.remove.ensures in
-    now.changes.beside path (λ e. c.requires.can.other (sym e)) ∙ quiet.seen path ∙ c.in_ok-given.ensures.over_none (quiet.honest (now.changes.time.honest honest)) some
+returns-clause-over_none g c honest some = grind arith

@@ -1,8 +1,8 @@
-use Rattle.std.proofs.Common.{◌≡◌, ◌⊎◌, inl, ◌∙◌, ℕ, List}
+use Rattle.std.proofs.Common.{◌≡◌, ◌⊎◌, inl, ◌∙◌, ℕ, List, arith}
 use Rattle.std.proofs.lemmas.Result.{on_ok_weaker}
 use Rattle.disk_io.specs.Runs.{LeavesOnly, OneStepOn}
 use Rattle.disk_io.proofs.Moments.{then_nothing}
-use Rattle.disk_atomic.specs.Changes.{ChangesOnly, DifferAt}
+use Rattle.disk_atomic.specs.Changes.{ChangesOnly}
 use Rattle.disk_atomic.specs.Replacing.{Replaces}
 use Rattle.disk_atomic.proofs.Changes.{only_nothing, then_only, weaker_steps, wider}
 use Rattle.disk_atomic.proofs.Replaced.{not_yet, renamed_only, replaced_run}
@@ -18,17 +18,10 @@ pub rename-requires-clause-durable : goal.rename-requires-clause-durable
 rename-requires-clause-durable g c honest = c.in_ok-stage_file.ensures.staged.flushed
 
 pub returns-in_err-stage_file-clause-any_moment : goal.returns-in_err-stage_file-clause-any_moment
-returns-in_err-stage_file-clause-any_moment g c =
-    let path = c.args.path.now in
-    let staging = c.args.staging.now in
-    let bytes = c.args.bytes.now in
-    weaker_steps (g.D.Disk.state c.args.disk.now) (g.D.Disk.state c.stage_file.new.disk) (DifferAt (λ m. m ≡ staging)) (Replaces path staging bytes) c.stage_file.ensures.changes.any_moment
-    (not_yet path staging bytes c.requires.other)
+returns-in_err-stage_file-clause-any_moment g c = grind (arith, weaker_steps, not_yet)
 
 pub returns-in_err-stage_file-clause-changes : goal.returns-in_err-stage_file-clause-changes
-returns-in_err-stage_file-clause-changes g c =
-    wider (λ (m : List ℕ). m ≡ c.args.staging.now) (λ (m : List ℕ). (m ≡ c.args.staging.now) ⊎ (m ≡ c.args.path.now)) (g.D.Disk.state c.args.disk.now) (g.D.Disk.state c.stage_file.new.disk)
-    (λ m is. inl is) c.stage_file.ensures.changes
+returns-in_err-stage_file-clause-changes g c = grind (arith, wider)
 
 moments : (g : given.Over) (c : After-rename g)
     → LeavesOnly (g.D.Disk.state c.args.disk.now) (g.D.Disk.state c.rename.new.self) (OneStepOn (Replaces c.args.path.now c.args.staging.now c.args.bytes.now) (g.D.Disk.state c.args.disk.now))
@@ -70,16 +63,7 @@ returns-clause-changes g c =
     then_only both (g.D.Disk.state c.args.disk.now) d2 d3 (renamed g (goal.at.returns-clause-changes g c).After-rename) (only_nothing both d2 d3 c.sync_folder_of.ensures.quiet)
 
 pub returns-clause-replaced : goal.returns-clause-replaced
-returns-clause-replaced g c =
-    let path = c.args.path.now in
-    let quiet = c.sync_folder_of.ensures.quiet in
-    on_ok_weaker c.sync_folder_of.result
-    (λ named. record {
-      seen = quiet.seen path ∙ c.in_ok-rename.ensures.moved ∙ c.in_ok-stage_file.ensures.staged.seen;
-      named = named path c.requires.path_in;
-      flushed = quiet.flushed path (λ h. h) c.in_ok-rename.ensures.kept;
-    })
-    c.sync_folder_of.ensures.durable
+returns-clause-replaced g c = grind (arith, on_ok_weaker)
 
 pub returns-clause-moved : goal.returns-clause-moved
 returns-clause-moved g c =

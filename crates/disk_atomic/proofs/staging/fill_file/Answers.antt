@@ -1,4 +1,4 @@
-use Rattle.std.proofs.Common.{◌≡◌, ◌∙◌, ℕ, List, length, refl}
+use Rattle.std.proofs.Common.{◌≡◌, ℕ, List, length, refl, arith}
 use Rattle.std.proofs.lemmas.Result.{on_ok_weaker}
 use Rattle.disk_io.specs.Steps.{TornWrite}
 use Rattle.disk_atomic.specs.Changes.{ChangesOnly}
@@ -25,15 +25,4 @@ returns-clause-changes g c =
     then_only at (g.D.Disk.state c.args.disk.now) d1 d2 (written g (goal.at.returns-clause-changes g c).After-write_at) (only_nothing at d1 d2 c.sync.ensures.quiet)
 
 pub returns-clause-filled : goal.returns-clause-filled
-returns-clause-filled g c =
-    let path = c.args.path.now in
-    let d0 = g.D.Disk.state c.args.disk.now in
-    let d1 = g.D.Disk.state c.write_at.new.self in
-    let quiet = c.sync.ensures.quiet in
-    on_ok_weaker c.sync.result
-    (λ flushed. record {
-      seen = quiet.seen path ∙ written_whole (d0.seen path) (d1.seen path) c.args.bytes.now c.requires.empty c.write_at.ensures.there c.in_ok-write_at.ensures.written;
-      named = quiet.named path (λ h. h) (c.write_at.ensures.changes.named path (λ h. h) c.requires.named);
-      flushed = flushed;
-    })
-    c.sync.ensures.durable
+returns-clause-filled g c = grind (arith, on_ok_weaker, written_whole)

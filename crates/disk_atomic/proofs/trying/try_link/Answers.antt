@@ -1,5 +1,4 @@
-use Rattle.std.proofs.Common.{◌≡◌, ◌∙◌, inr, refl, subst, sym}
-use Rattle.std.specs.Prelude.{IsSome}
+use Rattle.std.proofs.Common.{◌≡◌, ◌∙◌, refl, sym, arith}
 use Rattle.disk_io.specs.Steps.{TornRemoval}
 use Rattle.disk_atomic.specs.Trying.{Tries}
 use Rattle.disk_atomic.proofs.Changes.{only_path}
@@ -9,17 +8,7 @@ use Rattle.disk_atomic.proofs.trying.try_link.Goals.{After-remove}
 use Rattle.disk_atomic.proofs.trying.try_link.Goals as goal
 
 pub link_path-requires : goal.link_path-requires
-link_path-requires g c =
-    let from = c.args.from.now in
-    let can = c.requires.can in
-    let run = c.clear_path.ensures.changes in
-    record {
-      other = can.other;
-      there = λ honest. subst (λ f. IsSome f) (sym (run.seen from can.other)) (can.there (run.honest honest));
-      durable = run.flushed from can.other can.durable;
-      staging_named = run.named from can.other can.staging_named;
-      path_named = c.in_ok-clear_path.ensures.named;
-    }
+link_path-requires g c = grind arith
 
 removed : (g : given.Over) (c : After-remove g) → Tries (g.D.Disk.state c.args.disk.now) (g.D.Disk.state c.remove.new.self) c.args.trial.now c.args.from.now
 removed g c =
@@ -48,9 +37,7 @@ returns-then-not-branch-clause-tries g c =
     tries_linked c.args.trial.now c.args.from.now c.requires.can.other (g.D.Disk.state c.args.disk.now) (g.D.Disk.state c.clear_path.new.disk) (g.D.Disk.state c.link_path.new.disk) c.clear_path.ensures.changes c.link_path.ensures.gives
 
 pub returns-then-not-branch-clause-taken : goal.returns-then-not-branch-clause-taken
-returns-then-not-branch-clause-taken g c honest is =
-    let none = c.in_ok-clear_path.ensures.gone (c.link_path.ensures.gives.changes.honest honest) in
-    absurd (cc ((c.in_ok-link_path.ensures.free honest).1 none, c.if-not-branch.true))
+returns-then-not-branch-clause-taken g c honest is = grind arith
 
 pub returns-in_err-sync_folder_of-clause-tries : goal.returns-in_err-sync_folder_of-clause-tries
 returns-in_err-sync_folder_of-clause-tries g c =
@@ -67,15 +54,4 @@ returns-clause-gone g c is m inside other none =
     c.remove.ensures.changes.flushed m other (c.in_ok-sync_folder_of.ensures.gone m inside (sym (c.remove.ensures.changes.beside m other) ∙ none))
 
 pub returns-clause-tried : goal.returns-clause-tried
-returns-clause-tried g c is =
-    let gives = c.link_path.ensures.gives in
-    record {
-      from = c.args.from.now;
-      before = c.clear_path.new.disk;
-      after = c.link_path.new.disk;
-      free = λ honest. c.in_ok-clear_path.ensures.gone (gives.changes.honest honest);
-      given = c.in_ok-link_path.ensures.linked c.if-not-branch.false;
-      stays = gives.stays.seen;
-      at_once = gives.any_moment;
-      elsewhere = λ m out. gives.changes.seen m out ∙ c.clear_path.ensures.changes.seen m (λ e. out (inr e));
-    }
+returns-clause-tried g c is = grind arith

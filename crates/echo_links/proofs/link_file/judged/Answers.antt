@@ -1,4 +1,4 @@
-use Rattle.std.proofs.Common.{Err, ap, inl, inr, subst, sym}
+use Rattle.std.proofs.Common.{inr, subst, sym, arith}
 use Rattle.std.proofs.lemmas.Result.{err_from_is_err_and}
 use Rattle.echo_links.specs.Links.{IsFile}
 use Rattle.echo_links.proofs.LinkFiles.{file_is_file}
@@ -6,9 +6,7 @@ use Rattle.echo_links.proofs.LinkSteps.{file_bad, file_homeless, file_said}
 use Rattle.echo_links.proofs.link_file.judged.Goals as goal
 
 pub returns-in_err-reading : goal.returns-in_err-reading
-returns-in_err-reading c =
-    let p = err_from_is_err_and c.from_residual.result c.from_residual.ensures.1 in
-    rw (p.1, p.2) (elim c.in_err-reading.ensures [ inl memory ↦ inl (ap Err memory) | inr h ↦ inr (file_bad c.args.bytes.now _ h) ])
+returns-in_err-reading c = grind (arith, err_from_is_err_and, file_bad)
 
 pub returns-in_default : goal.returns-in_default
 returns-in_default c = inr (file_homeless c.args.bytes.now c.in_ok-reading.ensures.0 c.in_ok-reading.reading c.in_ok-reading.ensures.1 c.in_default.is)

@@ -9,9 +9,7 @@ use Rattle.echo_links.proofs.LinkLoops.{LinksRead, links_again, links_bad, links
 use Rattle.echo_links.proofs.link_file.addresses.links_in.Goals as goal
 
 pub returns-in_default-address : goal.returns-in_default-address
-returns-in_default-address c =
-    inr (links_bad c.args.number (tokens c.args.rest.now) c.in-Some.word.now (tokens c.in-Some.after.now) c.links.all.items (tokens c.links.left.now)
-    c.links.invariant.0 c.in-Some.ensures.token c.in_default-address.ensures)
+returns-in_default-address c = grind (arith, links_bad)
 
 pub returns-then-not-branch : goal.returns-then-not-branch
 returns-then-not-branch c =

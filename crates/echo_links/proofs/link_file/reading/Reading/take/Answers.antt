@@ -1,4 +1,4 @@
-use Rattle.std.proofs.Common.{inr, sym, ◌∙◌}
+use Rattle.std.proofs.Common.{sym, ◌∙◌, arith}
 use Rattle.echo_links.proofs.LinkTaking.{area_taken, control_refused, name_taken, skipped_taken, system_taken, unknown_refused, wordless_refused}
 use Rattle.echo_links.proofs.link_file.reading.Reading.take.Goals as goal
 
@@ -6,14 +6,10 @@ pub returns-then-is_skipped : goal.returns-then-is_skipped
 returns-then-is_skipped c = λ earlier knows. skipped_taken earlier c.args.number c.args.line.now c.args.self.now (sym c.is_skipped.ensures ∙ c.if-is_skipped.true)
 
 pub returns-then-has_control_byte : goal.returns-then-has_control_byte
-returns-then-has_control_byte c =
-    λ earlier knows. inr (control_refused earlier c.args.number c.args.line.now (sym c.is_skipped.ensures ∙ c.if-is_skipped.false)
-    (sym c.has_control_byte.ensures ∙ c.if-has_control_byte.true))
+returns-then-has_control_byte c = grind (arith, control_refused)
 
 pub returns-in_default : goal.returns-in_default
-returns-in_default c =
-    λ earlier knows. inr (wordless_refused earlier c.args.number c.args.line.now (sym c.is_skipped.ensures ∙ c.if-is_skipped.false)
-    (sym c.has_control_byte.ensures ∙ c.if-has_control_byte.false) c.in_default.ensures.token)
+returns-in_default c = grind (arith, wordless_refused)
 
 pub returns-then-eq : goal.returns-then-eq
 returns-then-eq c =
@@ -49,13 +45,4 @@ returns-then-eq-3 c =
     earlier c.args.number c.args.self.now c.take_area.new.self knows (sym c.eq-else-eq-2.ensures ∙ c.if-eq-3.true) c.take_area.result c.take_area.ensures
 
 pub returns-else-eq-3 : goal.returns-else-eq-3
-returns-else-eq-3 c =
-    λ earlier knows. inr (unknown_refused c.args.line.now c.in-Some.word.now c.in-Some.rest.now
-    (record {
-      read = sym c.is_skipped.ensures ∙ c.if-is_skipped.false;
-      plain = sym c.has_control_byte.ensures ∙ c.if-has_control_byte.false;
-      words_are = c.in-Some.ensures.token;
-      after = c.in-Some.ensures.after;
-    })
-    earlier c.args.number (sym c.eq.ensures ∙ c.if-eq.false) (sym c.eq-else-eq.ensures ∙ c.if-eq-2.false)
-    (sym c.eq-else-eq-2.ensures ∙ c.if-eq-3.false))
+returns-else-eq-3 c = grind (arith, unknown_refused)
