@@ -1,14 +1,14 @@
 -- No byte of a written text is 00.
-use Rattle.std.proofs.Common.{◌≡◌, ◌≢◌, ℕ, ◌&&◌, not, nat_lt, nat_le, true, false, List, [], ◌∷◌, ◌++◌, length, refl, sym, subst, arith, inl, inr}
+use Rattle.std.proofs.Common.{◌≡◌, ◌≢◌, ℕ, not, nat_lt, nat_le, true, false, List, [], ◌∷◌, ◌++◌, refl, sym, subst, arith, inl, inr}
 use Rattle.std.specs.Prelude.{All}
 use Rattle.std.specs.Int.{is_in_range}
 use Rattle.std.specs.List.{AllByRecursion, flat_map, list_all, list_any}
 use Rattle.std.proofs.lemmas.Bool.{and_parts, leb-true, ltb-true, ne_eqb, or_from}
 use Rattle.std.proofs.lemmas.List.Elements.{recursion_from_All}
 use Rattle.echo_addr.specs.declared.address.NetNode.{NetNode}
-use Rattle.echo_addr.specs.ShortLines.{IsEntryByte, IsNetNode, ShortLines, line_of, path_prefix, seen_prefix}
+use Rattle.echo_addr.specs.ShortLines.{IsEntryByte, IsNetNode, ShortLines, line_of}
 use Rattle.echo_addr.proofs.ReadBack.{read_back}
-use Rattle.echo_text.specs.Lines.{area_word, is_tag_byte}
+use Rattle.echo_text.specs.Lines.{is_tag_byte}
 use Rattle.echo_text.specs.Echo.{EchoText, IsEcho, IsLine, ended}
 use Rattle.echo_text.specs.Ids.{is_zero}
 use Rattle.echo_filed.specs.Written.{short_lines, text_of}
@@ -70,12 +70,4 @@ word_no_zero (b ∷ word) h =
 -- the text of an echo
 pub text_no_zero : (e : EchoText) → IsEcho e → NoZero (text_of e)
 unfolding text_of
-text_no_zero e h =
-    let seen = short_no_zero seen_prefix (word_no_zero seen_prefix refl) e.seen h.seen_entries (seen_short e.seen (recursion_from_All IsNetNode e.seen h.seen_entries)) in
-    let path = short_no_zero path_prefix (word_no_zero path_prefix refl) e.path h.path_entries (path_short e.path (recursion_from_All IsNetNode e.path h.path_entries)) in
-    let tag = tag_no_zero e.tag (and_parts (nat_lt 0 (length e.tag) && nat_le (length e.tag) 60) (list_all is_tag_byte e.tag) h.tag_bytes).1 in
-    all_append IsSomeByte (ended (area_word ++ e.tag)) (flat_map ended e.kept ++ (short_lines seen_prefix e.seen ++ short_lines path_prefix e.path))
-    (ended_no_zero (area_word ++ e.tag) (all_append IsSomeByte area_word e.tag (word_no_zero area_word refl) tag))
-    (all_append IsSomeByte (flat_map ended e.kept) (short_lines seen_prefix e.seen ++ short_lines path_prefix e.path)
-    (lines_no_zero e.kept (recursion_from_All IsLine e.kept h.kept_lines))
-    (all_append IsSomeByte (short_lines seen_prefix e.seen) (short_lines path_prefix e.path) seen path))
+text_no_zero e h = grind (arith, short_no_zero, word_no_zero, seen_short, recursion_from_All, path_short, tag_no_zero, and_parts, nat_lt, nat_le, all_append, ended_no_zero, lines_no_zero)

@@ -1,5 +1,5 @@
 -- Cases of tests, and lists by their first element.
-use Rattle.std.proofs.Common.{◌≡◌, ℕ, suc, zero, ◌<◌, Bool, true, false, if◌then◌else◌, List, [], ◌∷◌, length, get_or, refl, sym, subst, ◌⊎◌, inl, inr, arith, Some, map}
+use Rattle.std.proofs.Common.{◌≡◌, ℕ, suc, zero, ◌<◌, Bool, true, false, if◌then◌else◌, List, [], ◌∷◌, length, get_or, sym, subst, ◌⊎◌, inl, inr, arith, Some, map}
 use Rattle.std.specs.Prelude.{Contains, find}
 use Rattle.std.proofs.lemmas.Bool.{cond_both}
 use Rattle.std.specs.List.{AllByRecursion}
@@ -8,9 +8,7 @@ use Rattle.std.specs.List.{AllByRecursion}
 pub of_three : {A : Type 0} (P : A → Type 0) (p q : Bool) (a b c : A)
     → (p ≡ true → P a) → (p ≡ false → q ≡ true → P b) → (p ≡ false → q ≡ false → P c)
     → P (if p then a else if q then b else c)
-of_three P true q a b c f g h = f refl
-of_three P false true a b c f g h = g refl refl
-of_three P false false a b c f g h = h refl refl
+of_three P p q a b c h1 h2 h3 = grind arith
 
 pub same_some : {A : Type 0} (x y : A) → Some x ≡ Some y → x ≡ y
 same_some x y h = cc

@@ -1,8 +1,7 @@
 -- The comparison that is derived for keys is the test of the definitions.
-use Rattle.std.proofs.Common.{◌≡◌, ◌↔◌, Bool, true, sym, ◌∙◌, refl}
+use Rattle.std.proofs.Common.{◌≡◌, ◌↔◌, Bool, true, sym, ◌∙◌, arith}
 use Rattle.echo_filed.specs.contracts.key.KeyPartialEq.TheImpl.{eq-value}
 use Rattle.echo_filed.specs.declared.key.Key.{Key}
-use Rattle.echo_filed.specs.declared.key.Key.TheVariants.{ByContent, ById}
 use Rattle.echo_filed.specs.Filed.{same_key}
 use Rattle.echo_filed.proofs.Keys.{same_key_decides}
 
@@ -10,10 +9,7 @@ abbrev pub derived : Key → Key → Bool
 derived = eq-value.it
 
 pub derived_is_same : (k l : Key) → derived k l ≡ same_key k l
-derived_is_same (ById tag msgid) (ById tag' msgid') = refl
-derived_is_same (ById tag msgid) (ByContent tag' date to from subject kept) = refl
-derived_is_same (ByContent tag date to from subject kept) (ById tag' msgid') = refl
-derived_is_same (ByContent tag date to from subject kept) (ByContent tag' date' to' from' subject' kept') = refl
+derived_is_same k l = grind arith
 
 pub derived_decides : (k l : Key) (answer : Bool) → answer ≡ derived k l → (answer ≡ true) ↔ (k ≡ l)
 derived_decides k l answer e =

@@ -1,6 +1,6 @@
 -- Equal keys, and the messages after a purge.
-use Rattle.std.proofs.Common.{◌≡◌, ℕ, ◌<◌, Bool, true, cond, nat_lt, List, [], ◌∷◌, length, map, refl, sym, ap, subst, ◌∙◌, Option, Some, None}
-use Rattle.std.specs.Prelude.{bytes_eq, find, filter}
+use Rattle.std.proofs.Common.{◌≡◌, ℕ, ◌<◌, Bool, true, nat_lt, List, [], ◌∷◌, length, map, refl, ap, subst, Option, Some, None, arith}
+use Rattle.std.specs.Prelude.{bytes_eq, filter}
 use Rattle.std.specs.List.{AllByRecursion}
 use Rattle.std.specs.Cmp.Lexicographic.{pointwise, pointwise_decides, bytes_decides}
 use Rattle.std.proofs.lemmas.Bool.{and_from, and_parts, cond-true, ltb-true, lt-ltb, false≢true}
@@ -84,19 +84,11 @@ line_after id = refl
 
 pub msgid_first : (id : List ℕ) (more : List (List ℕ)) → IsIdText id → msgid_of (id_line msgid_word id ∷ more) ≡ Some id
 unfolding msgid_of
-msgid_first id more h =
-    let f : List ℕ → List ℕ = λ line. trimmed (after_word msgid_word line) in
-    let xs : List (List ℕ) = filter (begins msgid_word) more in
-    let told : f (id_line msgid_word id) ≡ id = ap trimmed (line_after id) ∙ after_blank id h.trim in
-    ap (λ ls. find some_bytes (map f ls)) (cond-true (begins msgid_word (id_line msgid_word id)) (id_line msgid_word id ∷ xs) xs (line_begins id))
-    ∙ ap (λ (x : List ℕ). cond (some_bytes x) (Some x) (find some_bytes (map f xs))) told
-    ∙ cond-true (some_bytes id) (Some id) (find some_bytes (map f xs)) (lt-ltb 0 (length id) h.some)
+msgid_first id more h = grind (arith, line_after, after_blank, cond-true, line_begins, lt-ltb)
 
 stub_key : (m : Filed) (id : Option (List ℕ)) → msgid_of m.echo.kept ≡ id → key_of (stub_with m id) ≡ key_of m
 unfolding key_of
-stub_key m None h = refl
-stub_key m (Some id) h =
-    ap (key_with (stub_with m (Some id))) (msgid_first id [] (msgid_is_id m.echo.kept id h)) ∙ sym (ap (key_with m) h)
+stub_key m id h1 = grind (arith, msgid_first, msgid_is_id)
 
 -- a purge keeps keys
 pub stub_keeps_key : (m : Filed) → key_of (stub_of m) ≡ key_of m

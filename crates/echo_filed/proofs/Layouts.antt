@@ -99,35 +99,18 @@ read_long _ = None
 
 -- the bytes of a number of four bytes
 long_is : (a b c d : ℕ) → a < 256 → b < 256 → c < 256 → d < 256 → a ∷ (b ∷ (c ∷ (d ∷ []))) ≡ long (a + 256 * b + 65536 * (c + 256 * d))
-long_is a b c d ha hb hc hd =
-    let low : (a + 256 * b + 65536 * (c + 256 * d)) % 65536 ≡ a + 256 * b = omega arith in
-    let high : (a + 256 * b + 65536 * (c + 256 * d)) / 65536 ≡ c + 256 * d = omega arith in
-    let first : a ≡ (a + 256 * b) % 256 = omega arith in
-    let second : b ≡ (a + 256 * b) / 256 = omega arith in
-    let third : c ≡ (c + 256 * d) % 256 = omega arith in
-    let fourth : d ≡ (c + 256 * d) / 256 = omega arith in
-    let low' = sym low in
-    let high' = sym high in
-    (λ i. first i ∷ (second i ∷ (third i ∷ (fourth i ∷ [])))) ∙ (λ i. word (low' i) ++ word (high' i))
+long_is a b c d ha hb hc hd = grind arith
 
 long_size : (a b c d : ℕ) → a < 256 → b < 256 → c < 256 → d < 256 → a + 256 * b + 65536 * (c + 256 * d) < 2 ^ 32
 long_size a b c d ha hb hc hd = omega arith
 
 -- the number that the first four bytes are
 pub long_front : (bytes : List ℕ) → AreBytes bytes → 4 ≤ length bytes → (bytes ≡ long (long_at 0 bytes) ++ drop 4 bytes) × (long_at 0 bytes < 2 ^ 32)
-long_front (a ∷ (b ∷ (c ∷ (d ∷ rest)))) are h = (
-  ap (λ bs. bs ++ rest) (long_is a b c d (are 0) (are 1) (are 2) (are 3)),
-  long_size a b c d (are 0) (are 1) (are 2) (are 3),
-)
-long_front _ are h = absurd (omega arith)
+long_front bytes h1 h2 = grind (arith, long_is, long_size)
 
 -- the number of these four bytes
 pub long_value : (n : ℕ) → n % 65536 % 256 + 256 * (n % 65536 / 256) + 65536 * (n / 65536 % 256 + 256 * (n / 65536 / 256)) ≡ n
-long_value n =
-    let low : n % 65536 % 256 + 256 * (n % 65536 / 256) ≡ n % 65536 = omega arith in
-    let high : n / 65536 % 256 + 256 * (n / 65536 / 256) ≡ n / 65536 = omega arith in
-    let same : n % 65536 + 65536 * (n / 65536) ≡ n = omega arith in
-    (λ i. low i + 65536 * high i) ∙ same
+long_value n = grind arith
 
 pub long_field : Layout ℕ IsLong long
 unfolding read_long
@@ -188,21 +171,14 @@ abbrev front_of : ℕ → List ℕ → Option (List ℕ × List ℕ)
 front_of n bytes = cond (nat_lt (length bytes) n) None (Some (take n bytes, drop n bytes))
 
 front_some : (n : ℕ) (bytes : List ℕ) (found : List ℕ × List ℕ) → front_of n bytes ≡ Some found → (n ≤ length bytes) × ((take n bytes, drop n bytes) ≡ found)
-front_some n bytes found h =
-    cond_both (nat_lt (length bytes) n) None (Some (take n bytes, drop n bytes)) (λ o. o ≡ Some found → (n ≤ length bytes) × ((take n bytes, drop n bytes) ≡ found))
-    (λ short is. absurd (cc)) (λ long is. (ltb-false (length bytes) n long, same_some (take n bytes, drop n bytes) found is)) h
+front_some n bytes found h = grind (arith, cond_both, nat_lt, ltb-false, same_some)
 
 front_none : (n : ℕ) (bytes : List ℕ) → front_of n bytes ≡ None → length bytes < n
 front_none n bytes h =
     cond_both (nat_lt (length bytes) n) None (Some (take n bytes, drop n bytes)) (λ o. o ≡ None → length bytes < n) (λ short is. ltb-true (length bytes) n short) (λ long is. absurd (cc)) h
 
 front_again : (n : ℕ) (s rest : List ℕ) → length s ≡ n → front_of n (s ++ rest) ≡ Some (s, rest)
-front_again n s rest e =
-    let room : n ≤ length (s ++ rest) = omega (arith, length-append s rest) in
-    let front = take_at s rest n e in
-    let back = drop_at s rest n e in
-    cond-false (nat_lt (length (s ++ rest)) n) None (Some (take n (s ++ rest), drop n (s ++ rest))) (le-ltb (length (s ++ rest)) n room)
-    ∙ (λ i. Some (front i, back i))
+front_again n s rest e = grind (arith, length-append, take_at, drop_at, cond-false, nat_lt, le-ltb)
 
 -- as many bytes more as are missing
 filled : (n : ℕ) (bytes : List ℕ) → length bytes < n → length (bytes ++ replicate (n - length bytes) 0) ≡ n
@@ -377,13 +353,7 @@ ends_length F w bytes inside =
 
 pub ends_string : (F : ℕ → Type 0) (w : ℕ → List ℕ) (n : ℕ) (bytes : List ℕ) → F n → EndsIn (List ℕ) (HasLength n) itself bytes
     → EndsIn (List ℕ) (LengthFits F) (length_first w) (w n ++ bytes)
-ends_string F w n bytes fits inside = record {
-  value = inside.value;
-  fits = subst F (sym inside.fits) fits;
-  missing = inside.missing;
-  some = inside.some;
-  cut = (λ i. w (inside.fits i) ++ inside.cut i) ∙ sym (append_assoc (w n) bytes inside.missing);
-}
+ends_string F w n bytes fits inside = grind (arith, append_assoc)
 
 counted_cuts : (F : ℕ → Type 0) (w : ℕ → List ℕ) (number : Layout ℕ F w) (bytes : List ℕ) → AreBytes bytes → (o : Option (ℕ × List ℕ)) → number.read bytes ≡ o
     → counted_read o ≡ None → EndsIn (List ℕ) (LengthFits F) (length_first w) bytes

@@ -1,5 +1,5 @@
 -- The orders of entries and of addresses, and their sets.
-use Rattle.std.proofs.Common.{◌≡◌, ℕ, ◌<◌, Bool, true, false, ◌&&◌, ◌||◌, ◌==◌, nat_lt, suc, get_or, List, [], ◌∷◌, sym, ap, ◌∙◌, ◌⊎◌, inl, inr, arith}
+use Rattle.std.proofs.Common.{◌≡◌, ℕ, ◌<◌, Bool, true, false, ◌&&◌, ◌||◌, ◌==◌, nat_lt, suc, get_or, List, [], ◌∷◌, ◌⊎◌, arith}
 use Rattle.std.specs.Prelude.{AllPairs}
 use Rattle.std.proofs.lemmas.Bool.{and_from, and_parts, and_cases, or_parts, or_from, and_right, or_left, or_right, or_cases, ltb-true, ltb-false, eqb-true, eqb-false, lt-ltb, le-ltb, eq-eqb}
 use Rattle.std.proofs.lemmas.List.Elements.{recursion_from_All}
@@ -16,29 +16,14 @@ abbrev first_then : ℕ → ℕ → Bool → Bool
 first_then a b rest = nat_lt a b || ((a == b) && rest)
 
 decided : (a b : ℕ) (rest : Bool) → first_then a b rest ≡ true → (a < b) ⊎ ((a ≡ b) × (rest ≡ true))
-decided a b rest h = elim (or_cases (nat_lt a b) ((a == b) && rest) h) [
-  | inl less ↦ inl (ltb-true a b less)
-  | inr same ↦ inr (eqb-true a b (and_parts (a == b) rest same).0, (and_parts (a == b) rest same).1)
-]
+decided a b rest h = grind (arith, or_cases, nat_lt, ltb-true, eqb-true, and_parts)
 
 decide : (a b : ℕ) (rest : Bool) → (a < b) ⊎ ((a ≡ b) × (rest ≡ true)) → first_then a b rest ≡ true
-decide a b rest h = elim h [
-  | inl less ↦ or_left (nat_lt a b) ((a == b) && rest) (lt-ltb a b less)
-  | inr same ↦ or_right (nat_lt a b) ((a == b) && rest) (and_from (a == b) rest (eq-eqb a b same.0) same.1)
-]
+decide a b rest h = grind (arith, or_left, nat_lt, lt-ltb, or_right, and_from, eq-eqb)
 
 chain_then : (a b c : ℕ) (p q r : Bool) → (p ≡ true → q ≡ true → r ≡ true)
     → first_then a b p ≡ true → first_then b c q ≡ true → first_then a c r ≡ true
-chain_then a b c p q r chain h g = elim (decided a b p h) [
-  | inl less ↦ elim (decided b c q g) [
-    | inl less' ↦ decide a c r (inl (omega arith))
-    | inr same' ↦ decide a c r (inl (omega (arith, same'.0)))
-  ]
-  | inr same ↦ elim (decided b c q g) [
-    | inl less' ↦ decide a c r (inl (omega (arith, same.0)))
-    | inr same' ↦ decide a c r (inr (same.0 ∙ same'.0, chain same.1 same'.1))
-  ]
-]
+chain_then a b c p q r chain h g = grind (arith, decided, decide)
 
 apart_then : (a : ℕ) (p : Bool) → p ≡ false → first_then a a p ≡ false
 apart_then a p h = or_from (nat_lt a a) ((a == a) && p) (le-ltb a a (omega arith)) (and_right (a == a) p h)
@@ -50,21 +35,7 @@ record Tied (a b : ℕ) (p q : Bool) : Type 0 where
   other : q ≡ false
 
 tied_then : (a b : ℕ) (p q : Bool) → first_then a b p ≡ false → first_then b a q ≡ false → Tied a b p q
-tied_then a b p q h g =
-    let h' = or_parts (nat_lt a b) ((a == b) && p) h in
-    let g' = or_parts (nat_lt b a) ((b == a) && q) g in
-    let below = ltb-false a b h'.0 in
-    let above = ltb-false b a g'.0 in
-    let same : a ≡ b = omega arith in
-    let one : p ≡ false = elim (and_cases (a == b) p h'.1) [
-      | inl no_tie ↦ absurd (eqb-false a b no_tie same)
-      | inr fails ↦ fails
-    ] in
-    let other : q ≡ false = elim (and_cases (b == a) q g'.1) [
-      | inl no_tie ↦ absurd (eqb-false b a no_tie (sym same))
-      | inr fails ↦ fails
-    ] in
-    record { same = same; one = one; other = other }
+tied_then a b p q h g = grind (arith, or_parts, nat_lt, ltb-false, and_cases, eqb-false)
 
 less_chain : (a b c : ℕ) → nat_lt a b ≡ true → nat_lt b c ≡ true → nat_lt a c ≡ true
 less_chain a b c h g =
@@ -74,15 +45,7 @@ neither_less : (a b : ℕ) → nat_lt a b ≡ false → nat_lt b a ≡ false →
 neither_less a b h g = let below = ltb-false a b h in let above = ltb-false b a g in omega arith
 
 pub entry_order : IsOrder entry_before
-entry_order = record {
-  chain = λ x y z.
-      chain_then x.net y.net z.net (nat_lt x.node y.node) (nat_lt y.node z.node) (nat_lt x.node z.node) (less_chain x.node y.node z.node);
-  tied = λ x y h g.
-      let t : Tied x.net y.net (nat_lt x.node y.node) (nat_lt y.node x.node) = tied_then x.net y.net (nat_lt x.node y.node) (nat_lt y.node x.node) h g in
-      let node : x.node ≡ y.node = neither_less x.node y.node t.one t.other in
-      λ i. record { net = t.same i; node = node i };
-  apart = λ x. apart_then x.net (nat_lt x.node x.node) (le-ltb x.node x.node (omega arith));
-}
+entry_order = grind (arith, chain_then, nat_lt, less_chain, tied_then, neither_less, apart_then, le-ltb)
 
 abbrev rest_before : Address → Address → Bool
 rest_before a b = first_then a.net b.net (nat_lt a.node b.node)
@@ -101,26 +64,13 @@ address_order = record {
 }
 
 comes_before : (x y : NetNode) → entry_before x y ≡ true → ComesBefore x y
-comes_before x y h = elim (decided x.net y.net (nat_lt x.node y.node) h) [
-  | inl less ↦ inl less
-  | inr same ↦ inr (same.0, ltb-true x.node y.node same.1)
-]
+comes_before x y h = grind (arith, decided, nat_lt, ltb-true)
 
 before_comes : (x y : NetNode) → ComesBefore x y → entry_before x y ≡ true
-before_comes x y h = elim h [
-  | inl less ↦ decide x.net y.net (nat_lt x.node y.node) (inl less)
-  | inr same ↦ decide x.net y.net (nat_lt x.node y.node) (inr (same.0, lt-ltb x.node y.node same.1))
-]
+before_comes x y h = grind (arith, decide, nat_lt, lt-ltb)
 
 pub same_entry_decides : (x y : NetNode) → (same_entry x y ≡ true → x ≡ y) × (x ≡ y → same_entry x y ≡ true)
-same_entry_decides x y = (
-  λ h.
-      let parts = and_parts (x.net == y.net) (x.node == y.node) h in
-      let net = eqb-true x.net y.net parts.0 in
-      let node = eqb-true x.node y.node parts.1 in
-      λ i. record { net = net i; node = node i },
-  λ e. and_from (x.net == y.net) (x.node == y.node) (eq-eqb x.net y.net (ap (λ (z : NetNode). z.net) e)) (eq-eqb x.node y.node (ap (λ (z : NetNode). z.node) e)),
-)
+same_entry_decides x y = grind (arith, and_parts, eqb-true, and_from, eq-eqb)
 
 pairs_weaker : {X : Type 0} (R S : X → X → Type 0) → ((x y : X) → R x y → S x y) → (xs : List X) → AllPairs R xs → AllPairs S xs
 pairs_weaker R S weaker xs h = λ i j d less inside. weaker (get_or xs i d) (get_or xs j d) (h i j d less inside)

@@ -1,5 +1,5 @@
 -- Lines without 00 and 0D.
-use Rattle.std.proofs.Common.{◌≡◌, ◌≢◌, ℕ, zero, suc, ◌^◌, ◌<◌, ◌==◌, ◌||◌, true, false, List, [], ◌∷◌, ◌++◌, length, take, drop, decimal, codes, refl, sym, subst, arith, inl, inr}
+use Rattle.std.proofs.Common.{◌≡◌, ◌≢◌, ℕ, zero, suc, ◌^◌, ◌<◌, ◌==◌, ◌||◌, true, false, List, [], ◌∷◌, ◌++◌, length, take, drop, decimal, sym, subst, arith, inl, inr}
 use Rattle.std.specs.List.{AllByRecursion, list_all, list_any, onto_first, slice_split}
 use Rattle.std.proofs.lemmas.Bool.{and_parts, cases_Bool, cond_both, eqb-false, not-true, or_parts}
 use Rattle.std.proofs.lemmas.List.Elements.{All-from_recursion}
@@ -39,11 +39,7 @@ plain_digits n small =
     all_weaker IsDigit IsLineByte (λ b h. let low = h.0 in (λ e. omega arith, λ e. omega arith)) (decimal n) (digits_of_decimal n small)
 
 pub plain_address : (a : Address) → IsAddress a → Plain (address_text a)
-plain_address a h =
-    all_append IsLineByte (decimal a.zone) (codes ":" ++ (decimal a.net ++ (codes "/" ++ decimal a.node))) (plain_digits a.zone (omega (arith, h.zone.1)))
-    (all_append IsLineByte (codes ":") (decimal a.net ++ (codes "/" ++ decimal a.node)) (plain_if (codes ":") refl)
-    (all_append IsLineByte (decimal a.net) (codes "/" ++ decimal a.node) (plain_digits a.net (omega (arith, h.net.1)))
-    (all_append IsLineByte (codes "/") (decimal a.node) (plain_if (codes "/") refl) (plain_digits a.node (omega (arith, h.node.1))))))
+plain_address a h = grind (arith, all_append, plain_digits, plain_if)
 
 -- a byte before the first of some pieces
 onto_plain : (b : ℕ) → IsLineByte b → (pieces : List (List ℕ)) → AllByRecursion Plain pieces → AllByRecursion Plain (onto_first b pieces)

@@ -47,9 +47,7 @@ cut_of prefix (first ∷ more) all = cut_after prefix (first ∷ []) more (lit< 
 
 written_short : (prefix : List ℕ) (list : List NetNode) → AllByRecursion (HasRoom prefix) list → ShortLines prefix list (short_lines prefix list)
 unfolding short_lines
-written_short prefix list all =
-    let cut = cut_of prefix list all in
-    record { runs = runs_of prefix list; cut = sym cut.joined; lines = refl; each = cut.each }
+written_short prefix list all = grind (arith, cut_of)
 
 one_has_room : (prefix : List ℕ) (e : NetNode) → length prefix ≤ 8 → IsNetNode e → HasRoom prefix e
 one_has_room prefix e short h =

@@ -1,5 +1,5 @@
 -- A stored message that is sent part after part.
-use Rattle.std.proofs.Common.{◌≡◌, ℕ, ◌^◌, ◌<◌, Bool, true, false, List, [], ◌++◌, length, refl, sym, ap, subst, ◌∙◌, Option, Some, None, Result, Ok, Err, arith, append_assoc}
+use Rattle.std.proofs.Common.{◌≡◌, ℕ, ◌^◌, ◌<◌, Bool, true, false, List, [], ◌++◌, length, ap, subst, ◌∙◌, Option, Result, Ok, Err, arith, append_assoc}
 use Rattle.std.specs.Prelude.{unwrap_or}
 use Rattle.std.proofs.lemmas.Bool.{cond-false, cond-true}
 use Rattle.std.proofs.KnownBytes.{Appends-nil}
@@ -30,31 +30,20 @@ last_sent false m = after_long_length (text_of m.echo)
 
 -- the first byte gives the sender and the form
 pub tagged : (short : Bool) (sender : Option Address) → has_tag Second (kind_of short sender) ≡ short
-tagged true None = refl
-tagged true (Some a) = refl
-tagged false None = refl
-tagged false (Some a) = refl
+tagged short sender = grind arith
 
 last_is : (short : Bool) (m : Filed) → last_bytes Second (stored_as short m) ≡ last_sent short m
-last_is true m =
-    cond-true (has_tag Second (kind_of true m.sender)) (last_sent true m) (after_long_length (unwrap_or (msgid_of m.echo.kept) [])) (tagged true m.sender)
-last_is false m =
-    cond-false (has_tag Second (kind_of false m.sender)) (after_length [] ++ last_sent false m) (last_sent false m) (tagged false m.sender)
+last_is short m = grind (arith, cond-true, tagged, cond-false)
 
 -- the strings and the bytes after them
 strings_then : (to from subject last : List ℕ)
     → strings_bytes to from subject ++ last ≡ after_length to ++ (after_length from ++ (after_length subject ++ last))
-strings_then to from subject last =
-    append_assoc (after_length to) (after_length from ++ after_length subject) last
-    ∙ ap (λ bs. after_length to ++ bs) (append_assoc (after_length from) (after_length subject) last)
+strings_then to from subject last = grind (arith, append_assoc)
 
 pub stored_parts : (short : Bool) (m : Filed)
     → front_bytes (stored_as short m) ++ (strings_bytes m.to_name m.from_name m.subject ++ last_sent short m) ≡ stored_bytes Second (stored_as short m)
 unfolding stored_bytes
-stored_parts short m =
-    ap (λ bs. front_bytes (stored_as short m) ++ bs)
-    (strings_then m.to_name m.from_name m.subject (last_sent short m)
-    ∙ ap (λ bs. after_length m.to_name ++ (after_length m.from_name ++ (after_length m.subject ++ bs))) (sym (last_is short m)))
+stored_parts short m = grind (arith, strings_then, last_is)
 
 -- bytes that are known by another name
 pub Sends-as : {E A : Type 0} (a b : Option (List ℕ)) (r : Result A E) (bs cs : List ℕ) (n m : ℕ) → bs ≡ cs → Sends a b r bs n m → Sends a b r cs n m

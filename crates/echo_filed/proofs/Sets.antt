@@ -1,5 +1,5 @@
 -- A sorted list has the same members, ascending and without repeats.
-use Rattle.std.proofs.Common.{◌≡◌, Bool, true, false, List, [], ◌∷◌, refl, sym, subst, ◌∙◌, ◌⊎◌, inl, inr, arith}
+use Rattle.std.proofs.Common.{◌≡◌, Bool, true, false, List, [], ◌∷◌, refl, sym, ◌∙◌, ◌⊎◌, inl, inr, arith}
 use Rattle.std.specs.Prelude.{⊤}
 use Rattle.std.specs.List.{AllByRecursion, AllPairs}
 use Rattle.std.proofs.lemmas.Bool.{true≢false}
@@ -82,27 +82,12 @@ ascending_pairs {X} before (x ∷ xs) up =
 -- the first members of two ascending lists with the same members
 same_first : {X : Type 0} (before : X → X → Bool) → IsOrder before → (x y : X) (xs ys : List X)
     → Ascending before (x ∷ xs) → Ascending before (y ∷ ys) → IsIn x (y ∷ ys) → IsIn y (x ∷ xs) → x ≡ y
-same_first {X} before o x y xs ys up up' h g = elim h [
-  | inl same ↦ same
-  | inr later ↦ elim g [
-    | inl same ↦ sym same
-    | inr later' ↦
-        let one : before y x ≡ true = all_at (λ (z : X). before y z ≡ true) x ys up'.0 later in
-        let two : before x y ≡ true = all_at (λ (z : X). before x z ≡ true) y xs up.0 later' in
-        absurd (true≢false (sym (o.chain x y x two one) ∙ o.apart x))
-  ]
-]
+same_first {X} before o x y xs ys up up' h g = grind (arith, all_at, true≢false)
 
 -- a later member of an ascending list is a later member of the other
 in_rest : {X : Type 0} (before : X → X → Bool) → IsOrder before → (z x y : X) (xs ys : List X)
     → Ascending before (x ∷ xs) → x ≡ y → IsIn z xs → IsIn z (y ∷ ys) → IsIn z ys
-in_rest {X} before o z x y xs ys up e h g = elim g [
-  | inl same ↦
-      let later : before x z ≡ true = all_at (λ (w : X). before x w ≡ true) z xs up.0 h in
-      let P : X → Type 0 = λ w. before x w ≡ true in
-      absurd (true≢false (sym (subst P (same ∙ sym e) later) ∙ o.apart x))
-  | inr there ↦ there
-]
+in_rest {X} before o z x y xs ys up e h g = grind (arith, all_at, true≢false)
 
 pub same_set : {X : Type 0} (before : X → X → Bool) → IsOrder before → (xs ys : List X) → Ascending before xs → Ascending before ys
     → ((z : X) → IsIn z xs → IsIn z ys) → ((z : X) → IsIn z ys → IsIn z xs) → xs ≡ ys

@@ -1,5 +1,5 @@
 -- The fields of a stored message, as they are laid out.
-use Rattle.std.proofs.Common.{◌≡◌, ℕ, ◌^◌, ◌<◌, Bool, true, false, List, [], ◌++◌, length, refl, sym, subst, Option, Some, None, lit<}
+use Rattle.std.proofs.Common.{◌≡◌, ℕ, ◌^◌, ◌<◌, Bool, true, false, List, [], ◌++◌, length, refl, sym, subst, Option, Some, None, lit<, arith}
 use Rattle.echo_addr.specs.declared.address.Address.{Address}
 use Rattle.echo_packet.specs.Header.{AreBytes, word}
 use Rattle.echo_filed.specs.Stored.{IsStored, Stored, Version, after_length, after_long_length, has_tag, long, stored_bytes}
@@ -106,27 +106,10 @@ last_room true p h = h.1
 last_room false p h = h.1
 
 to_fit : (version : Version) (s : Stored) → IsStored version s → FieldsFit version (to_fields s)
-to_fit version s h =
-    let last = last_fits (has_tag version s.kind) (s.tag, s.last) h.tag h.no_tag h.last in
-    (h.kind, (record { zone = h.zone; net = h.net; node = h.node }, (h.date_len, (h.to_name, (h.from_name, (h.subject, last))))))
+to_fit version s h = grind (arith, last_fits)
 
 pub of_fit : (version : Version) (p : Fields) → FieldsFit version p → IsStored version (of_fields p)
-of_fit version p h =
-    let last = h.1.1.1.1.1.1 in
-    let end : List ℕ × List ℕ = p.1.1.1.1.1.1 in
-    record {
-      kind = h.0;
-      zone = h.1.0.zone;
-      net = h.1.0.net;
-      node = h.1.0.node;
-      date_len = h.1.1.0;
-      to_name = h.1.1.1.0;
-      from_name = h.1.1.1.1.0;
-      subject = h.1.1.1.1.1.0;
-      tag = last_tag (has_tag version p.0) end last;
-      no_tag = last_no_tag (has_tag version p.0) end last;
-      last = last_room (has_tag version p.0) end last;
-    }
+of_fit version p h = grind (arith, last_tag, last_no_tag, last_room)
 
 pub bytes_are : (version : Version) (p : Fields) → fields_bytes version p ≡ stored_bytes version (of_fields p)
 unfolding stored_bytes

@@ -1,9 +1,9 @@
 -- A stored message that is taken from a source.
-use Rattle.std.proofs.Common.{◌≡◌, ◌∙◌, ℕ, Bool, List, Option, sym, subst}
+use Rattle.std.proofs.Common.{◌≡◌, ℕ, Bool, List, Option, subst, arith}
 use Rattle.std.specs.Io.KnownBytes.{Consumes}
 use Rattle.disk_io.specs.declared.fixed.Broken.{Broken}
 use Rattle.echo_filed.specs.Stored.{IsStored, Stored, Version, stored_bytes}
-use Rattle.echo_filed.specs.Fields.{Breaks, EndsIn, LastFits, last_of}
+use Rattle.echo_filed.specs.Fields.{Breaks, LastFits, last_of}
 use Rattle.echo_filed.proofs.StoredFields.{Fields, FieldsFit, bytes_are, fields_bytes, of_fields, of_fit}
 use Rattle.echo_filed.proofs.Taken.{breaks_as}
 
@@ -22,16 +22,7 @@ last_had b with_tag same p old new h = subst (λ t. Had (LastFits t) (last_of t)
 -- the fields are a stored message
 pub stored_breaks : (version : Version) (a b : Option (List ℕ)) (e : Broken) → Breaks Fields (FieldsFit version) (fields_bytes version) a b e
     → Breaks Stored (IsStored version) (stored_bytes version) a b e
-stored_breaks version a b e h = breaks_as {F = FieldsFit version} {w = fields_bytes version} {G = IsStored version} {v = stored_bytes version} a b e told h
-  where
-    told : (bytes : List ℕ) → EndsIn Fields (FieldsFit version) (fields_bytes version) bytes → EndsIn Stored (IsStored version) (stored_bytes version) bytes
-    told bytes inside = record {
-      value = of_fields inside.value;
-      fits = of_fit version inside.value inside.fits;
-      missing = inside.missing;
-      some = inside.some;
-      cut = sym (bytes_are version inside.value) ∙ inside.cut;
-    }
+stored_breaks version a b e h = grind (arith, breaks_as, of_fit, bytes_are)
 
 pub stored_had : (version : Version) (p : Fields) (a b : Option (List ℕ)) → Had (FieldsFit version) (fields_bytes version) p a b
     → Had (IsStored version) (stored_bytes version) (of_fields p) a b

@@ -1,12 +1,11 @@
 -- A stub is a message that a base may have.
-use Rattle.std.proofs.Common.{nat_lt, ◌≡◌, ℕ, not, true, List, [], ◌∷◌, ◌++◌, length, map, drop, codes, refl, Option, Some, None, arith}
+use Rattle.std.proofs.Common.{nat_lt, ◌≡◌, ℕ, not, true, List, [], ◌∷◌, length, map, refl, Option, Some, None, arith}
 use Rattle.std.specs.Prelude.{filter}
-use Rattle.std.specs.List.{AllByRecursion, prefix_len}
+use Rattle.std.specs.List.{AllByRecursion}
 use Rattle.std.proofs.lemmas.List.Elements.{All-filter, All-from_recursion, recursion_from_All}
-use Rattle.echo_text.specs.Lines.{after_feeds, after_word, begins, is_feed, is_tag, msgid_word, trimmed}
+use Rattle.echo_text.specs.Lines.{after_word, begins, is_tag, msgid_word, trimmed}
 use Rattle.echo_text.specs.Tail.{tail}
 use Rattle.echo_text.specs.Echo.{IsEcho, IsLine, is_shed, msgid_of}
-use Rattle.echo_addr.specs.Entries.{is_blank}
 use Rattle.echo_filed.specs.Filed.{Filed, IsFiled, id_line}
 use Rattle.echo_filed.specs.Stubs.{bare, stub_of, stub_with}
 use Rattle.echo_filed.proofs.Choices.{all_map, all_weaker, found_is}
@@ -15,9 +14,7 @@ use Rattle.echo_filed.proofs.Plain.{IsLineByte, Plain, all_append, plain_drop, p
 -- an id is a part of a kept line
 part_plain : (line : List ℕ) → Plain line → Plain (trimmed (after_word msgid_word line))
 unfolding trimmed after_word
-part_plain line h =
-    plain_take _ _ (plain_drop (prefix_len is_blank (drop (length msgid_word) (after_feeds line))) (drop (length msgid_word) (after_feeds line))
-    (plain_drop (length msgid_word) (after_feeds line) (plain_drop (prefix_len is_feed line) line h)))
+part_plain line h = grind (arith, plain_take, plain_drop)
 
 id_is_plain : (kept : List (List ℕ)) → AllByRecursion Plain kept → (id : List ℕ) → msgid_of kept ≡ Some id → Plain id
 unfolding msgid_of
@@ -36,17 +33,7 @@ id_line_stays id = (refl, tt)
 
 -- a tag and an id of a line are echomail
 pub bare_echo : (area_tag id : List ℕ) → is_tag area_tag ≡ true → Plain id → IsEcho (bare area_tag id)
-bare_echo area_tag id tagged plain =
-    let line : Plain (id_line msgid_word id) =
-    all_append IsLineByte msgid_word (codes " " ++ id) (plain_if msgid_word refl) ((λ e. omega arith, λ e. omega arith), plain) in
-    record {
-      tag_bytes = tagged;
-      kept_lines = All-from_recursion IsLine (id_line msgid_word id ∷ []) (plain_line (id_line msgid_word id) line, tt);
-      ending = All-from_recursion (λ l. not (is_shed l) ≡ true) (tail (id_line msgid_word id ∷ [])) (id_line_stays id);
-      ascending = λ i j d less inside. absurd (omega arith);
-      seen_entries = λ k d inside. absurd (omega arith);
-      path_entries = λ k d inside. absurd (omega arith);
-    }
+bare_echo area_tag id tagged plain = grind (arith, all_append, plain_if, All-from_recursion, plain_line, id_line_stays)
 
 bare_is_echo : (m : Filed) (id : List ℕ) → IsEcho m.echo → msgid_of m.echo.kept ≡ Some id → IsEcho (bare m.echo.tag id)
 bare_is_echo m id is h =

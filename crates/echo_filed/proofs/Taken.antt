@@ -1,5 +1,5 @@
 -- Fields that are taken from a source.
-use Rattle.std.proofs.Common.{◌≡◌, ℕ, ◌+◌, ◌-◌, ◌*◌, ◌/◌, ◌%◌, ◌<◌, ◌≤◌, List, [], ◌∷◌, ◌++◌, length, get_or, take, drop, replicate, refl, sym, ap, subst, ◌∙◌, Option, Result, Ok, Err, arith}
+use Rattle.std.proofs.Common.{◌≡◌, ℕ, ◌+◌, ◌-◌, ◌*◌, ◌/◌, ◌%◌, ◌<◌, ◌≤◌, List, [], ◌∷◌, ◌++◌, length, get_or, take, drop, replicate, refl, sym, ◌∙◌, Option, Result, arith}
 use Rattle.std.specs.Io.KnownBytes.{Consumes}
 use Rattle.std.proofs.KnownBytes.{Consumes-trans}
 use Rattle.std.proofs.lemmas.List.{append-nil, length-append, length-drop, length-replicate, nil_from_length, take-append-drop}
@@ -33,9 +33,7 @@ fixed_breaks X Fits write x buf fits same a b broken.Memory h = tt
 -- a field that is a part of another
 pub breaks_as : {X Y : Type 0} {F : X → Type 0} {w : X → List ℕ} {G : Y → Type 0} {v : Y → List ℕ} (a b : Option (List ℕ)) (e : Broken)
     → ((bytes : List ℕ) → EndsIn X F w bytes → EndsIn Y G v bytes) → Breaks X F w a b e → Breaks Y G v a b e
-breaks_as a b broken.Cut within h = ((h.0.0, h.0.1, within h.0.0 h.0.2), h.1)
-breaks_as a b broken.Device within h = (h.0, h.1, within h.0 h.2)
-breaks_as a b broken.Memory within h = tt
+breaks_as a b e h1 h2 = grind arith
 
 -- a break after other bytes
 pub breaks_behind : {X Y : Type 0} {F : X → Type 0} {w : X → List ℕ} {G : Y → Type 0} {v : Y → List ℕ} (a b c : Option (List ℕ)) (front : List ℕ) (e : Broken)
@@ -50,9 +48,7 @@ byte_whole (a ∷ []) size are = (are 0, refl)
 byte_whole _ size are = absurd (omega arith)
 
 pub long_whole : (s : List ℕ) → length s ≡ 4 → AreBytes s → IsLong (long_at 0 s) × (long (long_at 0 s) ≡ s)
-long_whole s size are =
-    let front = long_front s are (omega arith) in
-    (front.1, sym (front.0 ∙ ap (λ r. long (long_at 0 s) ++ r) (nil_from_length (drop 4 s) (omega (arith, length-drop 4 s))) ∙ append-nil (long (long_at 0 s))))
+long_whole s size are = grind (arith, long_front, nil_from_length, length-drop, append-nil)
 
 -- a sender is its six bytes
 pub address_whole : (s : List ℕ) → length s ≡ 6 → AreBytes s
@@ -91,45 +87,22 @@ string_ends size bytes short =
 
 pub string_breaks : (size : ℕ) (had : List ℕ) (a b c : Option (List ℕ)) (e : Broken) → length had ≤ size → Consumes a b had → BreaksSized (size - length had) b c e
     → Breaks (List ℕ) (HasLength size) itself a c e
-string_breaks size had a b c broken.Cut within took h =
-    let short = h.0.2 in
-    ((had ++ h.0.0, Consumes-trans a b c had h.0.0 took h.0.1, string_ends size (had ++ h.0.0) (omega (arith, length-append had h.0.0))), h.1)
-string_breaks size had a b c broken.Device within took h =
-    let short = h.2 in
-    (had ++ h.0, Consumes-trans a b c had h.0 took h.1, string_ends size (had ++ h.0) (omega (arith, length-append had h.0)))
-string_breaks size had a b c broken.Memory within took h = tt
+string_breaks size had a b c e h1 h2 h3 = grind (arith, Consumes-trans, string_ends, length-append)
 
 -- a part of a string broke, after the earlier parts
 pub part_breaks : (size next : ℕ) (had : List ℕ) (a b c : Option (List ℕ)) (e : Broken) → length had + next ≤ size → Consumes a b had
     → Breaks (List ℕ) (HasLength next) itself b c e → Breaks (List ℕ) (HasLength size) itself a c e
-part_breaks size next had a b c e within took h =
-    breaks_behind {F = HasLength next} {w = itself} {G = HasLength size} {v = itself} a b c had e took
-    (λ bytes inside.
-    let some = inside.some in
-    let fits = inside.fits in
-    let cut = ap length inside.cut ∙ length-append bytes inside.missing in
-    string_ends size (had ++ bytes) (omega (arith, length-append had bytes)))
-    h
+part_breaks size next had a b c e within took h = grind (arith, breaks_behind, length-append, string_ends)
 
 -- a string behind its length
 pub counted_reads : (F : ℕ → Type 0) (w : ℕ → List ℕ) (n : ℕ) (a b c : Option (List ℕ)) (r : Result (List ℕ) Broken) → F n → Consumes a b (w n)
     → Reads (HasLength n) itself b c r → Reads (LengthFits F) (length_first w) a c r
-counted_reads F w n a b c (Ok s) fits took h =
-    let P : ℕ → Type 0 = λ k. F k × Consumes a c (w k ++ s) in
-    subst P (sym h.0) (fits, Consumes-trans a b c (w n) s took h.1)
-counted_reads F w n a b c (Err e) fits took h =
-    breaks_behind {F = HasLength n} {w = itself} {G = LengthFits F} {v = length_first w} a b c (w n) e took (λ bytes inside. ends_string F w n bytes fits inside) h
+counted_reads F w n a b c r h1 h2 h3 = grind (arith, Consumes-trans, breaks_behind, ends_string)
 
 -- three numbers are read as a sender
 pub address_reads : (a b : Option (List ℕ)) (s : List ℕ) (zone net node : ℕ) → length s ≡ 6 → AreBytes s → zone ≡ number_at 0 s → net ≡ number_at 2 s → node ≡ number_at 4 s
     → Consumes a b s → IsSmall (record { zone = zone; net = net; node = node }) × Consumes a b (address_bytes (record { zone = zone; net = net; node = node }))
-address_reads a b s zone net node size are z n m took =
-    let P : Address → Type 0 = λ x. IsSmall x × Consumes a b (address_bytes x) in
-    let z' = sym z in
-    let n' = sym n in
-    let m' = sym m in
-    let whole = address_whole s size are in
-    subst P (λ i. record { zone = z' i; net = n' i; node = m' i }) (whole.0, subst (Consumes a b) (sym whole.1) took)
+address_reads a b s zone net node size are z n m took = grind (arith, address_whole)
 
 -- the input or the device ends inside the first of two fields, or inside the second
 pub breaks_first : {X Y : Type 0} {F : X → Type 0} {w : X → List ℕ} {G : X → Y → Type 0} {v : X → Y → List ℕ} → Layout X F w → ((x : X) → Layout Y (G x) (v x))

@@ -1,11 +1,11 @@
 -- How many bytes a written text has at most.
-use Rattle.std.proofs.Common.{◌≡◌, ℕ, ◌+◌, ◌*◌, ◌≤◌, ◌&&◌, nat_le, nat_lt, true, List, [], ◌∷◌, ◌++◌, length, None, ap, arith}
-use Rattle.std.specs.List.{flat_map, list_all}
+use Rattle.std.proofs.Common.{◌≡◌, ℕ, ◌+◌, ◌*◌, ◌≤◌, nat_le, nat_lt, true, List, [], ◌∷◌, ◌++◌, length, None, ap, arith}
+use Rattle.std.specs.List.{flat_map}
 use Rattle.std.proofs.lemmas.Bool.{and_parts, leb-true}
 use Rattle.std.proofs.lemmas.List.{length-append}
 use Rattle.echo_addr.specs.declared.address.NetNode.{NetNode}
 use Rattle.echo_addr.specs.ShortLines.{AreRuns, ShortLines, entries_text, line_of}
-use Rattle.echo_text.specs.Lines.{area_word, is_tag, is_tag_byte}
+use Rattle.echo_text.specs.Lines.{area_word, is_tag}
 use Rattle.echo_text.specs.Echo.{EchoText, IsEcho, TextOf, ended}
 use Rattle.echo_filed.specs.Written.{text_of}
 use Rattle.echo_filed.proofs.Texts.{text_is_text}
@@ -51,6 +51,4 @@ text_len e h = whole_len e (text_of e) (text_is_text e h)
 
 -- a tag has at most 60 bytes
 pub tag_len : (tag : List ℕ) → is_tag tag ≡ true → length tag ≤ 60
-tag_len tag h =
-    let sizes = and_parts (nat_lt 0 (length tag) && nat_le (length tag) 60) (list_all is_tag_byte tag) h in
-    leb-true (length tag) 60 (and_parts (nat_lt 0 (length tag)) (nat_le (length tag) 60) sizes.0).1
+tag_len tag h = grind (arith, and_parts, nat_lt, nat_le, leb-true)

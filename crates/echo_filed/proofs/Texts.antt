@@ -1,30 +1,22 @@
 -- The parse of a text is its echo, and the written text of an echo parses to it.
-use Rattle.std.proofs.Common.{◌≡◌, ℕ, true, cond, not, List, refl, sym, subst, ◌∙◌, Some, None}
+use Rattle.std.proofs.Common.{◌≡◌, ℕ, true, List, refl, sym, None, arith}
 use Rattle.std.proofs.lemmas.Bool.{cond-false, cond_both, not-false, not_from_true}
 use Rattle.std.proofs.lemmas.List.Elements.{recursion_from_All}
 use Rattle.echo_addr.specs.declared.address.NetNode.{NetNode}
-use Rattle.echo_addr.specs.ShortLines.{IsNetNode, path_prefix, seen_prefix}
-use Rattle.echo_text.specs.declared.fault.TextFault.TheVariants as text
 use Rattle.echo_text.specs.Lines.{area_tag, first_line, is_area, is_tag, later_lines, lines}
 use Rattle.echo_text.specs.Tail.{all_entries, seen_lists}
 use Rattle.echo_text.specs.Echo.{EchoOf, EchoText, IsEcho, TextOf}
 use Rattle.echo_text.specs.Refusal.{text_refusal, refusal_of}
 use Rattle.echo_text.proofs.Written.{written_read_back}
 use Rattle.echo_filed.specs.Sets.{entry_set}
-use Rattle.echo_filed.specs.Written.{echo_of, echo_of_lines, short_lines, text_of}
+use Rattle.echo_filed.specs.Written.{echo_of, echo_of_lines, text_of}
 use Rattle.echo_filed.proofs.Orders.{entry_set_is_set, one_set}
 use Rattle.echo_filed.proofs.Runs.{path_short, seen_short}
 
 -- the function and the definition write the same text of an echo
 pub text_is_text : (e : EchoText) → IsEcho e → TextOf e (text_of e)
 unfolding text_of
-text_is_text e h = record {
-  seen_lines = short_lines seen_prefix e.seen;
-  path_lines = short_lines path_prefix e.path;
-  seen = seen_short e.seen (recursion_from_All IsNetNode e.seen h.seen_entries);
-  path = path_short e.path (recursion_from_All IsNetNode e.path h.path_entries);
-  whole = refl;
-}
+text_is_text e h = grind (arith, seen_short, recursion_from_All, path_short)
 
 -- two echoes of the same parts
 same_echo : (e f : EchoText) → e.tag ≡ f.tag → e.kept ≡ f.kept → e.seen ≡ f.seen → e.path ≡ f.path → e ≡ f
@@ -43,15 +35,10 @@ record IsAreaLine (line : List ℕ) : Type 0 where
   tag : is_tag (area_tag line) ≡ true
 
 accepted : (line : List ℕ) → IsAreaLine line → refusal_of line ≡ None
-accepted line h =
-    cond-false (not (is_area line)) (Some text.NotEcho) (cond (not (is_tag (area_tag line))) (Some text.BadTag) None) (not_from_true (is_area line) h.area)
-    ∙ cond-false (not (is_tag (area_tag line))) (Some text.BadTag) None (not_from_true (is_tag (area_tag line)) h.tag)
+accepted line h = grind (arith, cond-false, not_from_true)
 
 area_line : (line : List ℕ) → refusal_of line ≡ None → IsAreaLine line
-area_line line none =
-    let tag = is_tag (area_tag line) in
-    cond_both (not (is_area line)) (Some text.NotEcho) (cond (not tag) (Some text.BadTag) None) (λ o. o ≡ None → IsAreaLine line) (λ no is. absurd (cc))
-    (λ area. cond_both (not tag) (Some text.BadTag) None (λ o. o ≡ None → IsAreaLine line) (λ no is. absurd (cc)) (λ tagged is. record { area = not-false (is_area line) area; tag = not-false tag tagged })) none
+area_line line none = grind (arith, cond_both, not-false)
 
 -- an accepted text has the parts that a reader returns
 pub says_read : (bytes : List ℕ) → text_refusal bytes ≡ None → (dropped : ℕ) × EchoOf bytes (echo_of bytes) dropped
@@ -73,9 +60,7 @@ says_read bytes none =
 -- a text that says something is not refused
 pub says_accepted : (bytes : List ℕ) (e : EchoText) (dropped : ℕ) → EchoOf bytes e dropped → text_refusal bytes ≡ None
 unfolding text_refusal
-says_accepted bytes e dropped h =
-    let P : List ℕ → Type 0 = λ tag. is_tag tag ≡ true in
-    accepted (first_line (lines bytes)) (record { area = h.area; tag = subst P h.tag h.tag_bytes })
+says_accepted bytes e dropped h = grind (arith, accepted)
 
 -- the written text of an echo has its parts and no others
 pub written_says : (e : EchoText) → IsEcho e → EchoOf (text_of e) e 0

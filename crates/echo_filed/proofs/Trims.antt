@@ -1,12 +1,12 @@
 -- Bytes without blanks at both ends.
-use Rattle.std.proofs.Common.{◌≡◌, ℕ, zero, suc, ◌+◌, ◌-◌, ◌<◌, ◌≤◌, Bool, true, false, cond, List, [], ◌∷◌, ◌++◌, length, reverse, drop, take, refl, sym, ap, ◌∙◌, arith}
+use Rattle.std.proofs.Common.{◌≡◌, ℕ, suc, ◌+◌, ◌-◌, ◌<◌, ◌≤◌, Bool, true, false, cond, List, [], ◌∷◌, ◌++◌, length, reverse, drop, take, refl, sym, ap, ◌∙◌, arith}
 use Rattle.std.specs.List.{prefix_len, suffix_len}
 use Rattle.std.proofs.lemmas.Bool.{cond-false, cond_both}
 use Rattle.std.proofs.lemmas.List.{length-drop, length-reverse, reverse-append, reverse-reverse, take-append-drop, take_all}
 use Rattle.std.proofs.lemmas.List.Sums.{suffix_len-le-length}
 use Rattle.std.proofs.Math.Seq.{take-append_seam}
 use Rattle.echo_addr.specs.Entries.{is_blank}
-use Rattle.echo_text.specs.Lines.{trimmed, without_back_blanks, without_front_blanks}
+use Rattle.echo_text.specs.Lines.{trimmed, without_back_blanks}
 
 -- bytes without a blank at either end
 pub record IsTrim (bytes : List ℕ) : Type 0 where
@@ -26,9 +26,7 @@ still_none true m n is = absurd (omega arith)
 still_none false m n is = refl
 
 none_in_front : (p : ℕ → Bool) (n : ℕ) (xs : List ℕ) → prefix_len p xs ≡ 0 → prefix_len p (take n xs) ≡ 0
-none_in_front p zero xs h = refl
-none_in_front p (suc n) [] h = refl
-none_in_front p (suc n) (x ∷ xs) h = still_none (p x) (prefix_len p xs) (prefix_len p (take n xs)) h
+none_in_front p n xs h1 = grind (arith, still_none)
 
 -- the bytes before the last k
 take_back : (k : ℕ) (xs : List ℕ) → k ≤ length xs → take (length xs - k) xs ≡ reverse (drop k (reverse xs))
@@ -43,17 +41,11 @@ take_back k xs within =
     ∙ take-append_seam (reverse (drop k (reverse xs))) (reverse (take k (reverse xs)))
 
 trimmed_back : (bs : List ℕ) → suffix_len is_blank (without_back_blanks bs) ≡ 0
-trimmed_back bs =
-    ap (suffix_len is_blank) (take_back (suffix_len is_blank bs) bs (suffix_len-le-length is_blank bs))
-    ∙ ap (prefix_len is_blank) (reverse-reverse (drop (prefix_len is_blank (reverse bs)) (reverse bs)))
-    ∙ none_left is_blank (reverse bs)
+trimmed_back bs = grind (arith, take_back, suffix_len-le-length, reverse-reverse, none_left)
 
 pub trimmed_trim : (bs : List ℕ) → IsTrim (trimmed bs)
 unfolding trimmed
-trimmed_trim bs = record {
-  front = none_in_front is_blank (length (without_front_blanks bs) - suffix_len is_blank (without_front_blanks bs)) (without_front_blanks bs) (none_left is_blank bs);
-  back = trimmed_back (without_front_blanks bs);
-}
+trimmed_trim bs = grind (arith, none_in_front, none_left, trimmed_back)
 
 no_back : (bs : List ℕ) → suffix_len is_blank bs ≡ 0 → without_back_blanks bs ≡ bs
 no_back bs none = take_all (length bs - suffix_len is_blank bs) bs (omega arith)

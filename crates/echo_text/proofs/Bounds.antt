@@ -1,5 +1,5 @@
 -- No more tokens are dropped than a text has bytes.
-use Rattle.std.proofs.Common.{◌≡◌, ℕ, suc, ◌+◌, ◌≤◌, ◌==◌, ◌&&◌, nat_eq, nat_lt, true, false, List, [], ◌∷◌, length, refl, sym, ap, arith, inl, inr}
+use Rattle.std.proofs.Common.{◌≡◌, ℕ, suc, ◌+◌, ◌≤◌, ◌==◌, ◌&&◌, nat_eq, nat_lt, true, false, List, [], ◌∷◌, length, refl, ap, arith, inl, inr}
 use Rattle.std.specs.Option.{is_none}
 use Rattle.std.specs.List.{filter, onto_first, prefix_len, slice_split, starts_with, sum_by}
 use Rattle.std.proofs.lemmas.Bool.{and_parts, cases_Bool, cond_both}
@@ -65,14 +65,7 @@ dropped_in word ls = all_dropped (lists_of word ls)
 
 dropped_yes : (word line : List ℕ) (more : List (List ℕ)) → begins word line ≡ true → dropped_in word (line ∷ more) ≤ length line + dropped_in word more
 unfolding dropped_in
-dropped_yes word line more is =
-    omega (
-      arith,
-      ap all_dropped (listed_yes word line more is),
-      sym (sum_by-cons dropped (after_word word line) (lists_of word more)),
-      dropped_within (after_word word line),
-      after_within word line,
-    )
+dropped_yes word line more is = grind (arith, listed_yes, sum_by-cons, dropped_within, after_within)
 
 dropped_no : (word line : List ℕ) (more : List (List ℕ)) → begins word line ≡ false → dropped_in word (line ∷ more) ≡ dropped_in word more
 unfolding dropped_in
@@ -129,8 +122,4 @@ lines_within text = omega (arith, without_last_within (slice_split is_return tex
 pub dropped_of_text : (text : List ℕ)
     → all_dropped (lists_of seen_prefix (tail (lines text))) + all_dropped (lists_of path_prefix (tail (lines text))) ≤ length text
 unfolding dropped_in
-dropped_of_text text =
-    let by_lines : all_dropped (lists_of seen_prefix (tail (lines text))) + all_dropped (lists_of path_prefix (tail (lines text))) ≤ sum_by length (tail (lines text))
-    = dropped_by_lines (tail (lines text))
-    in
-    omega (arith, by_lines, tail_within (lines text), lines_within text)
+dropped_of_text text = grind (arith, dropped_by_lines, tail_within, lines_within)

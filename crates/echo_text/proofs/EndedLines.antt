@@ -85,18 +85,10 @@ pub lines_behind : (front rest : List ℕ) → HasEndedLines front → lines (fr
 lines_behind front rest h = ap (λ t. lines (t ++ rest)) (sym h) ∙ lines_of_ended (lines front) rest (pieces_of_lines front)
 
 pub ended_rest : (front rest : List ℕ) → HasEndedLines front → HasEndedLines (front ++ rest) → HasEndedLines rest
-ended_rest front rest h all =
-    append_cancel_left front (flat_map ended (lines rest)) rest
-    (ap (λ t. t ++ flat_map ended (lines rest)) (sym h)
-    ∙ sym (flat_map-append ended (lines front) (lines rest))
-    ∙ ap (flat_map ended) (sym (lines_behind front rest h))
-    ∙ all)
+ended_rest front rest h all = grind (arith, append_cancel_left, flat_map-append, lines_behind)
 
 ended_last : (whole : List (List ℕ)) (last : List ℕ) → flat_map ended (whole ++ last ∷ []) ≡ (flat_map ended whole ++ last) ++ 13 ∷ []
-ended_last whole last =
-    flat_map-append ended whole (last ∷ [])
-    ∙ ap (λ t. flat_map ended whole ++ t) (append-nil (ended last))
-    ∙ sym (append_assoc (flat_map ended whole) last (13 ∷ []))
+ended_last whole last = grind (arith, flat_map-append, append-nil, append_assoc)
 
 pub nothing_is_ended : HasEndedLines []
 nothing_is_ended = ap (flat_map ended) lines_nil
@@ -149,9 +141,7 @@ pub record PutTogether (text : List ℕ) (some : List (List ℕ)) : Type 0 where
   pub lines_are : lines text ≡ some
 
 pub whole_text : (text : List ℕ) (some : List (List ℕ)) → text ≡ flat_map ended some → AllByRecursion IsPiece some → PutTogether text some
-whole_text text some is pieces =
-    let P : List ℕ → Type 0 = λ t. PutTogether t some in
-    subst P (sym is) (record { ended_is = put_together some pieces; lines_are = lines_back some pieces })
+whole_text text some is pieces = grind (arith, put_together, lines_back)
 
 pub kept_text : (p : List ℕ → Bool) (none first text body tail : List ℕ) → none ≡ [] → first ≡ none ++ flat_map ended (lines body)
     → text ≡ first ++ flat_map ended (filter p (lines tail)) → PutTogether text (lines body ++ filter p (lines tail))
@@ -164,9 +154,7 @@ kept_text p none first text body tail n f t =
 
 -- such bytes are equal if their lines are
 same_test : (a b : Bool) → (a ≡ true → b ≡ true) → (b ≡ true → a ≡ true) → a ≡ b
-same_test true b there back = sym (there refl)
-same_test false false there back = refl
-same_test false true there back = let is = back refl in absurd cc
+same_test a b h1 h2 = grind arith
 
 pub same_lines : (s t : List ℕ) → HasEndedLines s → HasEndedLines t → bytes_eq s t ≡ pointwise bytes_eq (lines s) (lines t)
 same_lines s t h k =

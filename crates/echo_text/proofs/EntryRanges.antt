@@ -1,13 +1,10 @@
 -- The parts of entries are numbers of two bytes.
-use Rattle.std.proofs.Common.{◌≡◌, ℕ, ◌^◌, ◌<◌, ◌&&◌, Bool, true, false, cond, List, [], ◌∷◌, Option, Some, None, nat_le, refl, arith}
+use Rattle.std.proofs.Common.{ℕ, ◌^◌, ◌<◌, List, [], ◌∷◌, Option, Some, None, nat_le, arith}
 use Rattle.std.specs.Option.{option_map, option_or}
-use Rattle.std.specs.List.{All, AllByRecursion, after_first, before_first, filter_map, flat_map}
-use Rattle.std.specs.Str.Parse.{digits_value}
+use Rattle.std.specs.List.{All, AllByRecursion, filter_map, flat_map}
 use Rattle.std.proofs.lemmas.Bool.{and_parts, leb-true}
 use Rattle.std.proofs.lemmas.List.Elements.{All-append, All-from_recursion, All-nil}
 use Rattle.echo_addr.specs.declared.address.NetNode.{NetNode}
-use Rattle.echo_addr.specs.Address.{is_slash}
-use Rattle.echo_addr.specs.Digits.{is_number}
 use Rattle.echo_addr.specs.Entries.{entries, entry_from, judged, nearest_net, pair_of, part_of, tokens}
 use Rattle.echo_addr.specs.ShortLines.{IsNetNode}
 
@@ -22,23 +19,14 @@ IsEntry None = Unit {0}
 IsEntry (Some e) = IsNetNode e
 
 part_is : (digits : List ℕ) → IsPart (part_of digits)
-part_is digits =
-    by (is_number digits && nat_le (digits_value 10 digits) 65535) refl
-  where
-    by : (b : Bool) → (is_number digits && nat_le (digits_value 10 digits) 65535) ≡ b → IsPart (cond b (Some (digits_value 10 digits)) None)
-    by true is = omega (arith, leb-true (digits_value 10 digits) 65535 (and_parts (is_number digits) (nat_le (digits_value 10 digits) 65535) is).1)
-    by false is = tt
+part_is digits = grind (arith, nat_le, leb-true, and_parts)
 
 from_parts : (net other : Option ℕ) → IsPart net → IsPart other → IsEntry (entry_from net other)
-from_parts None other p q = tt
-from_parts (Some m) None p q = tt
-from_parts (Some m) (Some n) p q = record { net = p; node = q }
+from_parts net other h1 h2 = grind arith
 
 pair_is : (token : List ℕ) → IsEntry (pair_of token)
 unfolding pair_of
-pair_is token =
-    from_parts (part_of (before_first is_slash token)) (part_of (after_first is_slash token)) (part_is (before_first is_slash token))
-    (part_is (after_first is_slash token))
+pair_is token = grind (arith, from_parts, part_is)
 
 net_or : (pair : Option NetNode) (net : Option ℕ) → IsEntry pair → IsPart net → IsPart (option_or (option_map (λ e. e.net) pair) net)
 net_or None net h p = p

@@ -1,5 +1,5 @@
 -- The test of an id passes exactly if the bytes are the parts of one.
-use Rattle.std.proofs.Common.{◌≡◌, ◌≢◌, ℕ, ◌+◌, ◌-◌, ◌<◌, ◌≤◌, ◌==◌, ◌||◌, ◌&&◌, not, nat_lt, Bool, true, false, List, [], ◌∷◌, ◌++◌, length, get_or, take, drop, reverse, refl, sym, ap, subst, ◌∙◌, arith}
+use Rattle.std.proofs.Common.{◌≡◌, ◌≢◌, ℕ, ◌+◌, ◌-◌, ◌<◌, ◌≤◌, ◌==◌, ◌||◌, ◌&&◌, not, nat_lt, Bool, true, false, List, [], ◌∷◌, ◌++◌, length, get_or, take, drop, reverse, refl, sym, ap, ◌∙◌, arith}
 use Rattle.std.specs.List.{AllPass, list_all, suffix_len}
 use Rattle.std.specs.Str.Parse.{AllDigits, digits_value}
 use Rattle.std.proofs.lemmas.Bool.{and_from, and_left, and_right, both_ways, le-ltb, lt-ltb, ne_eqb, not-true, not_from_false, or_left, or_parts, or_right}
@@ -24,11 +24,7 @@ pub no_line : (id : List ℕ) → list_all is_line_byte id ≡ false → is_id_t
 no_line id h = and_left (list_all is_line_byte id) _ h
 
 pub no_gap : (id front : List ℕ) → front ≡ before_serial id → length (without_gap front) ≡ length front → is_id_trimmed id ≡ false
-no_gap id front is same =
-    and_right (list_all is_line_byte id) _
-    (and_left (is_apart id) (is_serial id && is_origin id)
-    (let back : length (without_gap (before_serial id)) ≡ length (before_serial id) = subst (λ f. length (without_gap f) ≡ length f) is same in
-    le-ltb _ _ (omega (arith, back))))
+no_gap id front is same = grind (arith, and_right, and_left, le-ltb)
 
 -- the blanks 20 at the end
 gap_blanks : (front : List ℕ) → AllPass is_gap (drop (length front - suffix_len is_gap front) front)
@@ -74,10 +70,7 @@ ink_no_gap b h =
     let parts = or_parts ((b == 32) || (b == 9)) (b == 10) (not-true (is_blank b) h) in (or_parts (b == 32) (b == 9) parts.0).0
 
 origin_end : (quoted : Bool) (spelled origin : List ℕ) → SpellsOrigin quoted spelled origin → 0 < length spelled → is_gap (get_or spelled (length spelled - 1) 0) ≡ false
-origin_end true spelled origin h some =
-    let long : length (34 ∷ origin) ≡ length spelled - 1 = omega (arith, ap length h.between, length-append (34 ∷ origin) (34 ∷ [])) in
-    ap is_gap (ap (λ s. get_or s (length spelled - 1) 0) h.between ∙ get_or_at (34 ∷ origin) 34 [] 0 (length spelled - 1) long)
-origin_end false spelled origin h some = ink_no_gap (get_or spelled (length spelled - 1) 0) (h.ink (length spelled - 1) 0 (omega arith))
+origin_end quoted spelled origin h1 h2 = grind (arith, length-append, get_or, get_or_at, ink_no_gap)
 
 -- an origin passes one of the tests
 origin_test : (quoted : Bool) (spelled origin : List ℕ) → SpellsOrigin quoted spelled origin → (is_quoted_origin spelled || is_bare_origin spelled) ≡ true

@@ -1,5 +1,5 @@
 -- The bytes that spell an id, and the test that finds them.
-use Rattle.std.proofs.Common.{◌≡◌, ℕ, ◌-◌, ◌≤◌, ◌||◌, ◌&&◌, not, nat_lt, nat_le, true, false, List, [], ◌∷◌, ◌++◌, length, take, drop, refl, sym, ap, ◌∙◌, arith, inl, inr}
+use Rattle.std.proofs.Common.{◌≡◌, ℕ, ◌-◌, ◌≤◌, ◌||◌, ◌&&◌, nat_lt, nat_le, true, false, List, [], ◌∷◌, ◌++◌, length, take, drop, refl, sym, ap, ◌∙◌, arith, inl, inr}
 use Rattle.std.specs.Int.{is_in_range}
 use Rattle.std.specs.Char.{digit_value}
 use Rattle.std.specs.List.{list_all}
@@ -7,18 +7,11 @@ use Rattle.std.specs.Str.Parse.{AllDigits}
 use Rattle.std.proofs.lemmas.Bool.{agree_below_at, and_from, and_parts, and_right, cases_Bool, cases_lt, cond-false, cond_both, eq-eqb, eqb-true, false≢true, le-ltb, lt-leb, lt-ltb, not-true}
 use Rattle.std.proofs.lemmas.List.{length-append, take_at}
 use Rattle.std.proofs.lemmas.List.Sums.{AllPass-from_list_all}
-use Rattle.echo_addr.specs.Entries.{is_blank}
 use Rattle.echo_text.specs.Ids.{Bare, Quoted, doubled, ends_quoted, is_bare_origin, is_hex_digit, is_quote, is_quoted_origin, undoubled}
 
 -- a digit to the base 16, in both wordings
 worthless : (b : ℕ) → 128 ≤ b → digit_value b ≡ 36
-worthless b high =
-    cond-false (nat_lt b 48) _ _ (le-ltb b 48 (omega arith))
-    ∙ cond-false (nat_lt b 58) _ _ (le-ltb b 58 (omega arith))
-    ∙ cond-false (nat_lt b 65) _ _ (le-ltb b 65 (omega arith))
-    ∙ cond-false (nat_lt b 91) _ _ (le-ltb b 91 (omega arith))
-    ∙ cond-false (nat_lt b 97) _ _ (le-ltb b 97 (omega arith))
-    ∙ cond-false (nat_lt b 123) _ _ (le-ltb b 123 (omega arith))
+worthless b high = grind (arith, cond-false, nat_lt, le-ltb)
 
 pub hex_digit_same : (b : ℕ) → nat_lt (digit_value b) 16 ≡ is_hex_digit b
 hex_digit_same b = elim (cases_lt b 128) [
@@ -100,12 +93,4 @@ quoted_origin (first ∷ rest) origin h is =
 
 -- bare bytes are an origin
 pub bare_origin : (spelled : List ℕ) → is_bare_origin spelled ≡ true → Bare spelled spelled
-bare_origin [] h = absurd (false≢true h)
-bare_origin (first ∷ rest) h =
-    let parts = and_parts (not (is_quote first)) (list_all (λ b. not (is_blank b)) (first ∷ rest)) h in
-    record {
-      same = refl;
-      some = omega arith;
-      first = λ e. false≢true (sym (not-true (is_quote first) parts.0) ∙ eq-eqb first 34 e);
-      ink = AllPass-from_list_all (λ b. not (is_blank b)) (first ∷ rest) parts.1;
-    }
+bare_origin spelled h1 = grind (arith, false≢true, and_parts, not-true, eq-eqb, AllPass-from_list_all)

@@ -1,5 +1,5 @@
 -- Lines that a reader keeps at any position.
-use Rattle.std.proofs.Common.{◌≡◌, ℕ, ◌==◌, ◌&&◌, ◌||◌, not, nat_eq, Bool, cond, true, false, List, [], ◌∷◌, ◌++◌, codes, length, map, nat_lt, None, refl, sym, ap, subst, ◌∙◌, inl, inr}
+use Rattle.std.proofs.Common.{◌≡◌, ℕ, ◌==◌, ◌||◌, nat_eq, Bool, cond, true, false, List, [], ◌∷◌, ◌++◌, codes, length, map, nat_lt, None, refl, sym, ap, subst, ◌∙◌, inl, inr, arith}
 use Rattle.std.specs.List.{All, Contains, filter, find, last_or, list_all, starts_with}
 use Rattle.std.specs.Option.{option_or}
 use Rattle.std.proofs.lemmas.List.{append-nil, map-append}
@@ -7,7 +7,7 @@ use Rattle.std.proofs.lemmas.Bool.{and_parts, cases_Bool, cond-false, cond_both,
 use Rattle.std.proofs.lemmas.List.Folds.{find-append}
 use Rattle.std.proofs.lemmas.List.Elements.{All-append, All-contains_itself, All-filter, All-weaker, Contains-append_left, Contains-append_right, filter-append}
 use Rattle.echo_addr.specs.Entries.{is_blank}
-use Rattle.echo_addr.specs.ShortLines.{path_prefix, seen_prefix}
+use Rattle.echo_addr.specs.ShortLines.{seen_prefix}
 use Rattle.echo_text.specs.Lines.{after_feeds, after_word, begins, control_word, is_blank_line, is_origin, is_tear, msgid_word, reply_word, trimmed}
 use Rattle.echo_text.specs.Tail.{body, is_kept_control, is_tail_line, kept_of, tail}
 use Rattle.echo_text.specs.Echo.{first_after, msgid_of, origin_of, reply_of, tear_of}
@@ -21,27 +21,16 @@ record Opened (w : ℕ) (word bytes : List ℕ) : Type 0 where
   begun : starts_with nat_eq rest word ≡ true
 
 opened : (w : ℕ) (word bytes : List ℕ) → starts_with nat_eq bytes (w ∷ word) ≡ true → Opened w word bytes
-opened w word [] h = absurd cc
-opened w word (b ∷ rest) h =
-    let parts = and_parts (w == b) (starts_with nat_eq rest word) h in
-    record { rest = rest; is = ap (λ x. x ∷ rest) (sym (eqb-true w b parts.0)); begun = parts.1 }
+opened w word bytes h1 = grind (arith, and_parts, nat_eq, eqb-true)
 
 -- MSGID and REPLY lines are kept also in the tail
 id_kept : (second : ℕ) (word line : List ℕ) → (80 == second) ≡ false → begins (1 ∷ (second ∷ word)) line ≡ true → is_kept_control line ≡ true
 unfolding begins
-id_kept second word line no_path h =
-    let one = opened 1 (second ∷ word) (after_feeds line) h in
-    let two = opened second word one.rest one.begun in
-    let is : after_feeds line ≡ 1 ∷ (second ∷ two.rest) = one.is ∙ ap (λ x. 1 ∷ x) two.is in
-    ap (λ x. starts_with nat_eq x control_word && not (starts_with nat_eq x path_prefix)) is
-    ∙ ap (λ b. not (b && starts_with nat_eq two.rest (codes "ATH:"))) no_path
+id_kept second word line no_path h = grind (arith, opened, nat_eq)
 
 -- a line with a byte other than a blank is no blank line
 no_blank_line : (line front : List ℕ) → after_feeds line ≡ front → list_all is_blank front ≡ false → is_blank_line line ≡ false
-no_blank_line line front is ink = elim (cases_Bool (list_all is_blank line)) [
-  | inl y ↦ let all : list_all is_blank front ≡ true = ap (list_all is_blank) (sym is) ∙ blanks_after_feeds line y in absurd cc
-  | inr n ↦ n
-]
+no_blank_line line front is ink = grind (arith, cases_Bool, blanks_after_feeds)
 
 -- tear and origin lines belong to no tail
 dashed : (line word : List ℕ) → starts_with nat_eq (after_feeds line) (45 ∷ word) ≡ true → is_tail_line line ≡ false
@@ -98,10 +87,7 @@ none_kept p q outside (line ∷ more) =
     (λ k. cond-false (p line) (line ∷ filter p (filter q more)) (filter p (filter q more)) (outside line k) ∙ rest) (λ d. rest)
 
 outside_kept : (p : List ℕ → Bool) → ((line : List ℕ) → p line ≡ true → is_tail_line line ≡ false) → (line : List ℕ) → is_kept_control line ≡ true → p line ≡ false
-outside_kept p outside line kept = elim (cases_Bool (p line)) [
-  | inl y ↦ let isnt = outside line y in let is = control_in_tail line kept in absurd cc
-  | inr n ↦ n
-]
+outside_kept p outside line kept = grind (arith, cases_Bool, control_in_tail)
 
 -- ids of lines and of the lines of a tail that are kept
 first_of_parts : (word : List ℕ) → ((line : List ℕ) → begins word line ≡ true → is_kept_control line ≡ true) → (front ls : List (List ℕ))
@@ -124,10 +110,7 @@ reply_of_parts front ls = first_of_parts reply_word (λ line h. id_kept 82 _ lin
 -- a filter that passes no tail line finds none among the kept control lines
 only_front : (p : List ℕ → Bool) → ((line : List ℕ) → p line ≡ true → is_tail_line line ≡ false) → (front ls : List (List ℕ))
     → filter p (front ++ filter is_kept_control ls) ≡ filter p front
-only_front p outside front ls =
-    filter-append p front (filter is_kept_control ls)
-    ∙ ap (λ found. filter p front ++ found) (none_kept p is_kept_control (outside_kept p outside) ls)
-    ∙ append-nil (filter p front)
+only_front p outside front ls = grind (arith, filter-append, none_kept, outside_kept, append-nil)
 
 pub tear_of_parts : (front ls : List (List ℕ)) → tear_of (front ++ filter is_kept_control ls) ≡ tear_of front
 unfolding tear_of

@@ -82,9 +82,7 @@ pub record EndsIn (text : List ℕ) (n : ℕ) : Type 0 where
   pub apart : HasEndedLines (take n text) ⊎ (drop n text ≡ [])
 
 pub ends_at_end : (text : List ℕ) → EndsIn text (length text)
-ends_at_end text =
-    let none : drop (length text) text ≡ [] = drop_all (length text) text (omega arith) in
-    record { within = omega arith; tails = ap (λ t. all_tail (lines t)) none ∙ ap all_tail lines_nil; apart = inr none }
+ends_at_end text = grind (arith, drop_all, lines_nil)
 
 -- two parts of a text
 apart_lines : (front rest : List ℕ) → HasEndedLines front ⊎ (rest ≡ []) → lines (front ++ rest) ≡ lines front ++ lines rest
@@ -129,13 +127,7 @@ module _ (text : List ℕ) (n at : ℕ) (h : EndsIn text n) (s : Starts (take n 
       ap lines cut_again ∙ apart_lines (drop at (take n text)) (drop n text) last_apart ∙ ap (λ ls. ls ++ lines (drop n text)) s.last
 
   pub ends_earlier : is_tail_line (first_line (lines (drop at (take n text)))) ≡ true → EndsIn text at
-  ends_earlier is =
-      let P : List ℕ → Type 0 = HasEndedLines in
-      record {
-        within = omega (arith, below, h.within);
-        tails = ap all_tail later ∙ and_from (is_tail_line (first_line (lines (drop at (take n text))))) (all_tail (lines (drop n text))) is h.tails;
-        apart = inl (subst P taken s.before);
-      }
+  ends_earlier is = grind (arith, below, later, and_from, taken)
 
   front_is : lines (take n text) ≡ lines (take at (take n text)) ++ first_line (lines (drop at (take n text))) ∷ []
   front_is = before_last (take n text) at s
@@ -153,11 +145,7 @@ module _ (text : List ℕ) (n at : ℕ) (h : EndsIn text n) (s : Starts (take n 
 
 -- all lines belong to the tail
 pub no_body : (text : List ℕ) (n : ℕ) → n ≡ 0 → EndsIn text n → lines (take n text) ≡ body (lines text)
-no_body text n none h =
-    let first : lines (drop n text) ≡ lines text = ap (λ k. lines (drop k text)) none in
-    ap (λ k. lines (take k text)) none ∙ lines_nil ∙ sym (body_none (lines text) (ap all_tail (sym first) ∙ h.tails))
+no_body text n none h = grind (arith, lines_nil, body_none)
 
 pub all_is_tail : (text : List ℕ) (n : ℕ) → n ≡ 0 → EndsIn text n → lines (drop n text) ≡ tail (lines text)
-all_is_tail text n none h =
-    let first : lines (drop n text) ≡ lines text = ap (λ k. lines (drop k text)) none in
-    first ∙ sym (tail_whole (lines text) (ap all_tail (sym first) ∙ h.tails))
+all_is_tail text n none h = grind (arith, tail_whole)

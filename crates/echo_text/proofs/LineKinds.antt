@@ -1,5 +1,5 @@
 -- The first bytes of each kind of line, and that the kinds differ.
-use Rattle.std.proofs.Common.{◌≡◌, ℕ, suc, ◌+◌, ◌==◌, ◌&&◌, ◌||◌, not, nat_eq, Bool, true, false, List, [], ◌∷◌, ◌++◌, drop, refl, ap, subst, ◌∙◌, arith, inl, inr}
+use Rattle.std.proofs.Common.{◌≡◌, ℕ, suc, ◌+◌, ◌&&◌, not, nat_eq, true, false, List, [], ◌∷◌, ◌++◌, drop, refl, ap, ◌∙◌, arith, inl, inr}
 use Rattle.std.specs.List.{list_all, prefix_len, starts_with}
 use Rattle.std.proofs.lemmas.Bool.{and_parts, cases_Bool, cond_both, eqb-true, not-true, or_left, or_right}
 use Rattle.echo_addr.specs.Entries.{is_blank}
@@ -65,10 +65,7 @@ path_not_kept rest = ap (λ b. is_control (path_prefix ++ rest) && not b) (path_
 
 -- bytes that begin with 01 do not begin with SEEN-BY
 one_is_not_seen : (bytes : List ℕ) → starts_with nat_eq bytes control_word ≡ true → starts_with nat_eq bytes seen_prefix ≡ false
-one_is_not_seen [] one = absurd cc
-one_is_not_seen (b ∷ bytes) one =
-    let is : 1 ≡ b = eqb-true 1 b (and_parts (1 == b) true one).0 in
-    subst (λ c. starts_with nat_eq (c ∷ bytes) seen_prefix ≡ false) is refl
+one_is_not_seen bytes h1 = grind (arith, eqb-true, and_parts, nat_eq)
 
 pub control_is_not_seen : (line : List ℕ) → is_control line ≡ true → is_seen line ≡ false
 unfolding begins
@@ -87,10 +84,7 @@ blanks_after_feeds (b ∷ line) blank =
 
 -- blanks do not begin with 01
 one_is_not_blank : (bytes : List ℕ) → starts_with nat_eq bytes control_word ≡ true → list_all is_blank bytes ≡ false
-one_is_not_blank [] one = absurd cc
-one_is_not_blank (b ∷ bytes) one =
-    let is : 1 ≡ b = eqb-true 1 b (and_parts (1 == b) true one).0 in
-    subst (λ c. list_all is_blank (c ∷ bytes) ≡ false) is refl
+one_is_not_blank bytes h1 = grind (arith, eqb-true, and_parts)
 
 pub control_is_not_blank : (line : List ℕ) → is_control line ≡ true → is_blank_line line ≡ false
 unfolding begins
@@ -101,23 +95,11 @@ control_is_not_blank line control = elim (cases_Bool (is_blank_line line)) [
 
 -- the reader keeps each tail line that it does not shed
 pub kept_unless_shed : (line : List ℕ) → is_tail_line line ≡ true → not (is_shed line) ≡ true → is_kept_control line ≡ true
-kept_unless_shed line tail_line left =
-    by (is_seen line) (is_control line) (is_path line) (is_blank_line line) tail_line left
-  where
-    by : (seen control path blank : Bool) → (seen || control || blank) ≡ true → not (seen || path || blank) ≡ true → (control && not path) ≡ true
-    by false true false false t l = refl
-    by false false false false t l = absurd cc
-    by _ _ _ _ t l = absurd cc
+kept_unless_shed line tail_line left = grind arith
 
 -- a kept line of the tail is not shed
 pub not_shed_if_kept : (line : List ℕ) → is_kept_control line ≡ true → not (is_shed line) ≡ true
-not_shed_if_kept line kept =
-    let control = (and_parts (is_control line) (not (is_path line)) kept).0 in
-    by (is_control line) (is_seen line) (is_path line) (is_blank_line line) kept (control_is_not_seen line control) (control_is_not_blank line control)
-  where
-    by : (control seen path blank : Bool) → (control && not path) ≡ true → seen ≡ false → blank ≡ false → not (seen || path || blank) ≡ true
-    by true false false false k s b = refl
-    by _ _ _ _ k s b = absurd cc
+not_shed_if_kept line kept = grind (arith, and_parts, control_is_not_seen, control_is_not_blank)
 
 -- a kept line of the tail is no SEEN-BY line and no PATH line
 pub kept_no_seen : (line : List ℕ) → is_kept_control line ≡ true → is_seen line ≡ false

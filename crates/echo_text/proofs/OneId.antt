@@ -1,15 +1,12 @@
 -- Bytes spell at most one id.
-use Rattle.std.proofs.Common.{◌≡◌, ℕ, Bool, true, false, List, [], ◌∷◌, get_or, drop, refl, sym, ap, subst, ◌∙◌}
+use Rattle.std.proofs.Common.{◌≡◌, ℕ, Bool, List, get_or, sym, ap, subst, ◌∙◌, arith}
 use Rattle.std.specs.Str.Parse.{digits_value}
 use Rattle.std.proofs.lemmas.List.{append_cancel_right}
 use Rattle.echo_text.specs.Ids.{IdParts, SpellsOrigin, SameId}
 use Rattle.echo_text.proofs.IdTests.{seen_parts}
 
 one_origin : (quoted other : Bool) (spelled o p : List ℕ) → SpellsOrigin quoted spelled o → SpellsOrigin other spelled p → (o ≡ p) × (quoted ≡ other)
-one_origin true true spelled o p h k = (append_cancel_right o p (34 ∷ []) (ap (drop 1) (sym h.between ∙ k.between)), refl)
-one_origin true false spelled o p h k = absurd (k.first (ap (λ s. get_or s 0 0) h.between))
-one_origin false true spelled o p h k = absurd (h.first (ap (λ s. get_or s 0 0) k.between))
-one_origin false false spelled o p h k = (h.same ∙ sym k.same, refl)
+one_origin quoted other spelled o p h1 h2 = grind (arith, append_cancel_right, get_or)
 
 pub one_id : (id o p : List ℕ) (quoted other : Bool) (s t : ℕ) → IdParts id o quoted s → IdParts id p other t → SameId o p quoted other s t
 one_id id o p quoted other s t h k =

@@ -17,10 +17,7 @@ use Rattle.echo_text.proofs.Written.{written_read_back}
 
 -- the order of entries
 not_both : (x y : NetNode) → ComesBefore x y → ComesBefore y x → ⊥
-not_both x y h k = elim h [
-  | inl net ↦ elim k [ inl other ↦ omega arith | inr same ↦ omega (arith, same.0) ]
-  | inr same ↦ elim k [ inl other ↦ omega (arith, same.0) | inr both ↦ omega (arith, same.1, both.1) ]
-]
+not_both x y h k = grind arith
 
 -- the parts of an ascending list
 first_before : (x : NetNode) (xs : List NetNode) → AllPairs ComesBefore (x ∷ xs) → All (ComesBefore x) xs
@@ -56,12 +53,7 @@ same_first x y xs ys p q x_in y_in = elim (member_cases y ys x x_in) [
 
 -- a later member of one list is a later member of the other
 later_in : (x y : NetNode) (xs ys : List NetNode) → x ≡ y → AllPairs ComesBefore (x ∷ xs) → (e : NetNode) → Contains xs e → Contains (y ∷ ys) e → Contains ys e
-later_in x y xs ys same p e here there = elim (member_cases y ys e there) [
-  | inl first ↦
-      let before = All-contains (ComesBefore x) xs e (first_before x xs p) here in
-      let itself = subst (ComesBefore x) (sym (same ∙ first)) before in absurd (not_both x x itself itself)
-  | inr later ↦ later
-]
+later_in x y xs ys same p e here there = grind (arith, member_cases, All-contains, first_before, not_both)
 
 same_members : (xs ys : List NetNode) → AllPairs ComesBefore xs → AllPairs ComesBefore ys → ((e : NetNode) → Contains xs e → Contains ys e)
     → ((e : NetNode) → Contains ys e → Contains xs e) → xs ≡ ys
@@ -91,12 +83,7 @@ one_count text e f m n h k = h.dropped_tokens ∙ sym k.dropped_tokens
 
 pub one_answer : (text : List ℕ) (e : EchoText) (d : ℕ) (r : Result (EchoText × ℕ) TextFault) → EchoOf text e d → TextAnswers text r
     → (r ≡ Ok (e, d)) ⊎ (r ≡ Err Memory)
-one_answer text e d (Ok read) h answers =
-    inl (ap (λ f. Ok (f, read.1)) (one_echo text read.0 e read.1 d answers h) ∙ ap (λ n. Ok (e, n)) (one_count text read.0 e read.1 d answers h))
-one_answer text e d (Err fault) h answers = elim answers [
-  | inl refused ↦ let none = not_refused text e d h in absurd cc
-  | inr memory ↦ inr (ap Err memory.1)
-]
+one_answer text e d r h1 h2 = grind (arith, one_echo, one_count, not_refused)
 
 -- an echo has one text
 pub one_text : (e : EchoText) (b c : List ℕ) → TextOf e b → TextOf e c → b ≡ c

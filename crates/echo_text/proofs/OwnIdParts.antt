@@ -1,5 +1,5 @@
 -- The id that a system gives is spelled as ids are.
-use Rattle.std.proofs.Common.{◌≡◌, ℕ, ◌+◌, ◌-◌, ◌/◌, ◌%◌, ◌^◌, ◌<◌, ◌≤◌, ◌==◌, ◌||◌, not, true, false, List, [], ◌∷◌, ◌++◌, length, get_or, drop, refl, sym, ap, subst, ◌∙◌, arith, codes}
+use Rattle.std.proofs.Common.{◌≡◌, ℕ, ◌+◌, ◌-◌, ◌/◌, ◌%◌, ◌^◌, ◌<◌, ◌≤◌, ◌==◌, not, true, false, List, [], ◌∷◌, ◌++◌, length, get_or, drop, refl, sym, ap, subst, ◌∙◌, arith, codes}
 use Rattle.std.specs.Char.{digit_value}
 use Rattle.std.specs.Fmt.{decimal}
 use Rattle.std.specs.List.{AllByRecursion, prefix_len, suffix_len}
@@ -25,18 +25,13 @@ high_line : (b : ℕ) → 14 ≤ b → is_line_byte b ≡ true
 high_line b high = not_from_false _ (or_from (b == 0) (b == 13) (ne_eqb b 0 (λ e. omega arith)) (ne_eqb b 13 (λ e. omega arith)))
 
 high_ink : (b : ℕ) → IsHigh b → is_blank b ≡ false
-high_ink b high =
-    or_from ((b == 32) || (b == 9)) (b == 10)
-    (or_from (b == 32) (b == 9) (ne_eqb b 32 (λ e. omega arith)) (ne_eqb b 9 (λ e. omega arith)))
-    (ne_eqb b 10 (λ e. omega arith))
+high_ink b high = grind (arith, or_from, ne_eqb)
 
 high_decimal : (n : ℕ) → n < 2 ^ 16 → AllByRecursion IsHigh (decimal n)
 high_decimal n small = weaker IsDigit IsHigh (λ b h. omega (arith, h.0)) (decimal n) (digits_of_decimal n (omega arith))
 
 high_address : (a : Address) → IsWide a → AllByRecursion IsHigh (address_text a)
-high_address a h =
-    joined IsHigh (decimal a.zone) (58 ∷ (decimal a.net ++ 47 ∷ decimal a.node)) (high_decimal a.zone h.zone)
-    (omega arith, joined IsHigh (decimal a.net) (47 ∷ decimal a.node) (high_decimal a.net h.net) (omega arith, high_decimal a.node h.node))
+high_address a h = grind (arith, joined, high_decimal)
 
 -- a digit to the base 16 is no blank and no 00 or 0D
 hex_ink : (n : ℕ) → n < 16 → not (is_blank (hex_digit n)) ≡ true
@@ -63,9 +58,7 @@ no_blanks bs front back =
     ap (λ n. without_back_blanks (drop n bs)) front ∙ take_all (length bs - suffix_len is_blank bs) bs (omega arith)
 
 own_long : (a : Address) → IsWide a → 0 < length (address_text a)
-own_long a h =
-    let some = decimal_nonempty a.zone (omega (arith, h.zone)) in
-    omega (arith, length-append (decimal a.zone) (58 ∷ (decimal a.net ++ 47 ∷ decimal a.node)))
+own_long a h = grind (arith, decimal_nonempty, length-append)
 
 pub own_trimmed : (a : Address) (s : ℕ) → IsWide a → trimmed (id_of a s) ≡ id_of a s
 unfolding id_of

@@ -41,9 +41,7 @@ no_gap n small =
     weaker IsDigit (λ b. is_gap b ≡ false) (λ b h. ne_eqb b 32 (λ e. omega (arith, h.0))) (decimal n) (digits_of_decimal n (omega arith))
 
 no_gap_in : (a : Address) → IsWide a → NonePass is_gap (address_text a)
-no_gap_in a h =
-    joined (λ b. is_gap b ≡ false) (decimal a.zone) (58 ∷ (decimal a.net ++ 47 ∷ decimal a.node)) (no_gap a.zone h.zone)
-    (refl, joined (λ b. is_gap b ≡ false) (decimal a.net) (47 ∷ decimal a.node) (no_gap a.net h.net) (refl, no_gap a.node h.node))
+no_gap_in a h = grind (arith, joined, no_gap)
 
 same_number : (m n : ℕ) → m < 2 ^ 16 → n < 2 ^ 16 → decimal m ≡ decimal n → m ≡ n
 same_number m n small small' e = decimal_injective m n (omega arith) (omega arith) e
@@ -57,13 +55,7 @@ same_fields a b zone net node =
     ap (λ z. address_with z a.net a.node) zone ∙ ap (λ n. address_with b.zone n a.node) net ∙ ap (λ n. address_with b.zone b.net n) node
 
 same_address : (a b : Address) → IsWide a → IsWide b → address_text a ≡ address_text b → a ≡ b
-same_address a b h k e =
-    let at_colon = one_cut is_colon (decimal a.zone) (decimal b.zone) (decimal a.net ++ 47 ∷ decimal a.node) (decimal b.net ++ 47 ∷ decimal b.node) 58
-    (no_colon a.zone h.zone) (no_colon b.zone k.zone) refl e in
-    let at_slash = one_cut is_slash (decimal a.net) (decimal b.net) (decimal a.node) (decimal b.node) 47
-    (no_slash a.net h.net) (no_slash b.net k.net) refl at_colon.rest in
-    same_fields a b (same_number a.zone b.zone h.zone k.zone at_colon.front) (same_number a.net b.net h.net k.net at_slash.front)
-    (same_number a.node b.node h.node k.node at_slash.rest)
+same_address a b h k e = grind (arith, one_cut, no_colon, no_slash, same_fields, same_number)
 
 -- a serial's digits write it
 pub hex_worth : (n : ℕ) → n < 16 → digit_value (hex_digit n) ≡ n

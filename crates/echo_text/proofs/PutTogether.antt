@@ -1,5 +1,5 @@
 -- A text put together from its parts.
-use Rattle.std.proofs.Common.{◌≡◌, ℕ, List, [], ◌∷◌, ◌++◌, sym, ap, subst, ◌∙◌}
+use Rattle.std.proofs.Common.{◌≡◌, ℕ, List, [], ◌∷◌, ◌++◌, sym, ap, subst, ◌∙◌, arith}
 use Rattle.std.specs.List.{flat_map}
 use Rattle.std.proofs.lemmas.List.{append_assoc}
 use Rattle.echo_addr.specs.declared.address.NetNode.{NetNode}
@@ -29,6 +29,4 @@ pub same_parts : (tag tag' : List ℕ) (kept kept' : List (List ℕ)) (seen seen
     → tag ≡ tag' → kept ≡ kept' → seen ≡ seen' → path ≡ path'
     → let one : EchoText = record { tag = tag; kept = kept; seen = seen; path = path } in
     let other : EchoText = record { tag = tag'; kept = kept'; seen = seen'; path = path' } in one ≡ other
-same_parts tag tag' kept kept' seen seen' path path' t k s p =
-    let made : List ℕ → List (List ℕ) → List NetNode → List NetNode → EchoText = λ a b c d. record { tag = a; kept = b; seen = c; path = d } in
-    ap (λ a. made a kept seen path) t ∙ ap (λ b. made tag' b seen path) k ∙ ap (λ c. made tag' kept' c path) s ∙ ap (λ d. made tag' kept' seen' d) p
+same_parts tag tag' kept kept' seen seen' path path' t k s p = grind arith

@@ -1,5 +1,5 @@
 -- The parsed parts of a text keep the rules of an echo.
-use Rattle.std.proofs.Common.{false, cond, ◌≡◌, ◌≢◌, ℕ, ◌==◌, not, true, List, [], ◌∷◌, ◌++◌, length, sym, ap, subst, ◌∙◌, inl, inr}
+use Rattle.std.proofs.Common.{false, cond, ◌≡◌, ◌≢◌, ℕ, ◌==◌, not, true, List, [], ◌∷◌, length, sym, subst, inl, inr, arith}
 use Rattle.std.specs.List.{All, AllByRecursion, AllPass, Contains, filter, onto_first, slice_split}
 use Rattle.std.proofs.lemmas.Bool.{cases_Bool, cond_both, eq-eqb}
 use Rattle.std.proofs.lemmas.List.Elements.{All-append, All-contains, All-contains_itself, All-filter, All-from_recursion, All-same, All-weaker, filter_passes, recursion_from_All}
@@ -8,7 +8,7 @@ use Rattle.std.proofs.lemmas.List.Sums.{list_all-from_AllPass}
 use Rattle.echo_addr.specs.declared.address.NetNode.{NetNode}
 use Rattle.echo_addr.specs.ShortLines.{IsNetNode}
 use Rattle.echo_text.specs.Lines.{is_return, later_lines, lines, without_empty_last}
-use Rattle.echo_text.specs.Tail.{all_entries, body, is_kept_control, is_tail_line, kept_of, path_lists, seen_lists, tail}
+use Rattle.echo_text.specs.Tail.{all_entries, body, is_kept_control, kept_of, path_lists, seen_lists, tail}
 use Rattle.echo_text.specs.Echo.{EchoOf, EchoText, HasNoZero, IsEcho, IsLine, IsSetOf, is_shed}
 use Rattle.echo_text.proofs.EntryRanges.{all_entries_in_range}
 use Rattle.echo_text.proofs.LineKinds.{control_in_tail, not_shed_if_kept}
@@ -50,9 +50,7 @@ all_lines ls h =
 
 pub later_lines_are : (text : List ℕ) → HasNoZero text → All IsLine (later_lines (lines text))
 unfolding lines
-later_lines_are text h =
-    all_lines (later_lines (lines text))
-    (later_are (lines text) (without_last_are (slice_split is_return text) (pieces_are_lines text (recursion_from_All (λ b. b ≢ 0) text h))))
+later_lines_are text h = grind (arith, all_lines, later_are, without_last_are, pieces_are_lines, recursion_from_All)
 
 -- parts of lines
 all_in_body : (P : List ℕ → Type 0) (ls : List (List ℕ)) → AllByRecursion P ls → AllByRecursion P (body ls) × AllByRecursion P (tail ls)
@@ -73,16 +71,11 @@ kept_are_lines later h =
 
 -- the tail of the kept lines
 kept_in_tail : (ls : List (List ℕ)) → all_tail (filter is_kept_control ls) ≡ true
-kept_in_tail ls =
-    list_all-from_AllPass is_tail_line (filter is_kept_control ls)
-    (All-weaker (λ line. is_kept_control line ≡ true) (λ line. is_tail_line line ≡ true) control_in_tail (filter is_kept_control ls)
-    (filter_passes is_kept_control ls))
+kept_in_tail ls = grind (arith, list_all-from_AllPass, All-weaker, control_in_tail, filter_passes)
 
 pub tail-kept_of : (later : List (List ℕ)) → tail (kept_of later) ≡ filter is_kept_control (tail later)
 unfolding kept_of
-tail-kept_of later =
-    tail-append (body later) (filter is_kept_control (tail later)) (kept_in_tail (tail later))
-    ∙ ap (λ ls. ls ++ filter is_kept_control (tail later)) (tail_of_body later)
+tail-kept_of later = grind (arith, tail-append, kept_in_tail, tail_of_body)
 
 pub nothing_shed : (later : List (List ℕ)) → AllPass (λ line. not (is_shed line)) (tail (kept_of later))
 nothing_shed later =

@@ -3,11 +3,11 @@ use Rattle.std.proofs.Common.{◌≡◌, ℕ, ◌+◌, ◌^◌, ◌<◌, List, �
 use Rattle.std.specs.List.{filter}
 use Rattle.std.specs.Prelude.{MatchResult}
 use Rattle.std.specs.Result.{IsErrAnd}
-use Rattle.std.proofs.Common.{Bool, true, false, cond, not, Some, None, Option, Result, Ok, Err, inr}
+use Rattle.std.proofs.Common.{true, None, Option, Result, Ok, Err, inr}
 use Rattle.echo_addr.specs.declared.address.NetNode.{NetNode}
 use Rattle.echo_addr.specs.ShortLines.{path_prefix, seen_prefix}
 use Rattle.echo_text.specs.declared.fault.TextFault.{TextFault}
-use Rattle.echo_text.specs.declared.fault.TextFault.TheVariants.{BadTag, Memory, NotEcho}
+use Rattle.echo_text.specs.declared.fault.TextFault.TheVariants.{Memory}
 use Rattle.echo_text.specs.Lines.{area_tag, first_line, is_area, is_tag, later_lines, lines}
 use Rattle.echo_text.specs.Tail.{all_dropped, all_entries, body, is_kept_control, kept_of, lists_of, path_lists, seen_lists, tail}
 use Rattle.echo_text.specs.Echo.{EchoOf, EchoText, FrontOf, IsSetOf, ListsOf}
@@ -27,13 +27,7 @@ pub lists_after : (later ending : List (List ℕ)) (seen path set : List NetNode
     → path ≡ all_entries (lists_of path_prefix ending) → n ≡ all_dropped (lists_of path_prefix ending)
     → IsSetOf set seen → ListsOf later set path (m + n)
 unfolding seen_lists path_lists
-lists_after later ending seen path set m n e s ms p np is = record {
-  seen_set = subst (IsSetOf set) (s ∙ ap (λ ls. all_entries (lists_of seen_prefix ls)) e) is;
-  path_list = p ∙ ap (λ ls. all_entries (lists_of path_prefix ls)) e;
-  dropped_tokens =
-      ap (λ x. x + n) (ms ∙ ap (λ ls. all_dropped (lists_of seen_prefix ls)) e)
-      ∙ ap (λ x. all_dropped (lists_of seen_prefix (tail later)) + x) (np ∙ ap (λ ls. all_dropped (lists_of path_prefix ls)) e);
-}
+lists_after later ending seen path set m n e s ms p np is = grind arith
 
 -- a first line that is not refused
 pub record IsTaken (first : List ℕ) : Type 0 where
@@ -41,43 +35,19 @@ pub record IsTaken (first : List ℕ) : Type 0 where
   pub tag : is_tag (area_tag first) ≡ true
 
 pub taken : (first : List ℕ) → refusal_of first ≡ None → IsTaken first
-taken first none =
-    by (is_area first) (is_tag (area_tag first)) refl refl
-  where
-    by : (area good : Bool) → is_area first ≡ area → is_tag (area_tag first) ≡ good → IsTaken first
-    by true true a g = record { area = a; tag = g }
-    by true false a g = let refused : Some BadTag ≡ None = sym (ap (λ x. cond (not x) (Some NotEcho) (cond (not (is_tag (area_tag first))) (Some BadTag) None)) a ∙ ap (λ x. cond (not x) (Some BadTag) None) g) ∙ none in absurd cc
-    by false good a g = let refused : Some NotEcho ≡ None = sym (ap (λ x. cond (not x) (Some NotEcho) (cond (not (is_tag (area_tag first))) (Some BadTag) None)) a) ∙ none in absurd cc
+taken first none = grind arith
 
 -- a text with its first line removed, and its kept lines
 pub front_is : (text first rest tag : List ℕ) (before ending kept : List (List ℕ))
     → first ≡ first_line (lines text) → lines rest ≡ later_lines (lines text) → refusal_of first ≡ None → tag ≡ area_tag first
     → before ≡ body (lines rest) → ending ≡ tail (lines rest) → kept ≡ before ++ filter is_kept_control ending → FrontOf text tag kept
 unfolding kept_of
-front_is text first rest tag before ending kept f l none t b e k =
-    let h = taken first none in
-    record {
-      area = ap is_area (sym f) ∙ h.area;
-      tag_is = t ∙ ap area_tag f;
-      tag_bytes = ap is_tag t ∙ h.tag;
-      kept_lines =
-          k
-          ∙ ap (λ ls. ls ++ filter is_kept_control ending) (b ∙ ap body l)
-          ∙ ap (λ ls. body (later_lines (lines text)) ++ filter is_kept_control ls) (e ∙ ap tail l);
-    }
+front_is text first rest tag before ending kept f l none t b e k = grind (arith, taken)
 
 -- the front and the lists are the parts
 pub parts_are : (text tag : List ℕ) (kept : List (List ℕ)) (seen path seen' path' : List NetNode) (d : ℕ) → FrontOf text tag kept
     → ListsOf (later_lines (lines text)) seen path d → seen' ≡ seen → path' ≡ path → EchoOf text (record { tag = tag; kept = kept; seen = seen'; path = path' }) d
-parts_are text tag kept seen path seen' path' d front lists s p = record {
-  area = front.area;
-  tag = front.tag_is;
-  tag_bytes = front.tag_bytes;
-  kept = front.kept_lines;
-  seen = subst (λ es. IsSetOf es (all_entries (seen_lists (later_lines (lines text))))) (sym s) lists.seen_set;
-  path = p ∙ lists.path_list;
-  dropped_tokens = lists.dropped_tokens;
-}
+parts_are text tag kept seen path seen' path' d front lists s p = grind arith
 
 pub refusal_is : (text first : List ℕ) (r : Option TextFault) → first ≡ first_line (lines text) → refusal_of first ≡ r → text_refusal text ≡ r
 unfolding text_refusal
@@ -98,10 +68,7 @@ answers_memory text r h is = answers_fault text Memory r h (inr (is, refl))
 -- a text with a front is not refused
 pub front_accepted : (text tag : List ℕ) (kept : List (List ℕ)) → FrontOf text tag kept → text_refusal text ≡ None
 unfolding text_refusal
-front_accepted text tag kept h =
-    let first = first_line (lines text) in
-    ap (λ x. cond (not x) (Some NotEcho) (cond (not (is_tag (area_tag first))) (Some BadTag) None)) h.area
-    ∙ ap (λ x. cond (not x) (Some BadTag) None) (ap is_tag (sym h.tag_is) ∙ h.tag_bytes)
+front_accepted text tag kept h = grind arith
 
 -- no refusal applies to a text that has a reading
 pub not_refused : (text : List ℕ) (e : EchoText) (d : ℕ) → EchoOf text e d → text_refusal text ≡ None

@@ -1,5 +1,5 @@
 -- Serials as digits to the base 16.
-use Rattle.std.proofs.Common.{◌≡◌, ℕ, ◌+◌, ◌*◌, ◌/◌, ◌%◌, ◌^◌, ◌<◌, ◌≤◌, List, ◌∷◌, length, get_or, take, refl, sym, ap, subst, ◌∙◌, arith, lit<}
+use Rattle.std.proofs.Common.{◌≡◌, ℕ, ◌+◌, ◌*◌, ◌/◌, ◌%◌, ◌<◌, ◌≤◌, List, ◌∷◌, length, get_or, take, refl, sym, ap, subst, ◌∙◌, arith}
 use Rattle.std.specs.Char.{digit_value}
 use Rattle.std.specs.Int.{to_be_bytes, w32}
 use Rattle.std.specs.Str.Parse.{AllDigits, digits_value}
@@ -16,16 +16,10 @@ pub record Valued (ds : List ℕ) (i value : ℕ) : Type 0 where
 
 pub valued_more : (ds : List ℕ) (i value digit : ℕ) → i < length ds → digit_value (get_or ds i 0) < 16 → digit ≡ digit_value (get_or ds i 0)
     → Valued ds i value → Valued ds (i + 1) (value * 16 + digit)
-valued_more ds i value digit within small is v = record {
-  each = digits_more 16 ds i within v.each small;
-  value_is = digits_value_more 16 ds i within ∙ ap (λ n. n * 16 + digit_value (get_or ds i 0)) v.value_is ∙ ap (λ n. value * 16 + n) (sym is);
-}
+valued_more ds i value digit within small is v = grind (arith, digits_more, digits_value_more, get_or)
 
 pub valued_room : (ds : List ℕ) (i value : ℕ) → i < length ds → length ds ≤ 8 → Valued ds i value → value < 268435456
-valued_room ds i value within short v =
-    let few : length (take i ds) ≤ 7 = omega (arith, length-take-le i ds (omega arith)) in
-    let bound : 16 ^ length (take i ds) ≤ 16 ^ 7 = pow-le-pow_right (lit< tt) few in
-    omega (arith, digits_value-lt 16 (take i ds) v.each, v.value_is)
+valued_room ds i value within short v = grind (arith, length-take-le, pow-le-pow_right, digits_value-lt)
 
 pub valued_all : (ds : List ℕ) (i value : ℕ) → length ds ≤ i → Valued ds i value → AllDigits 16 ds × (digits_value 16 ds ≡ value)
 valued_all ds i value all v =

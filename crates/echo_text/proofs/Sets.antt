@@ -1,8 +1,8 @@
 -- Entries in ascending order, each once, are the set of the entries.
-use Rattle.std.proofs.Common.{◌≡◌, ℕ, ◌<◌, ◌==◌, ◌&&◌, Bool, true, List, [], ◌∷◌, refl, ap, ◌∙◌, arith, inl, inr, ◌⊎◌}
+use Rattle.std.proofs.Common.{◌≡◌, ℕ, ◌<◌, ◌==◌, ◌&&◌, Bool, true, List, [], ◌∷◌, ap, ◌∙◌, arith, ◌⊎◌}
 use Rattle.std.specs.Prelude.{◌↔◌, Contains}
 use Rattle.std.specs.declared.cmp.Ordering.{Ordering}
-use Rattle.std.specs.declared.cmp.Ordering.TheVariants.{Less, Equal, Greater}
+use Rattle.std.specs.declared.cmp.Ordering.TheVariants.{Less}
 use Rattle.std.specs.Ordering.{MatchOrdering, nat_cmp, ordering_then}
 use Rattle.std.specs.List.{AllPairs}
 use Rattle.std.specs.List.Sorted.{IsStrictlySortedBy}
@@ -25,23 +25,15 @@ same_entry : (x y : NetNode) → x.net ≡ y.net → x.node ≡ y.node → x ≡
 same_entry x y net node = ap (λ n. record x { net = n }) net ∙ ap (λ n. record { net = y.net; node = n }) node
 
 pub same_is : (x y : NetNode) → same x y ≡ true → x ≡ y
-same_is x y is =
-    let parts = and_parts (x.net == y.net) (x.node == y.node) is in
-    same_entry x y (eqb-true x.net y.net parts.0) (eqb-true x.node y.node parts.1)
+same_is x y is = grind (arith, and_parts, same_entry, eqb-true)
 
 -- an ordering by net and then by node
 less_then : (p q : Ordering) (m n k l : ℕ) → MatchOrdering p (m < n) (m ≡ n) (n < m) → MatchOrdering q (k < l) (k ≡ l) (l < k)
     → ordering_then p q ≡ Less → (m < n) ⊎ ((m ≡ n) × (k < l))
-less_then Less q m n k l h i less = inl h
-less_then Equal Less m n k l h i less = inr (h, i)
-less_then Equal Equal m n k l h i less = absurd cc
-less_then Equal Greater m n k l h i less = absurd cc
-less_then Greater q m n k l h i less = absurd cc
+less_then p q m n k l h1 h2 h3 = grind arith
 
 less_before : (x y : NetNode) → order x y ≡ Less → ComesBefore x y
-less_before x y less =
-    less_then (nat_cmp x.net y.net) (nat_cmp x.node y.node) x.net y.net x.node y.node
-    (ranked x.net y.net (nat_cmp x.net y.net) refl) (ranked x.node y.node (nat_cmp x.node y.node) refl) less
+less_before x y less = grind (arith, less_then, ranked)
 
 ascending : (es : List NetNode) → IsStrictlySortedBy order es → AllPairs ComesBefore es
 unfolding IsStrictlySortedBy

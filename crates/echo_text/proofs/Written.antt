@@ -1,5 +1,5 @@
 -- The written text of an echo, cut into lines and parsed, is that echo.
-use Rattle.std.proofs.Common.{◌≡◌, ◌≢◌, ℕ, not, Bool, true, false, List, [], ◌∷◌, ◌++◌, map, refl, sym, ap, subst, ◌∙◌, arith, inl, inr}
+use Rattle.std.proofs.Common.{◌≡◌, ◌≢◌, ℕ, not, Bool, true, false, List, [], ◌∷◌, ◌++◌, map, refl, sym, ap, ◌∙◌, arith}
 use Rattle.std.specs.List.{AllByRecursion, AllPairs, filter, flat_map, list_all}
 use Rattle.std.proofs.lemmas.List.{append_assoc, append-nil}
 use Rattle.std.proofs.lemmas.List.Elements.{All-append, All-from_recursion, All-weaker, filter-append, recursion_from_All}
@@ -11,7 +11,7 @@ use Rattle.echo_addr.specs.Entries.{dropped}
 use Rattle.echo_addr.specs.ShortLines.{ComesBefore, IsEntryByte, ReadBack, line_of, path_prefix, seen_prefix}
 use Rattle.echo_addr.proofs.ReadBack.{read_back}
 use Rattle.echo_text.specs.Lines.{after_word, area_tag, area_word, first_line, is_area, is_path, is_return, is_seen, later_lines, lines}
-use Rattle.echo_text.specs.Tail.{all_dropped, all_entries, body, is_kept_control, is_tail_line, kept_of, path_lists, seen_lists, tail}
+use Rattle.echo_text.specs.Tail.{all_dropped, all_entries, is_kept_control, is_tail_line, kept_of, path_lists, seen_lists, tail}
 use Rattle.echo_text.specs.Echo.{EchoText, EchoOf, IsEcho, IsLine, IsSetOf, TextOf, ended, is_shed}
 use Rattle.echo_text.proofs.TextLines.{IsPiece, lines_ended, lines_nil, lines_of_ended}
 use Rattle.echo_text.proofs.LineKinds.{after_path, after_seen, area_is_area, kept_no_path, kept_no_seen, kept_unless_shed, path_in_tail, path_is_not_seen, path_is_path, path_not_kept, seen_in_tail, seen_is_not_path, seen_is_seen, seen_not_kept}
@@ -29,10 +29,7 @@ lines_prefixed prefix (rest ∷ more) =
     ∙ ap (λ s. ended (prefix ++ rest) ++ s) (lines_prefixed prefix more)
 
 entry_no_return : (b : ℕ) → IsEntryByte b → is_return b ≡ false
-entry_no_return b h = elim h [
-  | inl blank ↦ ne_eqb b 13 (λ e. omega arith)
-  | inr digit ↦ ne_eqb b 13 (λ e. omega (arith, digit.0))
-]
+entry_no_return b h = grind (arith, ne_eqb)
 
 prefixed_pieces : (prefix : List ℕ) → IsPiece prefix → (rests : List (List ℕ)) → AllByRecursion (AllByRecursion IsEntryByte) rests
     → AllByRecursion IsPiece (prefixed prefix rests)
@@ -93,20 +90,13 @@ abbrev laid_out : List (List ℕ) → List (List ℕ) → List (List ℕ) → Li
 laid_out kept seen path = kept ++ (prefixed seen_prefix seen ++ prefixed path_prefix path)
 
 shed_all_tail : (seen path : List (List ℕ)) → all_tail (prefixed seen_prefix seen ++ prefixed path_prefix path) ≡ true
-shed_all_tail seen path =
-    list_all-append is_tail_line (prefixed seen_prefix seen) (prefixed path_prefix path)
-    ∙ and_from _ _ (all_prefixed is_tail_line seen_prefix seen_in_tail seen) (all_prefixed is_tail_line path_prefix path_in_tail path)
+shed_all_tail seen path = grind (arith, list_all-append, and_from, all_prefixed, seen_in_tail, path_in_tail)
 
 -- the SEEN-BY and PATH lines that a filter leaves
 both : (p : List ℕ → Bool) (kept left_seen left_path : List (List ℕ)) (ending seen path : List (List ℕ))
     → filter p ending ≡ kept → filter p (prefixed seen_prefix seen) ≡ left_seen → filter p (prefixed path_prefix path) ≡ left_path
     → filter p (ending ++ (prefixed seen_prefix seen ++ prefixed path_prefix path)) ≡ kept ++ (left_seen ++ left_path)
-both p kept left_seen left_path ending seen path k s t =
-    filter-append p ending (prefixed seen_prefix seen ++ prefixed path_prefix path)
-    ∙ ap (λ ls. ls ++ filter p (prefixed seen_prefix seen ++ prefixed path_prefix path)) k
-    ∙ ap (λ ls. kept ++ ls) (filter-append p (prefixed seen_prefix seen) (prefixed path_prefix path))
-    ∙ ap (λ ls. kept ++ (ls ++ filter p (prefixed path_prefix path))) s
-    ∙ ap (λ ls. kept ++ (left_seen ++ ls)) t
+both p kept left_seen left_path ending seen path k s t = grind (arith, filter-append)
 
 -- the content of the written lines
 record Says (kept seen path : List (List ℕ)) : Type 0 where
@@ -116,35 +106,7 @@ record Says (kept seen path : List (List ℕ)) : Type 0 where
 
 says : (kept seen path : List (List ℕ)) → IsKeptEnding (tail kept) → Says kept seen path
 unfolding kept_of seen_lists path_lists
-says kept seen path ending =
-    let shed = prefixed seen_prefix seen ++ prefixed path_prefix path in
-    let whole : tail (kept ++ shed) ≡ tail kept ++ shed = tail-append kept shed (shed_all_tail seen path) in
-    record {
-      kept_back =
-          ap (λ ls. ls ++ filter is_kept_control (tail (kept ++ shed))) (body-append kept shed (shed_all_tail seen path))
-          ∙ ap (λ ls. body kept ++ filter is_kept_control ls) whole
-          ∙ ap (λ ls. body kept ++ ls)
-          (both is_kept_control (tail kept) [] [] (tail kept) seen path ending.kept
-          (filter_prefixed_none is_kept_control seen_prefix seen_not_kept seen)
-          (filter_prefixed_none is_kept_control path_prefix path_not_kept path))
-          ∙ ap (λ ls. body kept ++ ls) (append-nil (tail kept))
-          ∙ body_and_tail kept;
-      seen_back =
-          ap (λ ls. map (after_word seen_prefix) (filter is_seen ls)) whole
-          ∙ ap (map (after_word seen_prefix))
-          (both is_seen [] (prefixed seen_prefix seen) [] (tail kept) seen path ending.no_seen
-          (filter_prefixed is_seen seen_prefix seen_is_seen seen)
-          (filter_prefixed_none is_seen path_prefix path_is_not_seen path))
-          ∙ ap (map (after_word seen_prefix)) (append-nil (prefixed seen_prefix seen))
-          ∙ after_prefixed seen_prefix after_seen seen;
-      path_back =
-          ap (λ ls. map (after_word path_prefix) (filter is_path ls)) whole
-          ∙ ap (map (after_word path_prefix))
-          (both is_path [] [] (prefixed path_prefix path) (tail kept) seen path ending.no_path
-          (filter_prefixed_none is_path seen_prefix seen_is_not_path seen)
-          (filter_prefixed is_path path_prefix path_is_path path))
-          ∙ after_prefixed path_prefix after_path path;
-    }
+says kept seen path ending = grind (arith, tail-append, shed_all_tail, body-append, both, filter_prefixed_none, seen_not_kept, path_not_kept, append-nil, body_and_tail, filter_prefixed, seen_is_seen, path_is_not_seen, after_prefixed, after_seen, seen_is_not_path, path_is_path, after_path)
 
 -- the lines of a text that was written
 line_piece : (line : List ℕ) → IsLine line → IsPiece line
@@ -165,9 +127,7 @@ path_piece = All-from_recursion (λ b. is_return b ≡ false) path_prefix (refl,
 
 prefixed_lines : (prefix : List ℕ) (rests : List (List ℕ)) (b : List ℕ) → IsPiece prefix → b ≡ flat_map (line_of prefix) rests
     → AllByRecursion (AllByRecursion IsEntryByte) rests → (more : List ℕ) → lines (b ++ more) ≡ prefixed prefix rests ++ lines more
-prefixed_lines prefix rests b piece is bytes more =
-    ap (λ s. lines (s ++ more)) (is ∙ lines_prefixed prefix rests)
-    ∙ lines_of_ended (prefixed prefix rests) more (prefixed_pieces prefix piece rests bytes)
+prefixed_lines prefix rests b piece is bytes more = grind (arith, lines_prefixed, lines_of_ended, prefixed_pieces)
 
 written_lines : (e : EchoText) (text : List ℕ) → IsEcho e → (w : TextOf e text) → (s : ReadBack seen_prefix e.seen w.seen_lines) → (p : ReadBack path_prefix e.path w.path_lines)
     → lines text ≡ (area_word ++ e.tag) ∷ laid_out e.kept s.rests p.rests
@@ -190,9 +150,7 @@ none_dropped [] h = refl
 none_dropped (rest ∷ more) h = omega (arith, sum_by-cons dropped rest more, h.0, none_dropped more h.1)
 
 itself : (list : List NetNode) → (all : List NetNode) → all ≡ list → AllPairs ComesBefore list → IsSetOf list all
-itself list all is ascending =
-    let P : List NetNode → Type 0 = λ other. IsSetOf list other in
-    subst P (sym is) (record { ascending = ascending; members = λ entry. ((λ x. x), (λ x. x)) })
+itself list all is ascending = grind arith
 
 -- the lines of a text in terms of its parts
 record Begun (text first : List ℕ) (later : List (List ℕ)) : Type 0 where

@@ -7,9 +7,7 @@ use Rattle.echo_filed.proofs.LinesOfIds.{more_alone, none_alone, one_alone}
 use Rattle.echo_filed.proofs.stub.is_alone.Goals as goal
 
 pub returns-then-is_empty : goal.returns-then-is_empty
-returns-then-is_empty c =
-    let none = eqb-true (length c.as_text-text.result.now) 0 (sym c.is_empty.ensures ∙ c.if-is_empty.true) in
-    sym (none_alone c.as_text-text.result.now (id_line msgid_word c.args.id.now) c.args.kept.now c.as_text-text.ensures.lines none)
+returns-then-is_empty c = grind (arith, eqb-true, none_alone)
 
 pub returns-then-not-is_empty : goal.returns-then-not-is_empty
 returns-then-not-is_empty c =

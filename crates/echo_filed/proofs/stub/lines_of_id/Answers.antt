@@ -1,5 +1,5 @@
 use Rattle.echo_filed.proofs.LinesOfIds.{id_text}
-use Rattle.std.proofs.Common.{◌∙◌}
+use Rattle.std.proofs.Common.{arith}
 use Rattle.echo_filed.proofs.stub.lines_of_id.Goals as goal
 
 pub of_text-requires : goal.of_text-requires
@@ -8,7 +8,4 @@ of_text-requires c =
     c.in_ok-text.ensures.items c.in_ok-extend_from_slice.ensures.items c.in_ok-push_line.ensures.ok c.requires).ended_is
 
 pub returns : goal.returns
-returns c =
-    c.of_text.ensures
-    ∙ (id_text c.in_ok-text.text.items c.extend_from_slice.new.self.items c.push_line.new.text.items c.args.id.now
-    c.in_ok-text.ensures.items c.in_ok-extend_from_slice.ensures.items c.in_ok-push_line.ensures.ok c.requires).lines_are
+returns c = grind (arith, id_text)

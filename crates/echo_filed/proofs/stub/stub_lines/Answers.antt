@@ -1,5 +1,5 @@
-use Rattle.std.proofs.Common.{◌≡◌, ◌∙◌, ◌∷◌, [], List, ℕ, ap, subst, sym}
-use Rattle.std.specs.Prelude.{IfOk, option_copied}
+use Rattle.std.proofs.Common.{◌≡◌, ◌∙◌, ◌∷◌, [], List, ℕ, ap, subst, sym, arith}
+use Rattle.std.specs.Prelude.{option_copied}
 use Rattle.echo_text.specs.Lines.{msgid_word}
 use Rattle.std.specs.List.{All}
 use Rattle.std.proofs.lemmas.List.Elements.{All-head}
@@ -22,11 +22,4 @@ lines_of_id-requires c =
     All-head IsLine (id_line msgid_word c.unwrap_or.result.now) [] (subst P (sym same) stub.is_echo.kept_lines)
 
 pub returns : goal.returns
-returns c =
-    let told = c.msgid.ensures ∙ ap (λ m. msgid_of m.echo.kept) c.message.view_is in
-    let same : id_line msgid_word c.unwrap_or.result.now ∷ [] ≡ (stub_of c.args.message.now).echo.kept =
-    ap (λ r. id_line msgid_word r.now ∷ []) c.unwrap_or.ensures
-    ∙ ap (λ id. id_line msgid_word id ∷ []) (copied_or c.msgid.result _)
-    ∙ left_line c.args.message.now (option_copied c.msgid.result) told c.requires in
-    let P : List (List ℕ) → Type 0 = λ l. IfOk c.lines_of_id.result (λ lines. lines ≡ l) in
-    subst P same c.lines_of_id.ensures
+returns c = grind (arith, copied_or, left_line)

@@ -1,11 +1,7 @@
-use Rattle.std.proofs.Common.{ap, length, map, option_copied, sym, ◌∙◌}
-use Rattle.std.specs.List.{filter, last_or}
+use Rattle.std.proofs.Common.{option_copied, arith}
 use Rattle.std.proofs.lemmas.Bool.{eqb-true}
-use Rattle.echo_text.specs.Lines.{after_feeds, begins}
 use Rattle.echo_text.proofs.TextLines.{no_lines}
 use Rattle.echo_text.proofs.found.last_with.Goals as goal
 
 pub returns : goal.returns
-returns c =
-    let none = no_lines c.lines.rest.now (eqb-true (length c.lines.rest.now) 0 (sym c.is_empty.ensures ∙ c.lines-test.false)) in
-    sym (ap (λ ls. last_or (option_copied c.lines.found) (map after_feeds (filter (begins c.args.word.now) ls))) none) ∙ c.lines.invariant
+returns c = grind (arith, no_lines, eqb-true, option_copied)

@@ -25,11 +25,4 @@ returns-in-Some-clause-both c = λ some.
     lines_with_first c.args.text.now _ _ some (record { first_is = parts.first_is; later_is = ap lines (take_rest c.args.text.now (c.in-Some.end + 1)) ∙ parts.later_is })
 
 pub returns-in-None-clause-both : goal.returns-in-None-clause-both
-returns-in-None-clause-both c = λ some.
-    let parts = split_whole c.args.text.now c.in-None.ensures in
-    lines_with_first c.args.text.now _ _ some
-    (record {
-      first_is = parts.first_is;
-      later_is =
-          ap lines (take_rest c.args.text.now (length c.args.text.now) ∙ drop_all (length c.args.text.now) c.args.text.now (omega arith)) ∙ parts.later_is;
-    })
+returns-in-None-clause-both = grind (arith, split_whole, lines_with_first, take_rest, drop_all)

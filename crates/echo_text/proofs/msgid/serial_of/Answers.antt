@@ -4,15 +4,10 @@ use Rattle.echo_text.proofs.Serials.{valued_more, valued_room}
 use Rattle.echo_text.proofs.msgid.serial_of.Goals as goal
 
 pub overflow_mul-value : goal.overflow_mul-value
-overflow_mul-value c =
-    let room = valued_room c.args.digits.now c.digits.digit-index c.digits.value c.digits-test.true c.requires c.digits.invariant in
-    omega (arith, room)
+overflow_mul-value c = grind (arith, valued_room)
 
 pub overflow_add-value : goal.overflow_add-value
-overflow_add-value c =
-    let room = valued_room c.args.digits.now c.digits.digit-index c.digits.value c.digits-test.true c.requires c.digits.invariant in
-    let worth = c.in_ok-worth.ensures.value in
-    omega (arith, room, worth)
+overflow_add-value c = grind (arith, valued_room)
 
 pub digits-preserved : goal.digits-preserved
 digits-preserved c =

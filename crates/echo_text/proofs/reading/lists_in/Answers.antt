@@ -1,26 +1,16 @@
-use Rattle.std.proofs.Common.{◌^◌, ◌<◌, ◌∙◌, ap, length, arith}
-use Rattle.echo_text.specs.Lines.{lines}
+use Rattle.std.proofs.Common.{◌∙◌, ap, arith}
 use Rattle.echo_text.specs.Tail.{tail}
 use Rattle.echo_text.proofs.SaidAfter.{counts_fit, lists_after}
 use Rattle.echo_text.proofs.reading.lists_in.Goals as goal
 
 pub entries_of-requires : goal.entries_of-requires
-entries_of-requires c =
-    let room : length c.split_line.result.1.now < 2 ^ 64 = omega arith in
-    let fit = counts_fit c.split_line.result.1.now (lines c.split_tail.result.1.now) c.split_tail.ensures.tail room in
-    omega (arith, fit)
+entries_of-requires c = grind (arith, counts_fit)
 
 pub entries_of-requires-2 : goal.entries_of-requires-2
-entries_of-requires-2 c =
-    let room : length c.split_line.result.1.now < 2 ^ 64 = omega arith in
-    let fit = counts_fit c.split_line.result.1.now (lines c.split_tail.result.1.now) c.split_tail.ensures.tail room in
-    omega (arith, fit)
+entries_of-requires-2 c = grind (arith, counts_fit)
 
 pub overflow_add-result : goal.overflow_add-result
-overflow_add-result c =
-    let room : length c.split_line.result.1.now < 2 ^ 64 = omega arith in
-    let fit = counts_fit c.split_line.result.1.now (lines c.split_tail.result.1.now) c.split_tail.ensures.tail room in
-    omega (arith, fit, c.in_ok-seen.ensures.dropped, c.in_ok-path.ensures.dropped)
+overflow_add-result c = grind (arith, counts_fit)
 
 pub returns : goal.returns
 returns c =

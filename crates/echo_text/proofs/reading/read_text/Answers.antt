@@ -1,3 +1,4 @@
+use Rattle.std.proofs.Common.{arith}
 use Rattle.echo_text.proofs.SaidAfter.{answers_fault, answers_memory, front_accepted}
 use Rattle.echo_text.proofs.reading.read_text.Goals as goal
 
@@ -5,6 +6,4 @@ pub returns-in_err-front : goal.returns-in_err-front
 returns-in_err-front c = answers_fault c.args.text.now c.in_err-front.field-0.0 c.from_residual.result c.from_residual.ensures.1 c.in_err-front.ensures
 
 pub returns-in_err-read : goal.returns-in_err-read
-returns-in_err-read c =
-    answers_memory c.args.text.now c.from_residual-in_err-read.result c.from_residual-in_err-read.ensures.1
-    (front_accepted c.args.text.now _ _ c.in_ok-front.ensures)
+returns-in_err-read c = grind (arith, answers_memory, front_accepted)

@@ -1,16 +1,12 @@
-use Rattle.std.proofs.Common.{◌∙◌, inl, inr, refl}
+use Rattle.std.proofs.Common.{◌∙◌, arith}
 use Rattle.echo_text.proofs.SaidAfter.{fails, front_is, refusal_is}
 use Rattle.echo_text.proofs.reading.view_front.Goals as goal
 
 pub returns-in_err-raw : goal.returns-in_err-raw
-returns-in_err-raw c =
-    fails _ c.args.text.now c.in_err-raw.field-0.0 c.from_residual.result c.from_residual.ensures.1
-    (inl (refusal_is c.args.text.now c.split_line.result.0.now _ c.split_line.ensures.first c.in_err-raw.ensures.refused))
+returns-in_err-raw c = grind (arith, fails, refusal_is)
 
 pub returns-in_err-tag : goal.returns-in_err-tag
-returns-in_err-tag c =
-    fails _ c.args.text.now _ c.from_residual-in_err-tag.result c.from_residual-in_err-tag.ensures.1
-    (inr (refusal_is c.args.text.now c.split_line.result.0.now _ c.split_line.ensures.first c.in_ok-raw.ensures.refused, refl))
+returns-in_err-tag c = grind (arith, fails, refusal_is)
 
 pub returns : goal.returns
 returns c =

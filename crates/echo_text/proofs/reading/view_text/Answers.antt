@@ -1,3 +1,4 @@
+use Rattle.std.proofs.Common.{arith}
 use Rattle.echo_text.proofs.Reread.{read_is_echo}
 use Rattle.echo_text.proofs.SaidAfter.{answers_fault, answers_memory, front_accepted, parts_are}
 use Rattle.echo_text.proofs.reading.view_text.Goals as goal
@@ -6,9 +7,7 @@ pub returns-in_err-front : goal.returns-in_err-front
 returns-in_err-front c = answers_fault c.args.text.now c.in_err-front.field-0.0 c.from_residual.result c.from_residual.ensures.1 c.in_err-front.ensures
 
 pub returns-in_err-lists : goal.returns-in_err-lists
-returns-in_err-lists c =
-    answers_memory c.args.text.now c.from_residual-in_err-lists.result c.from_residual-in_err-lists.ensures.1
-    (front_accepted c.args.text.now _ _ c.in_ok-front.ensures)
+returns-in_err-lists c = grind (arith, answers_memory, front_accepted)
 
 pub invariant_of-view : goal.invariant_of-view
 invariant_of-view c =

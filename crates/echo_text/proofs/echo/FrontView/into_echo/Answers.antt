@@ -1,4 +1,4 @@
-use Rattle.std.proofs.Common.{ℕ, List, subst, sym}
+use Rattle.std.proofs.Common.{ℕ, List, subst, sym, arith}
 use Rattle.echo_text.specs.Echo.{FrontOf}
 use Rattle.echo_text.proofs.Reread.{read_is_echo}
 use Rattle.echo_text.proofs.SaidAfter.{parts_are}
@@ -11,6 +11,4 @@ invariant_of-echo c =
     (parts_are c.args.text.now _ _ _ _ _ _ _ (subst P (sym c.in_ok-kept.ensures) c.requires.front) c.in_ok-lists.ensures c.new.ensures c.new-2.ensures)
 
 pub returns : goal.returns
-returns c =
-    let P : List (List ℕ) → Type 0 = λ kept. FrontOf c.args.text.now c.args.self.tag kept in
-    parts_are c.args.text.now _ _ _ _ _ _ _ (subst P (sym c.in_ok-kept.ensures) c.requires.front) c.in_ok-lists.ensures c.new.ensures c.new-2.ensures
+returns c = grind (arith, parts_are)

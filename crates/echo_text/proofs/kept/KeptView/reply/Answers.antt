@@ -1,4 +1,4 @@
-use Rattle.std.proofs.Common.{ap, sym, ◌∙◌}
+use Rattle.std.proofs.Common.{ap, sym, ◌∙◌, arith}
 use Rattle.std.specs.Option.{option_or}
 use Rattle.echo_text.specs.Lines.{lines}
 use Rattle.echo_text.specs.Echo.{reply_of}
@@ -12,8 +12,4 @@ returns-in-Some c =
     ∙ ap (λ o. option_or o (reply_of (lines c.self.inside.tail.now))) (sym c.in-Some.ensures))
 
 pub returns-in-None : goal.returns-in-None
-returns-in-None c =
-    c.reply-in-None.ensures
-    ∙ sym
-    (ap reply_of (sym c.self.view_is) ∙ reply_of_parts (lines c.self.inside.body.now) (lines c.self.inside.tail.now)
-    ∙ ap (λ o. option_or o (reply_of (lines c.self.inside.tail.now))) (sym c.in-None.ensures))
+returns-in-None = grind (arith, reply_of_parts)
