@@ -155,14 +155,7 @@ seen_more places digest below i last place inside at is from low was = record {
 
 -- an empty list of found messages is correct
 pub found_none : (keys : List ℕ) (expected : Expected) → expected.passed ≡ 0 → expected.places.items ≡ [] → AreFound keys expected
-found_none keys expected passed none =
-    let short = ap (λ (l : List Place). length l) none in
-    record {
-      within = omega (arith, passed);
-      each = λ j under set. absurd (omega (arith, passed, under));
-      inside = λ p there. let low = there.1 in absurd (omega (arith, short, low));
-      sound = λ p there. let low = there.1 in absurd (omega (arith, short, low));
-    }
+found_none keys expected passed none = grind arith
 
 -- the keys begin with these, and chains are made of them
 pub record IsFrontOf (keys own heads before : List ℕ) : Type 0 where
@@ -174,21 +167,7 @@ pub record IsFrontOf (keys own heads before : List ℕ) : Type 0 where
 -- an index that took a piece into its keys, or failed to
 pub kept_more : {T E : Type 0} (r : Result T E) (keys piece more : List ℕ) (from : ℕ) (index : Index) → more ≡ (if is_ok r then index.keys.items ++ piece else index.keys.items) → length index.keys.items / 16 ≡ from → IsPieceOf keys from piece
     → IsIndexOf keys index → IsFrontOf keys more index.heads.items index.before.items
-kept_more (Ok done) keys piece more from index items at is was =
-    let own = index.keys.items in
-    let even = was.even in
-    let piece_even = is.even in
-    let size : length own ≡ 16 * from = omega (arith, even, at) in
-    let behind : was.rest ≡ piece ++ is.rest = sym (drop_at own was.rest (16 * from) size) ∙ ap (λ (l : List ℕ). drop (16 * from) l) (sym was.front) ∙ is.behind in
-    let long = ap (λ (l : List ℕ). length l) items ∙ length-append own piece in
-    record {
-      rest = is.rest;
-      front = was.front ∙ ap (λ (l : List ℕ). own ++ l) behind ∙ sym (append_assoc own piece is.rest) ∙ ap (λ (l : List ℕ). l ++ is.rest) (sym items);
-      even = omega (arith, long, even, piece_even);
-      chains = subst (λ (l : List ℕ). AreChains l index.heads.items index.before.items) (sym items) (chains_stay own piece index.heads.items index.before.items was.chains);
-    }
-kept_more (Err failed) keys piece more from index items at is was =
-    subst (λ (l : List ℕ). IsFrontOf keys l index.heads.items index.before.items) (sym items) (record { rest = was.rest; front = was.front; even = was.even; chains = was.chains })
+kept_more r keys piece more from index h1 h2 h3 h4 = grind (arith, drop_at, length-append, append_assoc, chains_stay)
 
 -- a digest in its own keys is that of all keys
 pub own_digest : (keys : List ℕ) (index : Index) (i : ℕ) → IsIndexOf keys index → i < length index.keys.items / 16 → digest_at keys i ≡ digest_at index.keys.items i

@@ -1,5 +1,5 @@
 -- Extending an index of keys, and following its chains.
-use Rattle.std.proofs.Common.{◌≡◌, ◌≢◌, ℕ, ◌+◌, ◌*◌, ◌<◌, ◌≤◌, List, [], ◌++◌, length, min, take, drop, get_or, sym, ap, subst, ◌∙◌, arith, ⊎_elim, length-append, length-drop}
+use Rattle.std.proofs.Common.{◌≡◌, ◌≢◌, ℕ, ◌+◌, ◌*◌, ◌<◌, ◌≤◌, List, [], ◌++◌, length, min, take, drop, get_or, ap, ◌∙◌, arith, ⊎_elim, length-append, length-drop}
 use Rattle.std.proofs.lemmas.Bool.{cases_lt}
 use Rattle.std.proofs.lemmas.List.{drop-append-le, take-append-le}
 use Rattle.std.specs.Int.{w64, from_le_bytes}
@@ -16,23 +16,10 @@ entry_stays keys more i within =
 
 -- the last one is that of the same keys with more behind them
 last_stays : (keys more : List ℕ) (heads head n last : ℕ) → 16 * n ≤ length keys → IsLastUnder keys heads head n last → IsLastUnder (keys ++ more) heads head n last
-last_stays keys more heads head n last within is = record {
-  within = is.within;
-  has = λ i at. let low = is.within in ap (head_of heads) (entry_stays keys more i (omega arith)) ∙ is.has i at;
-  none = λ j from below same. is.none j from below (sym (ap (head_of heads) (entry_stays keys more j (omega arith))) ∙ same);
-}
+last_stays keys more heads head n last within is = grind (arith, entry_stays)
 
 pub chains_stay : (keys more heads before : List ℕ) → AreChains keys heads before → AreChains (keys ++ more) heads before
-chains_stay keys more heads before are =
-    let within = are.within in
-    let long = length-append keys more in
-    record {
-      within = omega (arith, within, long);
-      room = are.room;
-      last_of = λ head inside. last_stays keys more (length heads) head (length before) (get_or heads head 0) (omega arith) (are.last_of head inside);
-      last_before = λ i inside. subst (λ (d : ℕ). IsLastUnder (keys ++ more) (length heads) (head_of (length heads) d) i (get_or before i 0)) (sym (entry_stays keys more i (omega arith)))
-          (last_stays keys more (length heads) (head_of (length heads) (digest_at keys i)) i (get_or before i 0) (omega arith) (are.last_before i inside));
-    }
+chains_stay keys more heads before are = grind (arith, length-append, last_stays, get_or, entry_stays)
 
 -- how far a walk along a chain is: all messages from there on were seen
 pub record IsReached (keys heads before : List ℕ) (digest below next : ℕ) : Type 0 where
@@ -43,36 +30,12 @@ pub record IsReached (keys heads before : List ℕ) (digest below next : ℕ) : 
 -- if this message has another digest, the search goes to the one before it in the chain
 reached_before : (keys heads before : List ℕ) (digest below next place : ℕ) → next ≡ place + 1 → ((place < below) × (digest_at keys place ≡ digest) → ⊥) → AreChains keys heads before
     → IsReached keys heads before digest below next → IsReached keys heads before digest below (get_or before place 0)
-reached_before keys heads before digest below next place at other are was =
-    let inside : place < length before = let low = was.within in omega arith in
-    let last = are.last_before place inside in
-    let head : head_of (length heads) (digest_at keys place) ≡ head_of (length heads) digest = was.has place at in
-    let here : (j : ℕ) → j ≡ place → j < below → digest_at keys j ≢ digest = λ j e under same. other (subst (λ (n : ℕ). n < below) e under, sym (ap (digest_at keys) e) ∙ same) in
-    record {
-      within = let low = last.within in omega arith;
-      has = λ i e. last.has i e ∙ head;
-      passed = λ j from low under.
-          ⊎_elim (λ (h : j < place). λ same. last.none j from h (ap (head_of (length heads)) same ∙ sym head))
-          (λ (h : place ≤ j). ⊎_elim (λ (k : j < next). here j (omega arith) under) (λ (k : next ≤ j). was.passed j k low under) (cases_lt j next))
-          (cases_lt j place);
-    }
+reached_before keys heads before digest below next place at other are was = grind (arith, ⊎_elim, cases_lt)
 
 pub reached_next : (keys heads before : List ℕ) (digest below next place earlier : ℕ) → next ≡ place + 1 → earlier ≡ min (get_or before place 0) place → ((place < below) × (digest_at keys place ≡ digest) → ⊥)
     → AreChains keys heads before → IsReached keys heads before digest below next → IsReached keys heads before digest below earlier
-reached_next keys heads before digest below next place earlier at earlier_is other are was =
-    let inside : place < length before = let low = was.within in omega arith in
-    let last = are.last_before place inside in
-    let same : get_or before place 0 ≡ earlier = let low = last.within in omega arith in
-    subst (λ (n : ℕ). IsReached keys heads before digest below n) same (reached_before keys heads before digest below next place at other are was)
+reached_next keys heads before digest below next place earlier at earlier_is other are was = grind (arith, get_or, reached_before)
 
 -- without keys there are no chains
 pub no_chains : (keys heads before : List ℕ) → heads ≡ [] → before ≡ [] → AreChains keys heads before
-no_chains keys heads before no_heads none =
-    let few = ap (λ (l : List ℕ). length l) no_heads in
-    let short = ap (λ (l : List ℕ). length l) none in
-    record {
-      within = omega (arith, short);
-      room = λ some. omega (arith, short, some);
-      last_of = λ head inside. absurd (omega (arith, few, inside));
-      last_before = λ i inside. absurd (omega (arith, short, inside));
-    }
+no_chains keys heads before no_heads none = grind arith

@@ -5,7 +5,7 @@ use Rattle.std.proofs.lemmas.Bool.{cond-false, cond-true, le-ltb, lt-ltb}
 use Rattle.std.proofs.lemmas.List.{append-nil, length-map, take_at}
 use Rattle.std.proofs.lemmas.Grind.{flat_map-append}
 use Rattle.std.proofs.lemmas.Nat.{from_le_bytes-to_le_bytes_8}
-use Rattle.std.specs.Int.{w64, from_le_bytes, to_le_bytes}
+use Rattle.std.specs.Int.{w64, from_le_bytes}
 use Rattle.std.specs.List.{AllByRecursion, flat_map}
 use Rattle.echo_filed.specs.Filed.{Filed}
 use Rattle.echo_filed.specs.Stored.{Stored, IsStored, message_in, stored_bytes}
@@ -59,10 +59,7 @@ keys_append digest place (s ∷ a) b =
 
 -- the place in an entry
 entry_place : (place number : ℕ) (rest : List ℕ) → place < 2 ^ 64 → from_le_bytes w64 (take 8 (entry place number ++ rest)) ≡ place
-entry_place place number rest fits =
-    ap (λ (l : List ℕ). from_le_bytes w64 (take 8 l)) (append_assoc (to_le_bytes w64 place) (to_le_bytes w64 number) rest)
-    ∙ ap (λ (l : List ℕ). from_le_bytes w64 l) (take_at (to_le_bytes w64 place) (to_le_bytes w64 number ++ rest) 8 refl)
-    ∙ from_le_bytes-to_le_bytes_8 place fits
+entry_place place number rest fits = grind (arith, append_assoc, take_at, from_le_bytes-to_le_bytes_8)
 
 -- the entry behind the first ones
 place_told : (digest : List ℕ → ℕ) (before : List Stored) (s : Stored) (later : List Stored) → length (bytes_of before) < 2 ^ 64
@@ -83,15 +80,11 @@ place_told digest before s later fits =
 
 -- the bytes between
 cut_out : (front here rest : List ℕ) → drop (length front) (take (length front + length here) (front ++ (here ++ rest))) ≡ here
-cut_out front here rest =
-    ap (λ (l : List ℕ). drop (length front) l) (take-append-add front (here ++ rest) (length here) ∙ ap (λ (l : List ℕ). front ++ l) (take-append_seam here rest))
-    ∙ drop-append_seam front here
+cut_out front here rest = grind (arith, take-append-add, take-append_seam, drop-append_seam)
 
 -- the number of bytes up to a message, and through it
 bytes_through : (before : List Stored) (s : Stored) → length (bytes_of (before ++ (s ∷ []))) ≡ length (bytes_of before) + length (stored_bytes Second s)
-bytes_through before s =
-    ap (λ (l : List ℕ). length l) (flat_map-append (stored_bytes Second) before (s ∷ []) ∙ ap (λ (l : List ℕ). bytes_of before ++ l) (append-nil (stored_bytes Second s)))
-    ∙ length-append (bytes_of before) (stored_bytes Second s)
+bytes_through before s = grind (arith, flat_map-append, append-nil, length-append)
 
 -- the place behind a message
 behind_told : (digest : List ℕ → ℕ) (before : List Stored) (s : Stored) (later : List Stored) → length (bytes_of (before ++ (s ∷ []))) < 2 ^ 64
@@ -117,27 +110,7 @@ behind_told digest before s (x ∷ more) fits =
 -- the bytes of a message in the middle
 has_bytes : (digest : List ℕ → ℕ) (before : List Stored) (s : Stored) (later : List Stored) → length (bytes_of (before ++ (s ∷ later))) < 2 ^ 64
     → HasBytesOf (bytes_of (before ++ (s ∷ later))) (keys_from digest 0 (before ++ (s ∷ later))) (length before) s
-has_bytes digest before s later fits =
-    let all = before ++ (s ∷ later) in
-    let front = bytes_of before in
-    let here = stored_bytes Second s in
-    let messages = bytes_of all in
-    let keys = keys_from digest 0 all in
-    let whole : messages ≡ front ++ (here ++ bytes_of later) = flat_map-append (stored_bytes Second) before (s ∷ later) in
-    let size : length messages ≡ length front + (length here + length (bytes_of later)) =
-    ap (λ (l : List ℕ). length l) whole ∙ length-append front (here ++ bytes_of later) ∙ ap (λ (n : ℕ). length front + n) (length-append here (bytes_of later)) in
-    let through = bytes_through before s in
-    let at : place_at keys (length before) ≡ length front = place_told digest before s later (omega arith) in
-    let end : place_behind messages keys (length before) ≡ length front + length here = behind_told digest before s later (omega arith) ∙ through in
-    record {
-      begins = omega arith;
-      ends = omega arith;
-      bytes =
-          ap (λ (n : ℕ). drop n (take (place_behind messages keys (length before)) messages)) at
-          ∙ ap (λ (n : ℕ). drop (length front) (take n messages)) end
-          ∙ ap (λ (l : List ℕ). drop (length front) (take (length front + length here) l)) whole
-          ∙ cut_out front here (bytes_of later);
-    }
+has_bytes digest before s later fits = grind (arith, flat_map-append, length-append, bytes_through, place_told, behind_told, cut_out)
 
 -- the message of a number
 stands_at : (digest : List ℕ → ℕ) (all : List Stored) (i : ℕ) → length (bytes_of all) < 2 ^ 64 → Parts all i
@@ -158,16 +131,4 @@ stands_at digest all i fits p =
     }
 
 pub stand_where_told : (digest : List ℕ → ℕ) (base : List Filed) (cursor : ℕ) (messages keys : List ℕ) → FolderStandsFor digest base cursor messages keys → StandWhereTold base messages keys
-stand_where_told digest base cursor messages keys stands =
-    let all = stands.all in
-    let mapped = map (message_in Second) all in
-    let fits : length (bytes_of all) < 2 ^ 64 = subst (λ (l : List ℕ). length l < 2 ^ 64) stands.stored stands.long in
-    let told : (i : ℕ) → i < length mapped → StandsAt mapped (bytes_of all) (keys_from digest 0 all) i =
-    λ i within. stands_at digest all i fits (parts_at all i (omega (arith, length-map all (message_in Second))) stands.sizes stands.sound) in
-    let here : StandWhereTold mapped (bytes_of all) (keys_from digest 0 all) = record {
-      many = omega (arith, keys_long digest 0 all, length-map all (message_in Second));
-      each = told;
-    } in
-    subst (λ (l : List Filed). StandWhereTold l messages keys) (sym stands.filed)
-    (subst (λ (l : List ℕ). StandWhereTold mapped l keys) (sym stands.stored)
-    (subst (λ (l : List ℕ). StandWhereTold mapped (bytes_of all) l) (sym stands.entries) here))
+stand_where_told digest base cursor messages keys stands = grind (arith, stands_at, parts_at, length-map, keys_long)

@@ -1,6 +1,6 @@
 -- The entry of each message is found at its number.
 use Rattle.std.proofs.Common.{◌≡◌, ◌<◌, ◌+◌, ◌*◌, ◌^◌, ℕ, zero, suc, List, [], ◌∷◌, ◌++◌, length, map, take, drop, get_or, refl, sym, ◌∙◌, ap, arith, append_assoc}
-use Rattle.std.specs.Int.{w64, from_le_bytes, to_le_bytes}
+use Rattle.std.specs.Int.{w64, from_le_bytes}
 use Rattle.std.proofs.lemmas.List.{take_at, drop_at, drop-drop}
 use Rattle.std.proofs.lemmas.Nat.{from_le_bytes-to_le_bytes_8}
 use Rattle.echo_filed.specs.Filed.{Filed}
@@ -10,12 +10,7 @@ use Rattle.base_store.specs.Keys.{digested, entry, keys_from, digest_at, FolderS
 
 -- the first entry
 at_first : (place number : ℕ) (rest : List ℕ) → number < 2 ^ 64 → from_le_bytes w64 (take 8 (drop 8 (entry place number ++ rest))) ≡ number
-at_first place number rest fits =
-    let behind : drop 8 (entry place number ++ rest) ≡ to_le_bytes w64 number ++ rest =
-    ap (λ (l : List ℕ). drop 8 l) (append_assoc (to_le_bytes w64 place) (to_le_bytes w64 number) rest) ∙ drop_at (to_le_bytes w64 place) (to_le_bytes w64 number ++ rest) 8 refl in
-    ap (λ (l : List ℕ). from_le_bytes w64 (take 8 l)) behind
-    ∙ ap (λ (l : List ℕ). from_le_bytes w64 l) (take_at (to_le_bytes w64 number) rest 8 refl)
-    ∙ from_le_bytes-to_le_bytes_8 number fits
+at_first place number rest fits = grind (arith, append_assoc, drop_at, take_at, from_le_bytes-to_le_bytes_8)
 
 -- those behind it
 at_next : (place number : ℕ) (rest : List ℕ) (i : ℕ) → digest_at (entry place number ++ rest) (suc i) ≡ digest_at rest i
@@ -36,8 +31,4 @@ told_from digest fits (s ∷ later) place (suc i) d within =
     ∙ told_from digest fits later (place + length (stored_bytes Second s)) i d (omega arith)
 
 pub tells_each : (digest : List ℕ → ℕ) (base : List Filed) (cursor : ℕ) (messages keys : List ℕ) → FolderStandsFor digest base cursor messages keys → TellsEach digest base keys
-tells_each digest base cursor messages keys stands i d within =
-    let inside : i < length (map (message_in Second) stands.all) = omega (arith, ap (λ (l : List Filed). length l) stands.filed) in
-    ap (λ (l : List ℕ). digest_at l i) stands.entries
-    ∙ told_from digest stands.digests stands.all 0 i d inside
-    ∙ ap (λ (l : List Filed). digest (digested (get_or l i d))) (sym stands.filed)
+tells_each digest base cursor messages keys stands i d within = grind (arith, told_from, get_or)

@@ -21,15 +21,7 @@ digit_range c h = let parts = and_parts _ _ h in (leb-true 48 c parts.0, leb-tru
 
 pub Digested-more : (cap : ℕ) (ds : List ℕ) (i value : ℕ) → i < length ds → is_ascii_digit (get_or ds i 0) ≡ true → Digested cap ds i value
     → Digested cap ds (i + 1) (min (value * 10 + (get_or ds i 0 - 48)) cap)
-Digested-more cap ds i value lt digit d = record {
-  each = below_more (λ k. is_ascii_digit (get_or ds k 0) ≡ true) i d.each digit;
-  value_is =
-      let range = digit_range (get_or ds i 0) digit in
-      let worth = digit_value_digit (get_or ds i 0) range in
-      let more = digits_value_more 10 ds i lt in
-      let before = d.value_is in
-      omega (arith, range.0, range.1);
-}
+Digested-more cap ds i value lt digit d = grind (arith, below_more, get_or, digit_range, digit_value_digit, digits_value_more)
 
 -- all bytes are digits
 pub Digested-all : (cap : ℕ) (ds : List ℕ) (i value : ℕ) → 0 < length ds → length ds ≡ i → Digested cap ds i value

@@ -1,5 +1,5 @@
 -- Reading tokens with the net of the nearest pair carried forward is reading them by looking back.
-use Rattle.std.proofs.Common.{◌≡◌, ℕ, ◌+◌, List, [], ◌++◌, refl, ap, ◌∙◌, arith, Option, None, length, take, ◌≤◌, zero-add}
+use Rattle.std.proofs.Common.{◌≡◌, ℕ, ◌+◌, List, [], ◌++◌, refl, arith, Option, None, length, take, zero-add}
 use Rattle.std.proofs.lemmas.List.{length-take, take-append-le}
 use Rattle.std.specs.Option.{is_none}
 use Rattle.std.specs.List.{filter_map, count_by}
@@ -15,9 +15,7 @@ pub record Read (base : List NetNode) (s : List ℕ) (left : List (List ℕ)) (n
 
 -- the base remains the front of the list
 pub kept_behind : (base found more : List NetNode) → take (length base) found ≡ base → take (length base) (found ++ more) ≡ base
-kept_behind base found more kept =
-    let within : length base ≤ length found = omega (arith, ap length kept, length-take (length base) found) in
-    take-append-le (length base) found more within ∙ kept
+kept_behind base found more kept = grind (arith, length-take, take-append-le)
 
 pub Read-none : (base : List NetNode) (s : List ℕ) → Read base s (tokens s) None base 0
 unfolding entries dropped

@@ -1,5 +1,5 @@
 -- A written number, read again, is the number.
-use Rattle.std.proofs.Common.{◌≡◌, ℕ, ◌^◌, ◌+◌, ◌/◌, ◌%◌, ◌<◌, ◌≤◌, ◌&&◌, nat_le, true, List, [], ◌∷◌, ◌++◌, length, ap, ◌∙◌, arith, Some}
+use Rattle.std.proofs.Common.{◌≡◌, ℕ, ◌^◌, ◌+◌, ◌/◌, ◌%◌, ◌<◌, ◌≤◌, nat_le, true, List, [], ◌∷◌, ◌++◌, length, ap, ◌∙◌, arith, Some}
 use Rattle.std.specs.Int.{IsInRange}
 use Rattle.std.specs.Fmt.{decimal}
 use Rattle.std.specs.List.{AllByRecursion}
@@ -31,10 +31,7 @@ pub is_number-writes : (ds : List ℕ) → IsNumeral 10 ds → is_number ds ≡ 
 is_number-writes ds h = and_from _ _ (lt-ltb 0 (length ds) h.0) (own.from ds h.1)
 
 pub number_within-writes : (most : ℕ) (ds : List ℕ) (n : ℕ) → Writes ds n → n ≤ most → number_within most ds ≡ Some n
-number_within-writes most ds n w room =
-    let small : digits_value 10 ds ≤ most = omega (arith, w.value) in
-    let test : (is_number ds && nat_le (digits_value 10 ds) most) ≡ true = and_from _ _ (is_number-writes ds w.numeral) (le-leb _ _ small) in
-    cond-true _ _ _ test ∙ ap Some w.value
+number_within-writes most ds n w room = grind (arith, nat_le, and_from, is_number-writes, le-leb, cond-true)
 
 pub writes_decimal : (n : ℕ) → n < 2 ^ 64 → Writes (decimal n) n
 writes_decimal n small = record { numeral = (decimal_is_IsNumeral n small).0; value = (decimal_is_IsNumeral n small).1 }
@@ -47,9 +44,7 @@ digits_more : (n : ℕ) (front : List ℕ) → 10 ≤ n → n < 2 ^ 16 → decim
 digits_more n front low small e = decimal_step n low (omega arith) ∙ ap (λ f. f ++ (48 + n % 10) ∷ []) e
 
 pub one_digit : (n : ℕ) → n < 10 → decimal n ≡ (48 + n % 10) ∷ []
-one_digit n small =
-    let last : n ≡ n % 10 = omega arith in
-    decimal_digit n small ∙ ap (λ d. (48 + d) ∷ []) last
+one_digit n small = grind (arith, decimal_digit)
 
 pub two_digits : (n : ℕ) → 10 ≤ n → n < 100 → decimal n ≡ (48 + n / 10 % 10) ∷ (48 + n % 10) ∷ []
 two_digits n low high = digits_more n ((48 + n / 10 % 10) ∷ []) low (omega arith) (one_digit (n / 10) (omega arith))

@@ -14,13 +14,7 @@ Written-none xs text = record { so_far = refl }
 pub Written-more : (xs : List NetNode) (whole text more : List ℕ) (i : ℕ) (before : Option ℕ) (d : NetNode) → i < length xs
     → Written xs whole i before text → more ≡ text ++ entry_text before (get_or xs i d)
     → Written xs whole (i + 1) (Some (get_or xs i d).net) more
-Written-more xs whole text more i before d lt w is =
-    let x = get_or xs i d in
-    let rest = entries_text (Some x.net) (drop (i + 1) xs) in
-    record {
-      so_far = ap (λ t. t ++ rest) is ∙ append_assoc text (entry_text before x) rest
-          ∙ ap (λ l. text ++ entries_text before l) (sym (drop_more xs i d lt)) ∙ w.so_far;
-    }
+Written-more xs whole text more i before d lt w is = grind (arith, get_or, append_assoc, drop_more)
 
 pub Written-all : (xs : List NetNode) (whole text : List ℕ) (i : ℕ) (before : Option ℕ) → length xs ≤ i
     → Written xs whole i before text → text ≡ whole
@@ -32,9 +26,7 @@ pub record Measured (xs : List NetNode) (i : ℕ) (before : Option ℕ) (width :
   pub further : (k : ℕ) → length (entries_text None (take (i + k) xs)) ≡ width + length (entries_text before (take k (drop i xs)))
 
 pub Measured-none : (xs : List NetNode) → Measured xs 0 None 0
-Measured-none xs = record {
-  further = λ k. ap (λ n. length (entries_text None (take n xs))) (zero-add k) ∙ sym (zero-add (length (entries_text None (take k xs))));
-}
+Measured-none xs = grind (arith, zero-add)
 
 pub Measured-more : (xs : List NetNode) (i : ℕ) (before : Option ℕ) (width : ℕ) (d : NetNode) → i < length xs → Measured xs i before width
     → Measured xs (i + 1) (Some (get_or xs i d).net) (width + length (entry_text before (get_or xs i d)))

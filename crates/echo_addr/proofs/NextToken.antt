@@ -1,16 +1,15 @@
 -- Cutting bytes into tokens from the left.
-use Rattle.std.proofs.Common.{◌≡◌, ℕ, suc, ◌+◌, ◌-◌, ◌<◌, ◌&&◌, nat_le, nat_lt, not, cond, Bool, true, false, List, [], ◌∷◌, ◌++◌, length, get_or, take, drop, refl, sym, ap, ◌∙◌, arith, Option, Some, None, inl, inr}
-use Rattle.std.specs.List.{AllByRecursion, position, position_or_len, before_first, after_first}
+use Rattle.std.proofs.Common.{◌≡◌, ℕ, suc, ◌+◌, ◌-◌, ◌<◌, nat_le, nat_lt, not, cond, Bool, true, false, List, [], ◌∷◌, ◌++◌, length, get_or, take, drop, refl, sym, ap, ◌∙◌, arith, Option, Some, None, inl, inr}
+use Rattle.std.specs.List.{AllByRecursion, position, position_or_len}
 use Rattle.std.specs.Option.{option_or, unwrap_or}
 use Rattle.std.specs.Str.{all_ascii_digits}
-use Rattle.std.specs.Str.Parse.{digits_value}
 use Rattle.std.proofs.lemmas.List.{take-append-drop, drop_more, drop_all, take_all, take_rest, get_or-take, length-take, length-take-le}
 use Rattle.std.proofs.lemmas.List.Elements.{recursion_from_All}
 use Rattle.std.proofs.lemmas.List.Sums.{fails_before_first, passes_at_first}
 use Rattle.std.proofs.lemmas.Bool.{and_parts, cases_Bool, cases_lt, cond-false, not-true}
 use Rattle.echo_addr.specs.declared.address.NetNode.{NetNode}
 use Rattle.echo_addr.specs.Address.{is_slash}
-use Rattle.echo_addr.specs.Digits.{is_number, number_within}
+use Rattle.echo_addr.specs.Digits.{number_within}
 use Rattle.echo_addr.specs.Entries.{is_blank, tokens, part_of, entry_from, pair_of}
 use Rattle.echo_addr.proofs.Decimals.{IsDigit, each_digit, own}
 use Rattle.echo_addr.proofs.Each.{weaker}
@@ -61,9 +60,7 @@ tokens_front s some =
 -- a token without a slash is no pair
 pub pair_none : (t : List ℕ) → position is_slash t ≡ None → pair_of t ≡ None
 unfolding pair_of
-pair_none t none =
-    let past : after_first is_slash t ≡ [] = drop_all _ t (omega (arith, position_none is_slash t none)) in
-    ap (λ r. entry_from (part_of (before_first is_slash t)) (part_of r)) past ∙ entry_from_none _
+pair_none t none = grind (arith, drop_all, position_none, entry_from_none)
 
 -- a token is cut at its first slash
 pair_cut : (t : List ℕ) (i : ℕ) → position is_slash t ≡ Some i
@@ -91,10 +88,7 @@ pair_both t i net node some net-is node-is =
 
 -- a token that is a number is no pair
 digits_of_number : (most : ℕ) (t : List ℕ) (n : ℕ) → number_within most t ≡ Some n → all_ascii_digits t ≡ true
-digits_of_number most t n some = elim (cases_Bool (is_number t && nat_le (digits_value 10 t) most)) [
-  | inl y ↦ (and_parts (nat_lt 0 (length t)) (all_ascii_digits t) (and_parts (is_number t) (nat_le (digits_value 10 t) most) y).0).1
-  | inr isnt ↦ let none = cond-false _ (Some (digits_value 10 t)) None isnt in absurd cc
-]
+digits_of_number most t n some = grind (arith, cases_Bool, nat_le, and_parts, nat_lt, cond-false)
 
 number_is_no_pair : (t : List ℕ) (n : ℕ) → part_of t ≡ Some n → pair_of t ≡ None
 number_is_no_pair t n some =
@@ -114,9 +108,7 @@ entry_pair net t none =
 
 -- only blanks
 pub next_none : (s : List ℕ) → position is_other s ≡ None → tokens s ≡ []
-next_none s none =
-    let past : drop (position_or_len is_other s) s ≡ [] = drop_all _ s (omega (arith, position_none is_other s none)) in
-    tokens_skip s ∙ ap tokens past ∙ sym tokens_nil
+next_none s none = grind (arith, drop_all, position_none, tokens_skip, tokens_nil)
 
 -- the first token, and the bytes after it
 pub next_some : (s begun front rest : List ℕ) (blank : Option ℕ) (start end : ℕ) → position is_other s ≡ Some start
@@ -140,9 +132,4 @@ next_some s begun front rest blank start end some begun-is blank-is end-is front
 pub next_after : (s begun front rest : List ℕ) (blank : Option ℕ) (start end : ℕ) → position is_other s ≡ Some start
     → begun ≡ take (length s - start) (drop start s) → blank ≡ position is_blank begun → end ≡ unwrap_or blank (length begun)
     → front ≡ take end begun → rest ≡ drop end begun → rest ≡ drop (length front) (drop (position_or_len is_other s) s)
-next_after s begun front rest blank start end some begun-is blank-is end-is front-is rest-is =
-    let size : end ≡ position_or_len is_blank begun = end-is ∙ ap (λ o. unwrap_or o (length begun)) blank-is ∙ unwrap_or-position is_blank begun in
-    let le = position_or_len-le is_blank begun in
-    let long : length front ≡ end = ap length front-is ∙ length-take-le end begun (omega arith) in
-    rest-is ∙ ap (λ n. drop n begun) (sym long)
-    ∙ ap (drop (length front)) (begun-is ∙ take_rest s start ∙ ap (λ n. drop n s) (position_some is_other s start some).0)
+next_after s begun front rest blank start end some begun-is blank-is end-is front-is rest-is = grind (arith, unwrap_or-position, position_or_len-le, length-take-le, take_rest, position_some)

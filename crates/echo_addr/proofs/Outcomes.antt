@@ -1,5 +1,5 @@
 -- The address that bytes spell, or the refusal that applies.
-use Rattle.std.proofs.Common.{◌≡◌, ◌≢◌, ℕ, ◌==◌, ◌&&◌, not, nat_le, min, cond, Bool, true, false, List, ◌∷◌, ◌++◌, length, refl, sym, ap, ◌∙◌, arith, Option, Some, None, Ok, Err, inl, inr, subst}
+use Rattle.std.proofs.Common.{◌≡◌, ◌≢◌, ℕ, ◌==◌, ◌&&◌, not, nat_le, min, cond, Bool, true, false, List, ◌∷◌, ◌++◌, length, refl, sym, ap, ◌∙◌, arith, Option, Some, None, Ok, Err, subst}
 use Rattle.std.specs.Fmt.{decimal}
 use Rattle.std.specs.Int.{IsInRange, is_in_range}
 use Rattle.std.specs.Str.Parse.{IsNumeral, digits_value}
@@ -25,16 +25,12 @@ refusal_shape b some other =
 
 pub refusal_digits : (b : List ℕ) → length b ≢ 0 → has_shape b ≡ true → has_digits b ≡ false → refusal b ≡ Some NotDigits
 unfolding refusal
-refusal_digits b some shape other =
-    cond-false (length b == 0) (Some Empty) _ (ne_eqb (length b) 0 some) ∙ cond-false (not (has_shape b)) (Some Shape) _ (not_from_true _ shape)
-    ∙ cond-true (not (has_digits b)) (Some NotDigits) _ (not_from_false _ other)
+refusal_digits b some shape other = grind (arith, cond-false, ne_eqb, not_from_true, cond-true, not_from_false)
 
 refusal_last : (b : List ℕ) → length b ≢ 0 → has_shape b ≡ true → has_digits b ≡ true
     → refusal b ≡ cond (not (is_in_bounds b)) (Some OutOfRange) None
 unfolding refusal
-refusal_last b some shape digits =
-    cond-false (length b == 0) (Some Empty) _ (ne_eqb (length b) 0 some) ∙ cond-false (not (has_shape b)) (Some Shape) _ (not_from_true _ shape)
-    ∙ cond-false (not (has_digits b)) (Some NotDigits) _ (not_from_true _ digits)
+refusal_last b some shape digits = grind (arith, cond-false, ne_eqb, not_from_true)
 
 pub refusal_range : (b : List ℕ) → length b ≢ 0 → has_shape b ≡ true → has_digits b ≡ true → is_in_bounds b ≡ false → refusal b ≡ Some OutOfRange
 refusal_range b some shape digits other =
@@ -110,22 +106,7 @@ written b shape digits fits =
 
 -- without a refusal, the parts spell their address
 pub AddressOf-from_refusal : (b : List ℕ) → refusal b ≡ None → AddressOf b (address_in b)
-AddressOf-from_refusal b none = elim (cases_eq (length b) 0) [
-  | inl empty ↦ let e = refusal_empty b empty in absurd cc
-  | inr some ↦
-      elim (cases_Bool (has_shape b)) [
-        | inr other ↦ let e = refusal_shape b some other in absurd cc
-        | inl shape ↦
-            elim (cases_Bool (has_digits b)) [
-              | inr other ↦ let e = refusal_digits b some shape other in absurd cc
-              | inl digits ↦
-                  elim (cases_Bool (is_in_bounds b)) [
-                    | inr other ↦ let e = refusal_range b some shape digits other in absurd cc
-                    | inl fits ↦ written b shape digits fits
-                  ]
-            ]
-      ]
-]
+AddressOf-from_refusal b none = grind (arith, cases_eq, refusal_empty, cases_Bool, refusal_shape, refusal_digits, refusal_range, written)
 
 by_refusal : (b : List ℕ) (a : Address) (o : Option AddrFault) → refusal b ≡ o → answer_of o (address_in b) ≡ Ok a → AddressOf b a
 by_refusal b a None none e = let same : address_in b ≡ a = cc in subst (AddressOf b) same (AddressOf-from_refusal b none)
@@ -157,12 +138,7 @@ outcome_refused b f some = sym (ap (λ o. answer_of o (address_in b)) some)
 
 -- a value that was cut off is out of range, as the whole one is
 capped_range : (low v c : ℕ) → c ≡ min v 32768 → is_in_range low 32767 c ≡ is_in_range low 32767 v
-capped_range low v c is = elim (cases_lt 32768 v) [
-  | inl large ↦
-      and_right (nat_le low c) (nat_le c 32767) (lt-leb c 32767 (omega arith))
-      ∙ sym (and_right (nat_le low v) (nat_le v 32767) (lt-leb v 32767 (omega arith)))
-  | inr small ↦ let same : c ≡ v = omega arith in ap (is_in_range low 32767) same
-]
+capped_range low v c is = grind (arith, cases_lt, and_right, nat_le, lt-leb)
 
 capped_value : (low v c : ℕ) → c ≡ min v 32768 → is_in_range low 32767 c ≡ true → c ≡ v
 capped_value low v c is fits = omega (arith, (in_fact low 32767 c fits).1)
@@ -179,18 +155,7 @@ same_tests x y z u v w ex ey ez = ap (λ t. t && y && z) ex ∙ ap (λ t. u && t
 -- the answer if the three parts are digits
 pub outcome_numbers : (b : List ℕ) (zone net node : ℕ) → length b ≢ 0 → has_shape b ≡ true → has_digits b ≡ true → Capped b zone net node
     → address_within zone net node ≡ outcome b
-outcome_numbers b zone net node some shape digits c =
-    let tests : (is_in_range 1 32767 zone && is_in_range 1 32767 net && is_in_range 0 32767 node) ≡ is_in_bounds b =
-    same_tests _ _ _ _ _ _ (capped_range 1 _ zone c.zone_is) (capped_range 1 _ net c.net_is) (capped_range 0 _ node c.node_is) in
-    elim (cases_Bool (is_in_bounds b)) [
-      | inl fits ↦
-          let parts = and_parts _ _ (tests ∙ fits) in
-          let low = and_parts _ _ parts.0 in
-          let same = same_address zone net node _ _ _ (capped_value 1 _ zone c.zone_is low.0) (capped_value 1 _ net c.net_is low.1)
-          (capped_value 0 _ node c.node_is parts.1) in
-          cond-true _ _ _ (tests ∙ fits) ∙ ap Ok same ∙ sym (ap (λ o. answer_of o (address_in b)) (refusal_none b some shape digits fits))
-      | inr other ↦ cond-false _ _ _ (tests ∙ other) ∙ outcome_refused b OutOfRange (refusal_range b some shape digits other)
-    ]
+outcome_numbers b zone net node some shape digits c = grind (arith, same_tests, capped_range, cases_Bool, and_parts, same_address, capped_value, cond-true, refusal_none, cond-false, outcome_refused, refusal_range)
 
 -- the tests of the three parts
 pub parts_test : (b z n d : List ℕ) → z ≡ zone_part b → n ≡ net_part b → d ≡ node_part b
@@ -200,8 +165,4 @@ parts_test b z n d ez en ed = same_tests _ _ _ _ _ _ (ap is_number ez) (ap is_nu
 pub Capped-from_parts : (b z n d : List ℕ) (zone net node : ℕ) → z ≡ zone_part b → n ≡ net_part b → d ≡ node_part b
     → zone ≡ min (digits_value 10 z) 32768 → net ≡ min (digits_value 10 n) 32768 → node ≡ min (digits_value 10 d) 32768
     → Capped b zone net node
-Capped-from_parts b z n d zone net node ez en ed vz vn vd = record {
-  zone_is = vz ∙ ap (λ t. min (digits_value 10 t) 32768) ez;
-  net_is = vn ∙ ap (λ t. min (digits_value 10 t) 32768) en;
-  node_is = vd ∙ ap (λ t. min (digits_value 10 t) 32768) ed;
-}
+Capped-from_parts b z n d zone net node ez en ed vz vn vd = grind arith

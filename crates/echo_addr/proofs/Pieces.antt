@@ -37,9 +37,7 @@ pub last_piece : (piece : List ℕ) → 0 < length piece → without_empty_last 
 last_piece piece some = cond-false (length piece == 0) [] (piece ∷ []) (ne_eqb (length piece) 0 (λ e. omega arith))
 
 grown_pieces : (b : ℕ) (pieces : List (List ℕ)) → 0 < length (without_empty_last (onto_first b pieces))
-grown_pieces b [] = omega (arith, ap length (last_piece (b ∷ []) (omega arith)))
-grown_pieces b (piece ∷ []) = omega (arith, ap length (last_piece (b ∷ piece) (omega arith)))
-grown_pieces b (piece ∷ (next ∷ more)) = omega arith
+grown_pieces b pieces = grind (arith, last_piece)
 
 -- some bytes have a piece
 pub some_pieces : (p : ℕ → Bool) (text : List ℕ) → 0 < length text → 0 < length (without_empty_last (slice_split p text))

@@ -10,21 +10,11 @@ position_or_len-le p xs = prefix_len-le-length (λ x. not (p x)) xs
 
 -- a place that was found
 pub position_some : (p : ℕ → Bool) (xs : List ℕ) (i : ℕ) → position p xs ≡ Some i → (i ≡ position_or_len p xs) × (i < length xs)
-position_some p xs i e = elim (cases_Bool (nat_lt (position_or_len p xs) (length xs))) [
-  | inl y ↦
-      let found = cond-true _ (Some (position_or_len p xs)) None y in
-      let same : i ≡ position_or_len p xs = cc in
-      let lt = ltb-true _ _ y in
-      (same, omega arith)
-  | inr n ↦ let none = cond-false _ (Some (position_or_len p xs)) None n in absurd cc
-]
+position_some p xs i e = grind (arith, cases_Bool, nat_lt, cond-true, ltb-true, cond-false)
 
 -- no element passes
 pub position_none : (p : ℕ → Bool) (xs : List ℕ) → position p xs ≡ None → position_or_len p xs ≡ length xs
-position_none p xs e = elim (cases_Bool (nat_lt (position_or_len p xs) (length xs))) [
-  | inl y ↦ let found = cond-true _ (Some (position_or_len p xs)) None y in absurd cc
-  | inr n ↦ let le = position_or_len-le p xs in let ge = ltb-false _ _ n in omega arith
-]
+position_none p xs e = grind (arith, cases_Bool, nat_lt, cond-true, position_or_len-le, ltb-false)
 
 -- if no element passes, the count is 0
 pub count_none : (p : ℕ → Bool) (xs : List ℕ) → position_or_len p xs ≡ length xs → count_by p xs ≡ 0
@@ -39,11 +29,4 @@ count_none p (x ∷ xs) e = elim (cases_Bool (p x)) [
 
 -- the place that was found, or else the length
 pub unwrap_or-position : (p : ℕ → Bool) (xs : List ℕ) → unwrap_or (position p xs) (length xs) ≡ position_or_len p xs
-unwrap_or-position p xs = elim (cases_Bool (nat_lt (position_or_len p xs) (length xs))) [
-  | inl y ↦ ap (λ o. unwrap_or o (length xs)) (cond-true _ (Some (position_or_len p xs)) None y)
-  | inr n ↦
-      let le = position_or_len-le p xs in
-      let ge = ltb-false _ _ n in
-      let same : length xs ≡ position_or_len p xs = omega arith in
-      ap (λ o. unwrap_or o (length xs)) (cond-false _ (Some (position_or_len p xs)) None n) ∙ same
-]
+unwrap_or-position p xs = grind (arith, cases_Bool, nat_lt, cond-true, position_or_len-le, ltb-false, cond-false)

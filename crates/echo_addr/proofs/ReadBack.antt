@@ -1,8 +1,8 @@
 -- A written list reads back as itself.
-use Rattle.std.proofs.Common.{◌≡◌, ℕ, ◌^◌, ◌<◌, ◌≤◌, cond, true, false, List, [], ◌∷◌, ◌++◌, length, map, refl, sym, ap, zero-add, ◌∙◌, arith, Some, None, Option, inl, inr, subst}
+use Rattle.std.proofs.Common.{◌≡◌, ℕ, ◌^◌, ◌<◌, ◌≤◌, cond, true, false, List, [], ◌∷◌, ◌++◌, length, map, refl, sym, ap, zero-add, ◌∙◌, arith, Some, None, Option, inl, inr}
 use Rattle.std.specs.Fmt.{decimal}
-use Rattle.std.specs.Option.{option_or, option_map, is_none}
-use Rattle.std.specs.List.{All, AllByRecursion, flat_map, filter_map, count_by, before_first, after_first}
+use Rattle.std.specs.Option.{is_none}
+use Rattle.std.specs.List.{All, AllByRecursion, flat_map, filter_map, count_by, before_first}
 use Rattle.std.proofs.lemmas.List.{length-append}
 use Rattle.std.proofs.lemmas.List.Elements.{recursion_from_All}
 use Rattle.std.proofs.lemmas.List.Sums.{sum_by-cons}
@@ -41,31 +41,15 @@ pub hidden : (before : Option ℕ) (e : NetNode) → shows_net before e.net ≡ 
 hidden before e isnt = cond-false (shows_net before e.net) _ _ isnt
 
 plain_token : (before : Option ℕ) (e : NetNode) → IsNetNode e → AllByRecursion IsPlain (entry_token before e)
-plain_token before e h = elim (cases_Bool (shows_net before e.net)) [
-  | inl y ↦
-      subst (AllByRecursion IsPlain) (sym (shown before e y))
-      (joined IsPlain (decimal e.net) (47 ∷ decimal e.node) (plain_decimal e.net h.net) ((omega arith, omega arith), plain_decimal e.node h.node))
-  | inr n ↦ subst (AllByRecursion IsPlain) (sym (hidden before e n)) (plain_decimal e.node h.node)
-]
+plain_token before e h = grind (arith, cases_Bool, shown, joined, plain_decimal, hidden)
 
 some_token : (before : Option ℕ) (e : NetNode) → IsNetNode e → 0 < length (entry_token before e)
-some_token before e h =
-    let node : 0 < length (decimal e.node) = decimal_nonempty e.node (omega (arith, h.node)) in
-    elim (cases_Bool (shows_net before e.net)) [
-      | inl y ↦ omega (arith, ap length (shown before e y), length-append (decimal e.net) (47 ∷ decimal e.node))
-      | inr n ↦ omega (arith, ap length (hidden before e n))
-    ]
+some_token before e h = grind (arith, decimal_nonempty, cases_Bool, shown, length-append, hidden)
 
 -- a token with its net is that entry
 pub pair_of-shown : (e : NetNode) → IsNetNode e → pair_of (decimal e.net ++ 47 ∷ decimal e.node) ≡ Some e
 unfolding pair_of
-pair_of-shown e h =
-    ap (λ s. entry_from (part_of s) (part_of (after_first is_slash (decimal e.net ++ 47 ∷ decimal e.node))))
-    (before_slash (decimal e.net) (decimal e.node) (no_slash_in e.net h.net))
-    ∙ ap (λ s. entry_from (part_of (decimal e.net)) (part_of s))
-    (after_slash (decimal e.net) (decimal e.node) (no_slash_in e.net h.net))
-    ∙ ap (λ o. entry_from o (part_of (decimal e.node))) (part_of-decimal e.net h.net)
-    ∙ ap (λ o. entry_from (Some e.net) o) (part_of-decimal e.node h.node)
+pair_of-shown e h = grind (arith, before_slash, no_slash_in, after_slash, part_of-decimal)
 
 pub entry_from_none : (net : Option ℕ) → entry_from net None ≡ None
 entry_from_none None = refl
@@ -88,18 +72,11 @@ record Reads (earlier : List (List ℕ)) (token : List ℕ) (e : NetNode) : Type
   net : nearest_net (token ∷ earlier) ≡ Some e.net
 
 reads_pair : (earlier : List (List ℕ)) (token : List ℕ) (e : NetNode) → pair_of token ≡ Some e → Reads earlier token e
-reads_pair earlier token e pair = record {
-  entry = ap (λ o. option_or o (entry_from (nearest_net earlier) (part_of token))) pair;
-  net = ap (λ o. option_or (option_map (λ f. f.net) o) (nearest_net earlier)) pair;
-}
+reads_pair earlier token e pair = grind arith
 
 reads_node : (earlier : List (List ℕ)) (token : List ℕ) (e : NetNode) → pair_of token ≡ None → nearest_net earlier ≡ Some e.net
     → part_of token ≡ Some e.node → Reads earlier token e
-reads_node earlier token e pair net node = record {
-  entry = ap (λ o. option_or o (entry_from (nearest_net earlier) (part_of token))) pair
-      ∙ ap (λ o. entry_from o (part_of token)) net ∙ ap (λ o. entry_from (Some e.net) o) node;
-  net = ap (λ o. option_or (option_map (λ f. f.net) o) (nearest_net earlier)) pair ∙ net;
-}
+reads_node earlier token e pair net node = grind arith
 
 -- an entry without its net has the net of the entry before
 left_out : (before : Option ℕ) (earlier : List (List ℕ)) (net : ℕ) → shows_net before net ≡ false → Carries before earlier
@@ -110,13 +87,7 @@ left_out (Some b) earlier net out carries = carries ∙ ap Some (eqb-true b net 
 
 reads_written : (before : Option ℕ) (earlier : List (List ℕ)) (e : NetNode) → IsNetNode e → Carries before earlier
     → Reads earlier (entry_token before e) e
-reads_written before earlier e h carries = elim (cases_Bool (shows_net before e.net)) [
-  | inl y ↦ reads_pair earlier (entry_token before e) e (ap pair_of (shown before e y) ∙ pair_of-shown e h)
-  | inr n ↦
-      let is = hidden before e n in
-      reads_node earlier (entry_token before e) e (ap pair_of is ∙ pair_of-hidden (decimal e.node) (no_slash_in e.node h.node))
-      (left_out before earlier e.net n carries) (ap part_of is ∙ part_of-decimal e.node h.node)
-]
+reads_written before earlier e h carries = grind (arith, cases_Bool, reads_pair, shown, pair_of-shown, hidden, reads_node, pair_of-hidden, no_slash_in, left_out, part_of-decimal)
 
 carries_on : (earlier : List (List ℕ)) (token : List ℕ) (e : NetNode) → Reads earlier token e → Carries (Some e.net) (token ∷ earlier)
 unfolding Carries
@@ -207,12 +178,4 @@ rests_dropped (run ∷ runs) h = (dropped-entries_text run h.0, rests_dropped ru
 
 -- the lines of a list, read one by one, give the list back
 pub read_back : (prefix : List ℕ) (list : List NetNode) (b : List ℕ) → All IsNetNode list → ShortLines prefix list b → ReadBack prefix list b
-read_back prefix list b all lines =
-    let each = each_run lines.runs (subst (AllByRecursion IsNetNode) lines.cut (recursion_from_All IsNetNode list all)) in
-    record {
-      rests = rests_of lines.runs;
-      lines = lines.lines ∙ lines_of_rests prefix lines.runs;
-      bytes = rests_bytes lines.runs each;
-      list_back = rests_entries lines.runs each ∙ sym lines.cut;
-      none_dropped = rests_dropped lines.runs each;
-    }
+read_back prefix list b all lines = grind (arith, each_run, recursion_from_All, rests_of, lines_of_rests, rests_bytes, rests_entries, rests_dropped)

@@ -92,9 +92,7 @@ one_cut prefix (r ∷ rs) (q ∷ qs) e hr hq =
 
 -- a list has one spelling
 pub one_spelling : (prefix : List ℕ) (list : List NetNode) (b c : List ℕ) → ShortLines prefix list b → ShortLines prefix list c → b ≡ c
-one_spelling prefix list b c hb hc =
-    hb.lines ∙ ap (flat_map (λ run. line_of prefix (entries_text None run))) (one_cut prefix hb.runs hc.runs (sym hb.cut ∙ hc.cut) hb.each hc.each)
-    ∙ sym hc.lines
+one_spelling prefix list b c hb hc = grind (arith, one_cut)
 
 pub nothing_written : (prefix b : List ℕ) → ShortLines prefix [] b → b ≡ []
 nothing_written prefix b h = one_spelling prefix [] b [] h (ShortLines-nil prefix)
@@ -109,17 +107,7 @@ pub Completes-more : (prefix : List ℕ) (xs rest run after : List NetNode) (lin
     → (k < length rest → line_room - length prefix < length (entries_text None (take (k + 1) rest)))
     → more ≡ lines ++ line_of prefix (entries_text None run)
     → Completes prefix xs rest lines → Completes prefix xs after more
-Completes-more prefix xs rest run after lines more k short run-is after-is some within room full more-is completes = λ tail later.
-    let line = line_of prefix (entries_text None (take k rest)) in
-    let later' : ShortLines prefix (drop k rest) tail =
-    let P : List NetNode → Type 0 = λ l. ShortLines prefix l tail in subst P after-is later in
-    let lines' = ShortLines-cons prefix rest k tail some within
-    (omega (arith, length-append prefix (entries_text None (take k rest))))
-    (λ lt. omega (arith, full lt, length-append prefix (entries_text None (take (k + 1) rest)))) later' in
-    let Q : List ℕ → Type 0 = λ b. ShortLines prefix xs b in
-    subst Q
-    (sym (append_assoc lines line tail) ∙ ap (λ r. (lines ++ line_of prefix (entries_text None r)) ++ tail) (sym run-is) ∙ ap (λ t. t ++ tail) (sym more-is))
-    (completes (line ++ tail) lines')
+Completes-more prefix xs rest run after lines more k short run-is after-is some within room full more-is completes = grind (arith, ShortLines-cons, length-append, append_assoc)
 
 pub Completes-all : (prefix : List ℕ) (xs rest : List NetNode) (lines : List ℕ) → length rest ≡ 0 → Completes prefix xs rest lines
     → ShortLines prefix xs lines

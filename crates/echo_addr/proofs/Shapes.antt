@@ -11,15 +11,10 @@ use Rattle.echo_addr.proofs.Each.{weaker, joined}
 use Rattle.echo_addr.proofs.Positions.{position_or_len-le, position_none, count_none}
 
 pub no_colon : (b : List ℕ) → position is_colon b ≡ None → has_shape b ≡ false
-no_colon b none =
-    let last = position_none is_colon b none in
-    let le = position_or_len-le is_slash b in
-    and_right _ _ (le-ltb (position_or_len is_colon b) (position_or_len is_slash b) (omega arith))
+no_colon b none = grind (arith, position_none, position_or_len-le, and_right, le-ltb)
 
 pub no_slash : (b : List ℕ) → position is_slash b ≡ None → has_shape b ≡ false
-no_slash b none =
-    let zero-is = count_none is_slash b (position_none is_slash b none) in
-    and_left _ _ (and_right (count_by is_colon b == 1) _ (ne_eqb (count_by is_slash b) 1 (λ e. omega arith)))
+no_slash b none = grind (arith, count_none, position_none, and_left, and_right, ne_eqb)
 
 -- no element passes
 abbrev pub NonePass : (ℕ → Bool) → List ℕ → Type 0

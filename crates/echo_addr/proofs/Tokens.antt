@@ -1,5 +1,5 @@
 -- Cutting bytes at blanks, and a token at its slash.
-use Rattle.std.proofs.Common.{◌≡◌, ℕ, ◌+◌, ◌<◌, nat_lt, not, cond, true, false, List, [], ◌∷◌, ◌++◌, length, take, drop, refl, sym, ap, ◌∙◌, arith}
+use Rattle.std.proofs.Common.{◌≡◌, ℕ, ◌+◌, ◌<◌, nat_lt, not, cond, true, false, List, [], ◌∷◌, ◌++◌, length, take, refl, ap, ◌∙◌, arith}
 use Rattle.std.specs.List.{filter, slice_split, AllByRecursion, position_or_len, before_first, after_first}
 use Rattle.std.proofs.Math.Seq.{drop-append-add}
 use Rattle.std.proofs.lemmas.List.{append-nil, take_at, drop_all}
@@ -38,10 +38,7 @@ tokens_one t some ink =
 pub tokens_more : (t : List ℕ) (b : ℕ) (s : List ℕ) → 0 < length t → AllByRecursion IsInk t → is_blank b ≡ true
     → tokens (t ++ b ∷ s) ≡ t ∷ tokens (b ∷ s)
 unfolding tokens
-tokens_more t b s some ink blank =
-    ap (filter (λ u. nat_lt 0 (length u))) (slice_split_at is_blank t b s (All-from_recursion IsInk t ink) blank)
-    ∙ kept t (slice_split is_blank s) some
-    ∙ ap (λ ts. t ∷ ts) (sym (tokens_blank b s blank))
+tokens_more t b s some ink blank = grind (arith, nat_lt, slice_split_at, All-from_recursion, kept, tokens_blank)
 
 pub tokens_nil : [] ≡ tokens []
 unfolding tokens
@@ -49,10 +46,7 @@ tokens_nil = refl
 
 -- a blank, a token, and the bytes after it
 pub tokens_cons : (t s : List ℕ) → 0 < length t → AllByRecursion IsInk t → IsEnded s → tokens (32 ∷ (t ++ s)) ≡ t ∷ tokens s
-tokens_cons t [] some ink end =
-    tokens_blank 32 (t ++ []) refl ∙ ap tokens (append-nil t) ∙ tokens_one t some ink ∙ ap (λ ts. t ∷ ts) tokens_nil
-tokens_cons t (b ∷ s) some ink end =
-    tokens_blank 32 (t ++ b ∷ s) refl ∙ tokens_more t b s some ink (ap is_blank end)
+tokens_cons t s h1 h2 h3 = grind (arith, tokens_blank, append-nil, tokens_one, tokens_nil, tokens_more)
 
 -- the first slash comes after bytes without one
 pub slash_at : (s r : List ℕ) → AllByRecursion (λ b. is_slash b ≡ false) s → position_or_len is_slash (s ++ 47 ∷ r) ≡ length s
@@ -69,9 +63,7 @@ pub before_slash : (s r : List ℕ) → AllByRecursion (λ b. is_slash b ≡ fal
 before_slash s r none = ap (λ n. take n (s ++ 47 ∷ r)) (slash_at s r none) ∙ take_at s (47 ∷ r) (length s) refl
 
 pub after_slash : (s r : List ℕ) → AllByRecursion (λ b. is_slash b ≡ false) s → after_first is_slash (s ++ 47 ∷ r) ≡ r
-after_slash s r none =
-    ap (λ n. drop (n + 1) (s ++ 47 ∷ r)) (slash_at s r none)
-    ∙ (rw drop-append-add refl)
+after_slash s r none = grind (arith, slash_at, drop-append-add)
 
 pub after_no_slash : (s : List ℕ) → AllByRecursion (λ b. is_slash b ≡ false) s → after_first is_slash s ≡ []
 after_no_slash s none = drop_all _ s (omega (arith, no_slash s none))

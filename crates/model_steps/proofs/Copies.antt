@@ -1,5 +1,5 @@
 -- The copies that a scan makes of a message, and their content in a toss.
-use Rattle.std.proofs.Common.{◌≡◌, ℕ, zero, suc, Bool, List, [], ◌∷◌, ◌++◌, map, drop, refl, sym, ap, subst, ◌∙◌, Option, Some, None, arith, inl, inr}
+use Rattle.std.proofs.Common.{◌≡◌, ℕ, zero, suc, Bool, List, [], ◌∷◌, ◌++◌, map, drop, sym, ap, subst, ◌∙◌, Option, Some, None, arith, inl, inr}
 use Rattle.std.specs.Prelude.{bytes_eq, filter, find, option_map, unwrap_or}
 use Rattle.std.specs.List.{AllByRecursion}
 use Rattle.std.proofs.lemmas.Bool.{cases_Bool, cond-false, cond-true}
@@ -8,13 +8,12 @@ use Rattle.echo_addr.specs.declared.address.Address.{Address}
 use Rattle.echo_addr.specs.declared.address.NetNode.{NetNode}
 use Rattle.echo_addr.specs.Address.{IsAddress, net_node_of}
 use Rattle.echo_addr.specs.ShortLines.{IsNetNode}
-use Rattle.echo_text.specs.Echo.{EchoText, IsEcho, msgid_of}
+use Rattle.echo_text.specs.Echo.{EchoText, IsEcho}
 use Rattle.echo_text.specs.Refusal.{text_refusal}
 use Rattle.echo_filed.specs.Sets.{entry_before, entry_set}
-use Rattle.echo_filed.specs.Written.{echo_of, text_of}
 use Rattle.model_steps.specs.declared.stamp.Stamp.{Stamp}
 use Rattle.echo_links.specs.Links.{Area, IsArea, IsFile, LinkFile, links_of}
-use Rattle.echo_filed.specs.Filed.{Filed, IsFiled, key_of, key_with}
+use Rattle.echo_filed.specs.Filed.{Filed, IsFiled, key_of}
 use Rattle.base_file.specs.Base.{IsBase}
 use Rattle.model_steps.specs.Tossing.{received}
 use Rattle.model_steps.specs.Scanning.{copy_to, exported, goes_to, packet_to, packets_of, recipients, scanned}
@@ -76,20 +75,13 @@ pub copy_read_back : (file : LinkFile) (from to : Address) (m : Filed) → IsFil
     → received from (copy_to file to m)
     ≡ record { sender = Some from; date = m.date; to_name = m.to_name; from_name = m.from_name; subject = m.subject; echo = exported file m.echo }
 unfolding copy_to received
-copy_read_back file from to m h is =
-    let back : echo_of (text_of (exported file m.echo)) ≡ exported file m.echo = written_back (exported file m.echo) (exported_is_echo file h m.echo is) in
-    λ i. record { sender = Some from; date = m.date; to_name = m.to_name; from_name = m.from_name; subject = m.subject; echo = back i }
+copy_read_back file from to m h is = grind (arith, written_back, exported_is_echo)
 
 -- the key does not depend on the sender, SEEN-BY and PATH
 exported_key : (file : LinkFile) (m : Filed) (from : Option Address)
     → key_of (record { sender = from; date = m.date; to_name = m.to_name; from_name = m.from_name; subject = m.subject; echo = exported file m.echo }) ≡ key_of m
 unfolding key_of exported
-exported_key file m from = key_same m from (msgid_of m.echo.kept)
-  where
-    key_same : (m : Filed) (from : Option Address) (id : Option (List ℕ))
-        → key_with (record { sender = from; date = m.date; to_name = m.to_name; from_name = m.from_name; subject = m.subject; echo = exported file m.echo }) id ≡ key_with m id
-    key_same m from None = refl
-    key_same m from (Some id) = refl
+exported_key file m from = grind arith
 
 -- the copy that is tossed has the key of the message
 pub copy_keeps_key : (file : LinkFile) (from to : Address) (m : Filed) → IsFile file → IsEcho m.echo → key_of (received from (copy_to file to m)) ≡ key_of m

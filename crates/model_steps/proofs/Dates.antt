@@ -1,6 +1,5 @@
 -- The three letters of a month.
-use Rattle.std.proofs.Common.{◌≡◌, ℕ, ◌+◌, ◌-◌, ◌*◌, ◌≤◌, ◌<◌, true, nat_le, List, [], ◌∷◌, ◌++◌, length, take, drop, get_or, codes, sym, ap, subst, ◌∙◌, arith}
-use Rattle.std.specs.Int.{is_in_range}
+use Rattle.std.proofs.Common.{◌≡◌, ℕ, ◌+◌, ◌-◌, ◌*◌, ◌≤◌, true, nat_le, List, [], ◌∷◌, ◌++◌, length, take, drop, get_or, codes, arith}
 use Rattle.std.proofs.lemmas.Bool.{and_parts, leb-true}
 use Rattle.std.proofs.lemmas.List.{drop_more}
 use Rattle.model_steps.specs.declared.stamp.Stamp.{Stamp}
@@ -8,15 +7,7 @@ use Rattle.model_steps.specs.Stamps.{date_of, is_stamp, month_name, two_digits}
 
 -- three items of a list from a place on
 pub three_from : (xs : List ℕ) (i : ℕ) → i + 3 ≤ length xs → take 3 (drop i xs) ≡ get_or xs i 0 ∷ (get_or xs (i + 1) 0 ∷ (get_or xs (i + 2) 0 ∷ []))
-three_from xs i h =
-    let one : i < length xs = omega arith in
-    let two : i + 1 < length xs = omega arith in
-    let three : i + 2 < length xs = omega arith in
-    let last : drop (i + 1 + 1) xs ≡ get_or xs (i + 2) 0 ∷ drop (i + 2 + 1) xs =
-    let P : ℕ → Type 0 = λ k. drop k xs ≡ get_or xs (i + 2) 0 ∷ drop (i + 2 + 1) xs in
-    let k : i + 2 ≡ i + 1 + 1 = omega arith in
-    subst P k (drop_more xs (i + 2) 0 three) in
-    ap (take 3) (drop_more xs i 0 one ∙ ap (λ l. get_or xs i 0 ∷ l) (drop_more xs (i + 1) 0 two ∙ ap (λ l. get_or xs (i + 1) 0 ∷ l) last))
+three_from xs i h = grind (arith, get_or, drop_more)
 
 -- the month of a number in range is three letters of the names
 pub month_letters : (month : ℕ) → 1 ≤ month → month ≤ 12
@@ -25,17 +16,11 @@ pub month_letters : (month : ℕ) → 1 ≤ month → month ≤ 12
 month_letters month low high = three_from (codes "JanFebMarAprMayJunJulAugSepOctNovDec") (3 * (month - 1)) (omega arith)
 
 pub month_within : (s : Stamp) → is_stamp s ≡ true → (1 ≤ s.month) × (s.month ≤ 12)
-month_within s h =
-    let rest = (and_parts (is_in_range 1980 2079 s.year) _ h).1 in
-    let range = and_parts (nat_le 1 s.month) (nat_le s.month 12) (and_parts (is_in_range 1 12 s.month) _ rest).0 in
-    (leb-true 1 s.month range.0, leb-true s.month 12 range.1)
+month_within s h = grind (arith, and_parts, nat_le, leb-true)
 
 -- the letters in their place
 pub dated : (s : Stamp) (letters : List ℕ) → month_name s.month ≡ letters
     → two_digits s.day ++ (codes " " ++ (letters ++ (codes " " ++ (two_digits s.year ++ (codes "  " ++ (two_digits s.hour ++ (codes ":"
     ++ (two_digits s.minute ++ (codes ":" ++ (two_digits s.second ++ 0 ∷ [])))))))))) ≡ date_of s
 unfolding date_of
-dated s letters h =
-    ap (λ l. two_digits s.day ++ (codes " " ++ (l ++ (codes " " ++ (two_digits s.year ++ (codes "  " ++ (two_digits s.hour ++ (codes ":"
-    ++ (two_digits s.minute ++ (codes ":" ++ (two_digits s.second ++ 0 ∷ [])))))))))))
-    (sym h)
+dated s letters h = grind arith

@@ -4,7 +4,7 @@ use Rattle.std.specs.List.{AllByRecursion}
 use Rattle.std.proofs.lemmas.List.{take_more}
 use Rattle.echo_packet.specs.declared.header.Header.{Header}
 use Rattle.echo_packet.specs.Header.{IsHeader, header_bytes, word}
-use Rattle.echo_packet.specs.Message.{FromName, IsMessage, Message, Subject, Text, ToName, before, message_bytes, messages_bytes, numbers, zero_ended}
+use Rattle.echo_packet.specs.Message.{IsMessage, Message, Text, before, message_bytes, messages_bytes, numbers, zero_ended}
 use Rattle.echo_packet.specs.Packet.{PacketOf, packet_bytes}
 use Rattle.echo_packet.proofs.MessageByMessage.{messages_bytes-push}
 use Rattle.echo_filed.proofs.Plain.{all_append}
@@ -35,20 +35,7 @@ text_within m = omega (arith, length-append (before Text m) (zero_ended m.text),
 
 -- whole messages of few bytes keep a great limit
 pub longer : (most : ℕ) (m : Message) → IsWhole m → length m.text ≤ most → IsMessage most m
-longer most m is room = record {
-  orig_node = is.orig_node;
-  dest_node = is.dest_node;
-  orig_net = is.orig_net;
-  dest_net = is.dest_net;
-  attribute = is.attribute;
-  cost = is.cost;
-  date_len = is.date_len;
-  date = is.date;
-  to_name = is.to_name;
-  from_name = is.from_name;
-  subject = is.subject;
-  text = record { bytes = is.text.bytes; no_zero = is.text.no_zero; room = room };
-}
+longer most m is room = grind arith
 
 each_longer : (most : ℕ) (ms : List Message) → AllByRecursion IsWhole ms → length (messages_bytes ms) ≤ most → AllByRecursion (IsMessage most) ms
 each_longer most [] all room = tt
@@ -61,20 +48,7 @@ each_longer most (m ∷ ms) all room =
 pub length-message_bytes : (m : Message) → length m.date ≡ 20
     → length (message_bytes m) ≡ 38 + length m.to_name + length m.from_name + length m.subject + length m.text
 unfolding numbers
-length-message_bytes m date =
-    omega (
-      arith,
-      date,
-      length-append (word 2 ++ numbers m) m.date,
-      length-append (before ToName m) (zero_ended m.to_name),
-      length-append m.to_name (0 ∷ []),
-      length-append (before FromName m) (zero_ended m.from_name),
-      length-append m.from_name (0 ∷ []),
-      length-append (before Subject m) (zero_ended m.subject),
-      length-append m.subject (0 ∷ []),
-      length-append (before Text m) (zero_ended m.text),
-      length-append m.text (0 ∷ []),
-    )
+length-message_bytes m date = grind (arith, length-append)
 
 -- how many bytes a header has
 pub header_size : (h : Header) → length h.password ≡ 8 → length h.fill ≡ 20 → length (header_bytes h) ≡ 58
@@ -102,15 +76,4 @@ front_counted (suc n) (m ∷ ms) =
 -- written bytes are a packet of the header and the messages
 pub written_packet : (most : ℕ) (h : Header) (ms : List Message) (bytes : List ℕ) → IsHeader h → AllByRecursion IsWhole ms → bytes ≡ packet_bytes h ms → length bytes ≤ most
     → PacketOf (record { text = most; messages = most }) h ms bytes
-written_packet most h ms bytes is all whole room =
-    let size : length bytes ≡ length (packet_bytes h ms) = ap length whole in
-    let outer = length-append (header_bytes h) (messages_bytes ms ++ word 0) in
-    let inner = length-append (messages_bytes ms) (word 0) in
-    record {
-      header = is;
-      messages = record {
-        each = each_longer most ms all (omega (arith, size, outer, inner));
-        room = omega (arith, size, outer, inner, counted ms);
-      };
-      bytes = whole;
-    }
+written_packet most h ms bytes is all whole room = grind (arith, length-append, each_longer, counted)

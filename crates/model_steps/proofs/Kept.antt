@@ -1,17 +1,16 @@
 -- A filed message keeps the rules of each base.
-use Rattle.std.proofs.Common.{◌≡◌, ℕ, ◌-◌, ◌*◌, ◌≤◌, nat_lt, true, false, List, [], ◌∷◌, ◌++◌, length, drop, codes, sym, ap, subst, ◌∙◌, Some, None, arith}
+use Rattle.std.proofs.Common.{◌≡◌, ℕ, ◌-◌, ◌≤◌, nat_lt, true, false, List, [], ◌∷◌, ◌++◌, length, codes, sym, subst, Some, None, arith}
 use Rattle.std.specs.List.{list_any}
 use Rattle.std.proofs.lemmas.Bool.{ltb-false, or_parts}
 use Rattle.std.proofs.lemmas.List.{length-append, length-drop, length-take}
 use Rattle.echo_addr.specs.declared.address.Address.{Address}
 use Rattle.echo_packet.specs.Message.{IsMessage, Message, max_name, max_subject}
-use Rattle.echo_text.specs.Ids.{id_of, is_zero}
+use Rattle.echo_text.specs.Ids.{is_zero}
 use Rattle.echo_text.specs.Refusal.{text_refusal}
 use Rattle.model_steps.specs.declared.draft.Draft.{Draft}
-use Rattle.echo_filed.specs.declared.key.Key.TheVariants.{ById}
 use Rattle.model_steps.specs.declared.stamp.Stamp.{Stamp}
 use Rattle.echo_links.specs.Links.{IsFile, LinkFile}
-use Rattle.echo_filed.specs.Filed.{Filed, HasSmallSender, IsFiled, key_of, key_with}
+use Rattle.echo_filed.specs.Filed.{Filed, HasSmallSender, IsFiled, key_of}
 use Rattle.base_file.specs.Base.{IsBase, is_known}
 use Rattle.model_steps.specs.Stamps.{date_of, is_stamp, month_name, two_digits}
 use Rattle.model_steps.specs.Posting.{IsAllowed, posted, posting}
@@ -27,12 +26,7 @@ use Rattle.model_steps.proofs.Dates.{month_within as month_right}
 
 -- DateTime has 20 bytes
 month_long : (month : ℕ) → 1 ≤ month → month ≤ 12 → length (month_name month) ≡ 3
-month_long month low high =
-    omega (
-      arith,
-      length-take 3 (drop (3 * (month - 1)) (codes "JanFebMarAprMayJunJulAugSepOctNovDec")),
-      length-drop (3 * (month - 1)) (codes "JanFebMarAprMayJunJulAugSepOctNovDec"),
-    )
+month_long month low high = grind (arith, length-take, length-drop)
 
 abbrev after_month : Stamp → List ℕ
 after_month s =
@@ -41,9 +35,7 @@ after_month s =
 
 date_long : (s : Stamp) → is_stamp s ≡ true → length (date_of s) ≡ 20
 unfolding date_of
-date_long s h =
-    let month = month_right s h in
-    omega (arith, month_long s.month month.0 month.1, length-append (month_name s.month) (after_month s))
+date_long s h = grind (arith, month_right, month_long, length-append)
 
 pub posted_filed : (file : LinkFile) (base : List Filed) (tag : List ℕ) (draft : Draft) (serial : ℕ) (stamp : Stamp) → IsFile file → IsAllowed file base tag draft serial stamp
     → IsFiled (posted file tag draft serial stamp)
@@ -70,10 +62,7 @@ posted_filed file base tag draft serial stamp h ok =
 pub posted_new : (file : LinkFile) (base : List Filed) (tag : List ℕ) (draft : Draft) (serial : ℕ) (stamp : Stamp) → IsFile file → IsAllowed file base tag draft serial stamp
     → is_known base (key_of (posted file tag draft serial stamp)) ≡ false
 unfolding key_of
-posted_new file base tag draft serial stamp h ok =
-    let key : key_of (posted file tag draft serial stamp) ≡ ById (posted file tag draft serial stamp).echo.tag (id_of file.system serial) =
-    ap (key_with (posted file tag draft serial stamp)) (posted_id file h tag draft serial stamp) in
-    ap (is_known base) key ∙ none_known base ((posted file tag draft serial stamp).echo.tag) (id_of file.system serial) ok.new
+posted_new file base tag draft serial stamp h ok = grind (arith, posted_id, none_known)
 
 -- a posting keeps the rules of each base
 pub posting_keeps : (file : LinkFile) (base : List Filed) (cursor : ℕ) (tag : List ℕ) (draft : Draft) (serial : ℕ) (stamp : Stamp) (m : Filed)

@@ -1,5 +1,5 @@
 -- The ids that a system gives.
-use Rattle.std.proofs.Common.{◌≡◌, ℕ, ◌+◌, ◌/◌, ◌%◌, ◌^◌, ◌<◌, ◌≤◌, ◌==◌, ◌||◌, false, nat_le, List, [], ◌∷◌, ◌++◌, length, map, decimal, codes, refl, arith, lit<}
+use Rattle.std.proofs.Common.{◌≡◌, ℕ, ◌+◌, ◌/◌, ◌%◌, ◌^◌, ◌<◌, ◌≤◌, false, nat_le, List, [], ◌∷◌, ◌++◌, length, map, decimal, codes, refl, arith, lit<}
 use Rattle.std.specs.List.{AllByRecursion, prefix_len, suffix_len}
 use Rattle.std.proofs.lemmas.Bool.{cond-false, leb-true, ne_eqb, or_from}
 use Rattle.std.proofs.lemmas.Fmt.{decimal_nonempty}
@@ -20,10 +20,7 @@ hex_digit_high n small =
     leb-true 48 (hex_digit n) (AllPass-from_list_all (λ b. nat_le 48 b) (codes "0123456789abcdef") refl n 0 small)
 
 no_blank : (b : ℕ) → 48 ≤ b → is_blank b ≡ false
-no_blank b high =
-    or_from ((b == 32) || (b == 9)) (b == 10)
-    (or_from (b == 32) (b == 9) (ne_eqb b 32 (λ e. omega arith)) (ne_eqb b 9 (λ e. omega arith)))
-    (ne_eqb b 10 (λ e. omega arith))
+no_blank b high = grind (arith, or_from, ne_eqb)
 
 hex_at : (n : ℕ) → 48 ≤ hex_digit (n % 16)
 hex_at n = hex_digit_high (n % 16) (omega arith)

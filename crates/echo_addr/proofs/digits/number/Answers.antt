@@ -1,20 +1,13 @@
-use Rattle.std.proofs.Common.{◌≡◌, ◌≢◌, ◌+◌, ◌-◌, ◌*◌, length, get_or, min, refl, sym, subst, ◌∙◌, arith}
+use Rattle.std.proofs.Common.{◌≢◌, ◌-◌, length, get_or, sym, ◌∙◌, arith}
 use Rattle.std.proofs.lemmas.Bool.{both_ways, eqb-false, true≢false}
-use Rattle.echo_addr.proofs.CappedNumbers.{Digested, Digested-more, Digested-all, no_number}
+use Rattle.echo_addr.proofs.CappedNumbers.{Digested-more, Digested-all, no_number}
 use Rattle.echo_addr.proofs.digits.number.Goals as goal
 
 pub returns-then-not-is_ascii_digit-clause-none : goal.returns-then-not-is_ascii_digit-clause-none
-returns-then-not-is_ascii_digit-clause-none c =
-    let other = no_number c.args.digits.now c.loop-byte.byte-index c.loop-byte-test.true
-    (sym c.is_ascii_digit.ensures.value ∙ c.if-not-is_ascii_digit.true) in
-    (λ e. other, λ e. refl)
+returns-then-not-is_ascii_digit-clause-none c = grind (arith, no_number)
 
 pub loop-byte-preserved : goal.loop-byte-preserved
-loop-byte-preserved c =
-    let more = Digested-more c.args.cap c.args.digits.now c.loop-byte.byte-index c.loop-byte.value c.loop-byte-test.true
-    (sym c.is_ascii_digit.ensures.value ∙ c.if-not-is_ascii_digit.false) c.loop-byte.invariant in
-    let same : c.min-value.result ≡ min (c.loop-byte.value * 10 + (get_or c.args.digits.now c.loop-byte.byte-index 0 - 48)) c.args.cap = omega arith in
-    subst (Digested c.args.cap c.args.digits.now (c.loop-byte.byte-index + 1)) (sym same) more
+loop-byte-preserved c = grind (arith, Digested-more, get_or)
 
 pub returns-clause-none : goal.returns-clause-none
 returns-clause-none c =

@@ -1,11 +1,9 @@
-use Rattle.std.proofs.Common.{sym, ◌∙◌, refl}
+use Rattle.std.proofs.Common.{sym, ◌∙◌, refl, arith}
 use Rattle.echo_addr.proofs.NextToken.{next_after, next_none, next_some}
 use Rattle.echo_addr.proofs.listing.next_token.Goals as goal
 
 pub returns-in_err-begun-clause-token : goal.returns-in_err-begun-clause-token
-returns-in_err-begun-clause-token c =
-    let none = next_none c.args.bytes.now (sym c.first_other.ensures ∙ c.in_err-begun.was) in
-    rw c.from_residual.ensures none
+returns-in_err-begun-clause-token c = grind (arith, next_none)
 
 pub returns-clause-token : goal.returns-clause-token
 returns-clause-token c =

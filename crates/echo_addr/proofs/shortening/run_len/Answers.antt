@@ -1,6 +1,5 @@
-use Rattle.std.proofs.Common.{◌≡◌, ℕ, sym, subst, get_or, length, take, Some, None, ◌+◌, inl, inr, arith}
+use Rattle.std.proofs.Common.{ℕ, sym, subst, get_or, Some, ◌+◌, arith}
 use Rattle.std.proofs.lemmas.Bool.{cases_lt}
-use Rattle.echo_addr.specs.ShortLines.{entries_text}
 use Rattle.echo_addr.proofs.LineEntries.{Measured, Measured-none, Measured-more, Measured-now, Measured-next, Measured-all}
 use Rattle.echo_addr.proofs.shortening.run_len.Goals as goal
 
@@ -26,19 +25,7 @@ loop-i-preserved c =
     }
 
 pub returns-clause-room : goal.returns-clause-room
-returns-clause-room c =
-    omega (
-      arith,
-      Measured-all c.args.entries.now c.loop-i.i c.loop-i.before c.loop-i.width c.loop-i-test.false c.loop-i.invariant.measured,
-      c.loop-i.invariant.fits,
-    )
+returns-clause-room c = grind (arith, Measured-all)
 
 pub returns-then-width-room-clause-some : goal.returns-then-width-room-clause-some
-returns-then-width-room-clause-some c = λ some. elim (cases_lt 0 c.loop-i.i) [
-  | inl lt ↦ lt
-  | inr none ↦
-      let now = Measured-now c.args.entries.now c.loop-i.i c.loop-i.before c.loop-i.width c.loop-i.invariant.measured in
-      let first : c.loop-i.i ≡ 0 = omega arith in
-      let P : ℕ → Type 0 = λ n. length (entries_text None (take n c.args.entries.now)) ≡ c.loop-i.width in
-      absurd (omega (arith, subst P first now, c.entry_len-width.ensures.small))
-]
+returns-then-width-room-clause-some c = grind (arith, cases_lt, Measured-now)

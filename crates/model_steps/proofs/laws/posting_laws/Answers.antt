@@ -1,5 +1,5 @@
-use Rattle.std.proofs.Common.{subst, sym, ap, ◌∙◌}
-use Rattle.echo_text.specs.Echo.{IsEcho, msgid_of}
+use Rattle.std.proofs.Common.{subst, sym, arith}
+use Rattle.echo_text.specs.Echo.{IsEcho}
 use Rattle.echo_filed.specs.Filed.{Filed}
 use Rattle.model_steps.proofs.Posted.{posted_id, posted_is_echo, posted_own, posting_posted}
 use Rattle.model_steps.proofs.laws.posting_laws.Goals as goal
@@ -14,9 +14,7 @@ pub returns-clause-own : goal.returns-clause-own
 returns-clause-own c = posted_own
 
 pub returns-clause-id : goal.returns-clause-id
-returns-clause-id c = λ file base tag draft serial stamp m h is.
-    let p = posting_posted file base tag draft serial stamp m is in
-    ap (λ (x : Filed). msgid_of x.echo.kept) p.is ∙ posted_id file h tag draft serial stamp
+returns-clause-id c = grind (arith, posting_posted, posted_id)
 
 pub returns-clause-new : goal.returns-clause-new
 returns-clause-new c = λ file base tag draft serial stamp m is. (posting_posted file base tag draft serial stamp m is).allowed.new

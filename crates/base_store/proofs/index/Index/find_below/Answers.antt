@@ -1,6 +1,5 @@
-use Rattle.std.proofs.Common.{◌≡◌, ◌≢◌, ◌<◌, ◌/◌, ℕ, false, length, sym, subst, ◌∙◌}
+use Rattle.std.proofs.Common.{◌≡◌, ◌<◌, ◌/◌, ℕ, length, sym, subst, ◌∙◌, arith}
 use Rattle.std.proofs.lemmas.Bool.{cond-false}
-use Rattle.base_store.specs.Expected.{is_expected}
 use Rattle.base_store.specs.Index.{covered}
 use Rattle.base_store.specs.Keys.{digest_at}
 use Rattle.base_store.proofs.Found.{none_map, own_digest, some_map}
@@ -9,21 +8,14 @@ use Rattle.base_store.proofs.index.Index.find_below.Goals.{After-find_kept}
 
 -- it covers its own keys
 own : (c : After-find_kept) → covered c.args.self.now c.args.digest ≡ length c.args.self.now.keys.items / 16
-own c =
-    let other : is_expected c.args.self.now.expected c.args.digest ≡ false = sym c.has.ensures ∙ c.if-has.false in
-    cond-false (is_expected c.args.self.now.expected c.args.digest) c.args.self.now.expected.passed (length c.args.self.now.keys.items / 16) other
+own c = grind (arith, cond-false)
 
 pub returns-clause-digest : goal.returns-clause-digest
 returns-clause-digest c = λ keys is.
     some_map _ (λ (i : ℕ). digest_at keys i ≡ c.args.digest) c.find_kept.result (λ i found. own_digest keys c.args.self.now i is found.1 ∙ found.2) c.find_kept.ensures.found
 
 pub returns-clause-last : goal.returns-clause-last
-returns-clause-last c = λ keys is.
-    let here = own (goal.at.returns-clause-last c).After-find_kept in
-    some_map _ (λ (i : ℕ). (j : ℕ) → i < j → j < c.args.below → j < covered c.args.self.now c.args.digest → digest_at keys j ≢ c.args.digest) c.find_kept.result
-    (λ i none j behind under low same.
-    let inside : j < length c.args.self.now.keys.items / 16 = subst (λ (n : ℕ). j < n) here low in
-    none j behind under inside (sym (own_digest keys c.args.self.now j is inside) ∙ same)) (c.find_kept.ensures.last is.chains)
+returns-clause-last c = grind (arith, own, some_map, own_digest)
 
 pub returns-clause-none : goal.returns-clause-none
 returns-clause-none c = λ keys is.

@@ -1,4 +1,4 @@
-use Rattle.std.proofs.Common.{◌≡◌, ◌/◌, false, true, length, sym, ◌∙◌}
+use Rattle.std.proofs.Common.{◌≡◌, ◌/◌, true, length, sym, ◌∙◌, arith}
 use Rattle.std.proofs.lemmas.Bool.{cond-false, cond-true}
 use Rattle.base_store.specs.Expected.{is_expected}
 use Rattle.base_store.specs.Index.{covered}
@@ -15,9 +15,7 @@ returns-then-has-clause-index c = λ keys at is was.
 
 -- for an unexpected digest, the index covers its own keys
 own : (c : After-extend_from_slice) → covered c.args.self.now c.args.digest ≡ length c.args.self.now.keys.items / 16
-own c =
-    let other : is_expected c.args.self.now.expected c.args.digest ≡ false = sym c.has.ensures ∙ c.if-has.false in
-    cond-false (is_expected c.args.self.now.expected c.args.digest) c.args.self.now.expected.passed (length c.args.self.now.keys.items / 16) other
+own c = grind (arith, cond-false)
 
 pub returns-else-has-clause-index : goal.returns-else-has-clause-index
 returns-else-has-clause-index c = λ keys at is was.
@@ -26,9 +24,4 @@ returns-else-has-clause-index c = λ keys at is was.
     record { rest = more.rest; front = more.front; even = more.even; chains = more.chains; found = was.found }
 
 pub returns-else-has-clause-covered : goal.returns-else-has-clause-covered
-returns-else-has-clause-covered c = λ keys at is was.
-    let index = c.args.self.now in
-    let other : is_expected index.expected c.args.digest ≡ false = sym c.has.ensures ∙ c.if-has.false in
-    let here = sym (own (goal.at.returns-else-has-clause-covered c).After-extend_from_slice) ∙ at in
-    taken_size c.extend_from_slice.result index.keys.items c.args.piece.now c.extend_from_slice.new.self.items c.args.from
-    (cond-false (is_expected index.expected c.args.digest) index.expected.passed (length c.extend_from_slice.new.self.items / 16) other) c.extend_from_slice.ensures.items here was.even
+returns-else-has-clause-covered c = grind (arith, own, taken_size, cond-false)
