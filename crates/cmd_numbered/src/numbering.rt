@@ -1,5 +1,5 @@
 //! Which messages become files, and under which numbers.
-ghost use Rattle.std.specs.Prelude.{◌≡◌, ◌≤◌, ◌<◌, ◌∷◌, ◌+◌, ◌++◌, ◌&&◌, [], IfErr, IfOk, OnErr, drop, length, option_copied, slice_get};
+ghost use Rattle.std.specs.Prelude.{◌≡◌, ◌≤◌, ◌<◌, ◌∷◌, ◌+◌, ◌&&◌, [], IfErr, IfOk, OnErr, length, option_copied, slice_get};
 ghost use Rattle.base_file.specs.Base.{Base};
 ghost use Rattle.base_folder.specs.Fetching.{IsUnread};
 ghost use Rattle.base_folder.specs.Source.{LooksAt};

@@ -1,4 +1,4 @@
-use Rattle.std.proofs.Common.{◌≡◌, ◌∙◌, ◌++◌, ℕ, List, ap, arith, length, length-append, subst}
+use Rattle.std.proofs.Common.{◌∙◌, ℕ, List, ap, arith, length-append, subst}
 use Rattle.std.proofs.KnownBytes.{Appends-trans}
 use Rattle.std.specs.Io.KnownBytes.{Appends}
 use Rattle.echo_jam.specs.Fields.{body_of}
