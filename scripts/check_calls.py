@@ -27,6 +27,7 @@ CHANGES = {
     "cmd_read/outbox": "marks of posted messages in a JAM base",
     "cmd_read/resending": "a packet that is made again",
     "cmd_read/stored": "export into stored messages",
+    "cmd_read/texts": "export into a JAM base: the texts",
 }
 READS = {
     "disk_system/reading": "whole files",

@@ -261,7 +261,7 @@ fn make_next<'a, M: MessageSource, F: MessageFolder>(
     }
     let number = u128::from(wanted.number) + made as u128;
     match messages.at_hand() {
-        Some(message) if is_wanted(wanted, i, message) => make_file(
+        Some(message) if is_wanted(wanted, i, message) => export_one(
             alloc, wanted, number, i, message, folder,
         ),
         _ => Ok(0),
@@ -276,7 +276,7 @@ fn is_wanted(wanted: Wanted<'_>, i: usize, message: &Filed) -> bool
 }
 
 // Makes the file of a message.
-fn make_file<'a, F: MessageFolder>(
+fn export_one<'a, F: MessageFolder>(
     alloc: Global,
     wanted: Wanted<'_>,
     number: u128,

@@ -10,6 +10,6 @@ returns-in-Some-clause-fault g c = λ honest base held.
     let m = c.in-Some.message.now in
     let number = wanted.number + c.args.made in
     let here = ap option_copied (sym c.in-Some.is) ∙ c.at_hand.ensures ∙ c.in_default.ensures.fetched honest base held in
-    unmade (file_at wanted.area.now wanted.first wanted.cursor number i (slice_get base.messages i)) (file_of wanted.cursor number i m) _ _ _ c.make_file.result
+    unmade (file_at wanted.area.now wanted.first wanted.cursor number i (slice_get base.messages i)) (file_of wanted.cursor number i m) _ _ _ c.export_one.result
     (one_file wanted.area.now wanted.first wanted.cursor number i m (slice_get base.messages i) c.is_wanted.result here c.is_wanted.ensures c.if-is_wanted.true)
-    c.make_file.ensures.fault
+    c.export_one.ensures.fault
