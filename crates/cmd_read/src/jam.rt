@@ -94,24 +94,27 @@ fn jam_given<'a>(
     let headers = locked_headers(rt, path, words.base);
     if is_folder(rt, words.base) {
         let mut messages = look_into(rt, words.base, 0, None)?;
-        return jam_under(rt, words, path, first, headers?, &mut messages);
+        let files = jam_files(rt, path, headers?)?;
+        let (exported, sent) = jam_under(rt, words, path, first, &files, &mut messages)?;
+        return Ok((files, exported, sent));
     }
     let mut messages = load_base(rt, words.base)?;
-    jam_under(rt, words, path, first, headers?, &mut messages)
+    let files = jam_files(rt, path, headers?)?;
+    let (exported, sent) = jam_under(rt, words, path, first, &files, &mut messages)?;
+    Ok((files, exported, sent))
 }
 
-// The same of these messages, under the lock.
+// The additions of these messages, and whether their texts are in the file.
 fn jam_under<'a, M: MessageSource>(
     rt: &HostRuntime,
     words: &ExportWords<'a>,
     path: &'a str,
     first: u64,
-    headers: File,
+    files: &JamFiles,
     messages: &mut M,
-) -> Result<(JamFiles, JamExport, io::Result<()>), Fault<'a>>
+) -> Result<(JamExport, io::Result<()>), Fault<'a>>
     requires { (M.state messages.old).is_ready }
 {
-    let files = jam_files(rt, path, headers)?;
     let jam = JamBase {
         headers: files.found.as_slice(),
         index: files.entries.as_slice(),
@@ -140,7 +143,7 @@ fn jam_under<'a, M: MessageSource>(
         failed => failed,
     };
     let fault = match exported {
-        Ok(exported) => return Ok((files, exported, sent)),
+        Ok(exported) => return Ok((exported, sent)),
         Err(UnsentTexts::Messages(fault)) => fault,
         Err(UnsentTexts::Device) => Fault::CannotUse(path),
     };
