@@ -1,6 +1,6 @@
 -- Packets that bring a message, one after another.
-use Rattle.std.proofs.Common.{◌≡◌, ◌∙◌, refl, sym, ap, ℕ, zero, suc, ◌+◌, ◌<◌, arith, Bool, true, false, cond, List, [], ◌∷◌, ◌++◌, append_assoc, drop, length, Option, Some, None}
-use Rattle.std.specs.Prelude.{◌&&◌, nat_lt}
+use Rattle.std.proofs.Common.{◌≡◌, ◌∙◌, refl, sym, ap, ℕ, zero, suc, ◌+◌, ◌<◌, arith, true, cond, List, [], ◌∷◌, ◌++◌, append_assoc, drop, length, Option, Some, None}
+use Rattle.std.specs.Prelude.{nat_lt}
 use Rattle.std.proofs.lemmas.Bool.{cond-true, lt-ltb}
 use Rattle.echo_addr.specs.declared.address.Address.{Address}
 use Rattle.echo_links.specs.Links.{same_address}
@@ -12,7 +12,7 @@ use Rattle.echo_net.specs.declared.drawing.Crossing.{Crossing}
 use Rattle.model_run.specs.Orderly.{copies, count, origin}
 use Rattle.model_run.specs.Run.{destination, nth}
 use Rattle.model_why.proofs.Counting.{total}
-use Rattle.model_why.specs.Carrying.{crossing, crossing_at, crossings_from, step_of}
+use Rattle.model_why.specs.Carrying.{crossing_at, crossings_from, step_of}
 
 -- the sender of a packet, if it holds the message
 abbrev pub sender_if : Key → Packet → Option Address
@@ -42,29 +42,12 @@ crossings-more counts to key k n ps old new all within next added so =
 -- the packet at an index is for the address and holds the message, or not
 pub crossing-there : (counts : List ℕ) (to from : Address) (key : Key) (k step : ℕ) (p : Packet) → same_address (destination p) to ≡ true → step ≡ step_of counts k →
     Some from ≡ sender_if key p → (let one : Crossing = record { step = step; from = from; to = to } in one ∷ []) ≡ crossing_at counts to key k p
-crossing-there counts to from key k step p for is found = by (nat_lt 0 (count key (copies p))) (same_address (destination p) to) for found
-  where
-    by : (holds meant : Bool) → meant ≡ true → Some from ≡ cond holds (Some (origin p)) None →
-        (let one : Crossing = record { step = step; from = from; to = to } in one ∷ []) ≡ cond (meant && holds) (crossing counts k p ∷ []) []
-    by false b h e = absurd (cc)
-    by true false h e = absurd (cc)
-    by true true h e =
-        let of : from ≡ origin p = cc in
-        let is_to : destination p ≡ to = (same_address_decides (destination p) to).0 for in
-        λ i. (let one : Crossing = record { step = is i; from = of i; to = sym is_to i } in one) ∷ []
+crossing-there counts to from key k step p for is found = grind (arith, same_address_decides)
 
 pub crossing-none : (counts : List ℕ) (to : Address) (key : Key) (k : ℕ) (p : Packet) → (let o : Option Address = None in o ≡ sender_if key p) → crossing_at counts to key k p ≡ []
-crossing-none counts to key k p none = by (nat_lt 0 (count key (copies p))) (same_address (destination p) to) none
-  where
-    by : (holds meant : Bool) → (let o : Option Address = None in o ≡ cond holds (Some (origin p)) None) → cond (meant && holds) (crossing counts k p ∷ []) [] ≡ []
-    by false true e = refl
-    by false false e = refl
-    by true b e = absurd (cc)
+crossing-none counts to key k p none = grind arith
 
 -- the messages of the packet hold it
 pub sender-there : (key : Key) (p : Packet) (from : Address) (ms : List Message) (times : ℕ) → ms ≡ p.messages → times ≡ total (origin p) key ms → 0 < times →
     from ≡ origin p → Some from ≡ sender_if key p
-sender-there key p from ms times are counted some is =
-    let same : times ≡ count key (copies p) = counted ∙ ap (total (origin p) key) are in
-    ap (λ (a : Address). Some a) is
-    ∙ sym (cond-true (nat_lt 0 (count key (copies p))) (Some (origin p)) None (lt-ltb 0 (count key (copies p)) (omega (arith, same, some))))
+sender-there key p from ms times are counted some is = grind (arith, cond-true, lt-ltb)

@@ -1,5 +1,5 @@
 -- A message that is not found in a run is not in it.
-use Rattle.std.proofs.Common.{◌≡◌, ◌∙◌, refl, sym, subst, ap, ℕ, ◌<◌, ◌≤◌, arith, List, Option, Some, None}
+use Rattle.std.proofs.Common.{◌≡◌, ◌∙◌, refl, sym, ℕ, ◌<◌, ◌≤◌, arith, List, Option, Some, None}
 use Rattle.std.specs.Prelude.{Bool, true, false, ◌&&◌, MatchOption, bytes_eq, option_map, unwrap_or}
 use Rattle.echo_addr.specs.declared.address.Address.{Address}
 use Rattle.echo_text.specs.Echo.{msgid_of}
@@ -34,12 +34,7 @@ no_message e = cc
 
 pub not_posted : (run : Run) (i : ℕ) (tag id : List ℕ) (m : Filed) → Some m ≡ message_at run i 0 → PostsFirst run i tag id →
     IsPosting tag m × (key_of m ≡ ById tag id)
-not_posted run i tag id m found first =
-    let P : Filed → Type 0 = λ x. IsPosting tag x × (key_of x ≡ ById tag id) in
-    subst P (sym (one (found ∙ first.first))) (first.posting, first.key)
-  where
-    one : {x y : Filed} → Some x ≡ Some y → x ≡ y
-    one e = cc
+not_posted run i tag id m found first = grind arith
 
 same_system : {s z : System} → Some s ≡ Some z → s ≡ z
 same_system e = cc
@@ -54,29 +49,20 @@ passes m tag id of found is_of is_found key =
 -- a carrier that is sent the message less than twice
 pub few-at : (run : Run) (i : ℕ) (tag id : List ℕ) (a : Address) (times : ℕ) → CarriesAt run i tag a → times ≡ sent_count a (ById tag id) run.packets → times < 2 →
     (s : System) → nth i run.systems ≡ Some s → sent_count s.file.system (ById tag id) run.packets ≤ 1
-few-at run i tag id a times carrier sent few s at =
-    let P : Address → Type 0 = λ b. sent_count b (ById tag id) run.packets ≤ 1 in
-    subst P (sym carrier.address ∙ ap (λ (z : System). z.file.system) (same_system (sym carrier.at ∙ at))) (omega (arith, sent, few))
+few-at run i tag id a times carrier sent few s at = grind (arith, same_system)
 
 -- a poster that is not sent it
 pub none-at : (run : Run) (i : ℕ) (tag id : List ℕ) (a : Address) (times : ℕ) → PostedAt run i tag id a → times ≡ sent_count a (ById tag id) run.packets → times < 1 →
     (s : System) → nth i run.systems ≡ Some s → sent_count s.file.system (ById tag id) run.packets ≡ 0
-none-at run i tag id a times posted sent none s at =
-    let P : Address → Type 0 = λ b. sent_count b (ById tag id) run.packets ≡ 0 in
-    subst P (sym posted.carrier.address ∙ ap (λ (z : System). z.file.system) (same_system (sym posted.carrier.at ∙ at))) (omega (arith, sent, none))
+none-at run i tag id a times posted sent none s at = grind (arith, same_system)
 
 -- a carrier that has filed some message
 pub filed-here : (run : Run) (i : ℕ) (tag : List ℕ) (n : ℕ) → n ≡ filed_at run i tag → 0 < n →
     (s : System) → nth i run.systems ≡ Some s → 1 ≤ area_count tag s.base
-filed-here run i tag n filed some s at =
-    let here = ap (λ (o : Option System). unwrap_or (option_map (λ (z : System). area_count tag z.base) o) 0) at in
-    omega (arith, here, filed, some)
+filed-here run i tag n filed some s at = grind arith
 
 -- the id made from the file at this index
 pub named_as : {V : Type 0} (o : Option V) (v : V) (items : V → List ℕ) (i : ℕ) (fs files : List LinkFile) (file : LinkFile) → fs ≡ files → o ≡ Some v →
     MatchOption o (nth i fs ≡ None) (λ w. (f : LinkFile) → nth i fs ≡ Some f → items w ≡ id_of f.system 1) → nth i files ≡ Some file →
     items v ≡ id_of file.system 1
-named_as {V} o v items i fs files file same found h is =
-    let P : Option V → Type 0 = λ x. MatchOption x (nth i fs ≡ None) (λ w. (f : LinkFile) → nth i fs ≡ Some f → items w ≡ id_of f.system 1) in
-    let Q : List LinkFile → Type 0 = λ gs. nth i gs ≡ Some file in
-    subst P found h file (subst Q (sym same) is)
+named_as {V} o v items i fs files file same found h is = grind arith

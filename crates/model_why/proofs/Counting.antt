@@ -48,12 +48,7 @@ total sender key ms = count key (map (received sender) (filter (λ q. is_none (t
 
 total-cons : (sender : Address) (key : Key) (q : Message) (ms : List Message) →
     total sender key (q ∷ ms) ≡ cond (is_one sender key q) 1 0 + total sender key ms
-total-cons sender key q ms = by (is_none (text_refusal q.text))
-  where
-    by : (b : Bool) → count key (map (received sender) (cond b (q ∷ filter (λ (x : Message). is_none (text_refusal x.text)) ms) (filter (λ (x : Message). is_none (text_refusal x.text)) ms)))
-        ≡ cond (b && same_key (key_of (received sender q)) key) 1 0 + total sender key ms
-    by true = refl
-    by false = omega arith
+total-cons sender key q ms = grind arith
 
 total-step : (sender : Address) (key : Key) (i : ℕ) (q : Message) (ms : List Message) → nth i ms ≡ Some q →
     total sender key (take (suc i) ms) ≡ total sender key (take i ms) + cond (is_one sender key q) 1 0

@@ -1,5 +1,5 @@
 -- The packets of a system that posts and scans show some faults at once.
-use Rattle.std.proofs.Common.{◌≡◌, ◌≢◌, ap, ◌∙◌, subst, ℕ, ◌<◌, ◌≤◌, IsTrue, true, List, length, map, Some}
+use Rattle.std.proofs.Common.{◌≡◌, ◌≢◌, ap, ◌∙◌, subst, ℕ, ◌<◌, ◌≤◌, IsTrue, true, List, length, map, Some, arith}
 use Rattle.std.specs.List.{list_any}
 use Rattle.echo_addr.specs.declared.address.Address.{Address}
 use Rattle.model_graph.specs.Walk.{Among}
@@ -68,9 +68,7 @@ nobody_shows files known tag a b listed nobody wrong =
 
 -- a file that was found has the address
 pub some_has : (files : List LinkFile) (to : Address) → list_any (λ file. same_address file.system to) files ≡ true → ¬ ((file : LinkFile) → Among file files → file.system ≢ to)
-some_has files to h none =
-    let (file, among, same) = any-from (λ (f : LinkFile). same_address f.system to) files h in
-    none file among ((same_address_decides file.system to).0 same)
+some_has files to h none = grind (arith, any-from, same_address_decides)
 
 pub same_guess : {a b : Address} → Nobody a ≡ Nobody b → a ≡ b
 same_guess e = cc

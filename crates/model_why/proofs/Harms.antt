@@ -2,7 +2,6 @@
 use Rattle.std.proofs.Common.{◌≡◌, ◌∙◌, ◌⊎◌, inl, inr, refl, sym, subst, ap, ℕ, ◌≤◌, arith, List, length, Option, Some, None}
 use Rattle.echo_addr.specs.declared.address.Address.{Address}
 use Rattle.model_graph.specs.Walk.{Among}
-use Rattle.echo_text.specs.Echo.{msgid_of}
 use Rattle.echo_filed.specs.declared.key.Key.{Key}
 use Rattle.echo_filed.specs.declared.key.Key.TheVariants.{ById}
 use Rattle.echo_filed.specs.Filed.{Filed, key_of}
@@ -27,10 +26,7 @@ stub-tag m (Some id) = refl
 
 of_stub : (tag : List ℕ) (m : Filed) → IsPosting tag (stub_of m) → IsPosting tag m
 unfolding stub_of
-of_stub tag m posting = record {
-  own = sym (stub-sender m (msgid_of m.echo.kept)) ∙ posting.own;
-  area = sym (stub-tag m (msgid_of m.echo.kept)) ∙ posting.area;
-}
+of_stub tag m posting = grind (arith, stub-sender, stub-tag)
 
 -- a posting that was filed
 record WasPosted (run : Run) (tag id : List ℕ) : Type 0 where

@@ -146,9 +146,7 @@ none-more run n next to e before here j less s at same =
 
 pub none-all : (run : Run) (n : ℕ) (to : Address) → length run.systems ≤ n → NoneBefore run n to →
     (s : System) → Among s run.systems → s.file.system ≢ to
-none-all run n to all before s h =
-    let (i, at, within) = in-nth run.systems s h in
-    before i (omega arith) s at
+none-all run n to all before s h = grind (arith, in-nth)
 
 -- some packet to the address holds it
 abbrev Holding : Address → List ℕ → List ℕ → List Packet → Type 0

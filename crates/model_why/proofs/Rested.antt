@@ -1,16 +1,16 @@
 -- Rounds after a posting, as moves of the program.
-use Rattle.std.proofs.Common.{◌≡◌, inl, inr, sym, subst, ap, ◌∙◌, ℕ, suc, ◌+◌, ◌<◌, arith, List, [], ◌∷◌, ◌++◌, length, map, Some}
+use Rattle.std.proofs.Common.{◌≡◌, inl, inr, sym, subst, ◌∙◌, ℕ, ◌+◌, ◌<◌, arith, List, [], ◌∷◌, ◌++◌, length, map, Some}
 use Rattle.std.specs.Prelude.{true, false}
 use Rattle.std.specs.List.{AllByRecursion}
 use Rattle.std.proofs.lemmas.List.{append_assoc, map-append}
 use Rattle.echo_text.specs.Ids.{id_of}
 use Rattle.echo_links.specs.Links.{LinkFile, has_area}
 use Rattle.model_run.specs.Event.{RunEvent}
-use Rattle.model_run.specs.Run.{nth, run_of}
+use Rattle.model_run.specs.Run.{nth}
 use Rattle.model_run.specs.World.{is_settled}
 use Rattle.model_run.specs.Grave.{AllAreCarriers}
 use Rattle.model_run.specs.LawsOfRuns.{LawsOfRuns}
-use Rattle.model_run.specs.Postings.{IsMove, trial_posting}
+use Rattle.model_run.specs.Postings.{IsMove}
 use Rattle.model_run.specs.Rounds.{deliveries, round_after, scans}
 use Rattle.model_run.proofs.Rounds.{Progress, first-progress, round-progress, rounds-settle}
 use Rattle.model_run.proofs.HarmTelling.{posting-key}
@@ -69,21 +69,11 @@ all_rounds-rest files known tag poster moves n many so_far all_known file is are
 -- one scan more, and one delivery more
 pub added_scan : (before : List RunEvent) (moves more : List Move) (i next : ℕ) → next ≡ i + 1 → more ≡ moves ++ Scan i ∷ [] →
     map run_move moves ≡ before ++ scans i → map run_move more ≡ before ++ scans next
-added_scan before moves more i next e added so_far =
-    let e_suc : next ≡ suc i = omega (arith, e) in
-    ap (λ (ms : List Move). map run_move ms) added ∙ map-append run_move moves (Scan i ∷ [])
-    ∙ ap (λ (es : List RunEvent). es ++ run_move (Scan i) ∷ []) so_far
-    ∙ append_assoc before (scans i) (run_move (Scan i) ∷ [])
-    ∙ ap (λ (n : ℕ). before ++ scans n) (sym e_suc)
+added_scan before moves more i next e added so_far = grind (arith, map-append, append_assoc)
 
 pub added_delivery : (before : List RunEvent) (moves more : List Move) (i next : ℕ) → next ≡ i + 1 → more ≡ moves ++ Deliver i ∷ [] →
     map run_move moves ≡ before ++ deliveries i → map run_move more ≡ before ++ deliveries next
-added_delivery before moves more i next e added so_far =
-    let e_suc : next ≡ suc i = omega (arith, e) in
-    ap (λ (ms : List Move). map run_move ms) added ∙ map-append run_move moves (Deliver i ∷ [])
-    ∙ ap (λ (es : List RunEvent). es ++ run_move (Deliver i) ∷ []) so_far
-    ∙ append_assoc before (deliveries i) (run_move (Deliver i) ∷ [])
-    ∙ ap (λ (n : ℕ). before ++ deliveries n) (sym e_suc)
+added_delivery before moves more i next e added so_far = grind (arith, map-append, append_assoc)
 
 -- the scans and then the deliveries are a round
 pub added_round : (files : List LinkFile) (tag : List ℕ) (poster : ℕ) (moves scanned all : List Move) (systems packets : ℕ) → systems ≡ length files →
@@ -91,12 +81,4 @@ pub added_round : (files : List LinkFile) (tag : List ℕ) (poster : ℕ) (moves
     packets ≡ length (shown_run files poster tag scanned).packets →
     map run_move all ≡ map run_move scanned ++ deliveries packets →
     posting_and_moves poster tag all ≡ posting_and_moves poster tag moves ++ round_after files (posting_and_moves poster tag moves)
-added_round files tag poster moves scanned all systems packets size first count second =
-    let posting = trial_posting poster tag in
-    let here : posting_and_moves poster tag scanned ≡ posting_and_moves poster tag moves ++ scans (length files) =
-    ap (λ (es : List RunEvent). posting ∷ es) (first ∙ ap (λ (n : ℕ). map run_move moves ++ scans n) size) in
-    let made : packets ≡ length (run_of files (posting_and_moves poster tag moves ++ scans (length files))).packets =
-    count ∙ ap (λ (es : List RunEvent). length (run_of files es).packets) here in
-    ap (λ (es : List RunEvent). posting ∷ es) (second ∙ ap (λ (es : List RunEvent). es ++ deliveries packets) (first ∙ ap (λ (n : ℕ). map run_move moves ++ scans n) size)
-    ∙ ap (λ (n : ℕ). (map run_move moves ++ scans (length files)) ++ deliveries n) made
-    ∙ append_assoc (map run_move moves) (scans (length files)) (deliveries (length (run_of files (posting_and_moves poster tag moves ++ scans (length files))).packets)))
+added_round files tag poster moves scanned all systems packets size first count second = grind (arith, append_assoc)

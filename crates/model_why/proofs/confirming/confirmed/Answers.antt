@@ -1,10 +1,9 @@
-use Rattle.std.proofs.Common.{◌≡◌, ◌∙◌, sym, subst, ap, ℕ, List, map, Option}
-use Rattle.std.specs.Prelude.{None, Some, IfSome}
-use Rattle.echo_links.specs.Links.{LinkFile}
+use Rattle.std.proofs.Common.{◌≡◌, ◌∙◌, sym, subst, ap, ℕ, List, map, Option, arith}
+use Rattle.std.specs.Prelude.{IfSome}
 use Rattle.echo_text.specs.Ids.{id_of}
 use Rattle.model_replay.specs.Worlds.{IsWorldOf}
 use Rattle.model_run.specs.Event.{RunEvent, run_event}
-use Rattle.model_run.specs.Run.{nth, run_of}
+use Rattle.model_run.specs.Run.{run_of}
 use Rattle.model_why.specs.declared.shown.Harm.{Harm}
 use Rattle.model_why.specs.Found.{BreaksIt}
 use Rattle.model_why.specs.Guesses.{IsRight}
@@ -15,13 +14,7 @@ use Rattle.model_why.proofs.Harmless.{posts-first}
 use Rattle.model_why.proofs.confirming.confirmed.Goals as goal
 
 pub returns-in_default-clause-none : goal.returns-in_default-clause-none
-returns-in_default-clause-none c = λ _ fit file is area right.
-    let here = subst (λ (fs : List LinkFile). nth c.args.plan.poster fs ≡ None) c.deref.ensures.value
-    (at_none (nth c.args.plan.poster c.deref.result.now ≡ None) _ c.in_ok-named.named c.in_default.not-Some c.in_ok-named.ensures) in
-    absurd (at_both (sym here ∙ is))
-  where
-    at_both : {f : LinkFile} → (let none : Option LinkFile = None in none ≡ Some f) → ⊥
-    at_both e = cc
+returns-in_default-clause-none c = grind (arith, at_none)
 
 pub returns-in-Some-found-clause-breaks : goal.returns-in-Some-found-clause-breaks
 returns-in-Some-found-clause-breaks c = λ breaks.

@@ -1,4 +1,4 @@
-use Rattle.std.proofs.Common.{inl, inr, refl, sym, subst}
+use Rattle.std.proofs.Common.{inl, inr, refl, sym, subst, arith}
 use Rattle.echo_net.specs.declared.verdict.NetFault.{NetFault}
 use Rattle.echo_net.specs.Faults.{IsFirstFault}
 use Rattle.model_why.specs.Exact.{LeadsNowhere}
@@ -8,11 +8,7 @@ use Rattle.model_why.proofs.Guessing.{ok_more}
 use Rattle.model_why.proofs.explaining.by_fault.Goals as goal
 
 pub returns-in-SelfLink-clause-exact : goal.returns-in-SelfLink-clause-exact
-returns-in-SelfLink-clause-exact c =
-    let files = files_of c.args.sources.now in
-    let tag = c.args.tag.now in
-    ok_more c.by_first_scans.result _ _ (λ found own fit first always.
-    own refl fit _ (own_link files tag _ (subst (λ (f : NetFault). IsFirstFault files tag f) c.in-SelfLink.is first))) c.by_first_scans.ensures.own
+returns-in-SelfLink-clause-exact c = grind (arith, ok_more, own_link)
 
 pub returns-in-Unknown-clause-nowhere : goal.returns-in-Unknown-clause-nowhere
 returns-in-Unknown-clause-nowhere c =

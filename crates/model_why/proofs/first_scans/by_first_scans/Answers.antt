@@ -1,13 +1,9 @@
-use Rattle.std.proofs.Common.{◌≢◌, ◌∙◌, List, arith, below_more, sym, subst, Option}
-use Rattle.std.specs.Prelude.{IfSome}
+use Rattle.std.proofs.Common.{◌≢◌, ◌∙◌, List, arith, below_more, sym, subst}
 use Rattle.std.proofs.lemmas.List.{length-map}
 use Rattle.model_graph.specs.Walk.{Among}
 use Rattle.echo_links.specs.Links.{LinkFile}
 use Rattle.echo_links.specs.LinkLines.{file_of}
 use Rattle.model_plan.specs.declared.plan.Guess.{Guess}
-use Rattle.model_why.specs.declared.shown.Shown.{Shown}
-use Rattle.model_why.specs.Found.{BreaksIt}
-use Rattle.model_why.specs.Guesses.{GuessBreaks}
 use Rattle.model_why.specs.Sources.{files_of}
 use Rattle.model_why.proofs.Complete.{none_left}
 use Rattle.model_why.proofs.FirstScans.{IsAlwaysWrong, nobody_shows, own_shows}
@@ -18,9 +14,7 @@ posters-preserved c =
     below_more _ _ c.posters.invariant (λ fit file at listed. c.in_ok-found.ensures.none (none_left c.in_ok-found.found c.in_default.not-Some) fit)
 
 pub returns-in-Some-clause-own : goal.returns-in-Some-clause-own
-returns-in-Some-clause-own c = λ is_own fit a listed.
-    let breaks = c.in_ok-found.ensures.breaks (subst GuessBreaks (sym is_own) tt) in
-    subst (λ (o : Option Shown). IfSome o (λ shown. BreaksIt shown.harm)) c.in-Some.is breaks
+returns-in-Some-clause-own = grind arith
 
 pub returns-clause-own : goal.returns-clause-own
 returns-clause-own c = λ is_own fit a listed.

@@ -13,8 +13,4 @@ returns-then-not-is_nobody-clause-none c = λ _ run is to_nobody.
     to_nobody.nobody s there same
 
 pub returns-then-times-lt1-clause-none : goal.returns-then-times-lt1-clause-none
-returns-then-times-lt1-clause-none c = λ _ run is to_nobody.
-    let times = c.in_ok-times.ensures run is in
-    let none = c.if-times-lt1.true in
-    let some = to_nobody.sent in
-    absurd (omega (arith, times, none, some))
+returns-then-times-lt1-clause-none c = grind (arith, to_nobody)

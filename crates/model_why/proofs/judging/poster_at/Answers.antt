@@ -1,4 +1,4 @@
-use Rattle.std.proofs.Common.{◌∙◌, refl}
+use Rattle.std.proofs.Common.{◌∙◌, refl, arith}
 use Rattle.echo_links.specs.Links.{has_area}
 use Rattle.model_why.proofs.Complete.{no_message, not_posted, not_there}
 use Rattle.model_why.proofs.Judged.{posted-at}
@@ -12,10 +12,7 @@ pub returns-in_err-message-clause-none : goal.returns-in_err-message-clause-none
 returns-in_err-message-clause-none c = λ _ run is first. no_message (c.in_err-message.ensures run is ∙ first.first)
 
 pub returns-then-not-is_posting-clause-none : goal.returns-then-not-is_posting-clause-none
-returns-then-not-is_posting-clause-none c = λ _ run is first.
-    not_there c.is_posting.result
-    (c.is_posting.ensures.1 (not_posted run c.args.i c.args.tag.now c.args.id.now c.in_ok-message.message.now (c.in_ok-message.ensures run is) first))
-    c.if-not-is_posting.true
+returns-then-not-is_posting-clause-none c = grind (arith, not_there, not_posted)
 
 pub returns-clause-some : goal.returns-clause-some
 returns-clause-some c = λ run is.

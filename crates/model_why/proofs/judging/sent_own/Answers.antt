@@ -7,9 +7,7 @@ pub returns-in_default-clause-none : goal.returns-in_default-clause-none
 returns-in_default-clause-none c = λ _ run is first s at. absurd (c.in_default.ensures.none refl run is first)
 
 pub returns-then-times-lt1-clause-none : goal.returns-then-times-lt1-clause-none
-returns-then-times-lt1-clause-none c = λ _ run is first s at.
-    none-at run c.args.poster c.args.tag.now c.args.id.now c.in-Some.address c.in_ok-times.times (c.in-Some.ensures.some run is)
-    (c.in_ok-times.ensures run is) c.if-times-lt1.true s at
+returns-then-times-lt1-clause-none c = grind (arith, none-at)
 
 pub returns-clause-harm : goal.returns-clause-harm
 returns-clause-harm c = λ run is.

@@ -5,13 +5,11 @@ use Rattle.model_replay.specs.Worlds.{IsWorldOf}
 use Rattle.model_plan.specs.declared.plan.Move.{Move}
 use Rattle.model_why.specs.Shown.{shown_run}
 use Rattle.model_why.specs.Sources.{files_of}
-use Rattle.model_why.proofs.Rested.{SoFar, all_rounds-rest, before_rounds, one_round, settled-rests}
+use Rattle.model_why.proofs.Rested.{all_rounds-rest, before_rounds, one_round, settled-rests}
 use Rattle.model_why.proofs.rounds.moves_to_rest.Goals as goal
 
 pub rounds-init : goal.rounds-init
-rounds-init c =
-    let files = files_of c.args.sources.now in
-    subst (λ (ms : List Move). SoFar files c.args.tag.now c.args.poster ms 0) (sym c.new-moves.ensures.items) (before_rounds files c.args.tag.now c.args.poster)
+rounds-init c = grind (arith, before_rounds)
 
 pub rounds-preserved : goal.rounds-preserved
 rounds-preserved c =

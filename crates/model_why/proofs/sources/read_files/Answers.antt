@@ -1,15 +1,11 @@
 use Rattle.std.proofs.Common.{◌∙◌, ◌+◌, ap, arith, refl}
 use Rattle.std.proofs.lemmas.List.{take_all}
 use Rattle.echo_links.specs.LinkLines.{file_of}
-use Rattle.model_why.specs.Sources.{files_of}
 use Rattle.model_why.proofs.OfBytes.{fit_more, fit_none, read_more}
 use Rattle.model_why.proofs.sources.read_files.Goals as goal
 
 pub sources-init : goal.sources-init
-sources-init c = record {
-  read = c.new-files.ensures.items;
-  fit = fit_none c.new-files.result.items c.new-files.ensures.items;
-}
+sources-init c = grind (arith, fit_none)
 
 pub sources-preserved : goal.sources-preserved
 sources-preserved c =
@@ -22,10 +18,7 @@ sources-preserved c =
     }
 
 pub returns-clause-read : goal.returns-clause-read
-returns-clause-read c =
-    let done = c.sources-test.false in
-    let before = c.sources.invariant in
-    before.read ∙ ap files_of (take_all c.sources.source-index c.args.sources.now (omega (arith, done)))
+returns-clause-read c = grind (arith, take_all)
 
 pub returns-clause-fit : goal.returns-clause-fit
 returns-clause-fit c = (let before = c.sources.invariant in before.fit)

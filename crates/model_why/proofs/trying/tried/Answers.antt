@@ -1,10 +1,9 @@
-use Rattle.std.proofs.Common.{◌≡◌, ◌∙◌, sym, subst, ap, ℕ, List, map, Option}
-use Rattle.std.specs.Prelude.{None, Some}
+use Rattle.std.proofs.Common.{◌≡◌, ◌∙◌, sym, subst, ap, ℕ, List, map, arith}
 use Rattle.echo_links.specs.Links.{LinkFile}
 use Rattle.echo_text.specs.Ids.{id_of}
 use Rattle.model_replay.specs.Worlds.{IsWorldOf}
 use Rattle.model_run.specs.Event.{RunEvent, run_event}
-use Rattle.model_run.specs.Run.{nth, run_of}
+use Rattle.model_run.specs.Run.{run_of}
 use Rattle.model_why.specs.Resting.{DoesNoHarm, PostsFirst}
 use Rattle.model_why.specs.Shown.{posting_and_moves, shown_run}
 use Rattle.model_why.specs.Sources.{files_of}
@@ -13,13 +12,7 @@ use Rattle.model_why.proofs.Harmless.{posts-first}
 use Rattle.model_why.proofs.trying.tried.Goals as goal
 
 pub returns-in_default-clause-none : goal.returns-in_default-clause-none
-returns-in_default-clause-none c = λ _ fit all file is area.
-    let here = subst (λ (fs : List LinkFile). nth c.args.poster fs ≡ None) (c.deref-2.ensures.value ∙ c.in_ok-files.ensures.read)
-    (at_none (nth c.args.poster c.deref-2.result.now ≡ None) _ c.in_ok-named.named c.in_default.not-Some c.in_ok-named.ensures) in
-    absurd (at_both (sym here ∙ is))
-  where
-    at_both : {f : LinkFile} → (let none : Option LinkFile = None in none ≡ Some f) → ⊥
-    at_both e = cc
+returns-in_default-clause-none c = grind (arith, at_none)
 
 pub returns-in-None-clause-none : goal.returns-in-None-clause-none
 returns-in-None-clause-none c = λ _ fit all file is area.
