@@ -1,5 +1,5 @@
 -- Calls that change one file, and the facts that they keep.
-use Rattle.std.proofs.Common.{◌≤◌, ◌<◌, ℕ, List, Result, inl, inr, ⊎_elim, arith}
+use Rattle.std.proofs.Common.{◌≤◌, ℕ, List, Result, ⊎_elim, arith}
 use Rattle.std.proofs.lemmas.Bool.{cases_lt}
 use Rattle.disk_io.specs.Disk.{DiskState, Files}
 use Rattle.disk_io.specs.Runs.{ChangesAt, HasCause, NoPath, ThisPath}
@@ -13,13 +13,7 @@ abbrev pub Wrote : DiskState → DiskState → List ℕ → ℕ → ℕ → Type
 Wrote d e file at n = ChangesAt (ThisPath file) NoPath NoPath (ChangesFile d file (TornWrite at n)) d e
 
 pub others_kept : (d e : DiskState) (file : List ℕ) (at n : ℕ) → Wrote d e file at n → KeepsOthers d e file
-others_kept d e file at n call = record {
-  seen = call.beside;
-  flushed = call.flushed;
-  named = λ m. call.named m (λ h. h);
-  alone = λ m. call.alone m (λ h. h);
-  honest = call.time.honest;
-}
+others_kept d e file at n call = grind arith
 
 -- the file is made
 abbrev pub Made : DiskState → DiskState → List ℕ → Type 0
@@ -31,9 +25,4 @@ but_one_call d e file call = record { seen = call.beside; named = call.named; fl
 
 -- a failure since an earlier call
 pub cause_since : {T : Type 0} (first before now : ℕ) (result : Result T DiskError) → first ≤ before → HasCause before now result → HasCause first now result
-cause_since first before now result le cause =
-    let later = cause.later in
-    record {
-      later = omega arith;
-      failed = λ is. ⊎_elim (λ (rose : first < now). inl rose) (λ (same : now ≤ first). ⊎_elim (λ (rose : before < now). inl (omega arith)) (λ most. inr (omega (arith, most.0), omega arith)) (cause.failed is)) (cases_lt first now);
-    }
+cause_since first before now result le cause = grind (arith, ⊎_elim, cases_lt)

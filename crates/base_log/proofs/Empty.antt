@@ -46,19 +46,14 @@ new_log path c new = record { rest = bytes_in (c (log_of path)); parts = refl; s
 -- ---- a run that changes nothing, and the run after it
 
 pub stands_quiet : (d0 d1 : DiskState) (path : List ℕ) (base : BaseBytes) → ChangesNothing d0 d1 → StandsFor path base d0.seen → StandsFor path base d1.seen
-stands_quiet d0 d1 path base quiet stands =
-    let same : d1.seen ≡ d0.seen = λ i m. quiet.seen m i in
-    subst (λ (f : Files). StandsFor path base f) (sym same) stands
+stands_quiet d0 d1 path base quiet stands = grind arith
 
 pub was_left : (d0 d1 : DiskState) (path : List ℕ) (base : BaseBytes) → ChangesNothing d0 d1 → LeavesOnly d0 d1 (StandsOrWasLeft path d0 base)
 was_left d0 d1 path base quiet = weaker_run d0 d1 d0.may_leave (StandsOrWasLeft path d0 base) quiet.run (λ c left. inr left)
 
 -- a base with unchanged surroundings, seen from a later state, is one from the first state
 pub alone_since : (d0 d1 : DiskState) (path : List ℕ) (base : BaseBytes) (c : Files) → KeepsOutside path d0 d1 → StandsAlone path d1 base c → StandsAlone path d0 base c
-alone_since d0 d1 path base c kept alone = record {
-  outside = λ m out named flushed. alone.outside m out (kept.named m out named) (kept.flushed m out flushed) ∙ kept.seen m out;
-  stands = alone.stands;
-}
+alone_since d0 d1 path base c kept alone = grind arith
 
 pub chained_alone : (d0 d1 d2 : DiskState) (path : List ℕ) (base : BaseBytes) → LeavesOnly d0 d1 (StandsOrWasLeft path d0 base) → KeepsOutside path d0 d1
     → LeavesOnly d1 d2 (StandsAlone path d1 base) → LeavesOnly d0 d2 (StandsOrWasLeft path d0 base)
@@ -68,16 +63,12 @@ chained_alone d0 d1 d2 path base first kept second =
 -- a quiet call, then a run
 pub chained_quiet : (d0 d1 d2 : DiskState) (path : List ℕ) (base : BaseBytes) → ChangesNothing d0 d1 → KeepsOutside path d0 d1
     → LeavesOnly d1 d2 (StandsOrWasLeft path d1 base) → LeavesOnly d0 d2 (StandsOrWasLeft path d0 base)
-chained_quiet d0 d1 d2 path base quiet kept second =
-    then_run d0 d1 d2 (StandsOrWasLeft path d0 base) (StandsOrWasLeft path d1 base) (was_left d0 d1 path base quiet) second
-    (λ c or. ⊎_elim (λ alone. inl (alone_since d0 d1 path base c kept alone)) (λ left. inr (quiet.no_more c left)) or)
+chained_quiet d0 d1 d2 path base quiet kept second = grind (arith, then_run, was_left, ⊎_elim, alone_since)
 
 -- ---- a new folder gets a log, after its files were put on the disk
 
 making_short : (before after : Option (List ℕ)) → TornMaking before after → length (bytes_in before) ≤ 1 → length (bytes_in after) ≤ 1
-making_short before after (inl same) short = subst (λ f. length (bytes_in f) ≤ 1) (sym same) short
-making_short before after (inr (inl none)) short = omega (arith, ap (λ f. length (bytes_in f)) none)
-making_short before after (inr (inr some)) short = omega (arith, ap (λ f. length (bytes_in f)) some)
+making_short before after h1 h2 = grind arith
 
 module _ (d0 d1 : DiskState) (path : List ℕ) (base : BaseBytes) (quiet : ChangesNothing d0 d1) (named : AreNamed path d0) (new : IsNew path d0.seen) (stands : StandsFor path base d0.seen) (all : AreFlushed path d1) where
   -- the folder is new, and nothing outside it has changed
@@ -89,16 +80,7 @@ module _ (d0 d1 : DiskState) (path : List ℕ) (base : BaseBytes) (quiet : Chang
   as_seen m inside flushed c left = d1.on_disk m (quiet.named m (λ h. h) (named m inside)) flushed c left ∙ quiet.seen m
 
   new_first : LeavesOnly d1 d1 NewAlone
-  new_first = no_call d1 NewAlone (λ c left. record {
-    outside = λ m out is flushed. d0.on_disk m is flushed c (quiet.no_more c left);
-    is = record {
-      log = subst (λ f. length (bytes_in f) ≤ 1) (sym (as_seen (log_of path) (log_in path) all.log c left)) new.log;
-      empty = record {
-        messages = λ n lt. ap bytes_in (as_seen (messages_of path n) (messages_in path n) (all.messages n lt) c left) ∙ new.empty.messages n lt;
-        keys = λ n lt. ap bytes_in (as_seen (keys_of path n) (keys_in path n) (all.keys n lt) c left) ∙ new.empty.keys n lt;
-      };
-    };
-  })
+  new_first = grind (arith, no_call, as_seen, log_in, messages_in, keys_in)
 
   -- the log changes, and still has at most one byte
   new_changed : (a c : Files) → NewAlone a → ((m : List ℕ) → m ≢ log_of path → c m ≡ a m) → length (bytes_in (c (log_of path))) ≤ 1 → NewAlone c
@@ -165,9 +147,4 @@ module _ (d0 : DiskState) (path : List ℕ) (on : IsOnDisk d0 (log_of path)) whe
 
   pub log_alone_stands : (d : DiskState) (base : BaseBytes) → StandsFor path base d0.seen → IsLog [] (bytes_in (d0.seen (log_of path))) → IsShutAt 0 (bytes_in (d0.seen (log_of path))) → LeavesOnly d0 d LogAlone
       → LeavesOnly d0 d (StandsAlone path d0 base)
-  log_alone_stands d base stands empty shut run =
-      weaker_run d0 d LogAlone (StandsAlone path d0 base) run
-      (λ c was. record {
-        outside = was.outside;
-        stands = no_record path base d0.seen c stands empty (subst (λ f. IsLog [] (bytes_in f)) (sym was.log) empty) (inl (subst (λ f. IsShutAt 0 (bytes_in f)) (sym was.log) shut));
-      })
+  log_alone_stands d base stands empty shut run = grind (arith, weaker_run, no_record)

@@ -21,17 +21,7 @@ use Rattle.base_log.proofs.Paths.{log_in, messages_in, keys_in, messages_not_log
 use Rattle.base_log.proofs.Same.{AreThere-both, TellsBase-seen, log_changed}
 
 pub told_by-body_of : (told : CommitRecord) → FitsRecord told → told_by (body_of told) ≡ told
-told_by-body_of told fits = λ i. record {
-  messages = from_le_bytes-to_le_bytes_8 told.messages fits.messages i;
-  keys = from_le_bytes-to_le_bytes_8 told.keys fits.keys i;
-  cursor = from_le_bytes-to_le_bytes_8 told.cursor fits.cursor i;
-  number = told.number;
-  mark = record {
-    owner = from_le_bytes-to_le_bytes_8 told.mark.owner fits.owner i;
-    first = from_le_bytes-to_le_bytes_8 told.mark.first fits.first i;
-    second = from_le_bytes-to_le_bytes_8 told.mark.second fits.second i;
-  };
-}
+told_by-body_of told fits = grind (arith, from_le_bytes-to_le_bytes_8)
 
 -- a path outside the folder is not the path of its log
 pub outside_log : (path m : List ℕ) → (IsIn path m → ⊥) → m ≢ log_of path

@@ -115,10 +115,7 @@ by_file P path k n file.Keys file.Keys same other = elim (cases_eq k n) [
 -- the record counts more bytes of the file, and as many of the other one
 by_count : (P : GrowingFile → ℕ → Type 0) (path : List ℕ) (told : CommitRecord) (f : GrowingFile) (n : ℕ) (g : GrowingFile) → P f (counted told f + n)
     → (file_of path told.number g ≢ file_of path told.number f → P g (counted told g)) → P g (counted (with_more told f n) g)
-by_count P path told file.Messages n file.Messages own other = own
-by_count P path told file.Messages n file.Keys own other = other (keys_not_messages path told.number told.number)
-by_count P path told file.Keys n file.Messages own other = other (messages_not_keys path told.number told.number)
-by_count P path told file.Keys n file.Keys own other = own
+by_count P path told f n g h1 h2 = grind (arith, keys_not_messages, messages_not_keys)
 
 more_fields : (told : CommitRecord) (f : GrowingFile) (n : ℕ) → record told { messages = counted (with_more told f n) file.Messages; keys = counted (with_more told f n) file.Keys } ≡ with_more told f n
 more_fields told file.Messages n = refl

@@ -1,7 +1,7 @@
 -- Calls that keep files: their paths, their bytes on the disk, and the log.
-use Rattle.std.proofs.Common.{◌≡◌, ◌≢◌, List, ℕ, sym, ◌∙◌, ap, subst}
+use Rattle.std.proofs.Common.{◌≡◌, ◌≢◌, List, ℕ, arith}
 use Rattle.std.specs.Prelude.{IsSome}
-use Rattle.disk_io.specs.Disk.{DiskState, bytes_in, IsIn}
+use Rattle.disk_io.specs.Disk.{DiskState, IsIn}
 use Rattle.disk_io.specs.Runs.{ChangesNothing}
 use Rattle.disk_io.specs.Synced.{IsOnDisk, KeepsOthers}
 use Rattle.base_log.specs.Names.{log_of}
@@ -12,93 +12,40 @@ use Rattle.base_log.specs.declared.log.End.{End}
 
 -- a call without a change keeps all other files
 pub but_one_quiet : (d e : DiskState) (file : List ℕ) → ChangesNothing d e → KeepsButOne d e file
-but_one_quiet d e file quiet = record {
-  seen = λ m ne. quiet.seen m;
-  named = λ m ne. quiet.named m (λ h. h);
-  flushed = λ m ne. quiet.flushed m (λ h. h);
-  alone = λ m ne. quiet.alone m (λ h. h);
-  honest = quiet.honest;
-}
+but_one_quiet d e file quiet = grind arith
 
 pub but_one_twice : (d e f : DiskState) (file : List ℕ) → KeepsButOne d e file → KeepsButOne e f file → KeepsButOne d f file
-but_one_twice d e f file one two = record {
-  seen = λ m ne. two.seen m ne ∙ one.seen m ne;
-  named = λ m ne is. two.named m ne (one.named m ne is);
-  flushed = λ m ne is. two.flushed m ne (one.flushed m ne is);
-  alone = λ m ne is. two.alone m ne (one.alone m ne is);
-  honest = λ is. one.honest (two.honest is);
-}
+but_one_twice d e f file one two = grind arith
 
 but_one_others : (d e : DiskState) (file : List ℕ) → KeepsOthers d e file → KeepsButOne d e file
 but_one_others d e file kept = record { seen = kept.seen; named = λ m ne. kept.named m; flushed = kept.flushed; alone = λ m ne. kept.alone m; honest = kept.honest }
 
 -- a change of one file of the folder leaves everything outside unchanged
 pub outside_but_one : (path : List ℕ) (d e : DiskState) (file : List ℕ) → IsIn path file → KeepsButOne d e file → KeepsOutside path d e
-outside_but_one path d e file inside kept =
-    let other : (m : List ℕ) → (IsIn path m → ⊥) → m ≢ file = λ m out is. out (subst (λ (l : List ℕ). IsIn path l) (sym is) inside) in
-    record {
-      seen = λ m out. kept.seen m (other m out);
-      named = λ m out. kept.named m (other m out);
-      flushed = λ m out. kept.flushed m (other m out);
-      alone = λ m out. kept.alone m (other m out);
-      honest = kept.honest;
-    }
+outside_but_one path d e file inside kept = grind arith
 
 pub outside_kept : (path file : List ℕ) (d e : DiskState) → IsIn path file → KeepsOthers d e file → KeepsOutside path d e
 outside_kept path file d e inside kept = outside_but_one path d e file inside (but_one_others d e file kept)
 
 pub outside_quiet : (path : List ℕ) (d e : DiskState) → ChangesNothing d e → KeepsOutside path d e
-outside_quiet path d e quiet = record {
-  seen = λ m out. quiet.seen m;
-  named = λ m out. quiet.named m (λ h. h);
-  flushed = λ m out. quiet.flushed m (λ h. h);
-  alone = λ m out. quiet.alone m (λ h. h);
-  honest = quiet.honest;
-}
+outside_quiet path d e quiet = grind arith
 
 pub outside_twice : (path : List ℕ) (d e f : DiskState) → KeepsOutside path d e → KeepsOutside path e f → KeepsOutside path d f
-outside_twice path d e f one two = record {
-  seen = λ m out. two.seen m out ∙ one.seen m out;
-  named = λ m out is. two.named m out (one.named m out is);
-  flushed = λ m out is. two.flushed m out (one.flushed m out is);
-  alone = λ m out is. two.alone m out (one.alone m out is);
-  honest = λ is. one.honest (two.honest is);
-}
+outside_twice path d e f one two = grind arith
 
 -- a file with its bytes on the disk, and its path
 pub settled_on : (d e : DiskState) (file : List ℕ) → ChangesNothing d e → IsSome (d.seen file) → d.is_named file → d.is_alone file → e.is_flushed file → IsOnDisk e file
-settled_on d e file quiet there named alone flushed = record {
-  there = subst (λ f. IsSome f) (sym (quiet.seen file)) there;
-  named = quiet.named file (λ h. h) named;
-  flushed = flushed;
-  alone = quiet.alone file (λ h. h) alone;
-}
+settled_on d e file quiet there named alone flushed = grind arith
 
 pub on_disk_quiet : (d e : DiskState) (file : List ℕ) → ChangesNothing d e → IsOnDisk d file → IsOnDisk e file
 on_disk_quiet d e file quiet on = settled_on d e file quiet on.there on.named on.alone (quiet.flushed file (λ h. h) on.flushed)
 
 pub on_disk_but_one : (d e : DiskState) (file other : List ℕ) → KeepsButOne d e other → file ≢ other → IsOnDisk d file → IsOnDisk e file
-on_disk_but_one d e file other kept ne on = record {
-  there = subst (λ f. IsSome f) (sym (kept.seen file ne)) on.there;
-  named = kept.named file ne on.named;
-  flushed = kept.flushed file ne on.flushed;
-  alone = kept.alone file ne on.alone;
-}
+on_disk_but_one d e file other kept ne on = grind arith
 
 pub on_disk_kept : (d e : DiskState) (file other : List ℕ) → KeepsOthers d e other → file ≢ other → IsOnDisk d file → IsOnDisk e file
 on_disk_kept d e file other kept ne on = on_disk_but_one d e file other (but_one_others d e other kept) ne on
 
 -- the log is as it was, after other files were made
 pub log_moved : (d e : DiskState) (path : List ℕ) (end : End) → IsLogAt d path end → e.seen (log_of path) ≡ d.seen (log_of path) → IsOnDisk e (log_of path) → AreNamed path e → IsLogAt e path end
-log_moved d e path end was same on named = record {
-  bodies = was.bodies;
-  sizes = was.sizes;
-  closed = was.closed;
-  rest = was.rest;
-  log = ap bytes_in same ∙ was.log;
-  shut = was.shut;
-  gate = was.gate;
-  told = was.told;
-  on_disk = on;
-  named = named;
-}
+log_moved d e path end was same on named = grind arith

@@ -1,5 +1,5 @@
 -- The bytes of a log: its records, the gate after them, and both after a torn write.
-use Rattle.std.proofs.Common.{◌≡◌, ◌≢◌, ◌≤◌, inl, inr, ℕ, ◌+◌, List, [], ◌∷◌, ◌++◌, length, get_or, take, drop, min, Option, refl, sym, ◌∙◌, ap, subst, arith, append_assoc, length-append, take-append-drop}
+use Rattle.std.proofs.Common.{◌≡◌, ◌≢◌, ◌≤◌, inl, inr, ℕ, ◌+◌, List, [], ◌∷◌, ◌++◌, length, get_or, take, drop, Option, refl, sym, ◌∙◌, ap, arith, append_assoc, length-append, take-append-drop}
 use Rattle.std.proofs.lemmas.List.{take_at, drop_at, drop-drop, get_or_at, drop_more, append-nil}
 use Rattle.disk_io.specs.Disk.{bytes_in}
 use Rattle.disk_io.specs.Steps.{IsWrittenAt, TornWrite}
@@ -26,9 +26,7 @@ pub shut_log : (bodies : List (List ℕ)) (gate : ℕ) (rest bytes : List ℕ) �
 shut_log bodies gate rest bytes sizes shut is = record { rest = gate ∷ rest; parts = is; sizes = sizes; ends = inr shut }
 
 pub shut_at : (front : List ℕ) (gate : ℕ) (rest bytes : List ℕ) → gate ≢ 1 → bytes ≡ front ++ gate ∷ rest → IsShutAt (length front) bytes
-shut_at front gate rest bytes shut is =
-    let there : get_or bytes (length front) 0 ≡ gate = ap (λ (l : List ℕ). get_or l (length front) 0) is ∙ get_or_at front gate rest 0 (length front) refl in
-    (omega (arith, ap length is, length-append front (gate ∷ rest)), λ is_open. shut (sym there ∙ is_open))
+shut_at front gate rest bytes shut is = grind (arith, get_or, get_or_at, length-append)
 
 -- ---- a log has one list of records
 
@@ -53,9 +51,7 @@ one_log xs ys bytes a b = same_bodies xs ys a.rest b.rest a.sizes b.sizes a.ends
 
 -- a write within the file keeps the bytes before it
 pub kept_before : (at count : ℕ) (old new : Option (List ℕ)) → TornWrite at count old new → at ≤ length (bytes_in old) → take at (bytes_in new) ≡ take at (bytes_in old)
-kept_before at count old new torn within =
-    let same : min at (length (bytes_in old)) ≡ at = omega arith in
-    subst (λ (n : ℕ). take n (bytes_in new) ≡ take at (bytes_in old)) same torn.before
+kept_before at count old new torn within = grind arith
 
 -- the bytes after a place, and those after a longer front
 just_behind : (front : List ℕ) (gate : ℕ) (rest : List ℕ) → drop (length front + 1) (front ++ gate ∷ rest) ≡ rest
@@ -81,30 +77,12 @@ torn_record front gate tail count old new torn is =
     sym (take-append-drop n c) ∙ ap (λ (l : List ℕ). l ++ drop n c) kept ∙ append_assoc front (gate ∷ []) (drop n c)
 
 pub whole_record : (front : List ℕ) (gate : ℕ) (tail bytes new : List ℕ) → IsWrittenAt (front ++ gate ∷ tail) (length front + 1) bytes new → new ≡ front ++ gate ∷ (bytes ++ drop (length bytes) tail)
-whole_record front gate tail bytes new is =
-    let all = front ++ gate ∷ tail in
-    let rest = drop (length bytes) tail in
-    is
-    ∙ ap (λ (l : List ℕ). l ++ bytes ++ drop (length front + 1 + length bytes) all) (up_to front gate tail)
-    ∙ ap (λ (l : List ℕ). (front ++ gate ∷ []) ++ bytes ++ l) (behind front gate tail (length bytes))
-    ∙ append_assoc (front ++ gate ∷ []) bytes rest
-    ∙ append_assoc front (gate ∷ []) (bytes ++ rest)
+whole_record front gate tail bytes new is = grind (arith, up_to, behind, append_assoc)
 
 -- the record stays whole, whatever its gate is
 pub torn_gate : (front : List ℕ) (gate : ℕ) (tail : List ℕ) (old new : Option (List ℕ)) → TornWrite (length front) 1 old new → bytes_in old ≡ front ++ gate ∷ tail
     → bytes_in new ≡ front ++ get_or (bytes_in new) (length front) 0 ∷ tail
-torn_gate front gate tail old new torn is =
-    let n = length front in
-    let c = bytes_in new in
-    let within : n + 1 ≤ length (bytes_in old) = omega (arith, ap length is, length-append front (gate ∷ tail)) in
-    let back : drop (n + 1) (bytes_in old) ≡ tail = ap (λ (l : List ℕ). drop (n + 1) l) is ∙ just_behind front gate tail in
-    let before : take n c ≡ front = kept_before n 1 old new torn (omega arith) ∙ ap (λ (l : List ℕ). take n l) is ∙ take_at front (gate ∷ tail) n refl in
-    let rest : drop n c ≡ get_or c n 0 ∷ tail = drop_more c n 0 (omega (arith, torn.no_shorter)) ∙ ap (λ (l : List ℕ). get_or c n 0 ∷ l) (torn.behind ∙ back) in
-    sym (take-append-drop n c) ∙ ap (λ (l : List ℕ). l ++ drop n c) before ∙ ap (λ (l : List ℕ). front ++ l) rest
+torn_gate front gate tail old new torn is = grind (arith, length-append, just_behind, kept_before, take_at, get_or, drop_more, take-append-drop)
 
 pub whole_gate : (front : List ℕ) (gate : ℕ) (tail new : List ℕ) → IsWrittenAt (front ++ gate ∷ tail) (length front) (1 ∷ []) new → new ≡ front ++ 1 ∷ tail
-whole_gate front gate tail new is =
-    is
-    ∙ ap (λ (l : List ℕ). l ++ (1 ∷ []) ++ drop (length front + 1) (front ++ gate ∷ tail)) (take_at front (gate ∷ tail) (length front) refl)
-    ∙ ap (λ (l : List ℕ). front ++ (1 ∷ []) ++ l) (just_behind front gate tail)
-    ∙ append_assoc front (1 ∷ []) tail
+whole_gate front gate tail new is = grind (arith, take_at, just_behind, append_assoc)

@@ -1,5 +1,5 @@
 -- A file of a base folder is made.
-use Rattle.std.proofs.Common.{◌≢◌, ℕ, List}
+use Rattle.std.proofs.Common.{◌≢◌, ℕ, List, arith}
 use Rattle.disk_io.specs.Disk.{DiskState}
 use Rattle.disk_io.specs.Runs.{LeavesOnly}
 use Rattle.disk_io.specs.Steps.{TornMaking}
@@ -17,9 +17,7 @@ use Rattle.base_log.proofs.Renewed.{FilesAlone, alone_changed, alone_first}
 
 -- the two files of a number are made
 pub outside_both : (path : List ℕ) (number : ℕ) (d0 d1 d2 : DiskState) → Made d0 d1 (messages_of path number) → Made d1 d2 (keys_of path number) → KeepsOutside path d0 d2
-outside_both path number d0 d1 d2 one two =
-    outside_twice path d0 d1 d2 (outside_but_one path d0 d1 (messages_of path number) (messages_in path number) (but_one_call d0 d1 (messages_of path number) one))
-    (outside_but_one path d1 d2 (keys_of path number) (keys_in path number) (but_one_call d1 d2 (keys_of path number) two))
+outside_both path number d0 d1 d2 one two = grind (arith, outside_twice, outside_but_one, messages_in, but_one_call, keys_in)
 
 -- a crash during the calls leaves the files that count
 module _ (d0 : DiskState) (path : List ℕ) (end : End) (rest : IsAtRest d0 path end) (number : ℕ) (other : number ≢ end.told.number) (d1 : DiskState) (one : Made d0 d1 (messages_of path number)) where

@@ -1,5 +1,5 @@
 -- The files of a folder, as the log describes them.
-use Rattle.std.proofs.Common.{◌≡◌, ◌≢◌, ◌≤◌, ◌<◌, ◌⊎◌, inl, inr, ⊎_elim, ℕ, List, [], ◌∷◌, ◌++◌, length, get_or, take, Option, Some, None, refl, sym, ◌∙◌, ap, subst, arith, length-append}
+use Rattle.std.proofs.Common.{◌≡◌, ◌≢◌, ◌≤◌, ◌<◌, ◌⊎◌, inl, inr, ⊎_elim, ℕ, List, [], ◌∷◌, ◌++◌, length, get_or, Option, Some, None, refl, sym, ◌∙◌, ap, subst, arith, length-append}
 use Rattle.std.proofs.lemmas.List.{get_or_at}
 use Rattle.std.specs.Prelude.{IsSome}
 use Rattle.disk_io.specs.Disk.{DiskState, Files, bytes_in}
@@ -48,44 +48,20 @@ some_there (Some bytes) some = refl
 
 -- a log with its gate at the front has no record
 pub none_at : (d : DiskState) (path : List ℕ) (end : End) → IsLogAt d path end → end.gate ≡ 0 → IsLog [] (bytes_in (d.seen (log_of path))) × IsShutAt 0 (bytes_in (d.seen (log_of path)))
-none_at d path end at none =
-    let empty : at.bodies ≡ [] = no_bodies at.bodies at.sizes (omega (arith, none, at.gate)) in
-    let bytes = bytes_in (d.seen (log_of path)) in
-    let is : bytes ≡ at.closed ∷ at.rest = at.log ∙ ap (λ b. opened b ++ at.closed ∷ at.rest) empty in
-    (shut_log [] at.closed at.rest bytes tt at.shut is, shut_at [] at.closed at.rest bytes at.shut is)
+none_at d path end at none = grind (arith, no_bodies, shut_log, shut_at)
 
 -- the two files of a folder without a record
 pub first_files : (path : List ℕ) (files : Files) (told : CommitRecord) → told ≡ nothing_told → IsSome (files (messages_of path 0)) → IsSome (files (keys_of path 0)) → HasFiles path files told
-first_files path files told none m k =
-    let zero : HasFiles path files nothing_told = record { messages = m; keys = k; messages_long = omega arith; keys_long = omega arith } in
-    subst (λ (t : CommitRecord). HasFiles path files t) (sym none) zero
+first_files path files told none m k = grind arith
 
 -- the two files are put on the disk
 pub files_settled : (d e : DiskState) (path : List ℕ) (end : End) → IsLogAt d path end → ChangesNothing d e → end.told.number < 10 → HasFiles path d.seen end.told
     → d.is_alone (messages_of path end.told.number) → d.is_alone (keys_of path end.told.number) → e.is_flushed (messages_of path end.told.number) → e.is_flushed (keys_of path end.told.number) → IsAtRest e path end
-files_settled d e path end log quiet digit has m_alone k_alone m_flushed k_flushed =
-    let m = messages_of path end.told.number in
-    let k = keys_of path end.told.number in
-    record {
-      log = log_quiet d e path end quiet log;
-      digit = digit;
-      messages_long = subst (λ f. end.told.messages ≤ length (bytes_in f)) (sym (quiet.seen m)) has.messages_long;
-      keys_long = subst (λ f. end.told.keys ≤ length (bytes_in f)) (sym (quiet.seen k)) has.keys_long;
-      messages_on = settled_on d e m quiet has.messages (log.named m (messages_in path end.told.number)) m_alone m_flushed;
-      keys_on = settled_on d e k quiet has.keys (log.named k (keys_in path end.told.number)) k_alone k_flushed;
-    }
+files_settled d e path end log quiet digit has m_alone k_alone m_flushed k_flushed = grind (arith, log_quiet, settled_on, messages_in, keys_in)
 
 -- files that differ only in the log
 pub files_beside : (d e : DiskState) (path : List ℕ) (told : CommitRecord) → KeepsButOne d e (log_of path) → HasFiles path d.seen told → HasFiles path e.seen told
-files_beside d e path told kept has =
-    let m = kept.seen (messages_of path told.number) (messages_not_log path told.number) in
-    let k = kept.seen (keys_of path told.number) (keys_not_log path told.number) in
-    record {
-      messages = subst (λ f. IsSome f) (sym m) has.messages;
-      keys = subst (λ f. IsSome f) (sym k) has.keys;
-      messages_long = subst (λ f. told.messages ≤ length (bytes_in f)) (sym m) has.messages_long;
-      keys_long = subst (λ f. told.keys ≤ length (bytes_in f)) (sym k) has.keys_long;
-    }
+files_beside d e path told kept has = grind (arith, messages_not_log, keys_not_log)
 
 -- lost files represent no base
 pub lost_none : (path : List ℕ) (files : Files) (base : BaseBytes) → IsLost path files → StandsFor path base files → ⊥
@@ -127,20 +103,7 @@ module _ (bytes : List ℕ) (end : End) (reads : ReadsAll bytes end) where
 
   -- that of a new folder, which is made
   pub made_read : (d : DiskState) (path : List ℕ) → end.gate < 50 → bytes_in (d.seen (log_of path)) ≡ 0 ∷ [] → IsOnDisk d (log_of path) → AreNamed path d → IsLogAt d path end
-  made_read d path few is on named =
-      let none = none_read few in
-      record {
-        bodies = [];
-        sizes = tt;
-        closed = 0;
-        rest = [];
-        log = is;
-        shut = omega arith;
-        gate = reads.reads.gate ∙ ap (λ b. length (opened b)) none;
-        told = ap last_told (sym none) ∙ reads.reads.told;
-        on_disk = on;
-        named = named;
-      }
+  made_read d path few is on named = grind (arith, none_read)
 
   -- files with this log, and the base that they represent
   module _ (path : List ℕ) (files : Files) (is : bytes ≡ bytes_in (files (log_of path))) where
@@ -176,12 +139,7 @@ module _ (bytes : List ℕ) (end : End) (reads : ReadsAll bytes end) where
       -- the shown files have this base if they begin as these files do
       pub base_found : (d : DiskState) → d.seen (messages_of path end.told.number) ≡ files (messages_of path end.told.number) → d.seen (keys_of path end.told.number) ≡ files (keys_of path end.told.number)
           → base_at d path end.told ≡ base
-      base_found d m k =
-          let m_is : take end.told.messages (bytes_in (d.seen (messages_of path end.told.number))) ≡ base.messages =
-          ap (λ f. take end.told.messages (bytes_in f)) m ∙ ap (λ (n : ℕ). take n (bytes_in (files (messages_of path end.told.number)))) end_tells.messages_long ∙ end_tells.messages in
-          let k_is : take end.told.keys (bytes_in (d.seen (keys_of path end.told.number))) ≡ base.keys =
-          ap (λ f. take end.told.keys (bytes_in f)) k ∙ ap (λ (n : ℕ). take n (bytes_in (files (keys_of path end.told.number)))) end_tells.keys_long ∙ end_tells.keys in
-          λ i. record { messages = m_is i; keys = k_is i; cursor = end_tells.cursor i; mark = end_tells.mark i }
+      base_found d m k = grind (arith, end_tells)
 
     pub none_log : end.gate < 50 → IsLog [] (bytes_in (files (log_of path)))
     none_log few = subst (λ b. IsLog b (bytes_in (files (log_of path)))) (none_read few) log_in_files
@@ -195,9 +153,7 @@ module _ (bytes : List ℕ) (end : End) (reads : ReadsAll bytes end) where
     broken_by some none = record { logged = λ lost. some (ap length is ∙ ap length lost.log); none = none }
 
     pub no_digit : 10 ≤ end.told.number → IsBroken path files
-    no_digit high =
-        broken_by (λ none. absurd (omega (arith, high, ap (λ (t : CommitRecord). t.number) (nothing_read (omega (arith, none, within))))))
-        (λ base stands. absurd (omega (arith, high, (end_tells base stands).digit)))
+    no_digit high = grind (arith, broken_by, nothing_read, within, end_tells)
 
     pub no_files : end.gate ≢ 0 → (HasFiles path files end.told → ⊥) → IsBroken path files
     no_files some none = broken_by (λ empty. some (omega (arith, empty, within))) (λ base stands. none (has_files base stands some))
@@ -215,32 +171,13 @@ module _ (bytes : List ℕ) (end : End) (reads : ReadsAll bytes end) where
         TellsBase-seen end.told path d d.seen (omega (arith, ap (λ (t : CommitRecord). t.number) told)) (omega (arith, ap (λ (t : CommitRecord). t.messages) told)) (omega (arith, ap (λ (t : CommitRecord). t.keys) told)) refl refl
 
     pub new_stands : IsNew path d.seen → StandsFor path seen d.seen
-    new_stands new =
-        let told = nothing_read (new_few path d.seen is new) in
-        record {
-          bodies = [];
-          log = new_log path d.seen new;
-          ended = inr new;
-          there = tt;
-          tells = subst (λ (t : CommitRecord). TellsBase t path seen d.seen) told (nothing_seen told);
-        }
+    new_stands new = grind (arith, nothing_read, new_few, new_log, nothing_seen)
 
     shut_stands : IsShutAt end.gate bytes → AreThere path bodies d.seen → TellsBase end.told path seen d.seen → StandsFor path seen d.seen
-    shut_stands shut there tells = record {
-      bodies = bodies;
-      log = log_in_files path d.seen is;
-      ended = inl (subst (λ (n : ℕ). IsShutAt n (bytes_in (d.seen (log_of path)))) reads.reads.gate (subst (λ (l : List ℕ). IsShutAt end.gate l) is shut));
-      there = there;
-      tells = subst (λ (t : CommitRecord). TellsBase t path seen d.seen) (sym reads.reads.told) tells;
-    }
+    shut_stands shut there tells = grind (arith, log_in_files)
 
     pub first_stands : end.gate ≡ 0 → IsShutAt end.gate bytes → StandsFor path seen d.seen
-    first_stands first shut =
-        let few : end.gate < 50 = omega (arith, first) in
-        shut_stands shut (subst (λ b. AreThere path b d.seen) (sym (none_read few)) tt) (nothing_seen (nothing_read few))
+    first_stands first shut = grind (arith, shut_stands, none_read, nothing_seen, nothing_read)
 
     pub files_stand : end.told.number < 10 → HasFiles path d.seen end.told → IsShutAt end.gate bytes → StandsFor path seen d.seen
-    files_stand digit has shut =
-        shut_stands shut
-        (AreThere-both path bodies d.seen (subst (λ (t : CommitRecord). IsSome (d.seen (messages_of path t.number))) (sym reads.reads.told) has.messages) (subst (λ (t : CommitRecord). IsSome (d.seen (keys_of path t.number))) (sym reads.reads.told) has.keys))
-        (TellsBase-seen end.told path d d.seen digit has.messages_long has.keys_long refl refl)
+    files_stand digit has shut = grind (arith, shut_stands, AreThere-both, TellsBase-seen)

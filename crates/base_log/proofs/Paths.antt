@@ -52,17 +52,7 @@ keys_in path n = record { name = KEYS.now ++ (48 + n) ∷ []; parts = refl; plai
 
 -- the files of another number do not count
 pub messages_beside : (path : List ℕ) (n number : ℕ) → number ≢ n → IsBeside path n (messages_of path number)
-messages_beside path n number other = record {
-  inside = messages_in path number;
-  not_log = log_not_messages path number;
-  not_messages = λ is. other (sym (messages_of-injective path n number is));
-  not_keys = keys_not_messages path n number;
-}
+messages_beside path n number other = grind (arith, messages_in, log_not_messages, messages_of-injective, keys_not_messages)
 
 pub keys_beside : (path : List ℕ) (n number : ℕ) → number ≢ n → IsBeside path n (keys_of path number)
-keys_beside path n number other = record {
-  inside = keys_in path number;
-  not_log = log_not_keys path number;
-  not_messages = messages_not_keys path n number;
-  not_keys = λ is. other (sym (keys_of-injective path n number is));
-}
+keys_beside path n number other = grind (arith, keys_in, log_not_keys, messages_not_keys, keys_of-injective)

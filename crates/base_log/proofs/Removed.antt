@@ -1,10 +1,10 @@
 -- A base folder at rest, from which a call removes a file that does not count.
-use Rattle.std.proofs.Common.{◌≡◌, ◌≢◌, ◌≤◌, ℕ, List, Option, Some, None, length, refl, sym, subst}
+use Rattle.std.proofs.Common.{◌≡◌, ◌≢◌, ℕ, List, Option, Some, None, refl, arith}
 use Rattle.std.specs.Prelude.{IsSome}
-use Rattle.disk_io.specs.Disk.{DiskState, bytes_in, IsIn}
+use Rattle.disk_io.specs.Disk.{DiskState, IsIn}
 use Rattle.disk_io.specs.Runs.{ChangesAt, ChangesNothing, LeavesOnly, ThisPath}
 use Rattle.disk_io.specs.Steps.{ChangesFile, TornRemoval}
-use Rattle.base_log.specs.Names.{IsBeside, log_of, messages_of, keys_of}
+use Rattle.base_log.specs.Names.{IsBeside, messages_of, keys_of}
 use Rattle.base_log.specs.AtRest.{IsAtRest}
 use Rattle.base_log.specs.Moments.{StandsAlone}
 use Rattle.base_log.specs.Opening.{KeepsButOne}
@@ -21,16 +21,7 @@ not_there (Some bytes) none = absurd (none refl)
 
 -- the folder is at rest once its paths are on the disk
 pub rest_beside : (d e : DiskState) (path : List ℕ) (end : End) (file : List ℕ) → IsBeside path end.told.number file → IsAtRest d path end → KeepsButOne d e file → ((m : List ℕ) → IsIn path m → e.is_named m) → IsAtRest e path end
-rest_beside d e path end file beside rest kept named =
-    let n = end.told.number in
-    record {
-      log = log_moved d e path end rest.log (kept.seen (log_of path) beside.not_log) (on_disk_but_one d e (log_of path) file kept beside.not_log rest.log.on_disk) named;
-      digit = rest.digit;
-      messages_long = subst (λ f. end.told.messages ≤ length (bytes_in f)) (sym (kept.seen (messages_of path n) beside.not_messages)) rest.messages_long;
-      keys_long = subst (λ f. end.told.keys ≤ length (bytes_in f)) (sym (kept.seen (keys_of path n) beside.not_keys)) rest.keys_long;
-      messages_on = on_disk_but_one d e (messages_of path n) file kept beside.not_messages rest.messages_on;
-      keys_on = on_disk_but_one d e (keys_of path n) file kept beside.not_keys rest.keys_on;
-    }
+rest_beside d e path end file beside rest kept named = grind (arith, log_moved, on_disk_but_one)
 
 -- the base of the files that count is the same
 pub base_beside : (d e : DiskState) (path : List ℕ) (end : End) (file : List ℕ) → IsBeside path end.told.number file → ((m : List ℕ) → m ≢ file → e.seen m ≡ d.seen m) → base_at e path end.told ≡ base_at d path end.told

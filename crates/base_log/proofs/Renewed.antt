@@ -1,5 +1,5 @@
 -- A base folder at rest, in which a call makes other files.
-use Rattle.std.proofs.Common.{◌≡◌, inl, ℕ, List, Option, take, sym, ◌∙◌, subst}
+use Rattle.std.proofs.Common.{◌≡◌, inl, ℕ, List, Option, take, sym, ◌∙◌, subst, arith}
 use Rattle.disk_io.specs.Disk.{DiskState, Files, bytes_in, IsIn}
 use Rattle.disk_io.specs.Steps.{ChangesFile}
 use Rattle.disk_io.specs.Runs.{ChangesAt, LeavesOnly}
@@ -20,12 +20,7 @@ module _ (d0 : DiskState) (path : List ℕ) (end : End) (rest : IsAtRest d0 path
     pub outside : SameOutside path d0 c
 
   pub alone_first : LeavesOnly d0 d0 FilesAlone
-  alone_first = no_call d0 FilesAlone (λ c left. record {
-    log = d0.on_disk (log_of path) rest.log.on_disk.named rest.log.on_disk.flushed c left;
-    messages = d0.on_disk (messages_of path end.told.number) rest.messages_on.named rest.messages_on.flushed c left;
-    keys = d0.on_disk (keys_of path end.told.number) rest.keys_on.named rest.keys_on.flushed c left;
-    outside = λ m out named flushed. d0.on_disk m named flushed c left;
-  })
+  alone_first = grind (arith, no_call)
 
   -- another file changes
   pub alone_changed : {changed unnamed shared : List ℕ → Type 0} (step : Option (List ℕ) → Option (List ℕ) → Type 0) (d e : DiskState) (file : List ℕ) → IsBeside path end.told.number file → d.is_named file

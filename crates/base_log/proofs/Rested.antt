@@ -1,5 +1,5 @@
 -- A base folder at rest: nothing is staged yet.
-use Rattle.std.proofs.Common.{◌≡◌, List, ℕ, inl, sym, ◌∙◌, ap, subst, arith, refl}
+use Rattle.std.proofs.Common.{◌≡◌, List, ℕ, inl, sym, ◌∙◌, ap, subst, arith}
 use Rattle.std.specs.Prelude.{IsSome}
 use Rattle.disk_io.specs.Disk.{DiskState, Files, bytes_in}
 use Rattle.base_log.specs.Names.{log_of, messages_of, keys_of}
@@ -30,24 +30,7 @@ rest_same d path end rest c same_log same_m same_k =
     }
 
 pub rest_stands : (d : DiskState) (path : List ℕ) (end : End) → IsAtRest d path end → (c : Files) → d.may_leave c → StandsFor path (base_at d path end.told) c
-rest_stands d path end rest c left =
-    rest_same d path end rest c
-    (d.on_disk (log_of path) rest.log.on_disk.named rest.log.on_disk.flushed c left)
-    (d.on_disk (messages_of path end.told.number) rest.messages_on.named rest.messages_on.flushed c left)
-    (d.on_disk (keys_of path end.told.number) rest.keys_on.named rest.keys_on.flushed c left)
+rest_stands d path end rest c left = grind (arith, rest_same)
 
 pub rest_staged : (d : DiskState) (path : List ℕ) (end : End) (cursor : ℕ) (mark : FolderIdentity) → IsAtRest d path end → IsStaged d path end (record end.told { cursor = cursor; mark = mark })
-rest_staged d path end cursor mark rest = record {
-  log = rest.log;
-  stands = rest_stands d path end rest;
-  shown = rest_same d path end rest d.seen refl refl refl;
-  digit = rest.digit;
-  messages_there = rest.messages_on.there;
-  keys_there = rest.keys_on.there;
-  messages_alone = rest.messages_on.alone;
-  keys_alone = rest.keys_on.alone;
-  messages_long = rest.messages_long;
-  keys_long = rest.keys_long;
-  messages_behind = λ same. omega arith;
-  keys_behind = λ same. omega arith;
-}
+rest_staged d path end cursor mark rest = grind (arith, rest_stands, rest_same)

@@ -1,5 +1,5 @@
 -- Files that represent a base, before and after a change that keeps it.
-use Rattle.std.proofs.Common.{◌≡◌, ◌≢◌, ◌≤◌, ◌<◌, inl, ℕ, List, [], ◌∷◌, length, take, sym, ap, subst, arith, length-take, refl}
+use Rattle.std.proofs.Common.{◌≡◌, ◌≢◌, ◌≤◌, ◌<◌, inl, ℕ, List, [], ◌∷◌, length, take, sym, ap, subst, arith, length-take}
 use Rattle.std.specs.Prelude.{IsSome}
 use Rattle.disk_io.specs.Disk.{DiskState, Files, bytes_in}
 use Rattle.base_log.specs.Names.{log_of, messages_of, keys_of}
@@ -20,20 +20,10 @@ AreThere-both path (body ∷ bodies) c m k = (m, k)
 
 pub TellsBase-same : (told : CommitRecord) (path : List ℕ) (base : BaseBytes) (a c : Files) → c (messages_of path told.number) ≡ a (messages_of path told.number)
     → c (keys_of path told.number) ≡ a (keys_of path told.number) → TellsBase told path base a → TellsBase told path base c
-TellsBase-same told path base a c m k was = record {
-  messages_long = was.messages_long;
-  keys_long = was.keys_long;
-  cursor = was.cursor;
-  mark = was.mark;
-  digit = was.digit;
-  messages = subst (λ f. IsFrontOf base.messages (bytes_in f)) (sym m) was.messages;
-  keys = subst (λ f. IsFrontOf base.keys (bytes_in f)) (sym k) was.keys;
-}
+TellsBase-same told path base a c m k was = grind arith
 
 pub front_taken : (n : ℕ) (bytes : List ℕ) → n ≤ length bytes → IsFrontOf (take n bytes) bytes
-front_taken n bytes le =
-    let long : length (take n bytes) ≡ n = omega (arith, length-take n bytes) in
-    ap (λ (k : ℕ). take k bytes) long
+front_taken n bytes le = grind (arith, length-take)
 
 pub front_long : (front bytes : List ℕ) → IsFrontOf front bytes → length front ≤ length bytes
 front_long front bytes is = omega (arith, ap length is, length-take (length front) bytes)
@@ -42,15 +32,7 @@ front_long front bytes is = omega (arith, ap length is, length-take (length fron
 pub TellsBase-seen : (told : CommitRecord) (path : List ℕ) (d : DiskState) (c : Files) → told.number < 10 → told.messages ≤ length (bytes_in (d.seen (messages_of path told.number)))
     → told.keys ≤ length (bytes_in (d.seen (keys_of path told.number))) → c (messages_of path told.number) ≡ d.seen (messages_of path told.number)
     → c (keys_of path told.number) ≡ d.seen (keys_of path told.number) → TellsBase told path (base_at d path told) c
-TellsBase-seen told path d c digit m_long k_long m k = record {
-  messages_long = omega (arith, length-take told.messages (bytes_in (d.seen (messages_of path told.number))));
-  keys_long = omega (arith, length-take told.keys (bytes_in (d.seen (keys_of path told.number))));
-  cursor = refl;
-  mark = refl;
-  digit = digit;
-  messages = subst (λ f. IsFrontOf (base_at d path told).messages (bytes_in f)) (sym m) (front_taken told.messages (bytes_in (d.seen (messages_of path told.number))) m_long);
-  keys = subst (λ f. IsFrontOf (base_at d path told).keys (bytes_in f)) (sym k) (front_taken told.keys (bytes_in (d.seen (keys_of path told.number))) k_long);
-}
+TellsBase-seen told path d c digit m_long k_long m k = grind (arith, length-take, front_taken)
 
 -- the facts about a base by these records, which are those of its log
 pub tells_by : (path : List ℕ) (base : BaseBytes) (c : Files) (bodies : List (List ℕ)) → StandsFor path base c → IsLog bodies (bytes_in (c (log_of path))) → AreThere path bodies c × TellsBase (last_told bodies) path base c

@@ -1,4 +1,4 @@
-use Rattle.std.proofs.Common.{List, ℕ, ◌≡◌, ◌+◌, ◌∷◌, [], ◌++◌, length, drop, ◌∙◌, subst, refl}
+use Rattle.std.proofs.Common.{List, ℕ, ◌≡◌, ◌+◌, ◌∷◌, [], ◌++◌, length, drop, ◌∙◌, subst, refl, arith}
 use Rattle.disk_io.specs.Disk.{bytes_in}
 use Rattle.disk_io.specs.Steps.{IsWrittenAt, TornWrite, ChangesFile}
 use Rattle.disk_io.specs.Runs.{OneStepOn, LeavesOnly}
@@ -17,10 +17,7 @@ use Rattle.base_log.proofs.committing.commit.Goals as goal
 -- the record is written behind the closed gate
 record_run : (g : given.Over) (c : After-write_synced g)
     → LeavesOnly (g.D.Disk.state c.sync-2.new.self) (g.D.Disk.state c.write_synced.new.disk) (OneStepOn (ChangesFile (g.D.Disk.state c.sync-2.new.self) (log_of (folder_of c.args.names.now)) (TornWrite (c.args.end.gate + 1) (length c.record_of.result))) (g.D.Disk.state c.sync-2.new.self))
-record_run g c =
-    let d2 = g.D.Disk.state c.sync-2.new.self in
-    subst (λ (l : List ℕ). LeavesOnly d2 (g.D.Disk.state c.write_synced.new.disk) (OneStepOn (ChangesFile d2 l (TornWrite (c.args.end.gate + 1) (length c.record_of.result))) d2))
-    (c.deref-3.ensures.value ∙ c.requires.staged.names.log) c.write_synced.ensures.any_moment
+record_run g c = grind arith
 
 record_kept : (g : given.Over) (c : After-write_synced g) → KeepsOthers (g.D.Disk.state c.sync-2.new.self) (g.D.Disk.state c.write_synced.new.disk) (log_of (folder_of c.args.names.now))
 record_kept g c =
@@ -38,9 +35,7 @@ at_record g c h0 =
 -- the gate is opened
 gate_run : (g : given.Over) (c : After-write_synced-2 g)
     → LeavesOnly (g.D.Disk.state c.write_synced.new.disk) (g.D.Disk.state c.write_synced-2.new.disk) (OneStepOn (ChangesFile (g.D.Disk.state c.write_synced.new.disk) (log_of (folder_of c.args.names.now)) (TornWrite c.args.end.gate 1)) (g.D.Disk.state c.write_synced.new.disk))
-gate_run g c =
-    let d3 = g.D.Disk.state c.write_synced.new.disk in
-    subst (λ (l : List ℕ). LeavesOnly d3 (g.D.Disk.state c.write_synced-2.new.disk) (OneStepOn (ChangesFile d3 l (TornWrite c.args.end.gate 1)) d3)) (c.deref-4.ensures.value ∙ c.requires.staged.names.log) c.write_synced-2.ensures.any_moment
+gate_run g c = grind arith
 
 gate_kept : (g : given.Over) (c : After-write_synced-2 g) → KeepsOthers (g.D.Disk.state c.write_synced.new.disk) (g.D.Disk.state c.write_synced-2.new.disk) (log_of (folder_of c.args.names.now))
 gate_kept g c =

@@ -1,4 +1,4 @@
-use Rattle.std.proofs.Common.{◌≡◌, ℕ, List, IsTrue, false, sym, subst, arith, rules}
+use Rattle.std.proofs.Common.{◌≡◌, ℕ, List, false, sym, subst, arith, rules}
 use Rattle.base_log.specs.Opening.{HasFiles}
 use Rattle.base_log.proofs.Opened.{first_stands, no_digit, no_files}
 use Rattle.base_log.proofs.judging.judge.Goals as goal
@@ -9,10 +9,7 @@ returns-then-told-ge-NUMBERS-clause-corrupt g c honest is =
     no_digit log.bytes.items log.end c.requires.read c.args.folder.now (g.D.Disk.state c.args.disk.now).seen (c.requires.log honest) (omega (arith, c.if-told-ge-NUMBERS.true))
 
 pub returns-then-log-eq0-clause-stands : goal.returns-then-log-eq0-clause-stands
-returns-then-log-eq0-clause-stands g c honest =
-    let log = c.args.log.now in
-    let yes : IsTrue c.is_shut.result = search rules in
-    first_stands log.bytes.items log.end c.requires.read (g.D.Disk.state c.args.disk.now) c.args.folder.now (c.requires.log honest) c.if-log-eq0.true (c.is_shut.ensures.0 yes)
+returns-then-log-eq0-clause-stands g c honest = grind (arith, first_stands)
 
 pub returns-then-not-branch-clause-corrupt : goal.returns-then-not-branch-clause-corrupt
 returns-then-not-branch-clause-corrupt g c honest is =

@@ -1,5 +1,4 @@
 use Rattle.std.proofs.Common.{◌≢◌, length, ap, arith}
-use Rattle.base_log.specs.Standing.{IsNew}
 use Rattle.base_log.proofs.Opened.{new_stands, not_new}
 use Rattle.base_log.proofs.judging.judge_new.Goals as goal
 
@@ -12,15 +11,7 @@ returns-then-size-gt1-clause-corrupt g c honest is =
     (λ new. absurd (omega (arith, new.log, ap length seen, c.if-size-gt1.true, c.len-size.ensures, log.bytes.ok.0)))
 
 pub returns-then-branch-clause-stands : goal.returns-then-branch-clause-stands
-returns-then-branch-clause-stands g c honest =
-    let log = c.args.log.now in
-    let d = g.D.Disk.state c.args.disk.now in
-    let seen = c.requires.log (c.has_no_bytes.ensures.quiet.honest honest) in
-    let new : IsNew c.args.folder.now d.seen = record {
-      log = omega (arith, ap length seen, c.if-size-gt1.false, c.len-size.ensures, log.bytes.ok.0);
-      empty = (c.in_ok-has_no_bytes.ensures.none honest).0 c.if-branch.true;
-    } in
-    new_stands log.bytes.items log.end c.requires.read d c.args.folder.now seen new
+returns-then-branch-clause-stands g c honest = grind (arith, new_stands)
 
 pub returns-clause-corrupt : goal.returns-clause-corrupt
 returns-clause-corrupt g c honest is =

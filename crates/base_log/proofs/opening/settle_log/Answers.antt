@@ -4,7 +4,7 @@ use Rattle.disk_io.specs.Runs.{ChangesNothing, LeavesOnly}
 use Rattle.disk_io.proofs.Moments.{nothing_twice}
 use Rattle.base_log.specs.Log.{IsShutAt}
 use Rattle.base_log.specs.Names.{folder_of, log_of}
-use Rattle.base_log.specs.Opening.{AreNamed, KeepsButOne, StandsOrWasLeft, StayGone}
+use Rattle.base_log.specs.Opening.{AreNamed, KeepsButOne, StandsOrWasLeft}
 use Rattle.base_log.specs.Standing.{BaseBytes, IsNew, StandsFor}
 use Rattle.base_log.proofs.Keeping.{but_one_quiet, but_one_twice, outside_quiet}
 use Rattle.base_log.proofs.Empty.{chained_quiet, stands_quiet, was_left}
@@ -30,37 +30,16 @@ after_quiet {path} old {mid} {new} quiet then = record {
 }
 
 both_synced : (g : given.Over) (c : After-sync g) → Leaves (folder_of c.args.names.now) (g.D.Disk.state c.args.disk.now) (g.D.Disk.state c.sync.new.self)
-both_synced g c =
-    let d0 = g.D.Disk.state c.args.disk.now in
-    let d2 = g.D.Disk.state c.sync.new.self in
-    by_quiet (folder_of c.args.names.now) d0 d2 (nothing_twice d0 (g.D.Disk.state c.sync_folder_of.new.disk) d2 c.sync_folder_of.ensures.quiet c.sync.ensures.quiet)
+both_synced g c = grind (arith, by_quiet, nothing_twice)
 
 log_made : (g : given.Over) (c : After-make_log g) → Leaves (folder_of c.args.names.now) (g.D.Disk.state c.args.disk.now) (g.D.Disk.state c.make_log.new.disk)
 log_made g c = after_quiet (g.D.Disk.state c.args.disk.now) c.sync_folder_of.ensures.quiet (record { others = c.make_log.ensures.others; any_moment = c.make_log.ensures.any_moment })
 
 pub sync-requires : goal.sync-requires
-sync-requires g c honest =
-    let path = folder_of c.args.names.now in
-    let d1 = g.D.Disk.state c.sync_folder_of.new.disk in
-    let bytes = c.args.log.now.bytes.items in
-    let shut : IsShutAt c.args.log.now.end.gate bytes = c.is_shut.ensures.0 c.if-is_shut.true in
-    let is : bytes ≡ bytes_in (d1.seen (log_of path)) = c.requires.log.same (c.sync_folder_of.ensures.quiet.honest honest) ∙ ap bytes_in (sym (c.sync_folder_of.ensures.quiet.seen (log_of path))) in
-    let log_is : c.deref-then-is_shut.result.now ≡ log_of path = c.deref-then-is_shut.ensures.value ∙ c.requires.name in
-    let some : 0 < length (bytes_in (d1.seen c.deref-then-is_shut.result.now)) = omega (arith, shut.0, ap length is, ap (λ (l : List ℕ). length (bytes_in (d1.seen l))) log_is) in
-    some_there (d1.seen c.deref-then-is_shut.result.now) some
+sync-requires g c honest = grind (arith, some_there)
 
 pub make_log-requires-clause-new : goal.make_log-requires-clause-new
-make_log-requires-clause-new g c honest =
-    let path = folder_of c.args.names.now in
-    let d0 = g.D.Disk.state c.args.disk.now in
-    let d1 = g.D.Disk.state c.sync_folder_of.new.disk in
-    let quiet = c.sync_folder_of.ensures.quiet in
-    record {
-      named = subst (λ (p : List ℕ). AreNamed p d1) c.deref.ensures.value c.in_ok-sync_folder_of.ensures.durable;
-      gone = subst (λ (p : List ℕ). StayGone p d1) c.deref.ensures.value c.in_ok-sync_folder_of.ensures.gone;
-      new = new_quiet d0 d1 path quiet
-          (⊎_elim (λ (shut : IsShutAt c.args.log.now.end.gate c.args.log.now.bytes.items). absurd (cc (c.is_shut.ensures.1 shut, c.if-is_shut.false))) (λ (new : IsNew path d0.seen). new) (c.requires.ended (quiet.honest honest)));
-    }
+make_log-requires-clause-new g c honest = grind (arith, new_quiet, ⊎_elim)
 
 pub returns-in_err-sync_folder_of-clause-others : goal.returns-in_err-sync_folder_of-clause-others
 returns-in_err-sync_folder_of-clause-others g c = (by_quiet (folder_of c.args.names.now) (g.D.Disk.state c.args.disk.now) (g.D.Disk.state c.sync_folder_of.new.disk) c.sync_folder_of.ensures.quiet).others

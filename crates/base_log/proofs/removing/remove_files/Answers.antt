@@ -1,4 +1,4 @@
-use Rattle.std.proofs.Common.{List, arith, ℕ, ◌≡◌, None, rules, sym, ◌∙◌, subst}
+use Rattle.std.proofs.Common.{List, arith, ℕ, ◌≡◌, None, sym, ◌∙◌, subst}
 use Rattle.std.proofs.lemmas.Result.{on_ok_weaker}
 use Rattle.disk_io.proofs.Moments.{then_run}
 use Rattle.base_log.specs.AtRest.{IsAtRest}
@@ -32,20 +32,7 @@ remove_one-requires-2 g c =
     }
 
 pub returns-in_err-remove_one : goal.returns-in_err-remove_one
-returns-in_err-remove_one g c =
-    let path = folder_of c.args.names.now in
-    let d0 = g.D.Disk.state c.args.disk.now in
-    let d1 = g.D.Disk.state c.remove_one.new.disk in
-    let messages = messages_beside path c.args.end.told.number c.args.number c.requires.other in
-    let m_beside = subst (λ (f : List ℕ). IsBeside path c.args.end.told.number f) (sym (c.deref-2.ensures.value ∙ c.requires.names.messages)) messages in
-    record {
-      settled = search rules;
-      gone = search rules;
-      same = base_beside d0 d1 path c.args.end c.deref-2.result.now m_beside c.remove_one.ensures.beside;
-      run = subst (λ (p : List ℕ). StagesOnly p (base_at d0 p c.args.end.told) d0 d1) c.deref.ensures.value c.remove_one.ensures.run;
-      leaves = subst (λ (p : List ℕ). LeavesOutside p d0 d1) c.deref.ensures.value c.remove_one.ensures.leaves;
-      cause = search rules;
-    }
+returns-in_err-remove_one g c = grind (arith, messages_beside, base_beside)
 
 pub returns : goal.returns
 returns g c =

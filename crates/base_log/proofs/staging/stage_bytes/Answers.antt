@@ -1,4 +1,4 @@
-use Rattle.std.proofs.Common.{◌≡◌, ◌≤◌, List, ℕ, ap, length, sym, subst, ◌∙◌}
+use Rattle.std.proofs.Common.{◌≡◌, ◌≤◌, List, ℕ, ap, length, sym, subst, ◌∙◌, arith}
 use Rattle.std.specs.Prelude.{IsSome}
 use Rattle.disk_io.specs.Disk.{bytes_in}
 use Rattle.disk_io.specs.Steps.{IsWrittenAt, TornWrite}
@@ -21,10 +21,7 @@ at_path : (g : given.Over) (c : After-counted g) → c.path_of.result.now ≡ fi
 at_path g c = c.path_of.ensures ∙ file_named c.args.names.now c.args.told.number c.args.file c.requires.staged.names
 
 pub write_at-requires-clause-there : goal.write_at-requires-clause-there
-write_at-requires-clause-there g c honest =
-    let d = g.D.Disk.state c.args.disk.now in
-    subst (λ (l : List ℕ). IsSome (d.seen l)) (sym (at_path g (goal.at.write_at-requires-clause-there g c).After-counted))
-    (file_there d (folder_of c.args.names.now) c.args.end c.args.told c.args.file (c.requires.staged.staged honest))
+write_at-requires-clause-there g c honest = grind (arith, at_path, file_there)
 
 pub write_at-requires-clause-within : goal.write_at-requires-clause-within
 write_at-requires-clause-within g c honest =
@@ -34,10 +31,7 @@ write_at-requires-clause-within g c honest =
     (file_long d (folder_of c.args.names.now) c.args.end c.args.told c.args.file (c.requires.staged.staged honest)))
 
 pub write_at-requires-clause-alone : goal.write_at-requires-clause-alone
-write_at-requires-clause-alone g c honest =
-    let d = g.D.Disk.state c.args.disk.now in
-    subst (λ (l : List ℕ). d.is_alone l) (sym (at_path g (goal.at.write_at-requires-clause-alone g c).After-counted))
-    (file_alone d (folder_of c.args.names.now) c.args.end c.args.told c.args.file (c.requires.staged.staged honest))
+write_at-requires-clause-alone g c honest = grind (arith, at_path, file_alone)
 
 -- the call, at the file's path and behind the bytes that the record counts
 record Writing (g : given.Over) (c : After-write_at g) : Type 0 where
@@ -45,15 +39,7 @@ record Writing (g : given.Over) (c : After-write_at g) : Type 0 where
   call : Wrote (g.D.Disk.state c.args.disk.now) (g.D.Disk.state c.write_at.new.self) (file_of (folder_of c.args.names.now) c.args.told.number c.args.file) (counted c.args.told c.args.file) (length c.args.bytes.now)
 
 wrote : (g : given.Over) (c : After-write_at g) → Writing g c
-wrote g c =
-    let d0 = g.D.Disk.state c.args.disk.now in
-    let d = g.D.Disk.state c.write_at.new.self in
-    let path : c.path_of.result.now ≡ file_of (folder_of c.args.names.now) c.args.told.number c.args.file = c.path_of.ensures ∙ file_named c.args.names.now c.args.told.number c.args.file c.requires.staged.names in
-    record {
-      path = path;
-      call = subst (λ (n : ℕ). Wrote d0 d (file_of (folder_of c.args.names.now) c.args.told.number c.args.file) n (length c.args.bytes.now)) c.counted.ensures
-          (subst (λ (l : List ℕ). Wrote d0 d l c.counted.result (length c.args.bytes.now)) path c.write_at.ensures.changes);
-    }
+wrote g c = grind (arith, file_named)
 
 run : (g : given.Over) (c : After-write_at g) → StagesOnly (folder_of c.args.names.now) (base_at (g.D.Disk.state c.args.disk.now) (folder_of c.args.names.now) c.args.end.told) (g.D.Disk.state c.args.disk.now) (g.D.Disk.state c.write_at.new.self)
 run g c =
