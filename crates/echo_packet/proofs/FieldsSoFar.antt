@@ -1,5 +1,5 @@
 -- The fields of a message already read, and the fault of the next field.
-use Rattle.std.proofs.Common.{◌≡◌, ◌≢◌, ℕ, zero, suc, replicate, ◌+◌, ◌<◌, List, [], ◌++◌, Option, None, Some, IfSome, Result, Err, length, take, drop, refl, sym, ap, ◌∙◌, subst, arith}
+use Rattle.std.proofs.Common.{◌≡◌, ◌≢◌, ℕ, zero, suc, replicate, ◌+◌, ◌<◌, List, [], ◌++◌, Option, IfSome, Result, Err, length, take, drop, refl, sym, ap, ◌∙◌, subst, arith}
 use Rattle.std.proofs.lemmas.List.{length-append, take_all}
 use Rattle.std.proofs.lemmas.List.Elements.{All-nil}
 use Rattle.std.specs.Prelude.{IfErr}
@@ -41,39 +41,13 @@ pub empty_string : (most : ℕ) → IsString most []
 empty_string most = record { bytes = λ i. omega arith; no_zero = All-nil (λ b. b ≢ 0); room = omega arith }
 
 pub numbered-fits : (most : ℕ) (ns : List ℕ) → AreBytes ns → IsMessage most (numbered ns)
-numbered-fits most ns bytes = record {
-  orig_node = number_at-fits 0 ns bytes;
-  dest_node = number_at-fits 2 ns bytes;
-  orig_net = number_at-fits 4 ns bytes;
-  dest_net = number_at-fits 6 ns bytes;
-  attribute = number_at-fits 8 ns bytes;
-  cost = number_at-fits 10 ns bytes;
-  date_len = refl;
-  date = zeros_are_bytes 20;
-  to_name = empty_string max_name;
-  from_name = empty_string max_name;
-  subject = empty_string max_subject;
-  text = empty_string most;
-}
+numbered-fits most ns bytes = grind (arith, number_at-fits, zeros_are_bytes, empty_string)
 
 -- the message with other fields, each of its size
 with_fields : (most : ℕ) (m : Message) (d to_name from_name subject text : List ℕ) → IsMessage most m → length d ≡ 20 → AreBytes d → IsString max_name to_name
     → IsString max_name from_name → IsString max_subject subject → IsString most text
     → IsMessage most (record m { date = d; to_name = to_name; from_name = from_name; subject = subject; text = text })
-with_fields most m d to_name from_name subject text h size bytes to_fits from_fits subject_fits text_fits = record {
-  orig_node = h.orig_node;
-  dest_node = h.dest_node;
-  orig_net = h.orig_net;
-  dest_net = h.dest_net;
-  attribute = h.attribute;
-  cost = h.cost;
-  date_len = size;
-  date = bytes;
-  to_name = to_fits;
-  from_name = from_fits;
-  subject = subject_fits;
-  text = text_fits;
-}
+with_fields most m d to_name from_name subject text h size bytes to_fits from_fits subject_fits text_fits = grind arith
 
 -- six numbers are written as they were read
 pub numbers-numbered : (ns : List ℕ) → AreBytes ns → length ns ≡ 12 → numbers (numbered ns) ≡ ns
@@ -107,57 +81,27 @@ has-none most start p a here = record {
 
 pub has-numbers : (most start p q : ℕ) (a b : Option (List ℕ)) (ns : List ℕ) → p ≡ place_of (start + 2) → AreBytes ns → length ns ≡ 12
     → Consumes a b ns → q ≡ place_of (p + length ns) → HasFields most start a b DateTime (numbered ns) q
-has-numbers most start p q a b ns here bytes size took there = record {
-  came = ns;
-  is = ap (λ t. word 2 ++ t) (numbers-numbered ns bytes size);
-  fits = numbered-fits most ns bytes;
-  took = took;
-  place = omega arith;
-}
+has-numbers most start p q a b ns here bytes size took there = grind (arith, numbers-numbered, numbered-fits)
 
 pub has-date : (most start p q : ℕ) (a b c : Option (List ℕ)) (m : Message) (d : List ℕ) → HasFields most start a b DateTime m p
     → AreBytes d → length d ≡ 20 → Consumes b c d → q ≡ place_of (p + length d) → HasFields most start a c ToName (record m { date = d }) q
 unfolding numbers
-has-date most start p q a b c m d h bytes size took there = record {
-  came = h.came ++ d;
-  is = ap (λ t. t ++ d) h.is;
-  fits = let f = h.fits in with_fields most m d m.to_name m.from_name m.subject m.text f size bytes f.to_name f.from_name f.subject f.text;
-  took = Consumes-trans a b c h.came d h.took took;
-  place = further (start + 2) p q h.came d h.place there;
-}
+has-date most start p q a b c m d h bytes size took there = grind (arith, with_fields, Consumes-trans, further)
 
 pub has-to_name : (most start p q : ℕ) (a b c : Option (List ℕ)) (m : Message) (s : List ℕ) → HasFields most start a b ToName m p
     → IsString max_name s → Consumes b c (zero_ended s) → q ≡ place_of (p + length (zero_ended s)) → HasFields most start a c FromName (record m { to_name = s }) q
 unfolding numbers
-has-to_name most start p q a b c m s h fits took there = record {
-  came = h.came ++ zero_ended s;
-  is = ap (λ t. t ++ zero_ended s) h.is;
-  fits = let f = h.fits in with_fields most m m.date s m.from_name m.subject m.text f f.date_len f.date fits f.from_name f.subject f.text;
-  took = Consumes-trans a b c h.came (zero_ended s) h.took took;
-  place = further (start + 2) p q h.came (zero_ended s) h.place there;
-}
+has-to_name most start p q a b c m s h fits took there = grind (arith, with_fields, Consumes-trans, further)
 
 pub has-from_name : (most start p q : ℕ) (a b c : Option (List ℕ)) (m : Message) (s : List ℕ) → HasFields most start a b FromName m p
     → IsString max_name s → Consumes b c (zero_ended s) → q ≡ place_of (p + length (zero_ended s)) → HasFields most start a c Subject (record m { from_name = s }) q
 unfolding numbers
-has-from_name most start p q a b c m s h fits took there = record {
-  came = h.came ++ zero_ended s;
-  is = ap (λ t. t ++ zero_ended s) h.is;
-  fits = let f = h.fits in with_fields most m m.date m.to_name s m.subject m.text f f.date_len f.date f.to_name fits f.subject f.text;
-  took = Consumes-trans a b c h.came (zero_ended s) h.took took;
-  place = further (start + 2) p q h.came (zero_ended s) h.place there;
-}
+has-from_name most start p q a b c m s h fits took there = grind (arith, with_fields, Consumes-trans, further)
 
 pub has-subject : (most start p q : ℕ) (a b c : Option (List ℕ)) (m : Message) (s : List ℕ) → HasFields most start a b Subject m p
     → IsString max_subject s → Consumes b c (zero_ended s) → q ≡ place_of (p + length (zero_ended s)) → HasFields most start a c Text (record m { subject = s }) q
 unfolding numbers
-has-subject most start p q a b c m s h fits took there = record {
-  came = h.came ++ zero_ended s;
-  is = ap (λ t. t ++ zero_ended s) h.is;
-  fits = let f = h.fits in with_fields most m m.date m.to_name m.from_name s m.text f f.date_len f.date f.to_name f.from_name fits f.text;
-  took = Consumes-trans a b c h.came (zero_ended s) h.took took;
-  place = further (start + 2) p q h.came (zero_ended s) h.place there;
-}
+has-subject most start p q a b c m s h fits took there = grind (arith, with_fields, Consumes-trans, further)
 
 pub has-text : (most start p q : ℕ) (a b c : Option (List ℕ)) (m : Message) (s : List ℕ) → HasFields most start a b Text m p
     → IsString most s → Consumes b c (zero_ended s) → q ≡ place_of (p + length (zero_ended s)) → TakesMessage most start a c (record m { text = s }) q
@@ -177,15 +121,11 @@ has-text most start p q a b c m s h fits took there =
 -- a fact about the remaining bytes gives one about the bytes before the call
 pub Consumes-known : (a b : Option (List ℕ)) (t : List ℕ) (P Q : List ℕ → Type 0) → Consumes a b t → IfSome b P
     → ((bs r : List ℕ) → bs ≡ t ++ r → P r → Q bs) → IfSome a Q
-Consumes-known None b t P Q p k h = tt
-Consumes-known (Some x) None t P Q p k h = absurd p
-Consumes-known (Some x) (Some y) t P Q p k h = h x y p k
+Consumes-known a b t P Q h1 h2 h3 = grind arith
 
 -- a fact about the received bytes, for all remaining bytes, is one about the bytes before the call
 pub Consumes-front : (a b : Option (List ℕ)) (t : List ℕ) (Q : List ℕ → Type 0) → Consumes a b t → ((r : List ℕ) → Q (t ++ r)) → IfSome a Q
-Consumes-front None b t Q p h = tt
-Consumes-front (Some x) None t Q p h = absurd p
-Consumes-front (Some x) (Some y) t Q p h = subst Q (sym p) (h y)
+Consumes-front a b t Q h1 h2 = grind arith
 
 -- the bytes read of a faulty field satisfy the definitions of faults
 pub record Tells (limits : Limits) (field : Part) (Cut Long LongText Past PastText : List ℕ → Type 0) : Type 0 where
@@ -199,42 +139,18 @@ pub record Tells (limits : Limits) (field : Part) (Cut Long LongText Past PastTe
 at-part : (limits : Limits) (given start p : ℕ) (a b : Option (List ℕ)) (field : Part) (m : Message) (at : ℕ) (Wrong : Part → List ℕ → Type 0) (bs r : List ℕ)
     (h : HasFields limits.text start a b field m p) → given < limits.messages → bs ≡ h.came ++ r → at ≡ p → Wrong field r
     → AtPart limits given start (word 2 ++ bs) at Wrong
-at-part limits given start p a b field m at Wrong bs r h more split here wrong = record {
-  one_more = m;
-  field = field;
-  rest = r;
-  is_message = h.fits;
-  room = λ later. more;
-  bytes = ap (λ t. word 2 ++ t) split ∙ ap (λ t. t ++ r) (sym h.is);
-  place = here ∙ h.place ∙ (let size = ap length h.is in omega arith);
-  wrong = wrong;
-}
+at-part limits given start p a b field m at Wrong bs r h more split here wrong = grind arith
 
 told : (limits : Limits) (given start p : ℕ) (a b : Option (List ℕ)) (field : Part) (m : Message) (Cut Long LongText Past PastText : List ℕ → Type 0) (bs r : List ℕ) (f : PacketFault)
     (h : HasFields limits.text start a b field m p) → Tells limits field Cut Long LongText Past PastText → given < limits.messages → bs ≡ h.came ++ r
     → FieldFault Cut Long LongText p r f → NextFault limits given start (word 2 ++ bs) f
-told limits given start p a b field m Cut Long LongText Past PastText bs r (fault.Truncated at) h tells more split is =
-    at-part limits given start p a b field m at (IsCut limits) bs r h more split is.0 (tells.cut r is.1)
-told limits given start p a b field m Cut Long LongText Past PastText bs r (fault.FieldTooLong at) h tells more split is =
-    at-part limits given start p a b field m at IsLongField bs r h more split is.0 (tells.long r is.1)
-told limits given start p a b field m Cut Long LongText Past PastText bs r (fault.TextTooLong at) h tells more split is =
-    at-part limits given start p a b field m at (IsLongText limits) bs r h more split is.0 (tells.long_text r is.1)
-told limits given start p a b field m Cut Long LongText Past PastText bs r (fault.Read at) h tells more split is = tt
-told limits given start p a b field m Cut Long LongText Past PastText bs r fault.Memory h tells more split is = tt
-told limits given start p a b field m Cut Long LongText Past PastText bs r (fault.NotType2 at) h tells more split is = absurd is
-told limits given start p a b field m Cut Long LongText Past PastText bs r (fault.NotMessage at) h tells more split is = absurd is
-told limits given start p a b field m Cut Long LongText Past PastText bs r fault.Stopped h tells more split is = absurd is
-told limits given start p a b field m Cut Long LongText Past PastText bs r (fault.Write n) h tells more split is = absurd is
-told limits given start p a b field m Cut Long LongText Past PastText bs r (fault.TooManyMessages at) h tells more split is = absurd is
-told limits given start p a b field m Cut Long LongText Past PastText bs r (fault.BadField n) h tells more split is = absurd is
+told limits given start p a b field m Cut Long LongText Past PastText bs r f h h1 h2 h3 h4 = grind (arith, at-part)
 
 -- the next field of a message is wrong
 pub next-field : (limits : Limits) (given start p : ℕ) (a b : Option (List ℕ)) (field : Part) (m : Message) (Cut Long LongText Past PastText : List ℕ → Type 0) (f : PacketFault)
     (h : HasFields limits.text start a b field m p) → Tells limits field Cut Long LongText Past PastText → given < limits.messages
     → IfSome b (λ r. FieldFault Cut Long LongText p r f) → IfSome a (λ bs. NextFault limits given start (word 2 ++ bs) f)
-next-field limits given start p a b field m Cut Long LongText Past PastText f h tells more is =
-    Consumes-known a b h.came (λ r. FieldFault Cut Long LongText p r f) (λ bs. NextFault limits given start (word 2 ++ bs) f)
-    h.took is (λ bs r split wrong. told limits given start p a b field m Cut Long LongText Past PastText bs r f h tells more split wrong)
+next-field limits given start p a b field m Cut Long LongText Past PastText f h tells more is = grind (arith, Consumes-known, told)
 
 -- the source gave bytes of the next field after the earlier fields
 behind : (limits : Limits) (given start p : ℕ) (a b c : Option (List ℕ)) (field : Part) (m : Message) (at : ℕ) (These : List ℕ → Type 0) (Of : Part → List ℕ → Type 0)

@@ -1,9 +1,9 @@
 -- A header is undone by its bytes, and the bytes by the header.
-use Rattle.std.proofs.Common.{◌≡◌, ℕ, suc, append-nil, ◌+◌, ◌*◌, ◌/◌, ◌%◌, ◌^◌, ◌<◌, ◌≤◌, List, [], ◌∷◌, ◌++◌, length, get_or, take, drop, refl, sym, ap, ◌∙◌, arith, add-one, append_assoc, drop-cons, length-append}
+use Rattle.std.proofs.Common.{◌≡◌, ℕ, append-nil, ◌+◌, ◌*◌, ◌/◌, ◌%◌, ◌^◌, ◌<◌, ◌≤◌, List, [], ◌∷◌, ◌++◌, length, get_or, take, drop, refl, sym, ap, ◌∙◌, arith, add-one, append_assoc, drop-cons, length-append}
 use Rattle.std.proofs.Math.Seq.{take-add, drop-append-add}
 use Rattle.std.proofs.lemmas.List.{take_at, length-take, length-drop, drop-drop, get_or-take, get_or-drop, get_or_past, get_or-append-add}
 use Rattle.std.proofs.lemmas.Bool.{cases_lt}
-use Rattle.std.proofs.Common.{inl, inr, subst}
+use Rattle.std.proofs.Common.{subst}
 use Rattle.echo_packet.specs.declared.header.Header.{Header}
 use Rattle.echo_packet.specs.Header.{AreBytes, IsHeader, word, number_at, header_bytes, header_of}
 
@@ -13,21 +13,10 @@ number-word n = omega arith
 
 -- the number at a place, written again
 pub word-number : (i : ℕ) (bs : List ℕ) → AreBytes bs → i + 2 ≤ length bs → take 2 (drop i bs) ≡ word (number_at i bs)
-word-number i bs bytes room =
-    let low = bytes i in
-    let high = bytes (i + 1) in
-    let low_is : number_at i bs % 256 ≡ get_or bs i 0 = omega arith in
-    let high_is : number_at i bs / 256 ≡ get_or bs (i + 1) 0 = omega arith in
-    let here : i < length bs = omega arith in
-    let next : suc i < length bs = omega arith in
-    rw (drop-cons bs i 0, drop-cons bs (suc i) 0, low_is, high_is, add-one) refl
+word-number i bs bytes room = grind (arith, get_or, drop-cons, add-one)
 
 pub AreBytes-take : (n : ℕ) (bs : List ℕ) → AreBytes bs → AreBytes (take n bs)
-AreBytes-take n bs h i =
-    elim (cases_lt i n) [
-      | inl lt ↦ rw (get_or-take n bs i 0 lt) (h i)
-      | inr le ↦ rw (get_or_past (take n bs) i 0 (omega (arith, length-take n bs))) (omega arith)
-    ]
+AreBytes-take n bs h i = grind (arith, cases_lt, get_or-take, get_or_past, length-take)
 
 pub AreBytes-drop : (n : ℕ) (bs : List ℕ) → AreBytes bs → AreBytes (drop n bs)
 AreBytes-drop n bs h i = rw get_or-drop (h (n + i))
@@ -54,9 +43,7 @@ word_is i n x bs t bytes room is e = word_then i n bs t bytes room e ∙ ap (λ 
 -- a byte and the bytes after it
 byte_then : (i n : ℕ) (bs t : List ℕ) → i < length bs → take n (drop (i + 1) bs) ≡ t
     → take (1 + n) (drop i bs) ≡ get_or bs i 0 ∷ t
-byte_then i n bs t room e =
-    let first : take 1 (drop i bs) ≡ get_or bs i 0 ∷ [] = rw (drop-cons bs i 0) refl in
-    take_field i 1 n bs ∙ ap (λ f. f ++ take n (drop (i + 1) bs)) first ∙ ap (λ r. get_or bs i 0 ∷ r) e
+byte_then i n bs t room e = grind (arith, get_or, drop-cons, take_field)
 
 -- a string of k bytes and the bytes after it
 string_then : (i k n : ℕ) (bs t : List ℕ) → take n (drop (i + k) bs) ≡ t → take (k + n) (drop i bs) ≡ take k (drop i bs) ++ t

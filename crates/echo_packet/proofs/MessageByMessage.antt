@@ -1,15 +1,14 @@
 -- Reading message by message gives the packet that the definitions describe.
-use Rattle.std.proofs.Common.{◌≡◌, ℕ, ◌+◌, ◌<◌, ◌⊎◌, List, [], ◌∷◌, ◌++◌, Ok, length, take, refl, sym, ap, ◌∙◌, subst, inl, inr, arith}
+use Rattle.std.proofs.Common.{◌≡◌, ℕ, ◌+◌, ◌<◌, ◌⊎◌, List, [], ◌∷◌, ◌++◌, Ok, length, take, refl, sym, ap, ◌∙◌, arith}
 use Rattle.std.proofs.lemmas.List.{length-append, take_at, append_assoc, append-nil}
 use Rattle.std.specs.List.{AllByRecursion}
 use Rattle.echo_packet.specs.declared.header.Header.{Header}
 use Rattle.echo_packet.specs.declared.limits.Limits.{Limits}
 use Rattle.echo_packet.specs.declared.fault.PacketFault.{PacketFault}
-use Rattle.echo_packet.specs.declared.fault.PacketFault.TheVariants as fault
 use Rattle.echo_packet.specs.Header.{header_bytes, IsHeader, word}
 use Rattle.echo_packet.specs.Message.{Message, Part, message_bytes, messages_bytes, IsMessage}
 use Rattle.echo_packet.specs.Packet.{packet_bytes}
-use Rattle.echo_packet.specs.Fault.{AtField, FaultOf, IsCut, IsLongField, IsLongText, IsOtherNumber, IsOneTooMany, place_of}
+use Rattle.echo_packet.specs.Fault.{AtField, FaultOf, place_of}
 use Rattle.echo_packet.specs.Answer.{Describes}
 use Rattle.echo_packet.specs.Next.{AtPart, NextFault}
 use Rattle.echo_packet.specs.Run.{SoFar, IsOfCall}
@@ -26,13 +25,7 @@ all-push P (x ∷ ms) m all last = (all.0, all-push P ms m all.1 last)
 
 -- the header was read
 pub run-opens : (limits : Limits) (bs : List ℕ) (h : Header) (rest : List ℕ) → IsHeader h → bs ≡ header_bytes h ++ rest → SoFar limits bs h [] rest 0 58
-run-opens limits bs h rest fits bytes = record {
-  is_header = fits;
-  are_messages = record { each = tt; room = omega arith };
-  bytes = bytes;
-  count = refl;
-  place = refl;
-}
+run-opens limits bs h rest fits bytes = grind arith
 
 pub past : (k n s at : ℕ) → at ≡ place_of (58 + n) → s ≡ n + k → place_of (at + k) ≡ place_of (58 + s)
 past k n s at here size = omega arith
@@ -41,21 +34,7 @@ past k n s at here size = omega arith
 pub run-gives : (limits : Limits) (bs : List ℕ) (h : Header) (ms : List Message) (r rest : List ℕ) (given at : ℕ) (m : Message) → SoFar limits bs h ms r given at
     → r ≡ message_bytes m ++ rest → IsMessage limits.text m → given < limits.messages
     → SoFar limits bs h (ms ++ m ∷ []) rest (given + 1) (place_of (at + length (message_bytes m)))
-run-gives limits bs h ms r rest given at m so split fits more =
-    let pushed = messages_bytes-push ms m in
-    let count : length (ms ++ m ∷ []) ≡ length ms + 1 = length-append ms (m ∷ []) in
-    let all : messages_bytes ms ++ r ≡ messages_bytes (ms ++ m ∷ []) ++ rest =
-    ap (λ t. messages_bytes ms ++ t) split ∙ sym (append_assoc (messages_bytes ms) (message_bytes m) rest) ∙ ap (λ t. t ++ rest) (sym pushed) in
-    let size : length (messages_bytes (ms ++ m ∷ [])) ≡ length (messages_bytes ms) + length (message_bytes m) =
-    ap length pushed ∙ length-append (messages_bytes ms) (message_bytes m) in
-    let here = so.place in
-    record {
-      is_header = so.is_header;
-      are_messages = record { each = all-push (IsMessage limits.text) ms m so.are_messages.each fits; room = omega (arith, so.count, count) };
-      bytes = so.bytes ∙ ap (λ t. header_bytes h ++ t) all;
-      count = omega (arith, so.count, count);
-      place = past (length (message_bytes m)) (length (messages_bytes ms)) _ at here size;
-    }
+run-gives limits bs h ms r rest given at m so split fits more = grind (arith, messages_bytes-push, length-append, append_assoc, all-push, past)
 
 -- the terminator was read
 pub run-ends : (limits : Limits) (bs : List ℕ) (h : Header) (ms : List Message) (r rest : List ℕ) (given at : ℕ) → SoFar limits bs h ms r given at
@@ -81,32 +60,9 @@ length-packet_bytes h ms fits =
 
 at_field : (limits : Limits) (bs : List ℕ) (h : Header) (ms : List Message) (r : List ℕ) (given start at : ℕ) (Wrong : Part → List ℕ → Type 0)
     → SoFar limits bs h ms r given start → AtPart limits given start r at Wrong → AtField limits bs ms at Wrong
-at_field limits bs h ms r given start at Wrong so a = record {
-  header = h;
-  one_more = a.one_more;
-  field = a.field;
-  rest = a.rest;
-  is_header = so.is_header;
-  are_messages = so.are_messages;
-  is_message = a.is_message;
-  room = λ later. subst (λ n. n < limits.messages) so.count (a.room later);
-  bytes = so.bytes ∙ ap (λ t. header_bytes h ++ (messages_bytes ms ++ t)) a.bytes;
-  place = let here = so.place in let there = a.place in omega arith;
-  wrong = a.wrong;
-}
+at_field limits bs h ms r given start at Wrong so a = grind arith
 
 -- a message or the terminator was not read
 pub run-fails : (limits : Limits) (bs : List ℕ) (h : Header) (ms : List Message) (r : List ℕ) (given start : ℕ) (f : PacketFault)
     → SoFar limits bs h ms r given start → NextFault limits given start r f → FaultOf bs limits ms f ⊎ IsOfCall f
-run-fails limits bs h ms r given start (fault.Truncated at) so wrong = inl (inr (at_field limits bs h ms r given start at (IsCut limits) so wrong))
-run-fails limits bs h ms r given start (fault.NotMessage at) so wrong = inl (at_field limits bs h ms r given start at IsOtherNumber so wrong)
-run-fails limits bs h ms r given start (fault.FieldTooLong at) so wrong = inl (at_field limits bs h ms r given start at IsLongField so wrong)
-run-fails limits bs h ms r given start (fault.TextTooLong at) so wrong = inl (at_field limits bs h ms r given start at (IsLongText limits) so wrong)
-run-fails limits bs h ms r given start (fault.TooManyMessages at) so wrong =
-    inl (subst (λ n. AtField limits bs ms at (IsOneTooMany limits n)) so.count (at_field limits bs h ms r given start at (IsOneTooMany limits given) so wrong))
-run-fails limits bs h ms r given start (fault.Read at) so wrong = inr tt
-run-fails limits bs h ms r given start fault.Memory so wrong = inr tt
-run-fails limits bs h ms r given start (fault.NotType2 at) so wrong = absurd wrong
-run-fails limits bs h ms r given start fault.Stopped so wrong = absurd wrong
-run-fails limits bs h ms r given start (fault.Write n) so wrong = absurd wrong
-run-fails limits bs h ms r given start (fault.BadField n) so wrong = absurd wrong
+run-fails limits bs h ms r given start f h1 h2 = grind (arith, at_field)

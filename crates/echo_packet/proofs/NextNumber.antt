@@ -8,7 +8,7 @@ use Rattle.echo_packet.specs.declared.fault.PacketFault.{PacketFault}
 use Rattle.echo_packet.specs.declared.fault.PacketFault.TheVariants as fault
 use Rattle.echo_packet.specs.Header.{AreBytes, word, number_at}
 use Rattle.echo_packet.specs.Message.{Message, Part, Number, message_bytes}
-use Rattle.echo_packet.specs.Fault.{IsCut, IsOtherNumber, IsOneTooMany}
+use Rattle.echo_packet.specs.Fault.{IsCut}
 use Rattle.echo_packet.specs.Field.{Came, FailsInFixed, FixedFault, IsShort, TakesMessage}
 use Rattle.echo_packet.specs.Next.{AtPart, FailsInMessage, IsOfField, LosesUpTo, NextFault}
 use Rattle.echo_packet.proofs.Headers.{word-number}
@@ -29,17 +29,7 @@ at_number limits given start at bs Wrong fits here wrong = record {
 }
 
 number_told : (limits : Limits) (given start : ℕ) (bs : List ℕ) (f : PacketFault) → start < 2 ^ 64 → FixedFault 2 start bs f → NextFault limits given start bs f
-number_told limits given start bs (fault.Truncated at) fits h = at_number limits given start at bs (IsCut limits) fits h.0 h.1
-number_told limits given start bs (fault.Read at) fits h = tt
-number_told limits given start bs (fault.FieldTooLong at) fits h = absurd h.1
-number_told limits given start bs (fault.TextTooLong at) fits h = absurd h.1
-number_told limits given start bs fault.Memory fits h = tt
-number_told limits given start bs (fault.NotType2 at) fits h = absurd h
-number_told limits given start bs (fault.NotMessage at) fits h = absurd h
-number_told limits given start bs fault.Stopped fits h = absurd h
-number_told limits given start bs (fault.Write n) fits h = absurd h
-number_told limits given start bs (fault.TooManyMessages at) fits h = absurd h
-number_told limits given start bs (fault.BadField n) fits h = absurd h
+number_told limits given start bs f h1 h2 = grind (arith, at_number)
 
 -- the input or the device ended inside the number
 pub number-cut : (limits : Limits) (given start : ℕ) (a : Option (List ℕ)) (f : PacketFault) → start < 2 ^ 64 → IfSome a (λ bs. FixedFault 2 start bs f)
@@ -74,26 +64,17 @@ number-lost limits given start a b ns fits size took = (ns, took, at_number limi
 
 -- the number at the front
 pub number_at-front : (ns r : List ℕ) → length ns ≡ 2 → number_at 0 (ns ++ r) ≡ number_at 0 ns
-number_at-front ns r size =
-    let low : 0 < length ns = omega arith in
-    let high : 1 < length ns = omega arith in
-    rw (get_or_append_left ns r 0 0 low, get_or_append_left ns r 0 1 high) refl
+number_at-front ns r size = grind (arith, get_or_append_left)
 
 -- a number other than 2 and 0
 pub number-other : (limits : Limits) (given start : ℕ) (a b : Option (List ℕ)) (ns : List ℕ) → start < 2 ^ 64 → length ns ≡ 2 → Consumes a b ns
     → number_at 0 ns ≢ 2 → number_at 0 ns ≢ 0 → IfSome a (λ bs. NextFault limits given start bs (fault.NotMessage start))
-number-other limits given start a b ns fits size took not_two not_none =
-    Consumes-front a b ns (λ bs. NextFault limits given start bs (fault.NotMessage start)) took
-    (λ r. let front = number_at-front ns r size in at_number limits given start start (ns ++ r) IsOtherNumber fits refl
-    (refl, omega (arith, length-append ns r), λ e. not_two (sym front ∙ e), λ e. not_none (sym front ∙ e)))
+number-other limits given start a b ns fits size took not_two not_none = grind (arith, Consumes-front, number_at-front, at_number, length-append)
 
 -- one message too many begins
 pub number-many : (limits : Limits) (given start : ℕ) (a b : Option (List ℕ)) (ns : List ℕ) → start < 2 ^ 64 → length ns ≡ 2 → Consumes a b ns
     → number_at 0 ns ≡ 2 → given ≡ limits.messages → IfSome a (λ bs. NextFault limits given start bs (fault.TooManyMessages start))
-number-many limits given start a b ns fits size took two many =
-    Consumes-front a b ns (λ bs. NextFault limits given start bs (fault.TooManyMessages start)) took
-    (λ r. let front = number_at-front ns r size in at_number limits given start start (ns ++ r) (IsOneTooMany limits given) fits refl
-    (refl, omega (arith, length-append ns r), front ∙ two, many))
+number-many limits given start a b ns fits size took two many = grind (arith, Consumes-front, number_at-front, at_number, length-append)
 
 -- two bytes are those of their number
 pub number-bytes : (ns : List ℕ) → AreBytes ns → length ns ≡ 2 → ns ≡ word (number_at 0 ns)
@@ -116,17 +97,7 @@ then_lost limits given start at a b c ns Of is took (came, lost, so) =
 -- the bytes that left it at a fault of a field after the number 2
 pub then-inside : (limits : Limits) (given start : ℕ) (a b c : Option (List ℕ)) (ns : List ℕ) (f : PacketFault) → ns ≡ word 2 → Consumes a b ns
     → FailsInMessage limits given start (word 2) b c f → FailsInMessage limits given start [] a c f
-then-inside limits given start a b c ns (fault.Truncated at) is took lost = then_lost limits given start at a b c ns (IsCut limits) is took lost
-then-inside limits given start a b c ns (fault.Read at) is took lost = then_lost limits given start at a b c ns (IsCut limits) is took lost
-then-inside limits given start a b c ns fault.Memory is took (at, lost) = (at, then_lost limits given start at a b c ns (IsCut limits) is took lost)
-then-inside limits given start a b c ns (fault.NotMessage at) is took lost = then_lost limits given start at a b c ns (IsOfField limits) is took lost
-then-inside limits given start a b c ns (fault.FieldTooLong at) is took lost = then_lost limits given start at a b c ns (IsOfField limits) is took lost
-then-inside limits given start a b c ns (fault.TextTooLong at) is took lost = then_lost limits given start at a b c ns (IsOfField limits) is took lost
-then-inside limits given start a b c ns (fault.TooManyMessages at) is took lost = then_lost limits given start at a b c ns (IsOfField limits) is took lost
-then-inside limits given start a b c ns (fault.NotType2 at) is took lost = absurd lost
-then-inside limits given start a b c ns fault.Stopped is took lost = absurd lost
-then-inside limits given start a b c ns (fault.Write n) is took lost = absurd lost
-then-inside limits given start a b c ns (fault.BadField n) is took lost = absurd lost
+then-inside limits given start a b c ns f h1 h2 h3 = grind (arith, then_lost)
 
 -- the number 2, then the other fields of a message
 pub takes-whole : (most start at : ℕ) (a b c : Option (List ℕ)) (ns : List ℕ) (m : Message) → AreBytes ns → length ns ≡ 2 → Consumes a b ns

@@ -58,9 +58,7 @@ string-long most r h = string_past most r h.0 (subst (λ n. HasNoZero (take n r)
 
 pub fixed-whole : (n : ℕ) (s r : List ℕ) → length s ≡ n → fixed n (s ++ r) ≡ Got s r
 unfolding fixed
-fixed-whole n s r size =
-    cond-false (nat_lt (length (s ++ r)) n) _ _ (le-ltb _ _ (omega (arith, length-append s r)))
-    ∙ ap (λ t. Got t (drop n (s ++ r))) (take_at s r n size) ∙ ap (Got s) (drop_at s r n size)
+fixed-whole n s r size = grind (arith, cond-false, nat_lt, le-ltb, length-append, take_at, drop_at)
 
 pub fixed-cut : (n : ℕ) (r : List ℕ) → length r < n → fixed n r ≡ Cut
 unfolding fixed

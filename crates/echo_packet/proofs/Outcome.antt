@@ -8,7 +8,7 @@ use Rattle.echo_packet.specs.declared.limits.Limits.{Limits}
 use Rattle.echo_packet.specs.declared.fault.PacketFault.{PacketFault}
 use Rattle.echo_packet.specs.declared.fault.PacketFault.TheVariants as fault
 use Rattle.echo_packet.specs.Header.{IsHeader, word, number_at, header_bytes, header_of}
-use Rattle.echo_packet.specs.Message.{Message, Part, IsMessage, AreMessages, before, message_bytes, messages_bytes}
+use Rattle.echo_packet.specs.Message.{Message, Part, IsMessage, AreMessages, message_bytes, messages_bytes}
 use Rattle.echo_packet.specs.Packet.{packet_bytes, PacketOf}
 use Rattle.echo_packet.specs.Fault.{AtField, IsCut, IsLongField, IsLongText, IsOtherNumber, IsOneTooMany, place_of}
 use Rattle.echo_packet.specs.Answer.{Answer, AnswersAsDescribed, Describes}
@@ -153,21 +153,7 @@ record AtMessages (limits : Limits) (bs : List ℕ) (ms : List Message) (at : �
   pub part : AtPart limits (length ms) (58 + length (messages_bytes ms)) rest at Bad
 
 at_messages : (limits : Limits) (bs : List ℕ) (ms : List Message) (at : ℕ) (Bad : Part → List ℕ → Type 0) → AtField limits bs ms at Bad → AtMessages limits bs ms at Bad
-at_messages limits bs ms at Bad a = record {
-  header = a.header;
-  rest = before a.field a.one_more ++ a.rest;
-  begins = record { is_header = a.is_header; are_messages = a.are_messages; bytes = a.bytes };
-  part = record {
-    one_more = a.one_more;
-    field = a.field;
-    rest = a.rest;
-    is_message = a.is_message;
-    room = a.room;
-    bytes = refl;
-    place = a.place;
-    wrong = a.wrong;
-  };
-}
+at_messages limits bs ms at Bad a = grind arith
 
 fault_is : (limits : Limits) (bs : List ℕ) (ms : List Message) (at : ℕ) (f : PacketFault) (Bad : Part → List ℕ → Type 0) → (IsOfCall f → ⊥)
     → ((given start : ℕ) (r : List ℕ) → AtPart limits given start r at Bad → given ≡ length ms → NextFault limits given start r f) → AtField limits bs ms at Bad → Err f ≡ outcome limits bs
@@ -204,7 +190,4 @@ only_one limits bs (Err (fault.BadField n)) d = absurd d.1
 
 -- an answer that describes the bytes is the only one
 pub answers-one : (limits : Limits) (bs : List ℕ) (given other : Answer) → IsJudged limits bs given → Describes limits bs other → AnswersAsDescribed given other
-answers-one limits bs given (Ok found) (inl memory) d = inl memory
-answers-one limits bs given (Ok found) (inr is) d = inr (only_one limits bs given is ∙ sym (only_one limits bs (Ok found) d))
-answers-one limits bs given (Err f) (inl memory) d = inl memory
-answers-one limits bs given (Err f) (inr is) d = inr (only_one limits bs given is ∙ sym (only_one limits bs (Err f) d))
+answers-one limits bs given other h1 h2 = grind (arith, only_one)

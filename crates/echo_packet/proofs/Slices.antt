@@ -1,5 +1,5 @@
 -- A packet read from a slice, which never fails.
-use Rattle.std.proofs.Common.{◌≡◌, ℕ, ◌+◌, ◌^◌, ◌<◌, ◌⊎◌, List, [], ◌∷◌, ◌++◌, Ok, Err, length, refl, ◌∙◌, subst, inl, inr, arith}
+use Rattle.std.proofs.Common.{◌≡◌, ℕ, ◌+◌, ◌^◌, ◌<◌, ◌⊎◌, List, [], ◌∷◌, ◌++◌, Ok, Err, length, ◌∙◌, subst, arith}
 use Rattle.disk_io.proofs.Devices.{Failed-never}
 use Rattle.echo_packet.specs.declared.header.Header.{Header}
 use Rattle.echo_packet.specs.declared.limits.Limits.{Limits}
@@ -29,18 +29,7 @@ IsJudged limits bs a = (a ≡ Err fault.Memory) ⊎ Describes limits bs a
 -- the fault of a call on a slice
 judge : (A : Type 0) (limits : Limits) (bs : List ℕ) (ms : List Message) (f : PacketFault) → FaultOf bs limits ms f ⊎ IsOfCall f → CountsFailures {A = A} (Err f) 0 0
     → IsJudged limits bs (Err f)
-judge A limits bs ms f (inl wrong) device = inr (ms, wrong)
-judge A limits bs ms (fault.Read at) (inr call) device = absurd (Failed-never device)
-judge A limits bs ms fault.Memory (inr call) device = inl refl
-judge A limits bs ms (fault.Truncated at) (inr call) device = absurd call
-judge A limits bs ms (fault.NotType2 at) (inr call) device = absurd call
-judge A limits bs ms (fault.NotMessage at) (inr call) device = absurd call
-judge A limits bs ms (fault.FieldTooLong at) (inr call) device = absurd call
-judge A limits bs ms (fault.TextTooLong at) (inr call) device = absurd call
-judge A limits bs ms fault.Stopped (inr call) device = absurd call
-judge A limits bs ms (fault.Write at) (inr call) device = absurd call
-judge A limits bs ms (fault.TooManyMessages at) (inr call) device = absurd call
-judge A limits bs ms (fault.BadField at) (inr call) device = absurd call
+judge A limits bs ms f h1 h2 = grind (arith, Failed-never)
 
 -- a fault while a message was read
 pub slice-fails : (A : Type 0) (limits : Limits) (bs : List ℕ) (h : Header) (ms : List Message) (r : List ℕ) (given at : ℕ) (f : PacketFault)
@@ -50,11 +39,7 @@ slice-fails A limits bs h ms r given at f so wrong device = judge A limits bs ms
 -- the header was read
 pub slice-opens : (limits : Limits) (bs : List ℕ) (h : Header) (rest : List ℕ) (own : Limits) (given at : ℕ) (next : Stage) → IsHeader h → bs ≡ header_bytes h ++ rest
     → (next ≡ stage.Reading) × (given ≡ 0) × (at ≡ 58) × (own ≡ limits) → HasGiven limits bs [] rest h own given at next
-slice-opens limits bs h rest own given at next fits bytes begins = record {
-  so_far = rw (begins.1, begins.2) (run-opens limits bs h rest fits bytes);
-  same = begins.3;
-  reading = begins.0;
-}
+slice-opens limits bs h rest own given at next fits bytes begins = grind (arith, run-opens)
 
 -- one more message was read
 pub slice-gives : (limits : Limits) (bs : List ℕ) (ms more : List Message) (r rest : List ℕ) (h new_h : Header) (own new_own : Limits) (given new_given at new_at : ℕ) (next new_next : Stage) (m : Message)

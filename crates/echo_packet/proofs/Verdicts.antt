@@ -6,7 +6,7 @@ use Rattle.echo_packet.specs.declared.limits.Limits.{Limits}
 use Rattle.echo_packet.specs.declared.fault.PacketFault.{PacketFault}
 use Rattle.echo_packet.specs.declared.fault.PacketFault.TheVariants as fault
 use Rattle.echo_packet.specs.Header.{word, number_at}
-use Rattle.echo_packet.specs.Message.{Message, Part, Number, Numbers, DateTime, ToName, FromName, Subject, Text, IsMessage, before, zero_ended, numbers, message_bytes, max_name, max_subject}
+use Rattle.echo_packet.specs.Message.{Message, Part, Number, Numbers, DateTime, ToName, FromName, Subject, Text, IsMessage, before, numbers, message_bytes, max_name, max_subject}
 use Rattle.echo_packet.specs.Fault.{IsCut, IsLongField, IsLongText, IsOtherNumber, IsOneTooMany, place_of}
 use Rattle.echo_packet.specs.Next.{AtPart, NextFault}
 use Rattle.echo_packet.specs.Run.{IsOfCall}
@@ -101,49 +101,32 @@ reach_numbers limits given r more =
 reach_date : (limits : Limits) (given : ℕ) (m : Message) (r : List ℕ) → given < limits.messages
     → verdict limits given (before DateTime m ++ r) ≡ from_date limits.text (only_numbers m) r
 unfolding from_numbers
-reach_date limits given m r more =
-    ap (verdict limits given) (append_assoc (word 2) (numbers m) r) ∙ reach_numbers limits given (numbers m ++ r) more
-    ∙ then_got (fixed 12 (numbers m ++ r)) _ _ _ (numbers m) r (fixed-whole 12 (numbers m) r (length-numbers m))
-    ∙ ap (λ n. from_date limits.text n r) (numbered-numbers m)
+reach_date limits given m r more = grind (arith, verdict, append_assoc, reach_numbers, then_got, fixed, fixed-whole, length-numbers, from_date, numbered-numbers)
 
 reach_to : (limits : Limits) (given : ℕ) (m : Message) (r : List ℕ) → IsMessage limits.text m → given < limits.messages
     → verdict limits given (before ToName m ++ r) ≡ part_verdict limits given m ToName r
 unfolding from_date part_verdict
-reach_to limits given m r fits more =
-    ap (verdict limits given) (append_assoc (before DateTime m) m.date r) ∙ reach_date limits given m (m.date ++ r) more
-    ∙ then_got (fixed 20 (m.date ++ r)) _ _ _ m.date r (fixed-whole 20 m.date r fits.date_len)
+reach_to limits given m r fits more = grind (arith, verdict, append_assoc, reach_date, then_got, fixed, fixed-whole)
 
 reach_from : (limits : Limits) (given : ℕ) (m : Message) (r : List ℕ) → IsMessage limits.text m → given < limits.messages
     → verdict limits given (before FromName m ++ r) ≡ part_verdict limits given m FromName r
 unfolding from_to part_verdict
-reach_from limits given m r fits more =
-    let s = m.to_name in
-    ap (verdict limits given) (append_assoc (before ToName m) (zero_ended s) r) ∙ reach_to limits given m (zero_ended s ++ r) fits more
-    ∙ then_got (string max_name (zero_ended s ++ r)) _ _ _ s r (string-whole max_name s r fits.to_name.no_zero fits.to_name.room)
+reach_from limits given m r fits more = grind (arith, verdict, append_assoc, reach_to, then_got, string, string-whole)
 
 reach_subject : (limits : Limits) (given : ℕ) (m : Message) (r : List ℕ) → IsMessage limits.text m → given < limits.messages
     → verdict limits given (before Subject m ++ r) ≡ part_verdict limits given m Subject r
 unfolding from_from part_verdict
-reach_subject limits given m r fits more =
-    let s = m.from_name in
-    ap (verdict limits given) (append_assoc (before FromName m) (zero_ended s) r) ∙ reach_from limits given m (zero_ended s ++ r) fits more
-    ∙ then_got (string max_name (zero_ended s ++ r)) _ _ _ s r (string-whole max_name s r fits.from_name.no_zero fits.from_name.room)
+reach_subject limits given m r fits more = grind (arith, verdict, append_assoc, reach_from, then_got, string, string-whole)
 
 reach_text : (limits : Limits) (given : ℕ) (m : Message) (r : List ℕ) → IsMessage limits.text m → given < limits.messages
     → verdict limits given (before Text m ++ r) ≡ part_verdict limits given m Text r
 unfolding from_subject part_verdict
-reach_text limits given m r fits more =
-    let s = m.subject in
-    ap (verdict limits given) (append_assoc (before Subject m) (zero_ended s) r) ∙ reach_subject limits given m (zero_ended s ++ r) fits more
-    ∙ then_got (string max_subject (zero_ended s ++ r)) _ _ _ s r (string-whole max_subject s r fits.subject.no_zero fits.subject.room)
+reach_text limits given m r fits more = grind (arith, verdict, append_assoc, reach_subject, then_got, string, string-whole)
 
 pub verdict-whole : (limits : Limits) (given : ℕ) (m : Message) (r : List ℕ) → IsMessage limits.text m → given < limits.messages
     → verdict limits given (message_bytes m ++ r) ≡ Whole m r
 unfolding from_text part_verdict
-verdict-whole limits given m r fits more =
-    let s = m.text in
-    ap (verdict limits given) (append_assoc (before Text m) (zero_ended s) r) ∙ reach_text limits given m (zero_ended s ++ r) fits more
-    ∙ then_got (string limits.text (zero_ended s ++ r)) _ _ _ s r (string-whole limits.text s r fits.text.no_zero fits.text.room)
+verdict-whole limits given m r fits more = grind (arith, verdict, append_assoc, reach_text, then_got, string, string-whole)
 
 pub verdict-end : (limits : Limits) (given : ℕ) (r : List ℕ) → verdict limits given (word 0 ++ r) ≡ End r
 unfolding verdict from_kind
@@ -153,33 +136,15 @@ verdict-end limits given r = then_got (fixed 2 (word 0 ++ r)) _ _ _ (word 0) r (
 reach : (limits : Limits) (given : ℕ) (m : Message) (field : Part) (r : List ℕ) → IsMessage limits.text m → (field ≢ Number → given < limits.messages)
     → verdict limits given (before field m ++ r) ≡ part_verdict limits given m field r
 unfolding part_verdict
-reach limits given m Number r fits more = refl
-reach limits given m Numbers r fits more = reach_numbers limits given r (more (λ e. cc))
-reach limits given m DateTime r fits more = reach_date limits given m r (more (λ e. cc))
-reach limits given m ToName r fits more = reach_to limits given m r fits (more (λ e. cc))
-reach limits given m FromName r fits more = reach_from limits given m r fits (more (λ e. cc))
-reach limits given m Subject r fits more = reach_subject limits given m r fits (more (λ e. cc))
-reach limits given m Text r fits more = reach_text limits given m r fits (more (λ e. cc))
+reach limits given m field r h1 h2 = grind (arith, reach_numbers, reach_date, reach_to, reach_from, reach_subject, reach_text)
 
 cut_is : (limits : Limits) (given : ℕ) (m : Message) (field : Part) (r : List ℕ) → IsCut limits field r → part_verdict limits given m field r ≡ Wrong fault.Truncated r
 unfolding part_verdict verdict from_numbers from_date from_to from_from from_subject from_text
-cut_is limits given m Number r h = then_cut (fixed 2 r) _ _ _ (fixed-cut 2 r h)
-cut_is limits given m Numbers r h = then_cut (fixed 12 r) _ _ _ (fixed-cut 12 r h)
-cut_is limits given m DateTime r h = then_cut (fixed 20 r) _ _ _ (fixed-cut 20 r h)
-cut_is limits given m ToName r h = then_cut (string max_name r) _ _ _ (string-cut max_name r h.0 h.1)
-cut_is limits given m FromName r h = then_cut (string max_name r) _ _ _ (string-cut max_name r h.0 h.1)
-cut_is limits given m Subject r h = then_cut (string max_subject r) _ _ _ (string-cut max_subject r h.0 h.1)
-cut_is limits given m Text r h = then_cut (string limits.text r) _ _ _ (string-cut limits.text r h.0 h.1)
+cut_is limits given m field r h1 = grind (arith, then_cut, fixed, fixed-cut, string, string-cut)
 
 long_is : (limits : Limits) (given : ℕ) (m : Message) (field : Part) (r : List ℕ) → IsLongField field r → part_verdict limits given m field r ≡ Wrong fault.FieldTooLong r
 unfolding part_verdict from_to from_from from_subject
-long_is limits given m Number r h = absurd h
-long_is limits given m Numbers r h = absurd h
-long_is limits given m DateTime r h = absurd h
-long_is limits given m ToName r h = then_long (string max_name r) _ _ _ (string-long max_name r h)
-long_is limits given m FromName r h = then_long (string max_name r) _ _ _ (string-long max_name r h)
-long_is limits given m Subject r h = then_long (string max_subject r) _ _ _ (string-long max_subject r h)
-long_is limits given m Text r h = absurd h
+long_is limits given m field r h1 = grind (arith, then_long, string, string-long)
 
 text_is : (limits : Limits) (given : ℕ) (m : Message) (field : Part) (r : List ℕ) → IsLongText limits field r → part_verdict limits given m field r ≡ Wrong fault.TextTooLong r
 unfolding part_verdict from_text
@@ -200,17 +165,11 @@ number_of limits given r long =
 
 other_is : (limits : Limits) (given : ℕ) (m : Message) (field : Part) (r : List ℕ) → IsOtherNumber field r → part_verdict limits given m field r ≡ Wrong fault.NotMessage r
 unfolding part_verdict from_kind
-other_is limits given m field r h =
-    let at_number = number_of limits given r h.1 ∙ cond-false (number_at 0 r == 0) _ _ (ne_eqb _ _ h.3) ∙ cond-false (number_at 0 r == 2) _ _ (ne_eqb _ _ h.2) in
-    subst (λ f. part_verdict limits given m f r ≡ Wrong fault.NotMessage r) (sym h.0) at_number
+other_is limits given m field r h = grind (arith, number_of, cond-false, ne_eqb, part_verdict)
 
 many_is : (limits : Limits) (given : ℕ) (m : Message) (field : Part) (r : List ℕ) → IsOneTooMany limits given field r → part_verdict limits given m field r ≡ Wrong fault.TooManyMessages r
 unfolding part_verdict from_kind
-many_is limits given m field r h =
-    let not_none : number_at 0 r ≢ 0 = λ e. (let two = h.2 in omega arith) in
-    let at_number = number_of limits given r h.1 ∙ cond-false (number_at 0 r == 0) _ _ (ne_eqb _ _ not_none) ∙ cond-true (number_at 0 r == 2) _ _ (eq-eqb _ _ h.2)
-    ∙ cond-true (given == limits.messages) _ _ (eq-eqb _ _ h.3) in
-    subst (λ f. part_verdict limits given m f r ≡ Wrong fault.TooManyMessages r) (sym h.0) at_number
+many_is limits given m field r h = grind (arith, number_of, cond-false, ne_eqb, cond-true, eq-eqb, part_verdict)
 
 -- a field of these bytes that is wrong
 wrong-part : (limits : Limits) (given start at : ℕ) (bs : List ℕ) (Bad : Part → List ℕ → Type 0) (why : ℕ → PacketFault) (a : AtPart limits given start bs at Bad)
@@ -221,9 +180,7 @@ wrong-part limits given start at bs Bad why a is =
 -- the number of bytes before a field
 part-place : (limits : Limits) (given start at : ℕ) (bs : List ℕ) (Bad : Part → List ℕ → Type 0) (a : AtPart limits given start bs at Bad)
     → at ≡ place_of (start + (length bs - length a.rest))
-part-place limits given start at bs Bad a =
-    let size = ap length a.bytes ∙ length-append (before a.field a.one_more) a.rest in
-    let here = a.place in omega arith
+part-place limits given start at bs Bad a = grind (arith, length-append)
 
 -- a fault of the bytes, as they are read from left to right
 pub record Fails (limits : Limits) (given start : ℕ) (bs : List ℕ) (f : PacketFault) : Type 0 where
@@ -259,20 +216,9 @@ fails limits given start bs (fault.BadField n) a = absurd a
 
 -- bytes are read from left to right in one way
 one_reading : (limits : Limits) (given start : ℕ) (bs : List ℕ) (f g : PacketFault) → Fails limits given start bs f → Fails limits given start bs g → g ≡ f
-one_reading limits given start bs f g x y =
-    let same : Wrong y.why y.rest ≡ Wrong x.why x.rest = sym y.found ∙ x.found in
-    let why : y.why ≡ x.why = cc in
-    let rest : y.rest ≡ x.rest = cc in
-    y.is ∙ ap (λ (h : ℕ → PacketFault). h (place_of (start + (length bs - length y.rest)))) why
-    ∙ ap (λ r. x.why (place_of (start + (length bs - length r)))) rest ∙ sym x.is
+one_reading limits given start bs f g x y = grind arith
 
 -- bytes have one fault
 pub one_fault : (limits : Limits) (given start : ℕ) (bs : List ℕ) (f g : PacketFault) → NextFault limits given start bs f → NextFault limits given start bs g
     → (g ≡ f) ⊎ (IsOfCall f ⊎ IsOfCall g)
-one_fault limits given start bs f g first second = elim (fails limits given start bs f first) [
-  | inr call ↦ inr (inl call)
-  | inl x ↦ elim (fails limits given start bs g second) [
-    | inr call ↦ inr (inr call)
-    | inl y ↦ inl (one_reading limits given start bs f g x y)
-  ]
-]
+one_fault limits given start bs f g first second = grind (arith, fails, one_reading)

@@ -6,9 +6,7 @@ use Rattle.echo_packet.proofs.Slices.{slice-opens, slice-gives, slice-ends, slic
 use Rattle.echo_packet.proofs.reading.read_messages.Goals as goal
 
 pub messages-init : goal.messages-init
-messages-init c =
-    let e = c.in_ok-reader.ensures in
-    rw c.new-messages.ensures.items (slice-opens c.args.limits c.args.bytes.now _ _ _ _ _ _ e.header e.taken e.begins)
+messages-init c = grind (arith, slice-opens)
 
 pub returns-in_err-message : goal.returns-in_err-message
 returns-in_err-message c =
