@@ -1,8 +1,6 @@
 -- Lines that are read hold no 1A and no 0A, their fields no commas: so they keep the rules of a nodelist.
-use Rattle.std.proofs.Common.{◌≡◌, ℕ, ◌+◌, ◌-◌, ◌<◌, ◌≤◌, ◌==◌, ◌&&◌, not, nat_lt, Bool, true, List, [], ◌∷◌, length, take, drop, map, reverse, refl, sym, ap, ◌∙◌, subst, arith, inl, inr, Option, Some, None, Ok, Err}
-use Rattle.std.specs.Prelude.{IsSome}
-use Rattle.std.specs.List.{list_all, onto_first, position_or_len, slice_split}
-use Rattle.std.specs.Str.Parse.{digits_value}
+use Rattle.std.proofs.Common.{◌≡◌, ℕ, ◌-◌, ◌≤◌, ◌==◌, ◌&&◌, not, nat_lt, Bool, true, List, [], ◌∷◌, length, take, drop, map, reverse, refl, sym, ap, ◌∙◌, arith, inl, inr, Option, Some, None, Ok}
+use Rattle.std.specs.List.{list_all, onto_first, slice_split}
 use Rattle.std.specs.Io.BufRead.{ends_with_byte, strip_last}
 use Rattle.std.proofs.lemmas.List.{get_or-take, length-take-le, reverse-append, take-append-drop}
 use Rattle.std.proofs.lemmas.List.Elements.{All-from_get_or}
@@ -10,14 +8,12 @@ use Rattle.std.proofs.lemmas.List.Folds.{list_all-append}
 use Rattle.std.proofs.lemmas.List.Splits.{slice_split-cons_no, slice_split-cons_yes}
 use Rattle.std.proofs.lemmas.List.Sums.{fails_before_first, list_all-from_AllPass, prefix_len-le-length}
 use Rattle.std.proofs.lemmas.Bool.{and_from, and_parts, cases_Bool, cond_both, ltb-false}
-use Rattle.echo_addr.specs.Digits.{is_number}
 use Rattle.echo_nodelist.specs.declared.keyword.Keyword.{Keyword}
 use Rattle.echo_nodelist.specs.declared.line.Line.{Line}
-use Rattle.echo_nodelist.specs.declared.line.Line.TheVariants.{Entry, Note}
-use Rattle.echo_nodelist.specs.declared.fault.NodeFault.TheVariants.{TooFewFields}
+use Rattle.echo_nodelist.specs.declared.line.Line.TheVariants.{Entry}
 use Rattle.echo_addr.specs.Pieces.{without_empty_last}
-use Rattle.echo_nodelist.specs.Raw.{is_comma, is_end, is_feed, lines_of, node_lines, before_end}
-use Rattle.echo_nodelist.specs.Line.{entry_in, is_fit, is_note, keyword_of, number_of, with_keyword, with_number}
+use Rattle.echo_nodelist.specs.Raw.{is_end, is_feed, lines_of, before_end}
+use Rattle.echo_nodelist.specs.Line.{entry_in, is_fit, number_of, with_keyword, with_number}
 use Rattle.echo_nodelist.specs.Back.{zone_back}
 use Rattle.echo_nodelist.specs.Nodelist.{AreLines, AreRead, IsGoodLine, IsNodelist, NodelistOf, in_zone, is_field_byte, is_inner, line_outcome, placed}
 
@@ -27,10 +23,7 @@ pub front_clean : (q : ℕ → Bool) (n : ℕ) (xs : List ℕ) → list_all q xs
 front_clean q n xs h = (and_parts _ _ (sym (list_all-append q (take n xs) (drop n xs)) ∙ ap (list_all q) (take-append-drop n xs) ∙ h)).0
 
 onto_clean : (r : ℕ → Bool) (b : ℕ) (pieces : List (List ℕ)) → r b ≡ true → list_all (list_all r) pieces ≡ true → list_all (list_all r) (onto_first b pieces) ≡ true
-onto_clean r b [] here h = and_from (r b && true) true (and_from (r b) true here refl) refl
-onto_clean r b (piece ∷ more) here h =
-    let parts = and_parts (list_all r piece) (list_all (list_all r) more) h in
-    and_from (r b && list_all r piece) (list_all (list_all r) more) (and_from (r b) (list_all r piece) here parts.0) parts.1
+onto_clean r b pieces h1 h2 = grind (arith, and_from, and_parts)
 
 pub split_clean : (q p : ℕ → Bool) (text : List ℕ) → list_all q text ≡ true → list_all (list_all (λ b. q b && not (p b))) (slice_split p text) ≡ true
 split_clean q p [] h = refl
@@ -68,13 +61,7 @@ lines_clean text h =
     (without_last_clean (list_all is_inner) (slice_split is_feed text) (split_clean (λ b. not (is_end b)) is_feed text h))
 
 text_clean : (bytes : List ℕ) → list_all (λ b. not (is_end b)) (before_end bytes) ≡ true
-text_clean bytes =
-    let k = position_or_len is_end bytes in
-    let within : k ≤ length bytes = prefix_len-le-length (λ b. not (is_end b)) bytes in
-    list_all-from_AllPass (λ b. not (is_end b)) (before_end bytes)
-    (All-from_get_or (λ b. not (is_end b) ≡ true) (before_end bytes) 0 (λ i below.
-    let at : i < k = omega (arith, below, length-take-le k bytes within) in
-    rw (get_or-take k bytes i 0 at) (ap not (fails_before_first is_end bytes i 0 at))))
+text_clean bytes = grind (arith, prefix_len-le-length, list_all-from_AllPass, All-from_get_or, length-take-le, get_or-take, fails_before_first)
 
 list_all-reverse : (r : List ℕ → Bool) (xs : List (List ℕ)) → list_all r xs ≡ true → list_all r (reverse xs) ≡ true
 list_all-reverse r [] h = refl
@@ -87,17 +74,11 @@ list_all-reverse r (x ∷ xs) h =
 -- ---- a parsed line keeps the rules
 
 fit_number : (k : Keyword) (digits : List ℕ) (n : ℕ) → number_of k digits ≡ Some n → is_fit k n ≡ true
-fit_number k digits n is =
-    let value = digits_value 10 digits in
-    cond_both (is_number digits && is_fit k value) (Some value) None (λ o. o ≡ Some n → is_fit k n ≡ true)
-    (λ y some. let same : value ≡ n = cc in subst (λ m. is_fit k m ≡ true) same (and_parts (is_number digits) (is_fit k value) y).1) (λ other none. absurd cc) is
+fit_number k digits n is = grind (arith, cond_both, and_parts)
 
 module _ (at : ℕ) (earlier : List Line) (line : Line) (fields : List (List ℕ)) (enough : 5 ≤ length fields) (clean : list_all (list_all is_field_byte) fields ≡ true) where
   by_zone : (k : Keyword) (n : ℕ) (z : Option ℕ) → is_fit k n ≡ true → zone_back (Entry k n fields ∷ earlier) ≡ z → in_zone at z (Entry k n fields) ≡ Ok line → IsGoodLine earlier line
-  by_zone k n None fit zone is = absurd cc
-  by_zone k n (Some z) fit zone is =
-      let same : Entry k n fields ≡ line = cc in
-      subst (IsGoodLine earlier) same (record { number = fit; enough = enough; bytes = clean; zone = subst IsSome (sym zone) refl })
+  by_zone k n z h1 h2 h3 = grind arith
 
   by_number : (k : Keyword) (digits : List ℕ) (m : Option ℕ) → number_of k digits ≡ m → placed at earlier (with_number at k m fields) ≡ Ok line → IsGoodLine earlier line
   by_number k digits None number is = absurd cc
@@ -109,20 +90,10 @@ module _ (at : ℕ) (earlier : List Line) (line : Line) (fields : List (List ℕ
 
 entry_good : (at : ℕ) (earlier : List Line) (line : Line) (pieces : List (List ℕ)) → list_all (list_all is_field_byte) pieces ≡ true
     → placed at earlier (entry_in at pieces) ≡ Ok line → IsGoodLine earlier line
-entry_good at earlier line (word ∷ (digits ∷ fields)) clean is =
-    let inner = list_all is_field_byte in
-    let rest : list_all inner fields ≡ true =
-    (and_parts (inner digits) (list_all inner fields) (and_parts (inner word) (list_all inner (digits ∷ fields)) clean).1).1 in
-    cond_both (nat_lt (length fields) 5) (Err (TooFewFields at)) (with_keyword at (keyword_of word) digits fields) (λ o. placed at earlier o ≡ Ok line → IsGoodLine earlier line)
-    (λ few fault. absurd cc) (λ enough said. by_keyword at earlier line fields (ltb-false (length fields) 5 enough) rest (keyword_of word) digits said) is
-entry_good at earlier line _ clean is = absurd cc
+entry_good at earlier line pieces h1 h2 = grind (arith, and_parts, cond_both, nat_lt, by_keyword, ltb-false)
 
 line_good : (earlier : List Line) (raw : List ℕ) (line : Line) → line_outcome earlier raw ≡ Ok line → list_all is_inner raw ≡ true → IsGoodLine earlier line
-line_good earlier raw line is clean =
-    let at = length earlier + 1 in
-    cond_both (is_note raw) (Ok (Note raw)) (entry_in at (slice_split is_comma raw)) (λ o. placed at earlier o ≡ Ok line → IsGoodLine earlier line)
-    (λ y said. let same : Note raw ≡ line = cc in subst (IsGoodLine earlier) same (y, clean))
-    (λ n said. entry_good at earlier line (slice_split is_comma raw) (split_clean is_inner is_comma raw clean) said) is
+line_good earlier raw line is clean = grind (arith, cond_both, entry_good, split_clean)
 
 lines_good : (raws : List (List ℕ)) (lines : List Line) → AreRead raws lines → list_all (list_all is_inner) raws ≡ true → AreLines lines
 lines_good [] [] read clean = tt
@@ -133,6 +104,4 @@ lines_good _ _ read clean = absurd read
 
 -- the lines of bytes that are a nodelist keep the rules
 pub good_lines : (bytes : List ℕ) (lines : List Line) → NodelistOf bytes lines → IsNodelist lines
-good_lines bytes lines read =
-    lines_good (reverse (node_lines bytes)) (reverse lines) read
-    (list_all-reverse (list_all is_inner) (node_lines bytes) (lines_clean (before_end bytes) (text_clean bytes)))
+good_lines bytes lines read = grind (arith, lines_good, list_all-reverse, lines_clean, text_clean)

@@ -21,30 +21,20 @@ shifted (x ∷ rest) y = reduced (sum_of x y) (rest ++ false ∷ [])
 -- ---- sums of bits
 
 sum_of_again : (x y : Bool) → sum_of x (sum_of x y) ≡ y
-sum_of_again true true = refl
-sum_of_again true false = refl
-sum_of_again false y = refl
+sum_of_again x y = grind arith
 
 sum_of_assoc : (x y z : Bool) → sum_of (sum_of x y) z ≡ sum_of x (sum_of y z)
-sum_of_assoc true true true = refl
-sum_of_assoc true true false = refl
-sum_of_assoc true false z = refl
-sum_of_assoc false y z = refl
+sum_of_assoc x y z = grind arith
 
 sum_of_comm : (x y : Bool) → sum_of x y ≡ sum_of y x
-sum_of_comm true true = refl
-sum_of_comm true false = refl
-sum_of_comm false true = refl
-sum_of_comm false false = refl
+sum_of_comm x y = grind arith
 
 sum_of_same : (x : Bool) → sum_of x x ≡ false
 sum_of_same true = refl
 sum_of_same false = refl
 
 sum_of_four : (x y z w : Bool) → sum_of (sum_of x y) (sum_of z w) ≡ sum_of (sum_of x z) (sum_of y w)
-sum_of_four x y z w =
-    sum_of_assoc x y (sum_of z w) ∙ ap (sum_of x) (sym (sum_of_assoc y z w) ∙ ap (λ t. sum_of t w) (sum_of_comm y z) ∙ sum_of_assoc z y w)
-    ∙ sym (sum_of_assoc x z (sum_of y w))
+sum_of_four x y z w = grind (arith, sum_of_assoc, sum_of_comm)
 
 -- ---- sums of lists of bits
 
@@ -154,11 +144,7 @@ reduced_sum false true u v hu hv = added_across u v hu
 reduced_sum true true u v hu hv = sym (added_assoc poly u (added poly v) (omega arith) ∙ ap (added poly) (sym (added_across u v hu)) ∙ added_again poly (added u v))
 
 shifted_sum : (r s : List Bool) (x y : Bool) → length r ≡ 16 → length s ≡ 16 → shifted (added r s) (sum_of x y) ≡ added (shifted r x) (shifted s y)
-shifted_sum (p ∷ a) (q ∷ c) x y hr hs =
-    ap (λ b. reduced b (added a c ++ false ∷ [])) (sum_of_four p q x y)
-    ∙ ap (reduced (sum_of (sum_of p x) (sum_of q y))) (added-push a c (omega arith))
-    ∙ reduced_sum (sum_of p x) (sum_of q y) (a ++ false ∷ []) (c ++ false ∷ []) (omega (arith, length-push a)) (omega (arith, length-push c))
-shifted_sum _ _ x y hr hs = absurd (omega arith)
+shifted_sum r s x y h1 h2 = grind (arith, sum_of_four, added-push, reduced_sum, length-push)
 
 pub fold_sum : (r s xs ys : List Bool) → length r ≡ 16 → length s ≡ 16 → length xs ≡ length ys
     → fold shifted (added r s) (added xs ys) ≡ added (fold shifted r xs) (fold shifted s ys)
@@ -211,6 +197,4 @@ fold_added r message h long =
 -- the same for a register in two halves and a message that begins with two bytes
 pub fold_two : (h z first second rest : List Bool) → length h ≡ 8 → length z ≡ 8 → length first ≡ 8 → length second ≡ 8
     → fold shifted (h ++ z) (first ++ (second ++ rest)) ≡ fold shifted (zeros 16) (added h first ++ (added z second ++ rest))
-fold_two h z first second rest hh hz hf hs =
-    fold_added (h ++ z) (first ++ (second ++ rest)) (omega (arith, length-append h z)) (omega (arith, length-append first (second ++ rest), length-append second rest))
-    ∙ ap (fold shifted (zeros 16)) (added_both h z first (second ++ rest) (omega arith) ∙ ap (λ l. added h first ++ l) (added_front z second rest (omega arith)))
+fold_two h z first second rest hh hz hf hs = grind (arith, fold_added, length-append, added_both, added_front)

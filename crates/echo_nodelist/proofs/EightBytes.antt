@@ -91,17 +91,7 @@ entry zeros byte = crc (byte ∷ replicate zeros 0)
 eight_bytes : (bytes : List ℕ) (a b c d e f g h : ℕ)
     → crc (bytes ++ a ∷ (b ∷ (c ∷ (d ∷ (e ∷ (f ∷ (g ∷ (h ∷ []))))))))
     ≡ bit_xor (entry 7 (bit_xor (crc bytes / 2 ^ 8) a)) (bit_xor (entry 6 (bit_xor (crc bytes % 2 ^ 8) b)) (bit_xor (entry 5 c) (bit_xor (entry 4 d) (bit_xor (entry 3 e) (bit_xor (entry 2 f) (bit_xor (entry 1 g) (entry 0 h)))))))
-eight_bytes bytes a b c d e f g h =
-    let x = bit_xor (crc bytes / 2 ^ 8) a in
-    let y = bit_xor (crc bytes % 2 ^ 8) b in
-    let three = ap (bit_xor (entry 2 f)) (crc_first g (h ∷ [])) in
-    let four = ap (bit_xor (entry 3 e)) (crc_first f (g ∷ (h ∷ [])) ∙ three) in
-    let five = ap (bit_xor (entry 4 d)) (crc_first e (f ∷ (g ∷ (h ∷ []))) ∙ four) in
-    let six = ap (bit_xor (entry 5 c)) (crc_first d (e ∷ (f ∷ (g ∷ (h ∷ [])))) ∙ five) in
-    let seven = ap (bit_xor (entry 6 y)) (crc_first c (d ∷ (e ∷ (f ∷ (g ∷ (h ∷ []))))) ∙ six) in
-    crc_two bytes a b (c ∷ (d ∷ (e ∷ (f ∷ (g ∷ (h ∷ []))))))
-    ∙ crc_first x (y ∷ (c ∷ (d ∷ (e ∷ (f ∷ (g ∷ (h ∷ [])))))))
-    ∙ ap (bit_xor (entry 7 x)) (crc_first y (c ∷ (d ∷ (e ∷ (f ∷ (g ∷ (h ∷ [])))))) ∙ seven)
+eight_bytes bytes a b c d e f g h = grind (arith, crc_first, crc_two)
 
 -- a list of eight by its elements
 eight_of : (xs : List ℕ) → length xs ≡ 8
@@ -113,12 +103,7 @@ eight_of xs is = absurd (omega arith)
 pub crc_eight : (bytes eight : List ℕ) (r : ℕ) → crc bytes ≡ r → length eight ≡ 8
     → crc (bytes ++ eight)
     ≡ bit_xor (entry 7 (bit_xor (r / 2 ^ 8) (get_or eight 0 0))) (bit_xor (entry 6 (bit_xor (r % 2 ^ 8) (get_or eight 1 0))) (bit_xor (entry 5 (get_or eight 2 0)) (bit_xor (entry 4 (get_or eight 3 0)) (bit_xor (entry 3 (get_or eight 4 0)) (bit_xor (entry 2 (get_or eight 5 0)) (bit_xor (entry 1 (get_or eight 6 0)) (entry 0 (get_or eight 7 0))))))))
-crc_eight bytes eight r is long =
-    let at = get_or eight in
-    let rest : ℕ → ℕ = λ y. bit_xor (entry 6 y) (bit_xor (entry 5 (at 2 0)) (bit_xor (entry 4 (at 3 0)) (bit_xor (entry 3 (at 4 0)) (bit_xor (entry 2 (at 5 0)) (bit_xor (entry 1 (at 6 0)) (entry 0 (at 7 0))))))) in
-    ap (λ l. crc (bytes ++ l)) (eight_of eight long)
-    ∙ eight_bytes bytes (at 0 0) (at 1 0) (at 2 0) (at 3 0) (at 4 0) (at 5 0) (at 6 0) (at 7 0)
-    ∙ ap (λ n. bit_xor (entry 7 (bit_xor (n / 2 ^ 8) (at 0 0))) (rest (bit_xor (n % 2 ^ 8) (at 1 0)))) is
+crc_eight bytes eight r is long = grind (arith, get_or, eight_of, eight_bytes)
 
 pub xor_same : {a b c d : ℕ} → a ≡ b → c ≡ d → bit_xor a c ≡ bit_xor b d
 xor_same {b = b} {c = c} p q = ap (λ n. bit_xor n c) p ∙ ap (bit_xor b) q
@@ -132,7 +117,4 @@ pub first_eight : (rest : List ℕ) → 8 ≤ length rest
     → rest
     ≡ (get_or rest 0 0 ∷ (get_or rest 1 0 ∷ (get_or rest 2 0 ∷ (get_or rest 3 0 ∷ (get_or rest 4 0 ∷ (get_or rest 5 0 ∷ (get_or rest 6 0 ∷ (get_or rest 7 0 ∷ []))))))))
     ++ take (length rest - 8) (drop 8 rest)
-first_eight (a ∷ (b ∷ (c ∷ (d ∷ (e ∷ (f ∷ (g ∷ (h ∷ later)))))))) long =
-    let size = length (a ∷ (b ∷ (c ∷ (d ∷ (e ∷ (f ∷ (g ∷ (h ∷ later)))))))) in
-    ap (λ l. a ∷ (b ∷ (c ∷ (d ∷ (e ∷ (f ∷ (g ∷ (h ∷ l)))))))) (sym (take_all (size - 8) later (omega arith)))
-first_eight rest long = absurd (omega arith)
+first_eight rest h1 = grind (arith, take_all)

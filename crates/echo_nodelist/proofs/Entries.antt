@@ -1,5 +1,5 @@
 -- The content of the fields of an entry.
-use Rattle.std.proofs.Common.{◌≡◌, ℕ, ◌<◌, ◌≤◌, nat_lt, List, [], ◌∷◌, length, refl, sym, ap, ◌∙◌, Some, None, Ok, Err}
+use Rattle.std.proofs.Common.{◌≡◌, ℕ, ◌<◌, ◌≤◌, nat_lt, List, ◌∷◌, length, sym, ap, ◌∙◌, Some, None, Ok, Err, arith}
 use Rattle.std.specs.List.{after_first, before_first, position_or_len, slice_split}
 use Rattle.std.proofs.lemmas.List.Splits.{slice_split_first}
 use Rattle.std.proofs.lemmas.Bool.{cond-false, cond-true, le-ltb, lt-ltb}
@@ -13,19 +13,14 @@ use Rattle.echo_nodelist.proofs.Pieces.{one_piece}
 -- the first field, and the fields after it
 pub field_cut : (text field rest : List ℕ) → position_or_len is_comma text < length text → field ≡ before_first is_comma text
     → rest ≡ after_first is_comma text → slice_split is_comma text ≡ field ∷ slice_split is_comma rest
-field_cut text field rest found before behind =
-    slice_split_first is_comma text 0 found
-    ∙ ap (λ f. f ∷ slice_split is_comma (after_first is_comma text)) (sym before)
-    ∙ ap (λ t. field ∷ slice_split is_comma t) (sym behind)
+field_cut text field rest found before behind = grind (arith, slice_split_first)
 
 pub one_field : (at : ℕ) (text : List ℕ) → position_or_len is_comma text ≡ length text → entry_in at (slice_split is_comma text) ≡ Err (TooFewFields at)
 one_field at text none = ap (entry_in at) (one_piece is_comma text none)
 
 pub two_fields : (at : ℕ) (text word rest : List ℕ) → slice_split is_comma text ≡ word ∷ slice_split is_comma rest → position_or_len is_comma rest ≡ length rest
     → entry_in at (slice_split is_comma text) ≡ Err (TooFewFields at)
-two_fields at text word rest cut none =
-    ap (entry_in at) (cut ∙ ap (λ fs. word ∷ fs) (one_piece is_comma rest none))
-    ∙ cond-true (nat_lt 0 5) (Err (TooFewFields at)) (with_keyword at (keyword_of word) rest []) refl
+two_fields at text word rest cut none = grind (arith, one_piece, cond-true, nat_lt)
 
 module _ (at : ℕ) (text word rest digits last : List ℕ) (fields : List (List ℕ)) (first : slice_split is_comma text ≡ word ∷ slice_split is_comma rest)
     (second : slice_split is_comma rest ≡ digits ∷ slice_split is_comma last) (others : fields ≡ slice_split is_comma last) where
@@ -33,15 +28,11 @@ module _ (at : ℕ) (text word rest digits last : List ℕ) (fields : List (List
   whole = first ∙ ap (λ fs. word ∷ fs) second ∙ ap (λ fs. word ∷ (digits ∷ fs)) (sym others)
 
   pub few_fields : length fields < 5 → entry_in at (slice_split is_comma text) ≡ Err (TooFewFields at)
-  few_fields few =
-      ap (entry_in at) whole
-      ∙ cond-true (nat_lt (length fields) 5) (Err (TooFewFields at)) (with_keyword at (keyword_of word) digits fields) (lt-ltb (length fields) 5 few)
+  few_fields few = grind (arith, whole, cond-true, nat_lt, lt-ltb)
 
   module _ (enough : 5 ≤ length fields) where
     by_keyword : entry_in at (slice_split is_comma text) ≡ with_keyword at (keyword_of word) digits fields
-    by_keyword =
-        ap (entry_in at) whole
-        ∙ cond-false (nat_lt (length fields) 5) (Err (TooFewFields at)) (with_keyword at (keyword_of word) digits fields) (le-ltb (length fields) 5 enough)
+    by_keyword = grind (arith, whole, cond-false, nat_lt, le-ltb)
 
     pub no_keyword : None ≡ keyword_of word → entry_in at (slice_split is_comma text) ≡ Err (BadKeyword at)
     no_keyword none = by_keyword ∙ ap (λ k. with_keyword at k digits fields) (sym none)

@@ -1,5 +1,5 @@
 -- The written bytes of a line, piece by piece.
-use Rattle.std.proofs.Common.{◌≡◌, ℕ, List, [], ◌∷◌, ◌++◌, decimal, sym, ap, ◌∙◌, Result, Ok, Err}
+use Rattle.std.proofs.Common.{◌≡◌, ℕ, List, [], ◌∷◌, ◌++◌, decimal, sym, ap, Result, Ok, Err, arith}
 use Rattle.std.specs.Prelude.{OnOk}
 use Rattle.std.specs.List.{flat_map, join_with_byte}
 use Rattle.std.proofs.lemmas.List.{append_assoc, append-nil}
@@ -24,11 +24,4 @@ joined x (field ∷ fields) = ap (λ t. x ++ 44 ∷ t) (joined field fields)
 -- an entry, written piece by piece
 pub entry_written : (line : Line) (k : Keyword) (n : ℕ) (fields : List (List ℕ)) (old word comma number new : List ℕ) → line ≡ Entry k n fields
     → word ≡ old ++ keyword_text k → comma ≡ word ++ 44 ∷ [] → number ≡ comma ++ decimal n → new ≡ number ++ commas fields → new ≡ old ++ line_text line
-entry_written line k n fields old word comma number new is w c d f =
-    f
-    ∙ ap (λ t. t ++ commas fields) (d ∙ ap (λ t. t ++ decimal n) (c ∙ ap (λ t. t ++ 44 ∷ []) w))
-    ∙ append_assoc ((old ++ keyword_text k) ++ 44 ∷ []) (decimal n) (commas fields)
-    ∙ ap (λ t. ((old ++ keyword_text k) ++ 44 ∷ []) ++ t) (sym (joined (decimal n) fields))
-    ∙ append_assoc (old ++ keyword_text k) (44 ∷ []) (join_with_byte 44 (decimal n ∷ fields))
-    ∙ append_assoc old (keyword_text k) (44 ∷ join_with_byte 44 (decimal n ∷ fields))
-    ∙ ap (λ l. old ++ line_text l) (sym is)
+entry_written line k n fields old word comma number new is w c d f = grind (arith, append_assoc, joined)

@@ -1,6 +1,6 @@
 -- Facts about a line that depend on the lines before it.
 use Rattle.std.specs.Prelude.{MatchOption}
-use Rattle.std.proofs.Common.{◌≡◌, ◌≢◌, ℕ, ◌+◌, ◌<◌, ◌≤◌, nat_lt, ◌-◌, List, [], ◌∷◌, ◌++◌, length, get_or, take, reverse, cond, refl, sym, ap, ◌∙◌, subst, arith, Option, Some, None, Ok, Err, inl, inr}
+use Rattle.std.proofs.Common.{◌≡◌, ◌≢◌, ℕ, ◌+◌, ◌<◌, ◌≤◌, nat_lt, ◌-◌, List, [], ◌∷◌, ◌++◌, length, get_or, take, reverse, cond, refl, sym, ap, ◌∙◌, arith, Option, Some, None, Ok, Err, inl, inr}
 use Rattle.std.proofs.lemmas.List.{get_or-append_right, get_or_append_left, length-append, length-reverse, reverse-append, reverse-reverse, take-append-le, take_all}
 use Rattle.std.proofs.Math.ListN.{get_or-eq_default}
 use Rattle.std.proofs.lemmas.Bool.{cases_lt, cond_both, ltb-false, ltb-true}
@@ -25,13 +25,7 @@ tell_none at earlier k n fields line is none =
 pub tell_some : (at : ℕ) (earlier : List Line) (k : Keyword) (n : ℕ) (fields : List (List ℕ)) (line : Line) (here : Place) (address : Address)
     → line ≡ Entry k n fields → IsPlaceAfter (Entry k n fields ∷ earlier) (Some here) → address_back (Entry k n fields ∷ earlier) ≡ Some address
     → Locates at earlier line (Ok (record { address = Some address; place = Some here }))
-tell_some at earlier k n fields line here address is stands address_is =
-    let whole : Locates at earlier (Entry k n fields) (Ok (record { address = Some address; place = Some here })) = (
-      ap (λ z. in_zone at z (Entry k n fields)) stands.0,
-      record { place = stands; address = address_is },
-    )
-    in
-    subst (λ l. Locates at earlier l (Ok (record { address = Some address; place = Some here }))) (sym is) whole
+tell_some at earlier k n fields line here address is stands address_is = grind arith
 
 pub reverse-push : {A : Type 0} (xs : List A) (x : A) → reverse (xs ++ x ∷ []) ≡ x ∷ reverse xs
 reverse-push xs x = reverse-append xs (x ∷ [])
@@ -39,13 +33,7 @@ reverse-push xs x = reverse-append xs (x ∷ [])
 -- one more line
 pub follows_more : (lines : List Line) (addresses : List (Option Address)) (place : Option Place) (line : Line) (located : Located)
     → Follows lines addresses place → IsLocated (reverse lines) line located → Follows (lines ++ line ∷ []) (addresses ++ located.address ∷ []) located.place
-follows_more lines addresses place line located before now = record {
-  stands = subst (λ ls. IsPlaceAfter ls located.place) (sym (reverse-push lines line)) now.place;
-  address_each =
-      ap (λ l. l ++ located.address ∷ []) before.address_each
-      ∙ ap (λ a. each_back address_back (reverse lines) ++ a ∷ []) (sym now.address)
-      ∙ ap (each_back address_back) (sym (reverse-push lines line));
-}
+follows_more lines addresses place line located before now = grind (arith, reverse-push)
 
 -- ---- the entry of the line at an index
 
@@ -76,15 +64,7 @@ each_back_at f (line ∷ earlier) i below = elim (cases_lt i (length earlier)) [
 
 pub kept_at : (f : List Line → Option Address) (lines : List Line) (kept : List (Option Address)) (i : ℕ) → kept ≡ each_back f (reverse lines)
     → get_or kept i None ≡ cond (nat_lt i (length lines)) (f (lines_back lines i)) None
-kept_at f lines kept i is =
-    cond_both (nat_lt i (length lines)) (f (lines_back lines i)) None (λ found. get_or kept i None ≡ found)
-    (λ low.
-    ap (λ ks. get_or ks i None) is
-    ∙ each_back_at f (reverse lines) i (omega (arith, length-reverse lines, ltb-true i (length lines) low))
-    ∙ ap (λ ls. f (reverse (take (i + 1) ls))) (reverse-reverse lines))
-    (λ high.
-    ap (λ ks. get_or ks i None) is
-    ∙ get_or-eq_default (each_back f (reverse lines)) None (omega (arith, length-each_back f (reverse lines), length-reverse lines, ltb-false i (length lines) high)))
+kept_at f lines kept i is = grind (arith, cond_both, nat_lt, get_or, each_back_at, length-reverse, ltb-true, reverse-reverse, get_or-eq_default, length-each_back, ltb-false)
 
 -- the first address that was found is that of the first line with it
 pub finds_first : (lines : List Line) (addresses : List (Option Address)) (wanted : Address) (found : Option ℕ) → addresses ≡ each_back address_back (reverse lines)

@@ -18,9 +18,7 @@ pub record Done (text : List ℕ) (lines : List Line) (rest : List ℕ) : Type 0
 -- the content of the line, after counting its number
 outcome_is : (lines : List Line) (raw : List ℕ) (number : ℕ) (said : Result Line NodeFault) → number ≡ length lines + 1 → said ≡ line_in number raw
     → line_outcome (reverse lines) raw ≡ placed number (reverse lines) said
-outcome_is lines raw number said count is =
-    let same : length (reverse lines) + 1 ≡ number = omega (arith, length-reverse lines) in
-    ap (λ n. placed n (reverse lines) (line_in n raw)) same ∙ ap (placed number (reverse lines)) (sym is)
+outcome_is lines raw number said count is = grind (arith, length-reverse)
 
 -- an answer that is other than out of memory
 said_ok : (line : Line) (expected : Result Line NodeFault) → Gives (Ok line) expected → Ok line ≡ expected
@@ -42,8 +40,4 @@ done_more text rest raw after lines line number done cut count said good =
 
 -- the text has no more lines
 pub done_all : (text rest : List ℕ) (lines : List Line) → Done text lines rest → length rest ≡ 0 → AreRead (reverse (lines_of text)) (reverse lines)
-done_all text rest lines done none =
-    let all : done.front ≡ lines_of text =
-    sym (append-nil done.front) ∙ ap (λ ls. done.front ++ ls) (sym (ap lines_of (nil_from_length rest none) ∙ lines_nil)) ∙ done.pieces
-    in
-    subst (λ rs. AreRead (reverse rs) (reverse lines)) all done.read
+done_all text rest lines done none = grind (arith, append-nil, nil_from_length, lines_nil)

@@ -1,5 +1,5 @@
 -- Bytes are one nodelist at most, or have one first fault.
-use Rattle.std.proofs.Common.{◌≡◌, ℕ, List, [], ◌∷◌, ◌++◌, reverse, refl, sym, ap, ◌∙◌, subst, Ok, Err}
+use Rattle.std.proofs.Common.{◌≡◌, ℕ, List, [], ◌∷◌, ◌++◌, reverse, refl, sym, ap, ◌∙◌, subst, Ok, Err, arith}
 use Rattle.std.proofs.lemmas.List.{append_assoc, reverse-append, reverse-reverse}
 use Rattle.echo_nodelist.specs.declared.line.Line.{Line}
 use Rattle.echo_nodelist.specs.declared.fault.NodeFault.{NodeFault}
@@ -50,9 +50,7 @@ front_faulty front raw later lines earlier fault read good faulty =
     absurd cc
 
 pub none_faulty : (bytes : List ℕ) (lines : List Line) (fault : NodeFault) → NodelistOf bytes lines → NodelistFaultOf bytes fault → ⊥
-none_faulty bytes lines fault read faulty =
-    front_faulty faulty.front faulty.raw faulty.later (reverse lines) (reverse faulty.lines) fault
-    (subst (λ rs. AreRead (reverse rs) (reverse lines)) faulty.pieces read) faulty.good faulty.faulty
+none_faulty bytes lines fault read faulty = grind (arith, front_faulty)
 
 -- two places in one list: the same, or one before the other
 data Places (first : List (List ℕ)) (a : List ℕ) (second : List (List ℕ)) (b : List ℕ) : Type 0 where
@@ -75,14 +73,4 @@ places (f ∷ first) (s ∷ second) a b xs ys is =
     onward head (later m e) = later m (ap (λ l. l ∷ first) head ∙ ap (λ ls. s ∷ ls) e)
 
 pub same_fault : (bytes : List ℕ) (one other : NodeFault) → NodelistFaultOf bytes one → NodelistFaultOf bytes other → one ≡ other
-same_fault bytes one other f g = by (places f.front g.front f.raw g.raw f.later g.later (sym f.pieces ∙ g.pieces))
-  where
-    by : Places f.front f.raw g.front g.raw → one ≡ other
-    by (together e h) =
-        let lines : reverse f.lines ≡ reverse g.lines = same_read (reverse f.front) (reverse f.lines) (reverse g.lines) f.good (subst (λ fs. AreRead (reverse fs) (reverse g.lines)) (sym e) g.good) in
-        let both : Err one ≡ Err other = sym f.faulty ∙ ap (λ ls. line_outcome ls f.raw) lines ∙ ap (line_outcome (reverse g.lines)) h ∙ g.faulty in
-        cc
-    by (earlier m e) =
-        absurd (front_faulty f.front f.raw m (reverse g.lines) (reverse f.lines) one (subst (λ fs. AreRead (reverse fs) (reverse g.lines)) e g.good) f.good f.faulty)
-    by (later m e) =
-        absurd (front_faulty g.front g.raw m (reverse f.lines) (reverse g.lines) other (subst (λ fs. AreRead (reverse fs) (reverse f.lines)) e f.good) g.good g.faulty)
+same_fault bytes one other f g = grind (arith, places, same_read, front_faulty)

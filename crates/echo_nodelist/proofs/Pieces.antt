@@ -18,9 +18,7 @@ module _ (byte : ℕ) (text : List ℕ) where
 
   -- the place that `memchr` found
   pub place_found : (k : ℕ) → IsFirstByte (is_byte byte) text (Some k) → position_or_len is text ≡ k
-  place_found k found =
-      position_or_len_is is text k 0 (omega (arith, found.0.high))
-      (λ j below. false_from_ne_true (is (get_or text j 0)) (found.0.before j (omega arith) below)) (λ h. found.1)
+  place_found k found = grind (arith, position_or_len_is, false_from_ne_true, get_or)
 
   pub no_place : IsFirstByte (is_byte byte) text None → position_or_len is text ≡ length text
   no_place none =
@@ -54,20 +52,13 @@ lines_split text piece rest cut =
 -- the first line, if it has an end, and the later lines
 pub lines_cut : (text line piece rest : List ℕ) → position_or_len is_feed text < length text → piece ≡ before_first is_feed text → rest ≡ after_first is_feed text
     → line ≡ strip_last 13 piece → lines_of text ≡ line ∷ lines_of rest
-lines_cut text line piece rest found before after last =
-    lines_split text (before_first is_feed text) (after_first is_feed text) (slice_split_first is_feed text 0 found)
-    ∙ ap (λ l. l ∷ lines_of (after_first is_feed text)) (sym (last ∙ ap (strip_last 13) before))
-    ∙ ap (λ t. line ∷ lines_of t) (sym after)
+lines_cut text line piece rest found before after last = grind (arith, lines_split, slice_split_first)
 
 -- a last line without an end
 pub lines_last : (text line rest : List ℕ) → 0 < length text → position_or_len is_feed text ≡ length text → line ≡ strip_last 13 text → rest ≡ []
     → lines_of text ≡ line ∷ lines_of rest
 unfolding lines_of
-lines_last text line rest some none last nothing =
-    ap (λ ps. map (strip_last 13) (without_empty_last ps)) (one_piece is_feed text none)
-    ∙ ap (map (strip_last 13)) (last_piece text some)
-    ∙ ap (λ l. l ∷ []) (sym last)
-    ∙ ap (λ t. line ∷ map (strip_last 13) (without_empty_last (slice_split is_feed t))) (sym nothing)
+lines_last text line rest some none last nothing = grind (arith, one_piece, last_piece)
 
 -- the bytes after the end
 pub nothing_left : (text : List ℕ) → take (length text - length text) (drop (length text) text) ≡ []
@@ -77,12 +68,7 @@ nothing_left text = take_rest text (length text) ∙ drop_all (length text) text
 
 pub fields_more : (found all : List (List ℕ)) (field rest after : List ℕ) → found ++ slice_split is_comma rest ≡ all → position_or_len is_comma rest < length rest
     → field ≡ before_first is_comma rest → after ≡ after_first is_comma rest → (found ++ field ∷ []) ++ slice_split is_comma after ≡ all
-fields_more found all field rest after so_far cut before behind =
-    append_assoc found (field ∷ []) (slice_split is_comma after)
-    ∙ ap (λ f. found ++ (f ∷ slice_split is_comma after)) before
-    ∙ ap (λ t. found ++ (before_first is_comma rest ∷ slice_split is_comma t)) behind
-    ∙ ap (λ ps. found ++ ps) (sym (slice_split_first is_comma rest 0 cut))
-    ∙ so_far
+fields_more found all field rest after so_far cut before behind = grind (arith, append_assoc, slice_split_first)
 
 pub fields_all : (found all : List (List ℕ)) (rest : List ℕ) → found ++ slice_split is_comma rest ≡ all → position_or_len is_comma rest ≡ length rest
     → found ++ rest ∷ [] ≡ all

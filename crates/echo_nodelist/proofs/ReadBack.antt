@@ -1,8 +1,7 @@
 -- A written nodelist reads back as itself.
-use Rattle.std.proofs.Common.{◌≡◌, ℕ, ◌+◌, ◌-◌, ◌^◌, ◌<◌, ◌≤◌, nat_le, ◌==◌, ◌&&◌, ◌||◌, not, nat_lt, Bool, true, false, List, [], ◌∷◌, ◌++◌, length, get_or, take, map, reverse, codes, decimal, refl, sym, ap, ◌∙◌, subst, arith, Option, Some, None, Ok, Err}
+use Rattle.std.proofs.Common.{◌≡◌, ℕ, ◌+◌, ◌-◌, ◌^◌, ◌<◌, ◌≤◌, nat_le, ◌==◌, ◌&&◌, ◌||◌, not, nat_lt, Bool, true, false, List, [], ◌∷◌, ◌++◌, length, get_or, take, map, reverse, codes, decimal, refl, sym, ap, ◌∙◌, arith, Option, Some, None, Ok, Err}
 use Rattle.std.specs.Prelude.{IsSome}
 use Rattle.std.specs.List.{All, AllByRecursion, flat_map, join_with_byte, list_all, position_or_len, slice_split}
-use Rattle.std.specs.Str.Parse.{digits_value}
 use Rattle.std.specs.Io.BufRead.{ends_with_byte, strip_last}
 use Rattle.std.proofs.Math.Seq.{get_or-append_seam, take-append_seam}
 use Rattle.std.proofs.lemmas.List.{append_assoc, get_or_append_left, length-append, map-append, reverse-append}
@@ -11,14 +10,13 @@ use Rattle.std.proofs.lemmas.List.Folds.{list_all-append}
 use Rattle.std.proofs.lemmas.List.Splits.{slice_split_at, slice_split_none}
 use Rattle.std.proofs.lemmas.List.Sums.{AllPass-from_list_all, position_or_len_is}
 use Rattle.std.proofs.lemmas.Bool.{and_from, and_parts, cond-false, cond-true, eq-eqb, le-ltb, leb-true, lt-ltb, ne_eqb, not-true}
-use Rattle.echo_addr.specs.Digits.{is_number}
 use Rattle.echo_addr.proofs.Decimals.{IsDigit, digits_of_decimal, is_number-writes, writes_decimal}
 use Rattle.echo_nodelist.specs.declared.keyword.Keyword.{Keyword}
 use Rattle.echo_nodelist.specs.declared.keyword.Keyword.TheVariants.{Down, Hold, Host, Hub, Node, Pvt, Region, Zone}
 use Rattle.echo_nodelist.specs.declared.line.Line.{Line}
 use Rattle.echo_nodelist.specs.declared.line.Line.TheVariants.{Entry, Note}
 use Rattle.echo_nodelist.specs.declared.fault.NodeFault.TheVariants.{TooFewFields}
-use Rattle.echo_nodelist.specs.Raw.{is_comma, is_end, is_feed, lines_of, node_lines, before_end}
+use Rattle.echo_nodelist.specs.Raw.{is_comma, is_end, is_feed, lines_of, before_end}
 use Rattle.echo_nodelist.specs.Line.{entry_in, is_fit, is_note, keyword_of, keyword_text, least_of, line_in, number_of, with_keyword, with_number}
 use Rattle.echo_nodelist.specs.Back.{zone_back}
 use Rattle.echo_nodelist.specs.Nodelist.{AreLines, AreRead, IsEntry, IsGoodLine, IsNodelist, NodelistOf, in_zone, is_field_byte, is_inner, line_outcome, placed}
@@ -28,9 +26,7 @@ use Rattle.echo_nodelist.proofs.Pieces.{lines_nil, lines_split}
 -- ---- bytes
 
 fails_of : (p q : ℕ → Bool) → ((b : ℕ) → q b ≡ true → p b ≡ false) → (xs : List ℕ) → list_all q xs ≡ true → All (λ b. p b ≡ false) xs
-fails_of p q other xs h =
-    let all = AllPass-from_list_all q xs h in
-    All-from_get_or (λ b. p b ≡ false) xs 0 (λ i below. other (get_or xs i 0) (All-get_or (λ b. q b ≡ true) xs i 0 below all))
+fails_of p q other xs h = grind (arith, AllPass-from_list_all, All-from_get_or, get_or, All-get_or)
 
 inner_feed : (b : ℕ) → is_inner b ≡ true → is_feed b ≡ false
 inner_feed b h = not-true (is_feed b) (and_parts (not (is_end b)) (not (is_feed b)) h).1
@@ -49,26 +45,14 @@ fields_inner = weaker is_field_byte is_inner (λ b h. (and_parts (is_inner b) (n
 
 -- digits are bytes of a field
 digit_field : (b : ℕ) → IsDigit b → is_field_byte b ≡ true
-digit_field b d =
-    let low = d.0 in
-    let end : is_end b ≡ false = ne_eqb b 26 (λ e. omega arith) in
-    let feed : is_feed b ≡ false = ne_eqb b 10 (λ e. omega arith) in
-    let comma : is_comma b ≡ false = ne_eqb b 44 (λ e. omega arith) in
-    and_from (is_inner b) (not (is_comma b)) (and_from (not (is_end b)) (not (is_feed b)) (ap not end) (ap not feed)) (ap not comma)
+digit_field b d = grind (arith, ne_eqb, and_from)
 
 digits_field : (ds : List ℕ) → AllByRecursion IsDigit ds → list_all is_field_byte ds ≡ true
 digits_field [] h = refl
 digits_field (d ∷ ds) h = and_from (is_field_byte d) (list_all is_field_byte ds) (digit_field d h.0) (digits_field ds h.1)
 
 keyword_field : (k : Keyword) → list_all is_field_byte (keyword_text k) ≡ true
-keyword_field Zone = refl
-keyword_field Region = refl
-keyword_field Host = refl
-keyword_field Hub = refl
-keyword_field Pvt = refl
-keyword_field Hold = refl
-keyword_field Down = refl
-keyword_field Node = refl
+keyword_field k = grind arith
 
 -- ---- fields, joined and cut again
 
@@ -90,14 +74,7 @@ joined_split x (field ∷ fields) h =
 -- ---- an entry
 
 keyword_again : (k : Keyword) → keyword_of (keyword_text k) ≡ Some k
-keyword_again Zone = refl
-keyword_again Region = refl
-keyword_again Host = refl
-keyword_again Hub = refl
-keyword_again Pvt = refl
-keyword_again Hold = refl
-keyword_again Down = refl
-keyword_again Node = refl
+keyword_again k = grind arith
 
 no_note_of : (b : ℕ) (rest : List ℕ) → (b == 59) ≡ false → is_note (b ∷ rest) ≡ false
 no_note_of b rest other = ap (λ t. t || (b == 59)) (ne_eqb (length (b ∷ rest)) 0 (λ e. omega arith)) ∙ other
@@ -116,12 +93,7 @@ fit_small : (k : Keyword) (n : ℕ) → is_fit k n ≡ true → n < 2 ^ 64
 fit_small k n h = let most : n ≤ 32767 = leb-true n 32767 (and_parts (nat_le (least_of k) n) (nat_le n 32767) h).1 in omega arith
 
 number_again : (k : Keyword) (n : ℕ) → is_fit k n ≡ true → number_of k (decimal n) ≡ Some n
-number_again k n fit =
-    let writes = writes_decimal n (fit_small k n fit) in
-    let digits = is_number-writes (decimal n) writes.numeral in
-    let fits : is_fit k (digits_value 10 (decimal n)) ≡ true = ap (is_fit k) writes.value ∙ fit in
-    cond-true (is_number (decimal n) && is_fit k (digits_value 10 (decimal n))) (Some (digits_value 10 (decimal n))) None (and_from _ _ digits fits)
-    ∙ ap Some writes.value
+number_again k n fit = grind (arith, writes_decimal, fit_small, is_number-writes, cond-true, and_from)
 
 zone_there : (at : ℕ) (line : Line) (z : Option ℕ) → IsSome z → in_zone at z line ≡ Ok line
 zone_there at line None h = absurd cc
@@ -129,9 +101,7 @@ zone_there at line (Some zone) h = refl
 
 entry_fields : (k : Keyword) (n : ℕ) (fields : List (List ℕ)) → is_fit k n ≡ true → list_all (list_all is_field_byte) fields ≡ true
     → list_all (list_all is_field_byte) (keyword_text k ∷ (decimal n ∷ fields)) ≡ true
-entry_fields k n fields fit clean =
-    and_from (list_all is_field_byte (keyword_text k)) (list_all (list_all is_field_byte) (decimal n ∷ fields)) (keyword_field k)
-    (and_from (list_all is_field_byte (decimal n)) (list_all (list_all is_field_byte) fields) (digits_field (decimal n) (digits_of_decimal n (fit_small k n fit))) clean)
+entry_fields k n fields fit clean = grind (arith, and_from, keyword_field, digits_field, digits_of_decimal, fit_small)
 
 entry_again : (earlier : List Line) (k : Keyword) (n : ℕ) (fields : List (List ℕ)) → IsEntry earlier k n fields
     → line_outcome earlier (line_text (Entry k n fields)) ≡ Ok (Entry k n fields)
@@ -149,9 +119,7 @@ entry_again earlier k n fields h =
     ap (placed at earlier) said ∙ zone_there at (Entry k n fields) (zone_back (Entry k n fields ∷ earlier)) h.zone
 
 line_again : (earlier : List Line) (line : Line) → IsGoodLine earlier line → line_outcome earlier (line_text line) ≡ Ok line
-line_again earlier (Note text) h =
-    ap (placed (length earlier + 1) earlier) (cond-true (is_note text) (Ok (Note text)) (entry_in (length earlier + 1) (slice_split is_comma text)) h.0)
-line_again earlier (Entry k n fields) h = entry_again earlier k n fields h
+line_again earlier line h1 = grind (arith, cond-true, entry_again)
 
 line_inner : (earlier : List Line) (line : Line) → IsGoodLine earlier line → list_all is_inner (line_text line) ≡ true
 line_inner earlier (Note text) h = h.1
@@ -238,9 +206,4 @@ reverse-map (line ∷ lines) =
 -- the text of a nodelist is that nodelist
 pub written_again : (lines : List Line) → IsNodelist lines → NodelistOf (nodelist_text lines) lines
 unfolding nodelist_text
-written_again lines h =
-    let inner = reverse_inner lines (all_inner (reverse lines) h) in
-    let raws : node_lines (flat_map line_and_end lines ++ 26 ∷ []) ≡ map line_text lines =
-    ap lines_of (text_again (flat_map line_and_end lines) (no_end lines inner)) ∙ written_lines lines inner
-    in
-    subst (λ rs. AreRead rs (reverse lines)) (sym (ap reverse raws ∙ reverse-map lines)) (lines_again (reverse lines) h)
+written_again lines h = grind (arith, reverse_inner, all_inner, text_again, no_end, written_lines, reverse-map, lines_again)

@@ -61,9 +61,7 @@ bits_of_number (false ∷ rest) =
     ∙ ap (λ l. false ∷ l) (bits_of_number rest)
 
 bit_value : (d k : ℕ) → d < 2 → cond (d == 1) (2 ^ k) 0 ≡ d * 2 ^ k
-bit_value zero k h = omega arith
-bit_value (suc zero) k h = omega arith
-bit_value (suc (suc d)) k h = absurd (omega arith)
+bit_value d k h1 = grind arith
 
 pub number_of_bits : (k n : ℕ) → bits_value (bits_of k n) ≡ n % 2 ^ k
 number_of_bits zero n = omega arith
@@ -75,13 +73,7 @@ number_of_bits (suc k) n =
     ∙ sym (ap (λ j. n % 2 ^ j) more ∙ mod-pow-add n 1 k)
 
 bit_sum : (d e : ℕ) → d < 2 → e < 2 → ((d + e) % 2 == 1) ≡ sum_of (d == 1) (e == 1)
-bit_sum zero zero hd he = refl
-bit_sum zero (suc zero) hd he = refl
-bit_sum zero (suc (suc e)) hd he = absurd (omega arith)
-bit_sum (suc zero) zero hd he = refl
-bit_sum (suc zero) (suc zero) hd he = refl
-bit_sum (suc zero) (suc (suc e)) hd he = absurd (omega arith)
-bit_sum (suc (suc d)) e hd he = absurd (omega arith)
+bit_sum d e h1 h2 = grind arith
 
 pub bits_of-xor : (k a b : ℕ) → bits_of k (bit_xor a b) ≡ added (bits_of k a) (bits_of k b)
 bits_of-xor zero a b = refl
@@ -120,10 +112,7 @@ crc_nil = refl
 
 register-push : (bytes : List ℕ) (byte : ℕ) → register (bytes ++ byte ∷ []) ≡ fold shifted (register bytes) (bits_of 8 byte)
 unfolding register
-register-push bytes byte =
-    ap (fold shifted (zeros 16)) (flat_map-append (bits_of 8) bytes (byte ∷ []))
-    ∙ fold-append shifted (zeros 16) (flat_map (bits_of 8) bytes) (bits_of 8 byte ++ [])
-    ∙ ap (fold shifted (fold shifted (zeros 16) (flat_map (bits_of 8) bytes))) (append-nil (bits_of 8 byte))
+register-push bytes byte = grind (arith, flat_map-append, fold-append, append-nil)
 
 register_single : (byte : ℕ) → register (byte ∷ []) ≡ fold shifted (zeros 16) (bits_of 8 byte)
 unfolding register

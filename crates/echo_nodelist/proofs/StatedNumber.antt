@@ -1,5 +1,5 @@
 -- The number that the first line states, compared with the computed one.
-use Rattle.std.proofs.Common.{◌≡◌, ℕ, ◌<◌, ◌≤◌, ◌==◌, ◌↔◌, nat_lt, true, false, List, length, min, sym, ap, ◌∙◌, ◌≢◌, arith, Option, Some, None}
+use Rattle.std.proofs.Common.{◌≡◌, ℕ, ◌<◌, ◌≤◌, ◌==◌, ◌↔◌, nat_lt, true, false, List, length, min, sym, ◌≢◌, arith, Option, Some, None}
 use Rattle.std.specs.Prelude.{IsNone, IfSome}
 use Rattle.std.specs.List.{after_first, before_first}
 use Rattle.std.specs.Str.{all_ascii_digits}
@@ -12,7 +12,7 @@ use Rattle.echo_addr.proofs.Decimals.{own}
 use Rattle.echo_nodelist.specs.declared.stated.CrcLine.TheVariants.{Absent, Match, Mismatch}
 use Rattle.echo_nodelist.specs.Crc.{crc}
 use Rattle.echo_nodelist.specs.Raw.{is_feed}
-use Rattle.echo_nodelist.specs.CrcLine.{compared, crc_of_text, stating_line, later_bytes, stated_crc, states_crc}
+use Rattle.echo_nodelist.specs.CrcLine.{compared, crc_of_text, stated_crc, states_crc}
 
 -- five digits write a number that wasn't cut down
 pub five_digits : (r : Option ℕ) (ds : List ℕ) → length ds ≤ 5 → (IsNone r ↔ (is_number ds ≡ false)) → IfSome r (λ n. n ≡ min (digits_value 10 ds) 100000)
@@ -25,30 +25,12 @@ five_digits (Some n) ds short none value =
 
 -- the line states no number
 pub states_none : (text first line : List ℕ) → first ≡ before_first is_feed text → line ≡ strip_last 13 first → states_crc line ≡ false → Absent ≡ crc_of_text text
-states_none text first line before last none =
-    let same : line ≡ stating_line text = last ∙ ap (strip_last 13) before in
-    sym (
-    cond-false
-    (states_crc (stating_line text))
-    (compared (stated_crc (stating_line text)) (crc (later_bytes text)))
-    Absent
-    (ap states_crc (sym same) ∙ none)
-    )
+states_none text first line before last none = grind (arith, cond-false)
 
 -- the line states a number
 pub states_some : (text first line later : List ℕ) (stated computed : ℕ) → first ≡ before_first is_feed text → line ≡ strip_last 13 first
     → later ≡ after_first is_feed text → states_crc line ≡ true → stated ≡ stated_crc line → computed ≡ crc later → compared stated computed ≡ crc_of_text text
-states_some text first line later stated computed before last behind some stated_is computed_is =
-    let same : line ≡ stating_line text = last ∙ ap (strip_last 13) before in
-    ap (λ s. compared s computed) (stated_is ∙ ap stated_crc same)
-    ∙ ap (compared (stated_crc (stating_line text))) (computed_is ∙ ap crc behind)
-    ∙ sym (
-    cond-true
-    (states_crc (stating_line text))
-    (compared (stated_crc (stating_line text)) (crc (later_bytes text)))
-    Absent
-    (ap states_crc (sym same) ∙ some)
-    )
+states_some text first line later stated computed before last behind some stated_is computed_is = grind (arith, cond-true)
 
 pub compared_same : (stated computed : ℕ) → stated ≡ computed → Match stated ≡ compared stated computed
 compared_same stated computed same = sym (cond-true (stated == computed) (Match stated) (Mismatch stated computed) (eq-eqb stated computed same))
