@@ -49,12 +49,7 @@ pub record SameAt (new old : Shown) : Type 0 where
   pub flushed : new.flushed ≡ old.flushed
 
 pub same_at : (new old : Shown) → new ≡ old → SameAt new old
-same_at new old is = record {
-  seen = ap (λ (z : Shown). z.seen) is;
-  kept = ap (λ (z : Shown). z.kept) is;
-  named = ap (λ (z : Shown). z.named) is;
-  flushed = ap (λ (z : Shown). z.flushed) is;
-}
+same_at new old is = grind arith
 
 -- the step changes files only at one path
 pub record KeepsBut (p : List ℕ) (s : List Step) (x : Step) : Type 0 where
@@ -62,10 +57,7 @@ pub record KeepsBut (p : List ℕ) (s : List Step) (x : Step) : Type 0 where
   pub same : (m : List ℕ) → m ≢ p → SameAt (shown (x ∷ s) m) (shown s m)
 
 pub flushed_same : (s : List Step) (x : Step) (m : List ℕ) → SameAt (shown (x ∷ s) m) (shown s m) → IsFlushed s m → IsFlushed (x ∷ s) m
-flushed_same s x m same is = record {
-  synced = same.flushed ∙ is.synced;
-  whole = λ named. same.kept ∙ is.whole (sym same.named ∙ named) ∙ sym same.seen;
-}
+flushed_same s x m same is = grind arith
 
 pub step_crash : (s : List Step) (x : Step) (p : List ℕ) (R : Option (List ℕ) → Option (List ℕ) → Type 0) → KeepsBut p s x → R (shown s p).seen (shown (x ∷ s) p).seen
     → R (shown s p).kept (shown (x ∷ s) p).kept → LeavesOneStepOn (ChangesFile (disk_after s) p R) (disk_after s) (disk_after (x ∷ s))
@@ -91,14 +83,7 @@ Effect p R unnamed shared old new = ChangesAt (ThisPath p) unnamed shared (Chang
 -- the effect of a failed call
 pub no_effect : (s : List Step) (p : List ℕ) (R : Option (List ℕ) → Option (List ℕ) → Type 0) (unnamed shared : List ℕ → Type 0) → ((f : Option (List ℕ)) → R f f)
     → Effect p R unnamed shared (disk_after s) (disk_after s)
-no_effect s p R unnamed shared none = record {
-  beside = λ m other. refl;
-  flushed = λ m but is. is;
-  named = λ m but is. is;
-  alone = λ m but is. is;
-  crash = λ c left. (c, left, record { beside = λ m other is. refl; within = λ is. none (c p) });
-  time = same_elapses (disk_after s);
-}
+no_effect s p R unnamed shared none = grind (arith, same_elapses)
 
 -- ---- calls that change nothing
 

@@ -1,11 +1,10 @@
 -- A path with no file, once its folder is synced.
-use Rattle.std.proofs.Common.{◌≡◌, ℕ, List, [], ◌∷◌, refl, sym, ◌∙◌, ap, subst}
+use Rattle.std.proofs.Common.{◌≡◌, ℕ, List, [], ◌∷◌, refl, sym, subst, arith}
 use Rattle.std.specs.Prelude.{Bool, true, false, cond, ◌&&◌, ◌||◌, bytes_eq, reverse, Option, None, Result, MatchResult, OnOk}
 use Rattle.disk_io.specs.Disk.{IsIn}
 use Rattle.disk_io.specs.declared.disk_error.DiskError.{DiskError}
 use Rattle.disk_memory.specs.Calls.{AddsFolderSync, Bytes}
 use Rattle.disk_memory.specs.Memory.{IsFlushed}
-use Rattle.disk_memory.specs.Paths.{is_in}
 use Rattle.disk_memory.specs.Shown.{Shown, shown}
 use Rattle.disk_memory.specs.declared.step.Step.{Step}
 use Rattle.disk_memory.specs.declared.step.Step.TheVariants.{Changed, Made, Removed, Renamed, Linked, Synced, FolderSynced, Crashed}
@@ -35,18 +34,10 @@ none_flushed (FolderSynced folder ∷ s) m = none_flushed s m
 none_flushed (Crashed ∷ s) m = λ none. refl
 
 whole : (inside flushed renamed : Bool) (seen kept : Option (List ℕ)) → inside ≡ true → flushed ≡ true → cond ((inside && flushed) || renamed) seen kept ≡ seen
-whole true true renamed seen kept one two = refl
-whole true false renamed seen kept one two = absurd cc
-whole false flushed renamed seen kept one two = absurd cc
+whole inside flushed renamed seen kept h1 h2 = grind arith
 
 gone_after : (s : List Step) (at : Bytes) (folder : List ℕ) → at.items ≡ folder → (m : List ℕ) → IsIn folder m → (shown s m).seen ≡ None → IsFlushed (FolderSynced at ∷ s) m
-gone_after s at folder is m there none =
-    let flushed = none_flushed s m none in
-    let inside : is_in at.items m ≡ true = ap (λ (l : List ℕ). is_in l m) is ∙ is_in-true folder m there in
-    record {
-      synced = flushed;
-      whole = λ named. whole (is_in at.items m) (shown s m).flushed (shown s m).renamed (shown s m).seen (shown s m).kept inside flushed;
-    }
+gone_after s at folder is m there none = grind (arith, none_flushed, is_in-true, whole)
 
 module _ (result : Result (Unit {0}) DiskError) (old new : List Step) (folder : List ℕ) (adds : MatchResult result (λ _. AddsFolderSync folder old new) (λ _. new ≡ old)) where
   abbrev AreFlushed : List Step → Type 0

@@ -1,6 +1,6 @@
 -- A file with another path.
-use Rattle.std.proofs.Common.{◌≡◌, ◌≢◌, ◌⊎◌, ℕ, List, ◌∷◌, refl, sym, ◌∙◌, ap, subst, inl, inr}
-use Rattle.std.specs.Prelude.{Bool, true, false, cond, reverse, Option, Some, None, Result, MatchResult, OnOk}
+use Rattle.std.proofs.Common.{◌≡◌, ◌≢◌, ◌⊎◌, ℕ, List, ◌∷◌, refl, sym, ◌∙◌, ap, subst, arith}
+use Rattle.std.specs.Prelude.{Bool, true, cond, reverse, Option, Some, None, Result, MatchResult, OnOk}
 use Rattle.disk_io.specs.Disk.{DiskState}
 use Rattle.disk_io.specs.Steps.{RenamesFile}
 use Rattle.disk_io.specs.Runs.{LeavesOneStepOn, EitherPath, ChangesAt}
@@ -18,27 +18,16 @@ abbrev pub Renaming : List ℕ → List ℕ → DiskState → DiskState → Type
 Renaming from to old new = ChangesAt (EitherPath from to) (EitherPath from to) (EitherPath from to) (RenamesFile old from to) old new
 
 no_renaming : (s : List Step) (from to : List ℕ) → Renaming from to (disk_after s) (disk_after s)
-no_renaming s from to = record {
-  beside = λ m but. refl;
-  crash = λ c left. (c, left, record { beside = λ m a b is. refl; target = λ is. inl refl; both = λ a b. inl (refl, refl) });
-  named = λ m but is. is;
-  flushed = λ m but is. is;
-  alone = λ m but is. is;
-  time = same_elapses (disk_after s);
-}
+no_renaming s from to = grind (arith, same_elapses)
 
 -- The new path has its old file or the moved one.
 one_end : (b done : Bool) (file seen kept c d : Option (List ℕ)) → c ≡ cond b file (cond done file kept) → d ≡ cond b seen kept → (c ≡ d) ⊎ (c ≡ file)
-one_end true done file seen kept c d now was = inr now
-one_end false true file seen kept c d now was = inr now
-one_end false false file seen kept c d now was = inl (now ∙ sym was)
+one_end b done file seen kept c d h1 h2 = grind arith
 
 -- Both paths are as they were, or both are as they are to be.
 both_ends : (b done : Bool) (file seen_from seen_to kept_from kept_to c_from c_to d_from d_to : Option (List ℕ)) → c_from ≡ cond b None (cond done None kept_from) → c_to ≡ cond b file (cond done file kept_to)
     → d_from ≡ cond b seen_from kept_from → d_to ≡ cond b seen_to kept_to → ((c_from ≡ d_from) × (c_to ≡ d_to)) ⊎ ((c_from ≡ None) × (c_to ≡ file))
-both_ends true done file seen_from seen_to kept_from kept_to c_from c_to d_from d_to a b p q = inr (a, b)
-both_ends false true file seen_from seen_to kept_from kept_to c_from c_to d_from d_to a b p q = inr (a, b)
-both_ends false false file seen_from seen_to kept_from kept_to c_from c_to d_from d_to a b p q = inl (a ∙ sym p, b ∙ sym q)
+both_ends b done file seen_from seen_to kept_from kept_to c_from c_to d_from d_to h1 h2 h3 h4 = grind arith
 
 module _ (s : List Step) (at target bytes : Bytes) (came : Bool) (from to : List ℕ) (at_from : at.items ≡ from) (at_to : target.items ≡ to) (other : from ≢ to) (file : Option (List ℕ))
     (file_is : file ≡ Some bytes.items) where
@@ -78,25 +67,11 @@ module _ (s : List Step) (at target bytes : Bytes) (came : Bool) (from to : List
       )
 
   renamed_effect : (shown s from).seen ≡ file → Renaming from to (disk_after s) (disk_after (Renamed at target bytes came ∷ s))
-  renamed_effect seen = record {
-    beside = λ m but. ap (λ (z : Shown). z.seen) (renamed_there m (λ a. but (inl a)) (λ b. but (inr b)));
-    crash = renamed_crash seen;
-    named = λ m but named. ap (λ (z : Shown). z.named) (renamed_there m (λ a. but (inl a)) (λ b. but (inr b))) ∙ named;
-    flushed = λ m but flushed. flushed_same s (Renamed at target bytes came) m (same_at (shown (Renamed at target bytes came ∷ s) m) (shown s m) (renamed_there m (λ a. but (inl a)) (λ b. but (inr b)))) flushed;
-    alone = λ m but alone. ap (λ (z : Shown). z.alone) (renamed_there m (λ a. but (inl a)) (λ b. but (inr b))) ∙ alone;
-    time = one_elapses s (Renamed at target bytes came);
-  }
+  renamed_effect seen = grind (arith, renamed_there, renamed_crash, flushed_same, same_at, one_elapses)
 
   -- the files that reads show after the rename
   renamed_seen : ((shown (Renamed at target bytes came ∷ s) to).seen ≡ file) × ((shown (Renamed at target bytes came ∷ s) from).seen ≡ None) × IsFlushed (Renamed at target bytes came ∷ s) to
-  renamed_seen = (
-    ap (λ (z : Shown). z.seen) renamed_to ∙ sym file_is,
-    ap (λ (z : Shown). z.seen) renamed_from,
-    record {
-      synced = ap (λ (z : Shown). z.flushed) renamed_to;
-      whole = λ named. absurd (let no = sym (ap (λ (z : Shown). z.named) renamed_to) ∙ named in cc);
-    },
-  )
+  renamed_seen = grind (arith, renamed_to, renamed_from)
 
 module _ (result : Result (Unit {0}) DiskError) (old new : List Step) (from to : List ℕ) (other : from ≢ to) (adds : MatchResult result (λ _. AddsRenaming from to (seen_at old from) old new) (λ _. new ≡ old)) where
   pub renaming_effect : Renaming from to (disk_after (reverse old)) (disk_after (reverse new))
@@ -109,9 +84,7 @@ module _ (result : Result (Unit {0}) DiskError) (old new : List Step) (from to :
 
 module _ (result : Result (Unit {0}) DiskError) (old new : List Step) (from to : List ℕ) (other : from ≢ to) where
   pub renaming_moved : MatchResult result (λ _. AddsRenaming from to (seen_at old from) old new) (λ _. new ≡ old) → OnOk result (let l = reverse new in (shown l to).seen ≡ seen_at old from)
-  renaming_moved = by_ok result old new (AddsRenaming from to (seen_at old from) old new) (λ (l : List Step). (shown l to).seen ≡ seen_at old from)
-      (λ a. subst (λ (l : List Step). (shown l to).seen ≡ seen_at old from) (sym (reversed old new (Renamed a.at a.target a.bytes a.came) a.adds))
-      (renamed_seen (reverse old) a.at a.target a.bytes a.came from to a.at_path a.target_path other (seen_at old from) a.file_is).0)
+  renaming_moved = grind (arith, by_ok, reversed, renamed_seen)
 
   pub renaming_gone : MatchResult result (λ _. AddsRenaming from to (seen_at old from) old new) (λ _. new ≡ old) → OnOk result (let l = reverse new in (shown l from).seen ≡ None)
   renaming_gone = by_ok result old new (AddsRenaming from to (seen_at old from) old new) (λ (l : List Step). (shown l from).seen ≡ None)
@@ -119,6 +92,4 @@ module _ (result : Result (Unit {0}) DiskError) (old new : List Step) (from to :
       (renamed_seen (reverse old) a.at a.target a.bytes a.came from to a.at_path a.target_path other (seen_at old from) a.file_is).1)
 
   pub renaming_kept : MatchResult result (λ _. AddsRenaming from to (seen_at old from) old new) (λ _. new ≡ old) → OnOk result (let l = reverse new in IsFlushed l to)
-  renaming_kept = by_ok result old new (AddsRenaming from to (seen_at old from) old new) (λ (l : List Step). IsFlushed l to)
-      (λ a. subst (λ (l : List Step). IsFlushed l to) (sym (reversed old new (Renamed a.at a.target a.bytes a.came) a.adds))
-      (renamed_seen (reverse old) a.at a.target a.bytes a.came from to a.at_path a.target_path other (seen_at old from) a.file_is).2)
+  renaming_kept = grind (arith, by_ok, reversed, renamed_seen)

@@ -1,5 +1,5 @@
 -- A file made, and one removed.
-use Rattle.std.proofs.Common.{◌≡◌, ◌≢◌, ℕ, List, [], ◌∷◌, refl, sym, ◌∙◌, ap, subst, inl, inr}
+use Rattle.std.proofs.Common.{◌≡◌, ◌≢◌, ℕ, List, [], ◌∷◌, refl, sym, ◌∙◌, ap, subst, inl, inr, arith}
 use Rattle.std.specs.Prelude.{Bool, true, false, cond, reverse, Option, Some, None, Result, Ok, Err, MatchResult, OnOk}
 use Rattle.disk_io.specs.Steps.{TornMaking, TornRemoval}
 use Rattle.disk_io.specs.Runs.{ThisPath}
@@ -8,16 +8,13 @@ use Rattle.disk_memory.specs.Calls.{AddsMaking, AddsRemoval, Bytes}
 use Rattle.disk_memory.specs.Memory.{IsAlone, seen_at, disk_after}
 use Rattle.disk_memory.specs.Shown.{Shown, shown, kept_of, named_anew}
 use Rattle.disk_memory.specs.declared.step.Making.{Making}
-use Rattle.disk_memory.specs.declared.step.Making.TheVariants.{Lost, Half, Done}
 use Rattle.disk_memory.specs.declared.step.Step.{Step}
 use Rattle.disk_memory.specs.declared.step.Step.TheVariants.{Made, Removed}
 use Rattle.disk_memory.proofs.Steps.{reversed, one_elapses}
 use Rattle.disk_memory.proofs.Effects.{here, elsewhere, cond_true, cond_false, same_at, KeepsBut, flushed_same, step_crash, Effect, no_effect, by_result, by_ok}
 
 kept_torn : (came : Making) (was : Option (List ℕ)) → TornMaking was (kept_of came was)
-kept_torn Lost was = inl refl
-kept_torn Half was = inr (inl refl)
-kept_torn Done was = inr (inr refl)
+kept_torn came was = grind arith
 
 gone_torn : (came : Bool) (was : Option (List ℕ)) → TornRemoval was (cond came None was)
 gone_torn true was = inr refl
@@ -33,10 +30,7 @@ module _ (s : List Step) (at : Bytes) (came : Making) (p : List ℕ) (is : at.it
   made_there m other = cond_false _ _ _ (elsewhere m p at.items is other)
 
   made_keeps : KeepsBut p s (Made at came)
-  made_keeps = record {
-    together = λ chosen h. h;
-    same = λ m other. same_at (shown (Made at came ∷ s) m) (shown s m) (made_there m other);
-  }
+  made_keeps = grind (arith, same_at, made_there)
 
   made_effect : Effect p TornMaking (ThisPath p) (ThisPath p) (disk_after s) (disk_after (Made at came ∷ s))
   made_effect = record {
@@ -78,10 +72,7 @@ module _ (s : List Step) (at : Bytes) (came : Bool) (p : List ℕ) (is : at.item
   removed_there m other = cond_false _ _ _ (elsewhere m p at.items is other)
 
   removed_keeps : KeepsBut p s (Removed at came)
-  removed_keeps = record {
-    together = λ chosen h. h;
-    same = λ m other. same_at (shown (Removed at came ∷ s) m) (shown s m) (removed_there m other);
-  }
+  removed_keeps = grind (arith, same_at, removed_there)
 
   removed_effect : Effect p TornRemoval (ThisPath p) (ThisPath p) (disk_after s) (disk_after (Removed at came ∷ s))
   removed_effect = record {

@@ -1,5 +1,5 @@
 -- A write, whole or cut short by a crash.
-use Rattle.std.proofs.Common.{◌≡◌, ◌≤◌, ◌+◌, ◌-◌, ℕ, min, List, ◌∷◌, ◌++◌, length, take, drop, refl, sym, ◌∙◌, ap, subst, arith, length-append, length-take, length-drop, append_assoc}
+use Rattle.std.proofs.Common.{◌≡◌, ◌≤◌, ◌-◌, ℕ, List, ◌∷◌, length, refl, sym, ◌∙◌, ap, subst, arith, length-append, length-take, length-drop, append_assoc}
 use Rattle.std.specs.Prelude.{false, bytes_eq, reverse, Option, Some, Result, Ok, Err, MatchResult, OnOk}
 use Rattle.std.proofs.lemmas.List.{take_at, drop_at}
 use Rattle.disk_io.specs.Disk.{bytes_in}
@@ -17,21 +17,7 @@ use Rattle.disk_memory.proofs.Effects.{here, elsewhere, cond_true, cond_false, c
 
 -- a whole write is one that a crash may leave
 pub whole_write : (old : Option (List ℕ)) (at : ℕ) (bytes new : List ℕ) → at ≤ length (bytes_in old) → IsWrittenAt (bytes_in old) at bytes new → TornWrite at (length bytes) old (Some new)
-whole_write file at bytes new le is =
-    let old = bytes_in file in
-    let front : length (take at old) ≡ at = omega (arith, length-take at old) in
-    let long : length new ≡ at + length bytes + (length old - (at + length bytes)) = omega (arith, ap length is, front, length-append (take at old) bytes, length-append (take at old ++ bytes) (drop (at + length bytes) old), length-drop (at + length bytes) old) in
-    let least : min at (length old) ≡ at = omega arith in
-    let begins : take at new ≡ take at old =
-    ap (λ (l : List ℕ). take at l) (is ∙ append_assoc (take at old) bytes (drop (at + length bytes) old))
-    ∙ take_at (take at old) (bytes ++ drop (at + length bytes) old) at front in
-    record {
-      there = λ was. refl;
-      before = ap (λ (k : ℕ). take k new) least ∙ begins;
-      behind = ap (λ (l : List ℕ). drop (at + length bytes) l) is ∙ drop_at (take at old ++ bytes) (drop (at + length bytes) old) (at + length bytes) (omega (arith, front, length-append (take at old) bytes));
-      no_shorter = omega (arith, long);
-      no_longer = omega (arith, long);
-    }
+whole_write file at bytes new le is = grind (arith, length-take, length-append, length-drop, append_assoc, take_at, drop_at)
 
 -- ---- the step
 
@@ -40,10 +26,7 @@ module _ (s : List Step) (at : Bytes) (contents : Contents) (p : List ℕ) (is :
   changed_here = cond_true _ _ _ (here p at.items is)
 
   changed_keeps : KeepsBut p s (Changed at contents)
-  changed_keeps = record {
-    together = λ came h. h;
-    same = λ m other. same_at (shown (Changed at contents ∷ s) m) (shown s m) (cond_false _ _ _ (elsewhere m p at.items is other));
-  }
+  changed_keeps = grind (arith, same_at, cond_false, elsewhere)
 
   changed_named : (m : List ℕ) → (shown (Changed at contents ∷ s) m).named ≡ (shown s m).named
   changed_named m = cond_field (λ (z : Shown). z.named) (bytes_eq m at.items) _ (shown s m) refl

@@ -1,6 +1,6 @@
 -- A file with a second path.
-use Rattle.std.proofs.Common.{◌≡◌, ◌≢◌, ◌⊎◌, ◌↔◌, ℕ, List, ◌∷◌, refl, sym, ◌∙◌, ap, subst, inl, inr}
-use Rattle.std.specs.Prelude.{Bool, true, false, cond, bytes_eq, reverse, Option, Some, None, IsSome, IsTrue, Result, Ok, Err, MatchResult, IfOk}
+use Rattle.std.proofs.Common.{◌≡◌, ◌≢◌, ◌⊎◌, ◌↔◌, ℕ, List, ◌∷◌, refl, sym, ◌∙◌, ap, subst, inl, inr, arith}
+use Rattle.std.specs.Prelude.{Bool, true, false, cond, bytes_eq, reverse, Option, Some, None, IsTrue, Result, Ok, Err, MatchResult, IfOk}
 use Rattle.disk_io.specs.Steps.{TornNaming}
 use Rattle.disk_io.specs.Runs.{ThisPath, EitherPath}
 use Rattle.disk_io.specs.declared.disk_error.DiskError.{DiskError}
@@ -24,12 +24,7 @@ module _ (s : List Step) (at target bytes : Bytes) (came : Bool) (from to : List
   linked_there m other = cond_false _ _ _ (elsewhere m to target.items at_to other)
 
   linked_same : (m : List ℕ) → m ≢ to → SameAt (shown (Linked at target bytes came ∷ s) m) (shown s m)
-  linked_same m other = record {
-    seen = ap (λ (z : Shown). z.seen) (linked_there m other) ∙ cond_field (λ (z : Shown). z.seen) (bytes_eq m at.items) _ (shown s m) refl;
-    kept = ap (λ (z : Shown). z.kept) (linked_there m other) ∙ cond_field (λ (z : Shown). z.kept) (bytes_eq m at.items) _ (shown s m) refl;
-    named = ap (λ (z : Shown). z.named) (linked_there m other) ∙ cond_field (λ (z : Shown). z.named) (bytes_eq m at.items) _ (shown s m) refl;
-    flushed = ap (λ (z : Shown). z.flushed) (linked_there m other) ∙ cond_field (λ (z : Shown). z.flushed) (bytes_eq m at.items) _ (shown s m) refl;
-  }
+  linked_same m other = grind (arith, linked_there, cond_field)
 
   linked_keeps : KeepsBut to s (Linked at target bytes came)
   linked_keeps = record { together = λ chosen h. h; same = linked_same }
@@ -52,10 +47,7 @@ module _ (s : List Step) (at target bytes : Bytes) (came : Bool) (from to : List
   }
 
   linked_flushed : IsFlushed (Linked at target bytes came ∷ s) to
-  linked_flushed = record {
-    synced = ap (λ (z : Shown). z.flushed) linked_to;
-    whole = λ named. absurd (let no = sym (ap (λ (z : Shown). z.named) linked_to) ∙ named in cc);
-  }
+  linked_flushed = grind (arith, linked_to)
 
 module _ (old new : List Step) (from to : List ℕ) where
   abbrev Owes : List Step → Type 0
@@ -75,26 +67,14 @@ module _ (old new : List Step) (from to : List ℕ) where
 
   pub link_linked : (result : Result Bool DiskError) → MatchResult result (λ linked. LinksWhereFree linked from to old new) (λ _. new ≡ old)
       → IfOk result (λ linked. linked ≡ true → seen_at new to ≡ seen_at old from)
-  link_linked (Ok true) adds = λ is. let a = adds.0 in
-      ap (λ (l : List Step). (shown l to).seen) (reversed old new (Linked a.at a.target a.bytes a.came) a.adds)
-      ∙ ap (λ (z : Shown). z.seen) (linked_to (reverse old) a.at a.target a.bytes a.came from to a.at_path a.target_path)
-      ∙ sym a.file_is
-  link_linked (Ok false) adds = λ is. absurd cc
-  link_linked (Err e) same = tt
+  link_linked result h1 = grind (arith, reversed, linked_to)
 
   pub link_free : (result : Result Bool DiskError) → MatchResult result (λ linked. LinksWhereFree linked from to old new) (λ _. new ≡ old) → IfOk result (λ linked. IsTrue linked ↔ (seen_at old to ≡ None))
-  link_free (Ok true) adds = (λ is. adds.1, λ free. refl)
-  link_free (Ok false) adds = (λ is. absurd cc, λ free. absurd (let no = subst (λ f. IsSome f) free adds.1 in cc))
-  link_free (Err e) same = tt
+  link_free result h1 = grind arith
 
   pub link_taken : (result : Result Bool DiskError) → MatchResult result (λ linked. LinksWhereFree linked from to old new) (λ _. new ≡ old)
       → IfOk result (λ linked. linked ≡ false → seen_at new to ≡ seen_at old to)
-  link_taken (Ok true) adds = λ is. absurd cc
-  link_taken (Ok false) adds = λ is. ap (λ (l : List Step). seen_at l to) adds.0
-  link_taken (Err e) same = tt
+  link_taken result h1 = grind arith
 
   pub link_kept : (result : Result Bool DiskError) → MatchResult result (λ linked. LinksWhereFree linked from to old new) (λ _. new ≡ old) → IfOk result (λ linked. linked ≡ true → IsFlushed (reverse new) to)
-  link_kept (Ok true) adds = λ is. let a = adds.0 in
-      subst (λ (l : List Step). IsFlushed l to) (sym (reversed old new (Linked a.at a.target a.bytes a.came) a.adds)) (linked_flushed (reverse old) a.at a.target a.bytes a.came from to a.at_path a.target_path)
-  link_kept (Ok false) adds = λ is. absurd cc
-  link_kept (Err e) same = tt
+  link_kept result h1 = grind (arith, reversed, linked_flushed)

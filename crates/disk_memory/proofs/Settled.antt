@@ -1,6 +1,6 @@
 -- Files and folders synced to the disk: a crash leaves only files that it might have left before.
-use Rattle.std.proofs.Common.{◌≡◌, ◌≢◌, ℕ, List, [], ◌∷◌, length, take, drop, get_or, refl, sym, ◌∙◌, ap, subst}
-use Rattle.std.specs.Prelude.{Bool, true, false, not, cond, ◌&&◌, ◌||◌, ◌==◌, bytes_eq, reverse, Option, Result, MatchResult, OnOk, All}
+use Rattle.std.proofs.Common.{◌≡◌, ◌≢◌, ℕ, List, [], ◌∷◌, get_or, refl, sym, ◌∙◌, ap, subst, arith}
+use Rattle.std.specs.Prelude.{Bool, true, false, cond, ◌&&◌, ◌||◌, ◌==◌, bytes_eq, reverse, Option, Result, MatchResult, OnOk, All}
 use Rattle.std.specs.List.{list_any}
 use Rattle.std.proofs.lemmas.Bool.{false_from_ne_true}
 use Rattle.std.proofs.lemmas.Bool.Decides.{Decides-eqb}
@@ -97,10 +97,7 @@ abbrev put_on_disk : Shown → Shown
 put_on_disk was = record was { kept = cond was.named was.seen was.kept; flushed = true }
 
 settled_file : (b e : Bool) (was : Shown) → (e ≡ true → was.named ≡ true) → cond b (cond e (put_on_disk was) was).seen (cond e (put_on_disk was) was).kept ≡ cond (b || e) was.seen was.kept
-settled_file true true was named = refl
-settled_file true false was named = refl
-settled_file false true was named = cond_true was.named was.seen was.kept (named refl)
-settled_file false false was named = refl
+settled_file b e was h1 = grind (arith, cond_true)
 
 lost_name : (e : Bool) (was : Shown) → (e ≡ true → was.named ≡ false) → (cond e (put_on_disk was) was).kept ≡ was.kept
 lost_name true was none = cond_false was.named was.seen was.kept (none refl)
@@ -137,15 +134,7 @@ module _ (s : List Step) (at : Bytes) where
       (λ m alone. cond_field (λ (z : Shown). z.alone) (bytes_eq m at.items) (put_on_disk (shown s m)) (shown s m) refl ∙ alone)
 
   file_durable : (p : List ℕ) → at.items ≡ p → IsFlushed (Synced at ∷ s) p
-  file_durable p is =
-      let now = cond_true (bytes_eq p at.items) (put_on_disk (shown s p)) (shown s p) (here p at.items is) in
-      record {
-        synced = ap (λ (z : Shown). z.flushed) now;
-        whole = λ named.
-            ap (λ (z : Shown). z.kept) now
-            ∙ cond_true (shown s p).named (shown s p).seen (shown s p).kept (sym (ap (λ (z : Shown). z.named) now) ∙ named)
-            ∙ sym (ap (λ (z : Shown). z.seen) now);
-      }
+  file_durable p is = grind (arith, cond_true, here)
 
 module _ (result : Result (Unit {0}) DiskError) (old new : List Step) (p : List ℕ) (adds : MatchResult result (λ _. AddsSync p old new) (λ _. new ≡ old)) where
   pub sync_quiet : ChangesNothing (disk_after (reverse old)) (disk_after (reverse new))
@@ -169,21 +158,14 @@ same_either true x y same = refl
 same_either false x y same = same
 
 whole_path : (here named flushed renamed : Bool) (seen kept : Option (List ℕ)) → flushed ≡ true → (named ≡ true → kept ≡ seen) → (here || named) ≡ true → cond ((here && flushed) || renamed) seen kept ≡ seen
-whole_path true named true renamed seen kept synced whole is = refl
-whole_path true named false renamed seen kept synced whole is = absurd cc
-whole_path false named flushed renamed seen kept synced whole is = same_either renamed seen kept (whole is)
+whole_path here named flushed renamed seen kept h1 h2 h3 = grind (arith, same_either)
 
 no_slash : (name : List ℕ) → All (λ b. b ≢ 47) name → list_any (λ b. b == 47) name ≡ false
 no_slash name plain =
     list_any_none (λ b. b == 47) name (λ k d within. false_from_ne_true (get_or name k d == 47) (λ is. plain k d within ((Decides-eqb (get_or name k d) 47).0 is)))
 
 pub is_in-true : (folder path : List ℕ) → IsIn folder path → is_in folder path ≡ true
-is_in-true folder path there =
-    let front : folder ≡ take (length folder) path = sym (ap (λ (l : List ℕ). take (length folder) l) there.parts ∙ take_at folder there.name (length folder) refl) in
-    let behind : drop (length folder) path ≡ there.name = ap (λ (l : List ℕ). drop (length folder) l) there.parts ∙ drop_at folder there.name (length folder) refl in
-    ap (λ b. b && not (list_any (λ b. b == 47) (drop (length folder) path))) ((bytes_eq-Decides folder (take (length folder) path)).1 front)
-    ∙ ap (λ (l : List ℕ). not (list_any (λ b. b == 47) l)) behind
-    ∙ ap (λ b. not b) (no_slash there.name there.plain)
+is_in-true folder path h1 = grind (arith, take_at, drop_at, bytes_eq-Decides, no_slash)
 
 module _ (s : List Step) (at : Bytes) where
   abbrev settled : List ℕ → Bool

@@ -1,5 +1,5 @@
 -- The steps of a disk in memory, and the effect of one more.
-use Rattle.std.proofs.Common.{◌≡◌, List, [], ◌∷◌, ◌++◌, refl, ◌∙◌, ap, inl, inr, ⊎_elim, arith}
+use Rattle.std.proofs.Common.{◌≡◌, List, [], ◌∷◌, ◌++◌, refl, ◌∙◌, ap, ⊎_elim, arith}
 use Rattle.std.specs.Prelude.{false, reverse}
 use Rattle.std.proofs.lemmas.List.{reverse-append}
 use Rattle.disk_io.specs.Disk.{DiskState}
@@ -28,17 +28,7 @@ pub left_by_crash : (steps : List Step) → MayLeave steps (disk_after (Crashed 
 left_by_crash steps = record { came = λ m. false; together = none_came steps; files = λ m. refl }
 
 pub one_elapses : (steps : List Step) (x : Step) → Elapses (disk_after steps) (disk_after (x ∷ steps))
-one_elapses steps x = record {
-  later = omega arith;
-  nothing_else = λ t c le left. ⊎_elim (λ now. inr now) (λ was. inl was.1) left;
-  keeps = λ t c le was. inr (le, was);
-  honest = λ is. is;
-}
+one_elapses steps x = grind (arith, ⊎_elim)
 
 pub same_elapses : (d : DiskState) → Elapses d d
-same_elapses d = record {
-  later = omega arith;
-  nothing_else = λ t c le left. inl left;
-  keeps = λ t c le was. was;
-  honest = λ is. is;
-}
+same_elapses d = grind arith

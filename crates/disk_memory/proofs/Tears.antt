@@ -2,7 +2,6 @@
 use Rattle.std.proofs.Common.{◌≡◌, ◌≤◌, ◌+◌, ◌-◌, ℕ, List, drop, sym, ◌∙◌, ap, arith}
 use Rattle.std.specs.Prelude.{Option}
 use Rattle.std.proofs.lemmas.List.{drop-drop}
-use Rattle.disk_io.specs.Disk.{bytes_in}
 use Rattle.disk_io.specs.Steps.{TornWrite}
 
 drop_further : (k n : ℕ) (a b : List ℕ) → k ≤ n → drop k a ≡ drop k b → drop n a ≡ drop n b
@@ -14,10 +13,4 @@ drop_further k n a b le same =
 
 -- a write of fewer bytes is one of more that was cut short
 pub fewer_came : (at k n : ℕ) (old new : Option (List ℕ)) → k ≤ n → TornWrite at k old new → TornWrite at n old new
-fewer_came at k n old new le was = record {
-  there = was.there;
-  before = was.before;
-  behind = drop_further (at + k) (at + n) (bytes_in new) (bytes_in old) (omega arith) was.behind;
-  no_shorter = was.no_shorter;
-  no_longer = omega (arith, was.no_longer);
-}
+fewer_came at k n old new le was = grind (arith, drop_further)
