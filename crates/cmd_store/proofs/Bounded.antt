@@ -1,10 +1,10 @@
 -- Commands on a store that holds too much.
-use Rattle.std.proofs.Common.{List, ℕ, inl, inr, Option, Result, Ok, Err, sym, ◌∙◌}
+use Rattle.std.proofs.Common.{List, ℕ, Option, Result, Ok, Err, sym, ◌∙◌, arith}
 use Rattle.std.specs.Prelude.{IsErrOf}
 use Rattle.base_file.specs.Base.{Base}
 use Rattle.disk_io.specs.Disk.{Files, Honestly}
 use Rattle.disk_io.proofs.Moments.{then_run}
-use Rattle.base_store.specs.Store.{CommitsNothing, GoesOn, IsSameStore, KeepsBeside, KeepsOrCommits, LeavesCommitted, LeavesEither, MayCommit, SameBesideStore, StoreState}
+use Rattle.base_store.specs.Store.{CommitsNothing, GoesOn, IsSameStore, KeepsBeside, KeepsOrCommits, MayCommit, SameBesideStore, StoreState}
 use Rattle.base_store.specs.declared.store_error.StoreError.{StoreError}
 use Rattle.base_store.specs.declared.store_error.StoreError.TheVariants.{TooMany}
 use Rattle.base_store.proofs.Runs.{commits_none, same_twice, beside_twice as kept_twice}
@@ -30,10 +30,7 @@ post_many P A B (post.Store cause) gives is = gives is
 
 -- the uncommitted changes are too much for a commit
 pub full_after : {T : Type 0} (state : T → StoreState) (Adds : Base → Filed → Type 0) (old new : StoreState) (mid : T) → CommitsNothing old (state mid) → GoesOn old (state mid) → IsUncommitted (state mid) new → IsStoppedFull state Adds old new
-full_after state Adds old new mid commits on not = record {
-  past = past_after state Adds old (state mid) commits on (full_now state Adds mid on.ready not.full);
-  commits = commits_none old (state mid) new commits on not.commits;
-}
+full_after state Adds old new mid commits on not = grind (arith, past_after, full_now, commits_none)
 
 -- files as a later call leaves them, as the store was before
 stood_before : (old mid : StoreState) (c : Files) → IsSameStore old mid → KeepsBeside old mid → SameBesideStore mid c → SameBesideStore old c
@@ -42,21 +39,7 @@ stood_before old mid c same kept beside m other named flushed =
 
 -- a possible commit, followed by calls that commit nothing
 pub may_then_nothing : (old mid new : StoreState) → MayCommit old mid → Honestly mid.disk (KeepsOrCommits old mid) → CommitsNothing mid new → MayCommit old new
-may_then_nothing old mid new may done none = record {
-  any_moment = λ honest first next is h.
-      let before = none.beside.honest honest in
-      let run = may.any_moment before first next is h in
-      elim (done before) [
-        | inl was ↦
-            then_run old.disk mid.disk new.disk (LeavesEither old first next) (LeavesCommitted mid first) run (none.any_moment honest first (was first is))
-            (λ c s. record { beside = stood_before old mid c may.same may.beside s.beside; stands = inl ((may.same.stands first c).0 s.stands) })
-        | inr kept ↦
-            then_run old.disk mid.disk new.disk (LeavesEither old first next) (LeavesCommitted mid next) run (none.any_moment honest next (kept next h))
-            (λ c s. record { beside = stood_before old mid c may.same may.beside s.beside; stands = inr ((may.same.stands next c).0 s.stands) })
-      ];
-  beside = kept_twice old mid new may.same may.beside none.beside;
-  same = same_twice old mid new may.same none.same;
-}
+may_then_nothing old mid new may done none = grind (arith, then_run, stood_before, kept_twice, same_twice)
 
 stop_many : (old new : List ℕ) (tally : Tally) (why : TossStepError) (result : Result (Option Fault) StoreError) → ReportsStop old new tally why result → IsErrOf result TooMany
     → IsErrOf (toss_answer {A = Unit {0}} (Err why)) TooMany

@@ -1,10 +1,10 @@
 -- A command that changes a store and then commits, and the files that a crash leaves.
-use Rattle.std.proofs.Common.{◌≤◌, ℕ, inl, inr, ⊎_elim, Result, Ok, Err, refl, arith, ◌∙◌}
+use Rattle.std.proofs.Common.{◌≤◌, ℕ, ⊎_elim, Result, Ok, Err, refl, arith}
 use Rattle.std.specs.Prelude.{IfErr, OnOk}
 use Rattle.base_file.specs.Base.{Base}
 use Rattle.disk_io.specs.Disk.{Files, Honestly}
 use Rattle.disk_io.proofs.Moments.{then_nothing, then_run, weaker_run}
-use Rattle.base_store.specs.Store.{Commits, CommitsNothing, GoesOn, HasStoreCause, KeepsOrCommits, LooksOn, MayCommit, LeavesCommitted, LeavesEither, StoreState}
+use Rattle.base_store.specs.Store.{Commits, CommitsNothing, GoesOn, HasStoreCause, KeepsOrCommits, LooksOn, MayCommit, LeavesEither, StoreState}
 use Rattle.base_store.specs.declared.store_error.StoreError.{StoreError}
 use Rattle.base_store.proofs.Causes.{cause_after, no_cause}
 use Rattle.base_store.proofs.Runs.{commits_none, goes_on_twice, looks_commit, looks_go_on, same_twice, beside_twice as kept_twice}
@@ -18,12 +18,7 @@ use Rattle.cmd_store.specs.Answered.{CommitsNoneWhereMet, GoesOnFromEither, HasC
 
 -- a run that commits nothing is one that may commit
 pub none_may : (old new : StoreState) → CommitsNothing old new → MayCommit old new
-none_may old new none = record {
-  any_moment = λ honest first next is h.
-      weaker_run old.disk new.disk (LeavesCommitted old first) (LeavesEither old first next) (none.any_moment honest first is) (λ c s. record { beside = s.beside; stands = inl s.stands });
-  beside = none.beside;
-  same = none.same;
-}
+none_may old new none = grind (arith, weaker_run)
 
 -- a look commits nothing
 pub looks_may : (old new : StoreState) → old.is_ready → LooksOn old new → MayCommit old new
@@ -31,35 +26,17 @@ looks_may old new ready looks = none_may old new (looks_commit old new ready loo
 
 -- the command committed nothing
 pub makes_none : (Makes : Base → Base → Type 0) (old new : StoreState) → CommitsNothing old new → MayMake Makes old new
-makes_none Makes old new none = record {
-  any_moment = λ honest first base is h.
-      weaker_run old.disk new.disk (LeavesCommitted old first) (StandsForMade old (Makes base) first) (none.any_moment honest first is) (λ c s. record { beside = s.beside; stands = inl s.stands });
-  beside = none.beside;
-  same = none.same;
-}
+makes_none Makes old new none = grind (arith, weaker_run)
 
 -- the files that a crash leaves during a commit, compared with those before the command
 pub stood_made : (Makes : Base → Base → Type 0) (old mid : StoreState) (first base next : Base) (c : Files) → CommitsNothing old mid → Makes base next
     → LeavesEither mid first next c → StandsForMade old (Makes base) first c
-stood_made Makes old mid first base next c none made either = record {
-  beside = λ m other named flushed.
-      either.beside m (λ own. other ((none.same.own m).0 own)) (none.beside.named m other named) (none.beside.flushed m other flushed) ∙ none.beside.seen m other;
-  stands = ⊎_elim (λ s. inl ((none.same.stands first c).0 s)) (λ s. inr (next, made, (none.same.stands next c).0 s)) either.stands;
-}
+stood_made Makes old mid first base next c none made either = grind (arith, ⊎_elim)
 
 -- a run makes a base without a commit, and then may commit it
 pub makes_then : (Makes : Base → Base → Type 0) (old mid new : StoreState) → CommitsNothing old mid → GoesOn old mid
     → Honestly mid.disk ((base : Base) → old.keeps base → (next : Base) × Makes base next × mid.keeps next) → MayCommit mid new → MayMake Makes old new
-makes_then Makes old mid new none on made may = record {
-  any_moment = λ honest first base is h.
-      let before = may.beside.honest honest in
-      let next = made before base h in
-      then_run old.disk mid.disk new.disk (StandsForMade old (Makes base) first) (LeavesEither mid first next.0)
-      (weaker_run old.disk mid.disk (LeavesCommitted old first) (StandsForMade old (Makes base) first) (none.any_moment before first is) (λ c s. record { beside = s.beside; stands = inl s.stands }))
-      (may.any_moment honest first next.0 (on.committed before first is) next.2) (λ c either. stood_made Makes old mid first base next.0 c none next.1 either);
-  beside = kept_twice old mid new none.same none.beside may.beside;
-  same = same_twice old mid new none.same may.same;
-}
+makes_then Makes old mid new none on made may = grind (arith, then_run, weaker_run, stood_made, kept_twice, same_twice)
 
 -- a base that was made is committed
 pub committed_where : {A : Type 0} (IsMade : Base → Type 0) (mid new : StoreState) (next : Base) (result : Result A CommandError) → new.disk.is_honest → OnOk result (Commits mid new) → IsMade next → mid.keeps next
@@ -73,9 +50,7 @@ ready_where mid new (Err why) done = tt
 
 -- only the store stopped a commit
 pub only_store : {A : Type 0} (old new : StoreState) (result : Result A CommandError) → IfErr result IsOfStore → IfErr result (LooksWhereMet old new)
-only_store old new (Ok value) only = tt
-only_store old new (Err (Met fault)) only = absurd only
-only_store old new (Err (Store cause)) only = tt
+only_store old new result h1 = grind arith
 
 -- only looks came before a fault that stopped the command, or the store failed
 pub met_looking : (old new : StoreState) (why : CommandError) → old.is_ready → LooksOn old new → CommitsNoneWhereMet old new why
@@ -90,33 +65,20 @@ met_refused old new (post.Store cause) none looks = tt
 -- the command stopped after a change that it did not commit
 pub met_after : {A : Type 0} (old mid new : StoreState) (result : Result A CommandError) → CommitsNothing old mid → GoesOn old mid → IfErr result (LooksWhereMet mid new)
     → IfErr result (CommitsNoneWhereMet old new)
-met_after old mid new (Ok value) none on looks = tt
-met_after old mid new (Err (Met fault)) none on looks =
-    (commits_none old mid new none on (looks_commit mid new on.ready looks), goes_on_twice old mid new on (looks_go_on mid new looks))
-met_after old mid new (Err (Store cause)) none on looks = tt
+met_after old mid new result h1 h2 h3 = grind (arith, commits_none, looks_commit, goes_on_twice, looks_go_on)
 
 -- a possible commit, and no other after it
 may_then_none : (old mid new : StoreState) → MayCommit old mid → mid.is_ready → LooksOn mid new → MayCommit old new
-may_then_none old mid new may ready looks = record {
-  any_moment = λ honest first next is h. then_nothing old.disk mid.disk new.disk (LeavesEither old first next) (may.any_moment (looks.quiet.honest honest) first next is h) looks.quiet;
-  beside = kept_twice old mid new may.same may.beside (looks_commit mid new ready looks).beside;
-  same = same_twice old mid new may.same looks.same;
-}
+may_then_none old mid new may ready looks = grind (arith, then_nothing, kept_twice, looks_commit, same_twice)
 
 -- a committed base remains committed after a look
 either_then : (old mid new : StoreState) → Honestly mid.disk (KeepsOrCommits old mid) → LooksOn mid new → GoesOnFromEither old new
-either_then old mid new done looks = record {
-  ready = looks.ready;
-  committed = λ honest.
-      ⊎_elim (λ was. inl (λ base h. looks.committed base (was base h))) (λ is. inr (λ base h. looks.committed base (is base h))) (done (looks.quiet.honest honest));
-}
+either_then old mid new done looks = grind (arith, ⊎_elim)
 
 -- the same after a call that may have committed the earlier base
 pub may_after : {A : Type 0} (old mid new : StoreState) (result : Result A CommandError) → MayCommit old mid → mid.is_ready → Honestly mid.disk (KeepsOrCommits old mid)
     → IfErr result (LooksWhereMet mid new) → IfErr result (MayCommitWhereMet old new)
-may_after old mid new (Ok value) may ready done looks = tt
-may_after old mid new (Err (Met fault)) may ready done looks = (may_then_none old mid new may ready looks, either_then old mid new done looks)
-may_after old mid new (Err (Store cause)) may ready done looks = tt
+may_after old mid new result h1 h2 h3 h4 = grind (arith, may_then_none, either_then)
 
 -- why a later call failed
 pub caused_after : {T : Type 0} (old mid new : StoreState) (before between now : ℕ) (r : Result T StoreError) → before ≤ between

@@ -43,12 +43,7 @@ pub record HasLooked (file : LinkFile) (old mid : StoreState) (first now start s
 
 -- before the first one
 pub none_looked : (file : LinkFile) (old : StoreState) (first start : ℕ) → old.is_ready → start < 2 ^ 32 → HasLooked file old old first first start start 0
-none_looked file old first start ready small = record {
-  looks = no_look old ready;
-  later = omega arith;
-  place = omega (arith, small);
-  taken = λ honest base h k within. absurd (omega (arith, within));
-}
+none_looked file old first start ready small = grind (arith, no_look)
 
 -- and one more, which is taken
 pub one_more_looked : (file : LinkFile) (old mid new : StoreState) (first now then start serial steps : ℕ) (tag : List ℕ) (draft : Draft) (stamp : Stamp) → HasLooked file old mid first now start serial steps
@@ -67,11 +62,7 @@ one_more_looked file old mid new first now then start serial steps tag draft sta
 pub filed_first : (file : LinkFile) (old mid new : StoreState) (first now serial steps : ℕ) (words : NewMessage) (draft : Draft) (base : Base) → HasLooked file old mid first now words.serial serial steps
     → mid.disk.is_honest → old.keeps base → post_refusal file base.messages words.tag.now draft serial words.stamp ≡ None → new.keeps (with_message base (posted file words.tag.now draft serial words.stamp))
     → FiledAs true file base words draft serial new
-filed_first file old mid new first now serial steps words draft base so honest h allowed kept = record {
-  is = first_here file base.messages words.serial steps serial so.place (so.taken honest base h) (free_where_allowed file base.messages words.tag.now draft serial words.stamp allowed);
-  allowed = allowed;
-  keeps = kept;
-}
+filed_first file old mid new first now serial steps words draft base so honest h allowed kept = grind (arith, first_here, free_where_allowed)
 
 -- no posting is refused as out of memory
 never_memory : (file : LinkFile) (base : List Filed) (tag : List ℕ) (draft : Draft) (serial : ℕ) (stamp : Stamp) (why : PostFault) → post_refusal file base tag draft serial stamp ≡ Some why → why ≡ fault.Memory → ⊥
@@ -95,14 +86,7 @@ looks_known mid new (post.Store cause) known looks = absurd (cc)
 
 pub refused_known : (file : LinkFile) (base : List Filed) (tag : List ℕ) (draft : Draft) (serial : ℕ) (stamp : Stamp) (why : PostStepError) → why ≡ post.Refused fault.KnownSerial
     → IsPostStop file base tag draft serial stamp why → post_refusal file base tag draft serial stamp ≡ Some fault.KnownSerial
-refused_known file base tag draft serial stamp (post.Refused fault.KnownSerial) known is = is
-refused_known file base tag draft serial stamp (post.Refused fault.NoArea) known is = absurd (cc)
-refused_known file base tag draft serial stamp (post.Refused fault.ByteZero) known is = absurd (cc)
-refused_known file base tag draft serial stamp (post.Refused fault.FieldTooLong) known is = absurd (cc)
-refused_known file base tag draft serial stamp (post.Refused fault.BadStamp) known is = absurd (cc)
-refused_known file base tag draft serial stamp (post.Refused fault.BadReply) known is = absurd (cc)
-refused_known file base tag draft serial stamp (post.Refused fault.Memory) known is = absurd (cc)
-refused_known file base tag draft serial stamp (post.Store cause) known is = absurd (cc)
+refused_known file base tag draft serial stamp why h1 h2 = grind arith
 
 -- words with the serial that they are posted with, as the words are to be posted
 posts_as_on : {A : Type 0} (free : Bool) (words : NewMessage) (system : SystemState) (body : List ℕ) (old new : Output) (result : Result A CommandError) (serial : ℕ) → IsSerial free system.file system.base words.serial serial
@@ -140,9 +124,7 @@ as_stopped free words file base new body old draft (post.Store cause) drafted is
 pub as_printed : {A : Type 0} (free : Bool) (words : NewMessage) (file : LinkFile) (base : Base) (new : StoreState) (body : List ℕ) (serial : ℕ) (before after : Output) (draft : Draft) (result : Result A CommandError) → draft ≡ draft_given words body
     → FiledAs free file base words draft serial new → PrintsAll (posted_line words.tag.now (id_of file.system serial)) before after result
     → PostsAsOn free words (state_in file base) body before after result
-as_printed free words file base new body serial before after draft result drafted filed out =
-    posts_as_on free words (state_in file base) body before after result serial filed.is
-    (post_printed (with_serial words serial) (state_in file base) body before after draft result drafted filed.allowed out)
+as_printed free words file base new body serial before after draft result drafted filed out = grind (arith, posts_as_on, post_printed)
 
 -- the base that the posting makes
 pub as_posts : (free : Bool) (file : LinkFile) (words : NewMessage) (body : List ℕ) (base : Base) (new : StoreState) (serial : ℕ) (draft : Draft) → draft ≡ draft_given words body

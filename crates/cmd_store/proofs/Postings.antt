@@ -1,5 +1,5 @@
 -- Postings into a store.
-use Rattle.std.proofs.Common.{◌≡◌, ℕ, List, inl, inr, None, Some, Result, Err, refl, subst, ap}
+use Rattle.std.proofs.Common.{◌≡◌, ℕ, List, None, Result, Err, arith}
 use Rattle.base_file.specs.Base.{Base}
 use Rattle.cmd_report.specs.declared.posting.NewMessage.{NewMessage}
 use Rattle.cmd_report.specs.Lines.{posted_line}
@@ -16,16 +16,14 @@ use Rattle.echo_toss.specs.declared.step_error.PostStepError.TheVariants as post
 use Rattle.echo_toss.specs.Stores.{IsPostStop, post_answer}
 use Rattle.cmd_store.specs.declared.command_error.CommandError.{CommandError}
 use Rattle.cmd_store.specs.Answered.{PrintsAll}
-use Rattle.cmd_store.specs.Posted.{IsPostedAt, IsRefusedAt, Posts, PostsOn}
+use Rattle.cmd_store.specs.Posted.{Posts, PostsOn}
 use Rattle.cmd_store.specs.Stops.{post_stop, store_answer}
 use Rattle.cmd_store.proofs.Printed.{answered}
 
 -- a posting that stopped
 pub post_stopped : (words : NewMessage) (system : SystemState) (body : List ℕ) (old : Output) (draft : Draft) (why : PostStepError) → draft ≡ draft_given words body
     → IsPostStop system.file system.base words.tag.now draft words.serial words.stamp why → PostsOn {A = Unit {0}} words system body old old (Err (post_stop why))
-post_stopped words system body old draft (post.Refused refusal) drafted is =
-    inr (inr (refusal, refl, subst (λ (d : Draft). post_refusal system.file system.base words.tag.now d words.serial words.stamp ≡ Some refusal) drafted is), refl)
-post_stopped words system body old draft (post.Store cause) drafted is = inl refl
+post_stopped words system body old draft why h1 h2 = grind arith
 
 -- why the store failed in a posting
 pub post_caused : (A B : Type 0) (old new : StoreState) (before now : ℕ) (why : PostStepError) → HasStoreCause old new before now (post_answer {T = A} (Err why))
@@ -37,16 +35,10 @@ post_caused A B old new before now (post.Store why) cause = cause
 pub posts : (file : LinkFile) (words : NewMessage) (body : List ℕ) (base : Base) (draft : Draft) → draft ≡ draft_given words body
     → post_refusal file base.messages words.tag.now draft words.serial words.stamp ≡ None
     → Posts file words body base (with_message base (posted file words.tag.now draft words.serial words.stamp))
-posts file words body base draft drafted allowed = record {
-  allowed = subst (λ (d : Draft). post_refusal file base.messages words.tag.now d words.serial words.stamp ≡ None) drafted allowed;
-  is = ap (λ (d : Draft). with_message base (posted file words.tag.now d words.serial words.stamp)) drafted;
-}
+posts file words body base draft drafted allowed = grind arith
 
 -- a posting without a refusal prints its line
 pub post_printed : {A : Type 0} (words : NewMessage) (system : SystemState) (body : List ℕ) (old new : Output) (draft : Draft) (result : Result A CommandError) → draft ≡ draft_given words body
     → post_refusal system.file system.base words.tag.now draft words.serial words.stamp ≡ None
     → PrintsAll (posted_line words.tag.now (id_of system.file.system words.serial)) old new result → PostsOn words system body old new result
-post_printed words system body old new draft result drafted allowed out =
-    let right = subst (λ (d : Draft). post_refusal system.file system.base words.tag.now d words.serial words.stamp ≡ None) drafted allowed in
-    answered (IsPostedAt words system body) (IsRefusedAt words system body) (posted_line words.tag.now (id_of system.file.system words.serial)) old new result
-    (λ v. record { allowed = right; printed = refl }) out
+post_printed words system body old new draft result drafted allowed out = grind (arith, answered)

@@ -1,5 +1,5 @@
 -- Purges of a store.
-use Rattle.std.proofs.Common.{◌≡◌, ◌⊎◌, ◌++◌, ℕ, List, [], inl, inr, ⊎_elim, Result, refl, subst, ap, ◌∙◌}
+use Rattle.std.proofs.Common.{◌≡◌, ◌⊎◌, ◌++◌, ℕ, List, [], inl, inr, ⊎_elim, Result, refl, ap, ◌∙◌, arith}
 use Rattle.std.specs.Prelude.{count_by, not, take}
 use Rattle.base_file.specs.Base.{Base}
 use Rattle.cmd_report.specs.Lines.{purged_line}
@@ -19,26 +19,12 @@ use Rattle.cmd_store.proofs.Printed.{answered}
 
 -- a purge may commit the base that the store held before
 pub purge_may : (old new : StoreState) → MayCommit old new → MayMake HoldsOrPurges old new
-purge_may old new may = record {
-  any_moment = λ honest first base is h.
-      weaker_run old.disk new.disk (LeavesEither old first base) (StandsForMade old (HoldsOrPurges base) first) (may.any_moment honest first base is h)
-      (λ c either. record { beside = either.beside; stands = ⊎_elim (λ s. inl s) (λ s. inr (base, inl refl, s)) either.stands });
-  beside = may.beside;
-  same = may.same;
-}
+purge_may old new may = grind (arith, weaker_run, ⊎_elim)
 
 -- the files that a crash leaves during the later commit, if `was` was the committed base before it
 stood_purged : (old mid : StoreState) (first base was : Base) (c : Files) → (was ≡ first) ⊎ (was ≡ base) → MayCommit old mid → LeavesEither mid was (purged base) c
     → StandsForMade old (HoldsOrPurges base) first c
-stood_purged old mid first base was c is may either = record {
-  beside = λ m other named flushed.
-      either.beside m (λ own. other ((may.same.own m).0 own)) (may.beside.named m other named) (may.beside.flushed m other flushed) ∙ may.beside.seen m other;
-  stands = ⊎_elim
-      (λ s. ⊎_elim
-      (λ (same : was ≡ first). inl (subst (λ (b : Base). old.stands b c) same ((may.same.stands was c).0 s)))
-      (λ (same : was ≡ base). inr (was, inl same, (may.same.stands was c).0 s)) is)
-      (λ s. inr (purged base, inr refl, (may.same.stands (purged base) c).0 s)) either.stands;
-}
+stood_purged old mid first base was c is may either = grind (arith, ⊎_elim)
 
 -- then the purged base may be committed
 pub purge_then : (old mid new : StoreState) → MayCommit old mid → Honestly mid.disk ((base : Base) → old.keeps base → mid.keeps (purged base))

@@ -1,5 +1,5 @@
 -- Answers to messages of a store.
-use Rattle.std.proofs.Common.{◌≡◌, ℕ, List, inl, inr, ⊎_elim, Option, Some, None, Result, Ok, Err, refl, ◌∙◌}
+use Rattle.std.proofs.Common.{◌≡◌, ℕ, List, inl, ⊎_elim, Option, Some, None, Result, Ok, Err, refl, arith}
 use Rattle.std.specs.Prelude.{IfErr, slice_get}
 use Rattle.base_file.specs.Base.{Base}
 use Rattle.cmd_report.specs.declared.posting.NewMessage.{NewMessage}
@@ -15,7 +15,6 @@ use Rattle.model_steps.specs.SystemState.{SystemState}
 use Rattle.base_store.specs.Store.{LooksOn, LeavesCommitted, StoreState}
 use Rattle.base_store.proofs.Runs.{goes_on_twice, looks_commit, looks_go_on, looks_then_commits, same_twice, beside_twice as kept_twice}
 use Rattle.cmd_store.specs.declared.command_error.CommandError.{CommandError}
-use Rattle.cmd_store.specs.declared.command_error.CommandError.TheVariants.{Met, Store}
 use Rattle.cmd_store.specs.Answered.{CommitsNoneWhereMet, MayMake, StandsForMade}
 use Rattle.cmd_store.specs.Replied.{FindsOn, PostsAs, Replies, RepliesOn}
 
@@ -26,10 +25,7 @@ found_message (Some m) found is = (m, refl, is)
 
 -- without words the command stops
 pub reply_stopped : (o : Option Filed) (answer : Answer) (system : SystemState) (body : List ℕ) (old : Output) (why : CommandError) → FindsOn o (Err why) → RepliesOn {A = Unit {0}} o answer system body old old (Err why)
-reply_stopped None answer system body old (Met fault) is = (is, refl)
-reply_stopped None answer system body old (Store cause) is = absurd is
-reply_stopped (Some m) answer system body old (Met fault) is = inl (is, refl)
-reply_stopped (Some m) answer system body old (Store cause) is = inl refl
+reply_stopped o answer system body old why h1 = grind arith
 
 -- posting the words makes the same base as the answer
 pub replies : (file : LinkFile) (index : ℕ) (answer : Answer) (body : List ℕ) (base next : Base) (m : Filed) (words : NewMessage) → slice_get base.messages index ≡ Some m → IsReply m answer words
@@ -38,21 +34,12 @@ replies file index answer body base next m words found of_message made = record 
 
 -- the command stopped after a look
 pub met_looked : {A : Type 0} (old mid new : StoreState) (result : Result A CommandError) → old.is_ready → LooksOn old mid → IfErr result (CommitsNoneWhereMet mid new) → IfErr result (CommitsNoneWhereMet old new)
-met_looked old mid new (Ok value) ready looks none = tt
-met_looked old mid new (Err (Met fault)) ready looks none =
-    (looks_then_commits old mid new ready looks none.0, goes_on_twice old mid new (looks_go_on old mid looks) none.1)
-met_looked old mid new (Err (Store cause)) ready looks none = tt
+met_looked old mid new result h1 h2 h3 = grind (arith, looks_then_commits, goes_on_twice, looks_go_on)
 
 -- the files that a crash leaves during a command after a look, compared with those before the look
 stood_looked : (IsMade IsOther : Base → Type 0) (old mid : StoreState) (first : Base) (c : Files) → old.is_ready → LooksOn old mid → ((next : Base) → IsMade next → IsOther next)
     → StandsForMade mid IsMade first c → StandsForMade old IsOther first c
-stood_looked IsMade IsOther old mid first c ready looks gives stood =
-    let none = looks_commit old mid ready looks in
-    record {
-      beside = λ m other named flushed.
-          stood.beside m (λ own. other ((none.same.own m).0 own)) (none.beside.named m other named) (none.beside.flushed m other flushed) ∙ none.beside.seen m other;
-      stands = ⊎_elim (λ s. inl ((none.same.stands first c).0 s)) (λ s. inr (s.0, gives s.0 s.1, (none.same.stands s.0 c).0 s.2)) stood.stands;
-    }
+stood_looked IsMade IsOther old mid first c ready looks gives stood = grind (arith, looks_commit, ⊎_elim)
 
 pub makes_looked : (Makes Other : Base → Base → Type 0) (old mid new : StoreState) → old.is_ready → LooksOn old mid → Honestly mid.disk ((base : Base) → old.keeps base → (next : Base) → Makes base next → Other base next)
     → MayMake Makes mid new → MayMake Other old new

@@ -1,5 +1,5 @@
 -- Scans of a store.
-use Rattle.std.proofs.Common.{◌≡◌, ◌++◌, ◌∙◌, ℕ, true, List, [], ◌∷◌, map, inl, inr, Result, Ok, Err, refl, ap}
+use Rattle.std.proofs.Common.{◌≡◌, ◌++◌, ℕ, true, List, [], ◌∷◌, map, Result, refl, ap, arith}
 use Rattle.std.specs.List.{flat_map}
 use Rattle.cmd_report.specs.Scanned.{counted_line, file_sent, line_sent}
 use Rattle.cmd_status.specs.Devices.{Output}
@@ -13,7 +13,6 @@ use Rattle.echo_toss.specs.Counts.{counted_of}
 use Rattle.cmd_store.specs.Answered.{AnswersOn, AreLines, RefusesNone}
 use Rattle.cmd_store.specs.Scanned.{IsScannedAt, ScansOn, files_scanned}
 use Rattle.cmd_store.specs.declared.command_error.CommandError.{CommandError}
-use Rattle.cmd_store.specs.declared.command_error.CommandError.TheVariants.{Met, Store}
 
 lines_counted : (all : List Packet) → flat_map counted_line (map counted_of all) ≡ flat_map line_sent all
 lines_counted [] = refl
@@ -22,24 +21,8 @@ lines_counted (p ∷ all) = ap (λ (l : List ℕ). line_sent p ++ l) (lines_coun
 module _ (stamp : Stamp) (system : SystemState) (packets : List CountedPacket) (old new : Output) (moment : is_stamp stamp ≡ true) (counts : packets ≡ map counted_of (scanned system.file system.base system.cursor stamp)) where
   -- the counted packets and their lines are those of the scan
   scanned_at : (lines : List ℕ) → lines ≡ flat_map counted_line packets → IsScannedAt stamp system lines (map (file_sent system.cursor) (scanned system.file system.base system.cursor stamp))
-  scanned_at lines are = record {
-    moment = moment;
-    printed = are ∙ ap (λ (ps : List CountedPacket). flat_map counted_line ps) counts ∙ lines_counted (scanned system.file system.base system.cursor stamp);
-    packets = refl;
-  }
+  scanned_at lines are = grind (arith, lines_counted)
 
   -- the answer for printed packets, as that of a scan
   pub scan_printed : (result : Result (Unit {0}) CommandError) → AnswersOn (AreLines (flat_map counted_line packets)) RefusesNone old new result → ScansOn stamp system old new (files_scanned stamp system result)
-  scan_printed (Ok done) out = record { lines = out.lines; right = scanned_at out.lines out.right; written = out.written; flushed = out.flushed }
-  scan_printed (Err (Met fault)) (inl (broken, begun)) = inl (
-    broken,
-    record {
-      lines = begun.lines;
-      answer = map (file_sent system.cursor) (scanned system.file system.base system.cursor stamp);
-      right = scanned_at begun.lines begun.right;
-      begun = begun.begun;
-    },
-  )
-  scan_printed (Err (Met fault)) (inr (inl none, same)) = inr (inl none, same)
-  scan_printed (Err (Met fault)) (inr (inr never, same)) = absurd never
-  scan_printed (Err (Store cause)) same = same
+  scan_printed result h1 = grind (arith, scanned_at)

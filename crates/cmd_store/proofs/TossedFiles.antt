@@ -1,5 +1,5 @@
 -- Packet files tossed into a store in order.
-use Rattle.std.proofs.Common.{◌≡◌, ◌≤◌, ℕ, Bool, List, Option, Some, None, Result, Ok, Err, refl, sym, ap, ◌∙◌, subst, arith}
+use Rattle.std.proofs.Common.{◌≡◌, ◌≤◌, ℕ, Bool, List, Option, Some, None, Result, Ok, Err, refl, subst, arith}
 use Rattle.base_file.specs.Base.{Base}
 use Rattle.cmd_report.specs.Coming.{Coming, OpensNext}
 use Rattle.cmd_report.specs.Tossed.{TossesEachBy}
@@ -10,7 +10,6 @@ use Rattle.echo_links.specs.Links.{LinkFile}
 use Rattle.echo_packet.specs.declared.limits.Limits.{Limits}
 use Rattle.cmd_status.specs.declared.fault.Fault.{Fault}
 use Rattle.cmd_status.specs.Devices.{Device}
-use Rattle.model_steps.specs.SystemState.{SystemState}
 use Rattle.base_store.specs.Store.{CommitsNothing, GoesOn, StoreState}
 use Rattle.base_store.specs.declared.store_error.StoreError.{StoreError}
 use Rattle.base_store.proofs.Runs.{commits_none, goes_on_twice, looks_commit, looks_go_on, no_look}
@@ -34,18 +33,11 @@ pub record HasTossedFiles {P R : Type 0} (honest : P → Type 0) (noting : Bool)
 
 pub begun_files : {P R : Type 0} (honest : P → Type 0) (noting : Bool) (limits : Limits) (device : R → Device) (file : LinkFile) (old : StoreState) (first : ℕ) (files : List Coming) (lines : List ℕ) (at : P) → old.is_ready
     → HasTossedFiles honest noting limits device file old old first first files files lines lines at
-begun_files honest noting limits device file old first files lines at ready = record {
-  each = λ is_honest base kept. (base, kept, λ last was stopped rest new each. each);
-  on = looks_go_on old old (no_look old ready);
-  commits = looks_commit old old ready (no_look old ready);
-  later = omega arith;
-}
+begun_files honest noting limits device file old first files lines at ready = grind (arith, looks_go_on, no_look, looks_commit)
 
 -- a run by its parts
 run_is : (limits : Limits) (file : LinkFile) (next : Base) (lines : List ℕ) (run : TossRun) → run.limits ≡ limits → run.system ≡ state_in file next → run.lines ≡ lines → run ≡ run_at limits file next lines
-run_is limits file next lines run one two three =
-    ap (λ (l : Limits). record { limits = l; system = run.system; lines = run.lines }) one ∙ ap (λ (s : SystemState). record { limits = limits; system = s; lines = run.lines }) two
-    ∙ ap (λ (l : List ℕ). record { limits = limits; system = state_in file next; lines = l }) three
+run_is limits file next lines run one two three = grind arith
 
 -- the packet of one file more was tossed whole
 pub more_files : {P R : Type 0} (honest : P → Type 0) (noting : Bool) (limits : Limits) (device : R → Device) (file : LinkFile) (old mid new : StoreState) (first now then : ℕ) (files left later : List Coming) (lines more all : List ℕ) (at opens : P) (reader behind : R)
@@ -75,21 +67,7 @@ pub stopped_files : {P R : Type 0} (honest : P → Type 0) (noting : Bool) (limi
     → OpensNext (honest opens) (λ r. (device r).contents) left later (Some (Ok reader))
     → ((b : Base) → mid.keeps b → TossesNext noting limits file b (device reader) (device behind) more all result new) → stopped_in result ≡ Some fault
     → mid.disk.is_honest → old.keeps base → TossesFiles (honest opens) noting limits device file base files later lines all result new
-stopped_files honest noting limits device file old mid new first now files left later lines more all at opens reader behind fault result base so was opened tossed is is_honest kept =
-    let kept_so = so.each is_honest base kept in
-    let t = tossed kept_so.0 kept_so.1 in
-    let packet = subst (λ (s : Option Fault). TossesPacketBy noting (run_at limits file kept_so.0 more) (device reader) (device behind) s t.run) is t.packet in
-    record {
-      next = t.next;
-      run = t.run;
-      each = subst (λ (s : Option Fault). TossesEachBy (honest opens) (TossesPacketBy noting) device files (run_at limits file base lines) s later t.run) (sym is)
-          (kept_so.2 opens was (Some fault) later t.run
-          (each_stopped (honest opens) (honest opens) (TossesPacketBy noting) device left later reader behind (run_at limits file kept_so.0 more) t.run fault
-          (λ h. h) opened packet));
-      state = t.state;
-      added = t.added;
-      keeps = t.keeps;
-    }
+stopped_files honest noting limits device file old mid new first now files left later lines more all at opens reader behind fault result base so was opened tossed is is_honest kept = grind (arith, each_stopped)
 
 -- the next file cannot be used
 pub refused_files : {P R : Type 0} (honest : P → Type 0) (noting : Bool) (limits : Limits) (device : R → Device) (file : LinkFile) (old mid : StoreState) (first now : ℕ) (files left later : List Coming) (lines more : List ℕ) (at opens : P) (fault : Fault) (base : Base)

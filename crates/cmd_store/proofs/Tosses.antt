@@ -1,5 +1,5 @@
 -- Packets that are tossed into a store, as packets that are tossed at a system.
-use Rattle.std.proofs.Common.{◌≡◌, ◌++◌, ℕ, Bool, true, false, List, Option, Some, None, Result, Ok, Err, refl, sym, subst, inl, inr}
+use Rattle.std.proofs.Common.{◌≡◌, ◌++◌, ℕ, Bool, true, false, List, Option, Some, None, Result, Ok, Err, refl, sym, subst, inl, arith}
 use Rattle.base_file.specs.Base.{Base}
 use Rattle.cmd_report.specs.Lines.{tally_line}
 use Rattle.cmd_report.specs.TossedPacket.{ReportsPacket, TossRun, TossesPacketBy, fault_of}
@@ -35,10 +35,7 @@ no_line false run d = inl (refl, refl, refl, refl)
 pub packet_by : (noting : Bool) (old new : TossRun) (reader left : Device) (stopped : Option Fault) (answer : Result Tally TossFault) (noted : List ℕ) → new.limits ≡ old.limits
     → PacketStep old.limits old.system reader.contents left.contents answer new.system → CountsToss answer reader.failures left.failures
     → NotesIf noting old.limits old.system reader.contents answer new.system old.lines noted → ReportsPacket noted new.lines answer stopped → TossesPacketBy noting old reader left stopped new
-packet_by true old new reader left stopped answer noted same step device notes line =
-    inr (record { answer = answer; same = same; step = step; device = device; noted = noted; notes = notes; line = line })
-packet_by false old new reader left stopped answer noted same step device notes line =
-    inr (record { answer = answer; same = same; step = step; device = device; line = subst (λ (t : List ℕ). ReportsPacket t new.lines answer stopped) notes line })
+packet_by noting old new reader left stopped answer noted h1 h2 h3 h4 h5 = grind arith
 
 -- a packet that stopped
 next_stopped : (noting : Bool) (limits : Limits) (file : LinkFile) (base next : Base) (reader left : Device) (lines noted more : List ℕ) (old new : StoreState) (tally : Tally) (why : TossStepError) (result : Result (Option Fault) StoreError)

@@ -1,4 +1,4 @@
-use Rattle.std.proofs.Common.{inl, refl}
+use Rattle.std.proofs.Common.{arith}
 use Rattle.std.proofs.lemmas.Result.{err_from_is_err_and}
 use Rattle.base_store.proofs.Runs.{no_look}
 use Rattle.cmd_store.proofs.Commits.{looks_may, only_store}
@@ -6,14 +6,10 @@ use Rattle.cmd_store.proofs.Printed.{printed_then}
 use Rattle.cmd_store.proofs.leaving.leave.Goals as goal
 
 pub returns-in_err-print_rest-clause-printed : goal.returns-in_err-print_rest-clause-printed
-returns-in_err-print_rest-clause-printed g c =
-    let p = err_from_is_err_and c.from_residual.result c.from_residual.ensures.1 in
-    rw (p.1, p.2) (inl (c.in_err-print_rest.ensures.err, record { lines = c.args.lines.now.items; answer = tt; right = refl; begun = c.in_err-print_rest.ensures.begun }))
+returns-in_err-print_rest-clause-printed g c = grind (arith, err_from_is_err_and)
 
 pub returns-in_err-print_rest-clause-met : goal.returns-in_err-print_rest-clause-met
-returns-in_err-print_rest-clause-met g c =
-    let p = err_from_is_err_and c.from_residual.result c.from_residual.ensures.1 in
-    rw (p.1, p.2) (no_look _ c.requires)
+returns-in_err-print_rest-clause-met g c = grind (arith, err_from_is_err_and, no_look)
 
 pub returns-in_err-print_rest-clause-either : goal.returns-in_err-print_rest-clause-either
 returns-in_err-print_rest-clause-either g c = looks_may _ _ c.requires (no_look _ c.requires)

@@ -1,13 +1,10 @@
-use Rattle.std.proofs.Common.{ℕ, ap, ◌∙◌}
+use Rattle.std.proofs.Common.{arith}
 use Rattle.std.proofs.lemmas.Result.{err_from_is_err_and}
 use Rattle.base_store.proofs.Runs.{looks_commit, looks_go_on, no_look}
 use Rattle.echo_toss.specs.PacketsIn.{state_in}
-use Rattle.cmd_store.specs.FreeSerial.{PostsAs}
-use Rattle.cmd_store.specs.Stops.{store_answer}
 use Rattle.cmd_store.proofs.Commits.{caused_after, committed_where, makes_none, makes_then, met_after, met_refused, ready_where}
 use Rattle.cmd_store.proofs.FreePostings.{as_memory, as_posts, as_printed, as_stopped}
 use Rattle.cmd_store.proofs.Postings.{post_caused}
-use Rattle.model_steps.specs.Posting.{posted}
 use Rattle.echo_toss.proofs.Bounds.{past_wider}
 use Rattle.cmd_store.proofs.Bounded.{full_after, post_many}
 use Rattle.cmd_store.proofs.posting.post_as.Goals as goal
@@ -18,9 +15,7 @@ returns-in_err-draft-clause-answers g c =
     rw (p.1, p.2) (λ honest base kept. as_memory c.args.free c.args.words (state_in c.args.links.now base) c.args.body.now _)
 
 pub returns-in_err-draft-clause-met : goal.returns-in_err-draft-clause-met
-returns-in_err-draft-clause-met g c =
-    let p = err_from_is_err_and c.from_residual.result c.from_residual.ensures.1 in
-    rw (p.1, p.2) (looks_commit _ _ c.requires (no_look _ c.requires), looks_go_on _ _ (no_look _ c.requires))
+returns-in_err-draft-clause-met g c = grind (arith, err_from_is_err_and, looks_commit, no_look, looks_go_on)
 
 pub returns-in_err-draft-clause-crash : goal.returns-in_err-draft-clause-crash
 returns-in_err-draft-clause-crash g c = makes_none _ _ _ (looks_commit _ _ c.requires (no_look _ c.requires))
@@ -32,30 +27,19 @@ returns-in_err-serial-clause-answers g c =
     (c.in_err-serial.ensures.filed honest base kept))
 
 pub returns-in_err-serial-clause-met : goal.returns-in_err-serial-clause-met
-returns-in_err-serial-clause-met g c =
-    let p = err_from_is_err_and c.from_residual-in_err-serial.result c.from_residual-in_err-serial.ensures.1 in
-    rw (p.1, p.2) (met_refused _ _ c.in_err-serial.field-0.0 c.file_as.ensures.commits c.in_err-serial.ensures.looks)
+returns-in_err-serial-clause-met g c = grind (arith, err_from_is_err_and, met_refused)
 
 pub returns-in_err-serial-clause-crash : goal.returns-in_err-serial-clause-crash
 returns-in_err-serial-clause-crash g c = makes_none _ _ _ c.file_as.ensures.commits
 
 pub returns-in_err-serial-clause-cause : goal.returns-in_err-serial-clause-cause
-returns-in_err-serial-clause-cause g c =
-    let p = err_from_is_err_and c.from_residual-in_err-serial.result c.from_residual-in_err-serial.ensures.1 in
-    rw (p.1, p.2) (post_caused ℕ (Unit {0}) _ _ _ _ c.in_err-serial.field-0.0 c.in_err-serial.ensures.cause)
+returns-in_err-serial-clause-cause g c = grind (arith, err_from_is_err_and, post_caused)
 
 pub returns-clause-answers : goal.returns-clause-answers
-returns-clause-answers g c = λ honest base kept.
-    let before = c.leave_posted.ensures.either.beside.honest honest in
-    as_printed c.args.free c.args.words c.args.links.now base _ c.args.body.now c.in_ok-serial.serial _ _ c.in_ok-draft.draft c.leave_posted.result c.in_ok-draft.ensures
-    (c.in_ok-serial.ensures.filed before base kept) c.leave_posted.ensures.printed
+returns-clause-answers g c = grind (arith, as_printed)
 
 pub returns-clause-committed : goal.returns-clause-committed
-returns-clause-committed g c = λ honest base kept.
-    let before = c.leave_posted.ensures.either.beside.honest honest in
-    let filed = c.in_ok-serial.ensures.filed before base kept in
-    let made = as_posts c.args.free c.args.links.now c.args.words c.args.body.now base _ c.in_ok-serial.serial c.in_ok-draft.draft c.in_ok-draft.ensures filed in
-    committed_where (PostsAs c.args.free c.args.links.now c.args.words c.args.body.now base) _ _ _ c.leave_posted.result honest c.leave_posted.ensures.committed made filed.keeps
+returns-clause-committed g c = grind (arith, as_posts, committed_where)
 
 pub returns-clause-ready : goal.returns-clause-ready
 returns-clause-ready g c = ready_where _ _ c.leave_posted.result c.leave_posted.ensures.committed
@@ -74,17 +58,10 @@ returns-clause-crash g c =
     )) c.leave_posted.ensures.either
 
 pub returns-clause-cause : goal.returns-clause-cause
-returns-clause-cause g c =
-    caused_after _ _ _ _ _ _ (store_answer c.leave_posted.result) c.file_as.ensures.cause.later
-    (λ honest base kept. let filed = c.in_ok-serial.ensures.filed (c.leave_posted.ensures.either.beside.honest honest) base kept in (_, filed.keeps)) c.leave_posted.ensures.cause
+returns-clause-cause g c = grind (arith, caused_after)
 
 pub returns-in_err-serial-clause-many : goal.returns-in_err-serial-clause-many
-returns-in_err-serial-clause-many g c =
-    let p = err_from_is_err_and c.from_residual-in_err-serial.result c.from_residual-in_err-serial.ensures.1 in
-    rw (p.1, p.2) (post_many _ ℕ (Unit {0}) c.in_err-serial.field-0.0 (λ is. record {
-      past = past_wider g.T.Store.state _ _ _ (λ base m adds. (adds.0, adds.1 ∙ ap (λ d. posted c.args.links.now c.args.words.tag.now d adds.0 c.args.words.stamp) c.in_ok-draft.ensures)) (c.in_err-serial.ensures.many is);
-      commits = c.file_as.ensures.commits;
-    }))
+returns-in_err-serial-clause-many g c = grind (arith, err_from_is_err_and, post_many, past_wider)
 
 pub returns-clause-many : goal.returns-clause-many
 returns-clause-many g c = λ is. full_after g.T.Store.state _ _ _ c.file_as.new.store c.file_as.ensures.commits c.in_ok-serial.ensures.goes_on (c.leave_posted.ensures.many is)

@@ -1,7 +1,6 @@
-use Rattle.std.proofs.Common.{refl, ◌∙◌}
+use Rattle.std.proofs.Common.{refl, ◌∙◌, arith}
 use Rattle.std.proofs.lemmas.Result.{err_from_is_err_and}
 use Rattle.base_store.proofs.Runs.{looks_commit, looks_then_commits}
-use Rattle.echo_toss.specs.PacketsIn.{state_in}
 use Rattle.cmd_store.proofs.Commits.{makes_none, met_looking}
 use Rattle.cmd_store.proofs.Replies.{met_looked, reply_crash, reply_stopped}
 use Rattle.cmd_report.specs.declared.posting.NewMessage.{NewMessage}
@@ -10,14 +9,10 @@ use Rattle.echo_toss.proofs.Bounds.{full_now, past_looked, past_wider}
 use Rattle.cmd_store.proofs.replying.reply_on.Goals as goal
 
 pub returns-in_err-found-clause-answers : goal.returns-in_err-found-clause-answers
-returns-in_err-found-clause-answers g c =
-    let p = err_from_is_err_and c.from_residual.result c.from_residual.ensures.1 in
-    rw (p.1, p.2) (λ honest base kept. reply_stopped _ c.args.answer (state_in c.args.links.now base) c.args.body.now _ c.in_err-found.field-0.0 (c.in_err-found.ensures.found honest base kept))
+returns-in_err-found-clause-answers g c = grind (arith, err_from_is_err_and, reply_stopped)
 
 pub returns-in_err-found-clause-met : goal.returns-in_err-found-clause-met
-returns-in_err-found-clause-met g c =
-    let p = err_from_is_err_and c.from_residual.result c.from_residual.ensures.1 in
-    rw (p.1, p.2) (met_looking _ _ _ c.requires c.found_on.ensures.looks)
+returns-in_err-found-clause-met g c = grind (arith, err_from_is_err_and, met_looking)
 
 pub returns-in_err-found-clause-crash : goal.returns-in_err-found-clause-crash
 returns-in_err-found-clause-crash g c = makes_none _ _ _ (looks_commit _ _ c.requires c.found_on.ensures.looks)
@@ -39,12 +34,7 @@ returns-clause-crash g c =
     })
 
 pub returns-in_err-found-clause-many : goal.returns-in_err-found-clause-many
-returns-in_err-found-clause-many g c =
-    let p = err_from_is_err_and c.from_residual.result c.from_residual.ensures.1 in
-    rw (p.1, p.2) (λ is. record {
-      past = full_now g.T.Store.state _ c.args.store.now c.requires (c.in_err-found.ensures.many is);
-      commits = looks_commit _ _ c.requires c.found_on.ensures.looks;
-    })
+returns-in_err-found-clause-many g c = grind (arith, err_from_is_err_and, full_now, looks_commit)
 
 pub returns-clause-many : goal.returns-clause-many
 returns-clause-many g c = λ is.

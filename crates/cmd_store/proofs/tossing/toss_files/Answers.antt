@@ -1,3 +1,4 @@
+use Rattle.std.proofs.Common.{arith}
 use Rattle.cmd_status.specs.Devices.{device_of}
 use Rattle.cmd_store.proofs.TossedFiles.{begun_files, ended_files, more_files, refused_files, stopped_files}
 use Rattle.std.proofs.lemmas.Result.{err_from_is_err_and}
@@ -5,9 +6,7 @@ use Rattle.echo_toss.proofs.Bounds.{past_after}
 use Rattle.cmd_store.proofs.tossing.toss_files.Goals as goal
 
 pub files-init : goal.files-init
-files-init g c =
-    begun_files g.P.PacketFiles.is_honest c.args.noting c.args.limits (device_of g.P.Reader.Read.remaining g.P.Reader.Source.failures) c.args.links.now (g.T.Store.state c.args.store.now) (g.T.Store.failures c.args.store.now)
-    (g.P.PacketFiles.coming c.args.packets.now) c.args.lines.now.items c.args.packets.now c.requires
+files-init g c = grind (arith, begun_files)
 
 pub files-preserved : goal.files-preserved
 files-preserved g c =
@@ -37,7 +36,4 @@ returns-clause-tossed g c = λ honest base kept.
     honest kept
 
 pub returns-in_err-stopped-in-Ok-clause-many : goal.returns-in_err-stopped-in-Ok-clause-many
-returns-in_err-stopped-in-Ok-clause-many g c =
-    let so = c.files.invariant in
-    let p = err_from_is_err_and c.from_residual.result c.from_residual.ensures.1 in
-    rw (p.1, p.2) (λ is. past_after g.T.Store.state _ _ _ so.commits so.on (c.in_err-stopped-in-Ok.ensures.many is))
+returns-in_err-stopped-in-Ok-clause-many g c = grind (arith, err_from_is_err_and, past_after)

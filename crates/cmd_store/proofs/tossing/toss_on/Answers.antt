@@ -1,3 +1,4 @@
+use Rattle.std.proofs.Common.{arith}
 use Rattle.cmd_status.specs.Devices.{device_of}
 use Rattle.cmd_store.proofs.Commits.{makes_then}
 use Rattle.cmd_store.proofs.Runs.{none_before, tosses}
@@ -23,9 +24,7 @@ returns-clause-crash g c =
     c.commit.ensures.either
 
 pub returns-in_err-stopped-clause-many : goal.returns-in_err-stopped-clause-many
-returns-in_err-stopped-clause-many g c =
-    let p = err_from_is_err_and c.from_residual.result c.from_residual.ensures.1 in
-    rw (p.1, p.2) (λ is. record { past = c.in_err-stopped.ensures.many (handed_many c.in_err-stopped.field-0.0 is); commits = c.toss_files.ensures.commits })
+returns-in_err-stopped-clause-many g c = grind (arith, err_from_is_err_and, handed_many)
 
 pub returns-in_err-commit-clause-many : goal.returns-in_err-commit-clause-many
 returns-in_err-commit-clause-many g c =
