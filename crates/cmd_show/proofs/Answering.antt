@@ -1,5 +1,5 @@
 -- The answer of `show`, from those of its parts.
-use Rattle.std.proofs.Common.{◌≡◌, ℕ, Bool, List, [], Option, Result, Ok, Err, sym, subst, ◌∙◌, inl, inr}
+use Rattle.std.proofs.Common.{◌≡◌, ℕ, Bool, List, [], Option, Result, Ok, Err, sym, subst, ◌∙◌, inl, inr, arith}
 use Rattle.std.specs.Io.KnownBytes.{Appends}
 use Rattle.cmd_status.specs.declared.fault.Fault.{Fault}
 use Rattle.cmd_status.specs.declared.status.Status.{Status}
@@ -7,7 +7,7 @@ use Rattle.cmd_status.specs.Devices.{Output}
 use Rattle.cmd_status.specs.Ended.{CannotPrint, PassesAll}
 use Rattle.cmd_status.specs.Lines.{WritesFront}
 use Rattle.cmd_status.proofs.Lines.{begun_after, begun_kept, nothing_begun, sent_after}
-use Rattle.cmd_show.specs.Showing.{AllShown, FirstShown, IsCutShort, PacketAnswers, PacketPasses, ShownBefore, SomeShown}
+use Rattle.cmd_show.specs.Showing.{AllShown, IsCutShort, PacketAnswers, PacketPasses, SomeShown}
 use Rattle.cmd_show.specs.Written.{AddsLines, BeginsLines, WritesLines}
 use Rattle.cmd_show.proofs.Stopping.{passes_le, print_later}
 
@@ -17,12 +17,7 @@ all_out P a b c rest added went = record { lines = added.lines; are = added.are;
 
 -- lines cut short are some lines
 cut_some : (full : Bool) (bytes lines : List ℕ) (fault : Fault) → IsCutShort full bytes lines fault → SomeShown full bytes lines
-cut_some full bytes lines fault (inl none) = inl none.1
-cut_some full bytes lines fault (inr broken) = inl (before broken.shown)
-  where
-    before : ShownBefore full bytes broken.why broken.messages lines → FirstShown full bytes lines
-    before (inl nothing) = inl nothing.1
-    before (inr front) = inr (broken.messages, front)
+cut_some full bytes lines fault h1 = grind arith
 
 -- a beginning of the lines held back was written
 some_out : (full : Bool) (P : List ℕ → Type 0) (bytes : List ℕ) (a b c : Option (List ℕ)) (rest : List ℕ) → ((lines : List ℕ) → P lines → SomeShown full bytes lines)
@@ -62,9 +57,4 @@ begun_out full bytes rest old mid new (Err fault) (inr short) begun =
 
 pub not_shown : (full : Bool) (bytes none rest : List ℕ) (old mid new : Output) (answer : Result Status Fault) (fault : Fault) → none ≡ [] → PacketPasses full bytes none rest old mid answer
     → WritesFront rest mid.contents new.contents → CannotPrint mid.failures new.failures fault → PacketAnswers full bytes old new (Err fault)
-not_shown full bytes none rest old mid new answer fault nothing so begun failed =
-    let empty = subst (λ l. PacketPasses full bytes l rest old mid answer) nothing so in
-    inl (
-      print_later fault old.failures mid.failures new.failures (passes_le full bytes [] rest old mid answer empty) failed,
-      begun_out full bytes rest old mid new answer empty begun,
-    )
+not_shown full bytes none rest old mid new answer fault nothing so begun failed = grind (arith, print_later, passes_le, begun_out)

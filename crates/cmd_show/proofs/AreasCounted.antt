@@ -1,5 +1,5 @@
 -- The counts of areas, message by message, and their lines.
-use Rattle.std.proofs.Common.{◌≡◌, ℕ, ◌+◌, ◌-◌, ◌≤◌, ◌<◌, ◌∙◌, ◌||◌, ◌&&◌, ◌⊎◌, Bool, true, false, cond, List, [], ◌∷◌, ◌++◌, Option, None, Some, Result, Ok, Err, length, map, take, drop, take_all, refl, sym, ap, subst, arith, inl, inr}
+use Rattle.std.proofs.Common.{◌≡◌, ℕ, ◌+◌, ◌-◌, ◌<◌, ◌∙◌, ◌||◌, ◌&&◌, Bool, true, false, cond, List, [], ◌∷◌, ◌++◌, Option, None, Some, Result, length, map, take, drop, take_all, refl, sym, ap, subst, arith}
 use Rattle.std.specs.Prelude.{bytes_eq, count_by, is_some, nat_le, slice_get, unwrap_or}
 use Rattle.std.specs.declared.cmp.Ordering.{Ordering}
 use Rattle.std.specs.declared.cmp.Ordering.TheVariants.{Less}
@@ -18,17 +18,16 @@ use Rattle.std.proofs.lemmas.Map.Text.{is_eq-slice_cmp}
 use Rattle.std.proofs.lemmas.Option.{slice_get-get_or, slice_get_cases}
 use Rattle.base_file.specs.Base.{Base}
 use Rattle.echo_export.specs.declared.json_line.State.{State}
-use Rattle.echo_export.specs.declared.json_line.State.TheVariants.{Purged, Scanned, Waiting}
 use Rattle.echo_filed.specs.Filed.{Filed}
 use Rattle.echo_links.proofs.Found.{bytes_turned, lookup_inserted}
-use Rattle.cmd_print.specs.BaseListed.{is_purged, total_text}
+use Rattle.cmd_print.specs.BaseListed.{total_text}
 use Rattle.cmd_status.specs.declared.fault.Fault.{Fault}
 use Rattle.cmd_status.specs.declared.status.Status.{Status}
 use Rattle.cmd_status.specs.declared.status.Status.TheVariants.{Good}
 use Rattle.cmd_status.specs.Devices.{Output}
 use Rattle.cmd_status.specs.Ended.{Answers}
 use Rattle.cmd_show.specs.declared.area_counts.AreaCounts.{AreaCounts}
-use Rattle.cmd_show.specs.AreasListed.{AreListed, AreWithin, Ascend, HaveCounts, area_counts, area_line, areas_text, counted_more, counts_of, counts_text, found_counts, is_in, is_purged_in, no_counts}
+use Rattle.cmd_show.specs.AreasListed.{AreListed, AreWithin, Ascend, HaveCounts, area_counts, area_line, areas_text, counted_more, counts_of, counts_text, is_in, no_counts}
 use Rattle.cmd_show.specs.Exporting.{state_by, state_of}
 
 -- 1 for yes
@@ -44,47 +43,17 @@ where_scanned b n = cond b 0 n
 
 -- the count with one more message
 counted_last : (p : Filed → Bool) (xs : List Filed) (m : Filed) → count_by p (xs ++ m ∷ []) ≡ count_by p xs + one (p m)
-counted_last p xs m =
-    let f : Filed → ℕ = λ x. one (p x) in
-    let whole : count_by p (xs ++ m ∷ []) ≡ count_by p xs + count_by p (m ∷ []) = sum_by-append f xs (m ∷ []) in
-    let last : count_by p (m ∷ []) ≡ one (p m) + 0 = sum_by-cons f m [] in
-    omega (arith, whole, last)
+counted_last p xs m = grind (arith, sum_by-append, sum_by-cons)
 
 -- the same for waiting messages
 waiting_last : (p : Filed → Bool) (xs : List Filed) (m : Filed) (cursor : ℕ)
     → count_by p (drop cursor (xs ++ m ∷ [])) ≡ count_by p (drop cursor xs) + where_waits (nat_le cursor (length xs)) (one (p m))
-waiting_last p xs m cursor = by (cases_lt (length xs) cursor)
-  where
-    by : (length xs < cursor) ⊎ (cursor ≤ length xs) → count_by p (drop cursor (xs ++ m ∷ [])) ≡ count_by p (drop cursor xs) + where_waits (nat_le cursor (length xs)) (one (p m))
-    by (inl scanned) =
-        let many : length (xs ++ m ∷ []) ≡ length xs + 1 = length-append xs (m ∷ []) in
-        let all : count_by p (drop cursor (xs ++ m ∷ [])) ≡ 0 = ap (count_by p) (drop_all cursor (xs ++ m ∷ []) (omega (arith, many, scanned))) in
-        let before : count_by p (drop cursor xs) ≡ 0 = ap (count_by p) (drop_all cursor xs (omega (arith, scanned))) in
-        let last : where_waits (nat_le cursor (length xs)) (one (p m)) ≡ 0 = ap (λ b. where_waits b (one (p m))) (lt-leb cursor (length xs) scanned) in
-        omega (arith, all, before, last)
-    by (inr waits) =
-        let all : count_by p (drop cursor (xs ++ m ∷ [])) ≡ count_by p (drop cursor xs ++ m ∷ []) = ap (count_by p) (drop-append-le cursor xs (m ∷ []) waits) in
-        let more = counted_last p (drop cursor xs) m in
-        let last : where_waits (nat_le cursor (length xs)) (one (p m)) ≡ one (p m) = ap (λ b. where_waits b (one (p m))) (le-leb cursor (length xs) waits) in
-        omega (arith, all, more, last)
+waiting_last p xs m cursor = grind (arith, cases_lt, length-append, drop_all, lt-leb, drop-append-le, counted_last, le-leb)
 
 -- and for scanned messages
 scanned_last : (p : Filed → Bool) (xs : List Filed) (m : Filed) (cursor : ℕ)
     → count_by p (take cursor (xs ++ m ∷ [])) ≡ count_by p (take cursor xs) + where_scanned (nat_le cursor (length xs)) (one (p m))
-scanned_last p xs m cursor = by (cases_lt (length xs) cursor)
-  where
-    by : (length xs < cursor) ⊎ (cursor ≤ length xs) → count_by p (take cursor (xs ++ m ∷ [])) ≡ count_by p (take cursor xs) + where_scanned (nat_le cursor (length xs)) (one (p m))
-    by (inl scanned) =
-        let many : length (xs ++ m ∷ []) ≡ length xs + 1 = length-append xs (m ∷ []) in
-        let all : count_by p (take cursor (xs ++ m ∷ [])) ≡ count_by p (xs ++ m ∷ []) = ap (count_by p) (take_all cursor (xs ++ m ∷ []) (omega (arith, many, scanned))) in
-        let before : count_by p (take cursor xs) ≡ count_by p xs = ap (count_by p) (take_all cursor xs (omega (arith, scanned))) in
-        let more = counted_last p xs m in
-        let last : where_scanned (nat_le cursor (length xs)) (one (p m)) ≡ one (p m) = ap (λ b. where_scanned b (one (p m))) (lt-leb cursor (length xs) scanned) in
-        omega (arith, all, before, more, last)
-    by (inr waits) =
-        let all : count_by p (take cursor (xs ++ m ∷ [])) ≡ count_by p (take cursor xs) = ap (count_by p) (take-append-le cursor xs (m ∷ []) waits) in
-        let last : where_scanned (nat_le cursor (length xs)) (one (p m)) ≡ 0 = ap (λ b. where_scanned b (one (p m))) (le-leb cursor (length xs) waits) in
-        omega (arith, all, last)
+scanned_last p xs m cursor = grind (arith, cases_lt, length-append, take_all, counted_last, lt-leb, take-append-le, le-leb)
 
 -- counts of these numbers
 abbrev made : ℕ → ℕ → ℕ → AreaCounts
@@ -96,25 +65,15 @@ same_counts a b c x y z p q r = ap (λ n. made n b c) p ∙ ap (λ n. made x n c
 -- a message of the area adds one to its counts
 one_counted : (own waits short : Bool) (a b c x y z : ℕ) → x ≡ a + one own → y ≡ b + where_waits waits (one own) → z ≡ c + where_scanned waits (one (own && short))
     → made x y z ≡ cond own (counted_more (made a b c) (state_by waits short)) (made a b c)
-one_counted true true short a b c x y z p q r = same_counts x y z (a + 1) (b + 1) c p q (omega (arith, r))
-one_counted true false true a b c x y z p q r = same_counts x y z (a + 1) b (c + 1) p (omega (arith, q)) r
-one_counted true false false a b c x y z p q r = same_counts x y z (a + 1) b c p (omega (arith, q)) (omega (arith, r))
-one_counted false true short a b c x y z p q r = same_counts x y z a b c (omega (arith, p)) (omega (arith, q)) (omega (arith, r))
-one_counted false false short a b c x y z p q r = same_counts x y z a b c (omega (arith, p)) (omega (arith, q)) (omega (arith, r))
+one_counted own waits short a b c x y z h1 h2 h3 = grind (arith, same_counts)
 
 more_counts : (tag : List ℕ) (xs : List Filed) (m : Filed) (cursor : ℕ)
     → area_counts (xs ++ m ∷ []) cursor tag ≡ cond (is_in tag m) (counted_more (area_counts xs cursor tag) (state_of cursor (length xs) m)) (area_counts xs cursor tag)
-more_counts tag xs m cursor =
-    one_counted (is_in tag m) (nat_le cursor (length xs)) (is_purged m)
-    (count_by (is_in tag) xs) (count_by (is_in tag) (drop cursor xs)) (count_by (is_purged_in tag) (take cursor xs))
-    (count_by (is_in tag) (xs ++ m ∷ [])) (count_by (is_in tag) (drop cursor (xs ++ m ∷ []))) (count_by (is_purged_in tag) (take cursor (xs ++ m ∷ [])))
-    (counted_last (is_in tag) xs m) (waiting_last (is_in tag) xs m cursor) (scanned_last (is_purged_in tag) xs m cursor)
+more_counts tag xs m cursor = grind (arith, one_counted, counted_last, waiting_last, scanned_last)
 
 -- a count grows by at most one
 within_more : (i : ℕ) (c : AreaCounts) (state : State) → AreWithin i c → AreWithin (i + 1) (counted_more c state)
-within_more i c Scanned within = record { messages = omega (arith, within.messages); waiting = omega (arith, within.waiting); purged = omega (arith, within.purged) }
-within_more i c Waiting within = record { messages = omega (arith, within.messages); waiting = omega (arith, within.waiting); purged = omega (arith, within.purged) }
-within_more i c Purged within = record { messages = omega (arith, within.messages); waiting = omega (arith, within.waiting); purged = omega (arith, within.purged) }
+within_more i c state h1 = grind arith
 
 pub within_next : (i : ℕ) (c : AreaCounts) → AreWithin i c → AreWithin (i + 1) c
 within_next i c within = record { messages = omega (arith, within.messages); waiting = omega (arith, within.waiting); purged = omega (arith, within.purged) }
@@ -125,19 +84,11 @@ unwrapped true v o = refl
 unwrapped false v o = refl
 
 some_found : (b : Bool) (v : AreaCounts) (o : Option AreaCounts) → is_some (cond b (Some v) o) ≡ (is_some o || b)
-some_found true v None = refl
-some_found true v (Some x) = refl
-some_found false v None = refl
-some_found false v (Some x) = refl
+some_found b v o = grind arith
 
 -- there is a message at each number below the count
 pub some_there : (base : List Filed) (i : ℕ) → i < length base → None ≡ slice_get base i → ⊥
-some_there base i inside none = elim (slice_get_cases base i).1 [
-  | inl (x, below, got, read) ↦
-      let not : (t : Filed) → None ≡ Some t → ⊥ = λ t e. absurd cc in
-      not x (none ∙ got)
-  | inr past ↦ absurd (let less = past.0 in omega (arith, less, inside))
-]
+some_there base i inside none = grind (arith, slice_get_cases)
 
 -- the next message of a base
 pub one_next : (base : List Filed) (i : ℕ) (m : Filed) → slice_get base i ≡ Some m → i < length base → take (i + 1) base ≡ take i base ++ m ∷ []
@@ -162,11 +113,7 @@ module _ {K : Type 0} (bytes : K → List ℕ) where
   pub within_inserted : (i : ℕ) (es : List (K × AreaCounts)) (k : K) (tag : List ℕ) (state : State) (v : AreaCounts)
       → v ≡ counted_more (counts_of bytes es tag) state → ((t : List ℕ) → AreWithin i (counts_of bytes es t))
       → (t : List ℕ) → AreWithin (i + 1) (counts_of bytes (insert_entry key_order es k v) t)
-  within_inserted i es k tag state v is within t = subst (AreWithin (i + 1)) (sym (counts_inserted t es k v)) (by (is_key t k))
-    where
-      by : (b : Bool) → AreWithin (i + 1) (cond b v (counts_of bytes es t))
-      by true = subst (AreWithin (i + 1)) (sym is) (within_more i (counts_of bytes es tag) state (within tag))
-      by false = within_next i (counts_of bytes es t) (within t)
+  within_inserted i es k tag state v is within t = grind (arith, counts_inserted, within_more, within_next)
 
   -- one message more
   pub counted_on : (es : List (K × AreaCounts)) (k : K) (xs : List Filed) (m : Filed) (cursor : ℕ) (v : AreaCounts)
@@ -192,11 +139,7 @@ module _ {K : Type 0} (bytes : K → List ℕ) where
 
   -- an empty map counts no message
   pub none_counted : (es : List (K × AreaCounts)) (base : List Filed) (cursor : ℕ) → es ≡ [] → HaveCounts bytes es (take 0 base) cursor
-  none_counted es base cursor none = record {
-    counts = λ tag. ap (λ es. counts_of bytes es tag) none ∙ same_counts 0 0 0 0 (count_by (is_in tag) (drop cursor [])) (count_by (is_purged_in tag) (take cursor [])) refl
-        (sym (ap (count_by (is_in tag)) (drop_all cursor [] (omega arith)))) (sym (ap (count_by (is_purged_in tag)) (take_all cursor [] (omega arith))));
-    there = λ tag. ap (λ es. is_some (found_counts bytes es tag)) none;
-  }
+  none_counted es base cursor none = grind (arith, same_counts, drop_all, take_all)
 
   pub none_within : (es : List (K × AreaCounts)) → es ≡ [] → (tag : List ℕ) → AreWithin 0 (counts_of bytes es tag)
   none_within es none tag = subst (λ es. AreWithin 0 (counts_of bytes es tag)) (sym none) (record { messages = omega arith; waiting = omega arith; purged = omega arith })
@@ -262,21 +205,4 @@ module _ {K : Type 0} (bytes : K → List ℕ) where
   pub areas_answered : (es : List (K × AreaCounts)) (base : Base) (messages waiting : ℕ) (refused : Fault → Type 0) (old new : Output) (answer : Result Status Fault)
       → HaveCounts bytes es base.messages base.cursor → Ascend bytes es → messages ≡ length base.messages → waiting ≡ length base.messages - base.cursor
       → Answers (λ lines status. (lines ≡ counts_text bytes es messages waiting) × (status ≡ Good)) (λ fault. ⊥) old new answer → Answers (AreListed base) refused old new answer
-  areas_answered es base messages waiting refused old new (Ok status) have ascend counted waits done = record {
-    lines = done.lines;
-    right = areas_right es base messages waiting done.lines status have ascend counted waits done.right.0 done.right.1;
-    written = done.written;
-    flushed = done.flushed;
-  }
-  areas_answered es base messages waiting refused old new (Err fault) have ascend counted waits (inl (failed, begun)) =
-      inl (
-        failed,
-        record {
-          lines = begun.lines;
-          answer = begun.answer;
-          right = areas_right es base messages waiting begun.lines begun.answer have ascend counted waits begun.right.0 begun.right.1;
-          begun = begun.begun;
-        },
-      )
-  areas_answered es base messages waiting refused old new (Err fault) have ascend counted waits (inr (inl memory, same)) = inr (inl memory, same)
-  areas_answered es base messages waiting refused old new (Err fault) have ascend counted waits (inr (inr none, same)) = absurd none
+  areas_answered es base messages waiting refused old new answer h1 h2 h3 h4 h5 = grind (arith, areas_right)

@@ -1,6 +1,6 @@
 -- The lines and the answer of `nodelist`, from those of its parts.
 use Rattle.std.proofs.Common.{◌≡◌, ℕ, ◌+◌, ◌<◌, ◌≤◌, ◌⊎◌, List, [], ◌∷◌, ◌++◌, length, get_or, map, Option, None, Result, Ok, Err, IfErr, OnErr, refl, sym, ap, subst, ◌∙◌, append_assoc, append-nil, arith, inl, inr}
-use Rattle.std.specs.List.{flat_map, range_with_len}
+use Rattle.std.specs.List.{range_with_len}
 use Rattle.std.specs.Io.KnownBytes.{Appends}
 use Rattle.std.proofs.lemmas.Grind.{flat_map-append}
 use Rattle.std.proofs.lemmas.List.{get_or_default}
@@ -8,7 +8,6 @@ use Rattle.std.proofs.lemmas.List.FromFn.{map-range_with_len_more}
 use Rattle.echo_addr.specs.declared.address.Address.{Address}
 use Rattle.echo_nodelist.specs.declared.fault.NodeFault.{NodeFault}
 use Rattle.echo_nodelist.specs.declared.line.Line.{Line}
-use Rattle.echo_nodelist.specs.declared.line.Line.TheVariants.{Note}
 use Rattle.echo_nodelist.specs.declared.stated.CrcLine.{CrcLine}
 use Rattle.echo_nodelist.specs.Back.{address_at}
 use Rattle.echo_nodelist.specs.CrcLine.{crc_line_of}
@@ -36,28 +35,17 @@ range_more n =
 
 -- one line more
 entries_more : (lines : List Line) (n : ℕ) → listed_entries lines (n + 1) ≡ listed_entries lines n ++ addressed_text (address_at lines n) (line_at lines n)
-entries_more lines n =
-    let text : ℕ → List ℕ = λ i. addressed_text (address_at lines i) (line_at lines i) in
-    ap (flat_map text) (range_more n) ∙ flat_map-append text (range_with_len 0 n) (n ∷ [])
-    ∙ ap (λ t. listed_entries lines n ++ t) (append-nil (text n))
+entries_more lines n = grind (arith, range_more, flat_map-append, append-nil)
 
 -- the line on the checksum, and then the others
 pub listed_lines : (find : Option Address) (lines : List Line) (stated : CrcLine) (old mid new : List ℕ) (a b : Option (List ℕ)) → mid ≡ old ++ crc_text stated
     → AddsLines (RestListed find lines) mid new a b → AddsLines (Listed find lines stated) old new a b
-listed_lines find lines stated old mid new a b is rest = record {
-  lines = crc_text stated ++ rest.lines;
-  are = record { rest = rest.lines; listed = rest.are; whole = refl };
-  passed = subst (λ t. PassesOn t new a b) (ap (λ t. t ++ rest.lines) is ∙ append_assoc old (crc_text stated) rest.lines) rest.passed;
-}
+listed_lines find lines stated old mid new a b is rest = grind (arith, append_assoc)
 
 -- a beginning of these
 pub listed_begun : (find : Option Address) (lines : List Line) (stated : CrcLine) (old mid : List ℕ) (a b : Option (List ℕ)) → mid ≡ old ++ crc_text stated
     → BeginsMore (RestListed find lines) mid a b → BeginsMore (Listed find lines stated) old a b
-listed_begun find lines stated old mid a b is rest = record {
-  lines = crc_text stated ++ rest.lines;
-  are = record { rest = rest.lines; listed = rest.are; whole = refl };
-  begun = subst (λ t. WritesFront t a b) (ap (λ t. t ++ rest.lines) is ∙ append_assoc old (crc_text stated) rest.lines) rest.begun;
-}
+listed_begun find lines stated old mid a b is rest = grind (arith, append_assoc)
 
 -- the entries were not printed whole
 pub list_stops : {T : Type 0} (r : Result T Fault) (lines : List Line) (stated : CrcLine) (kept mid : List ℕ) (old new : Output) → mid ≡ kept ++ crc_text stated
@@ -75,12 +63,7 @@ read_refused find input old f (inr memory) = inr (inl (subst (λ x. IsOutOfMemor
 -- the lines of a nodelist
 right_list : (find : Option Address) (input text : List ℕ) (lines : List Line) (stated : CrcLine) → NodelistOf input lines → stated ≡ crc_line_of input
     → Listed find lines stated text → IsListed find input text (crc_status (crc_line_of input))
-right_list find input text lines stated is agreed listed = record {
-  lines = lines;
-  is_nodelist = is;
-  printed = subst (λ s. Listed find lines s text) agreed listed;
-  checked = refl;
-}
+right_list find input text lines stated is agreed listed = grind arith
 
 -- all lines of a nodelist were written
 pub list_printed : (find : Option Address) (input none rest : List ℕ) (lines : List Line) (stated : CrcLine) (status : Status) (old mid new : Output)
@@ -116,25 +99,12 @@ pub list_stopped : (find : Option Address) (input none : List ℕ) (lines : List
     → NodelistOf input lines → stated ≡ crc_line_of input → none ≡ []
     → (IsOutOfMemory fault × (new ≡ old)) ⊎ (Stops old.failures new.failures fault × BeginsMore (Listed find lines stated) none old.contents new.contents)
     → NodelistAnswers find input old new (Err fault)
-list_stopped find input none lines stated old new fault is agreed nothing (inl memory) = inr (inl memory.0, memory.1)
-list_stopped find input none lines stated old new fault is agreed nothing (inr (stops, more)) = inl (
-  stops,
-  record {
-    lines = more.lines;
-    answer = crc_status (crc_line_of input);
-    right = right_list find input more.lines lines stated is agreed more.are;
-    begun = subst (λ (l : List ℕ). WritesFront (l ++ more.lines) old.contents new.contents) nothing more.begun;
-  },
-)
+list_stopped find input none lines stated old new fault h1 h2 h3 h4 = grind (arith, right_list)
 
 -- the same for the loop over the lines
 entry_more : (lines items : List Line) (i : ℕ) (a : Option Address) (line : Line) → items ≡ lines → i < length items → a ≡ address_at lines i → line ≡ get_or items i line
     → listed_entries lines (i + 1) ≡ listed_entries lines i ++ addressed_text a line
-entry_more lines items i a line same within here is =
-    let found : line_at lines i ≡ line =
-    ap (λ xs. get_or xs i (Note [])) (sym same) ∙ get_or_default items i (Note []) line within ∙ sym is in
-    entries_more lines i
-    ∙ ap (λ t. listed_entries lines i ++ t) (ap (addressed_text (address_at lines i)) found ∙ ap (λ x. addressed_text x line) (sym here))
+entry_more lines items i a line same within here is = grind (arith, get_or, get_or_default, entries_more)
 
 -- one entry more is passed on
 pub printed_more : (a b c : Option (List ℕ)) (kept mid left : List ℕ) (lines items : List Line) (i : ℕ) (x : Option Address) (line : Line) → items ≡ lines → i < length items → x ≡ address_at lines i → line ≡ get_or items i line
@@ -146,12 +116,7 @@ printed_more a b c kept mid left lines items i x line same within here is before
 -- a beginning of the entries begins all lines
 pub rest_begun : (a b : Option (List ℕ)) (kept : List ℕ) (lines : List Line) → WritesFront (kept ++ listed_entries lines (length lines)) a b
     → BeginsMore (RestListed None lines) kept a b
-rest_begun a b kept lines begun = record {
-  lines = listed_entries lines (length lines) ++ total_line lines;
-  are = refl;
-  begun = subst (λ t. WritesFront t a b) (append_assoc kept (listed_entries lines (length lines)) (total_line lines))
-      (front_more a b (kept ++ listed_entries lines (length lines)) (total_line lines) begun);
-}
+rest_begun a b kept lines begun = grind (arith, append_assoc, front_more)
 
 -- the line of an entry was not printed whole
 pub entry_begun : (a b c : Option (List ℕ)) (kept mid : List ℕ) (lines items : List Line) (i : ℕ) (x : Option Address) (line : Line) → items ≡ lines → i < length items → x ≡ address_at lines i → line ≡ get_or items i line
@@ -166,8 +131,4 @@ entry_begun a b c kept mid lines items i x line same within here is before more 
 -- the line with the number of entries follows them
 pub total_added : (a b : Option (List ℕ)) (kept mid left : List ℕ) (lines : List Line) → PassesOn (kept ++ listed_entries lines (length lines)) mid a b
     → left ≡ mid ++ total_line lines → AddsLines (RestListed None lines) kept left a b
-total_added a b kept mid left lines before pushed = record {
-  lines = listed_entries lines (length lines) ++ total_line lines;
-  are = refl;
-  passed = passed_more a b b kept (listed_entries lines (length lines)) mid (total_line lines) left before (added b mid left (total_line lines) pushed);
-}
+total_added a b kept mid left lines before pushed = grind (arith, passed_more, added)

@@ -1,20 +1,18 @@
 -- The lines and the answer of `export`, from those of its parts.
-use Rattle.std.proofs.Common.{◌≡◌, ℕ, zero, suc, ◌+◌, ◌≤◌, ◌<◌, List, [], ◌++◌, length, Option, None, Some, option_map, Err, refl, sym, ap, subst, ◌∙◌, add-one, arith, inl}
-use Rattle.std.specs.Prelude.{Bool, slice_get, if◌then◌else◌, ◌&&◌}
+use Rattle.std.proofs.Common.{◌≡◌, ℕ, zero, suc, ◌+◌, ◌≤◌, ◌<◌, List, [], ◌++◌, length, Option, option_map, Err, refl, sym, ap, subst, ◌∙◌, add-one, arith, inl}
+use Rattle.std.specs.Prelude.{Bool, slice_get}
 use Rattle.std.specs.Io.KnownBytes.{Appends}
 use Rattle.std.proofs.lemmas.Bool.{lt-leb}
 use Rattle.base_file.specs.Base.{Base}
 use Rattle.echo_export.specs.declared.form.Form.{Form}
-use Rattle.echo_export.specs.Forms.{message_lost, message_text}
 use Rattle.echo_links.specs.Links.{upper}
 use Rattle.echo_filed.specs.Filed.{Filed}
-use Rattle.cmd_print.specs.BaseListed.{is_of_area}
 use Rattle.cmd_status.specs.declared.fault.Fault.{Fault}
 use Rattle.cmd_status.specs.Devices.{Output}
 use Rattle.cmd_status.specs.Ended.{CannotPrint, IsBegun, IsDone, PassesAll}
 use Rattle.cmd_status.specs.Lines.{PassesOn, WritesFront}
 use Rattle.cmd_status.proofs.Lines.{begun_after, begun_more, none_added, passed_more, sent_after}
-use Rattle.cmd_show.specs.Exporting.{IsExported, is_exported, sought_count, sought_lost, sought_text, sought_texts, state_of}
+use Rattle.cmd_show.specs.Exporting.{IsExported, sought_count, sought_lost, sought_text, sought_texts}
 use Rattle.cmd_show.specs.Fetching.{PrintsReading}
 use Rattle.cmd_show.proofs.Pushed.{begun_within}
 
@@ -22,9 +20,7 @@ use Rattle.cmd_show.proofs.Pushed.{begun_within}
 module _ (texts one : ℕ → List ℕ) (more : (n : ℕ) → texts (n + 1) ≡ texts n ++ one n) where
   pub one_printed : (a b c : Option (List ℕ)) (kept mid left text : List ℕ) (i : ℕ) → text ≡ one i → PassesOn (kept ++ texts i) mid a b → PassesOn (mid ++ text) left b c
       → PassesOn (kept ++ texts (i + 1)) left a c
-  one_printed a b c kept mid left text i is before later =
-      subst (λ t. PassesOn t left a c) (ap (λ t. kept ++ t) (ap (λ t. texts i ++ t) is ∙ sym (more i)))
-      (passed_more a b c kept (texts i) mid text left before later)
+  one_printed a b c kept mid left text i is before later = grind (arith, passed_more)
 
   pub one_begun : (a b c : Option (List ℕ)) (kept mid text : List ℕ) (i n : ℕ) → text ≡ one i → i + 1 ≤ n → PassesOn (kept ++ texts i) mid a b → WritesFront (mid ++ text) b c
       → WritesFront (kept ++ texts n) a c
@@ -40,21 +36,15 @@ module _ (form : Form) (area : Option (List ℕ)) (first : ℕ) (purged : Bool) 
 
   pub lost_more : (n old here : ℕ) (message : Option Filed) → message ≡ slice_get base n → here ≡ sought_count form area first purged cursor n message
       → old ≡ sought_lost form area first purged cursor base n → old + here ≡ sought_lost form area first purged cursor base (n + 1)
-  lost_more n old here message is counted before =
-      let step : sought_lost form area first purged cursor base (n + 1) ≡ sought_lost form area first purged cursor base n + sought_count form area first purged cursor n (slice_get base n) = rw add-one refl in
-      ap (λ k. k + here) before ∙ ap (λ k. sought_lost form area first purged cursor base n + k) (counted ∙ ap (sought_count form area first purged cursor n) is) ∙ sym step
+  lost_more n old here message is counted before = grind (arith, add-one)
 
 module _ (form : Form) (area : Option (List ℕ)) (first : ℕ) (purged : Bool) where
   -- a message before the first requested one prints no line and counts no U+FFFD
   not_sought : (cursor i : ℕ) (message : Option Filed) → i < first → sought_text form area first purged cursor i message ≡ []
-  not_sought cursor i None before = refl
-  not_sought cursor i (Some m) before =
-      ap (λ b. if (b && is_of_area area m.echo.tag) && is_exported purged (state_of cursor i m) then message_text form i (state_of cursor i m) m else []) (lt-leb first i before)
+  not_sought cursor i message h1 = grind (arith, lt-leb)
 
   not_counted : (cursor i : ℕ) (message : Option Filed) → i < first → sought_count form area first purged cursor i message ≡ 0
-  not_counted cursor i None before = refl
-  not_counted cursor i (Some m) before =
-      ap (λ b. if (b && is_of_area area m.echo.tag) && is_exported purged (state_of cursor i m) then message_lost form i (state_of cursor i m) m else 0) (lt-leb first i before)
+  not_counted cursor i message h1 = grind (arith, lt-leb)
 
   -- nor do all of them
   none_sought : (cursor : ℕ) (base : List Filed) (n : ℕ) → n ≤ first → sought_texts form area first purged cursor base n ≡ []
@@ -128,12 +118,7 @@ module _ (form : Form) (area : Option (List ℕ)) (first : ℕ) (purged : Bool) 
     -- some of them were printed
     pub export_begun : (old new : Output) → WritesFront (none ++ sought_texts form asked first purged base.cursor base.messages (length base.messages)) old.contents new.contents
         → IsBegun (IsExported form area first purged base) old new
-    export_begun old new begun = record {
-      lines = all;
-      answer = sought_lost form (option_map upper area) first purged base.cursor base.messages (length base.messages);
-      right = right_export;
-      begun = subst (λ t. WritesFront t old.contents new.contents) whole begun;
-    }
+    export_begun old new begun = grind (arith, all, option_map, right_export, whole)
 
     module _ (kept : List ℕ) (old mid new : Output) (printed : PassesOn (none ++ sought_texts form asked first purged base.cursor base.messages (length base.messages)) kept old.contents mid.contents)
         (once : mid.failures ≡ old.failures) where

@@ -1,5 +1,5 @@
 -- The end of a command that reads messages one by one.
-use Rattle.std.proofs.Common.{◌≡◌, ℕ, ◌≤◌, List, Result, Ok, Err, inl, inr}
+use Rattle.std.proofs.Common.{◌≡◌, ℕ, ◌≤◌, List, Result, inl, inr, arith}
 use Rattle.base_folder.specs.Fetching.{CannotRead, IsUnread}
 use Rattle.base_folder.proofs.Fetchings.{never_read, read_since}
 use Rattle.cmd_status.specs.declared.fault.Fault.{Fault}
@@ -15,14 +15,7 @@ stops_reading path first before now printed after fault less same (inr read) = i
 -- the answer of a command for messages in memory, where no read fails
 module _ {A : Type 0} (P Q : List ℕ → A → Type 0) (refused : Fault → Type 0) (path : List ℕ) (old new : Output) (gives : (lines : List ℕ) (answer : A) → P lines answer → Q lines answer) where
   pub in_pieces : (result : Result A Fault) → PrintsReading P path 0 0 old new result → AnswersInPieces Q refused old new result
-  in_pieces (Ok answer) done = record { lines = done.lines; right = gives done.lines answer done.right; written = done.written; flushed = done.flushed }
-  in_pieces (Err fault) (inl stops, begun) =
-      inl (stops, record { lines = begun.lines; answer = begun.answer; right = gives begun.lines begun.answer begun.right; begun = begun.begun })
-  in_pieces (Err fault) (inr (read, same), begun) = absurd (never_read path fault read)
+  in_pieces result h1 = grind (arith, never_read)
 
   pub at_once : (result : Result A Fault) → Answers P (CannotRead path 0 0) old new result → Answers Q refused old new result
-  at_once (Ok answer) done = record { lines = done.lines; right = gives done.lines answer done.right; written = done.written; flushed = done.flushed }
-  at_once (Err fault) (inl (failed, begun)) =
-      inl (failed, record { lines = begun.lines; answer = begun.answer; right = gives begun.lines begun.answer begun.right; begun = begun.begun })
-  at_once (Err fault) (inr (inl memory, same)) = inr (inl memory, same)
-  at_once (Err fault) (inr (inr read, same)) = absurd (never_read path fault read)
+  at_once result h1 = grind (arith, never_read)

@@ -1,5 +1,5 @@
 -- The judgement on a line, from those on its parts.
-use Rattle.std.proofs.Common.{◌≡◌, ℕ, ◌||◌, not, Bool, true, false, cond, List, [], ◌∷◌, length, map, codes, refl, sym, ap, subst, ◌∙◌, Option, Some, None, Result, Ok, Err, inl, inr, nat_lt}
+use Rattle.std.proofs.Common.{◌≡◌, ℕ, ◌||◌, not, Bool, true, false, cond, List, [], ◌∷◌, length, map, codes, refl, sym, ap, subst, ◌∙◌, Option, Some, None, Result, Ok, Err, inl, inr, nat_lt, arith}
 use Rattle.std.specs.Prelude.{IfOk, bytes_eq, filter, is_err}
 use Rattle.std.specs.Cmp.Lexicographic.{bytes_decides}
 use Rattle.std.specs.List.{list_any}
@@ -53,22 +53,14 @@ module _ (earlier : List (List ℕ)) (line : List ℕ) (old new : SaidBefore) (b
 
   keeps_tags : is_area_line line ≡ false → new.tags ≡ old.tags → (t : List ℕ)
       → list_any (bytes_eq t) new.tags ≡ cond (is_area_line line) (bytes_eq t (tag_in line) || list_any (bytes_eq t) old.tags) (list_any (bytes_eq t) old.tags)
-  keeps_tags isnt same t =
-      ap (list_any (bytes_eq t)) same
-      ∙ sym (cond-false (is_area_line line) (bytes_eq t (tag_in line) || list_any (bytes_eq t) old.tags) (list_any (bytes_eq t) old.tags) isnt)
+  keeps_tags isnt same t = grind (arith, cond-false)
 
 -- ---- lines that are skipped, and lines without a word of a kind
 
 module _ (earlier : List (List ℕ)) (number : ℕ) (line : List ℕ) (b : SaidBefore) (before : IsBefore earlier b) where
   pub skipped_judged : is_skipped line ≡ true → JudgesLine earlier number line b None
   unfolding line_fault
-  skipped_judged h = (
-    cond-true (is_skipped line) None _ h,
-    one_more earlier line b b before
-        (keeps_system earlier line b b before (skipped_word line 83 (codes "YSTEM") refl h) refl)
-        (keeps_name earlier line b b before (skipped_word line 78 (codes "AME") refl h) refl)
-        (keeps_tags earlier line b b before (skipped_word line 65 (codes "REA") refl h) refl),
-  )
+  skipped_judged h = grind (arith, cond-true, one_more, keeps_system, skipped_word, keeps_name, keeps_tags)
 
   -- a line with an unknown first word, or with a control byte
   pub unknown_judged : (word : List ℕ) → line_fault earlier number line ≡ Some (fault.UnknownWord number) → word ≡ unknown_word line
@@ -136,9 +128,7 @@ module _ (earlier : List (List ℕ)) (number : ℕ) (line word rest : List ℕ) 
   as_parts : {Good Bad : Type 0} (refusal : Option LinkFault) (say : LinkFault → List ℕ) (found : Option Wrong) → line_fault earlier number line ≡ refusal
       → ((f : LinkFault) → refusal ≡ Some f → wrong_word f line ≡ say f) → (Good → IsBefore (line ∷ earlier) new) → (Bad → IsBefore earlier new)
       → Tells refusal say Good Bad found → JudgesLine earlier number line new found
-  as_parts refusal say None same words good bad told = (same ∙ told.0, good told.1)
-  as_parts refusal say (Some wrong) same words good bad told =
-      (same ∙ told.0, told.1 ∙ sym (words wrong.fault told.0), bad told.2)
+  as_parts refusal say found h1 h2 h3 h4 h5 = grind arith
 
   stays : new ≡ old → IsBefore earlier new
   stays same = subst (IsBefore earlier) (sym same) before
@@ -148,14 +138,7 @@ module _ (earlier : List (List ℕ)) (number : ℕ) (line word rest : List ℕ) 
     system_says_so : (b c : Bool) (f : LinkFault)
         → cond b (Some (fault.RepeatedSystem number)) (cond c None (Some (fault.BadAddress number))) ≡ Some f
         → wrong_word f line ≡ system_says word (tokens rest) f
-    system_says_so true c f h =
-        let e : fault.RepeatedSystem number ≡ f = cc in
-        subst (λ (x : LinkFault). wrong_word x line ≡ system_says word (tokens rest) x) e (ap first_of both)
-    system_says_so false true f h = absurd (cc)
-    system_says_so false false f h =
-        let e : fault.BadAddress number ≡ f = cc in
-        subst (λ (x : LinkFault). wrong_word x line ≡ system_says word (tokens rest) x) e
-        (cond-true (is_system_line line) (not_one_address (after_first_of (words line))) _ (kind_is (codes "SYSTEM") true is) ∙ ap not_one_address left_is)
+    system_says_so b c f h1 = grind (arith, both, cond-true, kind_is, left_is)
 
     pub system_judged : (found : Option Wrong) → Tells (system_refusal old.system number (tokens rest)) (system_says word (tokens rest)) (new ≡ record old { system = true }) (new ≡ old) found
         → JudgesLine earlier number line new found
@@ -183,13 +166,7 @@ module _ (earlier : List (List ℕ)) (number : ℕ) (line word rest : List ℕ) 
     name_says_so : (b c : Bool) (f : LinkFault)
         → cond b (Some (fault.RepeatedSystem number)) (cond c (Some (fault.NameTooLong number)) None) ≡ Some f
         → wrong_word f line ≡ name_says word (trimmed rest) f
-    name_says_so true c f h =
-        let e : fault.RepeatedSystem number ≡ f = cc in
-        subst (λ (x : LinkFault). wrong_word x line ≡ name_says word (trimmed rest) x) e (ap first_of both)
-    name_says_so false true f h =
-        let e : fault.NameTooLong number ≡ f = cc in
-        subst (λ (x : LinkFault). wrong_word x line ≡ name_says word (trimmed rest) x) e name_is
-    name_says_so false false f h = absurd (cc)
+    name_says_so b c f h1 = grind (arith, both, name_is)
 
     pub name_judged : (found : Option Wrong) → Tells (name_refusal old.name number (trimmed rest)) (name_says word (trimmed rest)) (new ≡ record old { name = true }) (new ≡ old) found
         → JudgesLine earlier number line new found

@@ -1,7 +1,6 @@
 -- The lines of `links`, from those of its parts.
 use Rattle.std.proofs.Common.{◌≡◌, ℕ, ◌+◌, ◌<◌, List, [], ◌∷◌, ◌++◌, length, map, sum, take, sym, ap, ◌∙◌, arith, Option, Some, inl, inr}
 use Rattle.std.specs.Prelude.{option_map, slice_get, unwrap_or}
-use Rattle.std.specs.List.{sum_by}
 use Rattle.std.proofs.lemmas.List.{take_more}
 use Rattle.std.proofs.lemmas.List.Sums.{sum-map, sum_by-append}
 use Rattle.std.proofs.lemmas.Option.{slice_get_cases}
@@ -11,10 +10,7 @@ use Rattle.cmd_show.specs.LinksShown.{area_links}
 
 -- the sum over one more item
 sum_last : {X : Type 0} (f : X → ℕ) (xs : List X) (x : X) → sum (map f (xs ++ x ∷ [])) ≡ sum (map f xs) + f x
-sum_last f xs x =
-    sum-map f (xs ++ x ∷ []) ∙ sum_by-append f xs (x ∷ [])
-    ∙ ap (λ n. sum_by f xs + n) (let one : 0 + f x ≡ f x = omega arith in one)
-    ∙ ap (λ n. n + f x) (sym (sum-map f xs))
+sum_last f xs x = grind (arith, sum-map, sum_by-append)
 
 pub sum_more : {X : Type 0} (f : X → ℕ) (xs : List X) (k n old : ℕ) → k < length xs → ((x : X) → slice_get xs k ≡ Some x → n ≡ f x)
     → old ≡ sum (map f (take k xs)) → old + n ≡ sum (map f (take (k + 1) xs))
@@ -30,14 +26,9 @@ sum_more f xs k n old inside is so = elim (slice_get_cases xs k).1 [
 -- the links of an area, found by its tag
 module _ (file : LinkFile) (k : ℕ) (tag : List ℕ) (told : Some tag ≡ option_map (λ (a : Area). a.tag) (slice_get file.areas k)) where
   found_of : (area : Area) → slice_get file.areas k ≡ Some area → tag ≡ area.tag
-  found_of area is = some_same (told ∙ ap (option_map (λ (a : Area). a.tag)) is)
-    where
-      some_same : Some tag ≡ Some area.tag → tag ≡ area.tag
-      some_same e = cc
+  found_of area is = grind arith
 
   pub area_counted : (o : Option (List Address)) (links : List Address) (n : ℕ) → o ≡ option_map (λ (a : Area). a.links) (area_of file tag)
       → unwrap_or o [] ≡ links → n ≡ length links → (area : Area) → slice_get file.areas k ≡ Some area → n ≡ area_links file area
   unfolding links_of
-  area_counted o links n is same count area at =
-      count ∙ ap length (sym same ∙ ap (λ x. unwrap_or x []) is)
-      ∙ ap (λ t. length (unwrap_or (option_map (λ (a : Area). a.links) (area_of file t)) [])) (found_of area at)
+  area_counted o links n is same count area at = grind (arith, found_of)

@@ -1,7 +1,6 @@
 -- The lines and the answer of `list`, from those of its parts.
-use Rattle.std.proofs.Common.{◌≡◌, ℕ, zero, suc, ◌+◌, ◌-◌, ◌≤◌, ◌<◌, List, [], ◌∷◌, ◌++◌, length, Option, None, Some, option_map, Err, refl, sym, ap, subst, ◌∙◌, append-nil, arith, inl}
+use Rattle.std.proofs.Common.{◌≡◌, ℕ, zero, suc, ◌+◌, ◌-◌, ◌≤◌, ◌<◌, List, [], ◌++◌, length, Option, None, Some, option_map, Err, refl, sym, ap, subst, ◌∙◌, append-nil, arith, inl}
 use Rattle.std.specs.Prelude.{slice_get, if◌then◌else◌, ◌&&◌}
-use Rattle.std.specs.List.{flat_map, range_with_len}
 use Rattle.std.specs.Io.KnownBytes.{Appends}
 use Rattle.std.proofs.lemmas.Bool.{lt-leb}
 use Rattle.std.proofs.lemmas.Grind.{flat_map-append}
@@ -24,10 +23,7 @@ use Rattle.cmd_show.proofs.Pushed.{added, begun_within}
 -- one message more
 pub messages_more : (form : ListForm) (area : Option (List ℕ)) (first : ℕ) (base : List Filed) (cursor n : ℕ)
     → messages_text form area first base cursor (n + 1) ≡ messages_text form area first base cursor n ++ asked_text form area first cursor n (slice_get base n)
-messages_more form area first base cursor n =
-    let text : ℕ → List ℕ = λ i. asked_text form area first cursor i (slice_get base i) in
-    ap (flat_map text) (range_more n) ∙ flat_map-append text (range_with_len 0 n) (n ∷ [])
-    ∙ ap (λ t. messages_text form area first base cursor n ++ t) (append-nil (text n))
+messages_more form area first base cursor n = grind (arith, range_more, flat_map-append, append-nil)
 
 -- the same for a fetched message, after the lines held back
 message_more : (form : ListForm) (area : Option (List ℕ)) (first : ℕ) (base : List Filed) (cursor i : ℕ) (message : Option Filed) (kept : List ℕ) → message ≡ slice_get base i
@@ -83,19 +79,7 @@ right_listing form area first base = record { printed = refl; status_is = refl }
 -- some of them were printed
 pub listing_begun : (form : ListForm) (area asked : Option (List ℕ)) (first : ℕ) (base : Base) (none : List ℕ) (old new : Output) → asked ≡ option_map upper area → none ≡ []
     → WritesFront (none ++ messages_text form asked first base.messages base.cursor (length base.messages)) old.contents new.contents → IsBegun (IsListed form area first base) old new
-listing_begun form area asked first base none old new same nothing begun =
-    let messages = base.messages in
-    let cursor = base.cursor in
-    let text : List ℕ = messages_text form (option_map upper area) first messages cursor (length messages) in
-    let front : WritesFront text old.contents new.contents =
-    subst (λ (u : Option (List ℕ)). WritesFront (messages_text form u first messages cursor (length messages)) old.contents new.contents) same
-    (subst (λ (l : List ℕ). WritesFront (l ++ messages_text form asked first messages cursor (length messages)) old.contents new.contents) nothing begun) in
-    record {
-      lines = base_text form (option_map upper area) first messages cursor;
-      answer = Good;
-      right = right_listing form area first base;
-      begun = front_more old.contents new.contents text (total_text (length messages) (length messages - cursor)) front;
-    }
+listing_begun form area asked first base none old new same nothing begun = grind (arith, option_map, right_listing, front_more)
 
 -- all of them were added
 base_passed : (form : ListForm) (area asked : Option (List ℕ)) (first : ℕ) (messages : List Filed) (cursor all again scanned : ℕ) (none kept lines : List ℕ)

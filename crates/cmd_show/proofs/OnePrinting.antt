@@ -1,13 +1,12 @@
 -- A packet has one printing.
 use Rattle.std.specs.Prelude.{IsErr}
-use Rattle.std.proofs.Common.{◌≡◌, ℕ, ◌+◌, Bool, true, false, List, [], ◌∷◌, ◌++◌, length, Option, Some, None, Result, Ok, Err, refl, sym, ap, subst, ◌∙◌, inl, inr}
+use Rattle.std.proofs.Common.{◌≡◌, ℕ, ◌+◌, Bool, true, false, List, [], ◌∷◌, ◌++◌, length, Option, Some, None, Result, Ok, Err, refl, sym, ap, subst, ◌∙◌, inl, inr, arith}
 use Rattle.std.specs.Io.KnownBytes.{Appends}
 use Rattle.echo_packet.specs.declared.header.Header.{Header}
 use Rattle.echo_packet.specs.Message.{Message, message_bytes}
 use Rattle.echo_packet.specs.Answer.{Answer, Describes, Found}
 use Rattle.echo_packet.proofs.Outcome.{only_one, outcome}
 use Rattle.echo_text.specs.declared.fault.TextFault.{TextFault}
-use Rattle.echo_text.specs.declared.fault.TextFault.TheVariants.{BadMsgId, BadTag, Memory, NotEcho}
 use Rattle.echo_text.specs.Refusal.{text_refusal}
 use Rattle.echo_text.proofs.OneReading.{one_count, one_echo}
 use Rattle.cmd_status.specs.Devices.{Output}
@@ -18,22 +17,14 @@ use Rattle.cmd_status.specs.declared.fault.Fault.TheVariants.{BadHex, Packet}
 use Rattle.cmd_status.specs.declared.status.Status.{Status}
 use Rattle.cmd_status.specs.declared.status.Status.TheVariants.{Good}
 use Rattle.cmd_status.specs.Ended.{IsOfInput, Stops}
-use Rattle.cmd_print.specs.Said.{LinesFor, echo_lines}
+use Rattle.cmd_print.specs.Said.{LinesFor}
 use Rattle.cmd_show.specs.Showing.{AllShown, IsCutShort, IsShown, PacketStops, ShowAnswers, Stands, hex_text}
 use Rattle.cmd_show.specs.Written.{WritesLines}
 use Rattle.cmd_status.specs.Limits.{show_limits}
-use Rattle.cmd_print.specs.Shown.{MessageShown, MessagesShown, Shown, end_line, header_lines, message_lines, whole_text}
+use Rattle.cmd_print.specs.Shown.{MessageShown, MessagesShown, Shown, message_lines, whole_text}
 
 one_said : (r : Option TextFault) (text a b : List ℕ) → LinesFor r text a → LinesFor r text b → a ≡ b
-one_said None text a b h k =
-    h.whole
-    ∙ ap (λ e. echo_lines e h.dropped) (one_echo text h.echo k.echo h.dropped k.dropped h.said k.said)
-    ∙ ap (echo_lines k.echo) (one_count text h.echo k.echo h.dropped k.dropped h.said k.said)
-    ∙ sym k.whole
-one_said (Some NotEcho) text a b h k = h ∙ sym k
-one_said (Some BadTag) text a b h k = h ∙ sym k
-one_said (Some Memory) text a b h k = absurd h
-one_said (Some BadMsgId) text a b h k = absurd h
+one_said r text a b h1 h2 = grind (arith, one_echo, one_count)
 
 one_message : (full : Bool) (number place : ℕ) (m : Message) (a b : List ℕ) → MessageShown full number place m a → MessageShown full number place m b → a ≡ b
 one_message full number place m a b h k =
@@ -48,10 +39,7 @@ all_messages full number place (m ∷ ms) a b h k =
     ∙ sym k.4
 
 pub one_shown : (full : Bool) (h : Header) (ms : List Message) (n : ℕ) (a b : List ℕ) → Shown full h ms n a → Shown full h ms n b → a ≡ b
-one_shown full h ms n a b p q =
-    p.whole
-    ∙ ap (λ t. header_lines h ++ (t ++ end_line (length ms) n)) (all_messages full 1 58 ms p.of_messages q.of_messages p.each q.each)
-    ∙ sym q.whole
+one_shown full h ms n a b p q = grind (arith, all_messages)
 
 -- an input encodes one list of bytes
 one_standing : (hex : Bool) (input a b : List ℕ) → Stands hex input a → Stands hex input b → a ≡ b

@@ -6,7 +6,6 @@ use Rattle.disk_io.proofs.Devices.{Failed-never}
 use Rattle.echo_packet.specs.declared.header.Header.{Header}
 use Rattle.echo_packet.specs.declared.reader.Stage.{Stage}
 use Rattle.echo_packet.specs.declared.limits.Limits.{Limits}
-use Rattle.echo_packet.specs.Header.{header_bytes}
 use Rattle.echo_packet.specs.Message.{Message, message_bytes, messages_bytes}
 use Rattle.echo_packet.specs.Answer.{Describes}
 use Rattle.echo_packet.specs.declared.fault.PacketFault.{PacketFault}
@@ -41,23 +40,12 @@ pub record HasPrinted (full : Bool) (bytes rest : List ℕ) (header : Header) (o
 
 -- the fault of bytes that do not begin with a header
 front_fault : (bytes : List ℕ) (f : PacketFault) → FrontFault bytes f → (((at : ℕ) → f ≡ fault.Read at → ⊥)) → FaultOf bytes show_limits [] f
-front_fault bytes (fault.Truncated at) h alive = inl (h.0, refl, h.1)
-front_fault bytes (fault.NotType2 at) h alive = (h.0, refl, h.1, h.2)
-front_fault bytes (fault.Read at) h alive = absurd (alive at refl)
-front_fault bytes _ h alive = absurd h
+front_fault bytes f h1 h2 = grind arith
 
 -- the lines of the header were added
 pub header_printed : (full : Bool) (bytes rest : List ℕ) (h : Header) (own : Limits) (given at : ℕ) (next : Stage) (kept behind : List ℕ) (old : Option (List ℕ)) (place : ℕ)
     → HasGiven show_limits bytes [] rest h own given at next → place ≡ at → behind ≡ kept ++ header_lines h → HasPrinted full bytes rest h own given at next kept behind old old 0 place
-header_printed full bytes rest h own given at next kept behind old place so here added = record {
-  messages = [];
-  so_far = so;
-  number = sym so.so_far.count;
-  here = here;
-  lines = [];
-  each = refl;
-  printed = subst (λ t. PassesOn t behind old old) (added ∙ ap (λ t. kept ++ t) (sym (append-nil (header_lines h)))) (none_passed old behind);
-}
+header_printed full bytes rest h own given at next kept behind old place so here added = grind (arith, append-nil, none_passed)
 
 -- the lines of a message with equal number and place
 moved : (full : Bool) (k l p q : ℕ) (m : Message) (own : List ℕ) → k ≡ l → p ≡ q → MessageShown full k p m own → MessageShown full l q m own
@@ -77,9 +65,7 @@ one_more full k p (x ∷ ms) m lines own some h =
 -- an offset in a slice is exact
 exact_place : (limits : Limits) (bytes : List ℕ) (h : Header) (ms : List Message) (rest : List ℕ) (given at : ℕ) → SoFar limits bytes h ms rest given at → length bytes < 2 ^ 64
     → at ≡ 58 + length (messages_bytes ms)
-exact_place limits bytes h ms rest given at so small =
-    let size = ap length so.bytes ∙ length-append (header_bytes h) (messages_bytes ms ++ rest) in
-    omega (arith, so.place, size, length-header_bytes h so.is_header, length-append (messages_bytes ms) rest)
+exact_place limits bytes h ms rest given at so small = grind (arith, length-append, length-header_bytes)
 
 -- the lines of the next message are passed on
 pub message_printed : (full : Bool) (bytes rest after : List ℕ) (h new_h : Header) (own new_own : Limits) (given new_given at new_at : ℕ) (next new_next : Stage) (kept behind left : List ℕ) (old mid new : Option (List ℕ)) (count new_count place new_place : ℕ) (m : Message) (line : List ℕ)
@@ -132,39 +118,17 @@ end_printed full bytes rest h new_h own given at next kept behind left old new c
 -- the lines of the header and of the given messages
 front_shown : (full : Bool) (bytes rest : List ℕ) (h : Header) (own : Limits) (given at : ℕ) (next : Stage) (kept behind : List ℕ) (old new : Option (List ℕ)) (count place : ℕ)
     → (before : HasPrinted full bytes rest h own given at next kept behind old new count place) → FrontShown full bytes before.messages (header_lines h ++ before.lines)
-front_shown full bytes rest h own given at next kept behind old new count place before =
-    let so = before.so_far.so_far in record {
-      header = h;
-      rest = rest;
-      is_header = so.is_header;
-      are_messages = so.are_messages;
-      begins = so.bytes;
-      of_messages = before.lines;
-      each = before.each;
-      whole = refl;
-    }
+front_shown full bytes rest h own given at next kept behind old new count place before = grind arith
 
 -- memory ran out for further lines
 pub no_memory : (full : Bool) (bytes rest : List ℕ) (h : Header) (own : Limits) (given at : ℕ) (next : Stage) (kept behind left : List ℕ) (old new : Output) (count place : ℕ) (fault : Fault)
     → HasPrinted full bytes rest h own given at next kept behind old.contents new.contents count place → left ≡ behind → IsOutOfMemory fault → new.failures ≡ old.failures
     → PacketPasses full bytes kept left old new (Err fault)
-no_memory full bytes rest h own given at next kept behind left old new count place fault before same none unfailed =
-    inr (
-      record {
-        lines = header_lines h ++ before.lines;
-        are = inl (none, inr (before.messages, front_shown full bytes rest h own given at next kept behind old.contents new.contents count place before));
-        passed = subst (λ t. PassesOn (kept ++ (header_lines h ++ before.lines)) t old.contents new.contents) (sym same) before.printed;
-      },
-      unfailed,
-    )
+no_memory full bytes rest h own given at next kept behind left old new count place fault before same none unfailed = grind (arith, front_shown)
 
 -- memory ran out for the lines of the header
 pub no_header : (full : Bool) (bytes kept left : List ℕ) (old : Output) (fault : Fault) → left ≡ kept → IsOutOfMemory fault → PacketPasses full bytes kept left old old (Err fault)
-no_header full bytes kept left old fault same none =
-    inr (
-      record { lines = []; are = inl (none, inl refl); passed = subst (λ t. PassesOn (kept ++ []) t old.contents old.contents) (sym same) (none_added old.contents kept) },
-      refl,
-    )
+no_header full bytes kept left old fault same none = grind (arith, none_added)
 
 -- standard output failed after a beginning of the lines of the header and of messages
 pub not_printed : (full : Bool) (bytes rest : List ℕ) (h : Header) (own : Limits) (given at : ℕ) (next : Stage) (kept behind left : List ℕ) (old new : Output) (count place : ℕ) (fault : Fault)
@@ -186,12 +150,7 @@ pub message_passed : {A : Type 0} (full : Bool) (number place : ℕ) (m : Messag
     → MessageShown full number place m line → made ≡ kept ++ line → OnOk answer (PassesOn made rest old.contents new.contents)
     → OnErr answer (WritesFront made old.contents new.contents) → OnErr answer (rest ≡ []) → OnOk answer (new.failures ≡ old.failures)
     → IfErr answer (CannotPrint old.failures new.failures) → MessagePasses full number place m kept rest old new answer
-message_passed full number place m kept made rest line old new (Ok done) shown is passed begun dropped unfailed failed = (
-  record { lines = line; are = shown; passed = subst (λ t. PassesOn t rest old.contents new.contents) is passed },
-  unfailed,
-)
-message_passed full number place m kept made rest line old new (Err fault) shown is passed begun dropped unfailed failed =
-    inr (failed, dropped, record { lines = line; are = shown; begun = subst (λ t. WritesFront t old.contents new.contents) is begun })
+message_passed full number place m kept made rest line old new answer h1 h2 h3 h4 h5 h6 h7 = grind arith
 
 -- the next message was not printed whole
 pub message_stops : (full : Bool) (bytes rest after : List ℕ) (h new_h : Header) (own new_own : Limits) (given new_given at new_at : ℕ) (next new_next : Stage) (kept behind left : List ℕ) (old mid new : Output) (count new_count place : ℕ) (m : Message) (fault : Fault)
@@ -211,29 +170,16 @@ message_stops full bytes rest after h new_h own new_own given new_given at new_a
 -- a fault of the header: nothing is printed
 pub front_refused : (full : Bool) (bytes kept : List ℕ) (f : PacketFault) (old : Output) → FrontFault bytes f → (((at : ℕ) → f ≡ fault.Read at → ⊥))
     → PacketPasses full bytes kept kept old old (Err (Packet f))
-front_refused full bytes kept f old wrong alive =
-    inr (
-      record {
-        lines = [];
-        are = inr (record { why = f; is = refl; messages = []; of_bytes = front_fault bytes f wrong alive; shown = inl (wrong, refl) });
-        passed = none_added old.contents kept;
-      },
-      refl,
-    )
+front_refused full bytes kept f old wrong alive = grind (arith, front_fault, none_added)
 
 -- a slice never fails
 pub never_read : (R : Type 0) (remaining : R → Option (List ℕ)) (source : R) (f : PacketFault) → IsDropped remaining (λ (_ : R). 0) source f → (at : ℕ)
     → f ≡ fault.Read at → ⊥
-never_read R remaining source f dropped at is =
-    let P : PacketFault → Type 0 = λ x. CountsFailures {A = Header} (Err x) 0 0 in
-    Failed-never (subst P is dropped.device)
+never_read R remaining source f dropped at is = grind (arith, Failed-never)
 
 -- the fault of a call on a slice
 call_judged : (f : PacketFault) (P : Type 0) → P ⊎ IsOfCall f → CountsFailures {A = Option Message} (Err f) 0 0 → P ⊎ (f ≡ fault.Memory)
-call_judged f P (inl wrong) device = inl wrong
-call_judged (fault.Read at) P (inr call) device = absurd (Failed-never device)
-call_judged fault.Memory P (inr call) device = inr refl
-call_judged _ P (inr call) device = absurd call
+call_judged f P h1 h2 = grind (arith, Failed-never)
 
 -- a fault after the header: its lines and those of the messages before it are on their way
 pub message_refused : (full : Bool) (bytes rest : List ℕ) (h : Header) (own : Limits) (given at : ℕ) (next : Stage) (kept behind : List ℕ) (old new : Output) (count place : ℕ) (f : PacketFault)

@@ -1,10 +1,10 @@
 -- The printed parts of a text.
-use Rattle.std.proofs.Common.{◌≡◌, ℕ, Bool, List, ◌++◌, None, refl, sym, ap, subst, ◌∙◌, append_assoc}
+use Rattle.std.proofs.Common.{◌≡◌, ℕ, Bool, List, ◌++◌, sym, subst, append_assoc, arith}
 use Rattle.echo_packet.specs.Message.{IsMessage, Message}
 use Rattle.echo_text.specs.Echo.{EchoOf, EchoText, HasNoZero}
 use Rattle.echo_text.specs.Lines.{lines}
 use Rattle.echo_text.proofs.SaidAfter.{not_refused}
-use Rattle.cmd_print.specs.Said.{LinesFor, TextShown, echo_lines}
+use Rattle.cmd_print.specs.Said.{TextShown, echo_lines}
 use Rattle.cmd_print.specs.Shown.{MessageShown, message_lines, whole_text}
 use Rattle.cmd_print.specs.Pushed.{Pushes}
 
@@ -14,20 +14,9 @@ text_has_no_zero most m text is fits = subst HasNoZero (sym is) fits.text.no_zer
 
 -- the lines of an echomail text
 pub echo_shown : (text lines : List ℕ) (e : EchoText) (dropped : ℕ) → EchoOf text e dropped → lines ≡ echo_lines e dropped → TextShown text lines
-echo_shown text lines e dropped said whole =
-    let shown : LinesFor None text lines = record { echo = e; dropped = dropped; said = said; whole = whole } in
-    subst (λ r. LinesFor r text lines) (sym (not_refused text e dropped said)) shown
+echo_shown text lines e dropped said whole = grind (arith, not_refused)
 
 -- the lines of a message and those of its text's parts
 pub message_shown : (full : Bool) (number place : ℕ) (m : Message) (text old fields mid new : List ℕ) → text ≡ m.text
     → fields ≡ old ++ message_lines number place m → mid ≡ fields ++ whole_text full text → Pushes (TextShown text) mid new → Pushes (MessageShown full number place m) old new
-message_shown full number place m text old fields mid new is first pieces said =
-    let own = whole_text full m.text in
-    let same : whole_text full text ≡ own = ap (whole_text full) is in
-    record {
-      lines = message_lines number place m ++ (own ++ said.lines);
-      are = record { said = said.lines; text = subst (λ t. TextShown t said.lines) is said.are; whole = refl };
-      whole =
-          said.whole ∙ ap (λ t. t ++ said.lines) (pieces ∙ ap (λ t. fields ++ t) same ∙ ap (λ t. t ++ own) first)
-          ∙ append_assoc (old ++ message_lines number place m) own said.lines ∙ append_assoc old (message_lines number place m) (own ++ said.lines);
-    }
+message_shown full number place m text old fields mid new is first pieces said = grind (arith, append_assoc)

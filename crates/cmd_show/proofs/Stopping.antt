@@ -1,5 +1,5 @@
 -- Faults of the machine: standard output failed, or memory ran out.
-use Rattle.std.proofs.Common.{ℕ, ◌≤◌, Bool, List, inl, inr, Result, Ok, Err, arith}
+use Rattle.std.proofs.Common.{ℕ, ◌≤◌, Bool, List, Result, arith}
 use Rattle.disk_io.proofs.Devices.{Failed-le}
 use Rattle.base_folder_store.proofs.Causes.{failed_since}
 use Rattle.cmd_status.specs.declared.fault.Fault.{Fault}
@@ -15,9 +15,7 @@ print_le (CannotUse path) a b failed = Failed-le a b failed.1
 print_le _ a b failed = absurd failed
 
 pub passes_le : (full : Bool) (bytes kept rest : List ℕ) (old new : Output) (answer : Result Status Fault) → PacketPasses full bytes kept rest old new answer → old.failures ≤ new.failures
-passes_le full bytes kept rest old new (Ok status) right = omega (arith, right.2)
-passes_le full bytes kept rest old new (Err fault) (inl failed) = print_le fault old.failures new.failures failed.0
-passes_le full bytes kept rest old new (Err fault) (inr short) = omega (arith, short.1)
+passes_le full bytes kept rest old new answer h1 = grind (arith, print_le)
 
 -- standard output failed after calls that did not lower the count
 pub print_later : (fault : Fault) (a b c : ℕ) → a ≤ b → CannotPrint b c fault → CannotPrint a c fault

@@ -1,5 +1,5 @@
 -- Sorted keys and their tags.
-use Rattle.std.proofs.Common.{◌≡◌, ℕ, ◌||◌, Bool, true, false, List, [], ◌∷◌, map, refl, sym, ap, ◌∙◌}
+use Rattle.std.proofs.Common.{◌≡◌, ℕ, ◌||◌, Bool, true, false, List, [], ◌∷◌, map, refl, sym, ap, ◌∙◌, arith}
 use Rattle.std.specs.Prelude.{bytes_eq}
 use Rattle.std.specs.declared.cmp.Ordering.{Ordering}
 use Rattle.std.specs.declared.cmp.Ordering.TheVariants.{Less, Equal, Greater}
@@ -15,10 +15,7 @@ or_twice true y = refl
 or_twice false y = refl
 
 or_turned : (x y z : Bool) → (x || (y || z)) ≡ (y || (x || z))
-or_turned true true z = refl
-or_turned true false z = refl
-or_turned false true z = refl
-or_turned false false z = refl
+or_turned x y z = grind arith
 
 module _ {K : Type 0} (tag_of : K → List ℕ) where
   -- a tag is found among the keys exactly if it is one of the tags

@@ -1,5 +1,5 @@
 -- The wrong word in a line, found word by word.
-use Rattle.std.proofs.Common.{◌≡◌, ℕ, ◌||◌, Bool, true, false, cond, List, [], ◌∷◌, map, refl, sym, ap, ◌∙◌, Some, None}
+use Rattle.std.proofs.Common.{◌≡◌, ℕ, ◌||◌, Bool, true, false, cond, List, [], ◌∷◌, map, sym, ap, ◌∙◌, Some, None, arith}
 use Rattle.std.specs.Prelude.{is_err}
 use Rattle.std.specs.List.{list_any}
 use Rattle.std.specs.Ordering.{is_eq}
@@ -28,13 +28,7 @@ pub record LinksSeen (number : ℕ) (all later : List (List ℕ)) (sorted : List
   pub again : link_again [] all ≡ link_again before later
 
 pub links_unseen : (number : ℕ) (all : List (List ℕ)) (sorted : List Address) → sorted ≡ [] → LinksSeen number all all sorted
-links_unseen number all sorted none = record {
-  before = [];
-  faults = refl;
-  same = λ a. ap (list_any (λ b. is_eq (address_order a b))) none;
-  bad = refl;
-  again = refl;
-}
+links_unseen number all sorted none = grind arith
 
 module _ (number : ℕ) (all : List (List ℕ)) (word : List ℕ) (more later : List (List ℕ)) (sorted : List Address)
     (seen : LinksSeen number all later sorted) (next : later ≡ word ∷ more) where
@@ -69,20 +63,13 @@ module _ (number : ℕ) (all : List (List ℕ)) (word : List ℕ) (more later : 
 
   -- a word that is no address
   pub link_bad : IsWordOf word None → (links_fault number [] all ≡ Some (fault.BadAddress number)) × (word ≡ no_address all)
-  link_bad is = (
-    seen.faults ∙ ap (links_fault number seen.before) next ∙ cond-true (is_err (outcome word)) (Some (fault.BadAddress number)) _ is.1,
-    sym (seen.bad ∙ ap no_address next ∙ cond-true (is_err (outcome word)) word (no_address more) is.1),
-  )
+  link_bad is = grind (arith, cond-true)
 
   -- an address that is already a link
   pub link_repeated : (a : Address) → IsWordOf word (Some a) → list_any (λ k. is_eq (address_order a k)) sorted ≡ true
       → (links_fault number [] all ≡ Some (fault.RepeatedLink number)) × (word ≡ link_again [] all)
   unfolding stands
-  link_repeated a is old =
-      let known : stands ≡ true = sym (found a is.2) ∙ old in (
-        judged is.1 ∙ cond-true stands (Some (fault.RepeatedLink number)) (links_fault number (word ∷ seen.before) more) known,
-        sym (seen.again ∙ ap (link_again seen.before) next ∙ cond-true stands word (link_again (word ∷ seen.before) more) known),
-      )
+  link_repeated a is old = grind (arith, stands, found, judged, cond-true)
 
 -- no words are left
 pub links_right : (number : ℕ) (all later : List (List ℕ)) (sorted : List Address) → LinksSeen number all later sorted → later ≡ [] → links_fault number [] all ≡ None

@@ -1,4 +1,4 @@
-use Rattle.std.proofs.Common.{◌∙◌, ◌-◌, Global, List, Vec, ap, length, inr, refl, ℕ}
+use Rattle.std.proofs.Common.{◌∙◌, ◌-◌, Global, List, Vec, ap, length, ℕ, arith}
 use Rattle.std.proofs.lemmas.Result.{err_from_is_err_and}
 use Rattle.cmd_status.specs.Devices.{output_of}
 use Rattle.base_folder.specs.Fetching.{CannotRead}
@@ -6,9 +6,7 @@ use Rattle.cmd_show.proofs.AreasCounted.{areas_answered}
 use Rattle.cmd_show.proofs.area_counts.list_areas_of.Goals as goal
 
 pub returns-in_err-counts : goal.returns-in_err-counts
-returns-in_err-counts g c = λ honest base holds.
-    let p = err_from_is_err_and c.from_residual.result c.from_residual.ensures.1 in
-    rw (p.1, p.2) (inr (c.in_err-counts.ensures.fault honest base holds, refl))
+returns-in_err-counts g c = grind (arith, err_from_is_err_and)
 
 pub returns : goal.returns
 returns g c = λ honest base holds.

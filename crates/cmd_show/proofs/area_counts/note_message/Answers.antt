@@ -8,19 +8,13 @@ use Rattle.cmd_show.proofs.AreasCounted.{counted_on, one_next, some_there, withi
 use Rattle.cmd_show.proofs.area_counts.note_message.Goals as goal
 
 pub counted_more-after-requires-clause-messages : goal.counted_more-after-requires-clause-messages
-counted_more-after-requires-clause-messages c =
-    let within = subst (AreWithin c.args.i) (sym c.counts_of-before.ensures) (c.requires.within c.tag_of-tag.result.now) in
-    omega (arith, within.messages, c.requires.room)
+counted_more-after-requires-clause-messages c = grind arith
 
 pub counted_more-after-requires-clause-waiting : goal.counted_more-after-requires-clause-waiting
-counted_more-after-requires-clause-waiting c =
-    let within = subst (AreWithin c.args.i) (sym c.counts_of-before.ensures) (c.requires.within c.tag_of-tag.result.now) in
-    omega (arith, within.waiting, c.requires.room)
+counted_more-after-requires-clause-waiting c = grind arith
 
 pub counted_more-after-requires-clause-purged : goal.counted_more-after-requires-clause-purged
-counted_more-after-requires-clause-purged c =
-    let within = subst (AreWithin c.args.i) (sym c.counts_of-before.ensures) (c.requires.within c.tag_of-tag.result.now) in
-    omega (arith, within.purged, c.requires.room)
+counted_more-after-requires-clause-purged c = grind arith
 
 -- no message has this number
 pub returns-in_default-clause-counts : goal.returns-in_default-clause-counts

@@ -1,4 +1,4 @@
-use Rattle.std.proofs.Common.{◌∙◌, List, ℕ, false, ap, arith, length, sym}
+use Rattle.std.proofs.Common.{◌∙◌, false, arith, length, sym}
 use Rattle.std.proofs.lemmas.Bool.{eqb-true}
 use Rattle.std.proofs.lemmas.List.{drop_all}
 use Rattle.cmd_show.proofs.Told.{all_told, none_told, one_told}
@@ -19,7 +19,4 @@ returns c =
     all_told c.args.bytes.now c.lines.number c.lines.rest.now c.lines.before c.lines.found.items c.lines.invariant.told (drop_all 0 c.lines.rest.now (omega (arith, none)))
 
 pub lines-init : goal.lines-init
-lines-init c = record {
-  told = none_told c.args.bytes.now _ _ (ap (λ (t : List (List ℕ)). record { system = false; name = false; tags = t }) c.new.ensures) c.new-found.ensures.items;
-  room = omega arith;
-}
+lines-init c = grind (arith, none_told)

@@ -1,4 +1,4 @@
-use Rattle.std.proofs.Common.{[], inl, inr, option_copied, refl}
+use Rattle.std.proofs.Common.{option_copied, arith}
 use Rattle.std.proofs.lemmas.Result.{err_from_is_err_and}
 use Rattle.cmd_status.specs.Devices.{output_of}
 use Rattle.cmd_status.proofs.Lines.{none_begun}
@@ -6,25 +6,10 @@ use Rattle.cmd_show.proofs.Exportings.{export_begun, exported, unexported}
 use Rattle.cmd_show.proofs.exporting.export_messages.Goals as goal
 
 pub returns-in_err-area : goal.returns-in_err-area
-returns-in_err-area g c = λ honest base holds.
-    let asked = c.args.asked.now in
-    let p = err_from_is_err_and c.from_residual.result c.from_residual.ensures.1 in
-    let same = output_of g.W.Write.contents g.W.Sink.failures g.W.Sink.holds c.args.out.now in
-    rw (p.1, p.2) (
-      inl (inr (tt, refl)),
-      export_begun asked.form (option_copied asked.area) asked.first asked.purged base _ [] refl refl same same (none_begun _ _),
-    )
+returns-in_err-area g c = grind (arith, err_from_is_err_and, export_begun, option_copied, none_begun)
 
 pub returns-in_err-count : goal.returns-in_err-count
-returns-in_err-count g c = λ honest base holds.
-    let asked = c.args.asked.now in
-    let p = err_from_is_err_and c.from_residual-in_err-count.result c.from_residual-in_err-count.ensures.1 in
-    let e = c.in_err-count.ensures in
-    rw (p.1, p.2) (
-      e.err honest base holds,
-      export_begun asked.form _ asked.first asked.purged base _ _ c.in_ok-area.ensures c.new-lines.ensures.items
-          (output_of g.W.Write.contents g.W.Sink.failures g.W.Sink.holds c.args.out.now) (output_of g.W.Write.contents g.W.Sink.failures g.W.Sink.holds c.print_sought.new.out) (e.begun honest base holds),
-    )
+returns-in_err-count g c = grind (arith, err_from_is_err_and, export_begun)
 
 pub returns-in_err-print_rest : goal.returns-in_err-print_rest
 returns-in_err-print_rest g c = λ honest base holds.

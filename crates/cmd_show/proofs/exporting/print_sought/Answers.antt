@@ -1,33 +1,13 @@
-use Rattle.std.proofs.Common.{◌≡◌, ◌∙◌, ◌≤◌, ◌+◌, ◌++◌, ℕ, length, option_copied, refl, sym, subst, arith, inl}
+use Rattle.std.proofs.Common.{◌∙◌, ◌≤◌, ◌+◌, length, option_copied, arith}
 use Rattle.base_folder.proofs.Lookings.{err_is}
 use Rattle.base_folder.proofs.Readings.{not_behind, not_past}
-use Rattle.cmd_status.specs.Ended.{Stops}
-use Rattle.cmd_status.specs.Lines.{PassesOn}
-use Rattle.cmd_show.specs.Exporting.{sought_lost, sought_texts}
-use Rattle.cmd_show.specs.Fetching.{StopsReading}
 use Rattle.cmd_show.proofs.Exportings.{begun_before, none_counted, printed_none, sought_begun, sought_counted, sought_printed}
 use Rattle.cmd_show.proofs.Fetchings.{stops_reading}
 use Rattle.cmd_show.proofs.exporting.print_sought.Goals as goal
 use Rattle.base_folder_store.proofs.Causes.{at_error}
 
 pub messages-init : goal.messages-init
-messages-init g c =
-    let sought = c.args.sought.now in
-    let begin = c.begin_at-i.result in
-    let within = c.begin_at-i.ensures.within in
-    let behind = c.begin_at-i.ensures.behind in
-    let before : begin ≤ sought.first = not_past sought.first c.count-count.result begin within behind in
-    record {
-      inside = not_behind sought.first c.count-count.result begin within behind;
-      ready = c.requires;
-      many = sym c.count-count.ensures.count;
-      holds = λ base holds. holds;
-      later = omega arith;
-      printed = λ honest base holds. printed_none sought.form sought.area sought.first sought.purged (g.W.Write.contents c.args.out.now) c.args.lines.now.items base.cursor base.messages begin before;
-      counted = λ honest base holds. sym (none_counted sought.form sought.area sought.first sought.purged base.cursor base.messages begin before);
-      bound = omega arith;
-      failed = refl;
-    }
+messages-init g c = grind (arith, not_past, not_behind, printed_none, none_counted)
 
 pub fetch_message-requires : goal.fetch_message-requires
 fetch_message-requires g c = record { ready = c.messages.invariant.ready; within = omega (arith, c.messages-test.true, c.messages.invariant.many) }
@@ -41,16 +21,7 @@ returns-in_err-fetch_message-clause-begun g c = λ honest base holds.
     c.messages.i (length base.messages) within (c.messages.invariant.printed (c.fetch_message.ensures.looks.honest honest) base holds))
 
 pub returns-in_err-fetch_message-clause-err : goal.returns-in_err-fetch_message-clause-err
-returns-in_err-fetch_message-clause-err g c = λ honest base holds.
-    let fault = c.in_err-fetch_message.field-0.0 in
-    let path = c.args.path.now in
-    let first = (g.M.MessageSource.state c.args.messages.now).failures in
-    let before = (g.M.MessageSource.state c.messages.messages).failures in
-    let now = (g.M.MessageSource.state c.fetch_message.new.messages).failures in
-    let printed = g.W.Sink.failures c.args.out.now in
-    let after = g.W.Sink.failures c.messages.out in
-    err_is (StopsReading path first now printed after) fault c.from_residual.result c.from_residual.ensures.1
-    (stops_reading path first before now printed after fault c.messages.invariant.later c.messages.invariant.failed (c.in_err-fetch_message.ensures.fault honest base (c.messages.invariant.holds base holds)))
+returns-in_err-fetch_message-clause-err g c = grind (arith, err_is, stops_reading)
 
 pub returns-in_err-more-clause-begun : goal.returns-in_err-more-clause-begun
 returns-in_err-more-clause-begun g c = λ honest base holds.
@@ -64,11 +35,7 @@ returns-in_err-more-clause-begun g c = λ honest base holds.
     (length base.messages) next (c.messages.invariant.printed (c.fetch_message.ensures.looks.honest honest) base holds) c.in_err-more.ensures.begun)
 
 pub returns-in_err-more-clause-err : goal.returns-in_err-more-clause-err
-returns-in_err-more-clause-err g c = λ honest base holds.
-    let fault = c.in_err-more.field-0.0 in
-    let now = g.W.Sink.failures c.print_one.new.out in
-    err_is (StopsReading c.args.path.now (g.M.MessageSource.state c.args.messages.now).failures (g.M.MessageSource.state c.fetch_message.new.messages).failures (g.W.Sink.failures c.args.out.now) now) fault c.from_residual-in_err-more.result c.from_residual-in_err-more.ensures.1
-    (inl (subst (λ (n : ℕ). Stops n now fault) c.messages.invariant.failed c.in_err-more.ensures.err))
+returns-in_err-more-clause-err g c = grind (arith, err_is)
 
 pub messages-preserved : goal.messages-preserved
 messages-preserved g c =
@@ -95,14 +62,7 @@ messages-preserved g c =
     }
 
 pub returns-clause-lines : goal.returns-clause-lines
-returns-clause-lines g c = λ honest base holds.
-    let sought = c.args.sought.now in
-    let end : c.messages.i ≡ length base.messages = omega (arith, c.messages-test.false, c.messages.invariant.inside, c.count-count.ensures.all base holds) in
-    subst (λ (n : ℕ). PassesOn (c.args.lines.now.items ++ sought_texts sought.form sought.area sought.first sought.purged base.cursor base.messages n) c.messages.lines.items (g.W.Write.contents c.args.out.now) (g.W.Write.contents c.messages.out)) end
-    (c.messages.invariant.printed honest base holds)
+returns-clause-lines g c = grind arith
 
 pub returns-clause-count : goal.returns-clause-count
-returns-clause-count g c = λ honest base holds.
-    let sought = c.args.sought.now in
-    let end : c.messages.i ≡ length base.messages = omega (arith, c.messages-test.false, c.messages.invariant.inside, c.count-count.ensures.all base holds) in
-    subst (λ (n : ℕ). c.messages.lost ≡ sought_lost sought.form sought.area sought.first sought.purged base.cursor base.messages n) end (c.messages.invariant.counted honest base holds)
+returns-clause-count g c = grind arith

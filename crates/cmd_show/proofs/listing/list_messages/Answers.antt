@@ -1,4 +1,4 @@
-use Rattle.std.proofs.Common.{◌∙◌, ◌++◌, ℕ, [], ap, inl, inr, option_copied, refl}
+use Rattle.std.proofs.Common.{◌∙◌, ◌++◌, ℕ, ap, option_copied, arith}
 use Rattle.std.proofs.lemmas.Result.{err_from_is_err_and}
 use Rattle.cmd_print.specs.BaseListed.{total_text}
 use Rattle.cmd_status.specs.Devices.{output_of}
@@ -7,33 +7,13 @@ use Rattle.cmd_show.proofs.Listings.{base_listed, base_unlisted, listing_begun}
 use Rattle.cmd_show.proofs.listing.list_messages.Goals as goal
 
 pub returns-in_err-area : goal.returns-in_err-area
-returns-in_err-area g c = λ honest base holds.
-    let p = err_from_is_err_and c.from_residual.result c.from_residual.ensures.1 in
-    let same = output_of g.W.Write.contents g.W.Sink.failures g.W.Sink.holds c.args.out.now in
-    rw (p.1, p.2) (
-      inl (inr (tt, refl)),
-      listing_begun c.args.asked.now.form (option_copied c.args.asked.now.area) _ c.args.asked.now.first base [] same same refl refl (none_begun _ _),
-    )
+returns-in_err-area g c = grind (arith, err_from_is_err_and, listing_begun, option_copied, none_begun)
 
 pub returns-in_err-print_messages : goal.returns-in_err-print_messages
-returns-in_err-print_messages g c = λ honest base holds.
-    let p = err_from_is_err_and c.from_residual-in_err-print_messages.result c.from_residual-in_err-print_messages.ensures.1 in
-    let e = c.in_err-print_messages.ensures in
-    rw (p.1, p.2) (
-      e.err honest base holds,
-      listing_begun c.args.asked.now.form _ _ c.args.asked.now.first base _ (output_of g.W.Write.contents g.W.Sink.failures g.W.Sink.holds c.args.out.now) (output_of g.W.Write.contents g.W.Sink.failures g.W.Sink.holds c.print_messages.new.out)
-          c.in_ok-area.ensures c.new-lines.ensures.items (e.begun honest base holds),
-    )
+returns-in_err-print_messages g c = grind (arith, err_from_is_err_and, listing_begun)
 
 pub returns-in_err-push_base_total : goal.returns-in_err-push_base_total
-returns-in_err-push_base_total g c = λ honest base holds.
-    let p = err_from_is_err_and c.from_residual-in_err-push_base_total.result c.from_residual-in_err-push_base_total.ensures.1 in
-    let e = c.in_ok-print_messages.ensures in
-    rw (p.1, p.2) (
-      inl (inr (tt, e.ok)),
-      listing_begun c.args.asked.now.form _ _ c.args.asked.now.first base _ (output_of g.W.Write.contents g.W.Sink.failures g.W.Sink.holds c.args.out.now) (output_of g.W.Write.contents g.W.Sink.failures g.W.Sink.holds c.print_messages.new.out)
-          c.in_ok-area.ensures c.new-lines.ensures.items (record { rest = c.print_messages.new.lines.items; passed = e.lines honest base holds }),
-    )
+returns-in_err-push_base_total g c = grind (arith, err_from_is_err_and, listing_begun)
 
 pub returns-in_err-print_rest : goal.returns-in_err-print_rest
 returns-in_err-print_rest g c = λ honest base holds.

@@ -1,10 +1,8 @@
-use Rattle.std.proofs.Common.{◌≡◌, ◌∙◌, ◌≤◌, ◌+◌, ◌++◌, ℕ, length, option_copied, refl, sym, subst, arith, inl}
+use Rattle.std.proofs.Common.{◌∙◌, ◌≤◌, ◌+◌, ◌++◌, ℕ, length, option_copied, refl, sym, subst, arith}
 use Rattle.base_folder.proofs.Lookings.{err_is}
 use Rattle.base_folder.proofs.Readings.{not_behind, not_past}
-use Rattle.cmd_print.specs.BaseListed.{asked_text, messages_text}
-use Rattle.cmd_status.specs.Ended.{Stops}
+use Rattle.cmd_print.specs.BaseListed.{asked_text}
 use Rattle.cmd_status.specs.Lines.{PassesOn, WritesFront}
-use Rattle.cmd_show.specs.Fetching.{StopsReading}
 use Rattle.cmd_show.proofs.Fetchings.{stops_reading}
 use Rattle.cmd_show.proofs.Listings.{begun_before, message_begun, message_printed, printed_none}
 use Rattle.cmd_show.proofs.listing.print_messages.Goals as goal
@@ -38,16 +36,7 @@ returns-in_err-fetch_message-clause-begun g c = λ honest base holds.
     (c.messages.invariant.printed (c.fetch_message.ensures.looks.honest honest) base holds))
 
 pub returns-in_err-fetch_message-clause-err : goal.returns-in_err-fetch_message-clause-err
-returns-in_err-fetch_message-clause-err g c = λ honest base holds.
-    let fault = c.in_err-fetch_message.field-0.0 in
-    let path = c.args.path.now in
-    let first = (g.M.MessageSource.state c.args.messages.now).failures in
-    let before = (g.M.MessageSource.state c.messages.messages).failures in
-    let now = (g.M.MessageSource.state c.fetch_message.new.messages).failures in
-    let printed = g.W.Sink.failures c.args.out.now in
-    let after = g.W.Sink.failures c.messages.out in
-    err_is (StopsReading path first now printed after) fault c.from_residual.result c.from_residual.ensures.1
-    (stops_reading path first before now printed after fault c.messages.invariant.later c.messages.invariant.failed (c.in_err-fetch_message.ensures.fault honest base (c.messages.invariant.holds base holds)))
+returns-in_err-fetch_message-clause-err g c = grind (arith, err_is, stops_reading)
 
 pub returns-in_err-print_message-clause-begun : goal.returns-in_err-print_message-clause-begun
 returns-in_err-print_message-clause-begun g c = λ honest base holds.
@@ -64,11 +53,7 @@ returns-in_err-print_message-clause-begun g c = λ honest base holds.
     (length base.messages) (option_copied c.at_hand.result) here next (c.messages.invariant.printed (c.fetch_message.ensures.looks.honest honest) base holds) begun)
 
 pub returns-in_err-print_message-clause-err : goal.returns-in_err-print_message-clause-err
-returns-in_err-print_message-clause-err g c = λ honest base holds.
-    let fault = c.in_err-print_message.field-0.0 in
-    let now = g.W.Sink.failures c.print_message.new.out in
-    err_is (StopsReading c.args.path.now (g.M.MessageSource.state c.args.messages.now).failures (g.M.MessageSource.state c.fetch_message.new.messages).failures (g.W.Sink.failures c.args.out.now) now) fault c.from_residual-in_err-print_message.result c.from_residual-in_err-print_message.ensures.1
-    (inl (subst (λ (n : ℕ). Stops n now fault) c.messages.invariant.failed c.in_err-print_message.ensures.err))
+returns-in_err-print_message-clause-err g c = grind (arith, err_is)
 
 pub messages-preserved : goal.messages-preserved
 messages-preserved g c =
@@ -93,8 +78,4 @@ messages-preserved g c =
     }
 
 pub returns-clause-lines : goal.returns-clause-lines
-returns-clause-lines g c = λ honest base holds.
-    let asked = c.args.asked.now in
-    let end : c.messages.i ≡ length base.messages = omega (arith, c.messages-test.false, c.messages.invariant.inside, c.count-count.ensures.all base holds) in
-    subst (λ (n : ℕ). PassesOn (c.args.lines.now.items ++ messages_text asked.form asked.area asked.first base.messages base.cursor n) c.messages.lines.items (g.W.Write.contents c.args.out.now) (g.W.Write.contents c.messages.out)) end
-    (c.messages.invariant.printed honest base holds)
+returns-clause-lines g c = grind arith

@@ -1,20 +1,14 @@
+use Rattle.std.proofs.Common.{arith}
 use Rattle.std.proofs.lemmas.Result.{err_from_is_err_and}
 use Rattle.cmd_status.specs.Devices.{output_of}
 use Rattle.cmd_show.proofs.Entries.{list_printed, list_stopped, list_unprinted, read_refused}
 use Rattle.cmd_show.proofs.nodelists.nodelist.Goals as goal
 
 pub returns-in_err-list : goal.returns-in_err-list
-returns-in_err-list g c =
-    let p = err_from_is_err_and c.from_residual.result c.from_residual.ensures.1 in
-    rw (p.1, p.2) (read_refused c.args.find c.args.input.now _ c.in_err-list.field-0.0 c.in_err-list.ensures)
+returns-in_err-list g c = grind (arith, err_from_is_err_and, read_refused)
 
 pub returns-in_err-print_list : goal.returns-in_err-print_list
-returns-in_err-print_list g c =
-    let p = err_from_is_err_and c.from_residual-in_err-print_list.result c.from_residual-in_err-print_list.ensures.1 in
-    rw (p.1, p.2)
-    (list_stopped c.args.find c.args.input.now _ _ c.crc_line-stated.result (output_of g.W.Write.contents g.W.Sink.failures g.W.Sink.holds c.args.out.now)
-    (output_of g.W.Write.contents g.W.Sink.failures g.W.Sink.holds c.print_list.new.out) c.in_err-print_list.field-0.0 c.in_ok-list.ensures c.crc_line-stated.ensures c.new-lines.ensures.items
-    c.in_err-print_list.ensures.err)
+returns-in_err-print_list g c = grind (arith, err_from_is_err_and, list_stopped)
 
 pub returns-in_err-print_rest : goal.returns-in_err-print_rest
 returns-in_err-print_rest g c =

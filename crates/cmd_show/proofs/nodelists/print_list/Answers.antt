@@ -1,4 +1,4 @@
-use Rattle.std.proofs.Common.{Some, None, refl, inl}
+use Rattle.std.proofs.Common.{arith}
 use Rattle.std.proofs.lemmas.Result.{err_from_is_err_and, on_ok_weaker}
 use Rattle.cmd_status.specs.Devices.{output_of}
 use Rattle.cmd_show.proofs.Entries.{list_stops, listed_lines}
@@ -6,28 +6,16 @@ use Rattle.cmd_show.proofs.Pushed.{pushed_adds}
 use Rattle.cmd_show.proofs.nodelists.print_list.Goals as goal
 
 pub returns-in_err-push_crc-clause-err : goal.returns-in_err-push_crc-clause-err
-returns-in_err-push_crc-clause-err g c =
-    let p = err_from_is_err_and c.from_residual.result c.from_residual.ensures.1 in
-    rw (p.1, p.2) (inl (tt, refl))
+returns-in_err-push_crc-clause-err g c = grind (arith, err_from_is_err_and)
 
 pub returns-in_err-push_found-in-Some-clause-err : goal.returns-in_err-push_found-in-Some-clause-err
-returns-in_err-push_found-in-Some-clause-err g c =
-    let p = err_from_is_err_and c.from_residual-in_err-push_found-in-Some.result c.from_residual-in_err-push_found-in-Some.ensures.1 in
-    rw (p.1, p.2) (inl (tt, refl))
+returns-in_err-push_found-in-Some-clause-err = grind (arith, err_from_is_err_and)
 
 pub returns-in_ok-push_found-in-Some-clause-lines : goal.returns-in_ok-push_found-in-Some-clause-lines
-returns-in_ok-push_found-in-Some-clause-lines g c =
-    let out = g.W.Write.contents c.args.out.now in
-    rw c.in-Some.is
-    (listed_lines (Some c.in-Some.address) c.args.list.now c.args.stated _ _ _ out out c.in_ok-push_crc.ensures
-    (pushed_adds _ out _ _ c.in_ok-push_found-in-Some.ensures))
+returns-in_ok-push_found-in-Some-clause-lines = grind (arith, listed_lines, pushed_adds)
 
 pub returns-in-None-clause-lines : goal.returns-in-None-clause-lines
-returns-in-None-clause-lines g c =
-    rw c.in-None.is
-    (on_ok_weaker c.print_entries.result
-    (λ rest. listed_lines None c.args.list.now c.args.stated _ _ _ (g.W.Write.contents c.args.out.now) (g.W.Write.contents c.print_entries.new.out) c.in_ok-push_crc.ensures rest)
-    c.print_entries.ensures.lines)
+returns-in-None-clause-lines = grind (arith, on_ok_weaker, listed_lines)
 
 pub returns-in-None-clause-err : goal.returns-in-None-clause-err
 returns-in-None-clause-err g c =

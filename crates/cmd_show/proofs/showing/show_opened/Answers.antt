@@ -8,18 +8,10 @@ use Rattle.cmd_show.proofs.Printed.{end_printed, header_printed, message_printed
 use Rattle.cmd_show.proofs.showing.show_opened.Goals as goal
 
 pub returns-in_err-add_header : goal.returns-in_err-add_header
-returns-in_err-add_header g c =
-    let p = err_from_is_err_and c.from_residual.result c.from_residual.ensures.1 in
-    rw (p.1, p.2) (no_header c.args.full (header_bytes c.args.reader.now.header ++ c.args.reader.now.source.now) c.args.lines.now.items c.add_header.new.lines.items (output_of g.W.Write.contents g.W.Sink.failures g.W.Sink.holds c.args.out.now) _ c.in_err-add_header.ensures.kept tt)
+returns-in_err-add_header g c = grind (arith, err_from_is_err_and, no_header)
 
 pub messages-init : goal.messages-init
-messages-init g c =
-    let so = slice-opens show_limits (header_bytes c.args.reader.now.header ++ c.args.reader.now.source.now) _ _ _ _ _ _ c.requires.header refl c.requires.begins in
-    let line = rw c.header.ensures at c.in_ok-add_header.ensures.lines in
-    record {
-      printed = header_printed c.args.full (header_bytes c.args.reader.now.header ++ c.args.reader.now.source.now) _ _ _ _ _ _ c.args.lines.now.items c.add_header.new.lines.items (g.W.Write.contents c.args.out.now) _ so c.place-place.ensures line;
-      failed = refl;
-    }
+messages-init g c = grind (arith, slice-opens, header_printed)
 
 pub returns-in_err-message : goal.returns-in_err-message
 returns-in_err-message g c =
@@ -31,10 +23,7 @@ returns-in_err-message g c =
     before.printed (e.fault before.printed.so_far.reading) e.device before.failed)
 
 pub messages-smaller : goal.messages-smaller
-messages-smaller g c =
-    let so = c.messages.invariant.printed.so_far in
-    let taken = rw c.in-Some.is at (c.in_ok-message.ensures.taken so.reading) in
-    shorter c.messages.reader.source.now c.next.new.self.source.now c.in-Some.message taken
+messages-smaller g c = grind (arith, shorter)
 
 pub returns-in_err-pass_message : goal.returns-in_err-pass_message
 returns-in_err-pass_message g c =
@@ -70,12 +59,7 @@ messages-preserved g c =
     }
 
 pub returns-in_err-add_end : goal.returns-in_err-add_end
-returns-in_err-add_end g c =
-    let before = c.messages.invariant in
-    let p = err_from_is_err_and c.from_residual-in_err-add_end.result c.from_residual-in_err-add_end.ensures.1 in
-    rw (p.1, p.2)
-    (no_memory c.args.full (header_bytes c.args.reader.now.header ++ c.args.reader.now.source.now) _ _ _ _ _ _ _ _ _ (output_of g.W.Write.contents g.W.Sink.failures g.W.Sink.holds c.args.out.now) (output_of g.W.Write.contents g.W.Sink.failures g.W.Sink.holds c.messages.out) _ _ _
-    before.printed c.in_err-add_end.ensures.kept tt before.failed)
+returns-in_err-add_end g c = grind (arith, err_from_is_err_and, no_memory)
 
 pub returns : goal.returns
 returns g c =

@@ -11,10 +11,7 @@ pub links-init : goal.links-init
 links-init c = links_unseen c.args.number (tokens c.args.rest.now) _ c.new-sorted.ensures.empty
 
 pub returns-in_default-address : goal.returns-in_default-address
-returns-in_default-address c =
-    let told = link_bad c.args.number (tokens c.args.rest.now) c.in-Some.word.now (tokens c.in-Some.after.now) (tokens c.links.left.now) c.links.sorted.keys
-    c.links.invariant c.in-Some.ensures.token c.in_default-address.ensures in
-    (told.0, told.1, tt)
+returns-in_default-address c = grind (arith, link_bad)
 
 pub returns-then-not-branch : goal.returns-then-not-branch
 returns-then-not-branch c =

@@ -1,5 +1,4 @@
-use Rattle.std.proofs.Common.{ap, sym, ◌∙◌}
-use Rattle.echo_links.specs.LinkLines.{first_of}
+use Rattle.std.proofs.Common.{sym, ◌∙◌, arith}
 use Rattle.echo_links.proofs.LinkTaking.{IsCut, control_refused, unknown_refused, wordless_refused}
 use Rattle.cmd_show.proofs.Judging.{area_judged_so, control_word, first_is, name_judged, skipped_judged, system_judged, unknown_judged}
 use Rattle.cmd_show.proofs.before.Before.take.Goals.{After-eq}
@@ -7,32 +6,17 @@ use Rattle.cmd_show.proofs.before.Before.take.Goals as goal
 
 -- the line is cut into its first word and the rest
 word_read : (c : After-eq) → IsCut c.args.line.now c.in-Some.word.now c.in-Some.rest.now
-word_read c = record {
-  read = sym c.is_skipped.ensures ∙ c.if-is_skipped.false;
-  plain = sym c.has_control_byte.ensures ∙ c.if-has_control_byte.false;
-  words_are = c.in-Some.ensures.token;
-  after = c.in-Some.ensures.after;
-}
+word_read c = grind arith
 
 pub returns-then-is_skipped : goal.returns-then-is_skipped
 returns-then-is_skipped c =
     λ earlier before. skipped_judged earlier c.args.number c.args.line.now c.args.self.now before (sym c.is_skipped.ensures ∙ c.if-is_skipped.true)
 
 pub returns-then-has_control_byte : goal.returns-then-has_control_byte
-returns-then-has_control_byte c =
-    λ earlier before.
-    let control = sym c.has_control_byte.ensures ∙ c.if-has_control_byte.true in
-    unknown_judged earlier c.args.number c.args.line.now c.args.self.now before _
-    (control_refused earlier c.args.number c.args.line.now (sym c.is_skipped.ensures ∙ c.if-is_skipped.false) control)
-    (c.word_with_control-word.ensures ∙ sym (control_word c.args.line.now control))
+returns-then-has_control_byte c = grind (arith, unknown_judged, control_refused, control_word)
 
 pub returns-in_default : goal.returns-in_default
-returns-in_default c =
-    λ earlier before.
-    let plain = sym c.has_control_byte.ensures ∙ c.if-has_control_byte.false in
-    unknown_judged earlier c.args.number c.args.line.now c.args.self.now before _
-    (wordless_refused earlier c.args.number c.args.line.now (sym c.is_skipped.ensures ∙ c.if-is_skipped.false) plain c.in_default.ensures.token)
-    (sym (first_is c.args.line.now plain ∙ ap first_of c.in_default.ensures.token))
+returns-in_default c = grind (arith, unknown_judged, wordless_refused, first_is)
 
 pub returns-then-eq : goal.returns-then-eq
 returns-then-eq c =
@@ -50,11 +34,4 @@ returns-then-eq-3 c =
     c.args.self.now c.take_area.new.self before (sym c.eq-else-eq-2.ensures ∙ c.if-eq-3.true) c.take_area.result c.take_area.ensures
 
 pub returns-else-eq-3 : goal.returns-else-eq-3
-returns-else-eq-3 c =
-    λ earlier before.
-    let plain = sym c.has_control_byte.ensures ∙ c.if-has_control_byte.false in
-    unknown_judged earlier c.args.number c.args.line.now c.args.self.now before _
-    (unknown_refused c.args.line.now c.in-Some.word.now c.in-Some.rest.now (word_read (goal.at.returns-else-eq-3 c).After-eq)
-    earlier c.args.number (sym c.eq.ensures ∙ c.if-eq.false) (sym c.eq-else-eq.ensures ∙ c.if-eq-2.false)
-    (sym c.eq-else-eq-2.ensures ∙ c.if-eq-3.false))
-    (sym (first_is c.args.line.now plain ∙ ap first_of c.in-Some.ensures.token))
+returns-else-eq-3 c = grind (arith, unknown_judged, unknown_refused, word_read, first_is)
