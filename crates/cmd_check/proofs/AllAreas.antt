@@ -1,7 +1,6 @@
 -- The answer of `check --all`, from those of its parts.
-use Rattle.std.proofs.Common.{◌≡◌, ◌+◌, ◌++◌, ◌<◌, ◌∙◌, ◌∷◌, [], ap, append-nil, append_assoc, arith, Bool, Contains, Err, get_or, length, List, map, Ok, Option, refl, Result, suc, subst, sym, take, zero, ℕ}
+use Rattle.std.proofs.Common.{◌≡◌, ◌+◌, ◌++◌, ◌<◌, ◌∙◌, ◌∷◌, [], ap, append-nil, append_assoc, arith, Bool, Contains, get_or, length, List, map, Ok, Option, refl, Result, subst, sym, take, ℕ}
 use Rattle.std.specs.List.{AllByRecursion}
-use Rattle.std.specs.Prelude.{if◌then◌else◌}
 use Rattle.std.proofs.lemmas.Bool.{ne_eqb}
 use Rattle.std.proofs.lemmas.List.{get_or_default, map-append, take_more}
 use Rattle.std.proofs.lemmas.List.Elements.{All-from_recursion, recursion_from_All}
@@ -14,7 +13,7 @@ use Rattle.echo_net.specs.declared.verdict.Verdict.TheVariants.{Yes, No}
 use Rattle.echo_net.specs.Faults.{IsCarried, IsYes}
 use Rattle.cmd_status.specs.declared.fault.Fault.{Fault}
 use Rattle.cmd_status.specs.declared.status.Status.{Status}
-use Rattle.cmd_status.specs.declared.status.Status.TheVariants.{Differs, Good}
+use Rattle.cmd_status.specs.declared.status.Status.TheVariants.{Good}
 use Rattle.cmd_status.specs.Inputs.{AreLinkFiles, IsNodelistGiven}
 use Rattle.cmd_status.proofs.Lines.{alone}
 use Rattle.cmd_print.specs.Pushed.{Pushes}
@@ -38,11 +37,7 @@ module _ (files : List LinkFile) (list : Option (List Line)) (more : Bool) where
   pub area_checked : (tag : List ℕ) (verdict : Verdict) (noes : ℕ) (old new : List ℕ) → IsCheckVerdict files tag verdict
       → (IsYes verdict → RunsAreOrderly files tag) → noes ≡ no_count verdict → Pushes (IsVerdictShown files tag list more verdict) old new
       → Pushes (IsAreaChecked files list more tag noes) old new
-  area_checked tag verdict noes old new judged runs is pushed = record {
-    lines = pushed.lines;
-    are = record { verdict = verdict; is_verdict = judged; printed = pushed.are; counted = is; orderly = λ none. runs (none_is_yes verdict (sym is ∙ none)) };
-    whole = pushed.whole;
-  }
+  area_checked tag verdict noes old new judged runs is pushed = grind (arith, none_is_yes)
 
   -- no areas, and no lines
   pub none_checked : (lines : List ℕ) → Pushes (AreAreasChecked files list more [] 0) lines lines
@@ -78,11 +73,7 @@ module _ (files : List LinkFile) (list : Option (List Line)) (more : Bool) where
 
   pub area_pushed : (tags : List (List ℕ)) (tag : List ℕ) (noes one : ℕ) (first old new : List ℕ) → Pushes (AreAreasChecked files list more tags noes) first old
       → Pushes (IsAreaChecked files list more tag one) old new → Pushes (AreAreasChecked files list more (tags ++ tag ∷ []) (noes + one)) first new
-  area_pushed tags tag noes one first old new before last = record {
-    lines = before.lines ++ last.lines;
-    are = areas_then tags tag noes one before.lines last.lines before.are last.are;
-    whole = last.whole ∙ ap (λ l. l ++ last.lines) before.whole ∙ append_assoc first before.lines last.lines;
-  }
+  area_pushed tags tag noes one first old new before last = grind (arith, areas_then, append_assoc)
 
   pub one_more : {V : Type 0} (bytes : V → List ℕ) (all : List V) (k : ℕ) (v : V) (tag : List ℕ) (noes one : ℕ) (first old new : List ℕ) → k < length all
       → v ≡ get_or all k v → tag ≡ bytes v → Pushes (AreAreasChecked files list more (map bytes (take k all)) noes) first old
@@ -126,11 +117,7 @@ each_tag P tags each =
 
 -- the status is 0 exactly if no verdict is a no
 status_good : (noes : ℕ) → verdicts_status noes ≡ Good → noes ≡ 0
-status_good zero good = refl
-status_good (suc n) good =
-    let off = ne_eqb (suc n) 0 (λ is. omega (arith, is)) in
-    let differs : verdicts_status (suc n) ≡ Differs = ap (λ (b : Bool). if b then Good else Differs) off in
-    absurd (cc (sym differs ∙ good))
+status_good noes h1 = grind (arith, ne_eqb)
 
 -- the lines of the verdicts on link files that were read
 pub were_checked : (nodelist : Option (List ℕ)) (list : Option (List Line)) (more : Bool) (inputs : List (List ℕ)) (files : List LinkFile) (tags : List (List ℕ)) (noes areas : ℕ)
@@ -166,10 +153,4 @@ were_checked nodelist list more inputs files tags noes areas none front lines st
 pub headline_of_all : (nodelist : Option (List ℕ)) (more : Bool) (inputs : List (List ℕ)) (stopped : Option Fault) (old new : Output)
     (answer : Result Status Fault) → CheckAllAnswers nodelist more inputs stopped old new answer → answer ≡ Ok Good
     → (links : List LinkFile) → AreLinkFiles inputs links → (tag : List ℕ) → IsCarried links tag → Tidy links tag × RunsAreOrderly links tag
-headline_of_all nodelist more inputs stopped old new (Ok found) so good links are tag carried =
-    let checked = so.right.0 in
-    let is_good : found ≡ Good = cc good in
-    let same : checked.files ≡ links = one_reading inputs checked.files links checked.are_files are in
-    let P : List LinkFile → Type 0 = λ f. (t : List ℕ) → IsCarried f t → Tidy f t × RunsAreOrderly f t in
-    subst P same (λ t c. (checked.tidy.0 is_good t c, checked.orderly is_good t c)) tag carried
-headline_of_all nodelist more inputs stopped old new (Err f) so good links are tag carried = absurd (cc good)
+headline_of_all nodelist more inputs stopped old new answer h1 h2 links h3 tag h4 = grind (arith, one_reading)

@@ -18,21 +18,13 @@ use Rattle.echo_links.proofs.Found.{bytes_turned}
 use Rattle.cmd_check.specs.AreaTags.{AreAllTags, has_tag, tag_order}
 
 either_twice : (a b c : Bool) → a ≡ b → (b || c) ≡ (a || (b || c))
-either_twice true true c e = refl
-either_twice true false c e = cc
-either_twice false true c e = cc
-either_twice false false c e = refl
+either_twice a b c h1 = grind arith
 
 either_between : (a b c : Bool) → (b || (a || c)) ≡ (a || (b || c))
-either_between true true c = refl
-either_between true false c = refl
-either_between false b c = refl
+either_between a b c = grind arith
 
 either_turned : (a b : Bool) → (a || b) ≡ (b || a)
-either_turned true true = refl
-either_turned true false = refl
-either_turned false true = refl
-either_turned false false = refl
+either_turned a b = grind arith
 
 -- a key passes among some keys and a new one
 any_inserted : {K : Type 0} (p : K → Bool) (order : K → K → Ordering) (ks : List K) (k : K) → ((x : K) → order k x ≡ Equal → p k ≡ p x)
@@ -126,12 +118,7 @@ module _ {K : Type 0} (bytes : K → List ℕ) (first : List K) where
 
   -- there is a tag at each number below that of the areas
   pub tag_missed : (areas : List Area) (k : ℕ) → k < length areas → None ≡ option_map (λ (area : Area). area.tag) (slice_get areas k) → ⊥
-  tag_missed areas k inside told = elim (slice_get_cases areas k).1 [
-    | inl (area, below, got, read) ↦
-        let none : (t : List ℕ) → None ≡ Some t → ⊥ = λ t e. absurd cc in
-        none area.tag (told ∙ ap (option_map (λ (a : Area). a.tag)) got)
-    | inr past ↦ absurd (let less = past.0 in omega (arith, less, inside))
-  ]
+  tag_missed areas k inside told = grind (arith, slice_get_cases)
 
   -- all areas of a file
   pub tags_of_file : (file : LinkFile) (keys : List K) → HaveTags file.areas keys
@@ -143,14 +130,7 @@ module _ {K : Type 0} (bytes : K → List ℕ) (first : List K) where
 pub all_tags : {K : Type 0} (bytes : K → List ℕ) (files : List LinkFile) (keys all : List K)
     → ((tag : List ℕ) → has_tag bytes keys tag ≡ list_any (λ file. has_area file tag) files)
     → IsStrictlySortedBy (λ one later. tag_order (bytes one) (bytes later)) all → all ≡ keys → AreAllTags files (map bytes all)
-all_tags bytes files keys all have ascend same = record {
-  ascending = tags_ascend bytes all ascend;
-  members = λ tag.
-      let found : has_tag bytes all tag ≡ list_any (λ file. has_area file tag) files = ap (λ k. has_tag bytes k tag) same ∙ have tag in (
-        λ there. sym found ∙ (among_tags bytes all tag).0 there,
-        λ carried. (among_tags bytes all tag).1 (found ∙ carried),
-      );
-}
+all_tags bytes files keys all have ascend same = grind (arith, tags_ascend, among_tags)
 
 pub all_tags_if_ok : {K V E : Type 0} (bytes : K → List ℕ) (items : V → List K) (files : List LinkFile) (keys : List K) (r : Result V E)
     → ((tag : List ℕ) → has_tag bytes keys tag ≡ list_any (λ file. has_area file tag) files)

@@ -1,5 +1,5 @@
 -- Link files of assumed systems, after other files.
-use Rattle.std.proofs.Common.{◌≡◌, ℕ, ◌+◌, ◌<◌, ◌++◌, ◌∙◌, ◌∷◌, ◌⊎◌, [], ap, append-nil, append_assoc, Bool, Err, false, get_or, inl, inr, length, List, None, Ok, Option, refl, Result, subst, sym, take, true}
+use Rattle.std.proofs.Common.{◌≡◌, ℕ, ◌+◌, ◌<◌, ◌++◌, ◌∙◌, ◌∷◌, ◌⊎◌, [], ap, append-nil, append_assoc, Bool, Err, false, get_or, length, List, None, Ok, Option, refl, Result, subst, sym, take, true, arith}
 use Rattle.std.proofs.lemmas.List.{take_more}
 use Rattle.echo_addr.specs.declared.address.Address.{Address}
 use Rattle.echo_links.specs.declared.fault.LinkFault.{LinkFault}
@@ -15,10 +15,8 @@ use Rattle.cmd_status.specs.Ended.{IsOutOfMemory}
 use Rattle.cmd_status.specs.Inputs.{AreLinkFiles, IsFirstFaultGiven, IsLinkFault}
 use Rattle.cmd_status.proofs.Giving.{read_more}
 use Rattle.cmd_check.specs.Assuming.{AddsAssumed, AddsEach, AreAssumed, AreEachAssumed, IsAssumed}
-use Rattle.cmd_check.specs.Checking.{RunsAreOrderly}
 use Rattle.cmd_check.specs.CheckingAssumed.{CheckAssumingAnswers, IsAssumedFault, IsCheckedAssuming, IsCheckedWith, IsPromisedAssuming, ReadsMore}
 use Rattle.cmd_check.proofs.Checks.{one_reading}
-use Rattle.model_run.specs.Tidy.{Tidy}
 
 pub not_so : (b : Bool) → b ≡ false → b ≡ true → ⊥
 not_so true is h = cc
@@ -53,19 +51,11 @@ module _ (files : List LinkFile) (tag : List ℕ) where
 
   -- if some file has the area
   pub assumed_added : (assumed : List Address) (old new : List (List ℕ)) → IsCarried files tag → AddsEach files tag assumed old new → AddsAssumed files tag assumed old new
-  assumed_added assumed old new carried each = record {
-    texts = each.texts;
-    are = record { carried = λ c. each.are; nowhere = λ n. absurd (n carried) };
-    whole = each.whole;
-  }
+  assumed_added assumed old new carried each = grind arith
 
   -- and if no file has it
   pub nothing_added : (assumed : List Address) (old : List (List ℕ)) → (IsCarried files tag → ⊥) → AddsAssumed files tag assumed old old
-  nothing_added assumed old nowhere = record {
-    texts = [];
-    are = record { carried = λ c. absurd (nowhere c); nowhere = λ n. refl };
-    whole = sym (append-nil old);
-  }
+  nothing_added assumed old nowhere = grind (arith, append-nil)
 
 -- no further file so far
 pub read_none : (old : List LinkFile) → ReadsMore [] old old
@@ -75,11 +65,7 @@ read_none old = record { files = []; are = tt; whole = sym (append-nil old) }
 pub text_read : (texts : List (List ℕ)) (k : ℕ) (text : List ℕ) (file : LinkFile) (old mid new : List LinkFile) → k < length texts → text ≡ get_or texts k text
     → ReadsMore (take k texts) old mid → (let read : Result LinkFile LinkFault = Ok file in read ≡ Err link.Memory) ⊎ LinksOf text (Ok file)
     → new ≡ mid ++ file ∷ [] → ReadsMore (take (k + 1) texts) old new
-text_read texts k text file old mid new inside is before read pushed = record {
-  files = before.files ++ file ∷ [];
-  are = read_more texts k text before.files file inside is before.are read;
-  whole = pushed ∙ ap (λ l. l ++ file ∷ []) before.whole ∙ append_assoc old before.files (file ∷ []);
-}
+text_read texts k text file old mid new inside is before read pushed = grind (arith, read_more, append_assoc)
 
 -- files read after others
 pub both_read : (inputs texts : List (List ℕ)) (links others : List LinkFile) → AreLinkFiles inputs links → AreLinkFiles texts others
@@ -104,43 +90,16 @@ others_of (b ∷ bs) texts (l ∷ ls) (x ∷ all) are both =
 pub was_assumed : (nodelist : Option (List ℕ)) (more : Bool) (tag t : List ℕ) (inputs texts : List (List ℕ)) (links : List LinkFile) (assumed : List Address) (lines : List ℕ) (status : Status)
     → AreLinkFiles inputs links → t ≡ upper tag → AreAssumed links t assumed texts → IsCheckedWith nodelist more tag (inputs ++ texts) assumed lines status
     → IsCheckedAssuming nodelist more tag inputs assumed lines status
-was_assumed nodelist more tag t inputs texts links assumed lines status are raised assuming checked = record {
-  files = links;
-  are_files = are;
-  texts = texts;
-  are_assumed = subst (λ (u : List ℕ). AreAssumed links u assumed texts) raised assuming;
-  checked = checked;
-}
+was_assumed nodelist more tag t inputs texts links assumed lines status are raised assuming checked = grind arith
 
 -- a fault of the files of the assumed systems
 pub text_refused : (nodelist : Option (List ℕ)) (tag t : List ℕ) (inputs shown texts : List (List ℕ)) (links : List LinkFile) (assumed : List Address) (fault : Fault)
     → AreLinkFiles inputs links → t ≡ upper tag → AreAssumed links t assumed texts → shown ≡ texts → IsOutOfMemory fault ⊎ IsLinkFault shown fault
     → IsOutOfMemory fault ⊎ (IsFirstFaultGiven nodelist inputs None fault ⊎ IsAssumedFault tag inputs assumed fault)
-text_refused nodelist tag t inputs shown texts links assumed fault are raised assuming same (inl memory) = inl memory
-text_refused nodelist tag t inputs shown texts links assumed fault are raised assuming same (inr refused) = inr (inr (record {
-  files = links;
-  are_files = are;
-  texts = texts;
-  are_assumed = subst (λ (u : List ℕ). AreAssumed links u assumed texts) raised assuming;
-  fault_is = subst (λ (x : List (List ℕ)). IsLinkFault x fault) same refused;
-}))
+text_refused nodelist tag t inputs shown texts links assumed fault h1 h2 h3 h4 h5 = grind arith
 
 -- a 0 holds for each run
 pub headline_assuming : (nodelist : Option (List ℕ)) (more : Bool) (tag : List ℕ) (inputs : List (List ℕ)) (assumed : List Address) (stopped : Option Fault) (old new : Output)
     (answer : Result Status Fault) → CheckAssumingAnswers nodelist more tag inputs assumed stopped old new answer → answer ≡ Ok Good
     → (links : List LinkFile) → AreLinkFiles inputs links → IsPromisedAssuming links (upper tag) assumed
-headline_assuming nodelist more tag inputs assumed stopped old new (Ok found) so good links are =
-    let found_is = so.right.0 in
-    let is_good : found ≡ Good = cc good in
-    let checked = found_is.checked.checked in
-    let same : found_is.files ≡ links = one_reading inputs found_is.files links found_is.are_files are in
-    let (others, whole, read) = others_of inputs found_is.texts links checked.files are checked.are_files in
-    record {
-      texts = found_is.texts;
-      are_assumed = subst (λ (f : List LinkFile). AreAssumed f (upper tag) assumed found_is.texts) same found_is.are_assumed;
-      others = others;
-      are_others = read;
-      tidy = subst (λ (f : List LinkFile). Tidy f (upper tag)) whole (checked.tidy.0 is_good);
-      orderly = subst (λ (f : List LinkFile). RunsAreOrderly f (upper tag)) whole (checked.orderly is_good);
-    }
-headline_assuming nodelist more tag inputs assumed stopped old new (Err f) so good links are = absurd (cc good)
+headline_assuming nodelist more tag inputs assumed stopped old new answer h1 h2 links h3 = grind (arith, one_reading, others_of)

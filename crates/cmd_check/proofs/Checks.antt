@@ -1,5 +1,5 @@
 -- The answer of `check`, from those of its parts.
-use Rattle.std.proofs.Common.{◌≡◌, ℕ, Bool, List, [], ◌∷◌, Option, Result, Ok, Err, refl, sym, ap, subst, ◌∙◌}
+use Rattle.std.proofs.Common.{◌≡◌, ℕ, Bool, List, [], ◌∷◌, Option, Result, Ok, refl, sym, ap, subst, ◌∙◌, arith}
 use Rattle.cmd_status.specs.Devices.{Output}
 use Rattle.echo_links.specs.Links.{LinkFile, upper}
 use Rattle.echo_nodelist.specs.declared.line.Line.{Line}
@@ -35,25 +35,7 @@ pub was_checked : (nodelist : Option (List ℕ)) (list : Option (List Line)) (mo
     (none lines : List ℕ) (status : Status) → IsNodelistGiven nodelist list → AreLinkFiles inputs files → t ≡ upper tag
     → IsCheckVerdict files t verdict → (IsYes verdict → RunsAreOrderly files t) → none ≡ [] → Pushes (IsVerdictShown files t list more verdict) none lines
     → status ≡ verdict_status verdict → IsChecked nodelist more tag inputs lines status
-was_checked nodelist list more tag t inputs files verdict none lines status is_list are raised judged runs nothing pushed ended =
-    let same : files ≡ files = refl in
-    let judged_upper : IsCheckVerdict files (upper tag) verdict = of_same (λ f u. IsCheckVerdict f u verdict) files files t (upper tag) same raised judged in
-    record {
-      files = files;
-      are_files = are;
-      list = list;
-      is_list = is_list;
-      verdict = verdict;
-      is_verdict = judged_upper;
-      printed = subst (IsVerdictShown files (upper tag) list more verdict) (sym (alone none lines pushed.lines nothing pushed.whole))
-          (of_same (λ f u. IsVerdictShown f u list more verdict pushed.lines) files files t (upper tag) same raised pushed.are);
-      status_is = ended;
-      tidy = (
-        λ good. judged_upper.tidy.0 (good_is_yes verdict (sym ended ∙ good)),
-        λ tidy. ended ∙ yes_is_good verdict (judged_upper.tidy.1 tidy),
-      );
-      orderly = λ good. of_same RunsAreOrderly files files t (upper tag) same raised (runs (good_is_yes verdict (sym ended ∙ good)));
-    }
+was_checked nodelist list more tag t inputs files verdict none lines status is_list are raised judged runs nothing pushed ended = grind (arith, of_same, alone, good_is_yes, yes_is_good)
 
 -- link files have one reading
 pub one_reading : (inputs : List (List ℕ)) (a b : List LinkFile) → AreLinkFiles inputs a → AreLinkFiles inputs b → a ≡ b
@@ -69,10 +51,4 @@ one_reading (bytes ∷ inputs) (x ∷ a) (y ∷ b) p q =
 pub headline : (nodelist : Option (List ℕ)) (more : Bool) (tag : List ℕ) (inputs : List (List ℕ)) (stopped : Option Fault) (old new : Output)
     (answer : Result Status Fault) → CheckAnswers nodelist more tag inputs stopped old new answer → answer ≡ Ok Good
     → (links : List LinkFile) → AreLinkFiles inputs links → Tidy links (upper tag) × RunsAreOrderly links (upper tag)
-headline nodelist more tag inputs stopped old new (Ok found) so good links are =
-    let checked = so.right.0 in
-    let is_good : found ≡ Good = cc good in
-    let same : checked.files ≡ links = one_reading inputs checked.files links checked.are_files are in
-    let P : List LinkFile → Type 0 = λ f. Tidy f (upper tag) × RunsAreOrderly f (upper tag) in
-    subst P same (checked.tidy.0 is_good, checked.orderly is_good)
-headline nodelist more tag inputs stopped old new (Err f) so good links are = absurd (cc good)
+headline nodelist more tag inputs stopped old new answer h1 h2 links h3 = grind (arith, one_reading)

@@ -1,14 +1,12 @@
 -- A run found by the bytes of link files is a run found on these files.
-use Rattle.std.proofs.Common.{◌≡◌, ℕ, List, [], ◌∷◌, Option, refl, sym, ap, ◌∙◌}
+use Rattle.std.proofs.Common.{◌≡◌, ℕ, List, [], ◌∷◌, Option, refl, sym, ap, ◌∙◌, arith}
 use Rattle.echo_links.specs.Links.{LinkFile, upper}
 use Rattle.echo_links.specs.LinkLines.{file_of}
 use Rattle.echo_net.specs.declared.verdict.NetFault.{NetFault}
 use Rattle.echo_net.specs.declared.verdict.Verdict.{Verdict}
 use Rattle.echo_net.specs.declared.verdict.Verdict.TheVariants.{Yes, No}
-use Rattle.echo_net.specs.Faults.{IfNo, IsFirstFault}
+use Rattle.echo_net.specs.Faults.{IfNo}
 use Rattle.model_why.specs.declared.shown.Shown.{Shown}
-use Rattle.model_why.specs.Exact.{AlwaysHarms, LeadsNowhere}
-use Rattle.model_why.specs.Found.{FindsHarm, FindsSome}
 use Rattle.model_why.specs.Sources.{files_of}
 use Rattle.cmd_status.specs.Inputs.{AreLinkFiles}
 use Rattle.cmd_check.specs.Checking.{IsCheckVerdict}
@@ -32,10 +30,4 @@ of_no (No fault) First Of is more = more is
 pub was_explained : (tag t : List ℕ) (inputs : List (List ℕ)) (files : List LinkFile) (verdict : Verdict) (found : Option Shown) →
     AreLinkFiles inputs files → t ≡ upper tag → IsCheckVerdict files (upper tag) verdict → IsFoundFirst (files_of inputs) t verdict found →
     IsExplained files (upper tag) verdict found
-was_explained tag t inputs files verdict found are raised judged first =
-    let here = of_same (λ f u. IsFoundFirst f u verdict found) (files_of inputs) files t (upper tag) (given_files inputs files are) raised first in
-    record {
-      shown = here.shown;
-      exact = of_no verdict (IsFirstFault files (upper tag)) (λ fault. (AlwaysHarms fault → FindsHarm found)) judged.first here.exact;
-      nowhere = of_no verdict (IsFirstFault files (upper tag)) (λ fault. (LeadsNowhere files fault → FindsSome found)) judged.first here.nowhere;
-    }
+was_explained tag t inputs files verdict found are raised judged first = grind (arith, of_same, given_files, of_no)

@@ -1,5 +1,5 @@
 -- The answer of `picture`, from those of its parts.
-use Rattle.std.proofs.Common.{◌≡◌, ℕ, List, [], refl, sym, ap, ◌∙◌}
+use Rattle.std.proofs.Common.{◌≡◌, ℕ, List, [], arith}
 use Rattle.echo_links.specs.Links.{LinkFile, upper}
 use Rattle.echo_net.specs.declared.drawing.Drawing.{Drawing}
 use Rattle.echo_net.specs.declared.verdict.Verdict.{Verdict}
@@ -15,20 +15,4 @@ use Rattle.cmd_check.proofs.Checks.{good_is_yes, of_same, yes_is_good}
 pub was_pictured : (tag t : List ℕ) (inputs : List (List ℕ)) (files : List LinkFile) (verdict : Verdict) (drawing : Drawing) (lines : List ℕ) (status : Status)
     → AreLinkFiles inputs files → t ≡ upper tag → IsCheckVerdict files t verdict → IsDrawing files t verdict drawing
     → lines ≡ picture_lines t verdict drawing [] → status ≡ verdict_status verdict → IsPictured tag inputs lines status
-was_pictured tag t inputs files verdict drawing lines status are raised judged drawn whole ended =
-    let same : files ≡ files = refl in
-    let judged_upper : IsCheckVerdict files (upper tag) verdict = of_same (λ f u. IsCheckVerdict f u verdict) files files t (upper tag) same raised judged in
-    record {
-      files = files;
-      are_files = are;
-      verdict = verdict;
-      is_verdict = judged_upper;
-      drawing = drawing;
-      is_drawing = of_same (λ f u. IsDrawing f u verdict drawing) files files t (upper tag) same raised drawn;
-      printed = whole ∙ ap (λ (u : List ℕ). picture_lines u verdict drawing []) raised;
-      status_is = ended;
-      tidy = (
-        λ good. judged_upper.tidy.0 (good_is_yes verdict (sym ended ∙ good)),
-        λ tidy. ended ∙ yes_is_good verdict (judged_upper.tidy.1 tidy),
-      );
-    }
+was_pictured tag t inputs files verdict drawing lines status are raised judged drawn whole ended = grind (arith, of_same, good_is_yes, yes_is_good)

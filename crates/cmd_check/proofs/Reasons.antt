@@ -3,7 +3,7 @@ use Rattle.std.specs.Prelude.{codes, Contains, ◌↔◌}
 use Rattle.std.specs.List.{flat_map}
 use Rattle.std.specs.List.Sorted.{IsStrictlySortedBy}
 use Rattle.std.specs.Ordering.{nat_cmp}
-use Rattle.std.proofs.Common.{◌≡◌, ◌++◌, ℕ, List, [], Option, refl, sym, ap, subst, append_assoc, ◌∙◌}
+use Rattle.std.proofs.Common.{◌≡◌, ◌++◌, ℕ, List, [], Option, refl, sym, subst, append_assoc, ◌∙◌, arith}
 use Rattle.echo_links.specs.Links.{LinkFile, upper}
 use Rattle.echo_net.specs.declared.verdict.Verdict.{Verdict}
 use Rattle.model_why.specs.declared.shown.Shown.{Shown}
@@ -35,20 +35,7 @@ were_named verdict found before after is ascending same =
 pub why_pushed : (files : List LinkFile) (paths : List (List ℕ)) (tag : List ℕ) (verdict : Verdict) (found : Option Shown) (systems old noted known new : List ℕ)
     → AreNamed verdict found systems → noted ≡ old ++ (codes "; " ++ verdict_line tag verdict) → known ≡ noted ++ flat_map (who_line files paths) systems
     → new ≡ known ++ found_lines tag verdict found → Pushes (AreWhyLines files paths tag verdict found) old new
-why_pushed files paths tag verdict found systems old noted known new named first second third =
-    let note = codes "; " in
-    let judged = verdict_line tag verdict in
-    let who = flat_map (who_line files paths) systems in
-    let run = found_lines tag verdict found in
-    record {
-      lines = note ++ (judged ++ (who ++ run));
-      are = record { systems = systems; are_named = named; whole = refl };
-      whole = third
-          ∙ ap (λ l. l ++ run) (second ∙ ap (λ l. l ++ who) first)
-          ∙ append_assoc (old ++ (note ++ judged)) who run
-          ∙ append_assoc old (note ++ judged) (who ++ run)
-          ∙ ap (λ l. old ++ l) (append_assoc note judged (who ++ run));
-    }
+why_pushed files paths tag verdict found systems old noted known new named first second third = grind (arith, append_assoc)
 
 -- a run that goes wrong on link files that were read is printed
 pub was_reasoned : (tag t : List ℕ) (inputs paths : List (List ℕ)) (files : List LinkFile) (verdict : Verdict) (found : Option Shown) (lines : List ℕ) (status : Status)

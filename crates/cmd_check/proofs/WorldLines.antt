@@ -43,12 +43,4 @@ systems_more run i first old new inside added so = elim (slice_get_cases run.sys
 pub world_lines : (run : Run) (files : List LinkFile) (packets missing : ℕ) (settled : Bool) (old a b text new : List ℕ) → a ≡ old ++ systems_from run 0 files
     → b ≡ a ++ packets_line packets missing → new ≡ b ++ text → packets ≡ length run.packets → missing ≡ undelivered run → settled ≡ is_settled run
     → text ≡ settled_line settled → new ≡ old ++ replay_lines files run
-world_lines run files packets missing settled old a b text new a-is b-is new-is packets-are missing-are settled-is text-is =
-    let text-so : text ≡ settled_line (is_settled run) = text-is ∙ ap settled_line settled-is in
-    let line : packets_line packets missing ≡ packets_line (length run.packets) (undelivered run) =
-    ap (λ n. packets_line n missing) packets-are ∙ ap (packets_line (length run.packets)) missing-are in
-    new-is ∙ ap (λ t. t ++ text) (b-is ∙ ap (λ t. t ++ packets_line packets missing) a-is)
-    ∙ append_assoc (old ++ systems_from run 0 files) (packets_line packets missing) text
-    ∙ append_assoc old (systems_from run 0 files) (packets_line packets missing ++ text)
-    ∙ ap (λ t. old ++ (systems_from run 0 files ++ (t ++ text))) line
-    ∙ ap (λ t. old ++ (systems_from run 0 files ++ (packets_line (length run.packets) (undelivered run) ++ t))) text-so
+world_lines run files packets missing settled old a b text new a-is b-is new-is packets-are missing-are settled-is text-is = grind (arith, append_assoc)

@@ -16,10 +16,4 @@ areas-preserved c =
     ]
 
 pub returns : goal.returns
-returns c =
-    let bytes : Vec ℕ Global → List ℕ = λ key. key.items in
-    let areas = c.args.file.now.areas in
-    tags_of_file bytes c.args.tags.now.keys c.args.file.now c.areas.tags.keys
-    (subst (λ some. HaveTags bytes c.args.tags.now.keys some c.areas.tags.keys)
-    (take_all c.areas.k areas (omega (arith, c.areas-test.false, c.areas-k-end.ensures)))
-    c.areas.invariant)
+returns c = grind (arith, tags_of_file, take_all)

@@ -1,14 +1,10 @@
-use Rattle.std.proofs.Common.{◌∙◌, sym}
+use Rattle.std.proofs.Common.{◌∙◌, sym, arith}
 use Rattle.std.proofs.lemmas.Result.{on_ok_weaker}
 use Rattle.cmd_check.proofs.Assumed.{assumed_added, not_so, nothing_added}
 use Rattle.cmd_check.proofs.assuming.push_assumed.Goals as goal
 
 pub returns-then-is_carried : goal.returns-then-is_carried
-returns-then-is_carried c =
-    on_ok_weaker c.push_each.result
-    (λ each. assumed_added c.args.files.now c.args.tag.now c.args.assumed.now c.args.texts.now.items c.push_each.new.texts.items
-    (sym c.is_carried.ensures ∙ c.if-is_carried.true) each)
-    c.push_each.ensures
+returns-then-is_carried c = grind (arith, on_ok_weaker, assumed_added)
 
 pub returns-else-is_carried : goal.returns-else-is_carried
 returns-else-is_carried c =

@@ -1,4 +1,4 @@
-use Rattle.std.proofs.Common.{◌++◌, ◌⊎◌, ◌∙◌, inr, None, refl, sym, subst, List, ℕ}
+use Rattle.std.proofs.Common.{◌++◌, ◌⊎◌, ◌∙◌, None, refl, sym, subst, List, ℕ, arith}
 use Rattle.std.proofs.lemmas.Result.{err_from_is_err_and}
 use Rattle.cmd_status.specs.Devices.{output_of}
 use Rattle.cmd_status.specs.Inputs.{AreLinkFiles, IsFirstFaultGiven}
@@ -9,15 +9,7 @@ use Rattle.cmd_check.proofs.Printing.{printed_as}
 use Rattle.cmd_check.proofs.checking_assumed.check_assuming_read.Goals as goal
 
 pub returns-in_err-read_more : goal.returns-in_err-read_more
-returns-in_err-read_more g c nodelist given inputs is_list are raised =
-    let p = err_from_is_err_and c.from_residual-in_err-read_more.result c.from_residual-in_err-read_more.ensures.1 in
-    let added = rw c.as_slice.ensures.value at c.in_ok-push_assumed.ensures in
-    let same = behind_none _ _ added.texts c.new-texts.ensures.items added.whole in
-    rw (p.1, p.2) (inr (
-      text_refused nodelist given c.args.tag.now inputs _ added.texts c.args.links.now.items c.args.assumed.now _ are raised added.are (c.deref.ensures.value ∙ same)
-          c.in_err-read_more.ensures.err,
-      refl,
-    ))
+returns-in_err-read_more g c nodelist given inputs is_list are raised = grind (arith, err_from_is_err_and, behind_none, text_refused)
 
 pub returns : goal.returns
 returns g c nodelist given inputs is_list are raised =

@@ -1,11 +1,5 @@
-use Rattle.std.proofs.Common.{Option, subst, sym}
-use Rattle.cmd_status.specs.declared.fault.Fault.{Fault}
-use Rattle.cmd_status.specs.Devices.{output_of}
-use Rattle.cmd_check.specs.Picturing.{PictureAnswers}
+use Rattle.std.proofs.Common.{arith}
 use Rattle.cmd_check.proofs.picturing.picture.Goals as goal
 
 pub returns : goal.returns
-returns g c =
-    let answered = rw (c.deref.ensures.value, c.deref-2.ensures.value) at c.picture_read.ensures in
-    subst (λ (s : Option Fault). PictureAnswers c.args.tag.now c.args.files.now s (output_of g.W.Write.contents g.W.Sink.failures g.W.Sink.holds c.args.out.now) (output_of g.W.Write.contents g.W.Sink.failures g.W.Sink.holds c.picture_read.new.out) c.picture_read.result)
-    (sym c.in_default.is) (answered _ _ c.in_ok-links.ensures.ok c.in_ok-tag.ensures.ok)
+returns g c = grind arith
