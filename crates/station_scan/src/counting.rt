@@ -1,5 +1,5 @@
 //! The packets for the links, and what each has so far.
-ghost use Rattle.std.specs.Prelude.{◌≡◌, [], map, IfErr, IfOk, Ok};
+ghost use Rattle.std.specs.Prelude.{◌≡◌, [], map, IfOk, Ok};
 ghost use Rattle.std.specs.List.{flat_map};
 ghost use Rattle.cmd_report.specs.Scanned.{counted_line};
 ghost use Rattle.cmd_status.specs.Devices.{output_of};
