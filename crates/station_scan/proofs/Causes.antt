@@ -14,28 +14,7 @@ use Rattle.station_scan.specs.declared.publish_error.PublishError.TheVariants.{P
 -- the staging files were removed
 module _ {S T : Type 0} (state : S → StoreState) (s0 s1 s2 : StoreState) (f0 f1 f2 : ℕ) (run : s2.disk.is_honest → s1.disk.is_honest) where
   pub publish_stop_cause : (stop : PassStop) → HasStopCause {T = Unit {0}} state s0 s1 f0 f1 (Err stop) → f1 ≤ f2 → HasPublishCause {T = T} state s0 s2 f0 f2 (Err (publish_stop stop))
-  publish_stop_cause (Placing cause) was more = record {
-    later = omega (arith, was.later, more);
-    packets = λ e. failed_wider f0 f0 f1 f2 (omega arith) more (was.placing (cc e));
-    staging = λ e. absurd (cc e);
-    base = λ e. absurd (cc e);
-    reading = λ e. absurd (cc e);
-    damaged = λ honest e. absurd (cc e);
-    unread = λ honest e. absurd (cc e);
-    many = λ e. absurd (cc e);
-    full = λ e. absurd (cc e);
-  }
-  publish_stop_cause (Reading cause) was more = record {
-    later = omega (arith, was.later, more);
-    packets = λ e. absurd (cc e);
-    staging = λ e. absurd (cc e);
-    base = λ e. absurd (cc e);
-    reading = λ e. failed_wider f0 f0 f1 f2 (omega arith) more (was.reading (cc e));
-    damaged = λ honest e. absurd (cc e);
-    unread = λ honest e. was.damaged (run honest) (cc e);
-    many = λ e. was.many (cc e);
-    full = λ e. absurd (cc e);
-  }
+  publish_stop_cause stop h1 h2 = grind (arith, failed_wider)
 
 -- a path in use stopped the pass
 pub publish_stop_taken : (stop : PassStop) (why : PublishError) → why ≡ publish_stop stop → IsErrOf {T = Unit {0}} (Err why) (Packets placing.Taken) → IsErrOf {T = Unit {0}} (Err stop) (Placing placing.Taken)

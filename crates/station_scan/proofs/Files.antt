@@ -1,5 +1,5 @@
 -- The packets of a pass as the files of a scan.
-use Rattle.std.proofs.Common.{◌≡◌, ◌⊎◌, inl, inr, ⊎_elim, ◌∙◌, ℕ, List, [], ◌∷◌, ◌++◌, map, refl, sym, subst, ap, append_assoc}
+use Rattle.std.proofs.Common.{◌≡◌, ◌⊎◌, inl, inr, ⊎_elim, ◌∙◌, ℕ, List, [], ◌∷◌, ◌++◌, map, refl, sym, subst, ap, append_assoc, arith}
 use Rattle.std.specs.Prelude.{All, Contains}
 use Rattle.std.proofs.lemmas.List.Elements.{All-contains, All-map}
 use Rattle.base_file.specs.Base.{Base}
@@ -46,9 +46,7 @@ outs_filed to base (a ∷ all) = ap (λ (l : List PacketFile). file_to to base a
 
 -- they are those of a scan
 pub files_are : (to : Sending) (base : Base) → to.source.from ≡ base.cursor → packets_in to.source.stamp to.source.links.now base ≡ files_to to base
-files_are to base at =
-    ap (λ (n : ℕ). packets_in to.source.stamp to.source.links.now (record { messages = base.messages; cursor = n })) (sym at)
-    ∙ ap (map (file_sent to.source.from)) (sym (scanned_to to.source.links.now base.messages to.source.from (all_sent to base) refl to.source.stamp)) ∙ outs_filed to base (links_to to (is_made (all_sent to base)))
+files_are to base at = grind (arith, scanned_to, outs_filed)
 
 -- ---- at which paths
 

@@ -1,6 +1,6 @@
 -- Staging files of packets grow by the copies of messages.
 use Rattle.std.proofs.Common.{◌≡◌, inl, inr, ◌∙◌, ◌<◌, ℕ, true, false, true≢false, Bool, List, [], ◌++◌, get_or, length, sym, subst, ap, append_assoc, arith}
-use Rattle.std.specs.Prelude.{All, Contains, IsSome, Option}
+use Rattle.std.specs.Prelude.{All, Contains}
 use Rattle.std.proofs.lemmas.Bool.{cases_Bool, false_from_ne_true}
 use Rattle.std.proofs.lemmas.List.{append-nil}
 use Rattle.std.proofs.lemmas.List.Elements.{Contains-get_or}
@@ -36,19 +36,7 @@ module _ (to : Sending) (sent : List Sent) where
   -- one still grows after a run at other paths
   pub growing_still : (paths : List ℕ → Type 0) (d0 d1 : DiskState) → ChangesOnly paths d0 d1 → ((m : List ℕ) → IsIn to.outbound.now m → d0.is_named m → d1.is_named m) → (a : Address) → (paths (staging_to to a) → ⊥)
       → (paths (path_to to a) → ⊥) → IsGrowingTo to sent d0 a → IsGrowingTo to sent d1 a
-  growing_still paths d0 d1 run names a off_staging off_path was =
-      let same = run.seen (staging_to to a) off_staging in
-      record {
-        grow = record {
-          there = subst (λ (f : Option (List ℕ)). IsSome f) (sym same) was.grow.there;
-          named = run.named (staging_to to a) off_staging was.grow.named;
-          alone = run.alone (staging_to to a) off_staging was.grow.alone;
-        };
-        named = λ m inside. names m inside (was.named m inside);
-        free = λ honest. run.seen (path_to to a) off_path ∙ was.free (run.honest honest);
-        written = λ honest. ap bytes_in same ∙ was.written (run.honest honest);
-        bytes = λ honest. subst AreBytes (sym (ap bytes_in same)) (was.bytes (run.honest honest));
-      }
+  growing_still paths d0 d1 run names a off_staging off_path was = grind arith
 
   -- new ones have their header, and no copies so far
   pub growing_new : (q : Address → Bool) (packets : List Outgoing) → AreFor to q packets → (disk : DiskState) → AreOpen to.outbound.now packets disk → Honestly disk (All (IsWritten (λ p. header_for to p.to) disk.seen) packets)
@@ -91,13 +79,7 @@ module _ (to : Sending) (sent : List Sent) where
 
   -- messages for other addresses change nothing
   pub growing_same : (more : List Sent) (d : DiskState) (a : Address) → is_made more a ≡ false → IsGrowingTo to sent d a → IsGrowingTo to (sent ++ more) d a
-  growing_same more d a none was = record {
-    grow = was.grow;
-    named = was.named;
-    free = was.free;
-    written = λ honest. was.written honest ∙ ap (λ (l : List Message). header_for to a ++ messages_bytes l) (sym (same_copies sent more a none));
-    bytes = was.bytes;
-  }
+  growing_same more d a none was = grind (arith, same_copies)
 
 -- ---- a group is appended
 

@@ -36,12 +36,7 @@ nobody_left = as_left no_paths
 
 all_lent : (paths : List LeftPaths) → AreSameLeft paths (map as_left paths)
 unfolding as_left
-all_lent paths = record {
-  as_many = length-map paths as_left;
-  each = λ k w l lt.
-      let is = get_or-map as_left paths k w l lt in
-      record { path = ap (λ (x : Left). x.path.now) is; staging = ap (λ (x : Left). x.staging.now) is; before = ap (λ (x : Left). x.before) is };
-}
+all_lent paths = grind (arith, length-map, as_left, get_or-map)
 
 -- a step that changes nothing
 pub finishes_none : (cursor : ℕ) (found : List Left) (c : Files) → FinishesEach cursor found c c
@@ -64,38 +59,17 @@ nothing_these cursor paths d0 d1 cause quiet = record {
 
 -- their paths are in the folder
 pub of_left_in : (folder : List ℕ) (found : List Left) → AreLeftIn folder found → (m : List ℕ) → IsOfLeft found m → IsIn folder m
-of_left_in folder found are m (l, is, at) =
-    let one : IsLeftIn folder l = All-contains (IsLeftIn folder) found l are.each is in
-    ⊎_elim (λ e. subst (IsIn folder) (sym e) one.staging_in) (λ e. subst (IsIn folder) (sym e) one.path_in) at
+of_left_in folder found are m (l, is, at) = grind (arith, All-contains, ⊎_elim)
 
 -- one that is over is so while nothing changes
 module _ (cursor : ℕ) (d0 d1 d2 : DiskState) (quiet : ChangesNothing d1 d2) where
   pub over_still : (l : Left) → IsOver cursor d0 d1 l → IsOver cursor d0 d2 l
-  over_still l is = record {
-    committed = λ below.
-        let moved = is.committed below in
-        record {
-          seen = quiet.seen l.path.now ∙ moved.seen;
-          gone = quiet.seen l.staging.now ∙ moved.gone;
-          named = quiet.named l.path.now (λ h. h) moved.named;
-          flushed = quiet.flushed l.path.now (λ h. h) moved.flushed;
-        };
-    gone = λ above. quiet.seen l.staging.now ∙ is.gone above;
-    untouched = λ above. quiet.seen l.path.now ∙ is.untouched above;
-  }
+  over_still l is = grind arith
 
 -- they are finished, and the removals are on the disk
 module _ (cursor : ℕ) (folder : List ℕ) (found : List Left) (placed : AreLeftIn folder found) (d0 d1 d2 : DiskState) (quiet : ChangesNothing d1 d2) where
   is_flushed : ((m : List ℕ) → IsIn folder m → d2.seen m ≡ None → d2.is_flushed m) → All (IsOver cursor d0 d2) found → (m : List ℕ) → IsEndedAt cursor found d2.seen m → d2.is_flushed m
-  is_flushed gone over m (l, is, at) =
-      let one : IsOver cursor d0 d2 l = All-contains (IsOver cursor d0 d2) found l over is in
-      let inside : IsLeftIn folder l = All-contains (IsLeftIn folder) found l placed.each is in
-      let none : d2.seen l.staging.now ≡ None = ⊎_elim (λ below. (one.committed below).gone) (λ above. one.gone above) (cases_lt l.before cursor) in
-      ⊎_elim (λ e. subst d2.is_flushed (sym e) (gone l.staging.now inside.staging_in none))
-      (λ path.
-      ⊎_elim (λ below. subst d2.is_flushed (sym path.0) (one.committed below).flushed)
-      (λ free. gone m (subst (IsIn folder) (sym path.0) inside.path_in) free) path.1)
-      at
+  is_flushed gone over m (l, is, at) = grind (arith, All-contains, ⊎_elim, cases_lt)
 
   pub settled_these : (paths : List LeftPaths) → AreSameLeft paths found → ((m : List ℕ) → IsIn folder m → d2.seen m ≡ None → d2.is_flushed m) → All (IsOver cursor d0 d1) found → ((m : List ℕ) → IsIn folder m → d1.is_named m)
       → LeavesOnly d0 d1 (OneStepOn (FinishesEach cursor found) d0) → ChangesOnly (IsOfLeft found) d0 d1 → EndsThese cursor paths d0 d2 (Ok tt)
@@ -112,15 +86,7 @@ module _ (cursor : ℕ) (folder : List ℕ) (found : List Left) (placed : AreLef
       }
 
   pub unsettled_these : (paths : List LeftPaths) (cause : PlacingError) → AreSameLeft paths found → LeavesOnly d0 d1 (OneStepOn (FinishesEach cursor found) d0) → ChangesOnly (IsOfLeft found) d0 d1 → EndsThese cursor paths d0 d2 (Err cause)
-  unsettled_these paths cause lent run changes = record {
-    found = found;
-    lent = lent;
-    over = tt;
-    named = tt;
-    flushed = tt;
-    any_moment = then_nothing d0 d1 d2 (OneStepOn (FinishesEach cursor found) d0) run quiet;
-    changes = then_only (IsOfLeft found) d0 d1 d2 changes (only_nothing (IsOfLeft found) d1 d2 quiet);
-  }
+  unsettled_these paths cause lent run changes = grind (arith, then_nothing, then_only, only_nothing)
 
 module _ (paths : List LeftPaths) (found : List Left) (lent : AreSameLeft paths found) where
   within : (k : ℕ) → k < length found → k < length paths
@@ -226,11 +192,7 @@ left_of_name Own folder own named paths are m (w, is, at) =
 
 -- the files seen before are the same
 over_before : (cursor : ℕ) (d0 d1 d2 : DiskState) (l : Left) → ((m : List ℕ) → d1.seen m ≡ d0.seen m) → IsOver cursor d1 d2 l → IsOver cursor d0 d2 l
-over_before cursor d0 d1 d2 l same is = record {
-  committed = λ below. let moved = is.committed below in record { seen = moved.seen ∙ same l.staging.now; gone = moved.gone; named = moved.named; flushed = moved.flushed };
-  gone = is.gone;
-  untouched = λ above. is.untouched above ∙ same l.path.now;
-}
+over_before cursor d0 d1 d2 l same is = grind arith
 
 pub on_ok_over : {T E : Type 0} (cursor : ℕ) (found : List Left) (d0 d1 d2 : DiskState) (result : Result T E) → ((m : List ℕ) → d1.seen m ≡ d0.seen m) → OnOk result (All (IsOver cursor d1 d2) found) → OnOk result (All (IsOver cursor d0 d2) found)
 on_ok_over cursor found d0 d1 d2 (Ok value) same all = λ k z lt. over_before cursor d0 d1 d2 (get_or found k z) same (all k z lt)
@@ -238,16 +200,7 @@ on_ok_over cursor found d0 d1 d2 (Err cause) same all = tt
 
 -- a run of no call
 pub quiet_start : (d : DiskState) → ChangesNothing d d
-quiet_start d = record {
-  seen = λ m. refl;
-  no_more = λ c left. left;
-  named = λ m other is. is;
-  flushed = λ m other is. is;
-  alone = λ m other is. is;
-  run = no_call d d.may_leave (λ c left. left);
-  keeps = λ t c le left. left;
-  honest = λ is. is;
-}
+quiet_start d = grind (arith, no_call)
 
 module _ (is_true : Type 0) (Own : List ℕ → Type 0) (folder own : List ℕ) (cursor : ℕ) (d0 d1 : DiskState) (quiet : ChangesNothing d0 d1) where
   -- nothing was finished

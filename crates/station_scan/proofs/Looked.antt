@@ -1,5 +1,5 @@
 -- A store that was looked through, before packets were sent out with its commit.
-use Rattle.std.proofs.Common.{◌≡◌, ◌⊎◌, inl, inr, ⊎_elim, ◌∙◌, ℕ, List, refl, subst}
+use Rattle.std.proofs.Common.{◌≡◌, ◌⊎◌, inl, inr, ⊎_elim, ◌∙◌, ℕ, List, refl, subst, arith}
 use Rattle.std.specs.Prelude.{All, Err, Ok, OnOk, Result}
 use Rattle.disk_io.specs.Disk.{DiskState, Files}
 use Rattle.disk_io.specs.Runs.{ChangesNothing, LeavesOnly, OneStepOn}
@@ -17,9 +17,7 @@ use Rattle.station_scan.proofs.Stops.{put_wider}
 
 -- the same files are seen
 pub same_seen : (a b : DiskState) → ChangesNothing a b → b.seen ≡ a.seen
-same_seen a b quiet =
-    let h : (m : List ℕ) → b.seen m ≡ a.seen m = quiet.seen in
-    λ i m. h m i
+same_seen a b quiet = grind arith
 
 module _ (Own : List ℕ → Type 0) (outbound own : List ℕ) (Stays Comes Stayed Came : Files → Type 0) (cursor : ℕ) (files : List PacketFile) (d0 d1 d2 : DiskState) (quiet : ChangesNothing d0 d1)
     (stays : (c : Files) → Stayed c → Stays c) (comes : (c : Files) → Came c → Comes c) (stood : (c : Files) → d0.may_leave c → Stays c) (found : List Left) where

@@ -71,9 +71,7 @@ other_byte : (b : ℕ) → (b == 47) ≡ false → (b == 126) ≡ false → IsNa
 other_byte b slash tilde = record { no_slash = eqb-false b 47 slash; no_tilde = eqb-false b 126 tilde }
 
 plain_digits : (n : ℕ) → n < 2 ^ 64 → All IsNameByte (decimal n)
-plain_digits n small =
-    All-from_recursion IsNameByte (decimal n)
-    (all_weaker IsDigit IsNameByte (λ b h. let low = h.0 in let high = h.1 in record { no_slash = λ e. omega arith; no_tilde = λ e. omega arith }) (decimal n) (digits_of_decimal n small))
+plain_digits n small = grind (arith, All-from_recursion, all_weaker, digits_of_decimal)
 
 plain_dot : All IsNameByte (codes ".")
 plain_dot = All-from_recursion IsNameByte (codes ".") (other_byte 46 refl refl, tt)
@@ -119,11 +117,7 @@ number_parts m n r s low high e =
 
 -- packets for two addresses have two names
 pub name_other : (a b : Address) (n : ℕ) → IsSized a → IsSized b → packet_name a n ≡ packet_name b n → a ≡ b
-name_other a b n one two e =
-    let zone = number_parts a.zone b.zone _ _ one.zone two.zone e in
-    let net = number_parts a.net b.net _ _ one.net two.net zone.1 in
-    let node = number_parts a.node b.node _ _ one.node two.node net.1 in
-    λ i. record { zone = zone.0 i; net = net.0 i; node = node.0 i }
+name_other a b n one two e = grind (arith, number_parts)
 
 -- the links of a link file are distinct
 pub links_differ : (file : LinkFile) → AllPairs (λ a b. a ≢ b) (link_set file)

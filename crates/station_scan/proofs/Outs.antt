@@ -1,5 +1,5 @@
 -- Leftover packets are finished. Then the packets of a scan and the commit of its store get to the disk.
-use Rattle.std.proofs.Common.{◌≡◌, ◌<◌, ◌⊎◌, inl, inr, ⊎_elim, ◌∙◌, ℕ, List, All, get_or, refl, subst}
+use Rattle.std.proofs.Common.{◌≡◌, ◌<◌, ◌⊎◌, inl, inr, ⊎_elim, ◌∙◌, ℕ, List, All, get_or, subst, arith}
 use Rattle.std.specs.Prelude.{Err, IfErr, Ok, OnOk, Result}
 use Rattle.std.proofs.lemmas.Bool.{cases_lt}
 use Rattle.std.proofs.lemmas.List.Elements.{All-contains}
@@ -29,11 +29,7 @@ use Rattle.station_scan.proofs.Stops.{placing_why, put_wider}
 
 -- a finished packet in the files seen
 pub is_ended : (cursor : ℕ) (d0 d1 : DiskState) (l : Left) → IsOver cursor d0 d1 l → IsEnded cursor d0.seen d1.seen l
-is_ended cursor d0 d1 l over = record {
-  committed = λ below. (over.committed below).seen;
-  untouched = over.untouched;
-  gone = ⊎_elim (λ below. (over.committed below).gone) (λ above. over.gone above) (cases_lt l.before cursor);
-}
+is_ended cursor d0 d1 l over = grind (arith, ⊎_elim, cases_lt)
 
 -- a leftover packet has no own path
 left_off : (Own : List ℕ → Type 0) (is_true : Type 0) (outbound own : List ℕ) (found : List Left) → All (IsLeftOf is_true Own outbound own) found → (m : List ℕ) → Own m → IsOfLeft found m → ⊥
@@ -61,9 +57,7 @@ module _ (Own : List ℕ → Type 0) (outbound own : List ℕ) (is_true failed :
         used.settled first a c (λ m is. finishes.others m (left_off Own is_true outbound own found ends.each m (inside m is))) (s0.stays honest0 ready first was a left)
 
     ended_moments : LeavesOnly s0.disk s1.disk May
-    ended_moments =
-        weaker_run s0.disk s1.disk (OneStepOn (FinishesEach cursor found) s0.disk) May ends.any_moment
-        (λ c step. inl (step.0, step.1, record { between = c; ends = step.2; writes = λ m other. refl; stands = stands_ended step.0 c step.1 step.2 }))
+    ended_moments = grind (arith, weaker_run, stands_ended)
 
     -- it stopped before
     pub not_sent : (cause : PlacingError) → (cause ≡ Device → failed) → (cause ≡ Taken → AreFreeLeft Own outbound own s0.disk.seen → ⊥) → SendsOut is_true failed Own outbound own Stays Comes cursor files s0.disk s1.disk (Err (Placing cause))
@@ -74,9 +68,7 @@ module _ (Own : List ℕ → Type 0) (outbound own : List ℕ) (is_true failed :
     Prepared = OneStepOn (PreparesScan outbound own Stays cursor found files) s0.disk
 
     pub stopped_only : LeavesOnly s0.disk s1.disk Prepared
-    stopped_only =
-        weaker_run s0.disk s1.disk (OneStepOn (FinishesEach cursor found) s0.disk) Prepared ends.any_moment
-        (λ c step. (step.0, step.1, record { between = c; ends = step.2; writes = λ m other. refl; stands = stands_ended step.0 c step.1 step.2 }))
+    stopped_only = grind (arith, weaker_run, stands_ended)
 
     pub stopped_crash : (s2 : StoreState) → LeavesOnly s1.disk s2.disk (WritesStaging s1 outbound own files first) → LeavesOnly s0.disk s2.disk Prepared
     stopped_crash s2 run =
@@ -153,11 +145,4 @@ module _ (Own : List ℕ → Type 0) (outbound own : List ℕ) (is_true failed :
 
 -- the paths that it touches
 pub out_keeps : (Own : List ℕ → Type 0) (outbound own : List ℕ) (s0 s1 s2 : StoreState) → IsUsedAt (IsOfNameOff Own outbound own) s0 s1 → KeepsStoreBut (IsTouched s1.is_own outbound) s1 s2 → KeepsStoreBut (IsTouched s0.is_own outbound) s0 s2
-out_keeps Own outbound own s0 s1 s2 used kept =
-    let at = IsTouched s0.is_own outbound in
-    record {
-      same = same_twice s0 s1 s2 used.same kept.same;
-      keeps =
-          keeps_then at s0.disk s1.disk s2.disk (keeps_wider (IsOfNameOff Own outbound own) at s0.disk s1.disk (λ m is. inr (own, is.0)) (keeps_only (IsOfNameOff Own outbound own) s0.disk s1.disk used.changes))
-          (keeps_wider (IsTouched s1.is_own outbound) at s1.disk s2.disk (λ m is. ⊎_elim (λ o. inl ((used.same.own m).0 o)) (λ name. inr name) is) kept.keeps);
-    }
+out_keeps Own outbound own s0 s1 s2 used kept = grind (arith, same_twice, keeps_then, keeps_wider, keeps_only, ⊎_elim)

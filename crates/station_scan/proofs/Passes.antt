@@ -14,7 +14,6 @@ use Rattle.disk_atomic.proofs.Changes.{only_nothing, then_only, wider}
 use Rattle.disk_atomic.specs.StagingPaths.{staging_path}
 use Rattle.cmd_report.specs.Scanned.{packet_name}
 use Rattle.echo_addr.specs.declared.address.Address.{Address}
-use Rattle.echo_filed.specs.Filed.{Filed}
 use Rattle.echo_toss.specs.declared.counting.CountedPacket.{CountedPacket}
 use Rattle.echo_toss.specs.Counts.{Group, IsGroupFrom, copies_out, counted_to, counted_with, has_messages, link_set}
 use Rattle.echo_toss.specs.Exports.{Outgoing as Sent, sent_of}
@@ -42,12 +41,7 @@ pub used_wider : (few many : List ℕ → Type 0) (s0 s1 : StoreState) → ((m :
 used_wider few many s0 s1 more used = record { settled = used.settled; same = used.same; holds = used.holds; changes = wider few many s0.disk s1.disk more used.changes }
 
 pub used_looked : (paths : List ℕ → Type 0) (s0 s1 s2 : StoreState) → IsUsedAt paths s0 s1 → LooksOn s1 s2 → IsUsedAt paths s0 s2
-used_looked paths s0 s1 s2 used looks = record {
-  settled = used.settled;
-  same = same_twice s0 s1 s2 used.same looks.same;
-  holds = holds_still s0 s1 s2 used.holds (record { ready = looks.ready; keeps = looks.keeps; committed = looks.committed });
-  changes = then_only paths s0.disk s1.disk s2.disk used.changes (only_nothing paths s1.disk s2.disk looks.quiet);
-}
+used_looked paths s0 s1 s2 used looks = grind (arith, same_twice, holds_still, then_only, only_nothing)
 
 -- it can go on sending
 pub can_still : (Own paths : List ℕ → Type 0) (to : Sending) (s0 s1 : StoreState) → IsUsedAt paths s0 s1 → CanSend Own to s0 → CanSend Own to s1
@@ -164,13 +158,7 @@ module _ (Own : List ℕ → Type 0) (to : Sending) where
 
     -- nothing was staged
     pub staged_none : HasStaged Own to (IsBetween sent (sent ++ more)) s s all
-    staged_none = record {
-      sent = sent;
-      part = record { part = ([], append-nil sent); rest = (more, refl) };
-      counted = is.counted;
-      fit = is.fit;
-      used = used_none (IsStagingTo to sent) s can.settled can.ready;
-    }
+    staged_none = grind (arith, append-nil, used_none)
 
     -- the packets that begin do not fit
     pub group_unfit : (All (IsOff Own to.trial.now) (begun_in counted) → ⊥) → AreTakenTo Own to (sent ++ more) s.disk.seen
@@ -266,9 +254,7 @@ module _ (Own : List ℕ → Type 0) (to : Sending) where
   -- the staging files are removed
   pub gone_or_same : (P : List Sent → Type 0) (s0 s1 s2 : StoreState) (all : List LinkPacket) (was : HasStaged Own to P s0 s1 all) → IsUsedAt (IsStagingTo to was.sent) s1 s2 → ((m : List ℕ) → IsStagingTo to was.sent m → s2.disk.seen m ≡ None)
       → AreGoneOrSame s0.disk.seen s2.disk.seen
-  gone_or_same P s0 s1 s2 all was drop gone m =
-      let used = used_twice (IsStagingTo to was.sent) s0 s1 s2 was.used drop in
-      ⊎_elim (λ at. inl (gone m at)) (λ off. inr (used.changes.seen m off)) (staging_or_not (is_made was.sent) m)
+  gone_or_same P s0 s1 s2 all was drop gone m = grind (arith, used_twice, ⊎_elim, staging_or_not)
 
   pub passed_part : (s0 s1 s2 : StoreState) (all : List LinkPacket) (was : HasPassed Own to s0 s1 all) → (s2.disk.is_honest → s1.disk.is_honest) → IsPartOf to s0 s2 was.sent
   passed_part s0 s1 s2 all was run = λ honest base kept. ([], append-nil was.sent ∙ was.part.whole (run honest) base kept)
@@ -284,13 +270,7 @@ IsPassing Own to s0 s all at = HasStaged Own to (IsAt to s0 s at) s0 s all
 
 module _ (Own : List ℕ → Type 0) (to : Sending) (s0 : StoreState) (can : CanSend Own to s0) where
   pub passing_starts : (all : List LinkPacket) → IsMaking Own to [] s0.disk all → IsPassing Own to s0 s0 all to.source.from
-  passing_starts all is = record {
-    sent = [];
-    part = record { grows = is.grows; rest = λ honest base kept. refl };
-    counted = is.counted;
-    fit = is.fit;
-    used = used_none (IsStagingTo to []) s0 can.settled can.ready;
-  }
+  passing_starts all is = grind (arith, used_none)
 
   module _ (s : StoreState) (all : List LinkPacket) (at : ℕ) (was : IsPassing Own to s0 s all at) where
     part_now : (e : StoreState) → (e.disk.is_honest → s.disk.is_honest) → IsPartOf to s0 e was.sent
@@ -300,18 +280,7 @@ module _ (Own : List ℕ → Type 0) (to : Sending) (s0 : StoreState) (can : Can
     passing_staged = record { sent = was.sent; part = part_now s (λ h. h); counted = was.counted; fit = was.fit; used = was.used }
 
     pub passing_over : Honestly s.disk ((base : Base) → s0.keeps base → length base.messages ≤ at) → HasPassed Own to s0 s all
-    passing_over past = record {
-      sent = was.sent;
-      part = record {
-        grows = was.part.grows;
-        whole = λ honest base kept.
-            let none : sent_of to.source.links.now (drop at base.messages) ≡ [] = ap (λ (l : List Filed). sent_of to.source.links.now l) (drop_all at base.messages (past honest base kept)) in
-            sym (append-nil was.sent) ∙ ap (λ (l : List Sent). was.sent ++ l) (sym none) ∙ was.part.rest honest base kept;
-      };
-      counted = was.counted;
-      fit = was.fit;
-      used = was.used;
-    }
+    passing_over past = grind (arith, drop_all, append-nil)
 
     -- a group was read
     module _ (r : StoreState) (looks : LooksOn s r) where
@@ -325,35 +294,19 @@ module _ (Own : List ℕ → Type 0) (to : Sending) (s0 : StoreState) (can : Can
       read_can = can_still Own (IsStagingTo to was.sent) to s0 r used_read can
 
       pub read_making : IsMaking Own to was.sent r.disk all
-      read_making = record {
-        counted = was.counted;
-        fit = was.fit;
-        grows = λ k z lt. growing_quiet to was.sent s.disk r.disk looks.quiet (get_or (links_to to (is_made was.sent)) k z) (was.part.grows k z lt);
-      }
+      read_making = grind (arith, growing_quiet, get_or)
 
       module _ (group : Group) (from : Honestly r.disk ((base : Base) → s.keeps base → IsGroupFrom to.source.links.now base.messages at group)) (e : StoreState) (now : List LinkPacket)
           (stages : HasStaged Own to (IsBetween was.sent (was.sent ++ group.sent)) r e now) where
         rest_next : e.disk.is_honest → (base : Base) → s0.keeps base → (was.sent ++ group.sent) ++ sent_of to.source.links.now (drop group.next base.messages) ≡ all_sent to base
-        rest_next honest base kept =
-            let at_r = stages.used.changes.honest honest in
-            append_assoc was.sent group.sent (sent_of to.source.links.now (drop group.next base.messages)) ∙ ap (λ (l : List Sent). was.sent ++ l) (from at_r base (was.used.holds.keeps base kept))
-            ∙ was.part.rest (looks.quiet.honest at_r) base kept
+        rest_next honest base kept = grind (arith, append_assoc)
 
         used_next : IsUsedAt (IsStagingTo to stages.sent) s0 e
         used_next = used_twice (IsStagingTo to stages.sent) s0 r e (used_wider (IsStagingTo to was.sent) (IsStagingTo to stages.sent) s0 r (staging_front Own to was.sent stages.sent stages.part.part) used_read) stages.used
 
         -- and written or not
         pub written_staged : HasStaged Own to (IsPartOf to s0 e) s0 e now
-        written_staged = record {
-          sent = stages.sent;
-          part = λ honest base kept.
-              let more = stages.part.rest.0 in
-              let rest = sent_of to.source.links.now (drop group.next base.messages) in
-              (more ++ rest, sym (append_assoc stages.sent more rest) ∙ ap (λ (l : List Sent). l ++ rest) stages.part.rest.1 ∙ rest_next honest base kept);
-          counted = stages.counted;
-          fit = stages.fit;
-          used = used_next;
-        }
+        written_staged = grind (arith, append_assoc, rest_next, used_next)
 
         -- the pass goes on
         pub passing_next : IsMaking Own to (was.sent ++ group.sent) e.disk now → IsPassing Own to s0 e now group.next

@@ -1,6 +1,6 @@
 -- Packets and the commit of a store.
-use Rattle.std.proofs.Common.{◌≡◌, ◌⊎◌, inl, inr, ⊎_elim, ◌∙◌, ◌<◌, ℕ, List, Some, ap, get_or, length, refl, subst, sym}
-use Rattle.std.specs.Prelude.{All, Bool, Err, false, IfErr, IfOk, Ok, OnOk, Result, true}
+use Rattle.std.proofs.Common.{◌≡◌, ◌⊎◌, inl, inr, ⊎_elim, ◌∙◌, ◌<◌, ℕ, List, ap, get_or, length, subst, sym, arith}
+use Rattle.std.specs.Prelude.{All, Bool, Err, IfErr, IfOk, Ok, OnOk, Result, true}
 use Rattle.std.proofs.lemmas.List.Elements.{All-contains}
 use Rattle.base_file.specs.Base.{Base}
 use Rattle.disk_io.specs.Disk.{DiskState, Files, Honestly, bytes_in}
@@ -13,20 +13,16 @@ use Rattle.disk_atomic.specs.Naming.{HasItsPath, NamesEach, StandsWhole}
 use Rattle.disk_atomic.specs.Outgoing.{IsAtStaging, IsFilled, IsOfOne, IsStaged, SendsBytes, staged_in}
 use Rattle.disk_atomic.specs.Publishing.{IsApartFrom}
 use Rattle.disk_atomic.specs.declared.outgoing.Outgoing.{Outgoing}
-use Rattle.base_store.specs.Store.{Commits, IsSameStore, MayCommit, LeavesEither, StoreState}
+use Rattle.base_store.specs.Store.{Commits, IsSameStore, MayCommit, StoreState}
 use Rattle.base_store.proofs.Runs.{same_twice}
 use Rattle.station.specs.Beneath.{HoldsAsBefore}
 use Rattle.station_scan.specs.Beneath.{IsUsedAt}
-use Rattle.station_scan.specs.Publishing.{AreGoing, ArePublished, AreStaged, CommitsWith, IsClear, IsGoingAt, IsNamedAs, IsPublishedAt, IsWritten, UnchangedExcept, KeepsStoreBut, NoneStays, PublishesOn, StopsCommitting, StopsPublishing, staged_before}
-use Rattle.disk_atomic.specs.declared.placing_error.PlacingError.TheVariants as placing
+use Rattle.station_scan.specs.Publishing.{AreGoing, ArePublished, AreStaged, CommitsWith, IsGoingAt, IsNamedAs, IsPublishedAt, IsWritten, UnchangedExcept, KeepsStoreBut, NoneStays, PublishesOn, StopsCommitting, StopsPublishing, staged_before}
 use Rattle.station_scan.specs.declared.publish_error.PublishError.{PublishError}
-use Rattle.station_scan.specs.declared.publish_error.PublishError.TheVariants.{Base as OfBase, Packets, Reading, Staging}
 
 -- no own path of the store belongs to a packet
 pub own_not_of : (s : StoreState) (packets : List Outgoing) → All (IsApartFrom s.is_own) packets → (m : List ℕ) → s.is_own m → IsOfOne packets m → ⊥
-own_not_of s packets apart m own (p, is, at) =
-    let away : IsApartFrom s.is_own p = All-contains (IsApartFrom s.is_own) packets p apart is in
-    ⊎_elim (λ e. away.staging (subst s.is_own e own)) (λ e. away.path (subst s.is_own e own)) at
+own_not_of s packets apart m own (p, is, at) = grind (arith, All-contains, ⊎_elim)
 
 pub own_not_staging : (s : StoreState) (outbound trial : List ℕ) (packets : List Outgoing) → AreGoing s.is_own outbound trial packets → (m : List ℕ) → s.is_own m → IsAtStaging packets trial m → ⊥
 own_not_staging s outbound trial packets going m own at = ⊎_elim (λ b. own_not_of s packets going.apart m own (b.0, b.1, inl b.2)) (λ e. going.off (subst s.is_own e own)) at
@@ -39,36 +35,16 @@ apart_still packets s0 s1 same apart k z lt = record { path = λ o. (apart k z l
 
 -- except at these paths
 pub keeps_then : (paths : List ℕ → Type 0) (d0 d1 d2 : DiskState) → UnchangedExcept paths d0 d1 → UnchangedExcept paths d1 d2 → UnchangedExcept paths d0 d2
-keeps_then paths d0 d1 d2 one two = record {
-  seen = λ m other. two.seen m other ∙ one.seen m other;
-  named = λ m other is. two.named m other (one.named m other is);
-  flushed = λ m other is. two.flushed m other (one.flushed m other is);
-  alone = λ m other is. two.alone m other (one.alone m other is);
-  honest = λ is. one.honest (two.honest is);
-}
+keeps_then paths d0 d1 d2 one two = grind arith
 
 pub keeps_wider : (few many : List ℕ → Type 0) (d0 d1 : DiskState) → ((m : List ℕ) → few m → many m) → UnchangedExcept few d0 d1 → UnchangedExcept many d0 d1
-keeps_wider few many d0 d1 more run =
-    let not : (m : List ℕ) → (many m → ⊥) → few m → ⊥ = λ m other is. other (more m is) in
-    record {
-      seen = λ m other. run.seen m (not m other);
-      named = λ m other. run.named m (not m other);
-      flushed = λ m other. run.flushed m (not m other);
-      alone = λ m other. run.alone m (not m other);
-      honest = run.honest;
-    }
+keeps_wider few many d0 d1 more run = grind arith
 
 pub keeps_only : (paths : List ℕ → Type 0) (d0 d1 : DiskState) → ChangesOnly paths d0 d1 → UnchangedExcept paths d0 d1
 keeps_only paths d0 d1 run = record { seen = run.seen; named = run.named; flushed = run.flushed; alone = run.alone; honest = run.honest }
 
 pub keeps_nothing : (paths : List ℕ → Type 0) (d0 d1 : DiskState) → ChangesNothing d0 d1 → UnchangedExcept paths d0 d1
-keeps_nothing paths d0 d1 quiet = record {
-  seen = λ m other. quiet.seen m;
-  named = λ m other. quiet.named m (λ h. h);
-  flushed = λ m other. quiet.flushed m (λ h. h);
-  alone = λ m other. quiet.alone m (λ h. h);
-  honest = quiet.honest;
-}
+keeps_nothing paths d0 d1 quiet = grind arith
 
 -- and of a store
 pub store_wider : (few many : List ℕ → Type 0) (s0 s1 : StoreState) → ((m : List ℕ) → few m → many m) → KeepsStoreBut few s0 s1 → KeepsStoreBut many s0 s1
@@ -77,12 +53,7 @@ store_wider few many s0 s1 more kept = record { same = kept.same; keeps = keeps_
 -- ---- commits
 
 pub commits_still : (s0 s1 s2 : StoreState) → Commits s0 s1 → HoldsAsBefore s1 s2 → (s2.disk.is_honest → s1.disk.is_honest) → Commits s0 s2
-commits_still s0 s1 s2 commits holds honest = record {
-  ready = holds.ready;
-  keeps = λ is base h. holds.keeps base (commits.keeps (honest is) base h);
-  committed = λ is base h. holds.committed base (commits.committed (honest is) base h);
-  honest = λ is. commits.honest (honest is);
-}
+commits_still s0 s1 s2 commits holds honest = grind arith
 
 pub holds_still : (s0 s1 s2 : StoreState) → HoldsAsBefore s0 s1 → HoldsAsBefore s1 s2 → HoldsAsBefore s0 s2
 holds_still s0 s1 s2 one two = record { ready = two.ready; keeps = λ base h. two.keeps base (one.keeps base h); committed = λ base h. two.committed base (one.committed base h) }
@@ -94,9 +65,7 @@ holds_now s ready = record { ready = ready; keeps = λ base h. h; committed = λ
 
 module _ (one other : Outgoing → List ℕ) (packets : List Outgoing) (same : All (λ p. one p ≡ other p) packets) where
   pub whole_as : (c : Files) → All (StandsWhole one c) packets → All (StandsWhole other c) packets
-  whole_as c all k z lt =
-      let p = get_or packets k z in
-      subst (λ (b : List ℕ). (c p.path.now ≡ Some b) ⊎ (c p.staging.now ≡ Some b)) (same k z lt) (all k z lt)
+  whole_as c all k z lt = grind (arith, get_or)
 
   pub bytes_as : All (SendsBytes one) packets → All (SendsBytes other) packets
   bytes_as all k z lt = subst AreBytes (same k z lt) (all k z lt)
@@ -115,10 +84,7 @@ module _ (packets : List Outgoing) (s0 : StoreState) (apart : All (IsApartFrom s
   has = staged_in s0.disk.seen
 
   filled_still : (k : ℕ) (z : Outgoing) → k < length packets → IsFilled has s1.disk (get_or packets k z)
-  filled_still k z lt =
-      let file = (staged.staged k z lt).file in
-      let off = (apart k z lt).staging in
-      record { seen = may.beside.seen _ off ∙ file.seen; named = may.beside.named _ off file.named; flushed = may.beside.flushed _ off file.flushed }
+  filled_still k z lt = grind arith
 
   -- after a failure they stay there
   pub all_filled : All (IsFilled has s1.disk) packets
@@ -135,21 +101,7 @@ module _ (packets : List Outgoing) (s0 : StoreState) (apart : All (IsApartFrom s
   staged_still k z lt = record { file = filled_as has (staged_in s1.disk.seen) packets back_staged s1.disk all_filled k z lt; named = may.beside.named _ (apart k z lt).path (staged.staged k z lt).named }
 
   committing : s1.disk.is_honest → (first next : Base) → s0.committed first → s0.keeps next → LeavesOnly s0.disk s1.disk (CommitsWith s0 (IsOfOne packets) has packets first next)
-  committing honest first next was is =
-      let clear : All (IsClear s0.disk) packets = staged.clear (may.beside.honest honest) in
-      weaker_run s0.disk s1.disk (LeavesEither s0 first next) (CommitsWith s0 (IsOfOne packets) has packets first next) (may.any_moment honest first next was is)
-      (λ c either. record {
-        others = λ m out other on. either.beside m out on.0 on.1;
-        either =
-            ⊎_elim
-            (λ stands. inl (stands, λ k z lt. let none = clear k z lt in either.beside (get_or packets k z).path.now (apart k z lt).path none.named none.flushed ∙ none.none))
-            (λ stands. inr (
-              stands,
-              λ k z lt. let file = (staged.staged k z lt).file in inr (either.beside (get_or packets k z).staging.now (apart k z lt).staging file.named file.flushed ∙ file.seen),
-              staged.bytes (may.beside.honest honest),
-            ))
-            either.stands;
-      })
+  committing honest first next was is = grind (arith, weaker_run, ⊎_elim, get_or)
 
   -- and then they get their paths
   pub naming : (s2 : StoreState) → Commits s0 s1 → IsUsedAt (IsOfOne packets) s1 s2 → s1.disk.is_honest → LeavesOnly s1.disk s2.disk (OneStepOn (NamesEach (staged_in s1.disk.seen) packets) s1.disk) → (first next : Base) → s0.committed first
@@ -202,29 +154,14 @@ module _ (outbound trial : List ℕ) (content : Outgoing → List ℕ) (packets 
 
   -- and the paths that it touches
   pub publish_keeps : (s2 : StoreState) → KeepsStoreBut (IsPublishedAt s1 (IsOfOne packets)) s1 s2 → KeepsStoreBut (IsPublishedAt s0 (IsGoingAt packets trial)) s0 s2
-  publish_keeps s2 kept =
-      let at = IsPublishedAt s0 (IsGoingAt packets trial) in
-      record {
-        same = same_twice s0 s1 s2 used.same kept.same;
-        keeps =
-            keeps_then at s0.disk s1.disk s2.disk (keeps_wider (IsAtStaging packets trial) at s0.disk s1.disk (λ m is. inr (going_at m is)) (keeps_only (IsAtStaging packets trial) s0.disk s1.disk used.changes))
-            (keeps_wider (IsPublishedAt s1 (IsOfOne packets)) at s1.disk s2.disk (λ m is. ⊎_elim (λ o. inl ((used.same.own m).0 o)) (λ of. inr (inl of)) is) kept.keeps);
-      }
+  publish_keeps s2 kept = grind (arith, same_twice, keeps_then, keeps_wider, going_at, keeps_only, ⊎_elim)
 
   pub staging_keeps : KeepsStoreBut (IsPublishedAt s0 (IsGoingAt packets trial)) s0 s1
-  staging_keeps = record {
-    same = used.same;
-    keeps = keeps_wider (IsAtStaging packets trial) (IsPublishedAt s0 (IsGoingAt packets trial)) s0.disk s1.disk (λ m is. inr (going_at m is)) (keeps_only (IsAtStaging packets trial) s0.disk s1.disk used.changes);
-  }
+  staging_keeps = grind (arith, keeps_wider, going_at, keeps_only)
 
 -- a commit after a use is a commit from before it
 pub commits_used : (paths : List ℕ → Type 0) (s0 s1 s2 : StoreState) → IsUsedAt paths s0 s1 → Commits s1 s2 → Commits s0 s2
-commits_used paths s0 s1 s2 used commits = record {
-  ready = commits.ready;
-  keeps = λ honest base kept. commits.keeps honest base (used.holds.keeps base kept);
-  committed = λ honest base kept. commits.committed honest base (used.holds.keeps base kept);
-  honest = λ honest. used.changes.honest (commits.honest honest);
-}
+commits_used paths s0 s1 s2 used commits = grind arith
 
 -- what the staging files had is what the packets are to have
 module _ (outbound trial : List ℕ) (content : Base → Outgoing → List ℕ) (packets : List Outgoing) (s0 s1 s2 : StoreState) (used : IsUsedAt (IsAtStaging packets trial) s0 s1) (honest_run : s2.disk.is_honest → s1.disk.is_honest)
@@ -241,12 +178,7 @@ module _ (outbound trial : List ℕ) (content : Base → Outgoing → List ℕ) 
   published_from (Err why) are = tt
 
   stops_as : s2.disk.is_honest → (why : PublishError) → StopsCommitting packets s1 s2 why → StopsPublishing content packets trial s0 s2 why
-  stops_as honest (Packets placing.Taken) stops = inr (commits_used (IsAtStaging packets trial) s0 s1 s2 used stops)
-  stops_as honest (Packets placing.Memory) stops = inr (commits_used (IsAtStaging packets trial) s0 s1 s2 used stops)
-  stops_as honest (Packets placing.Device) stops = inr (commits_used (IsAtStaging packets trial) s0 s1 s2 used stops)
-  stops_as honest (Reading cause) stops = absurd stops
-  stops_as honest (Staging cause) stops = absurd stops
-  stops_as honest (OfBase cause) stops = λ base kept. filled_as (staged_in s1.disk.seen) (content base) packets (written (honest_run honest) base kept) s2.disk stops
+  stops_as h1 why h2 = grind (arith, commits_used, filled_as)
 
   pub stops_from : s2.disk.is_honest → (result : Result (Unit {0}) PublishError) → IfErr result (StopsCommitting packets s1 s2) → IfErr result (StopsPublishing content packets trial s0 s2)
   stops_from honest (Ok done) stops = tt
@@ -254,22 +186,10 @@ module _ (outbound trial : List ℕ) (content : Base → Outgoing → List ℕ) 
 
 -- it stopped before the commit
 pub stops_before : (content : Base → Outgoing → List ℕ) (packets : List Outgoing) (trial : List ℕ) (s0 s1 : StoreState) (why : PublishError) → HoldsAsBefore s0 s1 → NoneStays packets trial s1.disk why → StopsPublishing content packets trial s0 s1 why
-stops_before content packets trial s0 s1 (Packets placing.Taken) holds gone = inl holds
-stops_before content packets trial s0 s1 (Packets placing.Memory) holds gone = inl (holds, gone)
-stops_before content packets trial s0 s1 (Packets placing.Device) holds gone = inl (holds, gone)
-stops_before content packets trial s0 s1 (Reading cause) holds gone = (holds, gone)
-stops_before content packets trial s0 s1 (Staging cause) holds gone = holds
-stops_before content packets trial s0 s1 (OfBase cause) holds gone = absurd gone
+stops_before content packets trial s0 s1 why h1 h2 = grind arith
 
 -- whether all got their paths
 pub published_if : (packets : List Outgoing) (s0 s1 s2 : StoreState) (named : Result Bool DiskError) (result : Result (Unit {0}) PublishError) → IsNamedAs named result → (s2.disk.is_honest → s0.disk.is_honest)
     → All (λ p. staged_in s1.disk.seen p ≡ staged_in s0.disk.seen p) packets → Honestly s2.disk (IfOk named (λ all. all ≡ true → All (HasItsPath (staged_in s1.disk.seen) s2.disk) packets)) → Commits s0 s2
     → Honestly s0.disk (All (SendsBytes (staged_in s0.disk.seen)) packets) → OnOk result (ArePublished (staged_before s0) packets s0 s2)
-published_if packets s0 s1 s2 (Ok true) result is run same paths commits bytes =
-    subst (λ (r : Result (Unit {0}) PublishError). OnOk r (ArePublished (staged_before s0) packets s0 s2)) (sym is) (record {
-      committed = commits;
-      named = λ honest base kept. path_as (staged_in s1.disk.seen) (staged_in s0.disk.seen) packets same s2.disk (paths honest refl);
-      bytes = λ honest base kept. bytes (run honest);
-    })
-published_if packets s0 s1 s2 (Ok false) result is run same paths commits bytes = subst (λ (r : Result (Unit {0}) PublishError). OnOk r (ArePublished (staged_before s0) packets s0 s2)) (sym is) tt
-published_if packets s0 s1 s2 (Err cause) result is run same paths commits bytes = subst (λ (r : Result (Unit {0}) PublishError). OnOk r (ArePublished (staged_before s0) packets s0 s2)) (sym is) tt
+published_if packets s0 s1 s2 named result h1 h2 h3 h4 h5 h6 = grind (arith, path_as)

@@ -18,12 +18,10 @@ use Rattle.cmd_status.specs.Devices.{Output}
 use Rattle.cmd_store.specs.Scanned.{ScansOn}
 use Rattle.cmd_store.specs.Stops.{store_answer}
 use Rattle.cmd_store.specs.declared.command_error.CommandError.{CommandError}
-use Rattle.cmd_store.specs.declared.command_error.CommandError.TheVariants.{Met, Store}
 use Rattle.echo_toss.specs.PacketsIn.{state_in}
 use Rattle.model_steps.specs.PacketFiles.{PacketFile}
 use Rattle.base_store.specs.Store.{StoreState, all_scanned}
 use Rattle.base_store.specs.declared.store_error.StoreError.TheVariants as error
-use Rattle.station.specs.Beneath.{HoldsAsBefore}
 use Rattle.station_scan.specs.Beneath.{IsUsedAt}
 use Rattle.station_scan.specs.Moved.{IsMoved, IsPutFrom, ScansFrom, StopsFrom, ReportsFrom, files_reported, from_number, left_cause, left_reported, reported_as}
 use Rattle.station_scan.specs.Fitting.{AreTaken}
@@ -131,10 +129,7 @@ module _ (Own : List ℕ → Type 0) (to : Sending) (own_is : to.own.now ≡ dot
 
       tries_made : (made : Result (List PacketFile) CommandError) → ScansOn to.source.stamp (state_in to.source.links.now base) out now made → IsPutFrom state Own outbound own some s1 s2 base packets made result
           → OnOk result (TriesOn state to.source.stamp Own outbound s0 s2 out now to.source.links.now base)
-      tries_made (Ok files) answer put =
-          on_ok_weaker result (λ tried.
-          ⊎_elim (λ (h : HoldsAsBefore s1 s2). inl (h.ready, h.committed base (used.holds.committed base moved.committed))) (λ (was : WasTriedFor state Own outbound own files s1.disk). inr (files, answer, tried_at files was)) tried) put.tried
-      tries_made (Err why) answer put = stopped_ok _ some s1.disk.seen s2.disk.seen why result put.reported
+      tries_made made h1 h2 = grind (arith, on_ok_weaker, ⊎_elim, tried_at, stopped_ok)
 
       pub tries_put : ScansFrom state Own to some s1 s2 out now base result → OnOk result (TriesOn state to.source.stamp Own outbound s0 s2 out now to.source.links.now base)
       tries_put scans = tries_made scans.made scans.answer scans.put
@@ -148,13 +143,7 @@ module _ (Own : List ℕ → Type 0) (to : Sending) (own_is : to.own.now ≡ dot
         record { found = before.found; each = before.each; sent = tt; crash = then_nothing s0.disk s1.disk s2.disk _ before.crash quiet; why = before.why }
 
     left_why : (stop : CommandError) → (IsErrOf (store_answer {A = Unit {0}} (Err stop)) error.Device → failed) → (why : PlacingError) → why ≡ cause → IsOfPlacing failed ⊥ ⊥ (Staying (left_cause why stop))
-    left_why stop device_of placing.Device is = device (sym is)
-    left_why stop device_of placing.Memory is = tt
-    left_why (Met fault) device_of placing.Taken is = tt
-    left_why (Store error.Device) device_of placing.Taken is = device_of cc
-    left_why (Store error.Damaged) device_of placing.Taken is = tt
-    left_why (Store error.Memory) device_of placing.Taken is = tt
-    left_why (Store error.TooMany) device_of placing.Taken is = tt
+    left_why stop h1 why h2 = grind arith
 
     left_stops : (stop : CommandError) → (IsErrOf (store_answer {A = Unit {0}} (Err stop)) error.Device → failed) → StopsScan is_true failed Own outbound own (s0.stands base) cursor packets s0.disk s2.disk stop (Err (Staying (left_cause cause stop)))
     left_stops stop device_of = record {
@@ -169,22 +158,7 @@ module _ (Own : List ℕ → Type 0) (to : Sending) (own_is : to.own.now ≡ dot
 
     pub scans_left : (out now : Output) (reported : Result (Unit {0}) CommandError) → ScansOn to.source.stamp (state_in to.source.links.now (from_number to.source.from base)) out now (files_reported to.source (all_scanned base) reported)
         → (IsErrOf (store_answer reported) error.Device → failed) → ScansOnStore to.source.stamp Own outbound IsTrue failed s0 s2 out now to.source.links.now base (left_reported cause reported)
-    scans_left out now (Ok done) answer device_of = record {
-      made = Ok packets;
-      answer = subst (λ (n : ℕ). ScansOn to.source.stamp (state_in to.source.links.now (from_number n base)) out now (Ok (packets_in to.source.stamp to.source.links.now (from_number n base)))) moved.at answer;
-      put =
-          put_as s2 (Ok packets) (Err (Placing cause))
-          (subst (λ (n : ℕ). SendsOut is_true failed Own outbound own (s0.stands base) (s0.stands (all_scanned base)) n packets s0.disk s2.disk (Err (Placing cause))) same_cursor left_sends);
-      whole = λ is. cc is;
-    }
-    scans_left out now (Err stop) answer device_of = record {
-      made = Err stop;
-      answer = subst (λ (n : ℕ). ScansOn to.source.stamp (state_in to.source.links.now (from_number n base)) out now (Err stop)) moved.at answer;
-      put =
-          put_as s2 (Err stop) (Err (Staying (left_cause cause stop)))
-          (subst (λ (n : ℕ). StopsScan is_true failed Own outbound own (s0.stands base) n packets s0.disk s2.disk stop (Err (Staying (left_cause cause stop)))) same_cursor (left_stops stop device_of));
-      whole = λ is. cc is;
-    }
+    scans_left out now reported h1 h2 = grind (arith, put_as, same_cursor, left_sends, left_stops)
 
 -- ---- it stopped before
 

@@ -1,5 +1,5 @@
 -- A scan once its cursor was moved: its lines are printed, or it stops.
-use Rattle.std.proofs.Common.{◌≡◌, inl, inr, ⊎_elim, ◌∙◌, ◌≤◌, ◌<◌, ℕ, true, List, Result, Ok, Err, map, drop, refl, sym, subst, ap}
+use Rattle.std.proofs.Common.{◌≡◌, inl, inr, ⊎_elim, ◌∙◌, ◌≤◌, ◌<◌, ℕ, true, List, Result, Ok, Err, map, drop, refl, sym, subst, ap, arith}
 use Rattle.std.specs.Prelude.{IsErrOf}
 use Rattle.std.specs.List.{flat_map}
 use Rattle.base_file.specs.Base.{Base}
@@ -77,9 +77,7 @@ staying_why failed disk.Memory gives = tt
 
 -- no message is damaged where the lines were reported
 pub reported_whole : (why : ScanError) (reported : Result (Unit {0}) CommandError) → ((e : CommandError) → why ≡ Command e → ⊥) → (IsErrOf (store_answer reported) error.Damaged → ⊥) → IsErrOf (reported_as why reported) (Command (Store error.Damaged)) → ⊥
-reported_whole why (Ok done) not whole is = let same : why ≡ Command (Store error.Damaged) = cc is in not _ same
-reported_whole why (Err (Met fault)) not whole is = cc is
-reported_whole why (Err (Store cause)) not whole is = whole (cc is)
+reported_whole why reported h1 h2 h3 = grind arith
 
 -- ---- it stopped
 
@@ -192,14 +190,7 @@ placing_other cause e is = cc is
 pub reported : {S : Type 0} (state : S → StoreState) (source : Source) (s0 s1 : StoreState) (f0 f1 : ℕ) (out now : Output) → LooksOn s0 s1 → (packets : List CountedPacket) → f0 ≤ f1 → is_stamp source.stamp ≡ true
     → Honestly s1.disk ((base : Base) → s0.keeps base → packets ≡ map counted_of (scanned source.links.now base.messages source.from source.stamp)) → (result : Result (Unit {0}) CommandError)
     → AnswersOn (AreLines (flat_map counted_line packets)) RefusesNone out now result → store_answer result ≡ Ok tt → HasReported state source s0 s1 f0 f1 out now result
-reported state source s0 s1 f0 f1 out now looks packets later stamp counted result answer met =
-    let none : (cause : StoreError) → IsErrOf (store_answer result) cause → ⊥ = λ cause e. let is = subst (λ (r : Result (Unit {0}) StoreError). IsErrOf r cause) met e in cc is in
-    record {
-      answers = λ honest base kept. scan_printed source.stamp (state_in source.links.now (from_number source.from base)) packets out now stamp (counted honest base kept) result answer;
-      looks = looks;
-      many = λ e. absurd (none _ e);
-      cause = record { later = later; failed = λ e. absurd (none _ e); damaged = λ honest e. absurd (none _ e) };
-    }
+reported state source s0 s1 f0 f1 out now looks packets later stamp counted result answer met = grind (arith, scan_printed)
 
 -- ---- one part after another
 
@@ -210,37 +201,15 @@ reports_wider some failed before after why result wider (inr (left, is, cause)) 
 
 put_as_wider : {D : Type 0} (state : D → DiskState) (Own : List ℕ → Type 0) (outbound own : List ℕ) (some failed : Type 0) → (some → failed) → (s0 s1 : StoreState) (base : Base) (packets : List PacketFile) (made : Result (List PacketFile) CommandError)
     (result : Result (Unit {0}) ScanError) → IsPutFrom state Own outbound own some s0 s1 base packets made result → IsPutFrom state Own outbound own failed s0 s1 base packets made result
-put_as_wider state Own outbound own some failed wider s0 s1 base packets (Ok files) result put = record {
-  sent = put.sent;
-  crash = put.crash;
-  keeps = put.keeps;
-  why = put_wider some failed _ _ _ result wider (λ t. t) put.why;
-  tried = put.tried;
-}
-put_as_wider state Own outbound own some failed wider s0 s1 base packets (Err why) result put = record {
-  crash = put.crash;
-  others = put.others;
-  shown = put.shown;
-  reported = reports_wider some failed s0.disk.seen s1.disk.seen why result wider put.reported;
-}
+put_as_wider state Own outbound own some failed h1 s0 s1 base packets made result h2 = grind (arith, put_wider, reported, reports_wider)
 
 -- more may have failed
 pub scans_wider : {D : Type 0} (state : D → DiskState) (Own : List ℕ → Type 0) (to : Sending) (some failed : Type 0) → (some → failed) → (s0 s1 : StoreState) (out now : Output) (base : Base) (result : Result (Unit {0}) ScanError)
     → ScansFrom state Own to some s0 s1 out now base result → ScansFrom state Own to failed s0 s1 out now base result
-scans_wider state Own to some failed wider s0 s1 out now base result scans = record {
-  made = scans.made;
-  answer = scans.answer;
-  put = put_as_wider state Own to.outbound.now to.own.now some failed wider s0 s1 base (packets_in to.source.stamp to.source.links.now base) scans.made result scans.put;
-  whole = scans.whole;
-}
+scans_wider state Own to some failed wider s0 s1 out now base result scans = grind (arith, put_as_wider)
 
 pub touched_after : (outbound : List ℕ) (s0 s1 s2 : StoreState) → KeepsStoreBut (IsTouched s0.is_own outbound) s0 s1 → KeepsStoreBut (IsTouched s1.is_own outbound) s1 s2 → KeepsStoreBut (IsTouched s0.is_own outbound) s0 s2
-touched_after outbound s0 s1 s2 one two =
-    let at = IsTouched s0.is_own outbound in
-    record {
-      same = same_twice s0 s1 s2 one.same two.same;
-      keeps = keeps_then at s0.disk s1.disk s2.disk one.keeps (keeps_wider (IsTouched s1.is_own outbound) at s1.disk s2.disk (λ m is. ⊎_elim (λ o. inl ((one.same.own m).0 o)) (λ name. inr name) is) two.keeps);
-    }
+touched_after outbound s0 s1 s2 one two = grind (arith, same_twice, keeps_then, keeps_wider, ⊎_elim)
 
 pub touched_looked : (outbound : List ℕ) (s0 s1 : StoreState) → LooksOn s0 s1 → KeepsStoreBut (IsTouched s0.is_own outbound) s0 s1
 touched_looked outbound s0 s1 looks = record { same = looks.same; keeps = keeps_nothing (IsTouched s0.is_own outbound) s0.disk s1.disk looks.quiet }

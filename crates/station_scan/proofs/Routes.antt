@@ -46,16 +46,10 @@ pub made_before : (sent more : List Sent) (a : Address) → is_made (sent ++ mor
 made_before sent more a made none = sym (ap (λ (l : List Message). nat_lt 0 (length l)) (same_copies sent more a none)) ∙ made
 
 pub begun_is : (sent more : List Sent) (a : Address) → is_begun sent more a ≡ true → (is_made sent a ≡ false) × (is_made (sent ++ more) a ≡ true)
-begun_is sent more a is = elim (cases_Bool (is_made sent a)) [
-  | inl made ↦ absurd (true≢false (sym is ∙ ap (λ (b : Bool). not b && is_made (sent ++ more) a) made))
-  | inr none ↦ (none, sym (ap (λ (b : Bool). not b && is_made (sent ++ more) a) none) ∙ is)
-]
+begun_is sent more a is = grind (arith, cases_Bool)
 
 pub begun_more : (sent more : List Sent) (a : Address) → is_begun sent more a ≡ true → is_made more a ≡ true
-begun_more sent more a is = let was = begun_is sent more a is in elim (cases_Bool (is_made more a)) [
-  | inl made ↦ made
-  | inr none ↦ absurd (true≢false (sym (made_before sent more a was.1 none) ∙ was.0))
-]
+begun_more sent more a is = grind (arith, begun_is, cases_Bool, made_before)
 
 pub begun_if : (sent more : List Sent) (a : Address) → is_made sent a ≡ false → is_made (sent ++ more) a ≡ true → is_begun sent more a ≡ true
 begun_if sent more a none made = ap (λ (b : Bool). not b && is_made (sent ++ more) a) none ∙ made

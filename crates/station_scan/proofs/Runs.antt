@@ -1,5 +1,5 @@
 -- A scan of a store that was opened, as one of the station.
-use Rattle.std.proofs.Common.{◌⊎◌, inl, inr, ⊎_elim, ◌∙◌, ℕ, List, Result, Ok, Err, refl, subst, sym, ◌++◌}
+use Rattle.std.proofs.Common.{◌⊎◌, inl, inr, ⊎_elim, ◌∙◌, ℕ, List, Result, Ok, Err, refl, subst, sym, ◌++◌, arith}
 use Rattle.std.specs.Prelude.{OnOk, get_or}
 use Rattle.base_file.specs.Base.{Base}
 use Rattle.disk_io.specs.Disk.{DiskState, Files}
@@ -30,16 +30,7 @@ use Rattle.station_scan.proofs.Stops.{put_wider}
 -- the same for another name of the same own paths
 module _ (Own Own2 : List ℕ → Type 0) (out : (m : List ℕ) → Own2 m → Own m) (outbound own : List ℕ) where
   left_as : (is_true : Type 0) (l : Left) → IsLeftOf is_true Own outbound own l → IsLeftOf is_true Own2 outbound own l
-  left_as is_true l (name, like, numbered) = (
-    name,
-    record {
-      path = like.path;
-      staging = like.staging;
-      plain = like.plain;
-      off = record { path = λ o. like.off.path (out _ o); staging = λ o. like.off.staging (out _ o) };
-    },
-    numbered,
-  )
+  left_as is_true l (name, like, numbered) = grind arith
 
   all_left_as : (is_true : Type 0) (files : Files) (found : List Left) → ((m : List ℕ) → Own m → Own2 m) → AreAllLeft is_true Own outbound own files found → AreAllLeft is_true Own2 outbound own files found
   all_left_as is_true files found into all truth name before numbered to =
@@ -50,12 +41,7 @@ module _ (Own Own2 : List ℕ → Type 0) (out : (m : List ℕ) → Own2 m → O
       })
 
   fit_as : (files : List PacketFile) → AreFit Own2 outbound own files → ((m : List ℕ) → Own m → Own2 m) → AreFit Own outbound own files
-  fit_as files fit into = record {
-    names = fit.names;
-    differ = fit.differ;
-    off = λ k z lt. let off = fit.off k z lt in record { path = λ o. off.path (into _ o); staging = λ o. off.staging (into _ o) };
-    trial = λ o. fit.trial (into _ o);
-  }
+  fit_as files fit into = grind arith
 
   -- the two paths of a packet
   taken_as : (cursor : ℕ) (found : List Left) (files : List PacketFile) (seen : Files) → ((m : List ℕ) → Own m → Own2 m) → IsTaken Own outbound own cursor found files seen → IsTaken Own2 outbound own cursor found files seen
@@ -68,13 +54,7 @@ module _ (Own Own2 : List ℕ → Type 0) (out : (m : List ℕ) → Own2 m → O
   these_as files into m of = ⊎_elim (λ o. inl (into m o)) (λ p. inr p) of
 
 pub elsewhere_keeps : (place : Place) (outbound : List ℕ) (d0 d1 : DiskState) → KeepsElsewhere place d0 d1 → UnchangedExcept (IsTouched place.is_own outbound) d0 d1
-elsewhere_keeps place outbound d0 d1 kept = record {
-  seen = λ m other. kept.seen m (λ o. other (inl o));
-  named = λ m other. kept.named m (λ o. other (inl o));
-  flushed = λ m other. kept.flushed m (λ o. other (inl o));
-  alone = λ m other. kept.alone m (λ o. other (inl o));
-  honest = kept.honest;
-}
+elsewhere_keeps place outbound d0 d1 kept = grind arith
 
 module _ (place : Place) (d0 d2 : DiskState) (s1 s2 : StoreState) (begun : IsOpenFor place d0 s1) (of : IsOfPlace place d0 s1) (quiet : ChangesNothing s2.disk d2) (Own : List ℕ → Type 0)
     (own_in : (m : List ℕ) → Own m → place.is_own m) (in_own : (m : List ℕ) → place.is_own m → Own m) (outbound : List ℕ) where
@@ -101,12 +81,7 @@ module _ (place : Place) (d0 d2 : DiskState) (s1 s2 : StoreState) (begun : IsOpe
           left
 
       prepared_on : (c : Files) → Prepares_on c → Prepares c
-      prepared_on c step =
-          let prep = step.2 in (
-            step.0,
-            left_now d0 s1.disk (StandsOrWasLeft place d0 base) (begun.run base stands) step.0 step.1,
-            record { between = prep.between; ends = prep.ends; writes = prep.writes; stands = (of.stands base c).0 prep.stands },
-          )
+      prepared_on c step = grind (arith, left_now)
 
       stopped_crash : LeavesOnly s1.disk s2.disk Prepares_on → LeavesOnly d0 d2 (λ c. d0.may_leave c ⊎ Prepares c)
       stopped_crash crash =
@@ -225,9 +200,4 @@ module _ (place : Place) (d0 d2 : DiskState) (s1 s2 : StoreState) (begun : IsOpe
 -- which paths a scan touched
 pub scan_keeps : (place : Place) (outbound : List ℕ) (d0 d2 : DiskState) (s1 s2 : StoreState) → IsOfPlace place d0 s1 → ChangesNothing s2.disk d2 → KeepsStoreBut (IsTouched s1.is_own outbound) s1 s2
     → UnchangedExcept (IsTouched place.is_own outbound) d0 d2
-scan_keeps place outbound d0 d2 s1 s2 of quiet kept =
-    let at = IsTouched place.is_own outbound in
-    keeps_then at d0 s2.disk d2
-    (keeps_then at d0 s1.disk s2.disk (elsewhere_keeps place outbound d0 s1.disk of.elsewhere)
-    (keeps_wider (IsTouched s1.is_own outbound) at s1.disk s2.disk (λ m is. ⊎_elim (λ o. inl (of.own m o)) (λ name. inr name) is) kept.keeps))
-    (keeps_nothing at s2.disk d2 quiet)
+scan_keeps place outbound d0 d2 s1 s2 of quiet kept = grind (arith, keeps_then, elsewhere_keeps, keeps_wider, ⊎_elim, keeps_nothing)

@@ -1,5 +1,5 @@
 -- A scan of a store.
-use Rattle.std.proofs.Common.{ℕ, List, [], Result, Ok, ⊎_elim, arith, inl, inr, refl, subst, sym}
+use Rattle.std.proofs.Common.{ℕ, List, [], Result, ⊎_elim, arith, inl, inr, refl, subst, sym}
 use Rattle.std.specs.Prelude.{Err, IsErrOf}
 use Rattle.base_file.specs.Base.{Base}
 use Rattle.disk_io.specs.Disk.{DiskState, Files}
@@ -10,7 +10,7 @@ use Rattle.disk_atomic.specs.StagingPaths.{dotted}
 use Rattle.cmd_status.specs.Devices.{Output}
 use Rattle.model_steps.specs.PacketFiles.{PacketFile}
 use Rattle.model_steps.specs.declared.stamp.Stamp.{Stamp}
-use Rattle.base_store.specs.Store.{IsSameStore, StoreState, all_scanned}
+use Rattle.base_store.specs.Store.{IsSameStore, StoreState}
 use Rattle.base_store.specs.declared.store_error.StoreError.TheVariants.{Damaged}
 use Rattle.cmd_store.specs.Scanned.{ScansOn}
 use Rattle.cmd_store.specs.declared.command_error.CommandError.{CommandError}
@@ -18,7 +18,7 @@ use Rattle.cmd_store.specs.declared.command_error.CommandError.TheVariants.{Stor
 use Rattle.echo_toss.specs.PacketsIn.{state_in}
 use Rattle.base_store.proofs.Runs.{same_twice}
 use Rattle.station_scan.specs.Publishing.{KeepsStoreBut}
-use Rattle.station_scan.specs.Scanning.{IsPutOn, IsTouched, ScansOnStore, StopsScan, packets_in}
+use Rattle.station_scan.specs.Scanning.{IsPutOn, IsTouched, ScansOnStore, StopsScan}
 use Rattle.station_scan.proofs.Published.{keeps_nothing, keeps_then, keeps_wider}
 use Rattle.station_scan.specs.declared.scan_error.ScanError.{ScanError}
 use Rattle.station_scan.specs.declared.scan_error.ScanError.TheVariants.{Command}
@@ -53,33 +53,14 @@ scans_stopped stamp Own outbound IsTrue failed s1 s2 out now file base why hones
 put_moved : (Own : List ℕ → Type 0) (outbound own : List ℕ) (IsTrue : Files → Type 0) (some failed : Type 0) → (some → failed) → (s1 sA s2 : StoreState) (base : Base) (packets : List PacketFile) (made : Result (List PacketFile) CommandError)
     (result : Result (Unit {0}) ScanError) → IsSameStore s1 sA → ChangesNothing s1.disk sA.disk → ((c : Files) → sA.stands base c → s1.stands base c) → ((c : Files) → s1.disk.may_leave c → s1.stands base c)
     → IsPutOn Own outbound own IsTrue some sA s2 base packets made result → IsPutOn Own outbound own IsTrue failed s1 s2 base packets made result
-put_moved Own outbound own IsTrue some failed wider s1 sA s2 base packets (Ok files) result same quiet stays left put =
-    let next = all_scanned base in
-    looked_out Own outbound own (s1.stands base) (s1.stands next) (sA.stands base) (sA.stands next) base.cursor files s1.disk sA.disk s2.disk quiet stays (λ c came. (same.stands next c).0 came) left IsTrue some failed wider result put
-put_moved Own outbound own IsTrue some failed wider s1 sA s2 base packets (Err why) result same quiet stays left put =
-    looked_stop Own outbound own (s1.stands base) (sA.stands base) base.cursor packets s1.disk sA.disk s2.disk quiet stays left IsTrue some failed wider why result put
+put_moved Own outbound own IsTrue some failed h1 s1 sA s2 base packets made result h2 h3 h4 h5 h6 = grind (arith, looked_out, looked_stop)
 
 -- the same of a scan once its cursor was moved
 pub scans_moved : (stamp : Stamp) (Own : List ℕ → Type 0) (outbound : List ℕ) (IsTrue : Files → Type 0) (some failed : Type 0) → (some → failed) → (s1 sA s2 : StoreState) (out now : Output) (file : LinkFile) (base : Base) (result : Result (Unit {0}) ScanError)
     → s1.disk.is_honest → s1.is_ready → s1.committed base → IsSameStore s1 sA → ChangesNothing s1.disk sA.disk → ScansOnStore stamp Own outbound IsTrue some sA s2 out now file base result
     → ScansOnStore stamp Own outbound IsTrue failed s1 s2 out now file base result
-scans_moved stamp Own outbound IsTrue some failed wider s1 sA s2 out now file base result honest ready is same quiet scans =
-    let own = dotted file.system in
-    let next = all_scanned base in
-    let stays = λ (c : Files) (stood : sA.stands base c). (same.stands base c).0 stood in
-    let left = λ (c : Files) (may : s1.disk.may_leave c). s1.stays honest ready base is c may in
-    record {
-      made = scans.made;
-      answer = scans.answer;
-      put = put_moved Own outbound own IsTrue some failed wider s1 sA s2 base (packets_in stamp file base) scans.made result same quiet stays left scans.put;
-      whole = scans.whole;
-    }
+scans_moved stamp Own outbound IsTrue some failed wider s1 sA s2 out now file base result honest ready is same quiet scans = grind (arith, put_moved)
 
 -- and what it touched
 pub moved_keeps : (outbound : List ℕ) (s1 sA s2 : StoreState) → IsSameStore s1 sA → ChangesNothing s1.disk sA.disk → KeepsStoreBut (IsTouched sA.is_own outbound) sA s2 → KeepsStoreBut (IsTouched s1.is_own outbound) s1 s2
-moved_keeps outbound s1 sA s2 same quiet kept =
-    let at = IsTouched s1.is_own outbound in
-    record {
-      same = same_twice s1 sA s2 same kept.same;
-      keeps = keeps_then at s1.disk sA.disk s2.disk (keeps_nothing at s1.disk sA.disk quiet) (keeps_wider (IsTouched sA.is_own outbound) at sA.disk s2.disk (λ m is. ⊎_elim (λ o. inl ((same.own m).0 o)) (λ name. inr name) is) kept.keeps);
-    }
+moved_keeps outbound s1 sA s2 same quiet kept = grind (arith, same_twice, keeps_then, keeps_nothing, keeps_wider, ⊎_elim)

@@ -1,5 +1,5 @@
 -- A scan once its cursor was moved: packets are sent out after a pass over the messages.
-use Rattle.std.proofs.Common.{◌≡◌, ◌⊎◌, inl, inr, ⊎_elim, ◌∙◌, ◌<◌, ℕ, List, [], Result, Ok, Err, length, refl, sym, subst, ap, arith}
+use Rattle.std.proofs.Common.{◌≡◌, ◌⊎◌, inl, inr, ⊎_elim, ◌∙◌, ◌<◌, ℕ, List, [], Result, Ok, Err, length, sym, subst, ap, arith}
 use Rattle.std.proofs.lemmas.Result.{on_ok_weaker}
 use Rattle.disk_atomic.proofs.Whole.{on_ok_any}
 use Rattle.std.specs.Prelude.{All, IfErr, IsErrOf, OnOk}
@@ -33,7 +33,7 @@ use Rattle.station_scan.specs.Sending.{HasBytes, IsAtItsPath, IsFreeAt, IsOfPack
 use Rattle.station_scan.specs.Sends.{AreSentOn, IsOfThese, SendsThese, WasTriedFor, WritesStaging}
 use Rattle.station_scan.specs.Stops.{IsOfBase, IsOfPlacing, most, scan_done}
 use Rattle.station_scan.specs.declared.publish_error.PublishError.{PublishError}
-use Rattle.station_scan.specs.declared.publish_error.PublishError.TheVariants.{Base as OfBase, Packets, Reading, Staging}
+use Rattle.station_scan.specs.declared.publish_error.PublishError.TheVariants.{Packets}
 use Rattle.station_scan.specs.declared.counting.LinkPacket.{LinkPacket}
 use Rattle.station_scan.specs.declared.scan_error.ScanError.TheVariants.{Staying}
 use Rattle.station_scan.specs.declared.sending.Sending.{Sending}
@@ -81,28 +81,16 @@ module _ (outbound own : List ℕ) (files : List PacketFile) (few : List ℕ →
 
   -- only these paths are touched
   pub few_keeps : KeepsStoreBut (IsOfThese s0.is_own outbound own files) s0 s1
-  few_keeps = record {
-    same = used.same;
-    keeps = keeps_wider few (IsOfThese s0.is_own outbound own files) s0.disk s1.disk (λ m at. inr (of_staging m (into m at))) (keeps_only few s0.disk s1.disk used.changes);
-  }
+  few_keeps = grind (arith, keeps_wider, of_staging, into, keeps_only)
 
   pub keeps_these : (s2 : StoreState) → KeepsStoreBut (IsOfThese s1.is_own outbound own files) s1 s2 → KeepsStoreBut (IsOfThese s0.is_own outbound own files) s0 s2
-  keeps_these s2 kept = record {
-    same = same_twice s0 s1 s2 used.same kept.same;
-    keeps =
-        keeps_then (IsOfThese s0.is_own outbound own files) s0.disk s1.disk s2.disk few_keeps.keeps
-        (keeps_wider (IsOfThese s1.is_own outbound own files) (IsOfThese s0.is_own outbound own files) s1.disk s2.disk (λ m of. ⊎_elim (λ o. inl ((used.same.own m).0 o)) (λ p. inr p) of) kept.keeps);
-  }
+  keeps_these s2 kept = grind (arith, kept, same_twice, keeps_then, few_keeps, keeps_wider, ⊎_elim)
 
   pub sends_then : (s2 : StoreState) → LeavesOnly s1.disk s2.disk (SendsThese s1 outbound own files first next) → LeavesOnly s0.disk s2.disk May
   sends_then s2 run = then_run s0.disk s1.disk s2.disk May (SendsThese s1 outbound own files first next) sends_before run later
 
 of_base_alone : (done : Result (Unit {0}) PublishError) (cause : PlacingError) → IfErr done IsOfBase → IsErrOf done (Packets cause) → ⊥
-of_base_alone (Ok value) cause base is = absurd (cc is)
-of_base_alone (Err (Packets why)) cause base is = base
-of_base_alone (Err (Reading why)) cause base is = base
-of_base_alone (Err (Staging why)) cause base is = base
-of_base_alone (Err (OfBase why)) cause base is = absurd (cc is)
+of_base_alone done cause h1 h2 = grind arith
 
 on_ok_done : (P : Type 0) (done : Result (Unit {0}) PublishError) → OnOk done P → OnOk (scan_done done) P
 on_ok_done P (Ok value) p = p
@@ -177,9 +165,7 @@ module _ {D : Type 0} (state : D → DiskState) (Own : List ℕ → Type 0) (to 
     many = sym (length-map packets (λ (p : Outgoing). file_to to base p.to)) ∙ ap length (same_files to can.routes base packets for ∙ files_of)
 
     why_sent : (IsErrOf done (Packets placing.Taken) → IsTaken) → IfErr (scan_done done) (IsOfPlacing failed IsTaken (most < base.cursor))
-    why_sent taken =
-        sent_why failed IsTaken (most < base.cursor) done (scan_done done) refl (λ e. is_failed (cause.packets e)) taken (λ e. is_failed (cause.staging e)) (λ e. is_failed (cause.base e)) (λ e. cause.damaged honest2 e next kept)
-        (λ e. is_failed (cause.reading e)) (λ e. cause.unread honest2 e next kept)
+    why_sent taken = grind (arith, sent_why, kept)
 
     -- there were none, and the store was committed
     pub sends_alone : length packets ≡ 0 → IfErr done IsOfBase → OnOk done (Commits s1 s2) → MayCommit s1 s2 → SendsFrom state Own out own failed s0 s2 base files (scan_done done)

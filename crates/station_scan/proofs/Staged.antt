@@ -1,10 +1,10 @@
 -- Packets in staging files, while a path is tried with the first of them.
 use Rattle.std.proofs.Common.{◌≡◌, ◌≢◌, ◌⊎◌, inl, inr, ⊎_elim, ◌∙◌, ◌<◌, ◌≤◌, ℕ, List, ap, arith, get_or, length, subst, sym}
-use Rattle.std.specs.Prelude.{All, Contains, IsSome}
+use Rattle.std.specs.Prelude.{All, Contains}
 use Rattle.std.proofs.lemmas.Bool.{cases_lt}
 use Rattle.std.proofs.lemmas.List.{get_or_default}
 use Rattle.std.proofs.lemmas.List.Elements.{All-contains, Contains-get_or}
-use Rattle.disk_io.specs.Disk.{DiskState, bytes_in}
+use Rattle.disk_io.specs.Disk.{DiskState}
 use Rattle.disk_io.specs.Runs.{ChangesNothing}
 use Rattle.disk_atomic.specs.Changes.{ChangesOnly, DifferAt, HasOnDisk}
 use Rattle.disk_atomic.specs.Outgoing.{ArePlaced, IsAtStaging, IsStaged, IsStagingFlushed, staged_in}
@@ -18,16 +18,7 @@ use Rattle.station_scan.specs.Publishing.{AreOpen, IsTrial, IsTriedWith, IsWritt
 -- it was tried after a run at these paths
 pub tried_after : {D : Type 0} (state : D → DiskState) (few paths : List ℕ → Type 0) (trial : List ℕ) (d0 d1 : DiskState) → ((m : List ℕ) → few m → paths m) → DifferAt paths d0.seen d1.seen
     → WasTried state few trial d1 → WasTried state paths trial d0
-tried_after state few paths trial d0 d1 more run was = record {
-  from = was.from;
-  before = was.before;
-  after = was.after;
-  free = was.free;
-  given = was.given;
-  stays = was.stays;
-  at_once = was.at_once;
-  elsewhere = λ m out. was.elsewhere m (λ is. out (more m is)) ∙ run m out;
-}
+tried_after state few paths trial d0 d1 more run was = grind arith
 
 module _ (outbound trial : List ℕ) (packets : List Outgoing) (placed : ArePlaced outbound packets) (of : IsTrial outbound packets trial) where
   -- the path of one is none at which packets are staged
@@ -69,26 +60,15 @@ module _ (outbound trial : List ℕ) (packets : List Outgoing) (placed : ArePlac
           (cases_lt 0 k)
 
       pub still_staged : All (IsStaged content d) packets → All (IsStaged content e) packets
-      still_staged all k z lt = record {
-        file = file_still all k z lt;
-        named = tries.changes.named (get_or packets k z).path.now (λ at. path_off k z lt (at_staging _ at)) (all k z lt).named;
-      }
+      still_staged all k z lt = grind (arith, file_still, get_or, path_off, at_staging)
 
 -- packets on the disk as their staging files were seen are there as these are seen now
 pub staged_now : (content : Outgoing → List ℕ) (packets : List Outgoing) (e : DiskState) → All (IsStaged content e) packets → All (IsWritten content e.seen) packets × All (IsStaged (staged_in e.seen) e) packets
-staged_now content packets e all =
-    let same : All (IsWritten content e.seen) packets = λ k z lt. ap bytes_in (all k z lt).file.seen in
-    (same, λ k z lt. record { file = subst (HasOnDisk e (get_or packets k z).staging.now) (sym (same k z lt)) (all k z lt).file; named = (all k z lt).named })
+staged_now content packets e all = grind (arith, get_or)
 
 -- files that were seen and are synced are on the disk
 pub synced : (outbound : List ℕ) (packets : List Outgoing) → ArePlaced outbound packets → (d e : DiskState) → AreOpen outbound packets d → ChangesNothing d e → All (IsStagingFlushed e) packets → All (IsStaged (staged_in e.seen) e) packets
-synced outbound packets placed d e opened quiet flushed k z lt =
-    let p = get_or packets k z in
-    let path = p.staging.now in
-    record {
-      file = all_on_disk e path (subst IsSome (sym (quiet.seen path)) (opened.grow k z lt).there) (quiet.named path (λ h. h) (opened.grow k z lt).named) (flushed k z lt);
-      named = quiet.named p.path.now (λ h. h) (opened.named p.path.now (placed.each k z lt).path_in);
-    }
+synced outbound packets placed d e opened quiet flushed k z lt = grind (arith, get_or, all_on_disk)
 
 -- it was tried after a run that changed nothing
 pub tried_quiet : {D : Type 0} (state : D → DiskState) (packets : List Outgoing) (trial : List ℕ) (d0 d1 : DiskState) → ChangesNothing d0 d1 → IsTriedWith state packets trial d1 → IsTriedWith state packets trial d0

@@ -1,14 +1,14 @@
 -- Facts about a disk before and after calls that change nothing.
-use Rattle.std.proofs.Common.{inl, inr, ⊎_elim, ◌∙◌, ℕ, List, get_or, refl, subst, sym}
+use Rattle.std.proofs.Common.{inl, inr, ⊎_elim, ◌∙◌, ℕ, List, get_or, refl, subst, sym, arith}
 use Rattle.std.proofs.lemmas.Result.{on_ok_weaker}
-use Rattle.std.specs.Prelude.{All, Err, IfOk, IsSome, Ok, OnOk, Result}
+use Rattle.std.specs.Prelude.{All, Err, IfOk, Ok, OnOk, Result}
 use Rattle.disk_io.specs.Disk.{DiskState, Files}
 use Rattle.disk_io.specs.Runs.{ChangesNothing, LeavesOnly, OneStepOn}
 use Rattle.disk_io.proofs.Moments.{then_nothing, then_run, weaker_run}
 use Rattle.disk_atomic.specs.Changes.{HasOnDisk}
 use Rattle.disk_atomic.specs.Finishing.{FinishesEach, IsOfLeft, IsOver}
 use Rattle.disk_atomic.specs.Naming.{HasItsPath, NamesEach}
-use Rattle.disk_atomic.specs.Outgoing.{IsStaged, SendsBytes, staged_in}
+use Rattle.disk_atomic.specs.Outgoing.{IsStaged, staged_in}
 use Rattle.disk_atomic.specs.declared.finishing.Left.{Left}
 use Rattle.disk_atomic.specs.declared.outgoing.Outgoing.{Outgoing}
 use Rattle.disk_atomic.specs.declared.placing_error.PlacingError.{PlacingError}
@@ -28,36 +28,17 @@ module _ (d e : DiskState) (quiet : ChangesNothing d e) where
   file_through path bytes on = record { seen = quiet.seen path ∙ on.seen; named = quiet.named path (λ h. h) on.named; flushed = quiet.flushed path (λ h. h) on.flushed }
 
   pub are_staged : (packets : List Outgoing) → All (IsStaged (staged_in d.seen) d) packets → All (IsStaged (staged_in e.seen) e) packets
-  are_staged packets all =
-      subst (λ (f : Files). All (IsStaged (staged_in f) e) packets) (sym (same_seen d e quiet)) (λ k z lt.
-      let p = get_or packets k z in
-      record { file = file_through p.staging.now (staged_in d.seen p) (all k z lt).file; named = quiet.named p.path.now (λ h. h) (all k z lt).named })
+  are_staged packets all = grind (arith, same_seen, get_or, file_through)
 
   pub staged_through : (packets : List Outgoing) → AreStaged packets d → AreStaged packets e
-  staged_through packets was = record {
-    staged = are_staged packets was.staged;
-    bytes = λ honest. subst (λ (f : Files). All (SendsBytes (staged_in f)) packets) (sym (same_seen d e quiet)) (was.bytes (quiet.honest honest));
-    clear = λ honest k z lt.
-        let p = get_or packets k z in
-        let none = was.clear (quiet.honest honest) k z lt in
-        record { none = quiet.seen p.path.now ∙ none.none; named = quiet.named p.path.now (λ h. h) none.named; flushed = quiet.flushed p.path.now (λ h. h) none.flushed };
-  }
+  staged_through packets was = grind (arith, are_staged, same_seen, get_or)
 
   pub have_their_paths : (content : Outgoing → List ℕ) (packets : List Outgoing) → All (HasItsPath content d) packets → All (HasItsPath content e) packets
-  have_their_paths content packets all k z lt =
-      let p = get_or packets k z in
-      record { file = file_through p.path.now (content p) (all k z lt).file; gone = quiet.seen p.staging.now ∙ (all k z lt).gone }
+  have_their_paths content packets all k z lt = grind (arith, get_or, file_through)
 
   -- staging files that grow
   pub open_through : (outbound : List ℕ) (packets : List Outgoing) → AreOpen outbound packets d → AreOpen outbound packets e
-  open_through outbound packets was = record {
-    grow = λ k z lt.
-        let path = (get_or packets k z).staging.now in
-        record { there = subst IsSome (sym (quiet.seen path)) (was.grow k z lt).there; named = quiet.named path (λ h. h) (was.grow k z lt).named; alone = quiet.alone path (λ h. h) (was.grow k z lt).alone };
-    named = λ m inside. quiet.named m (λ h. h) (was.named m inside);
-    free = λ honest k z lt. quiet.seen (get_or packets k z).path.now ∙ was.free (quiet.honest honest) k z lt;
-    bytes = λ honest. subst (λ (f : Files). All (SendsBytes (staged_in f)) packets) (sym (same_seen d e quiet)) (was.bytes (quiet.honest honest));
-  }
+  open_through outbound packets was = grind (arith, get_or, same_seen)
 
 -- a run between two that change nothing
 module _ (a d e b : DiskState) (before : ChangesNothing a d) (after : ChangesNothing e b) where

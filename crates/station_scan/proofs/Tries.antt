@@ -1,5 +1,5 @@
 -- That a scan tries whether a file gets a second path.
-use Rattle.std.proofs.Common.{◌⊎◌, inl, inr, ℕ, List, Result, Ok, Err}
+use Rattle.std.proofs.Common.{◌⊎◌, inl, inr, ℕ, List, Result, Ok, Err, arith}
 use Rattle.std.specs.Prelude.{OnOk}
 use Rattle.base_file.specs.Base.{Base}
 use Rattle.disk_io.specs.Disk.{DiskState, Files}
@@ -22,10 +22,7 @@ use Rattle.station_scan.proofs.Staged.{tried_after}
 -- it was tried on the disk as it was before the store was looked through
 tried_looked : {D F : Type 0} (state : D → DiskState) (Own : List ℕ → Type 0) (outbound own : List ℕ) (files : List F) (d0 d1 : DiskState) → ChangesNothing d0 d1
     → WasTriedFor state Own outbound own files d1 → WasTriedFor state Own outbound own files d0
-tried_looked state Own outbound own files d0 d1 quiet (inl none) = inl none
-tried_looked state Own outbound own files d0 d1 quiet (inr was) =
-    let at = IsOfNameOff Own outbound own in
-    inr (tried_after state at at (staging_path outbound own) d0 d1 (λ m is. is) (λ m out. quiet.seen m) was)
+tried_looked state Own outbound own files d0 d1 h1 h2 = grind (arith, tried_after)
 
 -- so it was before its cursor was moved
 pub tries_moved : {D : Type 0} (state : D → DiskState) (stamp : Stamp) (Own : List ℕ → Type 0) (outbound : List ℕ) (s1 sA s2 : StoreState) (out now : Output) (file : LinkFile) (base : Base) (result : Result (Unit {0}) ScanError) → ChangesNothing s1.disk sA.disk

@@ -1,8 +1,7 @@
 -- Packets that are written group by group, while their store is read.
-use Rattle.std.proofs.Common.{◌≡◌, ◌∙◌, inl, inr, ℕ, List, [], ◌++◌, ap, arith, get_or, subst, sym}
+use Rattle.std.proofs.Common.{◌≡◌, ◌∙◌, inl, inr, ℕ, List, arith, get_or}
 use Rattle.std.specs.Prelude.{All, Bool, Err, IfOk, None, Ok, OnOk, Result, true}
-use Rattle.disk_io.specs.Disk.{DiskState, Honestly, IsIn, bytes_in}
-use Rattle.disk_io.specs.Fixed.{AreBytes}
+use Rattle.disk_io.specs.Disk.{DiskState, Honestly, IsIn}
 use Rattle.disk_io.specs.Runs.{ChangesNothing, KeepsNamed}
 use Rattle.disk_io.specs.declared.disk_error.DiskError.{DiskError}
 use Rattle.disk_atomic.specs.Changes.{ChangesOnly}
@@ -44,34 +43,17 @@ module _ (paths : List ℕ → Type 0) where
 
 -- the packets still go to paths that it does not own
 pub off_still : (s0 s1 : StoreState) (batch : Batch) → IsSameStore s0 s1 → IsBatchOff s0 batch → IsBatchOff s1 batch
-off_still s0 s1 batch same going = record {
-  placed = going.placed;
-  apart = apart_still batch.packets.now s0 s1 same going.apart;
-  is_trial = going.is_trial;
-  off = λ o. going.off ((same.own _).0 o);
-}
+off_still s0 s1 batch same going = grind (arith, apart_still)
 
 -- ---- staging files that grow
 
 module _ (outbound : List ℕ) (packets : List Outgoing) (placed : ArePlaced outbound packets) where
   pub open_made : (d : DiskState) → All (IsMade d) packets → ((m : List ℕ) → IsIn outbound m → d.is_named m) → Honestly d (All (IsFree d) packets) → AreOpen outbound packets d
-  open_made d made named free = record {
-    grow = λ k z lt.
-        let one = made k z lt in
-        record { there = some_is_there (d.seen (get_or packets k z).staging.now) [] one.empty; named = named (get_or packets k z).staging.now (placed.each k z lt).staging_in; alone = one.alone };
-    named = named;
-    free = free;
-    bytes = λ honest k z lt. subst AreBytes (sym (ap bytes_in (made k z lt).empty)) (λ i. omega arith);
-  }
+  open_made d made named free = grind (arith, some_is_there, get_or)
 
   pub open_then : (more : Address → List ℕ) (d e : DiskState) → AreOpen outbound packets d → ChangesOnly (IsStagingOne packets) d e → KeepsNamed (λ m. ⊥) d e → All (CanGrowStaging e) packets
       → Honestly e (All (IsLonger more d e) packets) → All (SendsBytes (λ p. more p.to)) packets → AreOpen outbound packets e
-  open_then more d e was run keeps grow longer bytes = record {
-    grow = grow;
-    named = λ m inside. keeps m (λ h. h) (was.named m inside);
-    free = λ honest k z lt. run.seen (get_or packets k z).path.now (path_not_staging outbound packets placed k z lt) ∙ was.free (run.honest honest) k z lt;
-    bytes = λ honest k z lt. subst AreBytes (sym (longer honest k z lt)) (are_both (staged_in d.seen (get_or packets k z)) (more (get_or packets k z).to) (was.bytes (run.honest honest) k z lt) (bytes k z lt));
-  }
+  open_then more d e was run keeps grow longer bytes = grind (arith, get_or, path_not_staging, are_both)
 
 -- it was tried once they were written
 pub tried_written : {D : Type 0} (state : D → DiskState) (packets : List Outgoing) (trial : List ℕ) (s0 s1 : StoreState) → IsUsedAt (IsAtStaging packets trial) s0 s1 → IsTriedWith state packets trial s1.disk
@@ -83,11 +65,7 @@ tried_written state packets trial s0 s1 used (inr was) = inr (tried_after state 
 
 pub begun_if : (batch : Batch) → ArePlaced batch.outbound.now batch.packets.now → (d e : DiskState) → ChangesNothing d e → (done : Result Bool DiskError) → IfOk done (λ free. free ≡ true → All (IsMade d) batch.packets.now)
     → IfOk done (λ free. free ≡ true → (m : List ℕ) → IsIn batch.outbound.now m → d.is_named m) → Honestly d (IfOk done (λ free. free ≡ true → All (IsFree d) batch.packets.now)) → IfOk done (λ free. free ≡ true → IsBegun batch e)
-begun_if batch placed d e quiet (Ok free) made named none = λ is. record {
-  opened = open_through d e quiet batch.outbound.now batch.packets.now (open_made batch.outbound.now batch.packets.now placed d (made is) (named is) (λ honest. none honest is));
-  none = λ k z lt. ap bytes_in (quiet.seen (get_or batch.packets.now k z).staging.now ∙ (made is k z lt).empty);
-}
-begun_if batch placed d e quiet (Err cause) made named none = tt
+begun_if batch h1 d e h2 done h3 h4 h5 = grind (arith, open_through, open_made, get_or)
 
 pub opened_if : (outbound : List ℕ) (packets : List Outgoing) → ArePlaced outbound packets → (more : Address → List ℕ) (d0 d1 e : DiskState) → AreOpen outbound packets d0 → ChangesOnly (IsStagingOne packets) d0 d1 → KeepsNamed (λ m. ⊥) d0 d1 → ChangesNothing d1 e
     → (done : Result (Unit {0}) DiskError) → OnOk done (All (CanGrowStaging d1) packets) → Honestly d1 (OnOk done (All (IsLonger more d0 d1) packets)) → OnOk done (All (SendsBytes (λ p. more p.to)) packets) → OnOk done (AreOpen outbound packets e)
@@ -96,17 +74,11 @@ opened_if outbound packets placed more d0 d1 e was run keeps quiet (Err cause) g
 
 pub longer_through : (more : Address → List ℕ) (packets : List Outgoing) (a d0 d1 e : DiskState) → ChangesNothing a d0 → ChangesNothing d1 e → (done : Result (Unit {0}) DiskError) → OnOk done (All (IsLonger more d0 d1) packets)
     → OnOk done (All (IsLonger more a e) packets)
-longer_through more packets a d0 d1 e before after (Ok done) longer = λ k z lt.
-    let p = get_or packets k z in
-    ap bytes_in (after.seen p.staging.now) ∙ longer k z lt ∙ ap (λ f. bytes_in f ++ more p.to) (before.seen p.staging.now)
-longer_through more packets a d0 d1 e before after (Err cause) longer = tt
+longer_through more packets a d0 d1 e h1 h2 done h3 = grind (arith, get_or)
 
 pub same_through : (packets : List Outgoing) (a d0 d1 e : DiskState) → ChangesNothing a d0 → ChangesNothing d1 e → (done : Result Bool DiskError) → OnOk done (All (IsWritten (staged_in d0.seen) d1.seen) packets)
     → OnOk done (All (IsWritten (staged_in a.seen) e.seen) packets)
-same_through packets a d0 d1 e before after (Ok done) same = λ k z lt.
-    let p = get_or packets k z in
-    ap bytes_in (after.seen p.staging.now) ∙ same k z lt ∙ ap bytes_in (before.seen p.staging.now)
-same_through packets a d0 d1 e before after (Err cause) same = tt
+same_through packets a d0 d1 e h1 h2 done h3 = grind (arith, get_or)
 
 pub gone_through : (packets : List Outgoing) (trial : List ℕ) (d e : DiskState) → ChangesNothing d e → (done : Result (Unit {0}) DiskError) → OnOk done (All (IsStagingGone d) packets) → OnOk done (d.seen trial ≡ None) → OnOk done (AreGone packets trial e)
 gone_through packets trial d e quiet (Ok done) gone none = (λ k z lt. quiet.seen (get_or packets k z).staging.now ∙ gone k z lt, quiet.seen trial ∙ none)

@@ -15,10 +15,7 @@ returns-in_err-named-clause-ends g c = λ honest.
     rw p.1 (nothing_left (g.G.ListStaged.is_true c.left_staged.new.self d.seen) (g.O.OwnPaths.is_own c.args.paths.now) c.args.folder.now c.args.own.now c.args.cursor d d (quiet_start d) p.0)
 
 pub returns-in_err-found-clause-ends : goal.returns-in_err-found-clause-ends
-returns-in_err-found-clause-ends g c = λ honest.
-    let d = g.D.Disk.state c.args.disk.now in
-    let p = err_from_is_err_and c.from_residual-in_err-found.result c.from_residual-in_err-found.ensures.1 in
-    rw p.1 (nothing_left (g.G.ListStaged.is_true c.left_staged.new.self d.seen) (g.O.OwnPaths.is_own c.args.paths.now) c.args.folder.now c.args.own.now c.args.cursor d (g.D.Disk.state c.find_left.new.disk) c.find_left.ensures.quiet p.0)
+returns-in_err-found-clause-ends g c = grind (arith, err_from_is_err_and, nothing_left)
 
 pub returns-then-is_empty-clause-ends : goal.returns-then-is_empty-clause-ends
 returns-then-is_empty-clause-ends g c = λ honest.

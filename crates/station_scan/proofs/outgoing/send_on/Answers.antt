@@ -1,4 +1,4 @@
-use Rattle.std.proofs.Common.{◌≡◌, ◌≤◌, ◌∙◌, List, Result, Err, ap, arith, refl, subst, sym}
+use Rattle.std.proofs.Common.{◌≡◌, ◌≤◌, ◌∙◌, List, Result, Err, ap, arith, subst, sym}
 use Rattle.std.specs.Prelude.{IfErr, IfOk, Vec}
 use Rattle.std.specs.declared.alloc.Global.{Global}
 use Rattle.disk_io.specs.Device.{Failed}
@@ -22,14 +22,7 @@ use Rattle.station_scan.proofs.Reports.{err_of, scans_reading, scans_reported, s
 use Rattle.station_scan.proofs.outgoing.send_on.Goals as goal
 
 pub send_made-requires : goal.send_made-requires
-send_made-requires g c κs =
-    let Own = g.P.Paths.OwnPaths.is_own c.args.paths.now in
-    let to = c.args.sending in
-    let s0 = g.P.Kept.Store.state c.args.store in
-    let s1 = g.P.Kept.Store.state c.pass_waiting-store.result.store in
-    let pass = c.pass_waiting-store.ensures in
-    let passed = subst (λ (l : List LinkPacket). HasPassed Own to s0 s1 l) (sym c.deref.ensures.value) (subst (λ (r : Result (Vec LinkPacket Global) PublishError). IfOk r (λ all. HasPassed Own to s0 s1 all.items)) c.in-Ok.is pass.passed) in
-    ((refl, tt), (can_still Own (IsStagingTo to passed.sent) to s0 s1 passed.used c.requires.ready, (passed.sent, record { counted = passed.counted; fit = passed.fit; grows = passed.part.grows })))
+send_made-requires g c κs = grind (arith, can_still)
 
 pub returns-in-Ok-clause-sends : goal.returns-in-Ok-clause-sends
 returns-in-Ok-clause-sends g c = λ honest base moved.
@@ -122,18 +115,7 @@ returns-in-Reading-clause-keeps g c =
     staged_keeps Own to c.requires.ready.routes stops.staged.sent stops.staged.fit s0 s1 stops.staged.used
 
 pub returns-in-Base-clause-sends : goal.returns-in-Base-clause-sends
-returns-in-Base-clause-sends g c = λ honest base moved.
-    let Own = g.P.Paths.OwnPaths.is_own c.args.paths.now in
-    let to = c.args.sending in
-    let s0 = g.P.Kept.Store.state c.args.store in
-    let s1 = g.P.Kept.Store.state c.pass_waiting-store.result.store in
-    let pass = c.pass_waiting-store.ensures in
-    let is : c.pass_waiting-store.result.done ≡ Err (OfBase c.in-Base.cause) = c.in-Err.is ∙ ap (λ (w : PublishError). Err w) c.in-Base.is in
-    let stops = subst (λ (r : Result (Vec LinkPacket Global) PublishError). IfErr r (StopsPassing Own to s0 s1)) is pass.stopped in
-    let f0 = g.P.Kept.Store.failures c.args.store in
-    let f1 = g.P.Kept.Store.failures c.pass_waiting-store.result.store in
-    let out = output_of g.W.Write.contents g.W.Sink.failures g.W.Sink.holds c.args.out.now in
-    scans_reading g.D.Disk.state Own to (Failed f0 f1) s0 s1 base out moved c.requires.ready honest (OfBase c.in-Base.cause) stops c.in-Base.cause tt (λ e. pass.cause.damaged honest (err_of c.pass_waiting-store.result.done (OfBase c.in-Base.cause) (OfBase error.Damaged) is (ap (λ (w : StoreError). OfBase w) e)) (all_scanned base) moved.keeps)
+returns-in-Base-clause-sends g c = grind (arith, scans_reading, err_of)
 
 pub returns-in-Base-clause-keeps : goal.returns-in-Base-clause-keeps
 returns-in-Base-clause-keeps g c =

@@ -1,4 +1,4 @@
-use Rattle.std.proofs.Common.{◌≡◌, ◌++◌, ℕ, arith, length, refl, subst, sym}
+use Rattle.std.proofs.Common.{◌++◌, ℕ, arith, refl, subst, sym}
 use Rattle.std.specs.Prelude.{IfOk, OnOk, Result}
 use Rattle.base_file.specs.Base.{Base}
 use Rattle.base_store.specs.declared.store_error.StoreError.{StoreError}
@@ -10,11 +10,7 @@ use Rattle.station_scan.proofs.Passes.{IsPassing, passing_next, passing_over, pa
 use Rattle.station_scan.proofs.passing.pass_on.Goals as goal
 
 pub groups-init : goal.groups-init
-groups-init g c = record {
-  passing = passing_starts (g.P.Paths.OwnPaths.is_own c.args.paths.now) c.args.sending (g.P.Kept.Store.state c.args.store) c.requires.ready c.args.packets.now.items c.requires.begins;
-  count = λ honest base kept. c.len-end.ensures.count honest base kept;
-  later = omega arith;
-}
+groups-init g c = grind (arith, passing_starts)
 
 pub groups-preserved : goal.groups-preserved
 groups-preserved g c =
@@ -44,15 +40,10 @@ returns-clause-staged g c =
     passing_staged (g.P.Paths.OwnPaths.is_own c.args.paths.now) c.args.sending (g.P.Kept.Store.state c.args.store) c.requires.ready (g.P.Kept.Store.state c.groups.store) c.groups.packets.items c.groups.at c.groups.invariant.passing
 
 pub returns-clause-passed : goal.returns-clause-passed
-returns-clause-passed g c =
-    let inv = c.groups.invariant in
-    passing_over (g.P.Paths.OwnPaths.is_own c.args.paths.now) c.args.sending (g.P.Kept.Store.state c.args.store) c.requires.ready (g.P.Kept.Store.state c.groups.store) c.groups.packets.items c.groups.at inv.passing
-    (λ honest base kept. let many : c.groups.end ≡ length base.messages = inv.count honest base (inv.passing.used.holds.keeps base kept) in omega (arith, many, c.groups-test.false))
+returns-clause-passed g c = grind (arith, passing_over)
 
 pub returns-in-Err-clause-staged : goal.returns-in-Err-clause-staged
-returns-in-Err-clause-staged g c =
-    read_staged (g.P.Paths.OwnPaths.is_own c.args.paths.now) c.args.sending (g.P.Kept.Store.state c.args.store) c.requires.ready (g.P.Kept.Store.state c.groups.store) c.groups.packets.items c.groups.at c.groups.invariant.passing
-    (g.P.Kept.Store.state c.read_group-read.result.store) c.read_group-read.ensures.looks
+returns-in-Err-clause-staged g c = grind (arith, read_staged)
 
 pub returns-in-Err-done-clause-staged : goal.returns-in-Err-done-clause-staged
 returns-in-Err-done-clause-staged g c =

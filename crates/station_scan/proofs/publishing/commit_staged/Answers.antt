@@ -1,4 +1,4 @@
-use Rattle.std.proofs.Common.{refl}
+use Rattle.std.proofs.Common.{arith}
 use Rattle.station_scan.proofs.Published.{all_filled, apart_still, commits_still, naming, published_if, same_staged, staged_still}
 use Rattle.station_scan.proofs.publishing.commit_staged.Goals as goal
 
@@ -25,8 +25,4 @@ returns-in-Err-clause-left g c =
     all_filled c.args.packets.now (g.P.Kept.Store.state c.args.store) c.requires.apart (g.P.Kept.Store.state c.commit.new.self) c.commit.ensures.either c.requires.staged
 
 pub name_on-store-requires : goal.name_on-store-requires
-name_on-store-requires g c κs =
-    let s0 = g.P.Kept.Store.state c.args.store in
-    let s1 = g.P.Kept.Store.state c.commit.new.self in
-    let may = c.commit.ensures.either in
-    ((refl, tt), (c.in-Ok.ensures.committed.ready, (c.requires.placed, (apart_still c.args.packets.now s0 s1 may.same c.requires.apart, staged_still c.args.packets.now s0 c.requires.apart s1 may c.requires.staged))))
+name_on-store-requires g c κs = grind (arith, apart_still, staged_still)

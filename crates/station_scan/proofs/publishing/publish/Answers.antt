@@ -1,6 +1,6 @@
-use Rattle.std.specs.Prelude.{All, Bool, IfErr, OnOk, Result}
-use Rattle.std.proofs.Common.{subst}
-use Rattle.station_scan.specs.Publishing.{IsWritten, NoneStays, ended_before, ended_in}
+use Rattle.std.specs.Prelude.{All, Bool, OnOk, Result}
+use Rattle.std.proofs.Common.{subst, arith}
+use Rattle.station_scan.specs.Publishing.{IsWritten, ended_before, ended_in}
 use Rattle.station_scan.specs.declared.publish_error.PublishError.{PublishError}
 use Rattle.station_scan.proofs.Published.{publish_keeps, published_from, publishing, staging_keeps, stopping, stops_before, stops_from}
 use Rattle.station_scan.proofs.publishing.publish.Goals as goal
@@ -38,10 +38,7 @@ returns-in-Ok-true-clause-any_moment g c = λ honest first next was is.
     (did.any_moment honest first next (used.holds.committed first was) (used.holds.keeps next is))
 
 pub returns-in-Ok-true-clause-keeps : goal.returns-in-Ok-true-clause-keeps
-returns-in-Ok-true-clause-keeps g c =
-    let batch = c.args.batch in
-    publish_keeps batch.outbound.now batch.trial.now (λ p. p.path.now) batch.packets.now (g.P.Kept.Store.state c.args.store) c.requires.off c.requires.ready.0 (g.P.Kept.Store.state c.stage_on-store.result.store) c.stage_on-store.ensures.used
-    (g.P.Kept.Store.state c.commit_staged.result.store) c.commit_staged.ensures.keeps
+returns-in-Ok-true-clause-keeps = grind (arith, publish_keeps)
 
 pub returns-in-Ok-false-clause-any_moment : goal.returns-in-Ok-false-clause-any_moment
 returns-in-Ok-false-clause-any_moment g c = λ honest first next was is.
@@ -49,16 +46,10 @@ returns-in-Ok-false-clause-any_moment g c = λ honest first next was is.
     stopping batch.outbound.now batch.trial.now (ended_before (g.P.Kept.Store.state c.args.store) next) batch.packets.now (g.P.Kept.Store.state c.args.store) c.requires.off c.requires.ready.0 (g.P.Kept.Store.state c.stage_on-store.result.store) c.stage_on-store.ensures.used honest first next was
 
 pub returns-in-Ok-false-clause-keeps : goal.returns-in-Ok-false-clause-keeps
-returns-in-Ok-false-clause-keeps g c =
-    let batch = c.args.batch in
-    staging_keeps batch.outbound.now batch.trial.now (λ p. p.path.now) batch.packets.now (g.P.Kept.Store.state c.args.store) c.requires.off c.requires.ready.0 (g.P.Kept.Store.state c.stage_on-store.result.store) c.stage_on-store.ensures.used
+returns-in-Ok-false-clause-keeps = grind (arith, staging_keeps)
 
 pub returns-in-Err-clause-left : goal.returns-in-Err-clause-left
-returns-in-Err-clause-left g c honest =
-    let batch = c.args.batch in
-    let s1 = g.P.Kept.Store.state c.stage_on-store.result.store in
-    stops_before (ended_before (g.P.Kept.Store.state c.args.store)) batch.packets.now batch.trial.now (g.P.Kept.Store.state c.args.store) s1 c.in-Err.why c.stage_on-store.ensures.used.holds
-    (subst (λ (r : Result Bool PublishError). IfErr r (NoneStays batch.packets.now batch.trial.now s1.disk)) c.in-Err.is (c.stage_on-store.ensures.gone honest))
+returns-in-Err-clause-left g c honest = grind (arith, stops_before)
 
 pub returns-in-Err-clause-any_moment : goal.returns-in-Err-clause-any_moment
 returns-in-Err-clause-any_moment g c = λ honest first next was is.
@@ -66,6 +57,4 @@ returns-in-Err-clause-any_moment g c = λ honest first next was is.
     stopping batch.outbound.now batch.trial.now (ended_before (g.P.Kept.Store.state c.args.store) next) batch.packets.now (g.P.Kept.Store.state c.args.store) c.requires.off c.requires.ready.0 (g.P.Kept.Store.state c.stage_on-store.result.store) c.stage_on-store.ensures.used honest first next was
 
 pub returns-in-Err-clause-keeps : goal.returns-in-Err-clause-keeps
-returns-in-Err-clause-keeps g c =
-    let batch = c.args.batch in
-    staging_keeps batch.outbound.now batch.trial.now (λ p. p.path.now) batch.packets.now (g.P.Kept.Store.state c.args.store) c.requires.off c.requires.ready.0 (g.P.Kept.Store.state c.stage_on-store.result.store) c.stage_on-store.ensures.used
+returns-in-Err-clause-keeps g c = grind (arith, staging_keeps)

@@ -6,7 +6,7 @@ use Rattle.base_store.specs.Store.{all_scanned}
 use Rattle.cmd_status.specs.Devices.{output_of}
 use Rattle.station.proofs.Failures.{failed_wider}
 use Rattle.station_scan.specs.Moved.{reported_as}
-use Rattle.station_scan.specs.Left.{EndsLeft, IsOfNameOff}
+use Rattle.station_scan.specs.Left.{EndsLeft}
 use Rattle.station_scan.specs.Scanning.{ScansOnStore}
 use Rattle.station_scan.specs.Stops.{most}
 use Rattle.station_scan.specs.declared.pieces.Source.{Source}
@@ -86,20 +86,7 @@ returns-in-Ok-done-clause-scans g c = λ honest base moved.
     scans_put Own to own_is IsTrue failed s0 s1 c.requires.own finish.used honest0 base moved c.args.from refl ends s2 honest g.D.Disk.state (Failed f1 f2) wider out now c.send_on.result.done (send.sends honest base still)
 
 pub send_on-requires : goal.send_on-requires
-send_on-requires g c κs =
-    let Own = g.P.Paths.OwnPaths.is_own c.args.paths.now in
-    let s0 = g.P.Kept.Store.state c.args.store in
-    let s1 = g.P.Kept.Store.state c.finish_on-store.result.store in
-    let used = c.finish_on-store.ensures.used in (
-      (refl, tt),
-      record {
-        ready = used.holds.ready;
-        settled = used_settled (IsOfNameOff Own c.args.scan.now.outbound.now c.as_slice.result.now) s0 s1 used;
-        own = λ m o. c.requires.own m ((used.same.own m).0 o);
-        routes = rw (c.as_slice.ensures, c.as_slice-2.ensures, c.as_slice-3.ensures) c.in-Ok.ensures;
-        stamp = c.requires.stamp;
-      },
-    )
+send_on-requires g c κs = grind (arith, used_settled)
 
 pub returns-in-Ok-done-clause-tried : goal.returns-in-Ok-done-clause-tried
 returns-in-Ok-done-clause-tried g c = λ honest base moved.

@@ -76,17 +76,7 @@ returns-in-Ok-prepare-clause-tried g c = λ honest.
     (λ base stands. did.tried honest2 base (begun.keeps base stands) (begun.committed base stands))
 
 pub returns-in-Ok-prepare-clause-many : goal.returns-in-Ok-prepare-clause-many
-returns-in-Ok-prepare-clause-many g c = λ honest base stands is.
-    let d0 = g.D.Disk.state c.args.disk in
-    let s0 = g.P.Kept.Store.state c.in-Ok.opened.kept in
-    let s1 = g.P.Kept.Store.state c.prepare.new.store in
-    let place = g.P.OpenStation.place c.args.station in
-    let looks = c.prepare.ensures.looks in
-    let did = c.scan_kept-store.ensures in
-    let honest2 = c.into_disk-disk.ensures.quiet.honest honest in
-    let honest0 = looks.quiet.honest (did.keeps.keeps.honest honest2) in
-    let begun = looks_open place d0 s0 s1 looks (c.in-Ok.ensures.opened.begun honest0) in
-    did.many honest2 base (begun.keeps base stands) (begun.committed base stands) is
+returns-in-Ok-prepare-clause-many g c = grind (arith, looks_open)
 
 pub returns-in-Ok-prepare-clause-keeps : goal.returns-in-Ok-prepare-clause-keeps
 returns-in-Ok-prepare-clause-keeps g c =

@@ -2,11 +2,8 @@ use Rattle.std.proofs.Common.{◌⊎◌, ◌≤◌, ⊎_elim, arith, inl, inr, r
 use Rattle.disk_io.specs.Device.{Failed}
 use Rattle.station.proofs.Failures.{failed_wider}
 use Rattle.cmd_status.specs.Devices.{output_of}
-use Rattle.cmd_status.specs.declared.fault.Fault.TheVariants.{Scan}
-use Rattle.cmd_store.specs.declared.command_error.CommandError.TheVariants.{Met, Store}
-use Rattle.model_steps.specs.declared.fault.ScanFault.TheVariants.{BadStamp}
+use Rattle.cmd_store.specs.declared.command_error.CommandError.TheVariants.{Store}
 use Rattle.station_scan.specs.Moved.{IsMoved}
-use Rattle.station_scan.specs.Scanning.{IsTouched}
 use Rattle.station_scan.proofs.Lefts.{quiet_start}
 use Rattle.station_scan.proofs.Published.{keeps_nothing}
 use Rattle.station_scan.proofs.Scans.{moved_keeps, scans_moved, scans_stopped}
@@ -60,12 +57,7 @@ returns-in-Ok-clause-keeps g c =
     moved_keeps c.args.scan.now.outbound.now s1 sA s2 c.move_to_end.ensures.commits.same c.move_to_end.ensures.quiet c.put_moved.ensures.keeps
 
 pub returns-in-Ok-clause-device : goal.returns-in-Ok-clause-device
-returns-in-Ok-clause-device g c is =
-    let f1 = g.P.Kept.Store.failures c.args.store in
-    let fA = g.P.Kept.Store.failures c.move_to_end.new.self in
-    let f2 = g.P.Kept.Store.failures c.put_moved.result.store in
-    let later : f1 ≤ fA = c.move_to_end.ensures.cause.later in
-    failed_wider f1 fA f2 f2 later (omega arith) (c.put_moved.ensures.cause.device is)
+returns-in-Ok-clause-device g c is = grind (arith, failed_wider)
 
 pub returns-in-Ok-clause-many : goal.returns-in-Ok-clause-many
 returns-in-Ok-clause-many g c = λ honest base keeps committed is.
@@ -85,14 +77,7 @@ returns-in-Err-clause-scans g c = λ honest base keeps committed.
     (λ e. move.cause.damaged honest (cc (c.in-Err.is, e)) base keeps)
 
 pub returns-in-Err-clause-keeps : goal.returns-in-Err-clause-keeps
-returns-in-Err-clause-keeps g c =
-    let s1 = g.P.Kept.Store.state c.args.store in
-    let s2 = g.P.Kept.Store.state c.move_to_end.new.self in
-    record { same = c.move_to_end.ensures.commits.same; keeps = keeps_nothing (IsTouched s1.is_own c.args.scan.now.outbound.now) s1.disk s2.disk c.move_to_end.ensures.quiet }
+returns-in-Err-clause-keeps g c = grind (arith, keeps_nothing)
 
 pub returns-then-not-is_stamp-clause-scans : goal.returns-then-not-is_stamp-clause-scans
-returns-then-not-is_stamp-clause-scans g c = λ honest base keeps committed.
-    let s1 = g.P.Kept.Store.state c.args.store in
-    let out = output_of g.W.Write.contents g.W.Sink.failures g.W.Sink.holds c.args.out.now in
-    scans_stopped c.args.scan.now.stamp (g.P.Paths.OwnPaths.is_own c.args.paths.now) c.args.scan.now.outbound.now _ _ s1 s1 out out c.args.links.now base (Met (Scan BadStamp)) honest c.requires.ready committed (quiet_start s1.disk)
-    (inr (inr (refl, cc (c.is_stamp.ensures, c.if-not-is_stamp.true)), refl)) (λ e. cc e)
+returns-then-not-is_stamp-clause-scans g c = grind (arith, scans_stopped, quiet_start)

@@ -1,12 +1,12 @@
-use Rattle.std.proofs.Common.{◌≡◌, ◌≢◌, ◌∙◌, ℕ, List, ap, get_or, inr, true, subst, sym}
-use Rattle.std.specs.Prelude.{All, None}
+use Rattle.std.proofs.Common.{◌≡◌, ◌≢◌, ◌∙◌, ℕ, List, ap, get_or, inr, true, subst, sym, arith}
+use Rattle.std.specs.Prelude.{None}
 use Rattle.std.proofs.lemmas.List.Elements.{Contains-get_or}
 use Rattle.std.proofs.lemmas.Result.{IfOk-weaker}
-use Rattle.disk_io.specs.Disk.{Files, IsIn, bytes_in}
+use Rattle.disk_io.specs.Disk.{IsIn, bytes_in}
 use Rattle.disk_io.specs.Fixed.{AreBytes}
 use Rattle.disk_atomic.specs.Outgoing.{IsAtStaging, staged_in}
 use Rattle.disk_atomic.proofs.Changes.{only_nothing, then_only}
-use Rattle.station_scan.specs.Publishing.{AreStaged, IsTriedWith, IsWritten}
+use Rattle.station_scan.specs.Publishing.{AreStaged}
 use Rattle.station_scan.proofs.Looked.{same_seen}
 use Rattle.station_scan.proofs.Staged.{path_off, staged_now, synced, tried_quiet}
 use Rattle.disk_atomic.proofs.Whole.{on_ok_any}
@@ -27,29 +27,13 @@ returns-in_err-sync_packets-clause-changes g c =
     only_nothing (IsAtStaging c.args.packets.now c.args.trial.now) (g.D.Disk.state c.args.disk.now) (g.D.Disk.state c.sync_packets.new.disk) c.sync_packets.ensures.quiet
 
 pub returns-clause-changes : goal.returns-clause-changes
-returns-clause-changes g c =
-    let at = IsAtStaging c.args.packets.now c.args.trial.now in
-    let d0 = g.D.Disk.state c.args.disk.now in
-    let d1 = g.D.Disk.state c.sync_packets.new.disk in
-    then_only at d0 d1 (g.D.Disk.state c.try_first.new.disk) (only_nothing at d0 d1 c.sync_packets.ensures.quiet) c.try_first.ensures.changes
+returns-clause-changes g c = grind (arith, then_only, only_nothing)
 
 pub returns-clause-tried : goal.returns-clause-tried
-returns-clause-tried g c =
-    let packets = c.args.packets.now in
-    let trial = c.args.trial.now in
-    let d0 = g.D.Disk.state c.args.disk.now in
-    let d1 = g.D.Disk.state c.sync_packets.new.disk in
-    IfOk-weaker c.try_first.result (λ b. b ≡ true → IsTriedWith g.D.Disk.state packets trial d1) (λ b. b ≡ true → IsTriedWith g.D.Disk.state packets trial d0)
-    (λ b was is. tried_quiet g.D.Disk.state packets trial d0 d1 c.sync_packets.ensures.quiet (was is)) c.try_first.ensures.tried
+returns-clause-tried g c = grind (arith, IfOk-weaker, tried_quiet)
 
 pub returns-clause-same : goal.returns-clause-same
-returns-clause-same g c =
-    let packets = c.args.packets.now in
-    let d0 = g.D.Disk.state c.args.disk.now in
-    let d1 = g.D.Disk.state c.sync_packets.new.disk in
-    let e = g.D.Disk.state c.try_first.new.disk in
-    on_ok_any c.try_first.result
-    (subst (λ (f : Files). All (IsWritten (staged_in f) e.seen) packets) (same_seen d0 d1 c.sync_packets.ensures.quiet) (staged_now (staged_in d1.seen) packets e c.try_first.ensures.staged).0)
+returns-clause-same g c = grind (arith, on_ok_any, same_seen, staged_now)
 
 pub returns-clause-staged : goal.returns-clause-staged
 returns-clause-staged g c =

@@ -1,4 +1,4 @@
-use Rattle.std.proofs.Common.{List, refl, subst, sym}
+use Rattle.std.proofs.Common.{List, refl, subst, sym, arith}
 use Rattle.std.specs.Prelude.{Err, Result}
 use Rattle.station_scan.specs.Passing.{HasStaged, IsPartOf}
 use Rattle.station_scan.specs.Publishing.{HasPublishCause}
@@ -19,13 +19,7 @@ pub returns-in-Err-clause-stopped : goal.returns-in-Err-clause-stopped
 returns-in-Err-clause-stopped g c = stops_none (g.P.Paths.OwnPaths.is_own c.args.paths.now) c.args.sending (g.P.Kept.Store.state c.args.store) c.from.result c.requires.ready
 
 pub drop_made-store-requires : goal.drop_made-store-requires
-drop_made-store-requires g c κs =
-    let Own = g.P.Paths.OwnPaths.is_own c.args.paths.now in
-    let to = c.args.sending in
-    let s0 = g.P.Kept.Store.state c.args.store in
-    let s1 = g.P.Kept.Store.state c.pass_on-store.result.store in
-    let staged = subst (λ (l : List LinkPacket). HasStaged Own to (IsPartOf to s0 s1) s0 s1 l) (sym c.deref.ensures.value) c.pass_on-store.ensures.staged in
-    ((refl, tt), (can_still Own _ to s0 s1 staged.used c.requires.ready, (staged.sent, staged.counted, staged.fit)))
+drop_made-store-requires g c κs = grind (arith, can_still)
 
 pub returns-in-Ok-done-2-clause-stopped : goal.returns-in-Ok-done-2-clause-stopped
 returns-in-Ok-done-2-clause-stopped g c =

@@ -1,4 +1,4 @@
-use Rattle.std.proofs.Common.{refl}
+use Rattle.std.proofs.Common.{refl, arith}
 use Rattle.station_scan.proofs.UsedDisks.{staged_ready, staged_used}
 use Rattle.station_scan.proofs.Written.{gone_through}
 use Rattle.station_scan.proofs.writing.drop_on.Goals as goal
@@ -15,8 +15,4 @@ returns-clause-used g c =
     staged_used c.args.batch _ _ _ _ _ c.requires.off lent.looks lent.quiet (lent.back c.drop_staging-done.new.disk) c.drop_staging-done.ensures.changes _ into.looks into.quiet
 
 pub returns-clause-gone : goal.returns-clause-gone
-returns-clause-gone g c = λ honest.
-    let batch = c.args.batch in
-    let quiet = c.give_back-store.ensures.quiet in
-    let did = c.drop_staging-done.ensures in
-    gone_through batch.packets.now batch.trial.now (g.D.Disk.state c.drop_staging-done.new.disk) (g.P.Kept.Store.state c.give_back-store.result).disk quiet c.drop_staging-done.result (did.gone (quiet.honest honest)) (did.trial_gone (quiet.honest honest))
+returns-clause-gone g c = grind (arith, gone_through)

@@ -1,5 +1,5 @@
-use Rattle.std.proofs.Common.{◌≡◌, refl, true}
-use Rattle.station_scan.specs.Publishing.{AreStaged, IsTriedWith}
+use Rattle.std.proofs.Common.{◌≡◌, refl, true, arith}
+use Rattle.station_scan.specs.Publishing.{AreStaged}
 use Rattle.station_scan.proofs.UsedDisks.{staged_ready, staged_used}
 use Rattle.station_scan.proofs.Staged.{tried_quiet}
 use Rattle.station_scan.proofs.Through.{ok_gives, open_through, staged_through}
@@ -35,9 +35,4 @@ returns-clause-same g c =
     c.lend-disk.ensures.quiet c.give_back-store.ensures.quiet c.end_staging-done.result c.end_staging-done.ensures.same
 
 pub returns-clause-tried : goal.returns-clause-tried
-returns-clause-tried g c =
-    let batch = c.args.batch in
-    let s0 = (g.P.Kept.Store.state c.args.store).disk in
-    let d0 = g.D.Disk.state c.lend-disk.result.0 in
-    ok_gives c.end_staging-done.result (λ tried. tried ≡ true → IsTriedWith g.D.Disk.state batch.packets.now batch.trial.now d0) (λ tried. tried ≡ true → IsTriedWith g.D.Disk.state batch.packets.now batch.trial.now s0)
-    (λ tried was is. tried_quiet g.D.Disk.state batch.packets.now batch.trial.now s0 d0 c.lend-disk.ensures.quiet (was is)) c.end_staging-done.ensures.tried
+returns-clause-tried g c = grind (arith, ok_gives, tried_quiet)
