@@ -1,5 +1,5 @@
 -- One station and a system by itself with the same contents.
-use Rattle.std.proofs.Common.{◌⊎◌, inl, inr, sym, subst, ℕ, List, [], ◌∷◌, ◌++◌, Ok}
+use Rattle.std.proofs.Common.{◌⊎◌, inl, inr, sym, subst, ℕ, List, [], ◌∷◌, ◌++◌, Ok, arith}
 use Rattle.echo_addr.specs.declared.address.Address.{Address}
 use Rattle.model_graph.specs.Walk.{Among}
 use Rattle.model_graph.proofs.Members.{Among-append_cases, Among-append_left, Among-append_right}
@@ -50,9 +50,4 @@ lone-more file s new events added lone plain came of_files all agrees = record {
 
 -- before the first command
 pub first-lone : (links : List ℕ) (file : LinkFile) → LinksOf links (Ok file) → IsLone file (lone_station_at_first links) []
-first-lone links file of_links = record {
-  plain = λ e h. absurd h;
-  of_files = λ sender messages h. absurd h;
-  all = λ bytes h. absurd h;
-  agrees = first-agrees (links ∷ []) (file ∷ []) (of_links, tt);
-}
+first-lone links file of_links = grind (arith, first-agrees)

@@ -1,12 +1,12 @@
 -- A toss from any readers is a toss from their contents.
-use Rattle.std.proofs.Common.{◌≡◌, ◌∙◌, refl, sym, inl, inr, Bool, List, [], ◌∷◌, Option, None, Ok, Err}
+use Rattle.std.proofs.Common.{◌≡◌, ◌∙◌, refl, sym, inl, inr, Bool, List, [], ◌∷◌, Option, None, Ok, Err, arith}
 use Rattle.cmd_status.specs.Devices.{Device, Output}
 use Rattle.cmd_status.specs.declared.fault.Fault.{Fault}
 use Rattle.base_file.specs.Base.{Base}
 use Rattle.echo_links.specs.Links.{LinkFile}
 use Rattle.echo_packet.specs.declared.limits.Limits.{Limits}
 use Rattle.echo_toss.specs.PacketsIn.{state_in}
-use Rattle.cmd_report.specs.Coming.{Coming, Fails, Holds, Opens, Unknown}
+use Rattle.cmd_report.specs.Coming.{Coming, Opens}
 use Rattle.cmd_report.specs.Tossed.{TossesEachBy, TossesFileBy, run_begun}
 use Rattle.cmd_report.specs.TossedPacket.{TossRun, TossesPacketBy}
 use Rattle.cmd_store.specs.Tossed.{Tosses, TossesTo}
@@ -14,14 +14,10 @@ use Rattle.law_stations.specs.Commands.{TossesAll, itself}
 
 module _ {R : Type 0} (honest : Type 0) (is_honest : honest) (device : R → Device) (noting : Bool) where
   opened : (file : Coming) (reader : R) → Opens (λ r. (device r).contents) file (Ok reader) → Opens (λ (d : Device). d.contents) file (Ok (device reader))
-  opened (Holds bytes) reader h = h
-  opened (Fails path) reader h = h
-  opened Unknown reader h = tt
+  opened file reader h1 = grind arith
 
   unopened : (file : Coming) (fault : Fault) → Opens (λ (r : R). (device r).contents) file (Err fault) → Opens (λ (d : Device). d.contents) file (Err fault)
-  unopened (Holds bytes) fault h = h
-  unopened (Fails path) fault h = h
-  unopened Unknown fault h = tt
+  unopened file fault h1 = grind arith
 
   file-known : (file : Coming) (old : TossRun) (stopped : Option Fault) (new : TossRun) → TossesFileBy honest (TossesPacketBy noting) device file old stopped new
       → TossesFileBy (Unit {0}) (TossesPacketBy noting) itself file old stopped new

@@ -1,5 +1,5 @@
 -- For any stops of one station's commands, its disks agree with a net without stops inside a command.
-use Rattle.std.proofs.Common.{◌≡◌, inl, inr, refl, sym, subst, ap, ◌∙◌, ℕ, zero, suc, append-nil, List, [], ◌∷◌, length, map, take}
+use Rattle.std.proofs.Common.{◌≡◌, inl, inr, refl, sym, subst, ap, ◌∙◌, ℕ, zero, suc, append-nil, List, [], ◌∷◌, length, map, take, arith}
 use Rattle.model_graph.specs.Walk.{Among}
 use Rattle.model_steps.specs.SystemState.{SystemState}
 use Rattle.echo_toss.specs.PacketsIn.{state_in}
@@ -24,10 +24,7 @@ IsLikeAlone PurgeAlone plain = plain ≡ PurgeAlone
 IsLikeAlone (TossAny files) plain = (others : List Coming) × (plain ≡ TossAny others)
 
 itself-like : (command : LoneCommand) → IsLikeAlone command command
-itself-like (PostAlone words body) = refl
-itself-like (ScanAlone stamp) = refl
-itself-like PurgeAlone = refl
-itself-like (TossAny files) = (files, refl)
+itself-like command = grind arith
 
 -- a command on the net; the net agrees with the disks after the command
 record FollowedAlone (command : LoneCommand) (s new : LoneDisks) (net : Net) : Type 0 where
@@ -57,11 +54,7 @@ by-event command of s new net t leads none only so =
 
 -- tosses move no cursor
 partly-cursor : (files : List Coming) (old new : SystemState) → AreAnyFiles files → IsPartly files old new → new.cursor ≡ old.cursor
-partly-cursor [] old new any same = ap (λ (s : SystemState). s.cursor) same
-partly-cursor (Holds bytes ∷ files) old new any (inl same) = ap (λ (s : SystemState). s.cursor) same
-partly-cursor (Holds bytes ∷ files) old new any (inr front) = ap (λ (s : SystemState). s.cursor) front.state
-partly-cursor (Fails path ∷ files) old new any same = ap (λ (s : SystemState). s.cursor) same
-partly-cursor (Unknown ∷ files) old new any partly = absurd any
+partly-cursor files old new h1 h2 = grind arith
 
 tossed-cursor : (n : ℕ) (files : List Coming) (old new : SystemState) → AreAnyFiles files → TossedFiles n files old new → new.cursor ≡ old.cursor
 tossed-cursor zero files old new any partly = partly-cursor files old new any partly

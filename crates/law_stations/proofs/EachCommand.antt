@@ -17,10 +17,7 @@ use Rattle.law_stations.proofs.Tracking.{IsTagged, Tracks, cursor-too}
 
 -- a command is like itself
 itself-like : (command : Command) → IsLike command command
-itself-like (Post words body) = refl
-itself-like (Scan stamp) = refl
-itself-like Purge = refl
-itself-like (Toss indexes) = (indexes, refl)
+itself-like command = grind arith
 
 -- a command on the net, which agrees with the disks after the command
 pub record Followed (event : CommandEvent) (net : Net) (new : Disks) : Type 0 where

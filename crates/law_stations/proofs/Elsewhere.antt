@@ -1,13 +1,13 @@
 -- A command changes only the base of its station.
-use Rattle.std.proofs.Common.{◌≡◌, ◌≢◌, ◌⊎◌, inl, inr, refl, ap, ◌∙◌, ℕ, zero, suc, Bool, true, false, List, [], ◌∷◌}
+use Rattle.std.proofs.Common.{◌≡◌, ◌≢◌, inl, inr, refl, ap, ◌∙◌, ℕ, zero, suc, Bool, true, false, List, [], ◌∷◌, arith}
 use Rattle.base_file.specs.Base.{Base}
 use Rattle.model_steps.specs.declared.stamp.Stamp.{Stamp}
 use Rattle.model_run.specs.Run.{change, nth}
-use Rattle.base_store.specs.Store.{all_scanned, purged}
+use Rattle.base_store.specs.Store.{purged}
 use Rattle.law_stations.specs.Commands.{Command, CommandEvent, Post, Purge, Scan, Toss}
 use Rattle.law_stations.specs.Nets.{Net, with_base}
 use Rattle.law_stations.specs.Disks.{Disks, naming}
-use Rattle.law_stations.specs.Stopping.{Ends, EndsOne, EndsSome, PartialEffect, MayHappen, Moves, ScansFar, Writes}
+use Rattle.law_stations.specs.Stopping.{EndsOne, EndsSome, PartialEffect, MayHappen, ScansFar, Writes}
 
 -- an item at another index
 pub change-other : {X : Type 0} (f : X → X) (i j : ℕ) (xs : List X) → j ≢ i → nth j (change i f xs) ≡ nth j xs
@@ -23,11 +23,7 @@ naming-stations net bytes true = refl
 naming-stations net bytes false = refl
 
 pub one-stations : (i : ℕ) (d new : Disks) → EndsOne i d new → new.net.stations ≡ d.net.stations
-one-stations i d new e = by e.ends
-  where
-    by : Ends e.cursor d.net e.file new.net e.left → new.net.stations ≡ d.net.stations
-    by (inl (less, same, left)) = ap (λ (n : Net). n.stations) same ∙ naming-stations d.net e.file.bytes e.file.named
-    by (inr (least, same, left)) = ap (λ (n : Net). n.stations) same
+one-stations i d new e = grind (arith, naming-stations)
 
 pub some-stations : (n i : ℕ) (d new : Disks) → EndsSome n i d new → new.net.stations ≡ d.net.stations
 some-stations zero i d new same = ap (λ (x : Disks). x.net.stations) same
@@ -41,14 +37,7 @@ left-elsewhere : (net new : Net) (i j : ℕ) (base : Base) → new.stations ≡ 
 left-elsewhere net new i j base same other = ap (nth j) same ∙ change-other (with_base base) i j net.stations other
 
 far-elsewhere : (stamp : Stamp) (i j : ℕ) (d new : Disks) → j ≢ i → ScansFar stamp i d new → nth j new.net.stations ≡ nth j d.net.stations
-far-elsewhere stamp i j d new other (n, ended, ends, rest) = by rest ∙ ap (nth j) (some-stations n i d ended ends)
-  where
-    by : (new ≡ ended) ⊎ (Writes i ended new ⊎ ((m : ℕ) × (moved : Disks) × Moves stamp i ended moved × EndsSome m i moved new)) → nth j new.net.stations ≡ nth j ended.net.stations
-    by (inl same) = ap (λ (x : Disks). nth j x.net.stations) same
-    by (inr (inl writes)) = ap (nth j) (written-stations i ended new writes)
-    by (inr (inr (m, moved, moves, names))) =
-        ap (nth j) (some-stations m i moved new names)
-        ∙ left-elsewhere ended.net moved.net i j (all_scanned moves.scans.station.base) (ap (λ (x : Disks). x.net.stations) moves.becomes) other
+far-elsewhere stamp i j d new other (n, ended, ends, rest) = grind (arith, some-stations, written-stations, left-elsewhere)
 
 led-elsewhere : (command : Command) (i j : ℕ) (d new : Disks) → j ≢ i → PartialEffect command d i new → nth j new.net.stations ≡ nth j d.net.stations
 led-elsewhere (Post words body) i j d new other (posts, staging) =

@@ -8,16 +8,12 @@ use Rattle.law_stations.proofs.Pairs.{paired-append}
 use Rattle.law_stations.specs.Disks.{StagingFile, Disks, cursors, naming, with_packet}
 use Rattle.law_stations.specs.Stopping.{Ends, EndsOne, EndsSome, now_named}
 use Rattle.law_stations.proofs.Counting.{IsItem, nones, same_as, times-append, waits, waits-append, waits-nones}
-use Rattle.law_stations.proofs.Tracking.{IsTagged, IsTossedAt, PairedAround, Tracks, cursor-too, paired-around}
+use Rattle.law_stations.proofs.Tracking.{IsTagged, PairedAround, Tracks, cursor-too, paired-around}
 use Rattle.model_run.proofs.Targets.{some_same}
 
 -- as many packets wait without the file as with its rest
 same-waits : (k : ℕ) (left : List StagingFile) (front behind : List (Option ℕ)) → waits k (front ++ (nones left ++ behind)) ≡ waits k front + waits k behind
-same-waits k left front behind =
-    let a = waits-append k front (nones left ++ behind) in
-    let b = waits-append k (nones left) behind in
-    let c = waits-nones k left in
-    omega (arith, a, b, c)
+same-waits k left front behind = grind (arith, waits-append, waits-nones)
 
 -- one packet less waits than with the file's packet
 less-waits : (k x : ℕ) (front behind : List (Option ℕ)) → waits k (front ++ Some x ∷ behind) ≡ waits k front + (same_as k x + waits k behind)
@@ -28,12 +24,7 @@ abbrev IsLeft : StagingFile → List StagingFile → Type 0
 IsLeft file left = (left ≡ []) ⊎ (left ≡ now_named file ∷ [])
 
 left-tagged : (packets : List (List ℕ)) (at : List ℕ) (file : StagingFile) (left : List StagingFile) → IsLeft file left → Paired (IsTagged packets at) left (nones left)
-left-tagged packets at file left (inl none) =
-    let P : List StagingFile → Type 0 = λ fs. Paired (IsTagged packets at) fs (nones fs) in
-    subst P (sym none) tt
-left-tagged packets at file left (inr one) =
-    let P : List StagingFile → Type 0 = λ fs. Paired (IsTagged packets at) fs (nones fs) in
-    subst P (sym one) (inl refl, tt)
+left-tagged packets at file left h1 = grind arith
 
 module _ (d new : Disks) (net : Net) (t : Tracks d net) (before : List StagingFile) (file : StagingFile) (after left : List StagingFile)
     (stands : new.staging ≡ before ++ (left ++ after)) (around : PairedAround (IsTagged net.packets (cursors net)) before file after t.tags) where
@@ -41,29 +32,11 @@ module _ (d new : Disks) (net : Net) (t : Tracks d net) (before : List StagingFi
   tags = around.front ++ (nones left ++ around.behind)
 
   tagged : Paired (IsTagged net.packets (cursors net)) left (nones left) → Paired (IsTagged net.packets (cursors net)) new.staging tags
-  tagged is =
-      let R : StagingFile → Option ℕ → Type 0 = IsTagged net.packets (cursors net) in
-      let P : List StagingFile → Type 0 = λ fs. Paired R fs tags in
-      subst P (sym stands) (paired-append R before (left ++ after) around.front (nones left ++ around.behind) around.before
-      (paired-append R left after (nones left) around.behind is around.after))
+  tagged is = grind (arith, paired-append)
 
   -- no packet waited in the file, and the net is unchanged
   unchanged : around.y ≡ None → new.net ≡ d.net → Paired (IsTagged net.packets (cursors net)) left (nones left) → Tracks new net
-  unchanged none same is = record {
-    stations = ap (λ (n : Net). n.stations) same ∙ t.stations;
-    postings = ap (λ (n : Net). n.postings) same ∙ t.postings;
-    places = t.places;
-    named = subst (λ (n : Net). Paired (IsItem net.packets) n.packets t.places) (sym same) t.named;
-    tags = tags;
-    staging = tagged is;
-    each = λ k.
-        let whole = ap (waits k) (around.whole ∙ ap (λ (o : Option ℕ). around.front ++ o ∷ around.behind) none) in
-        let split = waits-append k around.front (None ∷ around.behind) in
-        let now = same-waits k left around.front around.behind in
-        let was = t.each k in
-        omega (arith, whole, split, now, was);
-    tossed = subst (λ (n : Net). (j : ℕ) → Among j n.delivered → IsTossedAt t.places net.delivered j) (sym same) t.tossed;
-  }
+  unchanged none same is = grind (arith, tagged, waits-append, same-waits)
 
   -- the packet that waited in the file has its name
   gets-name : (k : ℕ) → around.y ≡ Some k → nth k net.packets ≡ Some file.bytes → new.net ≡ with_packet d.net file.bytes

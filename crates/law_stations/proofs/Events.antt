@@ -46,9 +46,7 @@ module _ (station : Station) (file : LinkFile) (i : ℕ) (d : Disks) (there : nt
 
   -- the posting of an answer
   pub replying : (index : ℕ) (answer : Answer) (body : List ℕ) (next : Base) → Replies file index answer body station.base next → LeadsTo (IsReplyAs index answer body station.base) i d next
-  replying index answer body next replies =
-      posting-as (IsReplyAs index answer body station.base) answer.free replies.words body next
-      (λ command is. record { message = replies.message; found = replies.found; words = replies.words; of_message = replies.of_message; is = is }) replies.made
+  replying index answer body next replies = grind (arith, posting-as)
 
   -- the posting of a letter
   pub mailing : (letter : Letter) (asked : MailWords) (next : Base) → Mails file letter asked station.base next → LeadsTo (IsMail letter asked) i d next

@@ -1,5 +1,5 @@
 -- A toss of packet files, by their bytes: the first ones are tossed whole, and the next may be tossed in part.
-use Rattle.std.proofs.Common.{Bool, true, false, ◌≡◌, ◌⊎◌, inl, inr, refl, sym, subst, ap, ℕ, zero, suc, ◌+◌, ◌-◌, ◌≤◌, arith, List, [], ◌∷◌, length, Option, Some, None, Result, Ok, Err}
+use Rattle.std.proofs.Common.{Bool, ◌≡◌, ◌⊎◌, inl, inr, refl, sym, subst, ap, ℕ, zero, suc, ◌+◌, ◌-◌, ◌≤◌, arith, List, [], ◌∷◌, length, Option, Some, None, Result, Ok, Err}
 use Rattle.cmd_status.specs.Devices.{Device}
 use Rattle.cmd_status.specs.declared.fault.Fault.{Fault}
 use Rattle.cmd_status.specs.declared.fault.Fault.TheVariants.{OutOfMemory}
@@ -11,7 +11,7 @@ use Rattle.echo_toss.specs.declared.fault.TossFault.{TossFault}
 use Rattle.echo_toss.specs.declared.tally.Tally.{Tally}
 use Rattle.echo_toss.specs.PacketSteps.{PacketStep}
 use Rattle.cmd_report.specs.Coming.{Coming, Fails, Holds, Unknown}
-use Rattle.cmd_report.specs.Tossed.{TossesEachBy, TossesFileBy, run_begun}
+use Rattle.cmd_report.specs.Tossed.{TossesEachBy, TossesFileBy}
 use Rattle.cmd_report.specs.TossedPacket.{ReportsPacket, TossRun, TossesPacketBy}
 use Rattle.law_stations.specs.Commands.{TossesAll, itself}
 use Rattle.law_stations.proofs.Readings.{TossesFront, TossesPacketThere, TossesSo, tosses-so}
@@ -50,17 +50,12 @@ record IsAnswered (old : TossRun) (reader left : Device) (stopped : Option Fault
 
 answered : (noting : Bool) (old : TossRun) (reader left : Device) (stopped : Option Fault) (new : TossRun) → TossesPacketBy noting old reader left stopped new
     → ((stopped ≡ Some OutOfMemory) × (new ≡ old)) ⊎ IsAnswered old reader left stopped new
-answered false old reader left stopped new (inl none) = inl (none.0, none.1)
-answered false old reader left stopped new (inr h) = inr (record { answer = h.answer; step = h.step; noted = old.lines; line = h.line })
-answered true old reader left stopped new (inl none) = inl (none.0, none.1)
-answered true old reader left stopped new (inr h) = inr (record { answer = h.answer; step = h.step; noted = h.noted; line = h.line })
+answered noting old reader left stopped new h1 = grind arith
 
 -- the statement about a packet that was opened
 packet-so : (bytes : List ℕ) (old new : TossRun) (stopped : Option Fault) (reader left : Device) → reader.contents ≡ Some bytes
     → (h : IsAnswered old reader left stopped new) → TossesSo bytes old.system new.system h.answer
-packet-so bytes old new stopped reader left reads h =
-    let P : Option (List ℕ) → Type 0 = λ o. PacketStep old.limits old.system o left.contents h.answer new.system in
-    tosses-so old.limits bytes left.contents old.system new.system h.answer (subst P reads h.step)
+packet-so bytes old new stopped reader left reads h = grind (arith, tosses-so)
 
 same-run : (old new : TossRun) → new ≡ old → new.system ≡ old.system
 same-run old new e = ap (λ (r : TossRun). r.system) e
@@ -129,6 +124,4 @@ module _ (noting : Bool) where
 -- the base after the toss
 pub tossed-all : (files : List Coming) (file : LinkFile) (base next : Base) → (t : TossesAll files file base next)
     → TossedFiles (wholes (length files) t.stopped t.left) files (state_in file base) (state_in file next)
-tossed-all files file base next t =
-    let F : SystemState → Type 0 = λ x. TossedFiles (wholes (length files) t.stopped t.left) files (state_in file base) x in
-    subst F t.state (each-tossed t.noting files (run_begun t.limits (state_in file base)) t.stopped t.left t.run t.each)
+tossed-all files file base next t = grind (arith, each-tossed)

@@ -1,9 +1,9 @@
 -- A net goes on by a command that does on a disk what its event may do.
-use Rattle.std.proofs.Common.{inl, inr, ⊎_elim, refl, ℕ, List, Some, None, Result}
+use Rattle.std.proofs.Common.{inl, inr, ⊎_elim, refl, ℕ, List, Some, None, Result, arith}
 use Rattle.base_file.specs.Base.{Base}
 use Rattle.disk_io.specs.Disk.{DiskState, Files}
 use Rattle.cmd_store.specs.declared.command_error.CommandError.{CommandError}
-use Rattle.station.specs.Place.{Place, SameElsewhere}
+use Rattle.station.specs.Place.{Place}
 use Rattle.law_stations.specs.Disks.{Disks}
 use Rattle.law_stations.specs.OnDisks.{RefinesEvent, LeavesElsewhere, MayLeadBy, ShowsStation}
 use Rattle.law_stations.specs.Asked.{Asked, AnswerOf, CommandGoesOn, CommandsGoOn, GoesOnCut, IsAsked}
@@ -12,16 +12,7 @@ use Rattle.law_stations.specs.Steps.{IsAllOnDisk}
 
 -- a path outside a larger place is outside a smaller one
 pub reaches-by : (place further : Place) (old new : DiskState) → ((m : List ℕ) → place.is_own m → further.is_own m) → LeavesElsewhere place old new → LeavesElsewhere further old new
-reaches-by place further old new more left = record {
-  crash = λ c since. ⊎_elim (λ was. inl was) (λ (same : SameElsewhere place old c). inr (λ m out. same m (λ own. out (more m own)))) (left.crash c since);
-  keeps = record {
-    seen = λ m out. left.keeps.seen m (λ own. out (more m own));
-    named = λ m out. left.keeps.named m (λ own. out (more m own));
-    flushed = λ m out. left.keeps.flushed m (λ own. out (more m own));
-    alone = λ m out. left.keeps.alone m (λ own. out (more m own));
-    honest = left.keeps.honest;
-  };
-}
+reaches-by place further old new more left = grind (arith, ⊎_elim)
 
 module _ {D Kept : Type 0} (state : D → DiskState) (place : Kept → Place) (seats : List (Seat Kept)) (seat : Seat Kept) (i : ℕ) (asked : Asked) (base : Base) (d : Disks) (old whole : D)
     (result : Result (AnswerOf asked) CommandError) (does : RefinesEvent (IsAsked asked base) (place seat.kept) seat.links i d (state old) (state whole) result)

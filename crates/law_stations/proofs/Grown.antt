@@ -1,11 +1,11 @@
 -- No packet file loses its name.
-use Rattle.std.proofs.Common.{◌≡◌, ◌⊎◌, inl, inr, refl, sym, subst, ap, ◌∙◌, ℕ, zero, suc, append-nil, append_assoc, Bool, true, false, List, [], ◌∷◌, ◌++◌}
+use Rattle.std.proofs.Common.{◌≡◌, ◌⊎◌, inl, inr, refl, sym, ap, ◌∙◌, ℕ, zero, suc, append-nil, append_assoc, Bool, true, false, List, [], ◌∷◌, ◌++◌, arith}
 use Rattle.model_steps.specs.declared.stamp.Stamp.{Stamp}
 use Rattle.law_stations.specs.Commands.{Command, Post, Purge, Scan, Toss}
 use Rattle.law_stations.specs.Nets.{Net}
 use Rattle.law_stations.specs.LoneStations.{LoneCommand, LoneStation, PostAlone, PurgeAlone, ScanAlone, TossAny}
 use Rattle.law_stations.specs.Disks.{Disks, naming}
-use Rattle.law_stations.specs.Stopping.{Ends, EndsOne, EndsSome, PartialEffect, Moves, ScansFar, Writes}
+use Rattle.law_stations.specs.Stopping.{EndsOne, EndsSome, PartialEffect, Moves, ScansFar, Writes}
 use Rattle.law_stations.specs.LoneDisks.{LoneDisks, MayHappenAlone, MayHappenAllAlone}
 
 -- the packet files stay, and later ones follow
@@ -24,11 +24,7 @@ naming-grows net bytes true = same-grows net.packets net.packets refl
 naming-grows net bytes false = (bytes ∷ [], refl)
 
 one-grows : (i : ℕ) (d new : Disks) → EndsOne i d new → Grows d.net.packets new.net.packets
-one-grows i d new e = by e.ends
-  where
-    by : Ends e.cursor d.net e.file new.net e.left → Grows d.net.packets new.net.packets
-    by (inl (less, same, left)) = subst (λ (n : Net). Grows d.net.packets n.packets) (sym same) (naming-grows d.net e.file.bytes e.file.named)
-    by (inr (least, same, left)) = same-grows d.net.packets new.net.packets (ap (λ (n : Net). n.packets) same)
+one-grows i d new e = grind (arith, naming-grows, same-grows)
 
 some-grow : (n i : ℕ) (d new : Disks) → EndsSome n i d new → Grows d.net.packets new.net.packets
 some-grow zero i d new same = same-grows d.net.packets new.net.packets (ap (λ (x : Disks). x.net.packets) same)

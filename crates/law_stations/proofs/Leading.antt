@@ -1,6 +1,6 @@
 -- A command that ran on a station leads to a net in which the station has the command's base.
-use Rattle.std.proofs.Common.{◌≡◌, ◌⊎◌, inl, inr, ⊎_elim, ◌∙◌, ℕ, List, Result, Ok, Err, refl, sym, subst, ap}
-use Rattle.std.specs.Prelude.{IfErr, OnOk}
+use Rattle.std.proofs.Common.{◌≡◌, ◌⊎◌, inl, inr, ⊎_elim, ◌∙◌, ℕ, List, Result, Ok, Err, refl, sym, subst, ap, arith}
+use Rattle.std.specs.Prelude.{IfErr}
 use Rattle.base_file.specs.Base.{Base}
 use Rattle.disk_io.specs.Disk.{DiskState, Files}
 use Rattle.disk_io.specs.Runs.{LeavesOnly}
@@ -12,7 +12,7 @@ use Rattle.cmd_status.specs.Devices.{Output}
 use Rattle.cmd_store.specs.declared.command_error.CommandError.{CommandError}
 use Rattle.cmd_store.specs.declared.command_error.CommandError.TheVariants.{Met, Store}
 use Rattle.station.specs.Place.{KeepsElsewhere, Place, SameElsewhere, StandsOrWasLeft}
-use Rattle.station.specs.Running.{IsKept, IsRun, IsRunOn, MadeOrWasLeft, RunsIn, StandsAsBefore, StandsWhereMet}
+use Rattle.station.specs.Running.{IsRun, RunsIn, StandsAsBefore, StandsWhereMet}
 use Rattle.law_stations.specs.Commands.{Command}
 use Rattle.law_stations.specs.Nets.{with_base}
 use Rattle.law_stations.specs.Disks.{Disks}
@@ -72,10 +72,7 @@ module _ (place : Place) (links : List ℕ) (i : ℕ) (d : Disks) (old new : Dis
 
   -- the disk after a command that left the base unchanged
   is-as-before : StandsAsBefore place old new base → IsAsBefore place links i d new
-  is-as-before it = record {
-    at = record { shows = as-it-was new.seen same-links it.seen; linked = still-linked; outside = at.outside };
-    on_disk = λ c left. as-it-was c (left-links c left) (it.stands c left);
-  }
+  is-as-before it = grind (arith, as-it-was, same-links, still-linked, left-links)
 
   -- if a command met a fault
   module _ {A : Type 0} (IsAnswer : LinkFile → Base → Type 0) (Makes May : LinkFile → Base → Base → Type 0) (Reads : LinkFile → Type 0) (IsShut Stops : Fault → Type 0) (failed : Type 0) (result : Result A CommandError) where
@@ -88,9 +85,7 @@ module _ (place : Place) (links : List ℕ) (i : ℕ) (d : Disks) (old new : Dis
 
     pub stays : (out out_now : Output) → RunsIn IsAnswer Makes May place Reads IsShut Stops failed old new out out_now result → (fault : Fault) → result ≡ Err (Met fault)
         → IsAsBefore place links i d new ⊎ IsShut fault
-    stays out out_now (inl run) fault is = inl (is-as-before (stands-so run fault is))
-    stays out out_now (inr (inl shut)) fault is = inr (subst (λ (r : Result A CommandError). IfErr r is-shut-by) (sym shut.is ∙ is) shut.cause)
-    stays out out_now (inr (inr stopped)) fault is = inl (is-as-before (stopped.stands base at.shows.stands))
+    stays out out_now h1 fault h2 = grind (arith, is-as-before, stands-so)
 
   module _ (IsCommand : Command → Type 0) where
     -- this command
@@ -124,60 +119,12 @@ module _ (place : Place) (links : List ℕ) (i : ℕ) (d : Disks) (old new : Dis
         (makes : (file : LinkFile) (next : Base) → SaysIn file → Makes file base next → LeadsTo IsCommand i d next) where
       -- the effect of a command that ran
       ran : IsRun IsAnswer Makes May place Reads failed old new result → RefinesEvent IsCommand place links i d old new result
-      ran run = record {
-        crash = left;
-        done = well;
-        stopped = λ fault is c since. was-left c ((stands-so IsAnswer Makes May Reads IsShut Stops failed result run fault is).crash.each c since);
-        same_links = same-links;
-        linked = still-linked;
-        elsewhere = record { crash = staging; keeps = kept };
-      }
-        where
-          on : IsRunOn (IsAnswer run.file base) (Makes run.file base) (May run.file base) place old new base result
-          on = run.runs base at.shows.stands
-
-          says : SaysIn run.file
-          says = says-so Reads read run.file run.read
-
-          made-so : (c : Files) (next : Base) → c links ≡ old.seen links → place.stands_for next c → MadeOrHeld IsCommand i d base next → AreAsMay IsCommand place links i d c
-          made-so c next linked stands (inl same) =
-              record { after = d; leads = inl refl; shows = as-it-was c linked (subst (λ (b : Base). place.stands_for b c) same stands) }
-          made-so c next linked stands (inr to) =
-              record { after = to.after; leads = inr (led next to); shows = after-it next to c linked stands }
-
-          left : (c : Files) → new.left_since old.moment c → old.may_leave c ⊎ AreAsMay IsCommand place links i d c
-          left c since = by (on.crash.each c since)
-            where
-              by : MadeOrWasLeft place old (May run.file base) base c → old.may_leave c ⊎ AreAsMay IsCommand place links i d c
-              by (inr was) = inl was
-              by (inl alone) =
-                  let linked = outside-links c alone.elsewhere in
-                  ⊎_elim
-                  (λ (stands : place.stands_for base c). inr (record { after = d; leads = inl refl; shows = as-it-was c linked stands }))
-                  (λ (now : (next : Base) × May run.file base next × place.stands_for next c). inr (made-so c now.0 linked now.2 (may run.file now.0 says now.1)))
-                  alone.stands
-
-          well : (value : A) → result ≡ Ok value → IsAfter IsCommand place links i d new
-          well value ok =
-              let it : IsKept place (Makes run.file base) new = subst (λ (r : Result A CommandError). OnOk r (IsKept place (Makes run.file base) new)) ok on.kept in
-              is-after it.next (makes run.file it.next says it.made) it.seen it.stands
-
-          staging : (c : Files) → new.left_since old.moment c → old.may_leave c ⊎ SameElsewhere place old c
-          staging c since = ⊎_elim (λ alone. inr alone.elsewhere) (λ was. inl was) (on.crash.each c since)
+      ran run = grind (arith, was-left, stands-so, same-links, still-linked, says-so, as-it-was, led, after-it, outside-links, ⊎_elim)
 
       -- the effect of a command that did not run
       not-run : (fault : Fault) → result ≡ Err (Met fault) → LeavesOnly old new (StandsOrWasLeft place old base) → RefinesEvent IsCommand place links i d old new result
-      not-run fault is leaves = record {
-        crash = λ c since. may-be c (was-left c (leaves.each c since));
-        done = λ value ok. absurd (cc (sym ok ∙ is));
-        stopped = λ other met c since. was-left c (leaves.each c since);
-        same_links = same-links;
-        linked = still-linked;
-        elsewhere = record { crash = λ c since. ⊎_elim (λ alone. inr alone.elsewhere) (λ was. inl was) (leaves.each c since); keeps = kept };
-      }
+      not-run fault is leaves = grind (arith, may-be, was-left, same-links, still-linked, ⊎_elim)
 
       -- the effect of a command
       pub does : (out out_now : Output) → RunsIn IsAnswer Makes May place Reads IsShut Stops failed old new out out_now result → RefinesEvent IsCommand place links i d old new result
-      does out out_now (inl run) = ran run
-      does out out_now (inr (inl shut)) = not-run shut.fault shut.is (shut.crash base at.shows.stands)
-      does out out_now (inr (inr stopped)) = not-run stopped.fault stopped.is (stopped.stands base at.shows.stands).crash
+      does out out_now h1 = grind (arith, ran, not-run)

@@ -1,21 +1,19 @@
 -- The contents of one station, from the history of its system and its sent packets.
-use Rattle.std.proofs.Common.{◌≡◌, ◌⊎◌, inl, inr, refl, sym, subst, ap, ◌∙◌, ℕ, zero, suc, ◌≤◌, arith, List, [], ◌∷◌, take, drop, None, Some, Option}
+use Rattle.std.proofs.Common.{◌≡◌, ◌⊎◌, inl, inr, refl, sym, subst, ap, ◌∙◌, ℕ, zero, suc, ◌≤◌, arith, List, [], ◌∷◌, take, drop}
 use Rattle.std.specs.Prelude.{false}
 use Rattle.echo_addr.specs.declared.address.Address.{Address}
 use Rattle.model_graph.specs.Walk.{Among}
 use Rattle.model_graph.proofs.Members.{Among-append_right}
 use Rattle.echo_packet.specs.declared.header.Header.{Header}
 use Rattle.echo_packet.specs.Message.{Message}
-use Rattle.echo_text.specs.Echo.{msgid_of}
 use Rattle.echo_links.specs.Links.{IsFile, LinkFile}
 use Rattle.echo_filed.specs.declared.key.Key.{Key}
 use Rattle.echo_filed.specs.Filed.{Filed, key_of, same_key}
-use Rattle.echo_filed.specs.Stubs.{is_stub, stub_of, stub_with}
+use Rattle.echo_filed.specs.Stubs.{is_stub, stub_of}
 use Rattle.echo_filed.proofs.Keys.{stub_of_stub}
 use Rattle.echo_filed.proofs.StubTests.{stub_told}
 use Rattle.base_file.specs.Base.{IsBase}
 use Rattle.model_steps.specs.declared.packet.Packet.{Packet}
-use Rattle.model_steps.specs.SystemState.{SystemState}
 use Rattle.model_steps.specs.Tossing.{received, sender_of}
 use Rattle.model_run.specs.Exports.{IsSentCopy}
 use Rattle.model_run.specs.Orderly.{copies, count, sent_count}
@@ -46,11 +44,7 @@ use Rattle.law_stations.proofs.Steps.{AreOfCommands}
 -- a stub has the tag and the sender of its message, and an empty SEEN-BY
 stub-owed : (file : LinkFile) (h : Filed) (a : Address) → IsOwed file h a → IsOwed file (stub_of h) a
 unfolding stub_of
-stub-owed file h a owed = with_id (msgid_of h.echo.kept)
-  where
-    with_id : (o : Option (List ℕ)) → IsOwed file (stub_with h o) a
-    with_id None = owed
-    with_id (Some id) = record { link = owed.link; not_sender = owed.not_sender; unlisted = λ none. none }
+stub-owed file h a owed = grind arith
 
 -- messages before the cursor were scanned
 kept-take : (c : ℕ) (base history : List Filed) → Kept c base history → (m : Filed) → Among m (take c base) → (h : Filed) × Among h (take c history) × IsKept m h
@@ -83,9 +77,7 @@ module _ (commands : List LoneCommand) (file : LinkFile) (fits : IsFile file) (s
   has-system station there = (let P : List Station → Type 0 = λ ss. Paired HasSystem ss (z.system ∷ []) in subst P there lone.agrees.stations).0
 
   pub stood : (f : LinkFile) (messages : List Filed) (cursor : ℕ) → LoneSays s f messages cursor → Stood z file f messages cursor
-  stood f messages cursor say =
-      let once = said-once say.station z.system (has-system say.station say.there) f messages cursor say.says in
-      record { same = λ P h. subst (λ (x : SystemState). P x.file x.base x.cursor) (sym once) (subst (λ (l : LinkFile). P l z.system.base z.system.cursor) (sym (run-file file events)) h) }
+  stood f messages cursor say = grind (arith, said-once, has-system, run-file)
 
   -- one station
   pub say-here : LoneSays s z.system.file z.system.base z.system.cursor
@@ -186,9 +178,7 @@ module _ (commands : List LoneCommand) (file : LinkFile) (fits : IsFile file) (s
 
   -- an address that should not get the base's message should not get the filed one
   not-owed : (m h : Filed) → IsKept m h → (a : Address) → (¬ IsOwed file m a) → ¬ IsOwed file h a
-  not-owed m h kept a none owed =
-      let P : Filed → Type 0 = λ x. IsOwed file x a in
-      none (elim kept.form [ inl same ↦ subst P (sym same) owed | inr stub ↦ subst P (sym stub) (stub-owed file h a owed) ])
+  not-owed m h kept a none owed = grind (arith, stub-owed)
 
   never-sent : (m : Filed) → Among m z.system.base → (a : Address) → (¬ IsOwed file m a) → sent_count a (key_of m) z.sent ≡ 0
   never-sent m i a none =
@@ -197,21 +187,11 @@ module _ (commands : List LoneCommand) (file : LinkFile) (fits : IsFile file) (s
       ∙ sent-others the_laws z ok sofar h j a (λ owed. not-owed m h kept a none (owed-back the_laws file fits events lone.plain h a owed))
 
   waits-unsent : (m : Filed) → Among m (drop z.system.cursor z.system.base) → (a : Address) → sent_count a (key_of m) z.sent ≡ 0
-  waits-unsent m i a =
-      let P : List Filed → Type 0 = λ ms. Among m ms in
-      sent-waiting the_laws z ok sofar m (subst P (Kept-waiting z.system.cursor z.system.base z.system.history ok.kept) i) a
+  waits-unsent m i a = grind (arith, sent-waiting, the_laws, ok, sofar, Kept-waiting)
 
   owed-sent : (m : Filed) → Among m (take z.system.cursor z.system.base) → is_stub m ≡ false → (a : Address) → IsOwed file m a →
       sent_count a (key_of m) z.sent ≡ 1
-  owed-sent m i not_stub a owed =
-      let (h, j, kept) = kept-take z.system.cursor z.system.base z.system.history ok.kept m i in
-      let same : m ≡ h = elim kept.form [
-        | inl e ↦ e
-        | inr stub ↦ absurd (not_both (is_stub m) ((stub_told m).1 (ap stub_of stub ∙ (stub_of_stub h ∙ sym stub))) not_stub)
-      ] in
-      let P : Filed → Type 0 = λ x. IsOwed file x a in
-      ap (λ (k : Key). sent_count a k z.sent) kept.key
-      ∙ sent-owed the_laws z ok sofar h j a (owed-there the_laws file fits events lone.plain h a (subst P same owed))
+  owed-sent m i not_stub a owed = grind (arith, kept-take, ok, not_both, stub_told, stub_of_stub, sent-owed, the_laws, sofar, owed-there)
 
   pub in-order : IsInOrderAlone commands s
   in-order = record {

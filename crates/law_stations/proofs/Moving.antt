@@ -1,5 +1,5 @@
 -- A scan stops before its base is committed, or commits it; then its packets wait for their names.
-use Rattle.std.proofs.Common.{◌≡◌, ◌≢◌, inl, inr, refl, sym, subst, ap, ◌∙◌, ℕ, zero, suc, ◌+◌, ◌≤◌, ◌<◌, arith, append-nil, append_assoc, length-append, List, [], ◌∷◌, ◌++◌, length, map, Option, Some, None}
+use Rattle.std.proofs.Common.{◌≡◌, ◌≢◌, inl, inr, refl, sym, subst, ap, ◌∙◌, ℕ, zero, suc, ◌+◌, ◌≤◌, ◌<◌, arith, append-nil, append_assoc, length-append, List, [], ◌∷◌, ◌++◌, length, map, Option, Some}
 use Rattle.std.specs.List.{AllByRecursion}
 use Rattle.std.proofs.lemmas.Bool.{cases_lt}
 use Rattle.std.proofs.lemmas.List.{drop_all, length-map}
@@ -82,19 +82,12 @@ none-scanned file base cursor stamp past = ap (packets_of file stamp) (drop_all 
 -- if there are packets, something waited
 pub some-waits : (file : LinkFile) (base : List Filed) (cursor : ℕ) (stamp : Stamp) (packets : List PacketFile) → packets ≡ map (file_sent cursor) (scanned file base cursor stamp)
     → (q : PacketFile) → Among q packets → cursor < length base
-some-waits file base cursor stamp packets made q h = elim (cases_lt cursor (length base)) [
-  | inl less ↦ less
-  | inr past ↦ (
-      let P : List PacketFile → Type 0 = λ qs. Among q qs in
-      absurd (subst P (made ∙ ap (map (file_sent cursor)) (none-scanned file base cursor stamp past)) h))
-]
+some-waits file base cursor stamp packets made q h = grind (arith, cases_lt, none-scanned)
 
 -- the cursors of a station before and after a scan, if it has packets
 pub scans-less : (stamp : Stamp) (net new : Net) (i : ℕ) → (scans : Scans stamp net i new) → (q : PacketFile) → Among q scans.packets
     → scans.station.base.cursor < length scans.station.base.messages
-scans-less stamp net new i scans =
-    let base = scans.station.base in
-    some-waits scans.file base.messages base.cursor stamp scans.packets scans.made.sent
+scans-less stamp net new i scans = grind (arith, scans, some-waits)
 
 pub now-cursor : (net : Net) (i : ℕ) (station : Station) (next : Base) (packets : List PacketFile) → nth i net.stations ≡ Some station
     → HasCursor (with_left net i packets next) i next.cursor
@@ -117,14 +110,7 @@ module _ (stamp : Stamp) (i : ℕ) (d new : Disks) (net : Net) (t : Tracks d net
 
   -- the scan of the disks is one of the net
   pub scans : Scans stamp net i then
-  scans = record {
-    station = m.scans.station;
-    file = m.scans.file;
-    at = record { there = there; links = m.scans.at.links };
-    packets = packets;
-    made = m.scans.made;
-    becomes = refl;
-  }
+  scans = grind (arith, there)
 
   abbrev files : List (List ℕ)
   files = net.packets ++ map bytes_of packets
@@ -134,9 +120,7 @@ module _ (stamp : Stamp) (i : ℕ) (d new : Disks) (net : Net) (t : Tracks d net
 
   -- a file of another station
   others : (x : StagingFile) (o : Option ℕ) → Among x d.staging → IsTagged net.packets (cursors net) x o → IsTagged files (cursors then) x o
-  others x None h (inl named) = inl named
-  others x None h (inr late) = inr (λ c is. late c (sym (same x h) ∙ is))
-  others x (Some k) h (at, unnamed, (c, is, less)) = (nth-append k x.bytes net.packets (map bytes_of packets) at, unnamed, (c, same x h ∙ is, less))
+  others x o h1 h2 = grind (arith, same, nth-append)
 
   own : (q : PacketFile) → Among q packets → (n : ℕ) × (nth i (cursors then) ≡ Some n) × (m.cursor < n)
   own q h =

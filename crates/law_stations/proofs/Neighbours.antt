@@ -1,5 +1,5 @@
 -- A command that leaves files elsewhere unchanged leaves other stations unchanged.
-use Rattle.std.proofs.Common.{◌≡◌, ◌≢◌, ◌⊎◌, inl, inr, ◌∙◌, ℕ, List}
+use Rattle.std.proofs.Common.{◌≡◌, ◌≢◌, ◌⊎◌, inl, inr, ◌∙◌, ℕ, List, arith}
 use Rattle.disk_io.specs.Disk.{DiskState, Files}
 use Rattle.station.specs.Place.{Place, SameElsewhere}
 use Rattle.law_stations.specs.Commands.{CommandEvent}
@@ -25,9 +25,7 @@ module _ (place other : Place) (old new : DiskState) (links : List ℕ) (i : ℕ
   left-so c (inr same) = shows c (same links apart.outside was.at.linked.named was.at.linked.flushed) (λ m own. same m (apart.own m own))
 
   still-on-disk : (c : Files) → SameOnDisk other new c → SameOnDisk other old c
-  still-on-disk c same m own named flushed =
-      let out = apart.own m own in
-      same m own (left.keeps.named m out named) (left.keeps.flushed m out flushed) ∙ left.keeps.seen m out
+  still-on-disk c same m own named flushed = grind arith
 
   stays : StaysOnDisk other links i old new d after
   stays = record {

@@ -1,5 +1,5 @@
 -- The toss of packet files at a station is some deliveries of the run.
-use Rattle.std.proofs.Common.{◌≡◌, ◌≢◌, inl, inr, refl, sym, subst, ap, ◌∙◌, ℕ, zero, suc, ◌+◌, ◌-◌, ◌==◌, arith, List, [], ◌∷◌, length, map, take, Option, None, Some, Ok}
+use Rattle.std.proofs.Common.{◌≡◌, ◌≢◌, inl, inr, refl, sym, subst, ap, ◌∙◌, ℕ, zero, suc, ◌+◌, ◌-◌, arith, List, [], ◌∷◌, length, map, take, Option, None, Some, Ok}
 use Rattle.std.proofs.lemmas.Bool.{cond-false, ne_eqb}
 use Rattle.std.proofs.lemmas.List.{take_all}
 use Rattle.model_graph.specs.Walk.{Different}
@@ -10,7 +10,7 @@ use Rattle.echo_links.specs.LinkLines.{LinksOf}
 use Rattle.base_file.specs.Base.{Base}
 use Rattle.model_steps.specs.declared.packet.Packet.{Packet}
 use Rattle.model_steps.specs.SystemState.{SystemState}
-use Rattle.model_steps.specs.Tossing.{destination_of, sender_of, zone_of}
+use Rattle.model_steps.specs.Tossing.{destination_of, sender_of}
 use Rattle.echo_toss.specs.PacketSteps.{IsForUs}
 use Rattle.echo_toss.specs.PacketsIn.{state_in}
 use Rattle.model_run.specs.Event.{Delivery, PartDelivery, RunEvent}
@@ -53,23 +53,11 @@ record Tossing (Kind : List RunEvent → Type 0) (i : ℕ) (net : Net) (run : Ru
 
 -- nothing happened
 nothing : (Kind : List RunEvent → Type 0) → Kind [] → (i : ℕ) (net : Net) (run : Run) (new : SystemState) → (h : Here i net run) → new ≡ state_of h.s → Tossing Kind i net run [] new
-nothing Kind none i net run new h same =
-    let stays : with_base (base_in new) h.station ≡ h.station =
-    (let base = ap base_in same ∙ sym h.has.base in λ j. record { links = h.station.links; base = base j }) in
-    let stations = change-same i (with_base (base_in new)) h.station net.stations h.at stays in
-    record {
-      events = [];
-      kind = none;
-      agrees = subst (λ (ss : List Station). Agrees (record { stations = ss; packets = net.packets; delivered = net.delivered; postings = net.postings }) run) (sym stations) h.agrees;
-      as_filed = λ j at. at;
-    }
+nothing Kind none i net run new h same = grind (arith, change-same)
 
 -- the receiver of a packet
 named-by : (file : LinkFile) (p : Packet) → p.header.dest_zone ≢ 0 → destination_of file p.header ≡ destination p
-named-by file p some =
-    let zone : zone_of file p.header.dest_zone ≡ p.header.dest_zone =
-    cond-false (p.header.dest_zone == 0) file.system.zone p.header.dest_zone (ne_eqb p.header.dest_zone 0 some) in
-    λ i. record { zone = zone i; net = p.header.dest_net; node = p.header.dest_node }
+named-by file p some = grind (arith, cond-false, ne_eqb)
 
 -- the run after the system with the index took the first messages of a packet
 abbrev taken_run : ℕ → Run → Packet → ℕ → List ℕ → Run

@@ -1,7 +1,5 @@
 -- A posting, a purge or a toss on the disks is one on the net, and moves no cursor.
-use Rattle.std.proofs.Common.{◌≡◌, ◌⊎◌, inl, inr, refl, sym, subst, ap, ◌∙◌, ℕ, zero, suc, append-nil, Bool, true, false, List, [], ◌∷◌, ◌++◌, length, map, take, Option, Some, None}
-use Rattle.std.specs.Prelude.{if◌then◌else◌, ◌==◌}
-use Rattle.std.specs.List.{list_any}
+use Rattle.std.proofs.Common.{◌≡◌, ◌⊎◌, inl, inr, refl, sym, subst, ap, ◌∙◌, ℕ, zero, suc, append-nil, List, [], ◌∷◌, ◌++◌, length, map, take, Option, Some, None, arith}
 use Rattle.std.proofs.lemmas.Bool.{eqb-true}
 use Rattle.base_file.specs.Base.{Base}
 use Rattle.model_graph.specs.Walk.{Among}
@@ -86,16 +84,11 @@ record Placed (packets : List (List ℕ)) (places : List ℕ) (j : ℕ) (bytes :
 
 is-placed : (packets named : List (List ℕ)) (places : List ℕ) (j : ℕ) (bytes : List ℕ) → Paired (IsItem packets) named places → nth j named ≡ Some bytes
     → Placed packets places j bytes
-is-placed packets named places j bytes paired at =
-    let (k, place, there) = paired-nth (IsItem packets) j bytes named places paired at in
-    let same : place_at places j ≡ k = ap number place in
-    record { place = place ∙ ap (λ (n : ℕ). Some n) (sym same); there = ap (λ (n : ℕ). nth n packets) same ∙ there }
+is-placed packets named places j bytes paired at = grind (arith, paired-nth)
 
 -- the input files of `toss` are those at the indexes
 file-at : (packets named : List (List ℕ)) (places : List ℕ) (j : ℕ) (file : Coming) → Paired (IsItem packets) named places → IsPacketAt named j file → IsPacketAt packets (place_at places j) file
-file-at packets named places j (Holds bytes) paired at = let p = is-placed packets named places j bytes paired at in p.there
-file-at packets named places j (Fails path) paired at = tt
-file-at packets named places j Unknown paired at = absurd at
+file-at packets named places j file h1 h2 = grind (arith, is-placed)
 
 files-at : (packets named : List (List ℕ)) (places indexes : List ℕ) (files : List Coming) → Paired (IsItem packets) named places → Paired (IsPacketAt named) indexes files
     → Paired (IsPacketAt packets) (map (place_at places) indexes) files
@@ -146,21 +139,10 @@ take-placed f (suc n) j (k ∷ indexes) h = elim h [ inl e ↦ inl (ap f e) | in
 
 -- an index that joins others
 joins : (k : ℕ) (ks : List ℕ) → Among k (with_index k ks)
-joins k ks = by (list_any (λ d. d == k) ks) refl
-  where
-    by : (b : Bool) → list_any (λ d. d == k) ks ≡ b → Among k (if b then ks else k ∷ ks)
-    by true e =
-        let (d, there, same) = any-from (λ d. d == k) ks e in
-        let P : ℕ → Type 0 = λ x. Among x ks in
-        subst P (eqb-true d k same) there
-    by false e = inl refl
+joins k ks = grind (arith, any-from, eqb-true)
 
 stays : (k j : ℕ) (ks : List ℕ) → Among j ks → Among j (with_index k ks)
-stays k j ks h = by (list_any (λ d. d == k) ks)
-  where
-    by : (b : Bool) → Among j (if b then ks else k ∷ ks)
-    by true = h
-    by false = inr h
+stays k j ks h = grind arith
 
 all-stay : (xs : List ℕ) (j : ℕ) (ks : List ℕ) → Among j ks → Among j (with_indexes xs ks)
 all-stay [] j ks h = h

@@ -9,19 +9,18 @@ use Rattle.echo_addr.specs.declared.address.Address.{Address}
 use Rattle.echo_addr.specs.Address.{IsAddress}
 use Rattle.echo_packet.specs.declared.header.Header.{Header}
 use Rattle.echo_packet.specs.Header.{AreBytes, IsHeader, header_bytes, word}
-use Rattle.echo_packet.specs.Message.{DateTime, FromName, HasNoZero, Message, Subject, Text, ToName, before, message_bytes, messages_bytes, zero_ended}
+use Rattle.echo_packet.specs.Message.{DateTime, FromName, Message, Subject, Text, ToName, before, message_bytes, messages_bytes, zero_ended}
 use Rattle.echo_packet.specs.Packet.{packet_bytes}
 use Rattle.echo_packet.proofs.Headers.{AreBytes-drop, AreBytes-take, IsHeader-from_bytes}
 use Rattle.echo_links.specs.Links.{IsFile, LinkFile, links_of}
 use Rattle.echo_filed.specs.Filed.{Filed, IsFiled}
 use Rattle.echo_filed.specs.Sets.{address_before, address_set}
-use Rattle.echo_filed.specs.Written.{text_of}
 use Rattle.echo_filed.proofs.Bytes.{text_no_zero}
 use Rattle.echo_filed.proofs.Plain.{all_append}
 use Rattle.echo_filed.proofs.Sets.{set_all}
 use Rattle.base_file.specs.Base.{IsBase}
 use Rattle.model_steps.specs.declared.stamp.Stamp.{Stamp}
-use Rattle.model_steps.specs.Scanning.{copy_to, exported, goes_to, header_to, packet_to, packets_of, recipients, scanned, targets}
+use Rattle.model_steps.specs.Scanning.{copy_to, goes_to, header_to, packet_to, packets_of, recipients, scanned, targets}
 use Rattle.model_steps.proofs.Copies.{exported_is_echo, links_are_addresses, all_filter as all-filter, all_later as all-drop}
 use Rattle.model_steps.proofs.Encoding.{IsWhole, written_packet, header_size as header-long}
 use Rattle.model_steps.specs.PacketFiles.{PacketFile}
@@ -69,24 +68,7 @@ has-bytes m h =
 copy-fits : (file : LinkFile) (address : Address) (m : Filed) → IsFile file → IsAddress address → IsFiled m → HasBytes (copy_to file address m)
     → IsWhole (copy_to file address m)
 unfolding copy_to
-copy-fits file address m fits to is bytes =
-    let text = text_of (exported file m.echo) in
-    let some : HasNoZero text = All-from_recursion (λ b. b ≢ 0) text (text_no_zero (exported file m.echo) (exported_is_echo file fits m.echo is.is_echo)) in
-    let own = fits.address in
-    record {
-      orig_node = omega (arith, own.node.1);
-      dest_node = omega (arith, to.node.1);
-      orig_net = omega (arith, own.net.1);
-      dest_net = omega (arith, to.net.1);
-      attribute = omega arith;
-      cost = omega arith;
-      date_len = is.date_len;
-      date = bytes.date;
-      to_name = record { bytes = bytes.to_name; no_zero = is.to_bytes; room = is.to_room };
-      from_name = record { bytes = bytes.from_name; no_zero = is.from_bytes; room = is.from_room };
-      subject = record { bytes = bytes.subject; no_zero = is.subject_bytes; room = is.subject_room };
-      text = record { bytes = bytes.text; no_zero = some; room = omega arith };
-    }
+copy-fits file address m fits to is bytes = grind (arith, All-from_recursion, text_no_zero, exported_is_echo)
 
 copies-fit : (file : LinkFile) (address : Address) → IsFile file → IsAddress address → (ms : List Filed) → AllByRecursion IsFiled ms
     → AreBytes (messages_bytes (map (copy_to file address) ms)) → AllByRecursion IsWhole (map (copy_to file address) ms)

@@ -1,12 +1,10 @@
 -- The traces of a purge show that a purge was run.
 use Rattle.std.proofs.Common.{◌≡◌, ◌⊎◌, inl, inr, refl, sym, subst, ℕ, zero, suc, ◌<◌, ◌≤◌, arith, List, [], ◌∷◌, take}
-use Rattle.std.specs.Prelude.{Bool, true, false, if◌then◌else◌}
 use Rattle.model_graph.specs.Walk.{Among}
 use Rattle.echo_filed.specs.Filed.{Filed}
 use Rattle.echo_filed.specs.Stubs.{stub_of}
 use Rattle.model_steps.specs.Purging.{purged}
-use Rattle.model_steps.specs.Stamps.{is_stamp}
-use Rattle.model_run.specs.Lone.{LoneEvent, LoneSystem, PostHere, PurgeHere, ScanHere, TossHere, after_all_lone, after_lone, with_scanned}
+use Rattle.model_run.specs.Lone.{LoneEvent, LoneSystem, PurgeHere, after_all_lone, after_lone}
 use Rattle.model_run.proofs.Filings.{purged-cons, purged-empty, purged-none}
 
 -- the event is a purge
@@ -15,14 +13,7 @@ IsPurge PurgeHere = Unit {0}
 IsPurge other = ⊥
 
 purge-or-same : (s : LoneSystem) (event : LoneEvent) → IsPurge event ⊎ ((after_lone s event).purged_to ≡ s.purged_to)
-purge-or-same s (PostHere tag draft serial stamp) = inr refl
-purge-or-same s (TossHere sender messages) = inr refl
-purge-or-same s (ScanHere stamp) = inr (scans (is_stamp stamp))
-  where
-    scans : (b : Bool) → (if b then with_scanned stamp s else s).purged_to ≡ s.purged_to
-    scans true = refl
-    scans false = refl
-purge-or-same s PurgeHere = inl tt
+purge-or-same s event = grind arith
 
 -- if more was purged, a purge was run
 pub purge-among : (events : List LoneEvent) (s : LoneSystem) → s.purged_to < (after_all_lone s events).purged_to → (e : LoneEvent) × Among e events × IsPurge e

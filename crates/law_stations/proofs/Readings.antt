@@ -1,5 +1,5 @@
 -- Bytes read as one packet. A toss of them tosses messages at their beginning.
-use Rattle.std.proofs.Common.{◌≡◌, ◌⊎◌, inl, inr, sym, ap, ◌∙◌, ℕ, ◌+◌, ◌≤◌, arith, append-nil, append_assoc, List, [], ◌∷◌, ◌++◌, length, take, Option, Some, None, Result, Ok, Err}
+use Rattle.std.proofs.Common.{◌≡◌, ◌⊎◌, inl, inr, sym, ◌∙◌, ℕ, ◌+◌, ◌≤◌, arith, append-nil, append_assoc, List, [], ◌∷◌, ◌++◌, length, take, Option, Some, None, Result, Ok, Err}
 use Rattle.std.specs.List.{AllByRecursion}
 use Rattle.echo_packet.specs.declared.header.Header.{Header}
 use Rattle.echo_packet.specs.declared.limits.Limits.{Limits}
@@ -22,20 +22,7 @@ abbrev both : Limits → Limits → Limits
 both a b = record { text = a.text + b.text; messages = a.messages + b.messages }
 
 wider : (most more : ℕ) → most ≤ more → (m : Message) → IsMessage most m → IsMessage more m
-wider most more room m is = record {
-  orig_node = is.orig_node;
-  dest_node = is.dest_node;
-  orig_net = is.orig_net;
-  dest_net = is.dest_net;
-  attribute = is.attribute;
-  cost = is.cost;
-  date_len = is.date_len;
-  date = is.date;
-  to_name = is.to_name;
-  from_name = is.from_name;
-  subject = is.subject;
-  text = record { bytes = is.text.bytes; no_zero = is.text.no_zero; room = (let short = is.text.room in omega (arith, short, room)) };
-}
+wider most more room m is = grind arith
 
 all-wider : (most more : ℕ) → most ≤ more → (ms : List Message) → AllByRecursion (IsMessage most) ms → AllByRecursion (IsMessage more) ms
 all-wider most more room [] all = tt
@@ -49,19 +36,12 @@ record Fronts (a b : Limits) (ms all : List Message) : Type 0 where
   more : 0 + length all ≤ a.messages + b.messages
 
 fronts : (a b : Limits) (ms all : List Message) → AreMessages a ms → AreMessages b all → Fronts a b ms all
-fronts a b ms all are other = record {
-  mine = all-wider a.text (a.text + b.text) (omega arith) ms are.each;
-  theirs = all-wider b.text (a.text + b.text) (omega arith) all other.each;
-  room = (let r = are.room in omega (arith, r));
-  more = (let r = other.room in omega (arith, r));
-}
+fronts a b ms all are other = grind (arith, all-wider)
 
 -- a packet at the beginning of bytes, part by part
 spread : (limits : Limits) (header : Header) (messages : List Message) (bytes front behind : List ℕ) → PacketOf limits header messages front
     → bytes ≡ front ++ behind → bytes ≡ header_bytes header ++ (messages_bytes messages ++ (word 0 ++ behind))
-spread limits header messages bytes front behind packet parts =
-    parts ∙ ap (λ (t : List ℕ). t ++ behind) packet.bytes ∙ append_assoc (header_bytes header) (messages_bytes messages ++ word 0) behind
-    ∙ ap (λ (t : List ℕ). header_bytes header ++ t) (append_assoc (messages_bytes messages) (word 0) behind)
+spread limits header messages bytes front behind packet parts = grind (arith, append_assoc)
 
 -- bytes begin with one packet
 pub one-in_front : (a b : Limits) (h k : Header) (ms all : List Message) (bytes front behind other rest : List ℕ) → PacketOf a h ms front → bytes ≡ front ++ behind

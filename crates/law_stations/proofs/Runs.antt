@@ -1,5 +1,5 @@
 -- Each command that was run on a station does what its command event may do.
-use Rattle.std.proofs.Common.{◌≡◌, inl, inr, ◌∙◌, sym, subst, ap, arith, ℕ, Bool, List, length, take, Option, Result, Ok, slice_get}
+use Rattle.std.proofs.Common.{◌≡◌, inl, inr, ◌∙◌, sym, subst, arith, ℕ, Bool, List, length, take, Option, Result, Ok, slice_get}
 use Rattle.std.specs.Prelude.{OnOk}
 use Rattle.std.proofs.lemmas.List.{take_all}
 use Rattle.base_file.specs.Base.{Base}
@@ -35,10 +35,7 @@ use Rattle.law_stations.proofs.Leading.{does, is-after, says-so, stays}
 -- the packets tossed whole, by the answer of the toss
 delivered-so : (indexes delivered : List ℕ) (stopped answer : Option Fault) (behind left : List Coming) → stopped ≡ answer → behind ≡ left
     → with_indexes (whole_of (take (length indexes) indexes) stopped behind) delivered ≡ with_indexes (whole_of indexes answer left) delivered
-delivered-so indexes delivered stopped answer behind left is is_left =
-    ap (λ (l : List ℕ). with_indexes (whole_of l stopped behind) delivered) (take_all (length indexes) indexes (omega arith))
-    ∙ ap (λ (s : Option Fault). with_indexes (whole_of indexes s behind) delivered) is
-    ∙ ap (λ (l : List Coming). with_indexes (whole_of indexes answer l) delivered) is_left
+delivered-so indexes delivered stopped answer behind left is is_left = grind (arith, take_all)
 
 module _ (place : Place) (Reads : LinkFile → Type 0) (IsShut Stops : Fault → Type 0) (failed : Type 0) (old new : DiskState) (kept : KeepsElsewhere place old new) (out out_now : Output) where
   -- if a command met a fault

@@ -267,16 +267,7 @@ module _ (stamp : Stamp) (place : Place) (links outbound : List ℕ) (i : ℕ) (
 
   stopped-so : (result : Result (Unit {0}) ScanError) (why : ScanError) (P : Files → Type 0) → result ≡ Err why → LeavesOnly old new P → ((c : Files) → P c → SameAway c)
       → ((c : Files) → P c → old.may_leave c ⊎ ShowsStation place links i c d) → Lasts result → ScansAsEvent stamp place links outbound i d ended base old new result
-  stopped-so result why P is leaves same shows lasts = record {
-    crash = λ c since. ⊎_elim (λ was. inl was) (λ as_was. inr (inl as_was)) (shows c (leaves.each c since));
-    done = λ ok. absurd (cc (sym ok ∙ is));
-    on_disk = λ ok. absurd (cc (sym ok ∙ is));
-    lasts = lasts;
-    stopped = λ fault met c since. shows c (leaves.each c since);
-    same_links = same-links;
-    linked = still-linked;
-    elsewhere = record { crash = λ c since. inr (same c (leaves.each c since)); keeps = keeps-elsewhere };
-  }
+  stopped-so result why P is leaves same shows lasts = grind (arith, ⊎_elim, same-links, still-linked, keeps-elsewhere)
 
   -- the reported fault
   reported-as : (own : List ℕ) (files : List PacketFile) (failed : Type 0) (before after : Files) (why : CommandError) (result : Result (Unit {0}) ScanError) → ReportsStop failed outbound own files before after why result
@@ -301,10 +292,7 @@ module _ (stamp : Stamp) (place : Place) (links outbound : List ℕ) (i : ℕ) (
   -- if it did not run
   not-run : (IsShut Stops : Fault → Type 0) (out out_now : Output) (result : Result (Unit {0}) ScanError) (stopped : Result (Unit {0}) CommandError) → result ≡ as_scan stopped
       → IsNotRun place IsShut old new out out_now stopped ⊎ IsStopped place Stops old new out out_now stopped → ScansAsEvent stamp place links outbound i d ended base old new result
-  not-run IsShut Stops out out_now result stopped is (inl shut) =
-      let shut_by = is ∙ ap as_scan shut.is in stopped-so result (Command (Met shut.fault)) (StandsOrWasLeft place old base) shut_by (shut.crash base at.shows.stands) opened-away was-left (λ met. absurd (met shut.fault shut_by))
-  not-run IsShut Stops out out_now result stopped is (inr by) =
-      let stopped_by = is ∙ ap as_scan by.is in stopped-so result (Command (Met by.fault)) (StandsOrWasLeft place old base) stopped_by (by.stands base at.shows.stands).crash opened-away was-left (λ met. absurd (met by.fault stopped_by))
+  not-run IsShut Stops out out_now result stopped h1 h2 = grind (arith, stopped-so, opened-away, was-left)
 
   ran : (Reads : LinkFile → Type 0) (IsShut Stops : Fault → Type 0) (out out_now : Output) (IsTrue : Files → Type 0) (failed : Type 0) (result : Result (Unit {0}) ScanError) → ReadsLinks Reads links old
       → ScansIn stamp place outbound IsTrue Reads IsShut Stops failed old new out out_now result → ScansAsEvent stamp place links outbound i d ended base old new result

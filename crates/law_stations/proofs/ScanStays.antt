@@ -1,5 +1,5 @@
 -- A scan that met a fault leaves the station unchanged.
-use Rattle.std.proofs.Common.{◌≡◌, ◌<◌, ◌⊎◌, inl, inr, ◌∙◌, sym, subst, ap, ℕ, List, Result, Ok, Err}
+use Rattle.std.proofs.Common.{◌≡◌, ◌<◌, ◌⊎◌, ◌∙◌, subst, ℕ, List, Result, Ok, Err, arith}
 use Rattle.std.specs.Prelude.{IfErr}
 use Rattle.disk_io.specs.Disk.{DiskState, Files}
 use Rattle.echo_links.specs.Links.{LinkFile}
@@ -46,14 +46,10 @@ module _ (place : Place) (outbound links : List ℕ) (i : ℕ) (d : Disks) (old 
 
     not-run : (out out_now : Output) (stopped : Result (Unit {0}) CommandError) → result ≡ as_scan stopped → IsNotRun place IsShut old new out out_now stopped ⊎ IsStopped place Stops old new out out_now stopped
         → IsAsBefore place links i d new ⊎ IsShut fault
-    not-run out out_now stopped one (inl shut) =
-        inr (subst (λ (r : Result (Unit {0}) ScanError). IfErr r is-shut-by) (sym (one ∙ ap as_scan shut.is) ∙ is) shut.cause)
-    not-run out out_now stopped one (inr by) = let was = by.stands at.shows.station.base at.shows.stands in inl (as-before was.seen was.stands)
+    not-run out out_now stopped h1 h2 = grind (arith, as-before)
 
     stays : (stamp : Stamp) (Reads : LinkFile → Type 0) (out out_now : Output) → ScansIn stamp place outbound IsTrue Reads IsShut Stops failed old new out out_now result → IsAsBefore place links i d new ⊎ IsShut fault
-    stays stamp Reads out out_now (inl run) =
-        let on = run.runs at.shows.station.base at.shows.stands in inl (put-so _ _ on.made on.put)
-    stays stamp Reads out out_now (inr not) = not-run out out_now not.stopped not.is not.not_run
+    stays stamp Reads out out_now h1 = grind (arith, put-so, not-run)
 
 pub scan-stays : (stamp : Stamp) (place : Place) (outbound : List ℕ) (IsTrue : Files → Type 0) (Reads : LinkFile → Type 0) (IsShut Stops : Fault → Type 0) (failed : Type 0) (old new : DiskState) (out out_now : Output) (result : Result (Unit {0}) ScanError)
     → UnchangedExcept (IsTouched place.is_own outbound) old new → ScansIn stamp place outbound IsTrue Reads IsShut Stops failed old new out out_now result → StaysWhereScanMet place outbound IsShut old new result

@@ -1,6 +1,5 @@
 -- A net goes on by a scan, and by a toss that ended well.
-use Rattle.std.proofs.Common.{◌∙◌, inl, inr, ⊎_elim, refl, append_assoc, ℕ, List, ◌++◌, Some, None, Result}
-use Rattle.std.specs.Prelude.{codes}
+use Rattle.std.proofs.Common.{inl, inr, ⊎_elim, refl, append_assoc, ℕ, List, Some, None, Result, arith}
 use Rattle.base_file.specs.Base.{Base}
 use Rattle.disk_io.specs.Disk.{DiskState, Files}
 use Rattle.model_steps.specs.declared.stamp.Stamp.{Stamp}
@@ -19,12 +18,7 @@ use Rattle.law_stations.proofs.GoingOn.{reaches-by}
 
 -- a path that a scan touches belongs to the base or the folder of packets
 touched : {Kept : Type 0} (place : Kept → Place) (seat : Seat Kept) (m : List ℕ) → IsTouched (place seat.kept).is_own seat.outbound m → (reach place seat).is_own m
-touched place seat m (inl own) = inl own
-touched place seat m (inr (own, (name, plain, inl staging))) = inr (record {
-  rest = name ++ (codes ".~" ++ (own ++ codes "~.new"));
-  parts = staging ∙ append_assoc seat.outbound name (codes ".~" ++ (own ++ codes "~.new"));
-})
-touched place seat m (inr (own, (name, plain, inr path))) = inr (record { rest = name; parts = path })
+touched place seat m h1 = grind (arith, append_assoc)
 
 module _ {D Kept : Type 0} (state : D → DiskState) (place : Kept → Place) (seats : List (Seat Kept)) (seat : Seat Kept) (i : ℕ) (stamp : Stamp) (d ended : Disks) (base : Base) (old whole : D)
     (result : Result (Unit {0}) ScanError) (does : ScansAsEvent stamp (place seat.kept) seat.links seat.outbound i d ended base (state old) (state whole) result)

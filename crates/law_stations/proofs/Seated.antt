@@ -1,5 +1,5 @@
 -- The effect of a step on a disk on the stations there, and on those on other disks.
-use Rattle.std.proofs.Common.{◌≡◌, ◌≢◌, inl, inr, ⊎_elim, ◌∙◌, sym, subst, ap, ℕ, List, Option, Some, None}
+use Rattle.std.proofs.Common.{◌≡◌, ◌≢◌, inl, inr, ⊎_elim, ◌∙◌, sym, subst, ap, ℕ, List, Option, Some, None, arith}
 use Rattle.std.proofs.lemmas.Bool.{cases_eq}
 use Rattle.disk_io.specs.Disk.{DiskState, Files}
 use Rattle.model_run.specs.Run.{change, nth}
@@ -23,12 +23,7 @@ shows-too place links i c d next same shows = record { station = shows.station; 
 
 -- a station on the disk is in the files that a crash leaves
 shown-on : (place : Place) (links : List ℕ) (i : ℕ) (disk : DiskState) (d : Disks) → StandsOnDisk place links i disk d → (c : Files) → disk.may_leave c → ShowsStation place links i c d
-shown-on place links i disk d s c left = record {
-  station = s.at.shows.station;
-  there = s.at.shows.there;
-  of_links = disk.on_disk links s.at.linked.named s.at.linked.flushed c left ∙ s.at.shows.of_links;
-  stands = s.kept c (λ m own named flushed. disk.on_disk m named flushed c left);
-}
+shown-on place links i disk d s c left = grind arith
 
 -- the result of a command, as an event
 abbrev some_command : Option Command → Command

@@ -1,21 +1,15 @@
 -- Packet files that a disk shows are those of a net.
-use Rattle.std.proofs.Common.{inl, inr, ℕ, Bool, true, false, cond, List, [], ◌∷◌, length, map, Option, sym, subst}
+use Rattle.std.proofs.Common.{ℕ, Bool, List, [], ◌∷◌, map, arith}
 use Rattle.std.proofs.lemmas.Bool.{le-ltb}
 use Rattle.disk_io.specs.Disk.{Files}
-use Rattle.cmd_report.specs.Coming.{Holds, Unknown}
-use Rattle.station.specs.PacketsOnDisk.{coming_at, coming_of, most_held}
+use Rattle.station.specs.PacketsOnDisk.{coming_at}
 use Rattle.law_stations.specs.Commands.{IsPacketAt}
 use Rattle.law_stations.specs.Nets.{Paired}
 use Rattle.law_stations.specs.ShownPackets.{IsShownAt}
 
 -- one of the files
 one-shown : (packets : List (List ℕ)) (seen : Files) (k : ℕ) (usable : Bool) (path : List ℕ) → IsShownAt packets seen k usable path → IsPacketAt packets k (coming_at seen usable path)
-one-shown packets seen k false path h = tt
-one-shown packets seen k true path (inl none) = absurd (cc none)
-one-shown packets seen k true path (inr (inl none)) = subst (λ (f : Option (List ℕ)). IsPacketAt packets k (coming_of path f)) (sym none) tt
-one-shown packets seen k true path (inr (inr h)) =
-    subst (λ (f : Option (List ℕ)). IsPacketAt packets k (coming_of path f)) (sym h.shown)
-    (subst (λ (b : Bool). IsPacketAt packets k (cond b Unknown (Holds h.bytes))) (sym (le-ltb most_held (length h.bytes) h.few)) h.there)
+one-shown packets seen k usable path h1 = grind (arith, le-ltb)
 
 pub shown-paired : {N : Type 0} (packets : List (List ℕ)) (seen : Files) (usable : N → Bool) (path : N → List ℕ) (indexes : List ℕ) (names : List N)
     → Paired (λ k name. IsShownAt packets seen k (usable name) (path name)) indexes names

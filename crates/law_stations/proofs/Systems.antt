@@ -1,6 +1,5 @@
 -- The system of a station: both have the same contents.
-use Rattle.std.proofs.Common.{◌≡◌, refl, sym, subst, ◌∙◌, ℕ, List, Result, Ok}
-use Rattle.echo_links.specs.declared.fault.LinkFault.{LinkFault}
+use Rattle.std.proofs.Common.{◌≡◌, sym, subst, ℕ, List, Ok, arith}
 use Rattle.echo_links.specs.Links.{IsFile, LinkFile}
 use Rattle.echo_links.specs.LinkLines.{LinksOf}
 use Rattle.echo_links.proofs.LinkAnswers.{link_only}
@@ -14,10 +13,7 @@ use Rattle.law_stations.specs.Nets.{Station}
 
 -- a link file has one reading
 pub one-file : (bytes : List ℕ) (file other : LinkFile) → LinksOf bytes (Ok file) → LinksOf bytes (Ok other) → file ≡ other
-one-file bytes file other h g = same (Ok file) (Ok other) refl refl (link_only bytes (Ok file) h ∙ sym (link_only bytes (Ok other) g))
-  where
-    same : (a b : Result LinkFile LinkFault) → a ≡ Ok file → b ≡ Ok other → a ≡ b → file ≡ other
-    same a b x y e = cc
+one-file bytes file other h g = grind (arith, link_only)
 
 pub file-fits : (bytes : List ℕ) (file : LinkFile) → LinksOf bytes (Ok file) → IsFile file
 file-fits bytes file h = subst IsFile (sym h.1) (file_is_file bytes h.0)
@@ -29,7 +25,4 @@ says-so station s has = record { links = has.links; base = has.base }
 -- and no other contents
 pub said-once : (station : Station) (s : System) → HasSystem station s → (file : LinkFile) (messages : List Filed) (cursor : ℕ)
     → StationSays station file messages cursor → (let said : SystemState = record { file = file; base = messages; cursor = cursor } in said ≡ state_of s)
-said-once station s has file messages cursor says =
-    let one = one-file station.links file s.file says.links has.links in
-    let base = sym says.base ∙ has.base in
-    λ j. record { file = one j; base = (base j).messages; cursor = (base j).cursor }
+said-once station s has file messages cursor says = grind (arith, one-file)

@@ -1,5 +1,5 @@
 -- A system after the toss of messages of one sender.
-use Rattle.std.proofs.Common.{◌≡◌, ap, inl, inr, refl, sym, subst, ◌∙◌, ℕ, ◌^◌, ◌<◌, ◌==◌, arith, append-nil, List, [], ◌∷◌, ◌++◌, Option, Some, None}
+use Rattle.std.proofs.Common.{◌≡◌, ap, inl, inr, refl, sym, subst, ◌∙◌, ℕ, ◌^◌, ◌<◌, arith, append-nil, List, [], ◌∷◌, ◌++◌, Option, Some, None}
 use Rattle.std.specs.Prelude.{option_to_list}
 use Rattle.std.specs.List.{AllByRecursion}
 use Rattle.std.proofs.lemmas.Bool.{cases_Bool, cond-false, cond-true}
@@ -89,13 +89,7 @@ tossed-base most file sender small (q ∷ ms) all base cursor is =
 
 -- the sender of a packet has numbers of two bytes
 small-zone : (file : LinkFile) (zone : ℕ) → IsFile file → zone < 2 ^ 16 → zone_of file zone < 2 ^ 16
-small-zone file zone fits small =
-    let P : ℕ → Type 0 = λ z. z < 2 ^ 16 in
-    let most = fits.address.zone.1 in
-    elim (cases_Bool (zone == 0)) [
-      | inl own ↦ subst P (sym (cond-true (zone == 0) file.system.zone zone own)) (omega (arith, most))
-      | inr given ↦ subst P (sym (cond-false (zone == 0) file.system.zone zone given)) small
-    ]
+small-zone file zone fits small = grind (arith, cases_Bool, cond-true, cond-false)
 
 -- messages at the beginning of bytes
 pub takes-front : (bytes : List ℕ) (s : System) (new : SystemState) → IsFile s.file → IsBase s.base s.cursor → (t : TossesFront bytes (state_of s) new)

@@ -20,10 +20,10 @@ use Rattle.cmd_report.specs.Coming.{Coming, Fails, Holds, Unknown}
 use Rattle.law_stations.proofs.FileRuns.{IsPartly, TossedFiles, wholes}
 use Rattle.law_stations.proofs.Readings.{TossesFront}
 use Rattle.law_stations.proofs.Tossed.{Takes, takes-both, takes-front, takes-none}
-use Rattle.model_run.specs.Lone.{LoneEvent, LoneSystem, PostHere, PurgeHere, ScanHere, TossHere, after_all_lone, with_system}
+use Rattle.model_run.specs.Lone.{LoneEvent, LoneSystem, TossHere, after_all_lone, with_system}
 use Rattle.model_run.proofs.Filings.{events-append}
 use Rattle.law_stations.specs.AloneInOrder.{FaultlessTossIsWhole}
-use Rattle.law_stations.specs.LoneStations.{AreAnyFiles, LoneStation, held_in, tossed_whole}
+use Rattle.law_stations.specs.LoneStations.{AreAnyFiles, held_in, tossed_whole}
 
 -- no text at the beginning of bytes has a byte 00
 pub front-plain : (bytes : List ℕ) (limits : Limits) (header : Header) (messages : List Message) → BeginsWith limits header messages bytes
@@ -101,23 +101,11 @@ fronted bytes more whole z new fits base t all =
 -- with more files, and with more events
 more-files : (file : LinkFile) (files others : List (List ℕ)) (event : LoneEvent) → ((b : List ℕ) → Among b files → Among b others)
     → IsTossFrom file files event → IsTossFrom file others event
-more-files file files others (TossHere sender messages) more (bytes, i, front) = (bytes, more bytes i, front)
-more-files file files others (PostHere tag draft serial stamp) more none = absurd none
-more-files file files others (ScanHere stamp) more none = absurd none
-more-files file files others PurgeHere more none = absurd none
+more-files file files others event h1 h2 = grind arith
 
 pub more-events : (file : LinkFile) (events others : List LoneEvent) (bytes : List ℕ) → ((e : LoneEvent) → Among e events → Among e others)
     → IsTossedBy file events bytes → IsTossedBy file others bytes
-more-events file events others bytes more by = record {
-  header = by.header;
-  messages = by.messages;
-  limits = by.limits;
-  front = by.front;
-  behind = by.behind;
-  parts = by.parts;
-  packet = by.packet;
-  there = more (TossHere (sender_of file by.header) by.messages) by.there;
-}
+more-events file events others bytes more by = grind arith
 
 -- one toss after another
 joined : (bytes : List ℕ) (later first whole : List (List ℕ)) (z : System) (mid new : SystemState) → (t : TossesFrom (bytes ∷ []) first z mid)
@@ -187,6 +175,4 @@ whole-first files (Some fault) left = refl
 
 -- all files, if there was no fault
 pub faultless-whole : FaultlessTossIsWhole
-faultless-whole files s new toss none =
-    ap (λ (x : LoneStation). x.whole) toss.becomes
-    ∙ ap (λ (o : Option Fault). s.whole ++ held_in (tossed_whole files o toss.tosses.left)) none
+faultless-whole files s new toss none = grind arith

@@ -1,5 +1,5 @@
 -- The disks, and a net without crashes that agrees with them.
-use Rattle.std.proofs.Common.{◌≡◌, ◌⊎◌, inl, inr, refl, sym, subst, ap, ◌∙◌, ℕ, ◌+◌, ◌≤◌, ◌<◌, true, false, List, [], ◌∷◌, ◌++◌, length, map, Option, Some, None}
+use Rattle.std.proofs.Common.{◌≡◌, ◌⊎◌, inl, inr, refl, sym, ap, ◌∙◌, ℕ, ◌+◌, ◌≤◌, ◌<◌, true, false, List, [], ◌∷◌, ◌++◌, length, map, Option, Some, None, arith}
 use Rattle.model_graph.specs.Walk.{Among}
 use Rattle.model_run.specs.Run.{nth}
 use Rattle.law_stations.specs.Nets.{Net, Paired, Station}
@@ -73,20 +73,4 @@ paired-so R S (x ∷ xs) (y ∷ ys) so p = (so x y (inl refl) p.0, paired-so R S
 pub still : (d new : Disks) (net then : Net) → (t : Tracks d net)
     → new.net.stations ≡ then.stations → new.net.postings ≡ then.postings → new.net.packets ≡ d.net.packets → then.packets ≡ net.packets → new.staging ≡ d.staging
     → cursors then ≡ cursors net → ((j : ℕ) → Among j new.net.delivered → IsTossedAt t.places then.delivered j) → Tracks new then
-still d new net then t stations postings named packets staging at tossed = record {
-  stations = stations;
-  postings = postings;
-  places = t.places;
-  named =
-      let P : List (List ℕ) → Type 0 = λ ps. Paired (IsItem ps) new.net.packets t.places in
-      let Q : List (List ℕ) → Type 0 = λ ps. Paired (IsItem net.packets) ps t.places in
-      subst P (sym packets) (subst Q (sym named) t.named);
-  tags = t.tags;
-  staging =
-      let P : List (List ℕ) → Type 0 = λ ps. Paired (IsTagged ps (cursors then)) new.staging t.tags in
-      let Q : List ℕ → Type 0 = λ cs. Paired (IsTagged net.packets cs) new.staging t.tags in
-      let S : List StagingFile → Type 0 = λ fs. Paired (IsTagged net.packets (cursors net)) fs t.tags in
-      subst P (sym packets) (subst Q (sym at) (subst S (sym staging) t.staging));
-  each = λ k. t.each k ∙ ap (λ (ps : List (List ℕ)). below k (length ps)) (sym packets);
-  tossed = tossed;
-}
+still d new net then t stations postings named packets staging at tossed = grind arith

@@ -1,5 +1,5 @@
 -- A base that was never purged has its messages as they were filed.
-use Rattle.std.proofs.Common.{◌≡◌, ◌⊎◌, inl, inr, refl, sym, subst, ap, ◌∙◌, ℕ, zero, suc, List, [], ◌∷◌, ◌++◌, take, Option, Some, None}
+use Rattle.std.proofs.Common.{◌≡◌, ◌⊎◌, inl, inr, refl, sym, subst, ap, ◌∙◌, ℕ, zero, suc, List, [], ◌∷◌, ◌++◌, take, Option, Some, None, arith}
 use Rattle.echo_addr.specs.declared.address.Address.{Address}
 use Rattle.model_graph.specs.Walk.{Among}
 use Rattle.echo_packet.specs.Message.{Message}
@@ -30,14 +30,7 @@ tossing-as_filed sender (q ∷ ms) s same =
 -- a change of some system that keeps the filed messages
 pub change-as_filed : (i j : ℕ) (f : System → System) (systems : List System) → (j ≡ i → (s : System) → nth j systems ≡ Some s → IsAsFiled s → IsAsFiled (f s))
     → AsFiledAt i systems → AsFiledAt i (change j f systems)
-change-as_filed i j f systems keeps at z there =
-    elim (nth-change j i f z systems there) [
-      | inl other ↦ at z other.1
-      | inr here ↦ (
-          let (s, was, is) = here.1 in
-          let P : ℕ → Type 0 = λ n. nth n systems ≡ Some s in
-          subst IsAsFiled (sym is) (keeps here.0 s (subst P (sym here.0) was) (at s was)))
-    ]
+change-as_filed i j f systems keeps at z there = grind (arith, nth-change)
 
 -- a message of a base is unchanged, or is a stub before the cursor
 pub kept-where : (c : ℕ) (base history : List Filed) → Kept c base history → (m : Filed) → Among m base

@@ -24,18 +24,7 @@ disks_with net staging = record { net = net; staging = staging }
 -- a packet that waits after other files gets its name
 pub gets-name : (i c most : ℕ) (p : PacketFile) (ps : List PacketFile) (before : List StagingFile) (net : Net) → HasCursor net i most → c < most
     → EndsOne i (disks_with net (before ++ map (staging_of i c) (p ∷ ps))) (disks_with (with_packet net p.bytes) (before ++ map (staging_of i c) ps))
-gets-name i c most p ps before net has less = record {
-  before = before;
-  file = staging_of i c p;
-  after = map (staging_of i c) ps;
-  stood = refl;
-  own = refl;
-  cursor = most;
-  is_cursor = has;
-  left = [];
-  ends = inl (less, refl, inl refl);
-  stands = refl;
-}
+gets-name i c most p ps before net has less = grind arith
 
 -- all get their names, one after another
 all-named : (i c most : ℕ) (ps : List PacketFile) (net : Net) → HasCursor net i most → ((q : PacketFile) → Among q ps → c < most)
