@@ -1,4 +1,4 @@
-use echo_addr::{Address, Items};
+use echo_addr::Items;
 use echo_packet::Limits;
 use echo_toss::{
     Draft, LinkFault, LinkFile, PostFault, Stamp, Tally, TossCause, TossFault, Tosser,
@@ -15,12 +15,6 @@ const ALPHA: &[u8] = b"SYSTEM 1:10/1\nNAME Alpha\nAREA TEST 1:10/2";
 
 /// The system that the packets go to.
 const BETA: &[u8] = b"SYSTEM 1:10/2\nAREA TEST 1:10/1 1:10/3";
-
-const BETA_ADDRESS: Address = Address {
-    zone: 1,
-    net: 10,
-    node: 2,
-};
 
 const STAMP: Stamp = Stamp {
     year: 2026,
