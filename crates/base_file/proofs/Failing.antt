@@ -29,7 +29,7 @@ if_any (Some x) = tt
 
 -- behind some bytes, the input or the device ended inside a field
 pub cut_fails : {X : Type 0} {F : X → Type 0} {w : X → List ℕ} (n : ℕ) (front : List ℕ) (a b c : Option (List ℕ)) (e : Broken) → Consumes a b front
-    → ((came : List ℕ) → EndsIn X F w came → BaseFaultOf (front ++ came) (fault.Truncated n)) → Breaks X F w b c e → FailsToLoad a c (fault_behind e n)
+    → ((consumed : List ℕ) → EndsIn X F w consumed → BaseFaultOf (front ++ consumed) (fault.Truncated n)) → Breaks X F w b c e → FailsToLoad a c (fault_behind e n)
 cut_fails n front a b c broken.Cut took is h = record {
   wrong = Consumes-whole a c (front ++ h.0.0) (λ bytes. LoadFault bytes (fault.Truncated n)) (Consumes-trans a b c front h.0.0 took h.0.1) h.1 (is h.0.0 h.0.2);
   inside = λ r. absurd (cc);
@@ -41,18 +41,18 @@ cut_fails n front a b c broken.Device took is h = record {
 cut_fails n front a b c broken.Memory took is h = record { wrong = if_any a; inside = λ r. absurd (cc) }
 
 -- the head ends inside one of its numbers
-part_of_long : (came : List ℕ) → EndsIn ℕ IsLong long came → length came < 4
-part_of_long came inside =
+part_of_long : (consumed : List ℕ) → EndsIn ℕ IsLong long consumed → length consumed < 4
+part_of_long consumed inside =
     let some = inside.some in
-    omega (arith, ap length inside.cut, length-append came inside.missing)
+    omega (arith, ap length inside.cut, length-append consumed inside.missing)
 
-pub cursor_cut : (version : Version) (came : List ℕ) → EndsIn ℕ IsLong long came → BaseFaultOf (magic version ++ came) (fault.Truncated 0)
-cursor_cut First came inside = inl (refl, refl, omega (arith, part_of_long came inside))
-cursor_cut Second came inside = inl (refl, refl, omega (arith, part_of_long came inside))
+pub cursor_cut : (version : Version) (consumed : List ℕ) → EndsIn ℕ IsLong long consumed → BaseFaultOf (magic version ++ consumed) (fault.Truncated 0)
+cursor_cut First consumed inside = inl (refl, refl, omega (arith, part_of_long consumed inside))
+cursor_cut Second consumed inside = inl (refl, refl, omega (arith, part_of_long consumed inside))
 
-pub number_cut : (version : Version) (cursor : ℕ) (came : List ℕ) → EndsIn ℕ IsLong long came → BaseFaultOf ((magic version ++ long cursor) ++ came) (fault.Truncated 0)
-number_cut First cursor came inside = inl (refl, refl, omega (arith, part_of_long came inside))
-number_cut Second cursor came inside = inl (refl, refl, omega (arith, part_of_long came inside))
+pub number_cut : (version : Version) (cursor : ℕ) (consumed : List ℕ) → EndsIn ℕ IsLong long consumed → BaseFaultOf ((magic version ++ long cursor) ++ consumed) (fault.Truncated 0)
+number_cut First cursor consumed inside = inl (refl, refl, omega (arith, part_of_long consumed inside))
+number_cut Second cursor consumed inside = inl (refl, refl, omega (arith, part_of_long consumed inside))
 
 pub head_taken : (version : Version) (cursor number : ℕ) (a b c d : Option (List ℕ)) → Consumes a b (magic version) → Consumes b c (long cursor) → Consumes c d (long number)
     → Consumes a d (head_bytes version cursor number)
@@ -97,15 +97,15 @@ behind_head version cursor number messages a b c fits within so rest bytes whole
 }
 
 message_cut : (version : Version) (cursor number n : ℕ) (messages : List Filed) (b c : Option (List ℕ)) → number < 2 ^ 32 → cursor ≤ number → n < number → n ≡ length messages
-    → (so : HasTaken version cursor messages b c) → (came : List ℕ) → StopsIn version came
-    → BaseFaultOf ((head_bytes version cursor number ++ flat_map (stored_bytes version) so.all) ++ came) (fault.Truncated n)
-message_cut version cursor number n messages b c fits within more many so came stops = inr (record {
+    → (so : HasTaken version cursor messages b c) → (consumed : List ℕ) → StopsIn version consumed
+    → BaseFaultOf ((head_bytes version cursor number ++ flat_map (stored_bytes version) so.all) ++ consumed) (fault.Truncated n)
+message_cut version cursor number n messages b c fits within more many so consumed stops = inr (record {
   version = version;
   cursor = cursor;
   number = number;
   all = so.all;
-  rest = came;
-  begins = behind_head version cursor number messages None b c fits within so came _ refl;
+  rest = consumed;
+  begins = behind_head version cursor number messages None b c fits within so consumed _ refl;
   many = sym (many ∙ ap length so.said ∙ length-map so.all (message_in version));
   one_more = more;
   next = stops.value;
@@ -196,12 +196,12 @@ pub only_answer : (old new : Option (List ℕ)) (r : Result Base BaseFault) (oth
 only_answer None new r other taken fails = tt
 only_answer (Some bytes) None (Ok base) other taken fails = absurd taken.1
 only_answer (Some bytes) (Some rest) (Ok base) other taken fails = λ are so.
-    let came = taken.0 in
+    let consumed = taken.0 in
     let whole = taken.1 in
     let P : List ℕ → Type 0 = BaseOf base.messages base.cursor in
-    let front : take (length came) bytes ≡ came = ap (take (length came)) whole ∙ take_at came rest (length came) refl in
-    let here : LoadOf bytes (Ok (base.messages, base.cursor, length came)) = (omega (arith, ap length whole, length-append came rest), subst P (sym front) taken.2) in
-    (length came, only_outcome bytes are other so ∙ sym (only_outcome bytes are (Ok (base.messages, base.cursor, length came)) here))
+    let front : take (length consumed) bytes ≡ consumed = ap (take (length consumed)) whole ∙ take_at consumed rest (length consumed) refl in
+    let here : LoadOf bytes (Ok (base.messages, base.cursor, length consumed)) = (omega (arith, ap length whole, length-append consumed rest), subst P (sym front) taken.2) in
+    (length consumed, only_outcome bytes are other so ∙ sym (only_outcome bytes are (Ok (base.messages, base.cursor, length consumed)) here))
 only_answer (Some bytes) new (Err fault.Read) other taken fails = λ are so. tt
 only_answer (Some bytes) new (Err fault.Memory) other taken fails = λ are so. tt
 only_answer (Some bytes) new (Err fault.NotBase) other taken fails = λ are so.

@@ -15,7 +15,7 @@ use Rattle.echo_filed.specs.Stored.{IsStored, Stored, long, long_at, message_in,
 use Rattle.echo_filed.proofs.Layouts.{long_front, long_value}
 use Rattle.echo_filed.proofs.Plain.{all_append}
 use Rattle.echo_filed.specs.Fields.{StopsIn}
-use Rattle.echo_filed.proofs.StoredFields.{Stands, stopped_unread, stored_again, stored_in, stored_stands, stored_stops}
+use Rattle.echo_filed.proofs.StoredFields.{Stands, stopped_unread, stored_again, stored_in, stored_represented, stored_stops}
 use Rattle.base_file.specs.declared.fault.BaseFault.{BaseFault}
 use Rattle.base_file.specs.declared.fault.BaseFault.TheVariants as fault
 use Rattle.base_file.specs.BaseFile.{AreSound, BaseOf, Begins, EndsInside, IsDamagedAt, IsNoBase, LoadOf, Loaded, head_bytes, is_damaged, is_front, magic}
@@ -77,7 +77,7 @@ sound_front version cursor earlier (s ∷ later) more rest sizes sound =
     ∙ ap (λ (now : List Filed). messages_in version cursor now more rest) (append_assoc earlier (message_in version s ∷ []) (map (message_in version) later))
 
 -- the facts that a head gives about the bytes that begin with it
-record HeadTells (version : Version) (cursor number : ℕ) (rest bytes : List ℕ) : Type 0 where
+record HeadRecords (version : Version) (cursor number : ℕ) (rest bytes : List ℕ) : Type 0 where
   front : is_front bytes ≡ true
   room : 16 ≤ length bytes
   which : version_of bytes ≡ version
@@ -85,7 +85,7 @@ record HeadTells (version : Version) (cursor number : ℕ) (rest bytes : List �
   number_at : long_at 12 bytes ≡ number
   behind : drop 16 bytes ≡ rest
 
-head_tells : (version : Version) (cursor number : ℕ) (rest : List ℕ) → HeadTells version cursor number rest (head_bytes version cursor number ++ rest)
+head_tells : (version : Version) (cursor number : ℕ) (rest : List ℕ) → HeadRecords version cursor number rest (head_bytes version cursor number ++ rest)
 unfolding head_bytes version_of
 head_tells First cursor number rest = record {
   front = refl;
@@ -109,7 +109,7 @@ behind_head : (version : Version) (cursor number : ℕ) (rest bytes : List ℕ) 
     → load_outcome bytes ≡ finished bytes cursor (messages_in version cursor [] number rest)
 unfolding load_outcome
 behind_head version cursor number rest bytes within e =
-    let T : List ℕ → Type 0 = HeadTells version cursor number rest in
+    let T : List ℕ → Type 0 = HeadRecords version cursor number rest in
     let tells = subst T (sym e) (head_tells version cursor number rest) in
     let found : Result Loaded BaseFault =
     finished bytes (long_at 8 bytes) (messages_in (version_of bytes) (long_at 8 bytes) [] (long_at 12 bytes) (drop 16 bytes)) in
@@ -321,7 +321,7 @@ one_left : (version : Version) (cursor number more : ℕ) (bytes : List ℕ) →
     → Begins version cursor number all rest bytes → number ≡ length all + suc more → AreBytes rest → (found : Stored × List ℕ) → Stands version rest found.0 found.1
     → LoadOf bytes (finished bytes cursor (judged version cursor (map (message_in version) all) (λ now left. messages_in version cursor now more left) (Some found)))
 unfolding judged finished
-one_left version cursor number more bytes rec all rest b count are found stands =
+one_left version cursor number more bytes rec all rest b count are found represented =
     let earlier : List Filed = map (message_in version) all in
     let damaged : Bool = is_damaged version cursor earlier found.0 in
     let fault_here : Messages = Err (fault.Damaged (length earlier)) in
@@ -341,17 +341,17 @@ one_left version cursor number more bytes rec all rest b count are found stands 
               cursor_within = b.cursor_within;
               sizes = b.sizes;
               sound = b.sound;
-              whole = b.whole ∙ ap (λ bs. head_bytes version cursor number ++ (flat_map (stored_bytes version) all ++ bs)) stands.whole;
+              whole = b.whole ∙ ap (λ bs. head_bytes version cursor number ++ (flat_map (stored_bytes version) all ++ bs)) represented.whole;
             };
             many = sym (length-map all (message_in version));
             one_more = omega (arith, length-map all (message_in version));
-            size = stands.size;
+            size = represented.size;
             damaged = bad;
           } in
           subst P (sym (cond-true damaged fault_here go_on bad)) at
       | inr fine ↦
-          let next = rec (all ++ found.0 ∷ []) found.1 (begins_more version cursor number all found.0 rest found.1 bytes b stands.whole stands.size fine)
-          (omega (arith, length-append all (found.0 ∷ []))) stands.rest_bytes in
+          let next = rec (all ++ found.0 ∷ []) found.1 (begins_more version cursor number all found.0 rest found.1 bytes b represented.whole represented.size fine)
+          (omega (arith, length-append all (found.0 ∷ []))) represented.rest_bytes in
           let Q : List Filed → Type 0 = λ l. LoadOf bytes (finished bytes cursor (messages_in version cursor l more found.1)) in
           subst P (sym (cond-false damaged fault_here go_on fine)) (subst Q (say_more version all found.0) next)
     ]
@@ -378,7 +378,7 @@ some_left version cursor number more bytes rec all rest b count are None e =
       cut = stops.cut;
     })
 some_left version cursor number more bytes rec all rest b count are (Some found) e =
-    one_left version cursor number more bytes rec all rest b count are found (stored_stands version rest found are e)
+    one_left version cursor number more bytes rec all rest b count are found (stored_represented version rest found are e)
 
 rest_loads : (version : Version) (cursor number : ℕ) (bytes : List ℕ) (more : ℕ) → Rest version cursor number bytes more
 unfolding messages_in

@@ -82,9 +82,9 @@ form_alone s cursor place false is right =
     cond-false (has_tag Second s.kind) (not (is_short Second 0 0 (message_in Second s))) (is_short Second 0 0 (message_in Second s)) is
 
 -- each message of a base may be alone in one
-pub stands_alone : (s : Stored) (cursor : ℕ) (earlier : List Filed) → is_damaged Second cursor earlier s ≡ false → MayStandAlone s
+pub represented_alone : (s : Stored) (cursor : ℕ) (earlier : List Filed) → is_damaged Second cursor earlier s ≡ false → MayStandAlone s
 unfolding is_damaged
-stands_alone s cursor earlier h =
+represented_alone s cursor earlier h =
     let p1 = or_parts (is_other_kind Second s.kind) _ h in
     let p2 = or_parts (has_wrong_sender s) _ p1.1 in
     let p3 = or_parts (has_wrong_string s) _ p2.1 in
@@ -101,7 +101,7 @@ pub saved_alone : (m : Filed) (cursor : ℕ) → IsFiled m → is_short_enough (
 saved_alone m cursor filed room = record {
   s = stored_at cursor 0 m;
   size = size_at cursor 0 m filed room;
-  alone = stands_alone (stored_at cursor 0 m) cursor [] (not_damaged cursor [] m filed refl);
+  alone = represented_alone (stored_at cursor 0 m) cursor [] (not_damaged cursor [] m filed refl);
   is = stored_says cursor 0 m filed.is_echo;
   same = refl;
 }

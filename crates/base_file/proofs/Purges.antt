@@ -180,6 +180,6 @@ module _ (all now : List Filed) (k cursor : ℕ) (m : Filed) (some : 0 < k) (bef
 
   pub never_empty : (lines : List (List (List ℕ))) → lines ≡ lines_left (take k all) → is_stub m ≡ false → length lines ≡ 0 → ⊥
   never_empty lines h stub none =
-      let told : length lines ≡ length (lines_left (take (k - 1) all) ++ (stub_of m).echo.kept ∷ []) =
+      let reported : length lines ≡ length (lines_left (take (k - 1) all) ++ (stub_of m).echo.kept ∷ []) =
       ap length (h ∙ ap (λ n. lines_left (take n all)) here ∙ left_changed all (k - 1) m at_here stub) in
       absurd (omega (arith, length-append (lines_left (take (k - 1) all)) ((stub_of m).echo.kept ∷ [])))

@@ -33,15 +33,15 @@ known_kind false None = refl
 known_kind false (Some a) = refl
 
 -- the sender that the bytes of one tell
-abbrev told : Bool → Option Address → Option Address
-told short o =
+abbrev reported : Bool → Option Address → Option Address
+reported short o =
     cond (is_posted (kind_of short o)) None (Some (record { zone = (sender_or_zeros o).zone; net = (sender_or_zeros o).net; node = (sender_or_zeros o).node }))
 
-told_is : (short : Bool) (o : Option Address) → told short o ≡ o
-told_is true None = refl
-told_is true (Some a) = refl
-told_is false None = refl
-told_is false (Some a) = refl
+reported_is : (short : Bool) (o : Option Address) → reported short o ≡ o
+reported_is true None = refl
+reported_is true (Some a) = refl
+reported_is false None = refl
+reported_is false (Some a) = refl
 
 -- a message that a base stores in short form: it has an id, and a purge changes nothing
 record IsShort (m : Filed) : Type 0 where
@@ -98,7 +98,7 @@ echo_back false m is h =
 stored_back : (short : Bool) (m : Filed) → IsEcho m.echo → IsFormOf short m → message_in Second (stored_as short m) ≡ m
 unfolding message_in
 stored_back short m is h =
-    let sender : sender_in (stored_as short m) ≡ m.sender = told_is short m.sender in
+    let sender : sender_in (stored_as short m) ≡ m.sender = reported_is short m.sender in
     let echo : echo_in Second (stored_as short m) ≡ m.echo = echo_back short m is h in
     λ i. record { sender = sender i; date = m.date; to_name = m.to_name; from_name = m.from_name; subject = m.subject; echo = echo i }
 

@@ -16,7 +16,7 @@ use Rattle.echo_filed.specs.Stubs.{bare}
 use Rattle.echo_filed.specs.declared.stored.Version.{Version}
 use Rattle.echo_filed.specs.declared.stored.Version.TheVariants.{First, Second}
 use Rattle.echo_filed.specs.Stored.{IsStored, Stored, has_tag, is_posted, is_short, is_short_enough, kind_of, message_in, sender_or_zeros, stored_as, stored_bytes}
-use Rattle.base_file.proofs.ShortForms.{id_told}
+use Rattle.base_file.proofs.ShortForms.{id_reported}
 use Rattle.base_file.specs.BaseFile.{AreSound, BaseOf, has_wrong_form, has_wrong_last, has_wrong_sender, has_wrong_string, head_bytes, is_countable, is_damaged, is_other_kind, is_wrong_id, is_wrong_text, magic, saved_bytes, stored_at, stored_from}
 
 -- the first byte is given by the sender and the form
@@ -45,7 +45,7 @@ last_back : (with_tag : Bool) (tag last : List ℕ) → (with_tag ≡ false → 
     (cond with_tag e.tag [] ≡ tag) × (cond with_tag (unwrap_or (msgid_of e.kept) []) (text_of e) ≡ last)
 last_back true tag last none right =
     let p1 = or_parts (not (is_tag tag)) (is_wrong_id last) right in
-    (refl, ap (λ (o : Option (List ℕ)). unwrap_or o []) (id_told last p1.1))
+    (refl, ap (λ (o : Option (List ℕ)). unwrap_or o []) (id_reported last p1.1))
 last_back false tag last none right =
     let p1 = or_parts (list_any is_zero last) (not (is_none (text_refusal last)) || not (bytes_eq (text_of (echo_of last)) last)) right in
     let p2 = or_parts (not (is_none (text_refusal last))) (not (bytes_eq (text_of (echo_of last)) last)) p1.1 in

@@ -15,7 +15,7 @@ use Rattle.echo_filed.specs.declared.stored.Version.{Version}
 use Rattle.echo_filed.specs.declared.stored.Version.TheVariants.{First, Second}
 use Rattle.echo_filed.specs.Stored.{Stored, has_tag, message_in}
 use Rattle.echo_filed.proofs.Keys.{lines_decide, msgid_first}
-use Rattle.echo_filed.proofs.Left.{is_stub_told}
+use Rattle.echo_filed.proofs.Left.{is_stub_reported}
 use Rattle.echo_filed.proofs.Trims.{IsTrim, trimmed_trim}
 use Rattle.base_file.specs.BaseFile.{has_wrong_last, is_wrong_id, is_wrong_text}
 use Rattle.base_file.specs.Loading.{IsShortOnceScanned, UnlessWrong, has_wrong_field, has_wrong_front}
@@ -25,8 +25,8 @@ some [] h = absurd (true≢false h)
 some (x ∷ l) h = omega arith
 
 -- an id that is not wrong is that of its line
-pub id_told : (id : List ℕ) → is_wrong_id id ≡ false → msgid_of (id_line msgid_word id ∷ []) ≡ Some id
-id_told id right =
+pub id_reported : (id : List ℕ) → is_wrong_id id ≡ false → msgid_of (id_line msgid_word id ∷ []) ≡ Some id
+id_reported id right =
     let p1 = or_parts (length id == 0) (not (list_all is_line_byte id) || not (bytes_eq (trimmed id) id)) right in
     let p2 = or_parts (not (list_all is_line_byte id)) (not (bytes_eq (trimmed id) id)) p1.1 in
     let same : trimmed id ≡ id = (bytes_decides (trimmed id) id).0 (not-false (bytes_eq (trimmed id) id) p2.1) in
@@ -45,7 +45,7 @@ last_is_id version s tagged right =
     let both : (not (is_tag s.tag) || is_wrong_id s.last) ≡ false =
     sym (cond-true (has_tag version s.kind) (not (is_tag s.tag) || is_wrong_id s.last) (is_wrong_text s.last) tagged) ∙ last in
     ap (λ (e : EchoText). msgid_of e.kept) (bare_text version s tagged)
-    ∙ id_told s.last (or_parts (not (is_tag s.tag)) (is_wrong_id s.last) both).1
+    ∙ id_reported s.last (or_parts (not (is_tag s.tag)) (is_wrong_id s.last) both).1
 
 -- its key has the tag and this id
 pub short_key : (version : Version) (s : Stored) → has_tag version s.kind ≡ true → has_wrong_field version s ≡ false
@@ -57,7 +57,7 @@ short_key version s tagged right = ap (key_with (message_in version s)) (last_is
 bare_is_stub : (version : Version) (s : Stored) → has_tag version s.kind ≡ true → has_wrong_field version s ≡ false → is_stub (message_in version s) ≡ true
 bare_is_stub version s tagged right =
     let line = id_line msgid_word s.last in
-    is_stub_told (message_in version s) (Some s.last) (sym (last_is_id version s tagged right))
+    is_stub_reported (message_in version s) (Some s.last) (sym (last_is_id version s tagged right))
     ∙ ap (λ (e : EchoText). pointwise bytes_eq e.kept (line ∷ []) && ((length e.seen == 0) && (length e.path == 0))) (bare_text version s tagged)
     ∙ ap (λ b. b && true) ((lines_decide (line ∷ []) (line ∷ [])).1 refl)
 

@@ -11,7 +11,7 @@ use Rattle.echo_filed.specs.Stubs.{is_stub, stub_of, stub_with}
 use Rattle.echo_filed.proofs.Keys.{stub_keeps_key, stub_of_stub}
 use Rattle.echo_filed.proofs.Plain.{all_append}
 use Rattle.echo_filed.proofs.Stubs.{stub_filed}
-use Rattle.echo_filed.proofs.StubTests.{stub_told}
+use Rattle.echo_filed.proofs.StubTests.{stub_reported}
 use Rattle.base_file.specs.Base.{AreNew, IsBase, is_known}
 use Rattle.base_file.specs.Entries.{AreEntries, HasTagIn}
 
@@ -101,7 +101,7 @@ stub_tags tags (suc n) (m ∷ base) h =
 stubs_front : (n : ℕ) (base : List Filed) → AllByRecursion (λ m. is_stub m ≡ true) (take n (map stub_of (take n base) ++ drop n base))
 stubs_front zero base = tt
 stubs_front (suc n) [] = tt
-stubs_front (suc n) (m ∷ base) = ((stub_told (stub_of m)).1 (stub_of_stub m), stubs_front n base)
+stubs_front (suc n) (m ∷ base) = ((stub_reported (stub_of m)).1 (stub_of_stub m), stubs_front n base)
 
 -- entries after their first messages became stubs
 pub stub_entries : (entries later : List (Key × Filed)) (tags : List (List ℕ)) (cursor purged : ℕ) → AreEntries entries tags cursor purged → keys_of later ≡ keys_of entries

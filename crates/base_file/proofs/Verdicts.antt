@@ -57,8 +57,8 @@ pub message_is : (version : Version) (s : Stored) (sender : Option Address) (ech
     → echo ≡ said_last (has_tag version s.kind) s.tag s.last
     → record { sender = sender; date = s.date; to_name = s.to_name; from_name = s.from_name; subject = s.subject; echo = echo } ≡ message_in version s
 unfolding message_in
-message_is version s sender echo same told =
-    λ i. record { sender = same i; date = s.date; to_name = s.to_name; from_name = s.from_name; subject = s.subject; echo = told i }
+message_is version s sender echo same reported =
+    λ i. record { sender = same i; date = s.date; to_name = s.to_name; from_name = s.from_name; subject = s.subject; echo = reported i }
 
 -- the tests in groups
 regrouped : (o s t l f k : Bool) → (o || (s || (t || (l || (f || k))))) ≡ ((((o || (s || t)) || l) || f) || k)
@@ -84,10 +84,10 @@ wrong_damaged version cursor place earlier s at_end wrong =
 
 pub known_damaged : (version : Version) (cursor place : ℕ) (earlier : List Filed) (s : Stored) (m : Filed) (known : Bool) → place ≡ length earlier
     → is_wrong version cursor place s ≡ false → m ≡ message_in version s → is_known earlier (key_of m) ≡ known → is_damaged version cursor earlier s ≡ known
-known_damaged version cursor place earlier s m known at_end right told is =
+known_damaged version cursor place earlier s m known at_end right reported is =
     damaged_by version cursor earlier s
     ∙ ap (λ b. b || is_known earlier (key_of (message_in version s))) (ap (λ n. is_wrong version cursor n s) (sym at_end) ∙ right)
-    ∙ ap (λ x. is_known earlier (key_of x)) (sym told)
+    ∙ ap (λ x. is_known earlier (key_of x)) (sym reported)
     ∙ is
 
 -- the bytes after the subject, with other names for their parts

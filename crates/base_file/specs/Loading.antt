@@ -3,7 +3,7 @@ use Rattle.std.specs.Prelude.{◌≡◌, ℕ, ◌^◌, ◌<◌, ◌≤◌, ◌�
 use Rattle.std.specs.List.{AllByRecursion, flat_map}
 use Rattle.std.specs.Io.KnownBytes.{Consumes, IsAtEnd}
 use Rattle.disk_io.specs.Device.{Failed}
-use Rattle.echo_packet.specs.Field.{Came}
+use Rattle.echo_packet.specs.Field.{Consumed}
 use Rattle.echo_text.specs.Lines.{is_tag}
 use Rattle.echo_text.specs.Echo.{EchoText}
 use Rattle.disk_io.specs.declared.fixed.Broken.{Broken}
@@ -73,7 +73,7 @@ IsVersion front (Err _) = ⊥
 
 -- Before the device failed, it gave too few bytes for a base: they end in the first eight bytes or inside a message.
 abbrev pub IsUnfinished : List ℕ → Type 0
-IsUnfinished came = (length came < 8) ⊎ ((n : ℕ) × BaseFaultOf came (fault.Truncated n))
+IsUnfinished consumed = (length consumed < 8) ⊎ ((n : ℕ) × BaseFaultOf consumed (fault.Truncated n))
 
 -- The fault of these bytes, a failure of the device, or out of memory.
 abbrev pub LoadFault : List ℕ → BaseFault → Type 0
@@ -84,7 +84,7 @@ LoadFault bytes answered = BaseFaultOf bytes answered
 -- Why the call read no base: the bytes have a fault. If the device failed, it is one of the bytes before that.
 pub record FailsToLoad (old new : Option (List ℕ)) (answered : BaseFault) : Type 0 where
   pub wrong : IfSome old (λ bytes. LoadFault bytes answered)
-  pub inside : answered ≡ fault.Read → Came old new IsUnfinished
+  pub inside : answered ≡ fault.Read → Consumed old new IsUnfinished
 
 -- The call consumed the first bytes of a version.
 abbrev pub ReadsVersion : Option (List ℕ) → Option (List ℕ) → Result Version BaseFault → Type 0
@@ -119,9 +119,9 @@ pub record TakesDamaged (version : Version) (cursor : ℕ) (base : List Filed) (
 -- The bytes consumed after the messages of the base.
 abbrev pub TakesStored : {A : Type 0} → Version → ℕ → List Filed → List Filed → Option (List ℕ) → Option (List ℕ) → Result A BaseFault → Type 0
 TakesStored version cursor base base' old new (Ok _) = TakesNextStored version cursor base base' old new
-TakesStored version cursor base base' old new (Err (fault.Truncated n)) = (n ≡ length base) × Came old new (StopsIn version) × IsAtEnd new
+TakesStored version cursor base base' old new (Err (fault.Truncated n)) = (n ≡ length base) × Consumed old new (StopsIn version) × IsAtEnd new
 TakesStored version cursor base base' old new (Err (fault.Damaged n)) = (n ≡ length base) × TakesDamaged version cursor base old new
-TakesStored version cursor base base' old new (Err fault.Read) = Came old new (StopsIn version)
+TakesStored version cursor base base' old new (Err fault.Read) = Consumed old new (StopsIn version)
 TakesStored version cursor base base' old new (Err fault.Memory) = Unit {0}
 TakesStored version cursor base base' old new (Err _) = ⊥
 
@@ -145,7 +145,7 @@ TakesMessages head base old new (Err answered) = FailsBehindHead head old new an
 
 -- The call consumed exactly the bytes of this base.
 abbrev pub TakesBase : List Filed → ℕ → Option (List ℕ) → Option (List ℕ) → Type 0
-TakesBase messages cursor old new = Came old new (BaseOf messages cursor)
+TakesBase messages cursor old new = Consumed old new (BaseOf messages cursor)
 
 -- The count of failures rose if the device failed, and only then.
 abbrev pub CountsLoad : {A : Type 0} → Result A BaseFault → ℕ → ℕ → Type 0

@@ -27,13 +27,13 @@ IsHeadFault bytes (fault.Truncated n) = (n ≡ 0) × (is_front bytes ≡ true) �
 IsHeadFault bytes _ = ⊥
 
 -- The facts about a message with correct fields: its key, and whether a scan makes it short.
-pub record TellsOf (version : Version) (s : Stored) (key : Key) (short : Bool) : Type 0 where
+pub record ReportsOf (version : Version) (s : Stored) (key : Key) (short : Bool) : Type 0 where
   pub own : key ≡ key_of (message_in version s)
   pub shortens : short ≡ is_short Second 1 0 (message_in version s)
 
 -- The judgement of a message with this many bytes.
 abbrev pub JudgesOne : Version → ℕ → ℕ → Stored → ℕ → Next → Type 0
-JudgesOne version cursor place s size (next.Sound key count short) = (is_wrong version cursor place s ≡ false) × (count ≡ size) × TellsOf version s key short
+JudgesOne version cursor place s size (next.Sound key count short) = (is_wrong version cursor place s ≡ false) × (count ≡ size) × ReportsOf version s key short
 JudgesOne version cursor place s size next.Damaged = is_wrong version cursor place s ≡ true
 JudgesOne version cursor place s size next.Cut = ⊥
 

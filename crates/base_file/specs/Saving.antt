@@ -24,8 +24,8 @@ CountsSaved (Err _) old new = new ≡ old
 CountsSaved (Ok _) old new = new ≡ old
 
 -- Four bytes can count all parts, or the answer is `TooMany`. Out of memory may end the call before that is known.
-abbrev pub TellsTooMany : {A : Type 0} → Bool → Result A BaseFault → Type 0
-TellsTooMany countable (Err fault.TooMany) = countable ≡ false
-TellsTooMany countable (Err fault.Memory) = Unit {0}
-TellsTooMany countable (Err _) = countable ≡ true
-TellsTooMany countable (Ok _) = countable ≡ true
+abbrev pub ReportsTooMany : {A : Type 0} → Bool → Result A BaseFault → Type 0
+ReportsTooMany countable (Err fault.TooMany) = countable ≡ false
+ReportsTooMany countable (Err fault.Memory) = Unit {0}
+ReportsTooMany countable (Err _) = countable ≡ true
+ReportsTooMany countable (Ok _) = countable ≡ true

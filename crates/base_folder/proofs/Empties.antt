@@ -2,16 +2,16 @@
 use Rattle.std.proofs.Common.{◌≡◌, ◌∙◌, ℕ, List, [], length, false, inl, inr, refl, sym, ap, subst, arith, lit<}
 use Rattle.echo_addr.specs.declared.address.Address.{Address}
 use Rattle.disk_io.specs.Disk.{Files, bytes_in}
-use Rattle.base_log.specs.Log.{no_mark, nothing_told}
+use Rattle.base_log.specs.Log.{no_mark, nothing_recorded}
 use Rattle.base_log.specs.Names.{log_of, messages_of, keys_of}
 use Rattle.base_log.proofs.Empty.{new_log}
 use Rattle.base_log.proofs.Paths.{log_in, messages_in, keys_in}
 use Rattle.base_log.specs.Reading.{ReadsAll}
-use Rattle.base_log.specs.Standing.{BaseBytes, IsNew, StandsFor}
+use Rattle.base_log.specs.Standing.{BaseBytes, IsNew, Represents}
 use Rattle.base_log.specs.declared.log.End.{End}
 use Rattle.base_log.specs.declared.log.CommitRecord.{CommitRecord}
 use Rattle.base_file.specs.Base.{Base}
-use Rattle.base_folder_store.specs.Held.{HoldsBase, StandsForBase}
+use Rattle.base_folder_store.specs.Held.{HoldsBase, RepresentsBase}
 use Rattle.base_folder.specs.Ours.{IsOfOther}
 use Rattle.base_folder.specs.Unopened.{HaveRoom}
 use Rattle.base_folder.specs.Wrong.{HasNoFiles, IsFolderLog, IsSound}
@@ -24,22 +24,22 @@ no_messages : Base
 no_messages = record { messages = []; cursor = 0 }
 
 no_end : End
-no_end = record { gate = 0; told = nothing_told }
+no_end = record { gate = 0; recorded = nothing_recorded }
 
 nothing_read : ReadsAll [] no_end
 unfolding no_end
 nothing_read = record {
   rest = [];
-  reads = record { bodies = []; parts = refl; sizes = tt; gate = refl; told = refl };
+  reads = record { bodies = []; parts = refl; sizes = tt; gate = refl; recorded = refl };
   ends = inl (lit< tt);
 }
 
 no_log : (path : List ℕ) (files : Files) → HasNoFiles path files → bytes_in (files (log_of path)) ≡ []
 no_log path files none = ap bytes_in (none (log_of path) (log_in path))
 
-nothing_stands : (path : List ℕ) (files : Files) → HasNoFiles path files → StandsFor path no_bytes files
+nothing_represented : (path : List ℕ) (files : Files) → HasNoFiles path files → Represents path no_bytes files
 unfolding no_bytes
-nothing_stands path files none =
+nothing_represented path files none =
     let log = no_log path files none in
     let new : IsNew path files = record {
       log = omega (arith, ap length log);
@@ -50,7 +50,7 @@ nothing_stands path files none =
       log = new_log path files new;
       ended = inr new;
       there = tt;
-      tells = record { messages_long = refl; keys_long = refl; cursor = refl; mark = refl; digit = lit< tt; messages = refl; keys = refl };
+      recorded_base = record { messages_long = refl; keys_long = refl; cursor = refl; mark = refl; digit = lit< tt; messages = refl; keys = refl };
     }
 
 nothing_held : (keyed : ℕ → ℕ → List ℕ → ℕ) → HaveRoom keyed → HoldsBase keyed no_bytes no_messages
@@ -70,9 +70,9 @@ nothing_held keyed fits = record {
   cursor = refl;
 }
 
-pub empty_base : (keyed : ℕ → ℕ → List ℕ → ℕ) (path : List ℕ) (files : Files) → HaveRoom keyed → HasNoFiles path files → StandsForBase keyed path (record { messages = []; cursor = 0 }) files
+pub empty_base : (keyed : ℕ → ℕ → List ℕ → ℕ) (path : List ℕ) (files : Files) → HaveRoom keyed → HasNoFiles path files → RepresentsBase keyed path (record { messages = []; cursor = 0 }) files
 unfolding no_messages
-empty_base keyed path files fits none = record { bytes = no_bytes; stands = nothing_stands path files none; holds = nothing_held keyed fits }
+empty_base keyed path files fits none = record { bytes = no_bytes; represented = nothing_represented path files none; holds = nothing_held keyed fits }
 
 empty_folder : (log : List ℕ) → log ≡ [] → IsFolderLog false log no_end
 unfolding no_end
@@ -80,11 +80,11 @@ empty_folder log none = subst (λ (l : List ℕ). IsFolderLog false l no_end) (s
 
 pub empty_sound : (path : List ℕ) (files : Files) → HasNoFiles path files → IsSound false path files
 unfolding no_end
-empty_sound path files none = sound_by false path files no_end no_bytes (empty_folder (bytes_in (files (log_of path))) (no_log path files none)) (nothing_stands path files none)
+empty_sound path files none = sound_by false path files no_end no_bytes (empty_folder (bytes_in (files (log_of path))) (no_log path files none)) (nothing_represented path files none)
 
 pub empty_nobody : (own address : Address) (path : List ℕ) (files : Files) → HasNoFiles path files → IsOfOther own false path files address → ⊥
 unfolding no_end
 empty_nobody own address path files none of =
     let log = bytes_in (files (log_of path)) in
     let end : of.log.end ≡ no_end = one_end log of.log.end no_end of.log.log.reads (empty_folder log (no_log path files none)).reads in
-    of.mark.claimed (ap (λ (t : CommitRecord). t.mark.owner) (sym of.log.is) ∙ ap (λ (e : End). e.told.mark.owner) end)
+    of.mark.claimed (ap (λ (t : CommitRecord). t.mark.owner) (sym of.log.is) ∙ ap (λ (e : End). e.recorded.mark.owner) end)

@@ -8,14 +8,14 @@ use Rattle.disk_io.specs.Disk.{DiskState, Files}
 use Rattle.disk_io.specs.Runs.{LeavesOnly}
 use Rattle.disk_io.proofs.Moments.{then_run, weaker_run}
 use Rattle.base_log.specs.AtRest.{IsAtRest}
-use Rattle.base_log.specs.Moments.{IsBeforeOrAfter, KeepsOutside, StandsAlone}
-use Rattle.base_log.proofs.Rested.{rest_same, rest_stands}
+use Rattle.base_log.specs.Moments.{IsBeforeOrAfter, KeepsOutside, RepresentsAlone}
+use Rattle.base_log.proofs.Rested.{rest_same, rest_represented}
 use Rattle.echo_filed.specs.Filed.{Filed, key_of}
-use Rattle.base_log.specs.Standing.{BaseBytes, StandsFor}
+use Rattle.base_log.specs.Standing.{BaseBytes, Represents}
 use Rattle.base_file.specs.Base.{Base, IsBase, is_known}
 use Rattle.base_file.proofs.Purges.{front_more}
 use Rattle.base_folder_store.specs.Answers.{Answers, HasReadCause}
-use Rattle.base_folder_store.specs.Held.{HoldsBase, StandsForBaseAlone, StandsForBaseOrWasLeft}
+use Rattle.base_folder_store.specs.Held.{HoldsBase, RepresentsBaseAlone, RepresentsBaseOrWasLeft}
 use Rattle.base_folder_store.specs.Opened.{IsOpen, committed_by, held_by, path_of}
 use Rattle.base_folder_store.specs.State.{IsUsable}
 use Rattle.base_folder_store.specs.declared.folder.Folder.{Folder}
@@ -28,7 +28,7 @@ use Rattle.base_file.specs.declared.fault.BaseFault.TheVariants as fault
 use Rattle.base_store.specs.declared.store_error.StoreError.{StoreError}
 use Rattle.base_store.specs.declared.store_error.StoreError.TheVariants as store
 use Rattle.base_folder.specs.AsFile.{file_cause}
-use Rattle.base_folder.specs.Filled.{AddsOnly, HasFillCause, HasUnfilledCause, HoldsFront, HoldsMore, IsFilledFull, IsKept, IsUndamaged, IsUnfilled, ReadsFor, ShowsBase, StandsForOneOf, StandsForOneOfOrWasLeft, unfilled_cause}
+use Rattle.base_folder.specs.Filled.{AddsOnly, HasFillCause, HasUnfilledCause, HoldsFront, HoldsMore, IsFilledFull, IsKept, IsUndamaged, IsUnfilled, ReadsFor, ShowsBase, RepresentsOneOf, RepresentsOneOfOrWasLeft, unfilled_cause}
 use Rattle.base_folder.specs.OpenError.{HasUnreadCause, IsWrong}
 use Rattle.base_folder.specs.Source.{LooksAt, SourceState}
 use Rattle.base_folder.specs.declared.open_error.OpenError.{OpenError}
@@ -63,48 +63,48 @@ front_all keyed bytes base n all was =
     subst (λ (l : List Filed). HoldsBase keyed bytes (record { messages = l; cursor = base.cursor })) (take_all n base.messages (omega arith)) was
 
 -- until the commit a crash leaves the base from before
-pub fills_before : (keyed : ℕ → ℕ → List ℕ → ℕ) (path : List ℕ) (d e : DiskState) (bytes : BaseBytes) (first next : Base) → HoldsBase keyed bytes first → LeavesOnly d e (StandsAlone path d bytes)
-    → LeavesOnly d e (StandsForOneOf keyed path d first next)
+pub fills_before : (keyed : ℕ → ℕ → List ℕ → ℕ) (path : List ℕ) (d e : DiskState) (bytes : BaseBytes) (first next : Base) → HoldsBase keyed bytes first → LeavesOnly d e (RepresentsAlone path d bytes)
+    → LeavesOnly d e (RepresentsOneOf keyed path d first next)
 fills_before keyed path d e bytes first next holds run =
-    weaker_run d e (StandsAlone path d bytes) (StandsForOneOf keyed path d first next) run
-    (λ c left. inl (record { outside = left.outside; stands = record { bytes = bytes; stands = left.stands; holds = holds } }))
+    weaker_run d e (RepresentsAlone path d bytes) (RepresentsOneOf keyed path d first next) run
+    (λ c left. inl (record { outside = left.outside; represented = record { bytes = bytes; represented = left.represented; holds = holds } }))
 
 -- In the commit it leaves that or the other one.
 pub fills_run : (keyed : ℕ → ℕ → List ℕ → ℕ) (path : List ℕ) (d f : DiskState) (before now : BaseBytes) (first next : Base) → HoldsBase keyed before first → HoldsBase keyed now next
-    → LeavesOnly d f (IsBeforeOrAfter path d before now) → LeavesOnly d f (StandsForOneOf keyed path d first next)
+    → LeavesOnly d f (IsBeforeOrAfter path d before now) → LeavesOnly d f (RepresentsOneOf keyed path d first next)
 fills_run keyed path d f before now first next was is run =
-    weaker_run d f (IsBeforeOrAfter path d before now) (StandsForOneOf keyed path d first next) run
+    weaker_run d f (IsBeforeOrAfter path d before now) (RepresentsOneOf keyed path d first next) run
     (λ c left. ⊎_elim
-    (λ (h : StandsFor path before c). inl (record { outside = left.outside; stands = record { bytes = before; stands = h; holds = was } }))
-    (λ (h : StandsFor path now c). inr (record { outside = left.outside; stands = record { bytes = now; stands = h; holds = is } })) left.stands)
+    (λ (h : Represents path before c). inl (record { outside = left.outside; represented = record { bytes = before; represented = h; holds = was } }))
+    (λ (h : Represents path now c). inr (record { outside = left.outside; represented = record { bytes = now; represented = h; holds = is } })) left.represented)
 
 -- a folder at rest keeps the committed base
 pub filled_is_kept : (keyed : ℕ → ℕ → List ℕ → ℕ) (path : List ℕ) (d : DiskState) (f : Folder) (base : Base) → path_of f ≡ path → IsAtRest d (path_of f) f.end → HoldsBase keyed (committed_by d f) base → IsKept keyed path d base
 filled_is_kept keyed path d f base at rest holds =
     subst (λ (p : List ℕ). IsKept keyed p d base) at
     (record {
-      seen = record { bytes = committed_by d f; stands = rest_same d (path_of f) f.end rest d.seen refl refl refl; holds = holds };
-      stays = λ c left. record { bytes = committed_by d f; stands = rest_stands d (path_of f) f.end rest c left; holds = holds };
+      seen = record { bytes = committed_by d f; represented = rest_same d (path_of f) f.end rest d.seen refl refl refl; holds = holds };
+      stays = λ c left. record { bytes = committed_by d f; represented = rest_represented d (path_of f) f.end rest c left; holds = holds };
     })
 
 -- the files that a crash leaves while a folder is opened and then filled
-pub opened_run : (keyed : ℕ → ℕ → List ℕ → ℕ) (path : List ℕ) (d e : DiskState) (first next : Base) → LeavesOnly d e (StandsForBaseOrWasLeft keyed path d first) → LeavesOnly d e (StandsForOneOfOrWasLeft keyed path d first next)
+pub opened_run : (keyed : ℕ → ℕ → List ℕ → ℕ) (path : List ℕ) (d e : DiskState) (first next : Base) → LeavesOnly d e (RepresentsBaseOrWasLeft keyed path d first) → LeavesOnly d e (RepresentsOneOfOrWasLeft keyed path d first next)
 opened_run keyed path d e first next run =
-    weaker_run d e (StandsForBaseOrWasLeft keyed path d first) (StandsForOneOfOrWasLeft keyed path d first next) run
-    (λ c or. ⊎_elim (λ (alone : StandsForBaseAlone keyed path d first c). inl (inl alone)) (λ (left : d.may_leave c). inr left) or)
+    weaker_run d e (RepresentsBaseOrWasLeft keyed path d first) (RepresentsOneOfOrWasLeft keyed path d first next) run
+    (λ c or. ⊎_elim (λ (alone : RepresentsBaseAlone keyed path d first c). inl (inl alone)) (λ (left : d.may_leave c). inr left) or)
 
-alone_since : (keyed : ℕ → ℕ → List ℕ → ℕ) (path : List ℕ) (d e : DiskState) (base : Base) → KeepsOutside path d e → (c : Files) → StandsForBaseAlone keyed path e base c → StandsForBaseAlone keyed path d base c
-alone_since keyed path d e base kept c left = record { outside = λ m out named flushed. left.outside m out (kept.named m out named) (kept.flushed m out flushed) ∙ kept.seen m out; stands = left.stands }
+alone_since : (keyed : ℕ → ℕ → List ℕ → ℕ) (path : List ℕ) (d e : DiskState) (base : Base) → KeepsOutside path d e → (c : Files) → RepresentsBaseAlone keyed path e base c → RepresentsBaseAlone keyed path d base c
+alone_since keyed path d e base kept c left = record { outside = λ m out named flushed. left.outside m out (kept.named m out named) (kept.flushed m out flushed) ∙ kept.seen m out; represented = left.represented }
 
-pub fill_run : (keyed : ℕ → ℕ → List ℕ → ℕ) (path here : List ℕ) (d e f : DiskState) (first next : Base) → here ≡ path → LeavesOnly d e (StandsForBaseOrWasLeft keyed path d first) → KeepsOutside path d e
-    → LeavesOnly e f (StandsForOneOf keyed here e first next) → LeavesOnly d f (StandsForOneOfOrWasLeft keyed path d first next)
+pub fill_run : (keyed : ℕ → ℕ → List ℕ → ℕ) (path here : List ℕ) (d e f : DiskState) (first next : Base) → here ≡ path → LeavesOnly d e (RepresentsBaseOrWasLeft keyed path d first) → KeepsOutside path d e
+    → LeavesOnly e f (RepresentsOneOf keyed here e first next) → LeavesOnly d f (RepresentsOneOfOrWasLeft keyed path d first next)
 fill_run keyed path here d e f first next at opening kept filling =
-    then_run d e f (StandsForOneOfOrWasLeft keyed path d first next) (StandsForOneOf keyed path e first next) (opened_run keyed path d e first next opening)
-    (subst (λ (p : List ℕ). LeavesOnly e f (StandsForOneOf keyed p e first next)) at filling)
+    then_run d e f (RepresentsOneOfOrWasLeft keyed path d first next) (RepresentsOneOf keyed path e first next) (opened_run keyed path d e first next opening)
+    (subst (λ (p : List ℕ). LeavesOnly e f (RepresentsOneOf keyed p e first next)) at filling)
     (λ c or. inl
     (⊎_elim
-    (λ (one : StandsForBaseAlone keyed path e first c). inl (alone_since keyed path d e first kept c one))
-    (λ (one : StandsForBaseAlone keyed path e next c). inr (alone_since keyed path d e next kept c one)) or))
+    (λ (one : RepresentsBaseAlone keyed path e first c). inl (alone_since keyed path d e first kept c one))
+    (λ (one : RepresentsBaseAlone keyed path e next c). inr (alone_since keyed path d e next kept c one)) or))
 
 -- Calls that add: none, one that failed, the cursor at the end, and one call after another.
 pub adds_none : {T E : Type 0} (f : Folder) (d : DiskState) (r : Result T E) → IsUsable d f → AddsOnly f f d d r

@@ -7,7 +7,7 @@ use Rattle.echo_filed.specs.Filed.{Filed}
 use Rattle.base_file.specs.declared.fault.BaseFault.TheVariants as fault
 use Rattle.base_log.specs.Opening.{HasFiles}
 use Rattle.base_log.specs.Reading.{IsLogIn, IsRead, ReadsAll}
-use Rattle.base_log.specs.Standing.{BaseBytes, StandsFor, base_at}
+use Rattle.base_log.specs.Standing.{BaseBytes, Represents, base_at}
 use Rattle.base_log.proofs.Opened.{has_files, nothing_read}
 use Rattle.base_log.specs.declared.log.CommitRecord.{CommitRecord}
 use Rattle.base_log.specs.declared.log.End.{End}
@@ -49,25 +49,25 @@ none_between first last log same =
     ap (λ (n : ℕ). length (take n (drop first log))) none
 
 -- a folder with this log and messages is readable after looks
-pub looked_at : (path : List ℕ) (d e : DiskState) (log : Log) (folder : Folder) → ChangesNothing d e → IsRead log → IsFresh path folder → folder.end ≡ log.end → folder.keys ≡ log.end.told.keys
-    → Honestly d (IsLogIn path d.seen log) → Honestly e (StandsFor path (base_at d path log.end.told) d.seen) → IsLookedAt e folder
-looked_at path d e log folder quiet read fresh same keys is stands =
-    let told : folder.told ≡ log.end.told = fresh.settled ∙ ap (λ (x : End). x.told) same in
+pub looked_at : (path : List ℕ) (d e : DiskState) (log : Log) (folder : Folder) → ChangesNothing d e → IsRead log → IsFresh path folder → folder.end ≡ log.end → folder.keys ≡ log.end.recorded.keys
+    → Honestly d (IsLogIn path d.seen log) → Honestly e (Represents path (base_at d path log.end.recorded) d.seen) → IsLookedAt e folder
+looked_at path d e log folder quiet read fresh same keys is represented =
+    let recorded : folder.recorded ≡ log.end.recorded = fresh.settled ∙ ap (λ (x : End). x.recorded) same in
     record {
       written = fresh.written;
-      keys = keys ∙ ap (λ (t : CommitRecord). t.keys) (sym told);
+      keys = keys ∙ ap (λ (t : CommitRecord). t.keys) (sym recorded);
       legible = λ honest some.
-          let has = has_files log.bytes.items log.end read path d.seen (is (quiet.honest honest)) (base_at d path log.end.told) (stands honest)
+          let has = has_files log.bytes.items log.end read path d.seen (is (quiet.honest honest)) (base_at d path log.end.recorded) (represented honest)
           (λ (none : log.end.gate ≡ 0). absurd (omega (arith, some, keys, ap (λ (t : CommitRecord). t.keys) (nothing_read log.bytes.items log.end read (omega (arith, none)))))) in
-          let files : HasFiles path e.seen log.end.told = subst (λ (f : Files). HasFiles path f log.end.told) (λ i m. sym (quiet.seen m) i) has in
-          let here : HasFiles (path_of folder) e.seen folder.told = subst (λ (p : List ℕ). HasFiles p e.seen folder.told) (sym fresh.path) (subst (λ (t : CommitRecord). HasFiles path e.seen t) (sym told) files) in
+          let files : HasFiles path e.seen log.end.recorded = subst (λ (f : Files). HasFiles path f log.end.recorded) (λ i m. sym (quiet.seen m) i) has in
+          let here : HasFiles (path_of folder) e.seen folder.recorded = subst (λ (p : List ℕ). HasFiles p e.seen folder.recorded) (sym fresh.path) (subst (λ (t : CommitRecord). HasFiles path e.seen t) (sym recorded) files) in
           record {
             names = fresh.named;
             messages_there = here.messages;
             messages_long = here.messages_long;
             keys_there = here.keys;
             keys_long = here.keys_long;
-            keys = omega (arith, keys, ap (λ (t : CommitRecord). t.keys) told, ap (λ (l : List ℕ). length l) fresh.written.keys);
+            keys = omega (arith, keys, ap (λ (t : CommitRecord). t.keys) recorded, ap (λ (l : List ℕ). length l) fresh.written.keys);
           };
     }
 
@@ -86,9 +86,9 @@ unseen_by keyed strange path files unread.Raced wrong = wrong
 unseen_by keyed strange path files (unread.NotOwner address) wrong = wrong
 
 -- and so is a damaged message of the base that the files represent
-pub unseen_message : (keyed : ℕ → ℕ → List ℕ → ℕ) (strange : Bool) (path : List ℕ) (files : Files) (bytes : BaseBytes) (why : OpenError) → ((b : BaseBytes) → StandsFor path b files → bytes ≡ b)
+pub unseen_message : (keyed : ℕ → ℕ → List ℕ → ℕ) (strange : Bool) (path : List ℕ) (files : Files) (bytes : BaseBytes) (why : OpenError) → ((b : BaseBytes) → Represents path b files → bytes ≡ b)
     → IsUnvouched keyed bytes why → IsUnseen keyed strange path files why
-unseen_message keyed strange path files bytes (unread.Wrong (fault.Damaged n)) one none = λ b stands. subst (λ (x : BaseBytes). HasNone keyed x n) (one b stands) none
+unseen_message keyed strange path files bytes (unread.Wrong (fault.Damaged n)) one none = λ b represented. subst (λ (x : BaseBytes). HasNone keyed x n) (one b represented) none
 unseen_message keyed strange path files bytes (unread.Wrong fault.NotBase) one none = absurd none
 unseen_message keyed strange path files bytes (unread.Wrong (fault.Truncated n)) one none = absurd none
 unseen_message keyed strange path files bytes (unread.Wrong fault.Memory) one none = absurd none

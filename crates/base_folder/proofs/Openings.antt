@@ -9,20 +9,20 @@ use Rattle.disk_io.specs.Disk.{DiskState, Files, Honestly, bytes_in}
 use Rattle.disk_io.specs.Runs.{ChangesNothing, LeavesOnly}
 use Rattle.disk_io.proofs.Moments.{then_run, weaker_run}
 use Rattle.base_log.specs.Names.{keys_of, log_of, messages_of}
-use Rattle.base_log.specs.Standing.{BaseBytes, StandsFor, base_at}
+use Rattle.base_log.specs.Standing.{BaseBytes, Represents, base_at}
 use Rattle.base_log.specs.declared.log.End.{End}
 use Rattle.base_log.specs.declared.log.FolderIdentity.{FolderIdentity}
 use Rattle.base_log.specs.declared.log.CommitRecord.{CommitRecord}
-use Rattle.base_log.specs.Opening.{StandsOrWasLeft}
+use Rattle.base_log.specs.Opening.{RepresentsOrWasLeft}
 use Rattle.base_log.specs.Reading.{IsLogIn, IsRead}
 use Rattle.base_log.specs.declared.log.Log.{Log}
 use Rattle.base_log.specs.Moments.{KeepsOutside}
-use Rattle.base_log.proofs.Empty.{stands_quiet}
+use Rattle.base_log.proofs.Empty.{represented_quiet}
 use Rattle.base_log.proofs.Keeping.{outside_quiet, outside_twice}
 use Rattle.base_log.proofs.Opened.{base_found}
 use Rattle.base_log.proofs.Quiet.{base_quiet}
-use Rattle.base_store.specs.Keys.{FolderStandsFor}
-use Rattle.base_folder_store.specs.Held.{HoldsBase, StandsForBase, StandsForBaseOrWasLeft, digest_by}
+use Rattle.base_store.specs.Keys.{FolderRepresents}
+use Rattle.base_folder_store.specs.Held.{HoldsBase, RepresentsBase, RepresentsBaseOrWasLeft, digest_by}
 use Rattle.base_folder_store.specs.Opened.{IsLogOfBase, IsNamed, IsOpen, IsWritten, committed_by, held_by, path_of}
 use Rattle.base_folder_store.specs.Owned.{with_mark}
 use Rattle.base_folder_store.specs.declared.folder.Folder.{Folder}
@@ -34,48 +34,48 @@ use Rattle.base_folder.specs.OpenError.{HasUnreadCause}
 use Rattle.base_folder.specs.declared.open_error.OpenError.{OpenError}
 use Rattle.base_folder.specs.declared.open_error.OpenError.TheVariants as unread
 use Rattle.base_folder.specs.Unopened.{HaveRoom, OpensOnly}
-use Rattle.base_folder.specs.Wrong.{IsToldBy}
+use Rattle.base_folder.specs.Wrong.{IsRecordedBy}
 use Rattle.base_folder.proofs.Wrongs.{one_end}
 
 -- the files that a crash leaves after the looks
-pub looked_run : (keyed : ℕ → ℕ → List ℕ → ℕ) (path : List ℕ) (d e : DiskState) (base : Base) → ChangesNothing d e → LeavesOnly d e (StandsForBaseOrWasLeft keyed path d base)
-looked_run keyed path d e base quiet = weaker_run d e d.may_leave (StandsForBaseOrWasLeft keyed path d base) quiet.run (λ c left. inr left)
+pub looked_run : (keyed : ℕ → ℕ → List ℕ → ℕ) (path : List ℕ) (d e : DiskState) (base : Base) → ChangesNothing d e → LeavesOnly d e (RepresentsBaseOrWasLeft keyed path d base)
+looked_run keyed path d e base quiet = weaker_run d e d.may_leave (RepresentsBaseOrWasLeft keyed path d base) quiet.run (λ c left. inr left)
 
 -- and in the middle of opening
-pub opened_run_since : (keyed : ℕ → ℕ → List ℕ → ℕ) (path : List ℕ) (d e f : DiskState) (base : Base) → ChangesNothing d e → LeavesOnly e f (StandsForBaseOrWasLeft keyed path e base)
-    → LeavesOnly d f (StandsForBaseOrWasLeft keyed path d base)
+pub opened_run_since : (keyed : ℕ → ℕ → List ℕ → ℕ) (path : List ℕ) (d e f : DiskState) (base : Base) → ChangesNothing d e → LeavesOnly e f (RepresentsBaseOrWasLeft keyed path e base)
+    → LeavesOnly d f (RepresentsBaseOrWasLeft keyed path d base)
 opened_run_since keyed path d e f base quiet opening =
-    then_run d e f (StandsForBaseOrWasLeft keyed path d base) (StandsForBaseOrWasLeft keyed path e base) (looked_run keyed path d e base quiet) opening
+    then_run d e f (RepresentsBaseOrWasLeft keyed path d base) (RepresentsBaseOrWasLeft keyed path e base) (looked_run keyed path d e base quiet) opening
     (λ c or. ⊎_elim
-    (λ alone. inl (record { outside = λ m out named flushed. alone.outside m out (quiet.named m (λ h. h) named) (quiet.flushed m (λ h. h) flushed) ∙ quiet.seen m; stands = alone.stands }))
+    (λ alone. inl (record { outside = λ m out named flushed. alone.outside m out (quiet.named m (λ h. h) named) (quiet.flushed m (λ h. h) flushed) ∙ quiet.seen m; represented = alone.represented }))
     (λ left. inr (quiet.no_more c left)) or)
 
 -- a claimed folder holds the same base, since its key changes only without messages
-pub claimed_same : (keyed : ℕ → ℕ → List ℕ → ℕ) → HaveRoom keyed → (d : DiskState) (f g : Folder) (base : Base) → IsOpen d f → g ≡ with_mark f g.told.mark → (0 < f.keys → SameKey f.told.mark g.told.mark)
-    → (f.told.mark.owner ≢ 0 → g ≡ f) → HoldsBase keyed (held_by d f) base → HoldsBase keyed (held_by d g) base
+pub claimed_same : (keyed : ℕ → ℕ → List ℕ → ℕ) → HaveRoom keyed → (d : DiskState) (f g : Folder) (base : Base) → IsOpen d f → g ≡ with_mark f g.recorded.mark → (0 < f.keys → SameKey f.recorded.mark g.recorded.mark)
+    → (f.recorded.mark.owner ≢ 0 → g ≡ f) → HoldsBase keyed (held_by d f) base → HoldsBase keyed (held_by d g) base
 claimed_same keyed fits d f g base opened only key kept holds =
     ⊎_elim
     (λ (some : 0 < f.keys).
     let same = key some in
-    let digest : digest_by keyed g.told.mark ≡ digest_by keyed f.told.mark = λ i. keyed (same.first i) (same.second i) in
-    let files = subst (λ (by : List ℕ → ℕ). FolderStandsFor by base.messages base.cursor (held_by d f).messages (held_by d f).keys) (sym digest) holds.files in
-    let marked : HoldsBase keyed (held_by d (with_mark f g.told.mark)) base = record { files = files; cursor = holds.cursor } in
+    let digest : digest_by keyed g.recorded.mark ≡ digest_by keyed f.recorded.mark = λ i. keyed (same.first i) (same.second i) in
+    let files = subst (λ (by : List ℕ → ℕ). FolderRepresents by base.messages base.cursor (held_by d f).messages (held_by d f).keys) (sym digest) holds.files in
+    let marked : HoldsBase keyed (held_by d (with_mark f g.recorded.mark)) base = record { files = files; cursor = holds.cursor } in
     subst (λ (x : Folder). HoldsBase keyed (held_by d x) base) (sym only) marked)
     (λ (none : f.keys ≤ 0).
     ⊎_elim
-    (λ (owned : 0 < f.told.mark.owner). subst (λ (x : Folder). HoldsBase keyed (held_by d x) base) (sym (kept (omega arith))) holds)
-    (λ (free : f.told.mark.owner ≤ 0).
+    (λ (owned : 0 < f.recorded.mark.owner). subst (λ (x : Folder). HoldsBase keyed (held_by d x) base) (sym (kept (omega arith))) holds)
+    (λ (free : f.recorded.mark.owner ≤ 0).
     subst (λ (x : Folder). HoldsBase keyed (held_by d x) base) (sym only)
-    (claimed_holds keyed fits d f g.told.mark base opened (record { owner = omega arith; keys = omega arith }) holds))
-    (cases_lt 0 f.told.mark.owner))
+    (claimed_holds keyed fits d f g.recorded.mark base opened (record { owner = omega arith; keys = omega arith }) holds))
+    (cases_lt 0 f.recorded.mark.owner))
     (cases_lt 0 (f.keys))
 
 -- and stays open
-pub claimed_opened : (d : DiskState) (f g : Folder) → g ≡ with_mark f g.told.mark → IsOpen d f → IsOpen d g
-claimed_opened d f g only opened = subst (λ (x : Folder). IsOpen d x) (sym only) (claimed_open d f g.told.mark opened)
+pub claimed_opened : (d : DiskState) (f g : Folder) → g ≡ with_mark f g.recorded.mark → IsOpen d f → IsOpen d g
+claimed_opened d f g only opened = subst (λ (x : Folder). IsOpen d x) (sym only) (claimed_open d f g.recorded.mark opened)
 
 -- the committed base is unchanged
-pub claimed_committed : (keyed : ℕ → ℕ → List ℕ → ℕ) (d : DiskState) (f g : Folder) (base : Base) → g ≡ with_mark f g.told.mark → f.told ≡ f.end.told → IsWritten f → HoldsBase keyed (held_by d f) base
+pub claimed_committed : (keyed : ℕ → ℕ → List ℕ → ℕ) (d : DiskState) (f g : Folder) (base : Base) → g ≡ with_mark f g.recorded.mark → f.recorded ≡ f.end.recorded → IsWritten f → HoldsBase keyed (held_by d f) base
     → HoldsBase keyed (committed_by d g) base
 claimed_committed keyed d f g base only settled written holds =
     let same : committed_by d g ≡ committed_by d f = ap (λ (x : Folder). committed_by d x) only in
@@ -83,8 +83,8 @@ claimed_committed keyed d f g base only settled written holds =
     subst (λ (b : BaseBytes). HoldsBase keyed b base) (last ∙ sym same) holds
 
 -- a log has only one last record
-pub one_told : (strange : Bool) (log : List ℕ) (a b : CommitRecord) → IsToldBy strange log a → IsToldBy strange log b → a ≡ b
-one_told strange log a b one other = sym one.is ∙ ap (λ (e : End). e.told) (one_end log one.end other.end one.log.reads other.log.reads) ∙ other.is
+pub one_recorded : (strange : Bool) (log : List ℕ) (a b : CommitRecord) → IsRecordedBy strange log a → IsRecordedBy strange log b → a ≡ b
+one_recorded strange log a b one other = sym one.is ∙ ap (λ (e : End). e.recorded) (one_end log one.end other.end one.log.reads other.log.reads) ∙ other.is
 
 -- a folder without an owner, or with this system as owner, has no other owner
 pub not_other : (own : Address) (mark : FolderIdentity) (address : Address) → (mark.owner ≡ 0) ⊎ (mark.owner ≡ number_of own) → IsMarkOfOther own mark address → ⊥
@@ -92,11 +92,11 @@ not_other own mark address (inl none) other = other.claimed none
 not_other own mark address (inr ours) other = other.other ours
 
 -- the owner in the log decides if the folder belongs to another system
-pub told_other : (own : Address) (strange : Bool) (path : List ℕ) (files : Files) (told : CommitRecord) (address : Address) → IsToldBy strange (bytes_in (files (log_of path))) told → (told.mark.owner ≡ 0) ⊎ (told.mark.owner ≡ number_of own)
+pub recorded_other : (own : Address) (strange : Bool) (path : List ℕ) (files : Files) (recorded : CommitRecord) (address : Address) → IsRecordedBy strange (bytes_in (files (log_of path))) recorded → (recorded.mark.owner ≡ 0) ⊎ (recorded.mark.owner ≡ number_of own)
     → IsOfOther own strange path files address → ⊥
-told_other own strange path files told address by ours other =
-    let same = one_told strange (bytes_in (files (log_of path))) other.told told other.log by in
-    not_other own told.mark address ours (subst (λ (t : CommitRecord). IsMarkOfOther own t.mark address) same other.mark)
+recorded_other own strange path files recorded address by ours other =
+    let same = one_recorded strange (bytes_in (files (log_of path))) other.recorded recorded other.log by in
+    not_other own recorded.mark address ours (subst (λ (t : CommitRecord). IsMarkOfOther own t.mark address) same other.mark)
 
 -- a folder of another system is refused and unchanged
 pub other_left : (own : Address) (mark : FolderIdentity) (old new : DiskState) (e : OpenError) → ChangesNothing old new → IsOtherOwner own mark e → IsLeftAlone old new e
@@ -107,12 +107,12 @@ other_left own mark old new unread.Raced quiet is = tt
 other_left own mark old new (unread.Wrong why) quiet is = quiet
 
 -- its log says so
-pub other_told : (own : Address) (strange : Bool) (path : List ℕ) (files : Files) (told : CommitRecord) (e : OpenError) → IsToldBy strange (bytes_in (files (log_of path))) told → IsOtherOwner own told.mark e → IsNotOurs own strange path files e
-other_told own strange path files told (unread.NotOwner address) log is = record { told = told; log = log; mark = is }
-other_told own strange path files told unread.Memory log is = absurd is
-other_told own strange path files told unread.Device log is = absurd is
-other_told own strange path files told unread.Raced log is = absurd is
-other_told own strange path files told (unread.Wrong why) log is = absurd is
+pub other_recorded : (own : Address) (strange : Bool) (path : List ℕ) (files : Files) (recorded : CommitRecord) (e : OpenError) → IsRecordedBy strange (bytes_in (files (log_of path))) recorded → IsOtherOwner own recorded.mark e → IsNotOurs own strange path files e
+other_recorded own strange path files recorded (unread.NotOwner address) log is = record { recorded = recorded; log = log; mark = is }
+other_recorded own strange path files recorded unread.Memory log is = absurd is
+other_recorded own strange path files recorded unread.Device log is = absurd is
+other_recorded own strange path files recorded unread.Raced log is = absurd is
+other_recorded own strange path files recorded (unread.Wrong why) log is = absurd is
 
 -- no device failed
 pub other_cause : {T : Type 0} (own : Address) (mark : FolderIdentity) (e : OpenError) (before now : ℕ) (r : Result T OpenError) → IsErrAnd r (λ x. x ≡ e) → before ≤ now → IsOtherOwner own mark e → HasUnreadCause before now r
@@ -121,53 +121,53 @@ other_cause own mark e before now (Err x) same later is =
     record { later = later; failed = λ was. let device : x ≡ unread.Device = cc (was) in absurd (subst (λ (y : OpenError). IsOtherOwner own mark y) (sym same ∙ device) is) }
 
 -- the files represent the same base before looks and after them
-pub stood_before : (d e : DiskState) (path : List ℕ) (told : CommitRecord) → ChangesNothing d e → StandsFor path (base_at e path told) e.seen → StandsFor path (base_at d path told) d.seen
-stood_before d e path told quiet stands =
+pub stood_before : (d e : DiskState) (path : List ℕ) (recorded : CommitRecord) → ChangesNothing d e → Represents path (base_at e path recorded) e.seen → Represents path (base_at d path recorded) d.seen
+stood_before d e path recorded quiet represented =
     let same : e.seen ≡ d.seen = λ i m. quiet.seen m i in
-    subst (λ (f : Files). StandsFor path (base_at d path told) f) same (subst (λ (b : BaseBytes). StandsFor path b e.seen) (base_quiet d e path told quiet) stands)
+    subst (λ (f : Files). Represents path (base_at d path recorded) f) same (subst (λ (b : BaseBytes). Represents path b e.seen) (base_quiet d e path recorded quiet) represented)
 
-pub stood_since : (d e : DiskState) (path : List ℕ) (told : CommitRecord) → ChangesNothing d e → StandsFor path (base_at d path told) d.seen → StandsFor path (base_at e path told) e.seen
-stood_since d e path told quiet stands = subst (λ (b : BaseBytes). StandsFor path b e.seen) (sym (base_quiet d e path told quiet)) (stands_quiet d e path (base_at d path told) quiet stands)
+pub stood_since : (d e : DiskState) (path : List ℕ) (recorded : CommitRecord) → ChangesNothing d e → Represents path (base_at d path recorded) d.seen → Represents path (base_at e path recorded) e.seen
+stood_since d e path recorded quiet represented = subst (λ (b : BaseBytes). Represents path b e.seen) (sym (base_quiet d e path recorded quiet)) (represented_quiet d e path (base_at d path recorded) quiet represented)
 
 -- the files represent the base that the log describes
-pub base_is : (path : List ℕ) (base : BaseBytes) (d e : DiskState) (log : Log) → ChangesNothing d e → IsLogIn path d.seen log → IsRead log → StandsFor path base d.seen → base_at e path log.end.told ≡ base
-base_is path base d e log quiet is read stands =
-    base_found log.bytes.items log.end read path d.seen is base stands e (quiet.seen (messages_of path log.end.told.number)) (quiet.seen (keys_of path log.end.told.number))
+pub base_is : (path : List ℕ) (base : BaseBytes) (d e : DiskState) (log : Log) → ChangesNothing d e → IsLogIn path d.seen log → IsRead log → Represents path base d.seen → base_at e path log.end.recorded ≡ base
+base_is path base d e log quiet is read represented =
+    base_found log.bytes.items log.end read path d.seen is base represented e (quiet.seen (messages_of path log.end.recorded.number)) (quiet.seen (keys_of path log.end.recorded.number))
 
 -- a folder opened after looks holds the base that its files represented
-pub opened_holds : (keyed : ℕ → ℕ → List ℕ → ℕ) (path : List ℕ) (d e f : DiskState) (log : Log) (folder : Folder) (base : Base) (stands : StandsForBase keyed path base d.seen) → ChangesNothing d e → IsLogIn path d.seen log → IsRead log
-    → held_by f folder ≡ base_at e path log.end.told → HoldsBase keyed (held_by f folder) base
-opened_holds keyed path d e f log folder base stands quiet is read found =
-    subst (λ (b : BaseBytes). HoldsBase keyed b base) (sym (found ∙ base_is path stands.bytes d e log quiet is read stands.stands)) stands.holds
+pub opened_holds : (keyed : ℕ → ℕ → List ℕ → ℕ) (path : List ℕ) (d e f : DiskState) (log : Log) (folder : Folder) (base : Base) (represented : RepresentsBase keyed path base d.seen) → ChangesNothing d e → IsLogIn path d.seen log → IsRead log
+    → held_by f folder ≡ base_at e path log.end.recorded → HoldsBase keyed (held_by f folder) base
+opened_holds keyed path d e f log folder base represented quiet is read found =
+    subst (λ (b : BaseBytes). HoldsBase keyed b base) (sym (found ∙ base_is path represented.bytes d e log quiet is read represented.represented)) represented.holds
 
 -- the files that a crash leaves during the opening
-pub opening_run : (keyed : ℕ → ℕ → List ℕ → ℕ) (path : List ℕ) (d e f : DiskState) (log : Log) (base : Base) (stands : StandsForBase keyed path base d.seen) → ChangesNothing d e → IsLogIn path d.seen log → IsRead log
-    → LeavesOnly e f (StandsOrWasLeft path e (base_at e path log.end.told)) → LeavesOnly d f (StandsForBaseOrWasLeft keyed path d base)
-opening_run keyed path d e f log base stands quiet is read run =
-    let since : StandsForBase keyed path base e.seen = record { bytes = stands.bytes; stands = stands_quiet d e path stands.bytes quiet stands.stands; holds = stands.holds } in
+pub opening_run : (keyed : ℕ → ℕ → List ℕ → ℕ) (path : List ℕ) (d e f : DiskState) (log : Log) (base : Base) (represented : RepresentsBase keyed path base d.seen) → ChangesNothing d e → IsLogIn path d.seen log → IsRead log
+    → LeavesOnly e f (RepresentsOrWasLeft path e (base_at e path log.end.recorded)) → LeavesOnly d f (RepresentsBaseOrWasLeft keyed path d base)
+opening_run keyed path d e f log base represented quiet is read run =
+    let since : RepresentsBase keyed path base e.seen = record { bytes = represented.bytes; represented = represented_quiet d e path represented.bytes quiet represented.represented; holds = represented.holds } in
     opened_run_since keyed path d e f base quiet
-    (opened_run keyed path e f base since (subst (λ (b : BaseBytes). LeavesOnly e f (StandsOrWasLeft path e b)) (base_is path stands.bytes d e log quiet is read stands.stands) run))
+    (opened_run keyed path e f base since (subst (λ (b : BaseBytes). LeavesOnly e f (RepresentsOrWasLeft path e b)) (base_is path represented.bytes d e log quiet is read represented.represented) run))
 
-pub claimed_named : (f g : Folder) → g ≡ with_mark f g.told.mark → IsNamed f → IsNamed g
+pub claimed_named : (f g : Folder) → g ≡ with_mark f g.recorded.mark → IsNamed f → IsNamed g
 claimed_named f g only named = subst (λ (x : Folder). IsNamed x) (sym only) named
 
 -- a run of looks, followed by opening
 pub looked_only : (path : List ℕ) (d e : DiskState) → ChangesNothing d e → OpensOnly path d e
-looked_only path d e quiet = record { any_moment = λ honest keyed base stands. looked_run keyed path d e base quiet; outside = outside_quiet path d e quiet }
+looked_only path d e quiet = record { any_moment = λ honest keyed base represented. looked_run keyed path d e base quiet; outside = outside_quiet path d e quiet }
 
-pub opened_only : (path : List ℕ) (d e f : DiskState) (log : Log) → ChangesNothing d e → Honestly e (IsLogIn path d.seen log) → IsRead log → Honestly f (LeavesOnly e f (StandsOrWasLeft path e (base_at e path log.end.told)))
+pub opened_only : (path : List ℕ) (d e f : DiskState) (log : Log) → ChangesNothing d e → Honestly e (IsLogIn path d.seen log) → IsRead log → Honestly f (LeavesOnly e f (RepresentsOrWasLeft path e (base_at e path log.end.recorded)))
     → KeepsOutside path e f → OpensOnly path d f
 opened_only path d e f log quiet is read run kept = record {
-  any_moment = λ honest keyed base stands. opening_run keyed path d e f log base stands quiet (is (kept.honest honest)) read (run honest);
+  any_moment = λ honest keyed base represented. opening_run keyed path d e f log base represented quiet (is (kept.honest honest)) read (run honest);
   outside = outside_twice path d e f (outside_quiet path d e quiet) kept;
 }
 
 -- the log of the base that is opened
-pub log_since : (path : List ℕ) (d e : DiskState) (log : Log) → ChangesNothing d e → log.end.told.number < 10 → IsRead log → Honestly e (IsLogIn path d.seen log) → Honestly e (StandsFor path (base_at d path log.end.told) d.seen)
+pub log_since : (path : List ℕ) (d e : DiskState) (log : Log) → ChangesNothing d e → log.end.recorded.number < 10 → IsRead log → Honestly e (IsLogIn path d.seen log) → Honestly e (Represents path (base_at d path log.end.recorded) d.seen)
     → IsLogOfBase e path log
-log_since path d e log quiet digit read is stands = record {
+log_since path d e log quiet digit read is represented = record {
   digit = digit;
   read = read;
   same = λ honest. is honest ∙ ap bytes_in (sym (quiet.seen (log_of path)));
-  stands = λ honest. stood_since d e path log.end.told quiet (stands honest);
+  represented = λ honest. stood_since d e path log.end.recorded quiet (represented honest);
 }

@@ -11,12 +11,12 @@ use Rattle.base_file.specs.Base.{Base}
 use Rattle.base_log.specs.Names.{keys_of}
 use Rattle.base_log.specs.Standing.{BaseBytes, base_at}
 use Rattle.base_store.specs.Keys.{digested}
-use Rattle.base_store.proofs.Told.{tells_each}
+use Rattle.base_store.proofs.Recorded.{recorded_base_each}
 use Rattle.base_folder_store.specs.Held.{HoldsBase, digest_by}
 use Rattle.base_folder_store.specs.Opened.{held_by, path_of}
 use Rattle.base_folder_store.specs.Vouched.{HasDigest, IsLookedAt, IsThere}
 use Rattle.base_folder_store.specs.declared.folder.Folder.{Folder}
-use Rattle.base_folder_store.proofs.Bases.{told_where}
+use Rattle.base_folder_store.proofs.Bases.{recorded_where}
 use Rattle.base_folder_store.proofs.Legible.{held_quiet, keys_all, legible_quiet}
 use Rattle.base_folder_store.proofs.Waits.{written_held}
 use Rattle.base_folder.specs.Source.{LooksAt, SeesBase, SourceState}
@@ -30,26 +30,26 @@ pub record ReadAt (keyed : ℕ → ℕ → List ℕ → ℕ) (bytes : BaseBytes)
 
 pub read_at : (keyed : ℕ → ℕ → List ℕ → ℕ) (bytes : BaseBytes) (base : Base) → HoldsBase keyed bytes base → (i : ℕ) → i < length base.messages → ReadAt keyed bytes base i
 read_at keyed bytes base holds i within =
-    let told = told_where keyed bytes base holds in
-    let at = told.each i within in
+    let recorded = recorded_where keyed bytes base holds in
+    let at = recorded.each i within in
     record {
       s = at.s;
       there = record { size = at.size; alone = at.alone; stored = at.bytes };
-      digest = tells_each (digest_by keyed bytes.mark) base.messages base.cursor bytes.messages bytes.keys holds.files i (message_in Second at.s) within ∙ ap (λ (m : Filed). digest_by keyed bytes.mark (digested m)) (at.is (message_in Second at.s));
+      digest = recorded_base_each (digest_by keyed bytes.mark) base.messages base.cursor bytes.messages bytes.keys holds.files i (message_in Second at.s) within ∙ ap (λ (m : Filed). digest_by keyed bytes.mark (digested m)) (at.is (message_in Second at.s));
       is = at.is;
     }
 
 -- the entries are as many as the messages
 pub looked_sees : (keyed : ℕ → ℕ → List ℕ → ℕ) (d : DiskState) (f : Folder) (base : Base) → IsLookedAt d f → Honestly d (HoldsBase keyed (held_by d f) base → SeesBase keyed d f base)
 looked_sees keyed d f base looked honest holds =
-    let many = (told_where keyed (held_by d f) base holds).many in
+    let many = (recorded_where keyed (held_by d f) base holds).many in
     record {
       holds = holds;
       count = ⊎_elim
           (λ (some : 0 < f.keys). let long = keys_all d f (looked.legible honest some) in omega (arith, many, long))
           (λ (none : f.keys ≤ 0).
-          let same : length (held_by d f).keys ≡ length (base_at d (path_of f) f.told).keys = ap (λ (b : BaseBytes). length b.keys) (written_held d f looked.written) in
-          let front = length-take f.told.keys (bytes_in (d.seen (keys_of (path_of f) f.told.number))) in
+          let same : length (held_by d f).keys ≡ length (base_at d (path_of f) f.recorded).keys = ap (λ (b : BaseBytes). length b.keys) (written_held d f looked.written) in
+          let front = length-take f.recorded.keys (bytes_in (d.seen (keys_of (path_of f) f.recorded.number))) in
           omega (arith, many, none, same, front, looked.keys))
           (cases_lt 0 f.keys);
     }

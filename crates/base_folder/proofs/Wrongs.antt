@@ -3,9 +3,9 @@ use Rattle.std.proofs.Common.{◌≡◌, ◌∙◌, ℕ, Bool, List, length, sym
 use Rattle.std.proofs.lemmas.Bool.{true≢false}
 use Rattle.disk_io.specs.Disk.{Files, bytes_in}
 use Rattle.base_log.specs.Names.{log_of}
-use Rattle.base_log.specs.Log.{last_told, opened}
+use Rattle.base_log.specs.Log.{last_recorded, opened}
 use Rattle.base_log.specs.Reading.{ReadsAll}
-use Rattle.base_log.specs.Standing.{BaseBytes, StandsFor}
+use Rattle.base_log.specs.Standing.{BaseBytes, Represents}
 use Rattle.base_log.specs.declared.log.End.{End}
 use Rattle.base_log.proofs.Logs.{one_log}
 use Rattle.base_log.proofs.Opened.{lost_none, read_log}
@@ -16,17 +16,17 @@ pub one_end : (log : List ℕ) (one other : End) → ReadsAll log one → ReadsA
 one_end log one other first next =
     let same : first.reads.bodies ≡ next.reads.bodies = one_log first.reads.bodies next.reads.bodies log (read_log log one first) (read_log log other next) in
     let gate : one.gate ≡ other.gate = first.reads.gate ∙ ap (λ (b : List (List ℕ)). length (opened b)) same ∙ sym next.reads.gate in
-    let told : one.told ≡ other.told = sym first.reads.told ∙ ap last_told same ∙ next.reads.told in
-    λ i. record { gate = gate i; told = told i }
+    let recorded : one.recorded ≡ other.recorded = sym first.reads.recorded ∙ ap last_recorded same ∙ next.reads.recorded in
+    λ i. record { gate = gate i; recorded = recorded i }
 
 -- a folder with this log has no fault if its files represent a base
-pub sound_by : (strange : Bool) (path : List ℕ) (files : Files) (end : End) (base : BaseBytes) → IsFolderLog strange (bytes_in (files (log_of path))) end → StandsFor path base files → IsSound strange path files
-sound_by strange path files end base log stands =
+pub sound_by : (strange : Bool) (path : List ℕ) (files : Files) (end : End) (base : BaseBytes) → IsFolderLog strange (bytes_in (files (log_of path))) end → Represents path base files → IsSound strange path files
+sound_by strange path files end base log represented =
     let bytes = bytes_in (files (log_of path)) in
     record {
       folder = λ none.
           ⊎_elim
           (λ foreign. absurd (true≢false (sym foreign.foreign ∙ ap (is_foreign strange (length bytes)) (one_end bytes foreign.end end foreign.reads log.reads) ∙ log.own)))
-          (λ lost. lost_none path files base lost stands) none;
-      whole = λ n cut. cut.broken.none base stands;
+          (λ lost. lost_none path files base lost represented) none;
+      whole = λ n cut. cut.broken.none base represented;
     }

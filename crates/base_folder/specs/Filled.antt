@@ -7,7 +7,7 @@ use Rattle.disk_io.specs.Device.{Failed}
 use Rattle.disk_io.specs.Disk.{DiskState, Files, Honestly}
 use Rattle.base_folder_store.specs.Added.{HasRoomFor, IsFull}
 use Rattle.base_folder_store.specs.Calls.{StagesOnly}
-use Rattle.base_folder_store.specs.Held.{HoldsBase, StandsForBase, StandsForBaseAlone}
+use Rattle.base_folder_store.specs.Held.{HoldsBase, RepresentsBase, RepresentsBaseAlone}
 use Rattle.base_folder_store.specs.Opened.{IsNamed, IsOpen, committed_by, held_by, path_of}
 use Rattle.base_folder_store.specs.declared.folder.Folder.{Folder}
 use Rattle.base_file.specs.declared.fault.BaseFault.TheVariants as fault
@@ -63,12 +63,12 @@ pub record HasUnfilledCause {T : Type 0} (before now : ℕ) (result : Result T U
   pub failed : IsErrOf result (unfilled.Folder unread.Device) → Failed before now
 
 -- The files represent the base before or the other one, and everything outside the folder is unchanged.
-abbrev pub StandsForOneOf : (ℕ → ℕ → List ℕ → ℕ) → List ℕ → DiskState → Base → Base → Files → Type 0
-StandsForOneOf keyed path old first next c = StandsForBaseAlone keyed path old first c ⊎ StandsForBaseAlone keyed path old next c
+abbrev pub RepresentsOneOf : (ℕ → ℕ → List ℕ → ℕ) → List ℕ → DiskState → Base → Base → Files → Type 0
+RepresentsOneOf keyed path old first next c = RepresentsBaseAlone keyed path old first c ⊎ RepresentsBaseAlone keyed path old next c
 
 -- The same, or files that a crash might have left before.
-abbrev pub StandsForOneOfOrWasLeft : (ℕ → ℕ → List ℕ → ℕ) → List ℕ → DiskState → Base → Base → Files → Type 0
-StandsForOneOfOrWasLeft keyed path old first next c = StandsForOneOf keyed path old first next c ⊎ old.may_leave c
+abbrev pub RepresentsOneOfOrWasLeft : (ℕ → ℕ → List ℕ → ℕ) → List ℕ → DiskState → Base → Base → Files → Type 0
+RepresentsOneOfOrWasLeft keyed path old first next c = RepresentsOneOf keyed path old first next c ⊎ old.may_leave c
 
 -- A base without messages.
 abbrev pub no_messages : Base
@@ -76,8 +76,8 @@ no_messages = record { messages = []; cursor = 0 }
 
 -- The files represent this base, and after any crash they still do.
 pub record IsKept (keyed : ℕ → ℕ → List ℕ → ℕ) (path : List ℕ) (disk : DiskState) (base : Base) : Type 0 where
-  pub seen : StandsForBase keyed path base disk.seen
-  pub stays : (c : Files) → disk.may_leave c → StandsForBase keyed path base c
+  pub seen : RepresentsBase keyed path base disk.seen
+  pub stays : (c : Files) → disk.may_leave c → RepresentsBase keyed path base c
 
 -- The folder holds the first messages of a base, and has no room for the next one.
 pub record LacksNext (keyed : ℕ → ℕ → List ℕ → ℕ) (disk : DiskState) (folder : Folder) (messages : List Filed) : Type 0 where

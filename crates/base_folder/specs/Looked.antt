@@ -3,7 +3,7 @@ use Rattle.std.specs.Prelude.{◌≡◌, ◌≤◌, ◌<◌, ◌/◌, ℕ, Bool,
 use Rattle.disk_io.specs.Disk.{DiskState, Files, bytes_in}
 use Rattle.base_file.specs.declared.fault.BaseFault.TheVariants as base
 use Rattle.base_log.specs.Names.{log_of}
-use Rattle.base_log.specs.Standing.{BaseBytes, StandsFor}
+use Rattle.base_log.specs.Standing.{BaseBytes, Represents}
 use Rattle.base_log.specs.Reading.{IsRead, ReadsAll}
 use Rattle.base_log.specs.declared.log.End.{End}
 use Rattle.base_log.specs.declared.log.Log.{Log}
@@ -33,7 +33,7 @@ IsUnvouched keyed bytes _ = ⊥
 
 -- The fault is a damaged message of the base, or a fault of the folder.
 abbrev pub IsUnseen : (ℕ → ℕ → List ℕ → ℕ) → Bool → List ℕ → Files → OpenError → Type 0
-IsUnseen keyed strange path files (unread.Wrong (base.Damaged n)) = (bytes : BaseBytes) → StandsFor path bytes files → HasNone keyed bytes n
+IsUnseen keyed strange path files (unread.Wrong (base.Damaged n)) = (bytes : BaseBytes) → Represents path bytes files → HasNone keyed bytes n
 IsUnseen keyed strange path files why = IsWrong strange path files why
 
 -- The logs read before the messages and after them are the log of this folder.

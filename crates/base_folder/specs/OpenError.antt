@@ -31,14 +31,14 @@ pub record HasUnreadCause {T : Type 0} (before now : ℕ) (result : Result T Ope
   pub failed : IsErrOf result unread.Device → Failed before now
 
 -- The reported fault for the base with this path.
-abbrev pub IsToldAs : List ℕ → OpenError → Fault → Type 0
-IsToldAs path unread.Memory told = told ≡ fault.OutOfMemory
-IsToldAs path unread.Device (fault.CannotUse shown) = shown.now ≡ path
-IsToldAs path unread.Device _ = ⊥
-IsToldAs path unread.Raced (fault.CannotUse shown) = shown.now ≡ path
-IsToldAs path unread.Raced _ = ⊥
-IsToldAs path (unread.Wrong why) told = told ≡ fault.Base why
-IsToldAs path (unread.NotOwner address) told = told ≡ fault.NotOwner address
+abbrev pub IsReportedAs : List ℕ → OpenError → Fault → Type 0
+IsReportedAs path unread.Memory recorded = recorded ≡ fault.OutOfMemory
+IsReportedAs path unread.Device (fault.CannotUse shown) = shown.now ≡ path
+IsReportedAs path unread.Device _ = ⊥
+IsReportedAs path unread.Raced (fault.CannotUse shown) = shown.now ≡ path
+IsReportedAs path unread.Raced _ = ⊥
+IsReportedAs path (unread.Wrong why) recorded = recorded ≡ fault.Base why
+IsReportedAs path (unread.NotOwner address) recorded = recorded ≡ fault.NotOwner address
 
 -- The files belong to no base folder, or to one that is cut short, if that is the fault.
 abbrev pub IsWrong : Bool → List ℕ → Files → OpenError → Type 0

@@ -8,7 +8,7 @@ use Rattle.base_log.specs.declared.log.FolderIdentity.{FolderIdentity}
 use Rattle.base_log.specs.declared.log.CommitRecord.{CommitRecord}
 use Rattle.base_folder_store.specs.declared.folder.Folder.{Folder}
 use Rattle.base_folder.specs.OpenError.{IsWrong}
-use Rattle.base_folder.specs.Wrong.{IsToldBy}
+use Rattle.base_folder.specs.Wrong.{IsRecordedBy}
 use Rattle.base_folder.specs.declared.open_error.OpenError.{OpenError}
 use Rattle.base_folder.specs.declared.open_error.OpenError.TheVariants as unread
 
@@ -22,14 +22,14 @@ address_of number = record { zone = number / 4294967296 % 65536; net = number / 
 
 -- The folder belonged to this system or to no system, and now belongs to this system.
 pub record IsOurs (own : Address) (old new : Folder) : Type 0 where
-  pub owner : new.told.mark.owner ≡ number_of own
-  pub kept : old.told.mark.owner ≢ 0 → new ≡ old
+  pub owner : new.recorded.mark.owner ≡ number_of own
+  pub kept : old.recorded.mark.owner ≢ 0 → new ≡ old
 
 -- The mark belongs to another system, the one with this address.
 pub record IsMarkOfOther (own : Address) (mark : FolderIdentity) (address : Address) : Type 0 where
   pub claimed : mark.owner ≢ 0
   pub other : mark.owner ≢ number_of own
-  pub told : address ≡ address_of mark.owner
+  pub recorded : address ≡ address_of mark.owner
 
 -- The refusal names this other owner.
 abbrev pub IsOtherOwner : Address → FolderIdentity → OpenError → Type 0
@@ -44,13 +44,13 @@ pub record SameKey (old new : FolderIdentity) : Type 0 where
 -- Without messages the folder has this key, unless its log already named this system.
 abbrev pub HasGivenKey : Address → ℕ → ℕ → Folder → Type 0
 HasGivenKey own first second folder = folder.keys ≡ 0
-    → (folder.told.mark ≡ record { owner = number_of own; first = first; second = second }) ⊎ (folder.end.told.mark.owner ≡ number_of own)
+    → (folder.recorded.mark ≡ record { owner = number_of own; first = first; second = second }) ⊎ (folder.end.recorded.mark.owner ≡ number_of own)
 
 -- The log gives another system as owner of the folder, the one with this address.
 pub record IsOfOther (own : Address) (strange : Bool) (path : List ℕ) (files : Files) (address : Address) : Type 0 where
-  pub told : CommitRecord
-  pub log : IsToldBy strange (bytes_in (files (log_of path))) told
-  pub mark : IsMarkOfOther own told.mark address
+  pub recorded : CommitRecord
+  pub log : IsRecordedBy strange (bytes_in (files (log_of path))) recorded
+  pub mark : IsMarkOfOther own recorded.mark address
 
 -- The call changed nothing if the fault is another owner, no base folder, or one cut short.
 abbrev pub IsLeftAlone : DiskState → DiskState → OpenError → Type 0

@@ -5,7 +5,7 @@ use Rattle.base_log.specs.Moments.{KeepsOutside}
 use Rattle.disk_io.specs.Disk.{DiskState, Honestly}
 use Rattle.disk_io.specs.Runs.{LeavesOnly}
 use Rattle.echo_addr.specs.declared.address.Address.{Address}
-use Rattle.base_folder_store.specs.Held.{HoldsBase, StandsForBase, StandsForBaseOrWasLeft}
+use Rattle.base_folder_store.specs.Held.{HoldsBase, RepresentsBase, RepresentsBaseOrWasLeft}
 use Rattle.base_folder_store.specs.Opened.{committed_by, held_by, path_of}
 use Rattle.base_folder_store.specs.State.{IsUsable}
 use Rattle.base_folder_store.specs.declared.folder.Folder.{Folder}
@@ -22,12 +22,12 @@ pub record HasOpened (keyed : ℕ → ℕ → List ℕ → ℕ) (disk : DiskStat
 
 -- Opening a folder: a crash leaves the same base, or files that it might have left before. The rest of the disk is unchanged.
 pub record OpensOnly (path : List ℕ) (old new : DiskState) : Type 0 where
-  pub any_moment : Honestly new ((keyed : ℕ → ℕ → List ℕ → ℕ) (base : Base) → StandsForBase keyed path base old.seen → LeavesOnly old new (StandsForBaseOrWasLeft keyed path old base))
+  pub any_moment : Honestly new ((keyed : ℕ → ℕ → List ℕ → ℕ) (base : Base) → RepresentsBase keyed path base old.seen → LeavesOnly old new (RepresentsBaseOrWasLeft keyed path old base))
   pub outside : KeepsOutside path old new
 
 -- The folder at this path is open, belongs to this system, and has this key if the system drew it.
 pub record IsOpenedFor (at : List ℕ) (own : Address) (first second : ℕ) (disk : DiskState) (folder : Folder) : Type 0 where
   pub usable : IsUsable disk folder
   pub path : path_of folder ≡ at
-  pub ours : folder.told.mark.owner ≡ number_of own
+  pub ours : folder.recorded.mark.owner ≡ number_of own
   pub drawn : HasGivenKey own first second folder

@@ -12,7 +12,7 @@ use Rattle.base_store.specs.Keys.{place_behind}
 -- or its cursor is after the last one. Or more than a closed gate and a record follow.
 abbrev pub is_no_log : ℕ → End → Bool
 is_no_log size end =
-    nat_lt 9 end.told.number || (not (end.told.keys % 16 == 0) || (nat_lt (end.told.keys / 16) end.told.cursor || nat_lt (end.gate + 51) size))
+    nat_lt 9 end.recorded.number || (not (end.recorded.keys % 16 == 0) || (nat_lt (end.recorded.keys / 16) end.recorded.cursor || nat_lt (end.gate + 51) size))
 
 -- It is such a log, or it has no record and the folder has files that no base folder has.
 abbrev pub is_foreign : Bool → ℕ → End → Bool
@@ -34,10 +34,10 @@ pub record IsFolderLog (strange : Bool) (log : List ℕ) (end : End) : Type 0 wh
   pub own : is_foreign strange (length log) end ≡ false
 
 -- The same, and this is its last record.
-pub record IsToldBy (strange : Bool) (bytes : List ℕ) (told : CommitRecord) : Type 0 where
+pub record IsRecordedBy (strange : Bool) (bytes : List ℕ) (recorded : CommitRecord) : Type 0 where
   pub end : End
   pub log : IsFolderLog strange bytes end
-  pub is : end.told ≡ told
+  pub is : end.recorded ≡ recorded
 
 -- Of all messages that the log counts, exactly the first n end within the existing bytes.
 pub record AreWhole (keys : List ℕ) (all there n : ℕ) : Type 0 where
@@ -50,7 +50,7 @@ pub record IsCutShort (strange : Bool) (path : List ℕ) (files : Files) (n : �
   pub end : End
   pub log : IsFolderLog strange (bytes_in (files (log_of path))) end
   pub broken : IsBroken path files
-  pub whole : AreWhole (take end.told.keys (bytes_in (files (keys_of path end.told.number)))) end.told.messages (length (bytes_in (files (messages_of path end.told.number)))) n
+  pub whole : AreWhole (take end.recorded.keys (bytes_in (files (keys_of path end.recorded.number)))) end.recorded.messages (length (bytes_in (files (messages_of path end.recorded.number)))) n
 
 -- The folder has no such fault.
 pub record IsSound (strange : Bool) (path : List ℕ) (files : Files) : Type 0 where

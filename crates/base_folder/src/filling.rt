@@ -8,11 +8,11 @@ ghost use Rattle.base_log.specs.Opening.{AreAlone};
 ghost use Rattle.echo_filed.specs.Filed.{Filed as TheMessage};
 ghost use Rattle.base_folder_store.specs.Added.{HasRoomFor};
 ghost use Rattle.base_folder_store.specs.Answers.{HasReadCause};
-ghost use Rattle.base_folder_store.specs.Held.{HoldsBase, StandsForBase};
+ghost use Rattle.base_folder_store.specs.Held.{HoldsBase, RepresentsBase};
 ghost use Rattle.base_folder_store.specs.Opened.{committed_by, held_by, path_of};
 ghost use Rattle.base_folder_store.specs.Owned.{with_mark};
 ghost use Rattle.base_folder_store.specs.State.{IsUsable};
-ghost use Rattle.base_folder.specs.Filled.{AddsOnly, HasFillCause, HasUnfilledCause, HoldsFront, HoldsMore, IsFilledFull, IsKept, IsUnfilled, ReadsFor, ShowsBase, StandsForOneOf, StandsForOneOfOrWasLeft, no_messages};
+ghost use Rattle.base_folder.specs.Filled.{AddsOnly, HasFillCause, HasUnfilledCause, HoldsFront, HoldsMore, IsFilledFull, IsKept, IsUnfilled, ReadsFor, ShowsBase, RepresentsOneOf, RepresentsOneOfOrWasLeft, no_messages};
 ghost use Rattle.base_folder.specs.Ours.{SameKey};
 
 use crate::as_file::fault_of;
@@ -152,7 +152,7 @@ fn fill_opened<D: Disk, H: Digest, M: MessageSource>(
     ensures any_moment { Honestly (D.state disk.new) ((M.state messages.new).is_honest → (first base : Base) → (M.state messages.old).holds base
         → HoldsBase H.keyed (committed_by (D.state disk.old) folder.old) first
         → HoldsFront H.keyed (held_by (D.state disk.old) folder.old) base.messages 0 0
-        → LeavesOnly (D.state disk.old) (D.state disk.new) (StandsForOneOf H.keyed (path_of folder.old) (D.state disk.old) first base)) }
+        → LeavesOnly (D.state disk.old) (D.state disk.new) (RepresentsOneOf H.keyed (path_of folder.old) (D.state disk.old) first base)) }
     ensures outside { KeepsOutside (path_of folder.old) (D.state disk.old) (D.state disk.new) }
     ensures reads { ReadsFor (M.state messages.old) (M.state messages.new) result }
     ensures cause { HasFillCause (D.failures disk.old) (D.failures disk.new) result }
@@ -167,9 +167,9 @@ fn fill_opened<D: Disk, H: Digest, M: MessageSource>(
 
 // Gives the key of these two halves to a folder that has none and no message.
 fn give_key(folder: &mut Folder, first: u64, second: u64)
-    ensures only { folder.new ≡ with_mark folder.old folder.new.told.mark }
-    ensures key { 0 < folder.old.keys → SameKey folder.old.told.mark folder.new.told.mark }
-    ensures kept { folder.old.told.mark.owner ≢ 0 → folder.new ≡ folder.old }
+    ensures only { folder.new ≡ with_mark folder.old folder.new.recorded.mark }
+    ensures key { 0 < folder.old.keys → SameKey folder.old.recorded.mark folder.new.recorded.mark }
+    ensures kept { folder.old.recorded.mark.owner ≢ 0 → folder.new ≡ folder.old }
 {
     let owner = 0;
     let _given = folder.claim(FolderIdentity {
@@ -197,13 +197,13 @@ pub fn fill<D: Disk, H: Digest, M: MessageSource>(
 
     // The folder's disk was honest, and so was the source of the messages, which may be another disk.
     ensures filled { Honestly (D.state disk.new) ((M.state messages.new).is_honest → (base : Base) → (M.state messages.old).holds base
-        → StandsForBase H.keyed path.now no_messages (D.state disk.old).seen
+        → RepresentsBase H.keyed path.now no_messages (D.state disk.old).seen
         → OnOk result (IsKept H.keyed path.now (D.state disk.new) base)) }
 
     // A crash at any time leaves no message or all of the base, or what a crash might have left before.
     ensures any_moment { Honestly (D.state disk.new) ((M.state messages.new).is_honest → (base : Base) → (M.state messages.old).holds base
-        → StandsForBase H.keyed path.now no_messages (D.state disk.old).seen
-        → LeavesOnly (D.state disk.old) (D.state disk.new) (StandsForOneOfOrWasLeft H.keyed path.now (D.state disk.old) no_messages base)) }
+        → RepresentsBase H.keyed path.now no_messages (D.state disk.old).seen
+        → LeavesOnly (D.state disk.old) (D.state disk.new) (RepresentsOneOfOrWasLeft H.keyed path.now (D.state disk.old) no_messages base)) }
     ensures outside { KeepsOutside path.now (D.state disk.old) (D.state disk.new) }
     ensures wrong { Honestly (D.state disk.new) (IfErr result (IsUnfilled strange path.now (D.state disk.old).seen)) }
 
@@ -211,7 +211,7 @@ pub fn fill<D: Disk, H: Digest, M: MessageSource>(
     ensures reads { ReadsFor (M.state messages.old) (M.state messages.new) result }
     ensures cause { HasUnfilledCause (D.failures disk.old) (D.failures disk.new) result }
     ensures many { Honestly (D.state disk.new) ((M.state messages.new).is_honest → (base : Base) → (M.state messages.old).holds base
-        → StandsForBase H.keyed path.now no_messages (D.state disk.old).seen
+        → RepresentsBase H.keyed path.now no_messages (D.state disk.old).seen
         → IsErrOf result (UnfilledFolder.Folder (OpenError.Wrong BaseFault.TooMany)) → IsFilledFull D.state H.keyed path.now base) }
 {
     let mut folder = open_base(alloc, disk, path, strange)?;

@@ -4,7 +4,7 @@ ghost use Rattle.disk_io.specs.Disk.{Honestly, bytes_in};
 ghost use Rattle.disk_io.specs.Runs.{ChangesNothing, HasCause};
 ghost use Rattle.base_log.specs.Names.{keys_of, log_of, messages_of};
 ghost use Rattle.base_log.specs.Reading.{IsLogIn, IsRead};
-ghost use Rattle.base_log.specs.Standing.{StandsFor, base_at};
+ghost use Rattle.base_log.specs.Standing.{Represents, base_at};
 ghost use Rattle.base_folder.specs.OpenError.{HasUnreadCause, IsWrong};
 ghost use Rattle.base_folder.specs.Wrong.{AreWhole, IsFolderLog, is_foreign, is_no_log};
 
@@ -52,10 +52,10 @@ fn is_no_log(size: usize, end: End) -> bool
     requires { end.gate ≤ size }
     ensures { result ≡ is_no_log size end }
 {
-    let told = end.told;
-    told.number > GREATEST
-        || told.keys % ENTRY != 0
-        || told.cursor > (told.keys / ENTRY) as u64
+    let recorded = end.recorded;
+    recorded.number > GREATEST
+        || recorded.keys % ENTRY != 0
+        || recorded.cursor > (recorded.keys / ENTRY) as u64
         || size - end.gate > LEFT_BEHIND
 }
 
@@ -85,18 +85,18 @@ fn whole_of<D: Disk>(
     alloc: Global,
     disk: &mut D,
     path: &[u8],
-    told: CommitRecord,
+    recorded: CommitRecord,
 ) -> Result<u64, DiskError>
-    requires { told.number < 10 }
-    ensures whole { Honestly (D.state disk.new) (IfOk result (AreWhole (take told.keys (bytes_in ((D.state disk.old).seen (keys_of path.now told.number))))
-        told.messages (length (bytes_in ((D.state disk.old).seen (messages_of path.now told.number)))))) }
+    requires { recorded.number < 10 }
+    ensures whole { Honestly (D.state disk.new) (IfOk result (AreWhole (take recorded.keys (bytes_in ((D.state disk.old).seen (keys_of path.now recorded.number))))
+        recorded.messages (length (bytes_in ((D.state disk.old).seen (messages_of path.now recorded.number)))))) }
     ensures quiet { ChangesNothing (D.state disk.old) (D.state disk.new) }
     ensures cause { HasCause (D.failures disk.old) (D.failures disk.new) result }
 {
-    let names = Names::new(alloc, path, told.number)?;
+    let names = Names::new(alloc, path, recorded.number)?;
     let there = len_of(disk, &names.messages)?;
-    let keys = part_of(alloc, disk, &names.keys, 0, told.keys)?;
-    Ok(whole_in(&keys, told.messages, there))
+    let keys = part_of(alloc, disk, &names.keys, 0, recorded.keys)?;
+    Ok(whole_in(&keys, recorded.messages, there))
 }
 
 /// Whether the files of the folder with this log hold a base. `strange` says that the folder has foreign files.
@@ -110,9 +110,9 @@ pub(crate) fn judge_by<D: Disk>(
     requires log { Honestly (D.state disk.old) (IsLogIn path.now (D.state disk.old).seen log.now) }
     requires read { IsRead log.now }
     requires within { log.now.end.gate ≤ length log.now.bytes.items }
-    ensures digit { OnOk result (log.now.end.told.number < 10) }
+    ensures digit { OnOk result (log.now.end.recorded.number < 10) }
     ensures folder { OnOk result (IsFolderLog strange log.now.bytes.items log.now.end) }
-    ensures stands { Honestly (D.state disk.new) (OnOk result (StandsFor path.now (base_at (D.state disk.old) path.now log.now.end.told) (D.state disk.old).seen)) }
+    ensures represented { Honestly (D.state disk.new) (OnOk result (Represents path.now (base_at (D.state disk.old) path.now log.now.end.recorded) (D.state disk.old).seen)) }
     ensures wrong { Honestly (D.state disk.new) (IfErr result (IsWrong strange path.now (D.state disk.old).seen)) }
     ensures quiet { ChangesNothing (D.state disk.old) (D.state disk.new) }
     ensures cause { HasUnreadCause (D.failures disk.old) (D.failures disk.new) result }
@@ -124,7 +124,7 @@ pub(crate) fn judge_by<D: Disk>(
         Ok(()) => Ok(()),
         Err(FolderError::Lost) => Err(OpenError::Wrong(BaseFault::NotBase)),
         Err(FolderError::Corrupt) => {
-            let messages = whole_of(alloc, disk, path, log.end.told)?;
+            let messages = whole_of(alloc, disk, path, log.end.recorded)?;
             Err(OpenError::Wrong(BaseFault::Truncated { messages }))
         }
         Err(FolderError::Memory) => Err(OpenError::Memory),
@@ -141,9 +141,9 @@ pub(crate) fn judged<D: Disk>(
 ) -> Result<Log, OpenError>
     ensures log { Honestly (D.state disk.new) (IfOk result (IsLogIn path.now (D.state disk.old).seen)) }
     ensures read { IfOk result IsRead }
-    ensures digit { IfOk result (λ log. log.end.told.number < 10) }
+    ensures digit { IfOk result (λ log. log.end.recorded.number < 10) }
     ensures folder { Honestly (D.state disk.new) (IfOk result (λ log. IsFolderLog strange (bytes_in ((D.state disk.old).seen (log_of path.now))) log.end)) }
-    ensures stands { Honestly (D.state disk.new) (IfOk result (λ log. StandsFor path.now (base_at (D.state disk.old) path.now log.end.told) (D.state disk.old).seen)) }
+    ensures represented { Honestly (D.state disk.new) (IfOk result (λ log. Represents path.now (base_at (D.state disk.old) path.now log.end.recorded) (D.state disk.old).seen)) }
     ensures wrong { Honestly (D.state disk.new) (IfErr result (IsWrong strange path.now (D.state disk.old).seen)) }
     ensures quiet { ChangesNothing (D.state disk.old) (D.state disk.new) }
     ensures cause { HasUnreadCause (D.failures disk.old) (D.failures disk.new) result }

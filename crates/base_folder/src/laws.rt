@@ -2,7 +2,7 @@
 ghost use Rattle.std.specs.Prelude.{ℕ, List, [], false};
 ghost use Rattle.echo_addr.specs.declared.address.Address.{Address};
 ghost use Rattle.disk_io.specs.Disk.{Files};
-ghost use Rattle.base_folder_store.specs.Held.{StandsForBase};
+ghost use Rattle.base_folder_store.specs.Held.{RepresentsBase};
 ghost use Rattle.base_folder.specs.Ours.{IsOfOther};
 ghost use Rattle.base_folder.specs.Unopened.{HaveRoom};
 ghost use Rattle.base_folder.specs.Wrong.{HasNoFiles, IsSound};
@@ -10,7 +10,7 @@ ghost use Rattle.base_folder.specs.Wrong.{HasNoFiles, IsSound};
 /// A folder without files is a base folder with no message and no owner.
 pub fn an_empty_folder_is_an_empty_base()
     ensures base { (keyed : ℕ → ℕ → List ℕ → ℕ) (path : List ℕ) (files : Files) → HaveRoom keyed → HasNoFiles path files
-        → StandsForBase keyed path (record { messages = []; cursor = 0 }) files }
+        → RepresentsBase keyed path (record { messages = []; cursor = 0 }) files }
     ensures sound { (path : List ℕ) (files : Files) → HasNoFiles path files → IsSound false path files }
     ensures nobody { (own address : Address) (path : List ℕ) (files : Files) → HasNoFiles path files → IsOfOther own false path files address → ⊥ }
 {}

@@ -3,7 +3,7 @@ ghost use Rattle.std.specs.Prelude.{◌≡◌, ◌++◌, ℕ, List, length, take
 ghost use Rattle.disk_io.specs.Disk.{Honestly};
 ghost use Rattle.disk_io.specs.Runs.{ChangesNothing};
 ghost use Rattle.base_log.specs.Reading.{IsLogIn};
-ghost use Rattle.base_log.specs.Standing.{BaseBytes, StandsFor, base_at};
+ghost use Rattle.base_log.specs.Standing.{BaseBytes, Represents, base_at};
 ghost use Rattle.base_folder_store.specs.Opened.{held_by};
 ghost use Rattle.base_folder_store.specs.Vouched.{IsLookedAt};
 ghost use Rattle.base_folder.specs.Looked.{AreVouched, GoesOn, HasLogs, IsReadWhole, IsUnseen};
@@ -50,7 +50,7 @@ pub fn look<D: Disk, H: Digest, P: ReadingProgress>(
     first: u64,
     progress: &P,
 ) -> Result<LookedFolder, OpenError>
-    ensures found { Honestly (D.state disk.new) ((base : BaseBytes) → StandsFor path.now base (D.state disk.old).seen
+    ensures found { Honestly (D.state disk.new) ((base : BaseBytes) → Represents path.now base (D.state disk.old).seen
         → IfOk result (λ looked. held_by (D.state disk.new) looked.folder ≡ base)) }
     ensures ready { IfOk result (λ looked. IsLookedAt (D.state disk.new) looked.folder) }
     ensures vouched { Honestly (D.state disk.new) (IfOk result (λ looked. AreVouched H.keyed (D.state disk.new) first looked.folder)) }
@@ -80,7 +80,7 @@ fn look_once<D: Disk, H: Digest, P: ReadingProgress>(
     progress: &P,
 ) -> Result<Option<LookedFolder>, OpenError>
     ensures some { Honestly (D.state disk.new) (IfOk result IsSome) }
-    ensures found { Honestly (D.state disk.new) ((base : BaseBytes) → StandsFor path.now base (D.state disk.old).seen
+    ensures found { Honestly (D.state disk.new) ((base : BaseBytes) → Represents path.now base (D.state disk.old).seen
         → IfOk result (λ looked. IfSome looked (λ l. held_by (D.state disk.new) l.folder ≡ base))) }
     ensures seen { IfOk result (λ looked. IfSome looked (λ l. IsLookedAt (D.state disk.new) l.folder × Honestly (D.state disk.new) (AreVouched H.keyed (D.state disk.new) first l.folder))) }
     ensures steady { IfOk result (λ looked. IfSome looked (λ l. GoesOn l.log.items l.reread.items)) }
@@ -141,7 +141,7 @@ fn goes_on(before: &Log, after: &Log) -> bool
     if !begins_with(&after.bytes, &before.bytes[..first]) {
         return false;
     }
-    name_only(&after.bytes[first..last], before.end.told.number)
+    name_only(&after.bytes[first..last], before.end.recorded.number)
 }
 
 // Whether each of the records names the files of this number.
@@ -168,7 +168,7 @@ fn folder_by<D: Disk, H: Digest, P: ReadingProgress>(
 ) -> Result<Folder, OpenError>
     requires log { Honestly (D.state disk.old) (IsLogIn path.now (D.state disk.old).seen log.now) }
     requires read { IsReadWhole log.now }
-    ensures bytes { IfOk result (λ folder. held_by (D.state disk.new) folder ≡ base_at (D.state disk.old) path.now log.now.end.told) }
+    ensures bytes { IfOk result (λ folder. held_by (D.state disk.new) folder ≡ base_at (D.state disk.old) path.now log.now.end.recorded) }
     ensures ready { IfOk result (IsLookedAt (D.state disk.new)) }
     ensures vouched { Honestly (D.state disk.new) (IfOk result (AreVouched H.keyed (D.state disk.new) first)) }
     ensures sound { Honestly (D.state disk.new) (OnOk result (IsSound strange path.now (D.state disk.old).seen)) }

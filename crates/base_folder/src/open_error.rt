@@ -1,5 +1,5 @@
 //! Why a base folder is not read or opened.
-ghost use Rattle.base_folder.specs.OpenError.{IsToldAs};
+ghost use Rattle.base_folder.specs.OpenError.{IsReportedAs};
 
 use base_file::BaseFault;
 use cmd_status::Fault;
@@ -67,7 +67,7 @@ impl<T: Drop> From<AllocFailed<T>> for OpenError {
 impl OpenError {
     /// The report for the base with this path.
     pub fn fault<'a>(self, base: &'a str) -> Fault<'a>
-        ensures { IsToldAs base.now self result }
+        ensures { IsReportedAs base.now self result }
     {
         match self {
             OpenError::Memory => Fault::OutOfMemory,

@@ -4,7 +4,7 @@ ghost use Rattle.base_file.specs.Base.{Base};
 ghost use Rattle.disk_io.specs.Disk.{Honestly};
 ghost use Rattle.echo_addr.specs.declared.address.Address.{Address};
 ghost use Rattle.base_log.specs.Opening.{AreAlone};
-ghost use Rattle.base_folder_store.specs.Held.{HoldsBase, StandsForBase};
+ghost use Rattle.base_folder_store.specs.Held.{HoldsBase, RepresentsBase};
 ghost use Rattle.base_folder_store.specs.Opened.{IsFresh, IsOpen, held_by};
 ghost use Rattle.base_folder.specs.Ours.{IsLeftAlone, IsNotOurs, IsOfOther};
 ghost use Rattle.base_folder.specs.Unopened.{HasOpened, HaveRoom, IsOpenedFor, OpensOnly};
@@ -32,7 +32,7 @@ pub fn open_base<D: Disk>(
     requires { Honestly (D.state disk.old) (AreAlone path.now (D.state disk.old)) }
     ensures opened { Honestly (D.state disk.new) (IfOk result (IsOpen (D.state disk.new))) }
     ensures fresh { IfOk result (IsFresh path.now) }
-    ensures same { Honestly (D.state disk.new) ((keyed : ℕ → ℕ → List ℕ → ℕ) (base : Base) → StandsForBase keyed path.now base (D.state disk.old).seen
+    ensures same { Honestly (D.state disk.new) ((keyed : ℕ → ℕ → List ℕ → ℕ) (base : Base) → RepresentsBase keyed path.now base (D.state disk.old).seen
         → IfOk result (λ folder. HoldsBase keyed (held_by (D.state disk.new) folder) base)) }
     ensures run { OpensOnly path.now (D.state disk.old) (D.state disk.new) }
     ensures sound { Honestly (D.state disk.new) (OnOk result (IsSound strange path.now (D.state disk.old).seen)) }
@@ -59,7 +59,7 @@ pub fn open_own<D: Disk>(
 ) -> Result<Folder, OpenError>
     requires { Honestly (D.state disk.old) (AreAlone path.now (D.state disk.old)) }
     ensures own { IfOk result (IsOpenedFor path.now own key.0 key.1 (D.state disk.new)) }
-    ensures same { Honestly (D.state disk.new) ((keyed : ℕ → ℕ → List ℕ → ℕ) (base : Base) → HaveRoom keyed → StandsForBase keyed path.now base (D.state disk.old).seen
+    ensures same { Honestly (D.state disk.new) ((keyed : ℕ → ℕ → List ℕ → ℕ) (base : Base) → HaveRoom keyed → RepresentsBase keyed path.now base (D.state disk.old).seen
         → IfOk result (HasOpened keyed (D.state disk.new) base)) }
     ensures run { OpensOnly path.now (D.state disk.old) (D.state disk.new) }
     ensures sound { Honestly (D.state disk.new) (OnOk result (IsSound strange path.now (D.state disk.old).seen)) }
@@ -71,7 +71,7 @@ pub fn open_own<D: Disk>(
     ensures cause { HasUnreadCause (D.failures disk.old) (D.failures disk.new) result }
 {
     let log = judged(alloc, disk, path, strange)?;
-    judge_owner(log.end.told.mark, own)?;
+    judge_owner(log.end.recorded.mark, own)?;
     let mut folder = Folder::open(alloc, disk, path, &log)?;
     claim_for(&mut folder, own, key.0, key.1);
     Ok(folder)

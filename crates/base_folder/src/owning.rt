@@ -11,7 +11,7 @@ use echo_addr::Address;
 /// The number of a system in a folder: sixteen bits each of zone, net and node.
 pub fn number_of(own: Address) -> u64
     ensures number { result ≡ number_of own }
-    ensures told { address_of result ≡ own }
+    ensures recorded { address_of result ≡ own }
 {
     own.zone as u64 * 0x1_0000_0000 + own.net as u64 * 0x1_0000 + own.node as u64
 }
@@ -42,11 +42,11 @@ pub fn judge_owner(mark: FolderIdentity, own: Address) -> Result<(), OpenError>
 /// Claims the folder for this system if it has no owner, and keeps that from the next commit on. A folder without
 /// messages also gets the key of these two halves.
 pub(crate) fn claim_for(folder: &mut Folder, own: Address, first: u64, second: u64)
-    requires { (folder.old.told.mark.owner ≡ 0) ⊎ (folder.old.told.mark.owner ≡ number_of own) }
+    requires { (folder.old.recorded.mark.owner ≡ 0) ⊎ (folder.old.recorded.mark.owner ≡ number_of own) }
     ensures ours { IsOurs own folder.old folder.new }
-    ensures only { folder.new ≡ with_mark folder.old folder.new.told.mark }
-    ensures key { 0 < folder.old.keys → SameKey folder.old.told.mark folder.new.told.mark }
-    ensures drawn { IsUnclaimed folder.old → folder.new.told.mark ≡ record { owner = number_of own; first = first; second = second } }
+    ensures only { folder.new ≡ with_mark folder.old folder.new.recorded.mark }
+    ensures key { 0 < folder.old.keys → SameKey folder.old.recorded.mark folder.new.recorded.mark }
+    ensures drawn { IsUnclaimed folder.old → folder.new.recorded.mark ≡ record { owner = number_of own; first = first; second = second } }
 {
     let owner = number_of(own);
     if folder.owner().is_some() {

@@ -2,7 +2,7 @@
 ghost use Rattle.std.specs.Prelude.{◌≡◌, ◌⊎◌, IfErr, IfOk, Some};
 ghost use Rattle.disk_io.specs.Disk.{Honestly};
 ghost use Rattle.base_file.specs.Base as model;
-ghost use Rattle.base_folder_store.specs.Held.{HoldsBase, StandsForBase};
+ghost use Rattle.base_folder_store.specs.Held.{HoldsBase, RepresentsBase};
 ghost use Rattle.base_folder_store.specs.Opened.{held_by};
 ghost use Rattle.base_folder_store.specs.Vouched.{IsLookedAt};
 ghost use Rattle.cmd_status.specs.Ended.{IsOutOfMemory};
@@ -123,7 +123,7 @@ pub fn read_folder<D: Disk + Drop, H: Digest, P: ReadingProgress>(
     progress: &P,
 ) -> Result<FolderReader<D, H>, OpenError>
     ensures ready { IfOk result (λ messages. (⟦<FolderReader<D, H> as MessageSource>⟧.state messages).is_ready) }
-    ensures holds { IfOk result (λ messages. Honestly (D.state messages.disk) ((base : model.Base) → StandsForBase H.keyed path.now base (D.state disk).seen
+    ensures holds { IfOk result (λ messages. Honestly (D.state messages.disk) ((base : model.Base) → RepresentsBase H.keyed path.now base (D.state disk).seen
         → (⟦<FolderReader<D, H> as MessageSource>⟧.state messages).holds base)) }
 {
     let mut disk = disk;

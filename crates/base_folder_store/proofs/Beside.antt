@@ -8,82 +8,82 @@ use Rattle.base_log.specs.Standing.{BaseBytes, base_at}
 use Rattle.base_log.specs.declared.log.CommitRecord.{CommitRecord}
 use Rattle.base_log.proofs.Paths.{keys_not_messages, keys_of-injective, messages_not_keys, messages_of-injective}
 use Rattle.base_file.specs.Base.{Base}
-use Rattle.base_store.specs.Keys.{StandWhereTold}
-use Rattle.base_folder_store.specs.Added.{SameBesideBoth}
+use Rattle.base_store.specs.Keys.{AreWhereRecorded}
+use Rattle.base_folder_store.specs.Added.{SameOthersThanBoth}
 use Rattle.base_folder_store.specs.Held.{HoldsBase}
-use Rattle.base_folder_store.specs.Left.{IsBesideIn, IsReadable}
+use Rattle.base_folder_store.specs.Left.{IsStagedIn, IsReadable}
 use Rattle.base_folder_store.specs.Opened.{IsOpen, IsWritten, committed_by, held_by, path_of}
 use Rattle.base_folder_store.specs.declared.folder.Folder.{Folder}
-use Rattle.base_folder_store.proofs.Bases.{told_where}
+use Rattle.base_folder_store.proofs.Bases.{recorded_where}
 use Rattle.base_folder_store.proofs.Legible.{keys_all, legible_open, legible_same}
 use Rattle.base_folder_store.proofs.Staged.{committed_staged}
 use Rattle.base_folder_store.proofs.Waits.{written_held}
 
 -- the committed base is the same
-pub committed_beside : (d : DiskState) (f g : Folder) → IsBesideIn f g → committed_by d g ≡ committed_by d f
-committed_beside d f g beside = λ i. base_at d (beside.path i) (beside.end i).told
+pub committed_others : (d : DiskState) (f g : Folder) → IsStagedIn f g → committed_by d g ≡ committed_by d f
+committed_others d f g others = λ i. base_at d (others.path i) (others.end i).recorded
 
 -- a folder with unchanged files remains readable
-readable_same : (d e : DiskState) (f : Folder) → e.seen (messages_of (path_of f) f.end.told.number) ≡ d.seen (messages_of (path_of f) f.end.told.number)
-    → e.seen (keys_of (path_of f) f.end.told.number) ≡ d.seen (keys_of (path_of f) f.end.told.number) → IsReadable d f → IsReadable e f
+readable_same : (d e : DiskState) (f : Folder) → e.seen (messages_of (path_of f) f.end.recorded.number) ≡ d.seen (messages_of (path_of f) f.end.recorded.number)
+    → e.seen (keys_of (path_of f) f.end.recorded.number) ≡ d.seen (keys_of (path_of f) f.end.recorded.number) → IsReadable d f → IsReadable e f
 readable_same d e f messages keys was = record {
-  legible = legible_same d e f (subst (λ (t : CommitRecord). e.seen (messages_of (path_of f) t.number) ≡ d.seen (messages_of (path_of f) t.number)) was.told messages)
-      (subst (λ (t : CommitRecord). e.seen (keys_of (path_of f) t.number) ≡ d.seen (keys_of (path_of f) t.number)) was.told keys) was.legible;
-  told = was.told;
+  legible = legible_same d e f (subst (λ (t : CommitRecord). e.seen (messages_of (path_of f) t.number) ≡ d.seen (messages_of (path_of f) t.number)) was.recorded messages)
+      (subst (λ (t : CommitRecord). e.seen (keys_of (path_of f) t.number) ≡ d.seen (keys_of (path_of f) t.number)) was.recorded keys) was.legible;
+  recorded = was.recorded;
   written = was.written;
 }
 
 pub readable_quiet : (d e : DiskState) (f : Folder) → ChangesNothing d e → IsReadable d f → IsReadable e f
-readable_quiet d e f quiet was = readable_same d e f (quiet.seen (messages_of (path_of f) f.end.told.number)) (quiet.seen (keys_of (path_of f) f.end.told.number)) was
+readable_quiet d e f quiet was = readable_same d e f (quiet.seen (messages_of (path_of f) f.end.recorded.number)) (quiet.seen (keys_of (path_of f) f.end.recorded.number)) was
 
 -- the files of another number are others
-pub readable_beside : (d e : DiskState) (f g : Folder) → IsBesideIn f g → SameBesideBoth (path_of g) g.told.number d.seen e.seen → IsReadable d f → IsReadable e f
-readable_beside d e f g beside same was =
-    let n = f.end.told.number in
-    let number = g.told.number in
+pub readable_others : (d e : DiskState) (f g : Folder) → IsStagedIn f g → SameOthersThanBoth (path_of g) g.recorded.number d.seen e.seen → IsReadable d f → IsReadable e f
+readable_others d e f g others same was =
+    let n = f.end.recorded.number in
+    let number = g.recorded.number in
     let m_m : messages_of (path_of f) n ≢ messages_of (path_of g) number =
-    λ is. beside.number (sym (messages_of-injective (path_of f) n number (is ∙ ap (λ (p : List ℕ). messages_of p number) beside.path))) in
-    let m_k : messages_of (path_of f) n ≢ keys_of (path_of g) number = λ is. messages_not_keys (path_of f) n number (is ∙ ap (λ (p : List ℕ). keys_of p number) beside.path) in
-    let k_m : keys_of (path_of f) n ≢ messages_of (path_of g) number = λ is. keys_not_messages (path_of f) n number (is ∙ ap (λ (p : List ℕ). messages_of p number) beside.path) in
+    λ is. others.number (sym (messages_of-injective (path_of f) n number (is ∙ ap (λ (p : List ℕ). messages_of p number) others.path))) in
+    let m_k : messages_of (path_of f) n ≢ keys_of (path_of g) number = λ is. messages_not_keys (path_of f) n number (is ∙ ap (λ (p : List ℕ). keys_of p number) others.path) in
+    let k_m : keys_of (path_of f) n ≢ messages_of (path_of g) number = λ is. keys_not_messages (path_of f) n number (is ∙ ap (λ (p : List ℕ). messages_of p number) others.path) in
     let k_k : keys_of (path_of f) n ≢ keys_of (path_of g) number =
-    λ is. beside.number (sym (keys_of-injective (path_of f) n number (is ∙ ap (λ (p : List ℕ). keys_of p number) beside.path))) in
+    λ is. others.number (sym (keys_of-injective (path_of f) n number (is ∙ ap (λ (p : List ℕ). keys_of p number) others.path))) in
     readable_same d e f (same (messages_of (path_of f) n) m_m m_k) (same (keys_of (path_of f) n) k_m k_k) was
 
 -- an open folder that was committed can be read
-pub rest_readable : (d : DiskState) (f : Folder) → IsOpen d f → f.end.told ≡ f.told → IsWritten f → IsReadable d f
-rest_readable d f opened told none = record { legible = legible_open d f opened; told = told; written = none }
+pub rest_readable : (d : DiskState) (f : Folder) → IsOpen d f → f.end.recorded ≡ f.recorded → IsWritten f → IsReadable d f
+rest_readable d f opened recorded none = record { legible = legible_open d f opened; recorded = recorded; written = none }
 
 -- a folder at rest is open
-pub rest_open : (d e : DiskState) (f : Folder) → IsOpen d f → IsAtRest e (path_of f) f.end → f.end.told ≡ f.told → IsOpen e f
-rest_open d e f opened rest told = record { names = opened.names; staged = committed_staged e (path_of f) f.end f.told rest told; keys = opened.keys }
+pub rest_open : (d e : DiskState) (f : Folder) → IsOpen d f → IsAtRest e (path_of f) f.end → f.end.recorded ≡ f.recorded → IsOpen e f
+rest_open d e f opened rest recorded = record { names = opened.names; staged = committed_staged e (path_of f) f.end f.recorded rest recorded; keys = opened.keys }
 
 -- the folder has the committed bytes
-pub rest_held : (d : DiskState) (f : Folder) → f.end.told ≡ f.told → IsWritten f → held_by d f ≡ committed_by d f
-rest_held d f told none = written_held d f none ∙ ap (λ (t : CommitRecord). base_at d (path_of f) t) (sym told)
+pub rest_held : (d : DiskState) (f : Folder) → f.end.recorded ≡ f.recorded → IsWritten f → held_by d f ≡ committed_by d f
+rest_held d f recorded none = written_held d f none ∙ ap (λ (t : CommitRecord). base_at d (path_of f) t) (sym recorded)
 
 pub readable_held : (d : DiskState) (f : Folder) → IsReadable d f → held_by d f ≡ committed_by d f
-readable_held d f readable = rest_held d f readable.told readable.written
+readable_held d f readable = rest_held d f readable.recorded readable.written
 
 -- each message is at the place in its entry
-pub told_readable : (keyed : ℕ → ℕ → List ℕ → ℕ) (d : DiskState) (f : Folder) (base : Base) → IsReadable d f → HoldsBase keyed (committed_by d f) base
-    → StandWhereTold base.messages (held_by d f).messages (held_by d f).keys
-told_readable keyed d f base readable holds =
-    told_where keyed (held_by d f) base (subst (λ (b : BaseBytes). HoldsBase keyed b base) (sym (readable_held d f readable)) holds)
+pub recorded_readable : (keyed : ℕ → ℕ → List ℕ → ℕ) (d : DiskState) (f : Folder) (base : Base) → IsReadable d f → HoldsBase keyed (committed_by d f) base
+    → AreWhereRecorded base.messages (held_by d f).messages (held_by d f).keys
+recorded_readable keyed d f base readable holds =
+    recorded_where keyed (held_by d f) base (subst (λ (b : BaseBytes). HoldsBase keyed b base) (sym (readable_held d f readable)) holds)
 
 -- there are as many messages as entries
 pub many_readable : (keyed : ℕ → ℕ → List ℕ → ℕ) (d : DiskState) (f : Folder) (base : Base) → IsReadable d f → HoldsBase keyed (committed_by d f) base → f.keys / 16 ≡ length base.messages
 many_readable keyed d f base readable holds =
-    let many = (told_readable keyed d f base readable holds).many in
+    let many = (recorded_readable keyed d f base readable holds).many in
     let long = keys_all d f readable.legible in
     omega (arith, many, long)
 
 -- with another cursor it is still open
-pub cursor_open : (d : DiskState) (f : Folder) (cursor : ℕ) → IsOpen d f → IsOpen d (record f { told = record f.told { cursor = cursor } })
+pub cursor_open : (d : DiskState) (f : Folder) (cursor : ℕ) → IsOpen d f → IsOpen d (record f { recorded = record f.recorded { cursor = cursor } })
 cursor_open d f cursor was = record {
   names = was.names;
   staged = record {
     log = was.staged.log;
-    stands = was.staged.stands;
+    represented = was.staged.represented;
     shown = was.staged.shown;
     digit = was.staged.digit;
     messages_there = was.staged.messages_there;

@@ -29,7 +29,7 @@ claimed_open d f mark was = record {
   names = was.names;
   staged = record {
     log = was.staged.log;
-    stands = was.staged.stands;
+    represented = was.staged.represented;
     shown = was.staged.shown;
     digit = was.staged.digit;
     messages_there = was.staged.messages_there;
@@ -49,7 +49,7 @@ pub claimed_holds : (keyed : ℕ → ℕ → List ℕ → ℕ) → ((first secon
     → HoldsBase keyed (held_by d f) base → HoldsBase keyed (held_by d (with_mark f mark)) base
 claimed_holds keyed fits d f mark base opened free holds =
     let files = holds.files in
-    let before = digest_by keyed f.told.mark in
+    let before = digest_by keyed f.recorded.mark in
     let after = digest_by keyed mark in
     let short : length (keys_from before 0 files.all) ≡ 0 = ap (λ (l : List ℕ). length l) (sym files.entries) ∙ keys_all d f (legible_open d f opened) ∙ free.keys in
     let none : files.all ≡ [] = no_entries before files.all short in

@@ -9,12 +9,12 @@ use Rattle.echo_filed.specs.Stored.{IsStored, Stored, after_length, last_bytes, 
 use Rattle.echo_filed.specs.declared.stored.Version.TheVariants.{Second}
 use Rattle.base_file.specs.Base.{Base}
 use Rattle.base_log.specs.Standing.{BaseBytes}
-use Rattle.base_store.specs.Keys.{HasBytesOf, StandWhereTold, place_at, place_behind}
+use Rattle.base_store.specs.Keys.{HasBytesOf, AreWhereRecorded, place_at, place_behind}
 use Rattle.base_folder_store.specs.Added.{LacksRoom, next_place, with_stored}
 use Rattle.base_folder_store.specs.Held.{HoldsBase}
 use Rattle.base_folder_store.specs.Left.{HoldsLeft, first_left}
 use Rattle.base_folder_store.specs.declared.folder.Folder.{Folder}
-use Rattle.base_folder_store.proofs.Bases.{told_where}
+use Rattle.base_folder_store.proofs.Bases.{recorded_where}
 use Rattle.base_folder_store.proofs.Stubbed.{first_many}
 
 fourth : (k : ℕ) (a b c d e : List ℕ) → length d ≤ length (k ∷ (a ++ (b ++ (c ++ (d ++ e)))))
@@ -46,17 +46,17 @@ reaches messages keys i s has =
     omega (arith, has.begins, ap (λ (l : List ℕ). length l) has.bytes, length-drop (place_at keys i) (take ends messages), length-take-le ends messages has.ends)
 
 -- one more purged message has no more bytes than before
-pub shorter_more : (base : List Filed) (was held now : BaseBytes) (place number : ℕ) (bytes : List ℕ) (s : Stored) → StandWhereTold base was.messages was.keys → HasBytesOf was.messages was.keys place s
+pub shorter_more : (base : List Filed) (was held now : BaseBytes) (place number : ℕ) (bytes : List ℕ) (s : Stored) → AreWhereRecorded base was.messages was.keys → HasBytesOf was.messages was.keys place s
     → length held.messages ≤ place_at was.keys place → length bytes ≤ length (stored_bytes Second s) → now ≡ with_stored held bytes number → place + 1 < length base → length now.messages ≤ place_at was.keys (place + 1)
-shorter_more base was held now place number bytes s told has less shorter staged within =
-    let inside : place + 1 < length was.keys / 16 = omega (arith, told.many, within) in
+shorter_more base was held now place number bytes s recorded has less shorter staged within =
+    let inside : place + 1 < length was.keys / 16 = omega (arith, recorded.many, within) in
     let next : place_behind was.messages was.keys place ≡ place_at was.keys (place + 1) =
     cond-true (nat_lt (place + 1) (length was.keys / 16)) (place_at was.keys (place + 1)) (length was.messages) (lt-ltb (place + 1) (length was.keys / 16) inside) in
     omega (arith, less, shorter, next, reaches was.messages was.keys place s has, ap (λ (b : BaseBytes). length b.messages) staged, length-append held.messages bytes)
 
 -- and there is room for it
 pub room_left : (keyed : ℕ → ℕ → List ℕ → ℕ) (base : Base) (was held : BaseBytes) (next : Folder) (place bytes : ℕ) (s : Stored) → HoldsBase keyed was base → HoldsLeft keyed base was place held → place < length base.messages
-    → HasBytesOf was.messages was.keys place s → bytes ≤ length (stored_bytes Second s) → length held.messages ≡ next_place next → length held.keys ≡ next.keys → next.keys ≡ next.told.keys + length next.waiting.keys.items
+    → HasBytesOf was.messages was.keys place s → bytes ≤ length (stored_bytes Second s) → length held.messages ≡ next_place next → length held.keys ≡ next.keys → next.keys ≡ next.recorded.keys + length next.waiting.keys.items
     → LacksRoom next bytes → ⊥
 room_left keyed base was held next place bytes s holds left within has shorter messages keys sum lacks =
     let behind = reaches was.messages was.keys place s has in
@@ -72,4 +72,4 @@ room_left keyed base was held next place bytes s holds left within has shorter m
     ]
   where
     first_keys : (keyed : ℕ → ℕ → List ℕ → ℕ) (base : Base) (held : BaseBytes) (place : ℕ) → place < length base.messages → HoldsBase keyed held (first_left base place) → length held.keys ≡ 16 * place
-    first_keys keyed base held place within holds = omega (arith, (told_where keyed held (first_left base place) holds).many, first_many base place within)
+    first_keys keyed base held place within holds = omega (arith, (recorded_where keyed held (first_left base place) holds).many, first_many base place within)

@@ -25,39 +25,39 @@ legible_open d f opened = record {
 }
 
 -- a folder with unchanged files remains readable
-pub legible_same : (d e : DiskState) (f : Folder) → e.seen (messages_of (path_of f) f.told.number) ≡ d.seen (messages_of (path_of f) f.told.number)
-    → e.seen (keys_of (path_of f) f.told.number) ≡ d.seen (keys_of (path_of f) f.told.number) → IsLegible d f → IsLegible e f
+pub legible_same : (d e : DiskState) (f : Folder) → e.seen (messages_of (path_of f) f.recorded.number) ≡ d.seen (messages_of (path_of f) f.recorded.number)
+    → e.seen (keys_of (path_of f) f.recorded.number) ≡ d.seen (keys_of (path_of f) f.recorded.number) → IsLegible d f → IsLegible e f
 legible_same d e f messages keys was = record {
   names = was.names;
   messages_there = subst (λ x. IsSome x) (sym messages) was.messages_there;
-  messages_long = subst (λ x. f.told.messages ≤ length (bytes_in x)) (sym messages) was.messages_long;
+  messages_long = subst (λ x. f.recorded.messages ≤ length (bytes_in x)) (sym messages) was.messages_long;
   keys_there = subst (λ x. IsSome x) (sym keys) was.keys_there;
-  keys_long = subst (λ x. f.told.keys ≤ length (bytes_in x)) (sym keys) was.keys_long;
+  keys_long = subst (λ x. f.recorded.keys ≤ length (bytes_in x)) (sym keys) was.keys_long;
   keys = was.keys;
 }
 
 pub legible_quiet : (d e : DiskState) (f : Folder) → ChangesNothing d e → IsLegible d f → IsLegible e f
-legible_quiet d e f quiet was = legible_same d e f (quiet.seen (messages_of (path_of f) f.told.number)) (quiet.seen (keys_of (path_of f) f.told.number)) was
+legible_quiet d e f quiet was = legible_same d e f (quiet.seen (messages_of (path_of f) f.recorded.number)) (quiet.seen (keys_of (path_of f) f.recorded.number)) was
 
 -- it holds the same after a look
 pub held_quiet : (d e : DiskState) (f : Folder) → ChangesNothing d e → held_by e f ≡ held_by d f
-held_quiet d e f quiet = ap (λ (b : BaseBytes). and_waiting b f.waiting) (base_quiet d e (path_of f) f.told quiet)
+held_quiet d e f quiet = ap (λ (b : BaseBytes). and_waiting b f.waiting) (base_quiet d e (path_of f) f.recorded quiet)
 
 -- the number of counted bytes of the keys
-pub keys_count : (d : DiskState) (path : List ℕ) (end : End) (told : CommitRecord) → IsStaged d path end told → length (base_at d path told).keys ≡ told.keys
-keys_count d path end told staged = length-take-le told.keys (bytes_in (d.seen (keys_of path told.number))) staged.keys_long
+pub keys_count : (d : DiskState) (path : List ℕ) (end : End) (recorded : CommitRecord) → IsStaged d path end recorded → length (base_at d path recorded).keys ≡ recorded.keys
+keys_count d path end recorded staged = length-take-le recorded.keys (bytes_in (d.seen (keys_of path recorded.number))) staged.keys_long
 
 -- the number of bytes of all keys
 pub keys_all : (d : DiskState) (f : Folder) → IsLegible d f → length (held_by d f).keys ≡ f.keys
 keys_all d f legible =
-    let written : length (base_at d (path_of f) f.told).keys ≡ f.told.keys = length-take-le f.told.keys (bytes_in (d.seen (keys_of (path_of f) f.told.number))) legible.keys_long in
-    let all : length (held_by d f).keys ≡ length (base_at d (path_of f) f.told).keys + length f.waiting.keys.items = length-append (base_at d (path_of f) f.told).keys f.waiting.keys.items in
+    let written : length (base_at d (path_of f) f.recorded).keys ≡ f.recorded.keys = length-take-le f.recorded.keys (bytes_in (d.seen (keys_of (path_of f) f.recorded.number))) legible.keys_long in
+    let all : length (held_by d f).keys ≡ length (base_at d (path_of f) f.recorded).keys + length f.waiting.keys.items = length-append (base_at d (path_of f) f.recorded).keys f.waiting.keys.items in
     let sum = legible.keys in
     omega (arith, written, all, sum)
 
 -- the number of bytes of all messages
 pub messages_all : (d : DiskState) (f : Folder) → IsLegible d f → length (held_by d f).messages ≡ next_place f
 messages_all d f legible =
-    let written : length (base_at d (path_of f) f.told).messages ≡ f.told.messages = length-take-le f.told.messages (bytes_in (d.seen (messages_of (path_of f) f.told.number))) legible.messages_long in
-    let all : length (held_by d f).messages ≡ length (base_at d (path_of f) f.told).messages + length f.waiting.messages.items = length-append (base_at d (path_of f) f.told).messages f.waiting.messages.items in
+    let written : length (base_at d (path_of f) f.recorded).messages ≡ f.recorded.messages = length-take-le f.recorded.messages (bytes_in (d.seen (messages_of (path_of f) f.recorded.number))) legible.messages_long in
+    let all : length (held_by d f).messages ≡ length (base_at d (path_of f) f.recorded).messages + length f.waiting.messages.items = length-append (base_at d (path_of f) f.recorded).messages f.waiting.messages.items in
     omega (arith, written, all)

@@ -10,16 +10,16 @@ use Rattle.base_store.specs.declared.index.Index.{Index}
 use Rattle.base_store.specs.Keys.{HasBytesOf, IsPieceOf, digest_at, place_at, place_behind}
 use Rattle.base_store.proofs.Found.{piece_digest}
 
-module _ (file keys : List ℕ) (place begins ends : ℕ) (s : Stored) (told : HasBytesOf file keys place s) (at : begins ≡ place_at keys place)
+module _ (file keys : List ℕ) (place begins ends : ℕ) (s : Stored) (recorded : HasBytesOf file keys place s) (at : begins ≡ place_at keys place)
     (behind : ends ≡ place_behind file keys place) where
   pub in_order : begins ≤ ends
-  in_order = let order = told.begins in omega arith
+  in_order = let order = recorded.begins in omega arith
 
   pub within : ends ≤ length file
-  within = let last = told.ends in omega arith
+  within = let last = recorded.ends in omega arith
 
   pub piece_is : drop begins (take ends file) ≡ stored_bytes Second s
-  piece_is = (λ i. drop (at i) (take (behind i) file)) ∙ told.bytes
+  piece_is = (λ i. drop (at i) (take (behind i) file)) ∙ recorded.bytes
 
 -- the places in a piece of the keys are those in the keys
 pub piece_place : (keys : List ℕ) (from : ℕ) (piece : List ℕ) (i : ℕ) → IsPieceOf keys from piece → i < length piece / 16 → place_at keys (from + i) ≡ place_at piece i

@@ -10,19 +10,19 @@ use Rattle.base_log.specs.Standing.{BaseBytes}
 use Rattle.base_file.specs.Alone.{IsStoredAlone, MayStandAlone}
 use Rattle.base_file.specs.Base.{Base, is_known}
 use Rattle.base_file.proofs.Entries.{one_more}
-use Rattle.base_store.specs.Keys.{FolderStandsFor, digested, entry, keys_from}
+use Rattle.base_store.specs.Keys.{FolderRepresents, digested, entry, keys_from}
 use Rattle.base_store.proofs.Placed.{bytes_of, keys_append}
 use Rattle.base_store.specs.Store.{with_message}
 use Rattle.base_folder_store.specs.Added.{with_stored}
 use Rattle.base_folder_store.specs.Held.{HoldsBase, digest_by}
 
-pub files_more : (digest : List ℕ → ℕ) (base : List Filed) (cursor : ℕ) (messages keys : List ℕ) (m : Filed) (bytes : List ℕ) (number : ℕ) → FolderStandsFor digest base cursor messages keys → IsStoredAlone m bytes → IsFiled m
-    → is_known base (key_of m) ≡ false → number ≡ digest (digested m) → length (messages ++ bytes) < 2 ^ 64 → FolderStandsFor digest (base ++ m ∷ []) cursor (messages ++ bytes) (keys ++ entry (length messages) number)
-files_more digest base cursor messages keys m bytes number was is filed new told fits =
+pub files_more : (digest : List ℕ → ℕ) (base : List Filed) (cursor : ℕ) (messages keys : List ℕ) (m : Filed) (bytes : List ℕ) (number : ℕ) → FolderRepresents digest base cursor messages keys → IsStoredAlone m bytes → IsFiled m
+    → is_known base (key_of m) ≡ false → number ≡ digest (digested m) → length (messages ++ bytes) < 2 ^ 64 → FolderRepresents digest (base ++ m ∷ []) cursor (messages ++ bytes) (keys ++ entry (length messages) number)
+files_more digest base cursor messages keys m bytes number was is filed new recorded fits =
     let one : List Stored = is.s ∷ [] in
     let here : length messages ≡ 0 + length (bytes_of was.all) = omega (arith, ap (λ (l : List ℕ). length l) was.stored) in
     let entered : entry (length messages) number ≡ keys_from digest (0 + length (bytes_of was.all)) one =
-    (λ i. entry (here i) (told i))
+    (λ i. entry (here i) (recorded i))
     ∙ ap (λ (x : Filed). entry (0 + length (bytes_of was.all)) (digest (digested x))) (sym is.is)
     ∙ sym (append-nil (entry (0 + length (bytes_of was.all)) (digest (digested (message_in Second is.s))))) in
     record {
@@ -39,7 +39,7 @@ files_more digest base cursor messages keys m bytes number was is filed new told
 
 pub holds_more : (keyed : ℕ → ℕ → List ℕ → ℕ) (held : BaseBytes) (base : Base) (m : Filed) (bytes : List ℕ) (number : ℕ) → HoldsBase keyed held base → IsStoredAlone m bytes → IsFiled m
     → is_known base.messages (key_of m) ≡ false → number ≡ digest_by keyed held.mark (digested m) → length (held.messages ++ bytes) < 2 ^ 64 → HoldsBase keyed (with_stored held bytes number) (with_message base m)
-holds_more keyed held base m bytes number was is filed new told fits = record {
-  files = files_more (digest_by keyed held.mark) base.messages base.cursor held.messages held.keys m bytes number was.files is filed new told fits;
+holds_more keyed held base m bytes number was is filed new recorded fits = record {
+  files = files_more (digest_by keyed held.mark) base.messages base.cursor held.messages held.keys m bytes number was.files is filed new recorded fits;
   cursor = was.cursor;
 }

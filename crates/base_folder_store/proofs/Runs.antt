@@ -3,8 +3,8 @@ use Rattle.std.proofs.Common.{◌≡◌, inl, inr, ⊎_elim, List, ℕ, Result, 
 use Rattle.disk_io.specs.Disk.{DiskState, Honestly}
 use Rattle.disk_io.specs.Runs.{ChangesNothing}
 use Rattle.disk_io.proofs.Moments.{then_nothing, then_run, weaker_run}
-use Rattle.base_log.specs.Moments.{IsBeforeOrAfter, StandsAlone}
-use Rattle.base_log.specs.Standing.{BaseBytes, StandsFor}
+use Rattle.base_log.specs.Moments.{IsBeforeOrAfter, RepresentsAlone}
+use Rattle.base_log.specs.Standing.{BaseBytes, Represents}
 use Rattle.base_log.proofs.Keeping.{outside_quiet, outside_twice}
 use Rattle.base_store.specs.declared.store_error.StoreError.{StoreError}
 use Rattle.base_folder_store.specs.Calls.{CommitsOnly, StagesOnly, StaysOpen}
@@ -19,7 +19,7 @@ run_none d f opened = record { any_moment = λ honest. nothing_left d f (opened 
 -- the disk was only looked at
 pub run_quiet : (d e : DiskState) (f : Folder) → Honestly d (IsOpen d f) → ChangesNothing d e → StagesOnly (path_of f) (committed_by d f) d e
 run_quiet d e f opened quiet = record {
-  any_moment = λ honest. then_nothing d d e (StandsAlone (path_of f) d (committed_by d f)) (nothing_left d f (opened (quiet.honest honest))) quiet;
+  any_moment = λ honest. then_nothing d d e (RepresentsAlone (path_of f) d (committed_by d f)) (nothing_left d f (opened (quiet.honest honest))) quiet;
   outside = outside_quiet (path_of f) d e quiet;
 }
 
@@ -31,10 +31,10 @@ run_twice path here d e f base now at one there same =
     record {
       any_moment = λ honest.
           let h1 = two.outside.honest honest in
-          then_run d e f (StandsAlone path d base) (StandsAlone path e now) (one.any_moment h1) (two.any_moment honest)
+          then_run d e f (RepresentsAlone path d base) (RepresentsAlone path e now) (one.any_moment h1) (two.any_moment honest)
           (λ c left. record {
             outside = λ m out named flushed. left.outside m out (kept.named m out named) (kept.flushed m out flushed) ∙ kept.seen m out;
-            stands = subst (λ (b : BaseBytes). StandsFor path b c) (same h1) left.stands;
+            represented = subst (λ (b : BaseBytes). Represents path b c) (same h1) left.represented;
           });
       outside = outside_twice path d e f kept two.outside;
     }
@@ -42,7 +42,7 @@ run_twice path here d e f base now at one there same =
 -- a run that only stages commits nothing
 pub run_staged : (path : List ℕ) (d e : DiskState) (first next : BaseBytes) → StagesOnly path first d e → CommitsOnly path first next d e
 run_staged path d e first next one = record {
-  any_moment = λ honest. weaker_run d e (StandsAlone path d first) (IsBeforeOrAfter path d first next) (one.any_moment honest) (λ c left. record { outside = left.outside; stands = inl left.stands });
+  any_moment = λ honest. weaker_run d e (RepresentsAlone path d first) (IsBeforeOrAfter path d first next) (one.any_moment honest) (λ c left. record { outside = left.outside; represented = inl left.represented });
   outside = one.outside;
 }
 
@@ -58,7 +58,7 @@ run_to_commit path here d e f first next now held at one there same more =
           then_run d e f (IsBeforeOrAfter path d first next) (IsBeforeOrAfter path e now held) ((run_staged path d e first next one).any_moment h1) (two.any_moment honest)
           (λ c left. record {
             outside = λ m out named flushed. left.outside m out (kept.named m out named) (kept.flushed m out flushed) ∙ kept.seen m out;
-            stands = ⊎_elim (λ (s : StandsFor path now c). inl (subst (λ (b : BaseBytes). StandsFor path b c) (same h1) s)) (λ (s : StandsFor path held c). inr (subst (λ (b : BaseBytes). StandsFor path b c) (more h1) s)) left.stands;
+            represented = ⊎_elim (λ (s : Represents path now c). inl (subst (λ (b : BaseBytes). Represents path b c) (same h1) s)) (λ (s : Represents path held c). inr (subst (λ (b : BaseBytes). Represents path b c) (more h1) s)) left.represented;
           });
       outside = outside_twice path d e f kept two.outside;
     }
@@ -71,10 +71,10 @@ run_from_commit path here d e f first next now at one there same =
     record {
       any_moment = λ honest.
           let h1 = two.outside.honest honest in
-          then_run d e f (IsBeforeOrAfter path d first next) (StandsAlone path e now) (one.any_moment h1) (two.any_moment honest)
+          then_run d e f (IsBeforeOrAfter path d first next) (RepresentsAlone path e now) (one.any_moment h1) (two.any_moment honest)
           (λ c left. record {
             outside = λ m out named flushed. left.outside m out (kept.named m out named) (kept.flushed m out flushed) ∙ kept.seen m out;
-            stands = inr (subst (λ (b : BaseBytes). StandsFor path b c) (same h1) left.stands);
+            represented = inr (subst (λ (b : BaseBytes). Represents path b c) (same h1) left.represented);
           });
       outside = outside_twice path d e f kept two.outside;
     }

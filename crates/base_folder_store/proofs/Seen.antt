@@ -13,14 +13,14 @@ use Rattle.base_file.specs.Alone.{IsStoredAlone}
 use Rattle.base_file.specs.Base.{Base, IsBase, is_known}
 use Rattle.base_store.specs.Keys.{digested, digested_key, digested_with}
 use Rattle.base_store.proofs.Digests.{of_key}
-use Rattle.base_store.proofs.Told.{tells_each}
+use Rattle.base_store.proofs.Recorded.{recorded_base_each}
 use Rattle.base_store.specs.Store.{all_scanned, with_message}
 use Rattle.base_folder_store.specs.Added.{with_stored}
 use Rattle.base_folder_store.specs.Answers.{HaveDigest}
 use Rattle.base_folder_store.specs.Held.{HoldsBase, digest_by}
 use Rattle.base_folder_store.specs.Opened.{IsOpen, held_by}
 use Rattle.base_folder_store.specs.declared.folder.Folder.{Folder}
-use Rattle.base_folder_store.proofs.Bases.{told_where}
+use Rattle.base_folder_store.proofs.Bases.{recorded_where}
 use Rattle.base_folder_store.proofs.Legible.{keys_all, legible_open}
 use Rattle.base_folder_store.proofs.Looked.{some_message}
 use Rattle.base_folder_store.proofs.OneMore.{holds_more}
@@ -30,7 +30,7 @@ pub key_digest : (keyed : ℕ → ℕ → List ℕ → ℕ) (bytes : BaseBytes) 
     → HaveDigest (λ m. same_key (key_of m) key) number base.messages bytes.keys
 key_digest keyed bytes base key number holds is i d within passes =
     let m : Filed = get_or base.messages i d in
-    tells_each (digest_by keyed bytes.mark) base.messages base.cursor bytes.messages bytes.keys holds.files i d within
+    recorded_base_each (digest_by keyed bytes.mark) base.messages base.cursor bytes.messages bytes.keys holds.files i d within
     ∙ ap (digest_by keyed bytes.mark) (of_key m ∙ ap digested_key ((same_key_decides (key_of m) key).0 passes))
     ∙ sym is
 
@@ -44,14 +44,14 @@ pub id_digest : (keyed : ℕ → ℕ → List ℕ → ℕ) (bytes : BaseBytes) (
     → HaveDigest (has_id id) number base.messages bytes.keys
 id_digest keyed bytes base id number holds is i d within passes =
     let m : Filed = get_or base.messages i d in
-    tells_each (digest_by keyed bytes.mark) base.messages base.cursor bytes.messages bytes.keys holds.files i d within
+    recorded_base_each (digest_by keyed bytes.mark) base.messages base.cursor bytes.messages bytes.keys holds.files i d within
     ∙ ap (digest_by keyed bytes.mark) (id_digested m id (msgid_of m.echo.kept) passes)
     ∙ sym is
 
 -- there are as many messages as entries
 pub many_messages : (keyed : ℕ → ℕ → List ℕ → ℕ) (d : DiskState) (f : Folder) (base : Base) → IsOpen d f → HoldsBase keyed (held_by d f) base → f.keys / 16 ≡ length base.messages
 many_messages keyed d f base opened holds =
-    let many = (told_where keyed (held_by d f) base holds).many in
+    let many = (recorded_where keyed (held_by d f) base holds).many in
     let long = keys_all d f (legible_open d f opened) in
     omega (arith, many, long)
 
@@ -63,14 +63,14 @@ message_at base place m within is =
 
 -- the folder with its cursor at the end
 abbrev pub at_end : Folder → Folder
-at_end f = record f { told = record f.told { cursor = f.keys / 16 } }
+at_end f = record f { recorded = record f.recorded { cursor = f.keys / 16 } }
 
 pub end_open : (d : DiskState) (f : Folder) → IsOpen d f → IsOpen d (at_end f)
 end_open d f was = record {
   names = was.names;
   staged = record {
     log = was.staged.log;
-    stands = was.staged.stands;
+    represented = was.staged.represented;
     shown = was.staged.shown;
     digit = was.staged.digit;
     messages_there = was.staged.messages_there;
@@ -107,8 +107,8 @@ end_holds keyed d f base opened holds =
 -- a message that was filed, with its digest
 pub filed_more : (keyed : ℕ → ℕ → List ℕ → ℕ) (now held : BaseBytes) (base : Base) (m : Filed) (key : Key) (bytes taken : List ℕ) (number : ℕ) → now ≡ with_stored held bytes number → length now.messages < 2 ^ 64
     → HoldsBase keyed held base → IsStoredAlone m bytes → IsFiled m → key ≡ key_of m → is_known base.messages key ≡ false → taken ≡ digested_key key → number ≡ digest_by keyed held.mark taken → HoldsBase keyed now (with_message base m)
-filed_more keyed now held base m key bytes taken number staged fits holds stored filed own new is told =
-    let number_is : number ≡ digest_by keyed held.mark (digested m) = told ∙ ap (digest_by keyed held.mark) (is ∙ ap digested_key own ∙ sym (of_key m)) in
+filed_more keyed now held base m key bytes taken number staged fits holds stored filed own new is recorded =
+    let number_is : number ≡ digest_by keyed held.mark (digested m) = recorded ∙ ap (digest_by keyed held.mark) (is ∙ ap digested_key own ∙ sym (of_key m)) in
     let unknown : is_known base.messages (key_of m) ≡ false = subst (λ (k : Key). is_known base.messages k ≡ false) own new in
     let room : length (held.messages ++ bytes) < 2 ^ 64 = subst (λ (b : BaseBytes). length b.messages < 2 ^ 64) staged fits in
     subst (λ (b : BaseBytes). HoldsBase keyed b (with_message base m)) (sym staged) (holds_more keyed held base m bytes number holds stored filed unknown number_is room)

@@ -16,7 +16,7 @@ use Rattle.echo_filed.specs.Written.{short_lines, text_of}
 use Rattle.echo_filed.specs.declared.stored.Version.TheVariants.{Second}
 use Rattle.echo_filed.proofs.Keys.{msgid_first, msgid_is_id, stub_of_stub}
 use Rattle.echo_filed.proofs.Sendings.{last_sent, stored_parts}
-use Rattle.echo_filed.proofs.StubTests.{stub_told}
+use Rattle.echo_filed.proofs.StubTests.{stub_reported}
 use Rattle.base_file.specs.Alone.{MayStandAlone, cursor_alone}
 use Rattle.base_file.specs.BaseFile.{stored_at}
 use Rattle.base_file.proofs.LoneMessages.{alone_again}
@@ -108,12 +108,12 @@ with_id : (short : Bool) (m : Filed) (id : List ℕ) → msgid_of m.echo.kept �
 unfolding stored_at
 with_id short m id has =
     let stub = stub_with m (Some id) in
-    let told : msgid_of stub.echo.kept ≡ Some id = msgid_first id [] (msgid_is_id m.echo.kept id has) in
+    let recorded : msgid_of stub.echo.kept ≡ Some id = msgid_first id [] (msgid_is_id m.echo.kept id has) in
     let one : stub_of m ≡ stub = stub_is m id has in
     let again : stub_of stub ≡ stub = ap stub_of (sym one) ∙ stub_of_stub m ∙ one in
-    let is : is_short Second 1 0 stub ≡ true = and_from (is_some (msgid_of stub.echo.kept)) (is_stub stub) (ap is_some told) ((stub_told stub).1 again) in
+    let is : is_short Second 1 0 stub ≡ true = and_from (is_some (msgid_of stub.echo.kept)) (is_stub stub) (ap is_some recorded) ((stub_reported stub).1 again) in
     let at : stored_at 1 0 stub ≡ stored_as true stub = ap (λ (b : Bool). stored_as b stub) is in
-    let last : last_sent true stub ≡ after_length m.echo.tag ++ after_long_length id = ap (λ (o : Option (List ℕ)). after_length m.echo.tag ++ after_long_length (unwrap_or o [])) told in
+    let last : last_sent true stub ≡ after_length m.echo.tag ++ after_long_length id = ap (λ (o : Option (List ℕ)). after_length m.echo.tag ++ after_long_length (unwrap_or o [])) recorded in
     record {
       less = omega (
         arith,
@@ -126,7 +126,7 @@ with_id short m id has =
       );
       few = λ fits.
           let size = ap (λ (s : Stored). length s.last) at in
-          let short_last = ap (λ (o : Option (List ℕ)). length (unwrap_or o [])) told in
+          let short_last = ap (λ (o : Option (List ℕ)). length (unwrap_or o [])) recorded in
           let below = ltb-true (length (stored_as short m).last) (2 ^ 32) fits in
           lt-ltb (length (stored_at 1 0 stub).last) (2 ^ 32) (omega (arith, size, short_last, below, last_few short m id has));
     }

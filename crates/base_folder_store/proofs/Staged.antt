@@ -5,7 +5,7 @@ use Rattle.disk_io.specs.Disk.{DiskState, bytes_in}
 use Rattle.disk_io.specs.Runs.{LeavesOnly}
 use Rattle.disk_io.proofs.Moments.{no_call}
 use Rattle.base_log.specs.AtRest.{IsAtRest, IsStaged}
-use Rattle.base_log.specs.Moments.{KeepsOutside, StandsAlone}
+use Rattle.base_log.specs.Moments.{KeepsOutside, RepresentsAlone}
 use Rattle.base_log.specs.Names.{AreNames, folder_of, messages_of}
 use Rattle.base_log.specs.Standing.{BaseBytes, and_keys, and_messages, base_at}
 use Rattle.base_log.specs.declared.log.End.{End}
@@ -30,48 +30,48 @@ outside_same path d = record {
 }
 
 -- it has the paths of its files still
-pub names_kept : (f g : Folder) → g.names ≡ f.names → g.told ≡ f.told → IsNamed f → IsNamed g
-names_kept f g names told was = subst (λ (t : CommitRecord). AreNames g.names t.number) (sym told) (subst (λ (n : Names). AreNames n f.told.number) (sym names) was)
+pub names_kept : (f g : Folder) → g.names ≡ f.names → g.recorded ≡ f.recorded → IsNamed f → IsNamed g
+names_kept f g names recorded was = subst (λ (t : CommitRecord). AreNames g.names t.number) (sym recorded) (subst (λ (n : Names). AreNames n f.recorded.number) (sym names) was)
 
 -- the number of counted bytes of the messages
-pub messages_count : (d : DiskState) (path : List ℕ) (end : End) (told : CommitRecord) → IsStaged d path end told → length (base_at d path told).messages ≡ told.messages
-messages_count d path end told staged = length-take-le told.messages (bytes_in (d.seen (messages_of path told.number))) staged.messages_long
+pub messages_count : (d : DiskState) (path : List ℕ) (end : End) (recorded : CommitRecord) → IsStaged d path end recorded → length (base_at d path recorded).messages ≡ recorded.messages
+messages_count d path end recorded staged = length-take-le recorded.messages (bytes_in (d.seen (messages_of path recorded.number))) staged.messages_long
 
 -- a committed record is also staged
-pub committed_staged : (d : DiskState) (path : List ℕ) (after : End) (told : CommitRecord) → IsAtRest d path after → after.told ≡ told → IsStaged d path after told
-committed_staged d path after told rest is = subst (λ (t : CommitRecord). IsStaged d path after t) is (rest_staged d path after after.told.cursor after.told.mark rest)
+pub committed_staged : (d : DiskState) (path : List ℕ) (after : End) (recorded : CommitRecord) → IsAtRest d path after → after.recorded ≡ recorded → IsStaged d path after recorded
+committed_staged d path after recorded rest is = subst (λ (t : CommitRecord). IsStaged d path after t) is (rest_staged d path after after.recorded.cursor after.recorded.mark rest)
 
 -- the folder with one more waiting message, and its entry
 module _ (d : DiskState) (f g : Folder) (bytes : List ℕ) (digest : ℕ) (was : IsOpen d f) (more : OneMoreWaits f g bytes digest) where
-  regrouped : and_keys (and_messages (base_at d (path_of f) f.told) (f.waiting.messages.items ++ bytes)) (f.waiting.keys.items ++ entry (next_place f) digest) ≡ and_keys (and_messages (held_by d f) bytes) (entry (next_place f) digest)
+  regrouped : and_keys (and_messages (base_at d (path_of f) f.recorded) (f.waiting.messages.items ++ bytes)) (f.waiting.keys.items ++ entry (next_place f) digest) ≡ and_keys (and_messages (held_by d f) bytes) (entry (next_place f) digest)
   regrouped = λ i. record {
-    messages = sym (append_assoc (base_at d (path_of f) f.told).messages f.waiting.messages.items bytes) i;
-    keys = sym (append_assoc (base_at d (path_of f) f.told).keys f.waiting.keys.items (entry (next_place f) digest)) i;
-    cursor = f.told.cursor;
-    mark = f.told.mark;
+    messages = sym (append_assoc (base_at d (path_of f) f.recorded).messages f.waiting.messages.items bytes) i;
+    keys = sym (append_assoc (base_at d (path_of f) f.recorded).keys f.waiting.keys.items (entry (next_place f) digest)) i;
+    cursor = f.recorded.cursor;
+    mark = f.recorded.mark;
   }
 
   added_held : held_by d g ≡ and_keys (and_messages (held_by d f) bytes) (entry (next_place f) digest)
-  added_held = (λ i. and_keys (and_messages (base_at d (folder_of (more.names i)) (more.told i)) (more.messages i)) (more.entries i)) ∙ regrouped
+  added_held = (λ i. and_keys (and_messages (base_at d (folder_of (more.names i)) (more.recorded i)) (more.messages i)) (more.entries i)) ∙ regrouped
 
   pub added_open : IsOpen d g
   added_open = record {
-    names = names_kept f g more.names more.told was.names;
-    staged = subst (λ (t : CommitRecord). IsStaged d (path_of g) g.end t) (sym more.told)
-        (subst (λ (x : End). IsStaged d (path_of g) x f.told) (sym more.end) (subst (λ (n : Names). IsStaged d (folder_of n) f.end f.told) (sym more.names) was.staged));
+    names = names_kept f g more.names more.recorded was.names;
+    staged = subst (λ (t : CommitRecord). IsStaged d (path_of g) g.end t) (sym more.recorded)
+        (subst (λ (x : End). IsStaged d (path_of g) x f.recorded) (sym more.end) (subst (λ (n : Names). IsStaged d (folder_of n) f.end f.recorded) (sym more.names) was.staged));
     keys =
         let one : length (entry (next_place f) digest) ≡ 16 = refl in
         let was_keys = was.keys in
         let now = more.keys in
-        let told = ap (λ (t : CommitRecord). t.keys) more.told in
+        let recorded = ap (λ (t : CommitRecord). t.keys) more.recorded in
         let wait = ap (λ (l : List ℕ). length l) more.entries ∙ length-append f.waiting.keys.items (entry (next_place f) digest) in
-        omega (arith, one, was_keys, now, told, wait);
+        omega (arith, one, was_keys, now, recorded, wait);
   }
 
-  is_place : f.told.messages + length f.waiting.messages.items ≡ length (held_by d f).messages
+  is_place : f.recorded.messages + length f.waiting.messages.items ≡ length (held_by d f).messages
   is_place =
-      let count = messages_count d (path_of f) f.end f.told was.staged in
-      let all : length (held_by d f).messages ≡ length (base_at d (path_of f) f.told).messages + length f.waiting.messages.items = length-append (base_at d (path_of f) f.told).messages f.waiting.messages.items in
+      let count = messages_count d (path_of f) f.end f.recorded was.staged in
+      let all : length (held_by d f).messages ≡ length (base_at d (path_of f) f.recorded).messages + length f.waiting.messages.items = length-append (base_at d (path_of f) f.recorded).messages f.waiting.messages.items in
       omega (arith, count, all)
 
   pub added_stored : held_by d g ≡ with_stored (held_by d f) bytes digest
@@ -81,51 +81,51 @@ module _ (d : DiskState) (f g : Folder) (bytes : List ℕ) (digest : ℕ) (was :
   added_fits =
       let all : length (held_by d g).messages ≡ length ((held_by d f).messages ++ bytes) = ap (λ (b : BaseBytes). length b.messages) added_held in
       let longer = length-append (held_by d f).messages bytes in
-      let room : f.told.messages + length f.waiting.messages.items + length bytes < 2 ^ 64 = more.fits in
+      let room : f.recorded.messages + length f.waiting.messages.items + length bytes < 2 ^ 64 = more.fits in
       omega (arith, all, longer, is_place, room)
 
   pub added_committed : committed_by d g ≡ committed_by d f
-  added_committed = λ i. base_at d (folder_of (more.names i)) (more.end i).told
+  added_committed = λ i. base_at d (folder_of (more.names i)) (more.end i).recorded
 
 -- the folder once all that waited is written
 module _ (d e : DiskState) (f g : Folder) (bytes one : List ℕ) (was : IsOpen d f) (names : g.names ≡ f.names) (end : g.end ≡ f.end) (keys : g.keys ≡ f.keys) (none : IsWritten g)
-    (messages : bytes ≡ f.waiting.messages.items) (entries : one ≡ f.waiting.keys.items) (added : base_at e (path_of f) g.told ≡ and_keys (and_messages (base_at d (path_of f) f.told) bytes) one) where
+    (messages : bytes ≡ f.waiting.messages.items) (entries : one ≡ f.waiting.keys.items) (added : base_at e (path_of f) g.recorded ≡ and_keys (and_messages (base_at d (path_of f) f.recorded) bytes) one) where
   pub out_held : held_by e g ≡ held_by d f
   out_held =
-      written_held e g none ∙ (λ i. base_at e (folder_of (names i)) g.told) ∙ added
-      ∙ (λ i. and_keys (and_messages (base_at d (path_of f) f.told) (messages i)) (entries i))
+      written_held e g none ∙ (λ i. base_at e (folder_of (names i)) g.recorded) ∙ added
+      ∙ (λ i. and_keys (and_messages (base_at d (path_of f) f.recorded) (messages i)) (entries i))
 
-  pub out_open : g.told.number ≡ f.told.number → IsStaged e (path_of f) f.end g.told → IsOpen e g
+  pub out_open : g.recorded.number ≡ f.recorded.number → IsStaged e (path_of f) f.end g.recorded → IsOpen e g
   out_open number staged = record {
-    names = subst (λ (n : ℕ). AreNames g.names n) (sym number) (subst (λ (n : Names). AreNames n f.told.number) (sym names) was.names);
-    staged = subst (λ (x : End). IsStaged e (path_of g) x g.told) (sym end) (subst (λ (n : Names). IsStaged e (folder_of n) f.end g.told) (sym names) staged);
+    names = subst (λ (n : ℕ). AreNames g.names n) (sym number) (subst (λ (n : Names). AreNames n f.recorded.number) (sym names) was.names);
+    staged = subst (λ (x : End). IsStaged e (path_of g) x g.recorded) (sym end) (subst (λ (n : Names). IsStaged e (folder_of n) f.end g.recorded) (sym names) staged);
     keys =
         let was_keys = was.keys in
         let wait = ap (λ (l : List ℕ). length l) none.keys in
         let had = ap (λ (l : List ℕ). length l) entries in
-        let more = ap (λ (b : BaseBytes). length b.keys) added ∙ length-append (base_at d (path_of f) f.told).keys one in
-        let now = keys_count e (path_of f) f.end g.told staged in
-        let before = keys_count d (path_of f) f.end f.told was.staged in
+        let more = ap (λ (b : BaseBytes). length b.keys) added ∙ length-append (base_at d (path_of f) f.recorded).keys one in
+        let now = keys_count e (path_of f) f.end g.recorded staged in
+        let before = keys_count d (path_of f) f.end f.recorded was.staged in
         omega (arith, keys, was_keys, wait, had, more, now, before);
   }
 
 -- without a call, no commit
-pub nothing_left : (d : DiskState) (f : Folder) → IsOpen d f → LeavesOnly d d (StandsAlone (path_of f) d (committed_by d f))
-nothing_left d f was = no_call d (StandsAlone (path_of f) d (committed_by d f)) (λ c left. record { outside = λ m out named flushed. d.on_disk m named flushed c left; stands = was.staged.stands c left })
+pub nothing_left : (d : DiskState) (f : Folder) → IsOpen d f → LeavesOnly d d (RepresentsAlone (path_of f) d (committed_by d f))
+nothing_left d f was = no_call d (RepresentsAlone (path_of f) d (committed_by d f)) (λ c left. record { outside = λ m out named flushed. d.on_disk m named flushed c left; represented = was.staged.represented c left })
 
 -- the committed folder is open, and its base is the one held before
-pub committed_open : (d e : DiskState) (f g : Folder) → IsOpen d f → g.names ≡ f.names → g.told ≡ f.told → g.keys ≡ f.keys → g.waiting ≡ f.waiting → IsAtRest e (path_of f) g.end → g.end.told ≡ f.told → IsOpen e g
-committed_open d e f g was names told keys wait rest is =
+pub committed_open : (d e : DiskState) (f g : Folder) → IsOpen d f → g.names ≡ f.names → g.recorded ≡ f.recorded → g.keys ≡ f.keys → g.waiting ≡ f.waiting → IsAtRest e (path_of f) g.end → g.end.recorded ≡ f.recorded → IsOpen e g
+committed_open d e f g was names recorded keys wait rest is =
     let path : path_of g ≡ path_of f = ap (λ (n : Names). folder_of n) names in
-    let staged : IsStaged e (path_of f) g.end f.told = committed_staged e (path_of f) g.end f.told rest is in
+    let staged : IsStaged e (path_of f) g.end f.recorded = committed_staged e (path_of f) g.end f.recorded rest is in
     record {
-      names = names_kept f g names told was.names;
-      staged = subst (λ (t : CommitRecord). IsStaged e (path_of g) g.end t) (sym told) (subst (λ (p : List ℕ). IsStaged e p g.end f.told) (sym path) staged);
-      keys = keys ∙ was.keys ∙ (λ i. (sym told i).keys + length (sym wait i).keys.items);
+      names = names_kept f g names recorded was.names;
+      staged = subst (λ (t : CommitRecord). IsStaged e (path_of g) g.end t) (sym recorded) (subst (λ (p : List ℕ). IsStaged e p g.end f.recorded) (sym path) staged);
+      keys = keys ∙ was.keys ∙ (λ i. (sym recorded i).keys + length (sym wait i).keys.items);
     }
 
-pub committed_held : (d e : DiskState) (f g : Folder) → g.names ≡ f.names → g.told ≡ f.told → g.end.told ≡ f.told → base_at e (path_of f) g.end.told ≡ held_by d f → IsWritten g → held_by e g ≡ held_by d f
-committed_held d e f g names told is held none = written_held e g none ∙ (λ i. base_at e (folder_of (names i)) (told i)) ∙ (λ i. base_at e (path_of f) (sym is i)) ∙ held
+pub committed_held : (d e : DiskState) (f g : Folder) → g.names ≡ f.names → g.recorded ≡ f.recorded → g.end.recorded ≡ f.recorded → base_at e (path_of f) g.end.recorded ≡ held_by d f → IsWritten g → held_by e g ≡ held_by d f
+committed_held d e f g names recorded is held none = written_held e g none ∙ (λ i. base_at e (folder_of (names i)) (recorded i)) ∙ (λ i. base_at e (path_of f) (sym is i)) ∙ held
 
-pub committed_told : (d e : DiskState) (f g : Folder) → g.names ≡ f.names → base_at e (path_of f) g.end.told ≡ held_by d f → committed_by e g ≡ held_by d f
-committed_told d e f g names held = (λ i. base_at e (folder_of (names i)) g.end.told) ∙ held
+pub committed_recorded : (d e : DiskState) (f g : Folder) → g.names ≡ f.names → base_at e (path_of f) g.end.recorded ≡ held_by d f → committed_by e g ≡ held_by d f
+committed_recorded d e f g names held = (λ i. base_at e (folder_of (names i)) g.end.recorded) ∙ held

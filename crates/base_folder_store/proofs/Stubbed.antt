@@ -13,7 +13,7 @@ use Rattle.base_file.specs.Base.{AreNew, Base, IsBase, is_known}
 use Rattle.base_file.proofs.StubBases.{stubs_keep}
 use Rattle.base_store.specs.Keys.{digest_at, digested, digested_key}
 use Rattle.base_store.proofs.Digests.{of_key}
-use Rattle.base_store.proofs.Told.{tells_each}
+use Rattle.base_store.proofs.Recorded.{recorded_base_each}
 use Rattle.base_store.specs.Store.{purged}
 use Rattle.base_folder_store.specs.Added.{with_stored}
 use Rattle.base_folder_store.specs.Held.{HoldsBase, digest_by}
@@ -97,15 +97,15 @@ left_none keyed old held base holds is =
 pub left_more : (keyed : ℕ → ℕ → List ℕ → ℕ) (old held now : BaseBytes) (base : Base) (place number : ℕ) (d : Filed) (bytes : List ℕ) (scanned : Bool) → HoldsBase keyed old base → held.mark ≡ old.mark → place < length base.messages
     → HoldsBase keyed held (first_left base place) → IsBelow scanned place base.cursor → IsStoredAlone (left_if scanned (get_or base.messages place d)) bytes → number ≡ digest_at old.keys place → now ≡ with_stored held bytes number
     → length now.messages < 2 ^ 64 → HoldsBase keyed now (first_left base (place + 1))
-left_more keyed old held now base place number d bytes scanned holds mark within left below stored told staged fits =
+left_more keyed old held now base place number d bytes scanned holds mark within left below stored recorded staged fits =
     let all = (purged base).messages in
     let m = left_if scanned (get_or base.messages place d) in
     let whole : IsBase all base.cursor = stubs_keep base.messages base.cursor holds.files.holds in
     let inside : place < length all = omega (arith, as_many base) in
     let is : get_or all place d ≡ m = left_at base.cursor base.messages place d scanned within below in
     let number_is : number ≡ digest_by keyed held.mark (digested m) =
-    told
-    ∙ tells_each (digest_by keyed old.mark) base.messages base.cursor old.messages old.keys holds.files place d within
+    recorded
+    ∙ recorded_base_each (digest_by keyed old.mark) base.messages base.cursor old.messages old.keys holds.files place d within
     ∙ (λ i. digest_by keyed (sym mark i) (sym (same_digested scanned (get_or base.messages place d)) i)) in
     let filed : IsFiled m = subst IsFiled is (filed_at all place d inside whole.each) in
     let new : is_known (take place all) (key_of m) ≡ false = subst (λ (x : Filed). is_known (take place all) (key_of x) ≡ false) is (new_at [] all place d inside whole.new) in

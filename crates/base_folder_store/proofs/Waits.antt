@@ -12,8 +12,8 @@ nothing_more : (b : BaseBytes) → and_keys (and_messages b []) [] ≡ b
 nothing_more b = λ i. record { messages = append-nil b.messages i; keys = append-nil b.keys i; cursor = b.cursor; mark = b.mark }
 
 -- if no bytes wait, the folder has exactly the written bytes
-pub written_held : (d : DiskState) (f : Folder) → IsWritten f → held_by d f ≡ base_at d (path_of f) f.told
-written_held d f none = (λ i. and_keys (and_messages (base_at d (path_of f) f.told) (none.messages i)) (none.keys i)) ∙ nothing_more (base_at d (path_of f) f.told)
+pub written_held : (d : DiskState) (f : Folder) → IsWritten f → held_by d f ≡ base_at d (path_of f) f.recorded
+written_held d f none = (λ i. and_keys (and_messages (base_at d (path_of f) f.recorded) (none.messages i)) (none.keys i)) ∙ nothing_more (base_at d (path_of f) f.recorded)
 
 -- the number of bytes written, then waiting
 pub count_across : (file waiting : List ℕ) (written : ℕ) → written ≤ length file → length (take written file ++ waiting) ≡ written + length waiting

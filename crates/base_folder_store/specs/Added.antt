@@ -15,15 +15,15 @@ with_stored base bytes digest = and_keys (and_messages base bytes) (entry (lengt
 
 -- The place of a message after all written and waiting ones.
 abbrev pub next_place : Folder → ℕ
-next_place folder = folder.told.messages + length folder.waiting.messages.items
+next_place folder = folder.recorded.messages + length folder.waiting.messages.items
 
 -- Eight bytes can't count its messages, its keys, or its log with one record more.
 abbrev pub IsFull : Folder → Type 0
-IsFull folder = ((2 ^ 64 ≤ next_place folder) ⊎ (2 ^ 64 ≤ folder.told.keys + length folder.waiting.keys.items)) ⊎ (2 ^ 64 ≤ folder.end.gate + 51)
+IsFull folder = ((2 ^ 64 ≤ next_place folder) ⊎ (2 ^ 64 ≤ folder.recorded.keys + length folder.waiting.keys.items)) ⊎ (2 ^ 64 ≤ folder.end.gate + 51)
 
 -- Eight bytes can't count its messages with this many bytes more, or its keys with an entry more.
 abbrev pub LacksRoom : Folder → ℕ → Type 0
-LacksRoom folder bytes = ((2 ^ 64 ≤ next_place folder + bytes) ⊎ (2 ^ 64 ≤ folder.keys + 16)) ⊎ (2 ^ 64 ≤ folder.told.keys + length folder.waiting.keys.items + 16)
+LacksRoom folder bytes = ((2 ^ 64 ≤ next_place folder + bytes) ⊎ (2 ^ 64 ≤ folder.keys + 16)) ⊎ (2 ^ 64 ≤ folder.recorded.keys + length folder.waiting.keys.items + 16)
 
 -- Eight bytes can count its messages and its keys with one message more. Four bytes can count the text of that message.
 pub record HasRoomFor (folder : Folder) (m : Filed) : Type 0 where
@@ -34,12 +34,12 @@ pub record HasRoomFor (folder : Folder) (m : Filed) : Type 0 where
 pub record OneMoreWaits (old new : Folder) (bytes : List ℕ) (digest : ℕ) : Type 0 where
   pub names : new.names ≡ old.names
   pub end : new.end ≡ old.end
-  pub told : new.told ≡ old.told
+  pub recorded : new.recorded ≡ old.recorded
   pub keys : new.keys ≡ old.keys + 16
   pub messages : new.waiting.messages.items ≡ old.waiting.messages.items ++ bytes
   pub entries : new.waiting.keys.items ≡ old.waiting.keys.items ++ entry (next_place old) digest
   pub fits : next_place old + length bytes < 2 ^ 64
 
 -- All files but the two of that number are unchanged.
-abbrev pub SameBesideBoth : List ℕ → ℕ → Files → Files → Type 0
-SameBesideBoth path number old new = (m : List ℕ) → m ≢ messages_of path number → m ≢ keys_of path number → new m ≡ old m
+abbrev pub SameOthersThanBoth : List ℕ → ℕ → Files → Files → Type 0
+SameOthersThanBoth path number old new = (m : List ℕ) → m ≢ messages_of path number → m ≢ keys_of path number → new m ≡ old m

@@ -11,7 +11,7 @@ use Rattle.base_log.specs.declared.log.CommitRecord.{CommitRecord}
 use Rattle.base_log.specs.declared.log.End.{End}
 use Rattle.base_store.specs.declared.store_error.StoreError.{StoreError}
 use Rattle.base_store.specs.declared.store_error.StoreError.TheVariants as error
-use Rattle.base_folder_store.specs.Added.{SameBesideBoth}
+use Rattle.base_folder_store.specs.Added.{SameOthersThanBoth}
 use Rattle.base_folder_store.specs.Opened.{IsNamed, IsOpen, IsWritten, committed_by, held_by, path_of}
 use Rattle.base_folder_store.specs.declared.folder.Folder.{Folder}
 
@@ -20,13 +20,13 @@ pub record StaysOpen {T : Type 0} (old new : Folder) (disk : DiskState) (result 
   pub named : IsNamed new
   pub opened : Honestly disk (OnOk result (IsOpen disk new))
   pub path : path_of new ≡ path_of old
-  pub mark : new.told.mark ≡ old.told.mark
+  pub mark : new.recorded.mark ≡ old.recorded.mark
 
 -- The folder has the same files, and no other file has changed. The last commit is the same.
 pub record StaysInFiles (old new : Folder) (before after : Files) : Type 0 where
   pub end : new.end ≡ old.end
-  pub number : new.told.number ≡ old.told.number
-  pub beside : SameBesideBoth (path_of old) old.told.number before after
+  pub number : new.recorded.number ≡ old.recorded.number
+  pub others : SameOthersThanBoth (path_of old) old.recorded.number before after
 
 -- A run that commits at most once: a crash leaves the base before or the one after. Everything outside the folder is unchanged.
 pub record CommitsOnly (path : List ℕ) (first next : BaseBytes) (old new : DiskState) : Type 0 where
@@ -42,18 +42,18 @@ pub record IsWrittenOut {T : Type 0} (before after : DiskState) (old new : Folde
 -- The base held before is now also committed, in files at rest, unless the call failed.
 pub record IsAcknowledged {T : Type 0} (before after : DiskState) (old new : Folder) (result : Result T StoreError) : Type 0 where
   pub written : OnOk result (IsWritten new)
-  pub told : OnOk result (new.end.told ≡ new.told)
+  pub recorded : OnOk result (new.end.recorded ≡ new.recorded)
   pub same : Honestly after (OnOk result (held_by after new ≡ held_by before old))
   pub committed : Honestly after (OnOk result (committed_by after new ≡ held_by before old))
   pub settled : Honestly after (OnOk result (IsAtRest after (path_of new) new.end))
 
 -- Both files have these bytes more, which no record counts yet. The last commit is the same.
-pub record StagesBoth (path : List ℕ) (before after : DiskState) (end : End) (told more : CommitRecord) (bytes keys : List ℕ) : Type 0 where
+pub record StagesBoth (path : List ℕ) (before after : DiskState) (end : End) (recorded more : CommitRecord) (bytes keys : List ℕ) : Type 0 where
   pub staged : Honestly after (IsStaged after path end more)
-  pub added : Honestly after (base_at after path more ≡ and_keys (and_messages (base_at before path told) bytes) keys)
-  pub same : Honestly after (base_at after path end.told ≡ base_at before path end.told)
-  pub number : more.number ≡ told.number
-  pub mark : more.mark ≡ told.mark
+  pub added : Honestly after (base_at after path more ≡ and_keys (and_messages (base_at before path recorded) bytes) keys)
+  pub same : Honestly after (base_at after path end.recorded ≡ base_at before path end.recorded)
+  pub number : more.number ≡ recorded.number
+  pub mark : more.mark ≡ recorded.mark
 
 -- A call reports a failure of the device only if the count of failures rose, and it never reports damage.
 pub record HasWriteCause {T : Type 0} (before now : ℕ) (result : Result T StoreError) : Type 0 where

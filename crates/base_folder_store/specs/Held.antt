@@ -2,10 +2,10 @@
 use Rattle.std.specs.Prelude.{◌≡◌, ◌⊎◌, ℕ, List}
 use Rattle.disk_io.specs.Disk.{DiskState, Files}
 use Rattle.base_log.specs.Moments.{SameOutside}
-use Rattle.base_log.specs.Standing.{BaseBytes, StandsFor}
+use Rattle.base_log.specs.Standing.{BaseBytes, Represents}
 use Rattle.base_log.specs.declared.log.FolderIdentity.{FolderIdentity}
 use Rattle.base_file.specs.Base.{Base}
-use Rattle.base_store.specs.Keys.{FolderStandsFor}
+use Rattle.base_store.specs.Keys.{FolderRepresents}
 
 -- The digest under the key in a mark.
 abbrev pub digest_by : (ℕ → ℕ → List ℕ → ℕ) → FolderIdentity → List ℕ → ℕ
@@ -13,20 +13,20 @@ digest_by keyed mark = keyed mark.first mark.second
 
 -- The bytes of the two files and the cursor are those of this base. The digests in the keys use the key of the folder.
 pub record HoldsBase (keyed : ℕ → ℕ → List ℕ → ℕ) (bytes : BaseBytes) (base : Base) : Type 0 where
-  pub files : FolderStandsFor (digest_by keyed bytes.mark) base.messages base.cursor bytes.messages bytes.keys
+  pub files : FolderRepresents (digest_by keyed bytes.mark) base.messages base.cursor bytes.messages bytes.keys
   pub cursor : bytes.cursor ≡ base.cursor
 
 -- The files of the folder represent this base, also after a crash.
-pub record StandsForBase (keyed : ℕ → ℕ → List ℕ → ℕ) (path : List ℕ) (base : Base) (c : Files) : Type 0 where
+pub record RepresentsBase (keyed : ℕ → ℕ → List ℕ → ℕ) (path : List ℕ) (base : Base) (c : Files) : Type 0 where
   pub bytes : BaseBytes
-  pub stands : StandsFor path bytes c
+  pub represented : Represents path bytes c
   pub holds : HoldsBase keyed bytes base
 
 -- The same, and everything outside the folder is unchanged.
-pub record StandsForBaseAlone (keyed : ℕ → ℕ → List ℕ → ℕ) (path : List ℕ) (old : DiskState) (base : Base) (c : Files) : Type 0 where
+pub record RepresentsBaseAlone (keyed : ℕ → ℕ → List ℕ → ℕ) (path : List ℕ) (old : DiskState) (base : Base) (c : Files) : Type 0 where
   pub outside : SameOutside path old c
-  pub stands : StandsForBase keyed path base c
+  pub represented : RepresentsBase keyed path base c
 
 -- The same, or files that a crash might have left before.
-abbrev pub StandsForBaseOrWasLeft : (ℕ → ℕ → List ℕ → ℕ) → List ℕ → DiskState → Base → Files → Type 0
-StandsForBaseOrWasLeft keyed path old base c = StandsForBaseAlone keyed path old base c ⊎ old.may_leave c
+abbrev pub RepresentsBaseOrWasLeft : (ℕ → ℕ → List ℕ → ℕ) → List ℕ → DiskState → Base → Files → Type 0
+RepresentsBaseOrWasLeft keyed path old base c = RepresentsBaseAlone keyed path old base c ⊎ old.may_leave c

@@ -33,22 +33,22 @@ abbrev pub changed_in : Base → ℕ → ℕ
 changed_in base count = count_by (λ m. not (is_stub m)) (take count (take base.cursor base.messages))
 
 -- A folder with its committed files, and the same folder with the new files that will replace them, under another number.
-pub record IsBesideIn (folder next : Folder) : Type 0 where
+pub record IsStagedIn (folder next : Folder) : Type 0 where
   pub path : path_of next ≡ path_of folder
   pub end : next.end ≡ folder.end
-  pub number : next.told.number ≢ folder.end.told.number
-  pub mark : next.told.mark ≡ folder.end.told.mark
+  pub number : next.recorded.number ≢ folder.end.recorded.number
+  pub mark : next.recorded.mark ≡ folder.end.recorded.mark
 
 -- The committed messages are readable, and no others wait.
 pub record IsReadable (disk : DiskState) (folder : Folder) : Type 0 where
   pub legible : IsLegible disk folder
-  pub told : folder.end.told ≡ folder.told
+  pub recorded : folder.end.recorded ≡ folder.recorded
   pub written : IsWritten folder
 
 -- The folder is readable, and `next` takes its purged messages.
 pub record ArePaired (disk : DiskState) (folder next : Folder) : Type 0 where
   pub readable : Honestly disk (IsReadable disk folder)
-  pub beside : IsBesideIn folder next
+  pub others : IsStagedIn folder next
   pub named : IsNamed next
 
 -- The bytes are a stored message after a purge, with no more bytes than before. `changed` shows if the purge changed it.

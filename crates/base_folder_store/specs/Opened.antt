@@ -4,7 +4,7 @@ use Rattle.disk_io.specs.Disk.{DiskState, Honestly, bytes_in}
 use Rattle.base_log.specs.Names.{AreNames, folder_of, keys_of, messages_of}
 use Rattle.base_log.specs.AtRest.{IsStaged}
 use Rattle.base_log.specs.Reading.{IsLogIn, IsRead}
-use Rattle.base_log.specs.Standing.{BaseBytes, StandsFor, and_keys, and_messages, base_at}
+use Rattle.base_log.specs.Standing.{BaseBytes, Represents, and_keys, and_messages, base_at}
 use Rattle.base_log.specs.declared.log.Log.{Log}
 use Rattle.base_folder_store.specs.declared.folder.Folder.{Folder}
 use Rattle.base_folder_store.specs.declared.waiting.Waiting.{Waiting}
@@ -19,7 +19,7 @@ and_waiting base waiting = and_keys (and_messages base waiting.messages.items) w
 
 -- The bytes of the folder, with those not yet committed.
 abbrev pub held_by : DiskState → Folder → BaseBytes
-held_by disk folder = and_waiting (base_at disk (path_of folder) folder.told) folder.waiting
+held_by disk folder = and_waiting (base_at disk (path_of folder) folder.recorded) folder.waiting
 
 -- No bytes wait to be written.
 pub record IsWritten (folder : Folder) : Type 0 where
@@ -28,37 +28,37 @@ pub record IsWritten (folder : Folder) : Type 0 where
 
 -- Its files exist and are as long as its record says. Its count of keys includes those in the file and those that wait.
 pub record IsLegible (disk : DiskState) (folder : Folder) : Type 0 where
-  pub names : AreNames folder.names folder.told.number
-  pub messages_there : IsSome (disk.seen (messages_of (path_of folder) folder.told.number))
-  pub messages_long : folder.told.messages ≤ length (bytes_in (disk.seen (messages_of (path_of folder) folder.told.number)))
-  pub keys_there : IsSome (disk.seen (keys_of (path_of folder) folder.told.number))
-  pub keys_long : folder.told.keys ≤ length (bytes_in (disk.seen (keys_of (path_of folder) folder.told.number)))
-  pub keys : folder.keys ≡ folder.told.keys + length folder.waiting.keys.items
+  pub names : AreNames folder.names folder.recorded.number
+  pub messages_there : IsSome (disk.seen (messages_of (path_of folder) folder.recorded.number))
+  pub messages_long : folder.recorded.messages ≤ length (bytes_in (disk.seen (messages_of (path_of folder) folder.recorded.number)))
+  pub keys_there : IsSome (disk.seen (keys_of (path_of folder) folder.recorded.number))
+  pub keys_long : folder.recorded.keys ≤ length (bytes_in (disk.seen (keys_of (path_of folder) folder.recorded.number)))
+  pub keys : folder.keys ≡ folder.recorded.keys + length folder.waiting.keys.items
 
 -- The folder has the paths of its files.
 abbrev pub IsNamed : Folder → Type 0
-IsNamed folder = AreNames folder.names folder.told.number
+IsNamed folder = AreNames folder.names folder.recorded.number
 
 -- The files agree with the folder's record of them.
 pub record IsOpen (disk : DiskState) (folder : Folder) : Type 0 where
   pub names : IsNamed folder
-  pub staged : IsStaged disk (path_of folder) folder.end folder.told
-  pub keys : folder.keys ≡ folder.told.keys + length folder.waiting.keys.items
+  pub staged : IsStaged disk (path_of folder) folder.end folder.recorded
+  pub keys : folder.keys ≡ folder.recorded.keys + length folder.waiting.keys.items
 
 -- The bytes of the last commit.
 abbrev pub committed_by : DiskState → Folder → BaseBytes
-committed_by disk folder = base_at disk (path_of folder) folder.end.told
+committed_by disk folder = base_at disk (path_of folder) folder.end.recorded
 
 -- The log of a folder that holds a base, after reading it.
 pub record IsLogOfBase (disk : DiskState) (path : List ℕ) (log : Log) : Type 0 where
-  pub digit : log.end.told.number < 10
+  pub digit : log.end.recorded.number < 10
   pub read : IsRead log
   pub same : Honestly disk (IsLogIn path disk.seen log)
-  pub stands : Honestly disk (StandsFor path (base_at disk path log.end.told) disk.seen)
+  pub represented : Honestly disk (Represents path (base_at disk path log.end.recorded) disk.seen)
 
 -- The folder was opened at this path, and no message was added since.
 pub record IsFresh (at : List ℕ) (folder : Folder) : Type 0 where
   pub named : IsNamed folder
   pub path : path_of folder ≡ at
-  pub settled : folder.told ≡ folder.end.told
+  pub settled : folder.recorded ≡ folder.end.recorded
   pub written : IsWritten folder

@@ -7,7 +7,7 @@ use Rattle.base_store.specs.declared.index.Index.{Index}
 use Rattle.base_store.specs.Store.{StoreState}
 use Rattle.base_folder_store.specs.Added.{HasRoomFor, IsFull}
 use Rattle.base_folder_store.specs.Ahead.{AreParts}
-use Rattle.base_folder_store.specs.Held.{HoldsBase, StandsForBase}
+use Rattle.base_folder_store.specs.Held.{HoldsBase, RepresentsBase}
 use Rattle.base_folder_store.specs.Opened.{IsNamed, IsOpen, committed_by, held_by, path_of}
 use Rattle.base_folder_store.specs.declared.folder.Folder.{Folder}
 use Rattle.base_folder_store.specs.declared.read_ahead.Buffers.{Buffers}
@@ -25,13 +25,13 @@ state_of disk keyed folder message = record {
   keeps = λ base. HoldsBase keyed (held_by disk folder) base;
   committed = λ base. HoldsBase keyed (committed_by disk folder) base;
   at_hand = message;
-  stands = λ base c. StandsForBase keyed (path_of folder) base c;
+  represented = λ base c. RepresentsBase keyed (path_of folder) base c;
   is_own = λ m. IsIn (path_of folder) m;
   undoes = ⊥;
   is_full = IsFull folder;
   has_room = HasRoomFor folder;
-  stays = λ honest usable base is c left. record { bytes = committed_by disk folder; stands = (usable.opened honest).staged.stands c left; holds = is };
-  shown = λ honest usable base is. record { bytes = committed_by disk folder; stands = (usable.opened honest).staged.shown; holds = is };
+  stays = λ honest usable base is c left. record { bytes = committed_by disk folder; represented = (usable.opened honest).staged.represented c left; holds = is };
+  shown = λ honest usable base is. record { bytes = committed_by disk folder; represented = (usable.opened honest).staged.shown; holds = is };
 }
 
 -- If the disk was honest, the index is one of the folder's keys, and the buffers are parts of the folder's bytes.
@@ -46,7 +46,7 @@ where_so s so = record {
   keeps = s.keeps;
   committed = s.committed;
   at_hand = s.at_hand;
-  stands = s.stands;
+  represented = s.represented;
   is_own = s.is_own;
   undoes = s.undoes;
   is_full = s.is_full;

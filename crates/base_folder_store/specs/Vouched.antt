@@ -13,7 +13,7 @@ use Rattle.base_folder_store.specs.declared.folder.Folder.{Folder}
 -- The folder is only read: no bytes wait, and if the disk was honest its messages are readable.
 pub record IsLookedAt (disk : DiskState) (folder : Folder) : Type 0 where
   pub written : IsWritten folder
-  pub keys : folder.keys ≡ folder.told.keys
+  pub keys : folder.keys ≡ folder.recorded.keys
   pub legible : Honestly disk (0 < folder.keys → IsLegible disk folder)
 
 -- These bytes have the message of this number in this stored form.

@@ -3,11 +3,11 @@ ghost use Rattle.std.specs.Prelude.{◌≡◌, ◌≢◌, ◌≤◌, ◌<◌, �
 ghost use Rattle.disk_io.specs.Disk.{Honestly};
 ghost use Rattle.disk_io.specs.Runs.{HasCause, LeavesOnly};
 ghost use Rattle.base_log.specs.AtRest.{IsAtRest, IsStaged};
-ghost use Rattle.base_log.specs.Moments.{LeavesOutside, StandsAlone};
+ghost use Rattle.base_log.specs.Moments.{LeavesOutside, RepresentsAlone};
 ghost use Rattle.base_log.specs.Opening.{AreGone};
 ghost use Rattle.base_log.specs.Names.{AreNames, folder_of};
 ghost use Rattle.base_log.specs.Standing.{base_at};
-ghost use Rattle.base_folder_store.specs.Added.{IsFull, LacksRoom, OneMoreWaits, SameBesideBoth, next_place, with_stored};
+ghost use Rattle.base_folder_store.specs.Added.{IsFull, LacksRoom, OneMoreWaits, SameOthersThanBoth, next_place, with_stored};
 ghost use Rattle.base_folder_store.specs.Calls.{CommitsOnly, HasWriteCause, IsAcknowledged, IsWrittenOut, StagesBoth, StagesOnly, StaysInFiles, StaysOpen};
 ghost use Rattle.base_folder_store.specs.Opened.{IsWritten, committed_by, held_by, path_of};
 ghost use Rattle.base_folder_store.specs.State.{IsUsable};
@@ -28,32 +28,35 @@ fn stage_both<D: Disk>(
     disk: &mut D,
     names: &Names,
     end: End,
-    told: CommitRecord,
+    recorded: CommitRecord,
     bytes: &[u8],
     keys: &[u8],
 ) -> Result<CommitRecord, DiskError>
-    requires names { AreNames names.now told.number }
-    requires staged { Honestly (D.state disk.old) (IsStaged (D.state disk.old) (folder_of names.now) end told) }
-    requires messages_room { told.messages + length bytes.now < 2 ^ 64 }
-    requires keys_room { told.keys + length keys.now < 2 ^ 64 }
-    ensures staged { IfOk result (λ more. StagesBoth (folder_of names.now) (D.state disk.old) (D.state disk.new) end told more bytes.now keys.now) }
-    ensures beside { SameBesideBoth (folder_of names.now) told.number (D.state disk.old).seen (D.state disk.new).seen }
-    ensures run { StagesOnly (folder_of names.now) (base_at (D.state disk.old) (folder_of names.now) end.told) (D.state disk.old) (D.state disk.new) }
+    requires names { AreNames names.now recorded.number }
+    requires staged { Honestly (D.state disk.old) (IsStaged (D.state disk.old) (folder_of names.now) end recorded) }
+    requires messages_room { recorded.messages + length bytes.now < 2 ^ 64 }
+    requires keys_room { recorded.keys + length keys.now < 2 ^ 64 }
+    ensures staged { IfOk result (λ more. StagesBoth (folder_of names.now) (D.state disk.old) (D.state disk.new) end recorded more bytes.now keys.now) }
+    ensures others { SameOthersThanBoth (folder_of names.now) recorded.number (D.state disk.old).seen (D.state disk.new).seen }
+    ensures run { StagesOnly (folder_of names.now) (base_at (D.state disk.old) (folder_of names.now) end.recorded) (D.state disk.old) (D.state disk.new) }
     ensures leaves { LeavesOutside (folder_of names.now) (D.state disk.old) (D.state disk.new) }
     ensures cause { HasCause (D.failures disk.old) (D.failures disk.new) result }
 {
-    let more = stage_bytes(disk, names, end, told, GrowingFile::Messages, bytes)?;
+    let more = stage_bytes(disk, names, end, recorded, GrowingFile::Messages, bytes)?;
     stage_bytes(disk, names, end, more, GrowingFile::Keys, keys)
 }
 
 impl Folder {
     // The place of the next message, if eight bytes count all bytes after so many more.
     fn next_place(&self, more: usize) -> Option<usize>
-        ensures place { IfSome result (λ place. place ≡ self.now.told.messages + length self.now.waiting.messages.items) }
+        ensures place { IfSome result (λ place. place ≡ self.now.recorded.messages + length self.now.waiting.messages.items) }
         ensures room { IfSome result (λ place. place + more < 2 ^ 64) }
         ensures none { IfNone result (2 ^ 64 ≤ next_place self.now + more) }
     {
-        let place = self.told.messages.checked_add(self.waiting.messages.len())?;
+        let place = self
+            .recorded
+            .messages
+            .checked_add(self.waiting.messages.len())?;
         if more > usize::MAX - place {
             return None;
         }
@@ -64,7 +67,7 @@ impl Folder {
     fn add(&mut self, bytes: &[u8], digest: u64) -> Result<(), StoreError>
         ensures names { self.new.names ≡ self.old.names }
         ensures end { self.new.end ≡ self.old.end }
-        ensures told { self.new.told ≡ self.old.told }
+        ensures recorded { self.new.recorded ≡ self.old.recorded }
         ensures waits { OnOk result (OneMoreWaits self.old self.new bytes.now digest) }
         ensures whole { IsErrOf result StoreError.Damaged → ⊥ }
         ensures device { IsErrOf result StoreError.Device → ⊥ }
@@ -91,17 +94,17 @@ impl Folder {
         ensures run { StagesOnly (path_of self.old) (committed_by (D.state disk.old) self.old) (D.state disk.old) (D.state disk.new) }
         ensures leaves { LeavesOutside (path_of self.old) (D.state disk.old) (D.state disk.new) }
         ensures cause { HasWriteCause (D.failures disk.old) (D.failures disk.new) result }
-        ensures many { IsErrOf result StoreError.TooMany → (2 ^ 64 ≤ next_place self.old) ⊎ (2 ^ 64 ≤ self.old.told.keys + length self.old.waiting.keys.items) }
+        ensures many { IsErrOf result StoreError.TooMany → (2 ^ 64 ≤ next_place self.old) ⊎ (2 ^ 64 ≤ self.old.recorded.keys + length self.old.waiting.keys.items) }
     {
         let messages = &self.waiting.messages;
         let keys = &self.waiting.keys;
-        if messages.len() > usize::MAX - self.told.messages
-            || keys.len() > usize::MAX - self.told.keys
+        if messages.len() > usize::MAX - self.recorded.messages
+            || keys.len() > usize::MAX - self.recorded.keys
         {
             return Err(StoreError::TooMany);
         }
-        let more = stage_both(disk, &self.names, self.end, self.told, messages, keys)?;
-        self.told = more;
+        let more = stage_both(disk, &self.names, self.end, self.recorded, messages, keys)?;
+        self.recorded = more;
         self.waiting.clear();
         Ok(())
     }
@@ -133,9 +136,9 @@ impl Folder {
 
     /// Moves the cursor to the end: all messages are scanned. Nothing is committed.
     pub fn move_to_end(&mut self)
-        ensures { self.new ≡ record self.old { told = record self.old.told { cursor = self.old.keys / 16 } } }
+        ensures { self.new ≡ record self.old { recorded = record self.old.recorded { cursor = self.old.keys / 16 } } }
     {
-        self.told.cursor = self.count() as u64;
+        self.recorded.cursor = self.count() as u64;
     }
 
     // Writes the record of its contents, all of which are written.
@@ -153,7 +156,7 @@ impl Folder {
         if self.end.gate >= usize::MAX - RECORD {
             return Err(StoreError::TooMany);
         }
-        let end = commit(disk, &self.names, self.end, self.told)?;
+        let end = commit(disk, &self.names, self.end, self.recorded)?;
         self.end = end;
         Ok(())
     }
@@ -168,7 +171,7 @@ impl Folder {
         ensures cause { HasWriteCause (D.failures disk.old) (D.failures disk.new) result }
         ensures many { IsErrOf result StoreError.TooMany → IsFull self.old }
         ensures refused { Honestly (D.state disk.new) (IsErrOf result StoreError.TooMany → LeavesOnly (D.state disk.old) (D.state disk.new)
-            (StandsAlone (path_of self.old) (D.state disk.old) (committed_by (D.state disk.old) self.old))) }
+            (RepresentsAlone (path_of self.old) (D.state disk.old) (committed_by (D.state disk.old) self.old))) }
     {
         self.write_out(disk)?;
         self.tell(disk)
@@ -178,14 +181,14 @@ impl Folder {
     fn remove_former<D: Disk>(&self, disk: &mut D, former: u8) -> Result<(), StoreError>
         requires { Honestly (D.state disk.old) (IsAtRest (D.state disk.old) (path_of self.now) self.now.end) }
         ensures settled { Honestly (D.state disk.new) (OnOk result (IsAtRest (D.state disk.new) (path_of self.now) self.now.end)) }
-        ensures gone { Honestly (D.state disk.new) (OnOk result (former < 10 → former ≢ self.now.end.told.number → AreGone (D.state disk.new) (path_of self.now) former)) }
+        ensures gone { Honestly (D.state disk.new) (OnOk result (former < 10 → former ≢ self.now.end.recorded.number → AreGone (D.state disk.new) (path_of self.now) former)) }
         ensures same { committed_by (D.state disk.new) self.now ≡ committed_by (D.state disk.old) self.now }
         ensures run { StagesOnly (path_of self.now) (committed_by (D.state disk.old) self.now) (D.state disk.old) (D.state disk.new) }
         ensures leaves { LeavesOutside (path_of self.now) (D.state disk.old) (D.state disk.new) }
         ensures cause { HasWriteCause (D.failures disk.old) (D.failures disk.new) result }
         ensures few { IsErrOf result StoreError.TooMany → ⊥ }
     {
-        if former == self.end.told.number || former > 9 {
+        if former == self.end.recorded.number || former > 9 {
             return Ok(());
         }
         let alloc = *self.names.folder.allocator();
@@ -202,16 +205,16 @@ impl Folder {
         ensures done { IsAcknowledged (D.state disk.old) (D.state disk.new) self.old self.new result }
 
         // The files that held it before are gone, if others hold it now.
-        ensures gone { Honestly (D.state disk.new) (OnOk result (self.old.end.told.number < 10 → self.old.end.told.number ≢ self.new.end.told.number
-            → AreGone (D.state disk.new) (path_of self.old) self.old.end.told.number)) }
+        ensures gone { Honestly (D.state disk.new) (OnOk result (self.old.end.recorded.number < 10 → self.old.end.recorded.number ≢ self.new.end.recorded.number
+            → AreGone (D.state disk.new) (path_of self.old) self.old.end.recorded.number)) }
         ensures run { CommitsOnly (path_of self.old) (committed_by (D.state disk.old) self.old) (held_by (D.state disk.old) self.old) (D.state disk.old) (D.state disk.new) }
         ensures leaves { LeavesOutside (path_of self.old) (D.state disk.old) (D.state disk.new) }
         ensures cause { HasWriteCause (D.failures disk.old) (D.failures disk.new) result }
         ensures many { IsErrOf result StoreError.TooMany → IsFull self.old }
         ensures refused { Honestly (D.state disk.new) (IsErrOf result StoreError.TooMany → LeavesOnly (D.state disk.old) (D.state disk.new)
-            (StandsAlone (path_of self.old) (D.state disk.old) (committed_by (D.state disk.old) self.old))) }
+            (RepresentsAlone (path_of self.old) (D.state disk.old) (committed_by (D.state disk.old) self.old))) }
     {
-        let former = self.end.told.number;
+        let former = self.end.recorded.number;
         self.acknowledge(disk)?;
         self.remove_former(disk, former)
     }

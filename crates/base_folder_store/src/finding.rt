@@ -5,7 +5,7 @@ ghost use Rattle.disk_io.specs.Disk.{Honestly};
 ghost use Rattle.disk_io.specs.Runs.{ChangesNothing};
 ghost use Rattle.echo_filed.specs.Filed.{Filed};
 ghost use Rattle.base_store.specs.Index.{IsIndexOf, covered};
-ghost use Rattle.base_store.specs.Keys.{StandWhereTold};
+ghost use Rattle.base_store.specs.Keys.{AreWhereRecorded};
 ghost use Rattle.base_folder_store.specs.Added.{next_place};
 ghost use Rattle.base_folder_store.specs.Answers.{Answers, HasReadCause, HaveDigest};
 ghost use Rattle.base_folder_store.specs.Opened.{IsLegible, held_by};
@@ -88,7 +88,7 @@ impl Folder {
         requires legible { Honestly (D.state disk.old) (IsLegible (D.state disk.old) self.now) }
         requires indexed { Honestly (D.state disk.old) (IsIndexOf (held_by (D.state disk.old) self.now).keys index.now) }
         requires covered { Honestly (D.state disk.old) (self.now.keys / 16 ≤ covered index.now digest) }
-        ensures found { Honestly (D.state disk.new) ((base : List Filed) → StandWhereTold base (held_by (D.state disk.old) self.now).messages (held_by (D.state disk.old) self.now).keys
+        ensures found { Honestly (D.state disk.new) ((base : List Filed) → AreWhereRecorded base (held_by (D.state disk.old) self.now).messages (held_by (D.state disk.old) self.now).keys
             → HaveDigest (W.test sought.now) digest base (held_by (D.state disk.old) self.now).keys
             → Answers (λ found. found ≡ list_any (W.test sought.now) base) result) }
         ensures quiet { ChangesNothing (D.state disk.old) (D.state disk.new) }
@@ -118,7 +118,7 @@ impl Folder {
     ) -> Result<bool, StoreError>
         requires legible { Honestly (D.state disk.old) (IsLegible (D.state disk.old) self.now) }
         requires indexed { Honestly (D.state disk.old) (IsIndexOf (held_by (D.state disk.old) self.now).keys index.old) }
-        ensures found { Honestly (D.state disk.new) ((base : List Filed) → StandWhereTold base (held_by (D.state disk.old) self.now).messages (held_by (D.state disk.old) self.now).keys
+        ensures found { Honestly (D.state disk.new) ((base : List Filed) → AreWhereRecorded base (held_by (D.state disk.old) self.now).messages (held_by (D.state disk.old) self.now).keys
             → HaveDigest (W.test sought.now) digest base (held_by (D.state disk.old) self.now).keys
             → Answers (λ found. found ≡ list_any (W.test sought.now) base) result) }
         ensures indexed { Honestly (D.state disk.new) (IsIndexOf (held_by (D.state disk.old) self.now).keys index.new) }

@@ -3,7 +3,7 @@ ghost use Rattle.std.specs.Prelude.{◌≡◌, ◌/◌, IfOk};
 ghost use Rattle.disk_io.specs.Disk.{Honestly};
 ghost use Rattle.disk_io.specs.Runs.{HasCause, LeavesOnly};
 ghost use Rattle.base_log.specs.Moments.{KeepsOutside};
-ghost use Rattle.base_log.specs.Opening.{AreAlone, StandsOrWasLeft};
+ghost use Rattle.base_log.specs.Opening.{AreAlone, RepresentsOrWasLeft};
 ghost use Rattle.base_log.specs.Standing.{base_at};
 ghost use Rattle.base_folder_store.specs.Opened.{IsFresh, IsLogOfBase, IsOpen, held_by};
 
@@ -21,7 +21,7 @@ pub(crate) const ENTRY: usize = 16;
 pub struct Folder {
     pub(crate) names: Names,
     pub(crate) end: End,
-    pub(crate) told: CommitRecord,
+    pub(crate) recorded: CommitRecord,
     // How many bytes the keys have, with those that wait.
     pub(crate) keys: usize,
     pub(crate) waiting: Waiting,
@@ -41,22 +41,22 @@ impl Folder {
         ensures opened { Honestly (D.state disk.new) (IfOk result (IsOpen (D.state disk.new))) }
         ensures fresh { IfOk result (IsFresh path.now) }
         ensures end { IfOk result (λ folder. folder.end ≡ log.now.end) }
-        ensures found { Honestly (D.state disk.new) (IfOk result (λ folder. held_by (D.state disk.new) folder ≡ base_at (D.state disk.old) path.now log.now.end.told)) }
+        ensures found { Honestly (D.state disk.new) (IfOk result (λ folder. held_by (D.state disk.new) folder ≡ base_at (D.state disk.old) path.now log.now.end.recorded)) }
 
         // A crash at any time leaves the same base and all else as it was, or what a crash might have left before.
         ensures any_moment { Honestly (D.state disk.new) (LeavesOnly (D.state disk.old) (D.state disk.new)
-            (StandsOrWasLeft path.now (D.state disk.old) (base_at (D.state disk.old) path.now log.now.end.told))) }
+            (RepresentsOrWasLeft path.now (D.state disk.old) (base_at (D.state disk.old) path.now log.now.end.recorded))) }
         ensures outside { KeepsOutside path.now (D.state disk.old) (D.state disk.new) }
         ensures cause { HasCause (D.failures disk.old) (D.failures disk.new) result }
     {
-        let names = Names::new(alloc, path, log.end.told.number)?;
+        let names = Names::new(alloc, path, log.end.recorded.number)?;
         open(alloc, disk, &names, log)?;
         let waiting = Waiting::new(alloc);
         Ok(Folder {
             names,
             end: log.end,
-            told: log.end.told,
-            keys: log.end.told.keys,
+            recorded: log.end.recorded,
+            keys: log.end.recorded.keys,
             waiting,
         })
     }
@@ -70,8 +70,8 @@ impl Folder {
 
     /// How many of them, from the front, were scanned.
     pub fn cursor(&self) -> usize
-        ensures { result ≡ self.now.told.cursor }
+        ensures { result ≡ self.now.recorded.cursor }
     {
-        self.told.cursor as usize
+        self.recorded.cursor as usize
     }
 }

@@ -69,7 +69,7 @@ impl<D: Disk, H: Digest> FolderStore<D, H> {
 
     /// The owner of the folder; none if it has no owner.
     pub fn owner(&self) -> Option<u64>
-        ensures { result ≡ owner_of self.now.folder.told.mark }
+        ensures { result ≡ owner_of self.now.folder.recorded.mark }
     {
         self.folder.owner()
     }

@@ -10,12 +10,12 @@ use base_store::Digest;
 impl Folder {
     /// Its owner; none if it has no owner.
     pub fn owner(&self) -> Option<u64>
-        ensures { result ≡ owner_of self.now.told.mark }
+        ensures { result ≡ owner_of self.now.recorded.mark }
     {
-        if self.told.mark.owner == 0 {
+        if self.recorded.mark.owner == 0 {
             return None;
         }
-        Some(self.told.mark.owner)
+        Some(self.recorded.mark.owner)
     }
 
     /// Gives it an owner and a key, if it has no owner and no message, and returns whether it did. Nothing is
@@ -24,29 +24,29 @@ impl Folder {
         ensures claimed { result ≡ true → IsUnclaimed self.old × (self.new ≡ with_mark self.old mark) }
         ensures refused { result ≡ false → (IsUnclaimed self.old → ⊥) × (self.new ≡ self.old) }
     {
-        if self.told.mark.owner != 0 || self.keys != 0 {
+        if self.recorded.mark.owner != 0 || self.keys != 0 {
             return false;
         }
-        self.told.mark = mark;
+        self.recorded.mark = mark;
         true
     }
 
     /// Gives it an owner, if it has none, and returns whether it did. Its key stays. Nothing is committed.
     pub fn adopt(&mut self, owner: u64) -> bool
-        ensures adopted { result ≡ true → (self.old.told.mark.owner ≡ 0) × (self.new ≡ with_owner self.old owner) }
-        ensures refused { result ≡ false → (self.old.told.mark.owner ≡ 0 → ⊥) × (self.new ≡ self.old) }
+        ensures adopted { result ≡ true → (self.old.recorded.mark.owner ≡ 0) × (self.new ≡ with_owner self.old owner) }
+        ensures refused { result ≡ false → (self.old.recorded.mark.owner ≡ 0 → ⊥) × (self.new ≡ self.old) }
     {
-        if self.told.mark.owner != 0 {
+        if self.recorded.mark.owner != 0 {
             return false;
         }
-        self.told.mark.owner = owner;
+        self.recorded.mark.owner = owner;
         true
     }
 
     /// The digest by its key.
     pub fn digest<H: Digest>(&self, bytes: &[u8]) -> u64
-        ensures { result ≡ digest_by H.keyed self.now.told.mark bytes.now }
+        ensures { result ≡ digest_by H.keyed self.now.recorded.mark bytes.now }
     {
-        H::keyed(self.told.mark.first, self.told.mark.second).of(bytes)
+        H::keyed(self.recorded.mark.first, self.recorded.mark.second).of(bytes)
     }
 }

@@ -50,20 +50,20 @@ impl Folder {
         requires readable { Honestly (D.state disk.old) (IsReadable (D.state disk.old) self.now) }
         ensures paired { IfOk result (ArePaired (D.state disk.new) self.now) }
         ensures opened { Honestly (D.state disk.new) (IfOk result (IsOpen (D.state disk.new))) }
-        ensures empty { IfOk result (λ next. held_by (D.state disk.new) next ≡ record { messages = []; keys = []; cursor = 0; mark = self.now.end.told.mark }) }
+        ensures empty { IfOk result (λ next. held_by (D.state disk.new) next ≡ record { messages = []; keys = []; cursor = 0; mark = self.now.end.recorded.mark }) }
         ensures committed { Honestly (D.state disk.new) (IfOk result (λ next. committed_by (D.state disk.new) next ≡ committed_by (D.state disk.old) self.now)) }
         ensures run { StagesOnly (path_of self.now) (committed_by (D.state disk.old) self.now) (D.state disk.old) (D.state disk.new) }
         ensures cause { HasWriteCause (D.failures disk.old) (D.failures disk.new) result }
         ensures few { IsErrOf result StoreError.TooMany → ⊥ }
     {
-        let number = other_number(self.end.told.number);
+        let number = other_number(self.end.recorded.number);
         let names = Names::new(alloc, &self.names.folder, number)?;
-        let told = stage_anew(disk, &names, self.end, number, 0)?;
+        let recorded = stage_anew(disk, &names, self.end, number, 0)?;
         let waiting = Waiting::new(alloc);
         Ok(Folder {
             names,
             end: self.end,
-            told,
+            recorded,
             keys: 0,
             waiting,
         })
@@ -89,7 +89,7 @@ impl Folder {
     {
         let stored = self.stored(alloc, disk, None, place)?;
         let digest = stored.digest;
-        let scanned = (place as u64) < self.end.told.cursor;
+        let scanned = (place as u64) < self.end.recorded.cursor;
         let left = left_of(alloc, stored.bytes, scanned)?;
         next.stage_left(disk, &left.bytes, digest)?;
         Ok(left.changed)
@@ -158,10 +158,10 @@ impl Folder {
         ensures many { IsErrOf result StoreError.TooMany → IsFull self.old }
     {
         self.commit(disk)?;
-        is_counted(self.told.messages);
+        is_counted(self.recorded.messages);
         let mut next = self.anew(alloc, disk)?;
         let changed = self.leave_all(alloc, disk, &mut next)?;
-        next.told.cursor = self.end.told.cursor;
+        next.recorded.cursor = self.end.recorded.cursor;
         *self = next;
         Ok(changed)
     }

@@ -7,7 +7,7 @@ ghost use Rattle.echo_filed.specs.Stored.{IsStored, Stored, message_in, stored_b
 ghost use Rattle.echo_filed.specs.declared.stored.Version.TheVariants.{Second};
 ghost use Rattle.base_file.specs.Alone.{MayStandAlone};
 ghost use Rattle.base_store.specs.Index.{IsIndexOf};
-ghost use Rattle.base_store.specs.Keys.{HasBytesOf, IsPieceOf, StandWhereTold, digest_at};
+ghost use Rattle.base_store.specs.Keys.{HasBytesOf, IsPieceOf, AreWhereRecorded, digest_at};
 ghost use Rattle.base_folder_store.specs.Added.{next_place};
 ghost use Rattle.base_folder_store.specs.Ahead.{AreParts, IsPartOf};
 ghost use Rattle.base_folder_store.specs.Answers.{Answers, HasReadCause, IsStoredOf};
@@ -127,7 +127,7 @@ impl Folder {
         ensures few { IsErrOf result StoreError.TooMany → ⊥ }
     {
         let (begins, ends) = (ENTRY * from, ENTRY * to);
-        let written = self.told.keys;
+        let written = self.recorded.keys;
         let waiting = &self.waiting.keys;
         if ends.saturating_sub(written) > waiting.len() {
             return Err(StoreError::Damaged);
@@ -196,7 +196,14 @@ impl Folder {
     {
         let messages = &self.names.messages;
         let waiting = &self.waiting.messages;
-        stored_at(alloc, disk, messages, self.told.messages, waiting, entry)
+        stored_at(
+            alloc,
+            disk,
+            messages,
+            self.recorded.messages,
+            waiting,
+            entry,
+        )
     }
 
     // The bytes of the message of this number, counted from 0, and its digest. Its entry may come from an index.
@@ -210,7 +217,7 @@ impl Folder {
         requires legible { Honestly (D.state disk.old) (IsLegible (D.state disk.old) self.now) }
         requires indexed { Honestly (D.state disk.old) (IfSome index (λ index. IsIndexOf (held_by (D.state disk.old) self.now).keys index.now)) }
         requires within { place < self.now.keys / 16 }
-        ensures stored { Honestly (D.state disk.new) ((base : List Filed) → StandWhereTold base (held_by (D.state disk.old) self.now).messages (held_by (D.state disk.old) self.now).keys
+        ensures stored { Honestly (D.state disk.new) ((base : List Filed) → AreWhereRecorded base (held_by (D.state disk.old) self.now).messages (held_by (D.state disk.old) self.now).keys
             → place < length base → Answers (λ stored. IsStoredOf base place stored.bytes.items) result) }
         ensures there { Honestly (D.state disk.new) ((s : Stored) → HasBytesOf (held_by (D.state disk.old) self.now).messages (held_by (D.state disk.old) self.now).keys place s
             → Answers (λ stored. stored.bytes.items ≡ stored_bytes Second s) result) }
@@ -243,7 +250,7 @@ impl Folder {
         ensures cause { HasReadCause (D.failures disk.old) (D.failures disk.new) result }
         ensures many { IsErrOf result StoreError.TooMany → 2 ^ 64 ≤ next_place self.now }
     {
-        let written = self.told.messages;
+        let written = self.recorded.messages;
         let Some(all) = written.checked_add(self.waiting.messages.len()) else {
             return Err(StoreError::TooMany);
         };
@@ -279,7 +286,7 @@ impl Folder {
         requires legible { Honestly (D.state disk.old) (IsLegible (D.state disk.old) self.now) }
         requires parts { Honestly (D.state disk.old) (AreParts (held_by (D.state disk.old) self.now).messages (held_by (D.state disk.old) self.now).keys buffers.old) }
         requires within { place < self.now.keys / 16 }
-        ensures read { Honestly (D.state disk.new) ((base : List Filed) → StandWhereTold base (held_by (D.state disk.old) self.now).messages (held_by (D.state disk.old) self.now).keys
+        ensures read { Honestly (D.state disk.new) ((base : List Filed) → AreWhereRecorded base (held_by (D.state disk.old) self.now).messages (held_by (D.state disk.old) self.now).keys
             → place < length base → Answers (λ message. slice_get base place ≡ Some message) result) }
         ensures parts { Honestly (D.state disk.new) (AreParts (held_by (D.state disk.old) self.now).messages (held_by (D.state disk.old) self.now).keys buffers.new) }
         ensures quiet { ChangesNothing (D.state disk.old) (D.state disk.new) }
@@ -288,7 +295,7 @@ impl Folder {
     {
         let next = self.behind_two(place);
         let (begins, ends) = (ENTRY * place, ENTRY * next);
-        let written = self.told.keys;
+        let written = self.recorded.keys;
         if ends > written {
             let stored = self.stored(alloc, disk, None, place)?;
             return read_alone(alloc, &stored.bytes);

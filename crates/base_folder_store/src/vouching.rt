@@ -22,18 +22,18 @@ use std::alloc::{AllocError, Global};
 impl Folder {
     /// The base folder of this path with this log. It is to be read: no file is made, and none is synced.
     pub fn look(alloc: Global, path: &[u8], log: &Log) -> Result<Folder, AllocError>
-        requires { log.now.end.told.number < 10 }
+        requires { log.now.end.recorded.number < 10 }
         ensures fresh { IfOk result (IsFresh path.now) }
         ensures end { IfOk result (λ folder. folder.end ≡ log.now.end) }
-        ensures keys { IfOk result (λ folder. folder.keys ≡ log.now.end.told.keys) }
+        ensures keys { IfOk result (λ folder. folder.keys ≡ log.now.end.recorded.keys) }
     {
-        let names = Names::new(alloc, path, log.end.told.number)?;
+        let names = Names::new(alloc, path, log.end.recorded.number)?;
         let waiting = Waiting::new(alloc);
         Ok(Folder {
             names,
             end: log.end,
-            told: log.end.told,
-            keys: log.end.told.keys,
+            recorded: log.end.recorded,
+            keys: log.end.recorded.keys,
             waiting,
         })
     }
@@ -57,7 +57,7 @@ impl Folder {
         ensures few { IsErrOf result StoreError.TooMany → ⊥ }
     {
         // Eight bytes count the messages, so `TooMany` never comes.
-        let _counted = self.told.messages;
+        let _counted = self.recorded.messages;
         let stored = self.stored(alloc, disk, None, place)?;
         let message = read_alone(alloc, &stored.bytes)?;
         if self.has_digest::<H>(alloc, &message, stored.digest)? {
@@ -74,7 +74,7 @@ impl Folder {
         message: &Filed,
         digest: u64,
     ) -> Result<bool, AllocError>
-        ensures { IfOk result (λ has. IsTrue has ↔ (digest ≡ digest_by H.keyed self.now.told.mark (digested message.now))) }
+        ensures { IfOk result (λ has. IsTrue has ↔ (digest ≡ digest_by H.keyed self.now.recorded.mark (digested message.now))) }
     {
         let key = Key::of_message(alloc, message)?;
         let digested = bytes_of_key(alloc, &key)?;

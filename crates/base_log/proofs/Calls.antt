@@ -21,7 +21,7 @@ Made d e file = ChangesAt (ThisPath file) (ThisPath file) (ThisPath file) (Chang
 
 -- it is made, or removed
 pub but_one_call : {step : Files → Files → Type 0} (d e : DiskState) (file : List ℕ) → ChangesAt (ThisPath file) (ThisPath file) (ThisPath file) step d e → KeepsButOne d e file
-but_one_call d e file call = record { seen = call.beside; named = call.named; flushed = call.flushed; alone = call.alone; honest = call.time.honest }
+but_one_call d e file call = record { seen = call.others; named = call.named; flushed = call.flushed; alone = call.alone; honest = call.time.honest }
 
 -- a failure since an earlier call
 pub cause_since : {T : Type 0} (first before now : ℕ) (result : Result T DiskError) → first ≤ before → HasCause before now result → HasCause first now result

@@ -7,11 +7,11 @@ use Rattle.disk_io.specs.Synced.{IsOnDisk}
 use Rattle.disk_io.proofs.Moments.{no_call, then_nothing, then_run, then_call, left_now, weaker_run}
 use Rattle.base_log.specs.Names.{log_of, messages_of, keys_of}
 use Rattle.base_log.specs.Log.{IsLog, IsShutAt}
-use Rattle.base_log.specs.Standing.{BaseBytes, IsEnded, IsFrontOf, IsNew, StandsFor}
-use Rattle.base_log.specs.Moments.{StandsAlone, SameOutside, KeepsOutside}
-use Rattle.base_log.specs.Opening.{AreFlushed, AreNamed, StandsOrWasLeft}
+use Rattle.base_log.specs.Standing.{BaseBytes, IsEnded, IsFrontOf, IsNew, Represents}
+use Rattle.base_log.specs.Moments.{RepresentsAlone, SameOutside, KeepsOutside}
+use Rattle.base_log.specs.Opening.{AreFlushed, AreNamed, RepresentsOrWasLeft}
 use Rattle.base_log.proofs.Calls.{Made}
-use Rattle.base_log.proofs.Same.{tells_by}
+use Rattle.base_log.proofs.Same.{recorded_base_by}
 use Rattle.base_log.proofs.Gates.{outside_log}
 use Rattle.base_log.proofs.Paths.{log_in, messages_in, keys_in, messages_not_log, keys_not_log}
 
@@ -21,15 +21,15 @@ front_none : (front bytes : List ℕ) → 0 ≡ length front → IsFrontOf front
 front_none [] bytes none = refl
 front_none (b ∷ front) bytes none = absurd (omega (arith, none))
 
-pub no_record : (path : List ℕ) (base : BaseBytes) (a c : Files) → StandsFor path base a → IsLog [] (bytes_in (a (log_of path))) → IsLog [] (bytes_in (c (log_of path))) → IsEnded path [] c → StandsFor path base c
-no_record path base a c stands was now ended =
-    let by = tells_by path base a [] stands was in
+pub no_record : (path : List ℕ) (base : BaseBytes) (a c : Files) → Represents path base a → IsLog [] (bytes_in (a (log_of path))) → IsLog [] (bytes_in (c (log_of path))) → IsEnded path [] c → Represents path base c
+no_record path base a c represented was now ended =
+    let by = recorded_base_by path base a [] represented was in
     record {
       bodies = [];
       log = now;
       ended = ended;
       there = tt;
-      tells = record {
+      recorded_base = record {
         messages_long = by.1.messages_long;
         keys_long = by.1.keys_long;
         cursor = by.1.cursor;
@@ -45,24 +45,24 @@ new_log path c new = record { rest = bytes_in (c (log_of path)); parts = refl; s
 
 -- ---- a run that changes nothing, and the run after it
 
-pub stands_quiet : (d0 d1 : DiskState) (path : List ℕ) (base : BaseBytes) → ChangesNothing d0 d1 → StandsFor path base d0.seen → StandsFor path base d1.seen
-stands_quiet d0 d1 path base quiet stands = grind arith
+pub represented_quiet : (d0 d1 : DiskState) (path : List ℕ) (base : BaseBytes) → ChangesNothing d0 d1 → Represents path base d0.seen → Represents path base d1.seen
+represented_quiet d0 d1 path base quiet represented = grind arith
 
-pub was_left : (d0 d1 : DiskState) (path : List ℕ) (base : BaseBytes) → ChangesNothing d0 d1 → LeavesOnly d0 d1 (StandsOrWasLeft path d0 base)
-was_left d0 d1 path base quiet = weaker_run d0 d1 d0.may_leave (StandsOrWasLeft path d0 base) quiet.run (λ c left. inr left)
+pub was_left : (d0 d1 : DiskState) (path : List ℕ) (base : BaseBytes) → ChangesNothing d0 d1 → LeavesOnly d0 d1 (RepresentsOrWasLeft path d0 base)
+was_left d0 d1 path base quiet = weaker_run d0 d1 d0.may_leave (RepresentsOrWasLeft path d0 base) quiet.run (λ c left. inr left)
 
 -- a base with unchanged surroundings, seen from a later state, is one from the first state
-pub alone_since : (d0 d1 : DiskState) (path : List ℕ) (base : BaseBytes) (c : Files) → KeepsOutside path d0 d1 → StandsAlone path d1 base c → StandsAlone path d0 base c
+pub alone_since : (d0 d1 : DiskState) (path : List ℕ) (base : BaseBytes) (c : Files) → KeepsOutside path d0 d1 → RepresentsAlone path d1 base c → RepresentsAlone path d0 base c
 alone_since d0 d1 path base c kept alone = grind arith
 
-pub chained_alone : (d0 d1 d2 : DiskState) (path : List ℕ) (base : BaseBytes) → LeavesOnly d0 d1 (StandsOrWasLeft path d0 base) → KeepsOutside path d0 d1
-    → LeavesOnly d1 d2 (StandsAlone path d1 base) → LeavesOnly d0 d2 (StandsOrWasLeft path d0 base)
+pub chained_alone : (d0 d1 d2 : DiskState) (path : List ℕ) (base : BaseBytes) → LeavesOnly d0 d1 (RepresentsOrWasLeft path d0 base) → KeepsOutside path d0 d1
+    → LeavesOnly d1 d2 (RepresentsAlone path d1 base) → LeavesOnly d0 d2 (RepresentsOrWasLeft path d0 base)
 chained_alone d0 d1 d2 path base first kept second =
-    then_run d0 d1 d2 (StandsOrWasLeft path d0 base) (StandsAlone path d1 base) first second (λ c alone. inl (alone_since d0 d1 path base c kept alone))
+    then_run d0 d1 d2 (RepresentsOrWasLeft path d0 base) (RepresentsAlone path d1 base) first second (λ c alone. inl (alone_since d0 d1 path base c kept alone))
 
 -- a quiet call, then a run
 pub chained_quiet : (d0 d1 d2 : DiskState) (path : List ℕ) (base : BaseBytes) → ChangesNothing d0 d1 → KeepsOutside path d0 d1
-    → LeavesOnly d1 d2 (StandsOrWasLeft path d1 base) → LeavesOnly d0 d2 (StandsOrWasLeft path d0 base)
+    → LeavesOnly d1 d2 (RepresentsOrWasLeft path d1 base) → LeavesOnly d0 d2 (RepresentsOrWasLeft path d0 base)
 chained_quiet d0 d1 d2 path base quiet kept second = grind (arith, then_run, was_left, ⊎_elim, alone_since)
 
 -- ---- a new folder gets a log, after its files were put on the disk
@@ -70,7 +70,7 @@ chained_quiet d0 d1 d2 path base quiet kept second = grind (arith, then_run, was
 making_short : (before after : Option (List ℕ)) → TornMaking before after → length (bytes_in before) ≤ 1 → length (bytes_in after) ≤ 1
 making_short before after h1 h2 = grind arith
 
-module _ (d0 d1 : DiskState) (path : List ℕ) (base : BaseBytes) (quiet : ChangesNothing d0 d1) (named : AreNamed path d0) (new : IsNew path d0.seen) (stands : StandsFor path base d0.seen) (all : AreFlushed path d1) where
+module _ (d0 d1 : DiskState) (path : List ℕ) (base : BaseBytes) (quiet : ChangesNothing d0 d1) (named : AreNamed path d0) (new : IsNew path d0.seen) (represented : Represents path base d0.seen) (all : AreFlushed path d1) where
   -- the folder is new, and nothing outside it has changed
   record NewAlone (c : Files) : Type 0 where
     outside : SameOutside path d0 c
@@ -95,10 +95,10 @@ module _ (d0 d1 : DiskState) (path : List ℕ) (base : BaseBytes) (quiet : Chang
     };
   }
 
-  from_first : (d : DiskState) → LeavesOnly d1 d NewAlone → LeavesOnly d0 d (StandsOrWasLeft path d0 base)
+  from_first : (d : DiskState) → LeavesOnly d1 d NewAlone → LeavesOnly d0 d (RepresentsOrWasLeft path d0 base)
   from_first d run =
-      then_run d0 d1 d (StandsOrWasLeft path d0 base) NewAlone (was_left d0 d1 path base quiet) run
-      (λ c was. inl (record { outside = was.outside; stands = no_record path base d0.seen c stands (new_log path d0.seen new) (new_log path c was.is) (inr was.is) }))
+      then_run d0 d1 d (RepresentsOrWasLeft path d0 base) NewAlone (was_left d0 d1 path base quiet) run
+      (λ c was. inl (record { outside = was.outside; represented = no_record path base d0.seen c represented (new_log path d0.seen new) (new_log path c was.is) (inr was.is) }))
 
   module _ (d2 : DiskState) (call : Made d1 d2 (log_of path)) where
     log_named : d1.is_named (log_of path)
@@ -107,16 +107,16 @@ module _ (d0 d1 : DiskState) (path : List ℕ) (base : BaseBytes) (quiet : Chang
     made : LeavesOnly d1 d2 NewAlone
     made =
         then_call d1 d1 d2 NewAlone (ChangesFile d1 (log_of path) TornMaking) new_first call
-        (λ a c was step. new_changed a c was (λ m ne. step.beside m ne (inl log_named)) (making_short (a (log_of path)) (c (log_of path)) (step.within log_named) was.is.log))
+        (λ a c was step. new_changed a c was (λ m ne. step.others m ne (inl log_named)) (making_short (a (log_of path)) (c (log_of path)) (step.within log_named) was.is.log))
 
-    pub made_run : LeavesOnly d0 d2 (StandsOrWasLeft path d0 base)
+    pub made_run : LeavesOnly d0 d2 (RepresentsOrWasLeft path d0 base)
     made_run = from_first d2 made
 
-    pub named_run : (d3 : DiskState) → ChangesNothing d2 d3 → LeavesOnly d0 d3 (StandsOrWasLeft path d0 base)
-    named_run d3 quiet3 = then_nothing d0 d2 d3 (StandsOrWasLeft path d0 base) made_run quiet3
+    pub named_run : (d3 : DiskState) → ChangesNothing d2 d3 → LeavesOnly d0 d3 (RepresentsOrWasLeft path d0 base)
+    named_run d3 quiet3 = then_nothing d0 d2 d3 (RepresentsOrWasLeft path d0 base) made_run quiet3
 
     -- the first gate is written, which may be torn
-    pub gate_run : (d3 d4 : DiskState) → ChangesNothing d2 d3 → d3.is_named (log_of path) → LeavesOnly d3 d4 (OneStepOn (ChangesFile d3 (log_of path) (TornWrite 0 1)) d3) → LeavesOnly d0 d4 (StandsOrWasLeft path d0 base)
+    pub gate_run : (d3 d4 : DiskState) → ChangesNothing d2 d3 → d3.is_named (log_of path) → LeavesOnly d3 d4 (OneStepOn (ChangesFile d3 (log_of path) (TornWrite 0 1)) d3) → LeavesOnly d0 d4 (RepresentsOrWasLeft path d0 base)
     gate_run d3 d4 quiet3 is_named more =
         let run = then_nothing d1 d2 d3 NewAlone made quiet3 in
         from_first d4
@@ -124,7 +124,7 @@ module _ (d0 d1 : DiskState) (path : List ℕ) (base : BaseBytes) (quiet : Chang
         (λ c from.
         let was = left_now d1 d3 NewAlone run from.0 from.1 in
         let short : length (bytes_in (c (log_of path))) ≤ 1 = omega (arith, (from.2.within is_named).no_longer, was.is.log) in
-        new_changed from.0 c was (λ m ne. from.2.beside m ne (inl is_named)) short))
+        new_changed from.0 c was (λ m ne. from.2.others m ne (inl is_named)) short))
 
 -- ---- the two files of a folder with an empty log
 
@@ -141,10 +141,10 @@ module _ (d0 : DiskState) (path : List ℕ) (on : IsOnDisk d0 (log_of path)) whe
   log_alone_made d e file inside ne named run call =
       then_call d0 d e LogAlone (ChangesFile d file TornMaking) run call
       (λ a c was changed. record {
-        log = changed.beside (log_of path) ne (inl named) ∙ was.log;
-        outside = λ m out is flushed. changed.beside m (λ e. out (subst (λ (l : List ℕ). IsIn path l) (sym e) inside)) (inl named) ∙ was.outside m out is flushed;
+        log = changed.others (log_of path) ne (inl named) ∙ was.log;
+        outside = λ m out is flushed. changed.others m (λ e. out (subst (λ (l : List ℕ). IsIn path l) (sym e) inside)) (inl named) ∙ was.outside m out is flushed;
       })
 
-  pub log_alone_stands : (d : DiskState) (base : BaseBytes) → StandsFor path base d0.seen → IsLog [] (bytes_in (d0.seen (log_of path))) → IsShutAt 0 (bytes_in (d0.seen (log_of path))) → LeavesOnly d0 d LogAlone
-      → LeavesOnly d0 d (StandsAlone path d0 base)
-  log_alone_stands d base stands empty shut run = grind (arith, weaker_run, no_record)
+  pub log_alone_represented : (d : DiskState) (base : BaseBytes) → Represents path base d0.seen → IsLog [] (bytes_in (d0.seen (log_of path))) → IsShutAt 0 (bytes_in (d0.seen (log_of path))) → LeavesOnly d0 d LogAlone
+      → LeavesOnly d0 d (RepresentsAlone path d0 base)
+  log_alone_represented d base represented empty shut run = grind (arith, weaker_run, no_record)

@@ -10,11 +10,11 @@ use Rattle.disk_io.specs.Synced.{KeepsOthers}
 use Rattle.disk_io.proofs.Moments.{one_call, weaker_run}
 use Rattle.disk_io.proofs.Tearing.{TornWrite-none, ChangesFile-none}
 use Rattle.base_log.specs.Names.{AreNames, folder_of, log_of, messages_of, keys_of}
-use Rattle.base_log.specs.Log.{IsLog, last_told, opened}
-use Rattle.base_log.specs.Standing.{BaseBytes, IsFrontOf, AreThere, StandsFor, TellsBase, base_at}
+use Rattle.base_log.specs.Log.{IsLog, last_recorded, opened}
+use Rattle.base_log.specs.Standing.{BaseBytes, IsFrontOf, AreThere, Represents, RecordsBase, base_at}
 use Rattle.base_log.specs.AtRest.{HoldsNext, IsLogAt, IsStaged}
 use Rattle.base_log.specs.Growing.{and_bytes, counted, file_of, path_in, with_more}
-use Rattle.base_log.specs.Moments.{StandsAlone}
+use Rattle.base_log.specs.Moments.{RepresentsAlone}
 use Rattle.base_log.specs.declared.log.CommitRecord.{CommitRecord}
 use Rattle.base_log.specs.declared.log.End.{End}
 use Rattle.base_log.specs.declared.names.Names.{Names}
@@ -24,7 +24,7 @@ use Rattle.base_log.proofs.Keeping.{log_moved, on_disk_kept}
 use Rattle.base_log.proofs.Calls.{Wrote, others_kept}
 use Rattle.base_log.proofs.Logs.{shut_log, shut_at}
 use Rattle.base_log.proofs.Paths.{log_not_messages, log_not_keys, messages_not_keys, keys_not_messages, messages_of-injective, keys_of-injective, messages_in, keys_in}
-use Rattle.base_log.proofs.Same.{front_long, tells_by}
+use Rattle.base_log.proofs.Same.{front_long, recorded_base_by}
 
 -- ---- bytes
 
@@ -65,36 +65,36 @@ log_not_file : (path : List ℕ) (number : ℕ) (f : GrowingFile) → log_of pat
 log_not_file path number file.Messages = log_not_messages path number
 log_not_file path number file.Keys = log_not_keys path number
 
-pub file_there : (d : DiskState) (path : List ℕ) (end : End) (told : CommitRecord) (f : GrowingFile) → IsStaged d path end told → IsSome (d.seen (file_of path told.number f))
-file_there d path end told file.Messages staged = staged.messages_there
-file_there d path end told file.Keys staged = staged.keys_there
+pub file_there : (d : DiskState) (path : List ℕ) (end : End) (recorded : CommitRecord) (f : GrowingFile) → IsStaged d path end recorded → IsSome (d.seen (file_of path recorded.number f))
+file_there d path end recorded file.Messages staged = staged.messages_there
+file_there d path end recorded file.Keys staged = staged.keys_there
 
-pub file_alone : (d : DiskState) (path : List ℕ) (end : End) (told : CommitRecord) (f : GrowingFile) → IsStaged d path end told → d.is_alone (file_of path told.number f)
-file_alone d path end told file.Messages staged = staged.messages_alone
-file_alone d path end told file.Keys staged = staged.keys_alone
+pub file_alone : (d : DiskState) (path : List ℕ) (end : End) (recorded : CommitRecord) (f : GrowingFile) → IsStaged d path end recorded → d.is_alone (file_of path recorded.number f)
+file_alone d path end recorded file.Messages staged = staged.messages_alone
+file_alone d path end recorded file.Keys staged = staged.keys_alone
 
-pub file_long : (d : DiskState) (path : List ℕ) (end : End) (told : CommitRecord) (f : GrowingFile) → IsStaged d path end told → counted told f ≤ length (bytes_in (d.seen (file_of path told.number f)))
-file_long d path end told file.Messages staged = staged.messages_long
-file_long d path end told file.Keys staged = staged.keys_long
+pub file_long : (d : DiskState) (path : List ℕ) (end : End) (recorded : CommitRecord) (f : GrowingFile) → IsStaged d path end recorded → counted recorded f ≤ length (bytes_in (d.seen (file_of path recorded.number f)))
+file_long d path end recorded file.Messages staged = staged.messages_long
+file_long d path end recorded file.Keys staged = staged.keys_long
 
-file_behind : (d : DiskState) (path : List ℕ) (end : End) (told : CommitRecord) (f : GrowingFile) → IsStaged d path end told → told.number ≡ end.told.number → counted end.told f ≤ counted told f
-file_behind d path end told file.Messages staged = staged.messages_behind
-file_behind d path end told file.Keys staged = staged.keys_behind
+file_behind : (d : DiskState) (path : List ℕ) (end : End) (recorded : CommitRecord) (f : GrowingFile) → IsStaged d path end recorded → recorded.number ≡ end.recorded.number → counted end.recorded f ≤ counted recorded f
+file_behind d path end recorded file.Messages staged = staged.messages_behind
+file_behind d path end recorded file.Keys staged = staged.keys_behind
 
 -- the bytes of a base in the file
 abbrev part : BaseBytes → GrowingFile → List ℕ
 part base file.Messages = base.messages
 part base file.Keys = base.keys
 
-part_short : (d : DiskState) (path : List ℕ) (told : CommitRecord) (f : GrowingFile) → length (part (base_at d path told) f) ≤ counted told f
-part_short d path told file.Messages = omega (arith, length-take told.messages (bytes_in (d.seen (messages_of path told.number))))
-part_short d path told file.Keys = omega (arith, length-take told.keys (bytes_in (d.seen (keys_of path told.number))))
+part_short : (d : DiskState) (path : List ℕ) (recorded : CommitRecord) (f : GrowingFile) → length (part (base_at d path recorded) f) ≤ counted recorded f
+part_short d path recorded file.Messages = omega (arith, length-take recorded.messages (bytes_in (d.seen (messages_of path recorded.number))))
+part_short d path recorded file.Keys = omega (arith, length-take recorded.keys (bytes_in (d.seen (keys_of path recorded.number))))
 
-front_in : (told : CommitRecord) (path : List ℕ) (base : BaseBytes) (files : Files) (f : GrowingFile) → TellsBase told path base files → IsFrontOf (part base f) (bytes_in (files (file_of path told.number f)))
-front_in told path base files file.Messages tells = tells.messages
-front_in told path base files file.Keys tells = tells.keys
+front_in : (recorded : CommitRecord) (path : List ℕ) (base : BaseBytes) (files : Files) (f : GrowingFile) → RecordsBase recorded path base files → IsFrontOf (part base f) (bytes_in (files (file_of path recorded.number f)))
+front_in recorded path base files file.Messages recorded_base = recorded_base.messages
+front_in recorded path base files file.Keys recorded_base = recorded_base.keys
 
-AreThere-kept : (path : List ℕ) (bodies : List (List ℕ)) (a c : Files) → ((f : GrowingFile) → IsSome (a (file_of path (last_told bodies).number f)) → IsSome (c (file_of path (last_told bodies).number f)))
+AreThere-kept : (path : List ℕ) (bodies : List (List ℕ)) (a c : Files) → ((f : GrowingFile) → IsSome (a (file_of path (last_recorded bodies).number f)) → IsSome (c (file_of path (last_recorded bodies).number f)))
     → AreThere path bodies a → AreThere path bodies c
 AreThere-kept path [] a c kept was = tt
 AreThere-kept path (body ∷ bodies) a c kept was = (kept file.Messages was.0, kept file.Keys was.1)
@@ -113,23 +113,23 @@ by_file P path k n file.Keys file.Keys same other = elim (cases_eq k n) [
 ]
 
 -- the record counts more bytes of the file, and as many of the other one
-by_count : (P : GrowingFile → ℕ → Type 0) (path : List ℕ) (told : CommitRecord) (f : GrowingFile) (n : ℕ) (g : GrowingFile) → P f (counted told f + n)
-    → (file_of path told.number g ≢ file_of path told.number f → P g (counted told g)) → P g (counted (with_more told f n) g)
-by_count P path told f n g h1 h2 = grind (arith, keys_not_messages, messages_not_keys)
+by_count : (P : GrowingFile → ℕ → Type 0) (path : List ℕ) (recorded : CommitRecord) (f : GrowingFile) (n : ℕ) (g : GrowingFile) → P f (counted recorded f + n)
+    → (file_of path recorded.number g ≢ file_of path recorded.number f → P g (counted recorded g)) → P g (counted (with_more recorded f n) g)
+by_count P path recorded f n g h1 h2 = grind (arith, keys_not_messages, messages_not_keys)
 
-more_fields : (told : CommitRecord) (f : GrowingFile) (n : ℕ) → record told { messages = counted (with_more told f n) file.Messages; keys = counted (with_more told f n) file.Keys } ≡ with_more told f n
-more_fields told file.Messages n = refl
-more_fields told file.Keys n = refl
+more_fields : (recorded : CommitRecord) (f : GrowingFile) (n : ℕ) → record recorded { messages = counted (with_more recorded f n) file.Messages; keys = counted (with_more recorded f n) file.Keys } ≡ with_more recorded f n
+more_fields recorded file.Messages n = refl
+more_fields recorded file.Keys n = refl
 
-more_bytes : (d0 d : DiskState) (path : List ℕ) (told : CommitRecord) (f : GrowingFile) (bytes : List ℕ) → ((m : List ℕ) → m ≢ file_of path told.number f → d.seen m ≡ d0.seen m)
-    → take (counted told f + length bytes) (bytes_in (d.seen (file_of path told.number f))) ≡ take (counted told f) (bytes_in (d0.seen (file_of path told.number f))) ++ bytes
-    → base_at d path (with_more told f (length bytes)) ≡ and_bytes (base_at d0 path told) f bytes
-more_bytes d0 d path told file.Messages bytes same grown =
-    let other = same (keys_of path told.number) (keys_not_messages path told.number told.number) in
-    λ i. record { messages = grown i; keys = take told.keys (bytes_in (other i)); cursor = told.cursor; mark = told.mark }
-more_bytes d0 d path told file.Keys bytes same grown =
-    let other = same (messages_of path told.number) (messages_not_keys path told.number told.number) in
-    λ i. record { messages = take told.messages (bytes_in (other i)); keys = grown i; cursor = told.cursor; mark = told.mark }
+more_bytes : (d0 d : DiskState) (path : List ℕ) (recorded : CommitRecord) (f : GrowingFile) (bytes : List ℕ) → ((m : List ℕ) → m ≢ file_of path recorded.number f → d.seen m ≡ d0.seen m)
+    → take (counted recorded f + length bytes) (bytes_in (d.seen (file_of path recorded.number f))) ≡ take (counted recorded f) (bytes_in (d0.seen (file_of path recorded.number f))) ++ bytes
+    → base_at d path (with_more recorded f (length bytes)) ≡ and_bytes (base_at d0 path recorded) f bytes
+more_bytes d0 d path recorded file.Messages bytes same grown =
+    let other = same (keys_of path recorded.number) (keys_not_messages path recorded.number recorded.number) in
+    λ i. record { messages = grown i; keys = take recorded.keys (bytes_in (other i)); cursor = recorded.cursor; mark = recorded.mark }
+more_bytes d0 d path recorded file.Keys bytes same grown =
+    let other = same (messages_of path recorded.number) (messages_not_keys path recorded.number recorded.number) in
+    λ i. record { messages = take recorded.messages (bytes_in (other i)); keys = grown i; cursor = recorded.cursor; mark = recorded.mark }
 
 -- a change of another file of the folder keeps the log
 log_kept : (d e : DiskState) (path file : List ℕ) (end : End) → log_of path ≢ file → KeepsOthers d e file → IsLogAt d path end → IsLogAt e path end
@@ -138,29 +138,29 @@ log_kept d e path file end ne kept was =
 
 -- ---- more bytes in one of them
 
-module _ (d0 d : DiskState) (path : List ℕ) (end : End) (told : CommitRecord) (f : GrowingFile) (staged : IsStaged d0 path end told) where
+module _ (d0 d : DiskState) (path : List ℕ) (end : End) (recorded : CommitRecord) (f : GrowingFile) (staged : IsStaged d0 path end recorded) where
   abbrev now : BaseBytes
-  now = base_at d0 path end.told
+  now = base_at d0 path end.recorded
 
   abbrev at : List ℕ
-  at = file_of path told.number f
+  at = file_of path recorded.number f
 
   -- files that differ only in this one, which has the same front
-  stand : (a c : Files) → StandsFor path now a → a (log_of path) ≡ d0.seen (log_of path) → ((m : List ℕ) → m ≢ at → c m ≡ a m) → (IsSome (a at) → IsSome (c at))
-      → (length (part now f) ≤ counted told f → IsFrontOf (part now f) (bytes_in (a at)) → IsFrontOf (part now f) (bytes_in (c at))) → StandsFor path now c
+  stand : (a c : Files) → Represents path now a → a (log_of path) ≡ d0.seen (log_of path) → ((m : List ℕ) → m ≢ at → c m ≡ a m) → (IsSome (a at) → IsSome (c at))
+      → (length (part now f) ≤ counted recorded f → IsFrontOf (part now f) (bytes_in (a at)) → IsFrontOf (part now f) (bytes_in (c at))) → Represents path now c
   stand a c was a_is same there front =
       let bodies = staged.log.bodies in
-      let number = (last_told bodies).number in
+      let number = (last_recorded bodies).number in
       let is = ap bytes_in a_is ∙ staged.log.log in
       let a_log : IsLog bodies (bytes_in (a (log_of path))) = shut_log bodies staged.log.closed staged.log.rest (bytes_in (a (log_of path))) staged.log.sizes staged.log.shut is in
-      let log_same = same (log_of path) (log_not_file path told.number f) in
-      let by = tells_by path now a bodies was a_log in
-      let was_front : (g : GrowingFile) → IsFrontOf (part now g) (bytes_in (a (file_of path number g))) = λ g. front_in (last_told bodies) path now a g by.1 in
+      let log_same = same (log_of path) (log_not_file path recorded.number f) in
+      let by = recorded_base_by path now a bodies was a_log in
+      let was_front : (g : GrowingFile) → IsFrontOf (part now g) (bytes_in (a (file_of path number g))) = λ g. front_in (last_recorded bodies) path now a g by.1 in
       let Kept : ℕ → GrowingFile → Type 0 = λ k g. (IsSome (a (file_of path k g)) → IsSome (c (file_of path k g))) × IsFrontOf (part now g) (bytes_in (c (file_of path k g))) in
-      let kept : (g : GrowingFile) → Kept number g = λ g. by_file Kept path number told.number g f
+      let kept : (g : GrowingFile) → Kept number g = λ g. by_file Kept path number recorded.number g f
       (λ is.
-      let behind = file_behind d0 path end told f staged (sym is ∙ ap (λ (t : CommitRecord). t.number) staged.log.told) in
-      let short = part_short d0 path end.told f in
+      let behind = file_behind d0 path end recorded f staged (sym is ∙ ap (λ (t : CommitRecord). t.number) staged.log.recorded) in
+      let short = part_short d0 path end.recorded f in
       (there, front (omega (arith, behind, short)) (subst (λ (k : ℕ). IsFrontOf (part now f) (bytes_in (a (file_of path k f)))) is (was_front f))))
       (λ ne.
       let unchanged = same (file_of path number g) ne in
@@ -170,7 +170,7 @@ module _ (d0 d : DiskState) (path : List ℕ) (end : End) (told : CommitRecord) 
         log = subst (λ b. IsLog bodies (bytes_in b)) (sym log_same) a_log;
         ended = inl (shut_at (opened bodies) staged.log.closed staged.log.rest (bytes_in (c (log_of path))) staged.log.shut (ap bytes_in log_same ∙ is));
         there = AreThere-kept path bodies a c (λ g. (kept g).0) by.0;
-        tells = record {
+        recorded_base = record {
           messages_long = by.1.messages_long;
           keys_long = by.1.keys_long;
           cursor = by.1.cursor;
@@ -181,69 +181,69 @@ module _ (d0 d : DiskState) (path : List ℕ) (end : End) (told : CommitRecord) 
         };
       }
 
-  torn : (n : ℕ) (c : Files) → OneStepOn (ChangesFile d0 at (TornWrite (counted told f) n)) d0 c → StandsAlone path d0 now c
+  torn : (n : ℕ) (c : Files) → OneStepOn (ChangesFile d0 at (TornWrite (counted recorded f) n)) d0 c → RepresentsAlone path d0 now c
   torn n c from =
       let a = from.0 in
       let changed = from.2 in
-      let inside = file_inside path told.number f in
+      let inside = file_inside path recorded.number f in
       let file_named = staged.log.named at inside in
-      let same : (m : List ℕ) → m ≢ at → c m ≡ a m = λ m ne. changed.beside m ne (inl file_named) in
+      let same : (m : List ℕ) → m ≢ at → c m ≡ a m = λ m ne. changed.others m ne (inl file_named) in
       let a_is = d0.on_disk (log_of path) staged.log.on_disk.named staged.log.on_disk.flushed a from.1 in
       let step = changed.within file_named in
       record {
         outside = λ m out named flushed. same m (λ e. out (subst (λ (l : List ℕ). IsIn path l) (sym e) inside)) ∙ d0.on_disk m named flushed a from.1;
-        stands = stand a c (staged.stands a from.1) a_is same step.there (λ le is. front_torn (part now f) (counted told f) n (a at) (c at) le is step);
+        represented = stand a c (staged.represented a from.1) a_is same step.there (λ le is. front_torn (part now f) (counted recorded f) n (a at) (c at) le is step);
       }
 
-  pub grown_run : (n : ℕ) → Wrote d0 d at (counted told f) n → LeavesOnly d0 d (StandsAlone path d0 now)
+  pub grown_run : (n : ℕ) → Wrote d0 d at (counted recorded f) n → LeavesOnly d0 d (RepresentsAlone path d0 now)
   grown_run n call =
-      let step = TornWrite (counted told f) n in
-      weaker_run d0 d (OneStepOn (ChangesFile d0 at step) d0) (StandsAlone path d0 now)
-      (one_call d0 d (ChangesFile d0 at step) (ChangesFile-none d0 at step (TornWrite-none (counted told f) n)) call (λ a c left step. step)) (torn n)
+      let step = TornWrite (counted recorded f) n in
+      weaker_run d0 d (OneStepOn (ChangesFile d0 at step) d0) (RepresentsAlone path d0 now)
+      (one_call d0 d (ChangesFile d0 at step) (ChangesFile-none d0 at step (TornWrite-none (counted recorded f) n)) call (λ a c left step. step)) (torn n)
 
-  module _ (bytes : List ℕ) (call : Wrote d0 d at (counted told f) (length bytes)) (written : IsWrittenAt (bytes_in (d0.seen at)) (counted told f) bytes (bytes_in (d.seen at))) where
+  module _ (bytes : List ℕ) (call : Wrote d0 d at (counted recorded f) (length bytes)) (written : IsWrittenAt (bytes_in (d0.seen at)) (counted recorded f) bytes (bytes_in (d.seen at))) where
     abbrev old : List ℕ
     old = bytes_in (d0.seen at)
 
     abbrev new : List ℕ
     new = bytes_in (d.seen at)
 
-    long : counted told f ≤ length old
-    long = file_long d0 path end told f staged
+    long : counted recorded f ≤ length old
+    long = file_long d0 path end recorded f staged
 
-    same : base_at d path end.told ≡ now
+    same : base_at d path end.recorded ≡ now
     same =
-        let part_same : (g : GrowingFile) → take (counted end.told g) (bytes_in (d.seen (file_of path end.told.number g))) ≡ take (counted end.told g) (bytes_in (d0.seen (file_of path end.told.number g))) =
-        λ g. by_file (λ k h. take (counted end.told h) (bytes_in (d.seen (file_of path k h))) ≡ take (counted end.told h) (bytes_in (d0.seen (file_of path k h)))) path end.told.number told.number g f
-        (λ is. written_front old bytes new (counted told f) (counted end.told f) (file_behind d0 path end told f staged (sym is)) long written)
-        (λ ne. ap (λ b. take (counted end.told g) (bytes_in b)) (call.beside (file_of path end.told.number g) ne)) in
-        λ i. record { messages = part_same file.Messages i; keys = part_same file.Keys i; cursor = end.told.cursor; mark = end.told.mark }
+        let part_same : (g : GrowingFile) → take (counted end.recorded g) (bytes_in (d.seen (file_of path end.recorded.number g))) ≡ take (counted end.recorded g) (bytes_in (d0.seen (file_of path end.recorded.number g))) =
+        λ g. by_file (λ k h. take (counted end.recorded h) (bytes_in (d.seen (file_of path k h))) ≡ take (counted end.recorded h) (bytes_in (d0.seen (file_of path k h)))) path end.recorded.number recorded.number g f
+        (λ is. written_front old bytes new (counted recorded f) (counted end.recorded f) (file_behind d0 path end recorded f staged (sym is)) long written)
+        (λ ne. ap (λ b. take (counted end.recorded g) (bytes_in b)) (call.others (file_of path end.recorded.number g) ne)) in
+        λ i. record { messages = part_same file.Messages i; keys = part_same file.Keys i; cursor = end.recorded.cursor; mark = end.recorded.mark }
 
-    pub grown_next : HoldsNext d path end.told now (and_bytes (base_at d0 path told) f bytes) (with_more told f (length bytes))
-    grown_next = record { added = more_bytes d0 d path told f bytes call.beside (written_grown old bytes new (counted told f) long written); same = same }
+    pub grown_next : HoldsNext d path end.recorded now (and_bytes (base_at d0 path recorded) f bytes) (with_more recorded f (length bytes))
+    grown_next = record { added = more_bytes d0 d path recorded f bytes call.others (written_grown old bytes new (counted recorded f) long written); same = same }
 
-    pub grown_staged : IsSome (d.seen at) → IsStaged d path end (with_more told f (length bytes))
+    pub grown_staged : IsSome (d.seen at) → IsStaged d path end (with_more recorded f (length bytes))
     grown_staged is_there =
         let n = length bytes in
-        let unchanged : (g : GrowingFile) → file_of path told.number g ≢ at → d.seen (file_of path told.number g) ≡ d0.seen (file_of path told.number g) = λ g. call.beside (file_of path told.number g) in
-        let there : (g : GrowingFile) → IsSome (d.seen (file_of path told.number g)) =
-        λ g. by_count (λ h k. IsSome (d.seen (file_of path told.number h))) path told f n g is_there (λ ne. subst (λ b. IsSome b) (sym (unchanged g ne)) (file_there d0 path end told g staged)) in
-        let more_long : (g : GrowingFile) → counted (with_more told f n) g ≤ length (bytes_in (d.seen (file_of path told.number g))) =
-        λ g. by_count (λ h k. k ≤ length (bytes_in (d.seen (file_of path told.number h)))) path told f n g (written_long old bytes new (counted told f) long written)
-        (λ ne. subst (λ b. counted told g ≤ length (bytes_in b)) (sym (unchanged g ne)) (file_long d0 path end told g staged)) in
-        let behind : (g : GrowingFile) → told.number ≡ end.told.number → counted end.told g ≤ counted (with_more told f n) g =
-        λ g is. by_count (λ h k. counted end.told h ≤ k) path told f n g (let le = file_behind d0 path end told f staged is in omega (arith, le)) (λ ne. file_behind d0 path end told g staged is) in
-        subst (λ (t : CommitRecord). IsStaged d path end t) (more_fields told f n)
+        let unchanged : (g : GrowingFile) → file_of path recorded.number g ≢ at → d.seen (file_of path recorded.number g) ≡ d0.seen (file_of path recorded.number g) = λ g. call.others (file_of path recorded.number g) in
+        let there : (g : GrowingFile) → IsSome (d.seen (file_of path recorded.number g)) =
+        λ g. by_count (λ h k. IsSome (d.seen (file_of path recorded.number h))) path recorded f n g is_there (λ ne. subst (λ b. IsSome b) (sym (unchanged g ne)) (file_there d0 path end recorded g staged)) in
+        let more_long : (g : GrowingFile) → counted (with_more recorded f n) g ≤ length (bytes_in (d.seen (file_of path recorded.number g))) =
+        λ g. by_count (λ h k. k ≤ length (bytes_in (d.seen (file_of path recorded.number h)))) path recorded f n g (written_long old bytes new (counted recorded f) long written)
+        (λ ne. subst (λ b. counted recorded g ≤ length (bytes_in b)) (sym (unchanged g ne)) (file_long d0 path end recorded g staged)) in
+        let behind : (g : GrowingFile) → recorded.number ≡ end.recorded.number → counted end.recorded g ≤ counted (with_more recorded f n) g =
+        λ g is. by_count (λ h k. counted end.recorded h ≤ k) path recorded f n g (let le = file_behind d0 path end recorded f staged is in omega (arith, le)) (λ ne. file_behind d0 path end recorded g staged is) in
+        subst (λ (t : CommitRecord). IsStaged d path end t) (more_fields recorded f n)
         (record {
-          log = log_kept d0 d path at end (log_not_file path told.number f) (others_kept d0 d at (counted told f) n call) staged.log;
-          stands = λ c left. subst (λ (b : BaseBytes). StandsFor path b c) (sym same) (torn n c (call.crash c left)).stands;
-          shown = subst (λ (b : BaseBytes). StandsFor path b d.seen) (sym same)
-              (stand d0.seen d.seen staged.shown refl call.beside (λ was. is_there) (λ le is. written_front old bytes new (counted told f) (length (part now f)) le long written ∙ is));
+          log = log_kept d0 d path at end (log_not_file path recorded.number f) (others_kept d0 d at (counted recorded f) n call) staged.log;
+          represented = λ c left. subst (λ (b : BaseBytes). Represents path b c) (sym same) (torn n c (call.crash c left)).represented;
+          shown = subst (λ (b : BaseBytes). Represents path b d.seen) (sym same)
+              (stand d0.seen d.seen staged.shown refl call.others (λ was. is_there) (λ le is. written_front old bytes new (counted recorded f) (length (part now f)) le long written ∙ is));
           digit = staged.digit;
           messages_there = there file.Messages;
           keys_there = there file.Keys;
-          messages_alone = call.alone (messages_of path told.number) (λ h. h) staged.messages_alone;
-          keys_alone = call.alone (keys_of path told.number) (λ h. h) staged.keys_alone;
+          messages_alone = call.alone (messages_of path recorded.number) (λ h. h) staged.messages_alone;
+          keys_alone = call.alone (keys_of path recorded.number) (λ h. h) staged.keys_alone;
           messages_long = more_long file.Messages;
           keys_long = more_long file.Keys;
           messages_behind = behind file.Messages;

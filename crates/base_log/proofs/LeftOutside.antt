@@ -22,10 +22,10 @@ module _ (path file : List ℕ) (d e : DiskState) (step : Option (List ℕ) → 
   pub left_changed : LeavesOnly d e (OneStepOn (ChangesFile d file step) d) → LeavesOutside path d e
   left_changed run =
       weaker_run d e (OneStepOn (ChangesFile d file step) d) (OneStepOn (SameNamedOutside path d) d) run
-      (λ c from. (from.0, from.1, λ m out named. from.2.beside m (other m out) (inr named)))
+      (λ c from. (from.0, from.1, λ m out named. from.2.others m (other m out) (inr named)))
 
   pub left_call : {changed unnamed shared : List ℕ → Type 0} → ChangesAt changed unnamed shared (ChangesFile d file step) d e → LeavesOutside path d e
-  left_call call = one_call d e (SameNamedOutside path d) (λ c m out named. refl) call (λ a c left changed m out named. changed.beside m (other m out) (inr named))
+  left_call call = one_call d e (SameNamedOutside path d) (λ c m out named. refl) call (λ a c left changed m out named. changed.others m (other m out) (inr named))
 
 -- one run after another
 pub left_twice : (path : List ℕ) (d e f : DiskState) → ((m : List ℕ) → (IsIn path m → ⊥) → d.is_named m → e.is_named m) → LeavesOutside path d e → LeavesOutside path e f → LeavesOutside path d f

@@ -3,7 +3,7 @@ use Rattle.std.proofs.Common.{◌≡◌, ◌≢◌, ◌≤◌, inl, inr, ℕ, �
 use Rattle.std.proofs.lemmas.List.{take_at, drop_at, drop-drop, get_or_at, drop_more, append-nil}
 use Rattle.disk_io.specs.Disk.{bytes_in}
 use Rattle.disk_io.specs.Steps.{IsWrittenAt, TornWrite}
-use Rattle.base_log.specs.Log.{opened, AreBodies, EndsHere, IsLog, IsShutAt, told_by, last_told}
+use Rattle.base_log.specs.Log.{opened, AreBodies, EndsHere, IsLog, IsShutAt, recorded_by, last_recorded}
 
 -- ---- one record more
 
@@ -17,10 +17,10 @@ pub AreBodies-snoc : (bodies : List (List ℕ)) (body : List ℕ) → AreBodies 
 AreBodies-snoc [] body all size = (size, tt)
 AreBodies-snoc (b ∷ bodies) body all size = (all.0, AreBodies-snoc bodies body all.1 size)
 
-pub last_told-snoc : (bodies : List (List ℕ)) (body : List ℕ) → last_told (bodies ++ body ∷ []) ≡ told_by body
-last_told-snoc [] body = refl
-last_told-snoc (b ∷ []) body = refl
-last_told-snoc (b ∷ c ∷ bodies) body = last_told-snoc (c ∷ bodies) body
+pub last_recorded-snoc : (bodies : List (List ℕ)) (body : List ℕ) → last_recorded (bodies ++ body ∷ []) ≡ recorded_by body
+last_recorded-snoc [] body = refl
+last_recorded-snoc (b ∷ []) body = refl
+last_recorded-snoc (b ∷ c ∷ bodies) body = last_recorded-snoc (c ∷ bodies) body
 
 pub shut_log : (bodies : List (List ℕ)) (gate : ℕ) (rest bytes : List ℕ) → AreBodies bodies → gate ≢ 1 → bytes ≡ opened bodies ++ gate ∷ rest → IsLog bodies bytes
 shut_log bodies gate rest bytes sizes shut is = record { rest = gate ∷ rest; parts = is; sizes = sizes; ends = inr shut }

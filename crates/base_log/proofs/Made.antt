@@ -12,7 +12,7 @@ use Rattle.base_log.specs.declared.log.End.{End}
 use Rattle.base_log.proofs.Keeping.{outside_but_one, outside_twice}
 use Rattle.base_log.proofs.Calls.{Made, but_one_call}
 use Rattle.base_log.proofs.Empty.{LogAlone, log_alone_first, log_alone_made}
-use Rattle.base_log.proofs.Paths.{keys_beside, keys_in, keys_not_messages, log_not_keys, log_not_messages, messages_beside, messages_in}
+use Rattle.base_log.proofs.Paths.{keys_others, keys_in, keys_not_messages, log_not_keys, log_not_messages, messages_others, messages_in}
 use Rattle.base_log.proofs.Renewed.{FilesAlone, alone_changed, alone_first}
 
 -- the two files of a number are made
@@ -20,16 +20,16 @@ pub outside_both : (path : List ℕ) (number : ℕ) (d0 d1 d2 : DiskState) → M
 outside_both path number d0 d1 d2 one two = grind (arith, outside_twice, outside_but_one, messages_in, but_one_call, keys_in)
 
 -- a crash during the calls leaves the files that count
-module _ (d0 : DiskState) (path : List ℕ) (end : End) (rest : IsAtRest d0 path end) (number : ℕ) (other : number ≢ end.told.number) (d1 : DiskState) (one : Made d0 d1 (messages_of path number)) where
+module _ (d0 : DiskState) (path : List ℕ) (end : End) (rest : IsAtRest d0 path end) (number : ℕ) (other : number ≢ end.recorded.number) (d1 : DiskState) (one : Made d0 d1 (messages_of path number)) where
   pub messages_run : LeavesOnly d0 d1 (FilesAlone d0 path end rest)
   messages_run =
-      alone_changed d0 path end rest TornMaking d0 d1 (messages_of path number) (messages_beside path end.told.number number other) (rest.log.named (messages_of path number) (messages_in path number)) (alone_first d0 path end rest)
+      alone_changed d0 path end rest TornMaking d0 d1 (messages_of path number) (messages_others path end.recorded.number number other) (rest.log.named (messages_of path number) (messages_in path number)) (alone_first d0 path end rest)
       one
 
   pub keys_run : (d2 : DiskState) → Made d1 d2 (keys_of path number) → LeavesOnly d0 d2 (FilesAlone d0 path end rest)
   keys_run d2 two =
       let named = one.named (keys_of path number) (keys_not_messages path number number) (rest.log.named (keys_of path number) (keys_in path number)) in
-      alone_changed d0 path end rest TornMaking d1 d2 (keys_of path number) (keys_beside path end.told.number number other) named messages_run two
+      alone_changed d0 path end rest TornMaking d1 d2 (keys_of path number) (keys_others path end.recorded.number number other) named messages_run two
 
 -- the same if only the log counts
 module _ (d0 : DiskState) (path : List ℕ) (on : IsOnDisk d0 (log_of path)) (named : AreNamed path d0) (number : ℕ) (d1 : DiskState) (one : Made d0 d1 (messages_of path number)) where

@@ -7,9 +7,9 @@ use Rattle.disk_io.specs.Synced.{IsOnDisk}
 use Rattle.disk_io.specs.Runs.{ChangesNothing}
 use Rattle.base_log.specs.AtRest.{IsAtRest, IsLogAt}
 use Rattle.base_log.specs.Names.{log_of, messages_of, keys_of}
-use Rattle.base_log.specs.Log.{opened, AreBodies, IsLog, IsShutAt, last_told, nothing_told}
+use Rattle.base_log.specs.Log.{opened, AreBodies, IsLog, IsShutAt, last_recorded, nothing_recorded}
 use Rattle.base_log.specs.Opening.{AreNamed, HasFiles, KeepsButOne}
-use Rattle.base_log.specs.Standing.{BaseBytes, AreThere, IsBroken, IsLost, IsNew, TellsBase, StandsFor, base_at}
+use Rattle.base_log.specs.Standing.{BaseBytes, AreThere, IsBroken, IsLost, IsNew, RecordsBase, Represents, base_at}
 use Rattle.base_log.specs.Reading.{ReadsAll}
 use Rattle.base_log.specs.declared.log.CommitRecord.{CommitRecord}
 use Rattle.base_log.specs.declared.log.End.{End}
@@ -18,14 +18,14 @@ use Rattle.base_log.proofs.Empty.{new_log}
 use Rattle.base_log.proofs.Logs.{shut_log, shut_at}
 use Rattle.base_log.proofs.Paths.{messages_in, keys_in, messages_not_log, keys_not_log}
 use Rattle.base_log.proofs.Quiet.{log_quiet}
-use Rattle.base_log.proofs.Same.{AreThere-both, TellsBase-seen, ended_by, front_long, tells_by}
+use Rattle.base_log.proofs.Same.{AreThere-both, RecordsBase-seen, ended_by, front_long, recorded_base_by}
 
 no_bodies : (bodies : List (List ℕ)) → AreBodies bodies → length (opened bodies) < 50 → bodies ≡ []
 no_bodies [] sizes few = refl
 no_bodies (body ∷ bodies) sizes few = absurd (omega (arith, few, sizes.0, length-append body (opened bodies)))
 
 some_bodies : (bodies : List (List ℕ)) (path : List ℕ) (files : Files) → length (opened bodies) ≢ 0 → AreThere path bodies files
-    → IsSome (files (messages_of path (last_told bodies).number)) × IsSome (files (keys_of path (last_told bodies).number))
+    → IsSome (files (messages_of path (last_recorded bodies).number)) × IsSome (files (keys_of path (last_recorded bodies).number))
 some_bodies [] path files some there = absurd (some refl)
 some_bodies (body ∷ bodies) path files some there = there
 
@@ -51,22 +51,22 @@ pub none_at : (d : DiskState) (path : List ℕ) (end : End) → IsLogAt d path e
 none_at d path end at none = grind (arith, no_bodies, shut_log, shut_at)
 
 -- the two files of a folder without a record
-pub first_files : (path : List ℕ) (files : Files) (told : CommitRecord) → told ≡ nothing_told → IsSome (files (messages_of path 0)) → IsSome (files (keys_of path 0)) → HasFiles path files told
-first_files path files told none m k = grind arith
+pub first_files : (path : List ℕ) (files : Files) (recorded : CommitRecord) → recorded ≡ nothing_recorded → IsSome (files (messages_of path 0)) → IsSome (files (keys_of path 0)) → HasFiles path files recorded
+first_files path files recorded none m k = grind arith
 
 -- the two files are put on the disk
-pub files_settled : (d e : DiskState) (path : List ℕ) (end : End) → IsLogAt d path end → ChangesNothing d e → end.told.number < 10 → HasFiles path d.seen end.told
-    → d.is_alone (messages_of path end.told.number) → d.is_alone (keys_of path end.told.number) → e.is_flushed (messages_of path end.told.number) → e.is_flushed (keys_of path end.told.number) → IsAtRest e path end
+pub files_settled : (d e : DiskState) (path : List ℕ) (end : End) → IsLogAt d path end → ChangesNothing d e → end.recorded.number < 10 → HasFiles path d.seen end.recorded
+    → d.is_alone (messages_of path end.recorded.number) → d.is_alone (keys_of path end.recorded.number) → e.is_flushed (messages_of path end.recorded.number) → e.is_flushed (keys_of path end.recorded.number) → IsAtRest e path end
 files_settled d e path end log quiet digit has m_alone k_alone m_flushed k_flushed = grind (arith, log_quiet, settled_on, messages_in, keys_in)
 
 -- files that differ only in the log
-pub files_beside : (d e : DiskState) (path : List ℕ) (told : CommitRecord) → KeepsButOne d e (log_of path) → HasFiles path d.seen told → HasFiles path e.seen told
-files_beside d e path told kept has = grind (arith, messages_not_log, keys_not_log)
+pub files_others : (d e : DiskState) (path : List ℕ) (recorded : CommitRecord) → KeepsButOne d e (log_of path) → HasFiles path d.seen recorded → HasFiles path e.seen recorded
+files_others d e path recorded kept has = grind (arith, messages_not_log, keys_not_log)
 
 -- lost files represent no base
-pub lost_none : (path : List ℕ) (files : Files) (base : BaseBytes) → IsLost path files → StandsFor path base files → ⊥
-lost_none path files base lost stands =
-    ⊎_elim (λ shut. absurd (omega (arith, shut.0, ap length lost.log))) (λ new. lost.some new.empty) stands.ended
+pub lost_none : (path : List ℕ) (files : Files) (base : BaseBytes) → IsLost path files → Represents path base files → ⊥
+lost_none path files base lost represented =
+    ⊎_elim (λ shut. absurd (omega (arith, shut.0, ap length lost.log))) (λ new. lost.some new.empty) represented.ended
 
 module _ (bytes : List ℕ) (end : End) (reads : ReadsAll bytes end) where
   abbrev pub bodies : List (List ℕ)
@@ -81,8 +81,8 @@ module _ (bytes : List ℕ) (end : End) (reads : ReadsAll bytes end) where
   pub none_read : end.gate < 50 → bodies ≡ []
   none_read few = no_bodies bodies reads.reads.sizes (omega (arith, few, reads.reads.gate))
 
-  pub nothing_read : end.gate < 50 → end.told ≡ nothing_told
-  nothing_read few = sym reads.reads.told ∙ ap last_told (none_read few)
+  pub nothing_read : end.gate < 50 → end.recorded ≡ nothing_recorded
+  nothing_read few = sym reads.reads.recorded ∙ ap last_recorded (none_read few)
 
   -- the log of a folder, which is on the disk
   pub shut_read : (d : DiskState) (path : List ℕ) → bytes ≡ bytes_in (d.seen (log_of path)) → IsShutAt end.gate bytes → IsOnDisk d (log_of path) → AreNamed path d → IsLogAt d path end
@@ -96,7 +96,7 @@ module _ (bytes : List ℕ) (end : End) (reads : ReadsAll bytes end) where
         log = sym is ∙ reads.reads.parts ∙ ap (λ (l : List ℕ). opened bodies ++ l) behind.is;
         shut = behind.shut;
         gate = reads.reads.gate;
-        told = reads.reads.told;
+        recorded = reads.reads.recorded;
         on_disk = on;
         named = named;
       }
@@ -110,36 +110,36 @@ module _ (bytes : List ℕ) (end : End) (reads : ReadsAll bytes end) where
     log_in_files : IsLog bodies (bytes_in (files (log_of path)))
     log_in_files = subst (λ (l : List ℕ). IsLog bodies l) is read_log
 
-    module _ (base : BaseBytes) (stands : StandsFor path base files) where
-      by : AreThere path bodies files × TellsBase (last_told bodies) path base files
-      by = tells_by path base files bodies stands log_in_files
+    module _ (base : BaseBytes) (represented : Represents path base files) where
+      by : AreThere path bodies files × RecordsBase (last_recorded bodies) path base files
+      by = recorded_base_by path base files bodies represented log_in_files
 
-      pub end_tells : TellsBase end.told path base files
-      end_tells = subst (λ (t : CommitRecord). TellsBase t path base files) reads.reads.told by.1
+      pub end_recorded_base : RecordsBase end.recorded path base files
+      end_recorded_base = subst (λ (t : CommitRecord). RecordsBase t path base files) reads.reads.recorded by.1
 
       pub end_shut : IsShutAt end.gate bytes ⊎ IsNew path files
       end_shut =
           ⊎_elim
           (λ shut. inl (subst (λ (l : List ℕ). IsShutAt end.gate l) (sym is) (subst (λ (n : ℕ). IsShutAt n (bytes_in (files (log_of path)))) (sym reads.reads.gate) shut)))
           (λ new. inr new)
-          (ended_by path base files bodies stands log_in_files)
+          (ended_by path base files bodies represented log_in_files)
 
-      pub has_files : end.gate ≢ 0 → HasFiles path files end.told
+      pub has_files : end.gate ≢ 0 → HasFiles path files end.recorded
       has_files some =
           let there =
-          subst (λ (t : CommitRecord). IsSome (files (messages_of path t.number)) × IsSome (files (keys_of path t.number))) reads.reads.told
+          subst (λ (t : CommitRecord). IsSome (files (messages_of path t.number)) × IsSome (files (keys_of path t.number))) reads.reads.recorded
           (some_bodies bodies path files (λ none. some (reads.reads.gate ∙ none)) by.0) in
           record {
             messages = there.0;
             keys = there.1;
-            messages_long = omega (arith, end_tells.messages_long, front_long base.messages (bytes_in (files (messages_of path end.told.number))) end_tells.messages);
-            keys_long = omega (arith, end_tells.keys_long, front_long base.keys (bytes_in (files (keys_of path end.told.number))) end_tells.keys);
+            messages_long = omega (arith, end_recorded_base.messages_long, front_long base.messages (bytes_in (files (messages_of path end.recorded.number))) end_recorded_base.messages);
+            keys_long = omega (arith, end_recorded_base.keys_long, front_long base.keys (bytes_in (files (keys_of path end.recorded.number))) end_recorded_base.keys);
           }
 
       -- the shown files have this base if they begin as these files do
-      pub base_found : (d : DiskState) → d.seen (messages_of path end.told.number) ≡ files (messages_of path end.told.number) → d.seen (keys_of path end.told.number) ≡ files (keys_of path end.told.number)
-          → base_at d path end.told ≡ base
-      base_found d m k = grind (arith, end_tells)
+      pub base_found : (d : DiskState) → d.seen (messages_of path end.recorded.number) ≡ files (messages_of path end.recorded.number) → d.seen (keys_of path end.recorded.number) ≡ files (keys_of path end.recorded.number)
+          → base_at d path end.recorded ≡ base
+      base_found d m k = grind (arith, end_recorded_base)
 
     pub none_log : end.gate < 50 → IsLog [] (bytes_in (files (log_of path)))
     none_log few = subst (λ b. IsLog b (bytes_in (files (log_of path)))) (none_read few) log_in_files
@@ -149,35 +149,35 @@ module _ (bytes : List ℕ) (end : End) (reads : ReadsAll bytes end) where
     new_few new = omega (arith, new.log, ap length is, within)
 
     -- why they represent no base
-    broken_by : length bytes ≢ 0 → ((base : BaseBytes) → StandsFor path base files → ⊥) → IsBroken path files
+    broken_by : length bytes ≢ 0 → ((base : BaseBytes) → Represents path base files → ⊥) → IsBroken path files
     broken_by some none = record { logged = λ lost. some (ap length is ∙ ap length lost.log); none = none }
 
-    pub no_digit : 10 ≤ end.told.number → IsBroken path files
-    no_digit high = grind (arith, broken_by, nothing_read, within, end_tells)
+    pub no_digit : 10 ≤ end.recorded.number → IsBroken path files
+    no_digit high = grind (arith, broken_by, nothing_read, within, end_recorded_base)
 
-    pub no_files : end.gate ≢ 0 → (HasFiles path files end.told → ⊥) → IsBroken path files
-    no_files some none = broken_by (λ empty. some (omega (arith, empty, within))) (λ base stands. none (has_files base stands some))
+    pub no_files : end.gate ≢ 0 → (HasFiles path files end.recorded → ⊥) → IsBroken path files
+    no_files some none = broken_by (λ empty. some (omega (arith, empty, within))) (λ base represented. none (has_files base represented some))
 
     pub not_new : length bytes ≢ 0 → (IsShutAt end.gate bytes → ⊥) → (IsNew path files → ⊥) → IsBroken path files
-    not_new some ajar old = broken_by some (λ base stands. ⊎_elim ajar old (end_shut base stands))
+    not_new some ajar old = broken_by some (λ base represented. ⊎_elim ajar old (end_shut base represented))
 
   -- the shown files, and the base that they represent
   module _ (d : DiskState) (path : List ℕ) (is : bytes ≡ bytes_in (d.seen (log_of path))) where
     abbrev pub seen : BaseBytes
-    seen = base_at d path end.told
+    seen = base_at d path end.recorded
 
-    nothing_seen : end.told ≡ nothing_told → TellsBase end.told path seen d.seen
-    nothing_seen told =
-        TellsBase-seen end.told path d d.seen (omega (arith, ap (λ (t : CommitRecord). t.number) told)) (omega (arith, ap (λ (t : CommitRecord). t.messages) told)) (omega (arith, ap (λ (t : CommitRecord). t.keys) told)) refl refl
+    nothing_seen : end.recorded ≡ nothing_recorded → RecordsBase end.recorded path seen d.seen
+    nothing_seen recorded =
+        RecordsBase-seen end.recorded path d d.seen (omega (arith, ap (λ (t : CommitRecord). t.number) recorded)) (omega (arith, ap (λ (t : CommitRecord). t.messages) recorded)) (omega (arith, ap (λ (t : CommitRecord). t.keys) recorded)) refl refl
 
-    pub new_stands : IsNew path d.seen → StandsFor path seen d.seen
-    new_stands new = grind (arith, nothing_read, new_few, new_log, nothing_seen)
+    pub new_represented : IsNew path d.seen → Represents path seen d.seen
+    new_represented new = grind (arith, nothing_read, new_few, new_log, nothing_seen)
 
-    shut_stands : IsShutAt end.gate bytes → AreThere path bodies d.seen → TellsBase end.told path seen d.seen → StandsFor path seen d.seen
-    shut_stands shut there tells = grind (arith, log_in_files)
+    shut_represented : IsShutAt end.gate bytes → AreThere path bodies d.seen → RecordsBase end.recorded path seen d.seen → Represents path seen d.seen
+    shut_represented shut there recorded_base = grind (arith, log_in_files)
 
-    pub first_stands : end.gate ≡ 0 → IsShutAt end.gate bytes → StandsFor path seen d.seen
-    first_stands first shut = grind (arith, shut_stands, none_read, nothing_seen, nothing_read)
+    pub first_represented : end.gate ≡ 0 → IsShutAt end.gate bytes → Represents path seen d.seen
+    first_represented first shut = grind (arith, shut_represented, none_read, nothing_seen, nothing_read)
 
-    pub files_stand : end.told.number < 10 → HasFiles path d.seen end.told → IsShutAt end.gate bytes → StandsFor path seen d.seen
-    files_stand digit has shut = grind (arith, shut_stands, AreThere-both, TellsBase-seen)
+    pub files_stand : end.recorded.number < 10 → HasFiles path d.seen end.recorded → IsShutAt end.gate bytes → Represents path seen d.seen
+    files_stand digit has shut = grind (arith, shut_represented, AreThere-both, RecordsBase-seen)

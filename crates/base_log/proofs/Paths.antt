@@ -6,7 +6,7 @@ use Rattle.std.proofs.lemmas.List.Sums.{AllPass-from_list_all}
 use Rattle.std.proofs.lemmas.Bool.{eqb-false, ne_eqb, not-true}
 use Rattle.std.specs.List.{list_all}
 use Rattle.disk_io.specs.Disk.{IsIn}
-use Rattle.base_log.specs.Names.{IsBeside, log_of, messages_of, keys_of}
+use Rattle.base_log.specs.Names.{IsOtherNumber, log_of, messages_of, keys_of}
 use Rattle.base_log.specs.declared.names.TheConstants.{LOG, MESSAGES, KEYS}
 
 pub log_not_messages : (path : List ℕ) (n : ℕ) → log_of path ≢ messages_of path n
@@ -51,8 +51,8 @@ pub keys_in : (path : List ℕ) (n : ℕ) → IsIn path (keys_of path n)
 keys_in path n = record { name = KEYS.now ++ (48 + n) ∷ []; parts = refl; plain = no_slash (KEYS.now ++ (48 + n) ∷ []) (digit n) }
 
 -- the files of another number do not count
-pub messages_beside : (path : List ℕ) (n number : ℕ) → number ≢ n → IsBeside path n (messages_of path number)
-messages_beside path n number other = grind (arith, messages_in, log_not_messages, messages_of-injective, keys_not_messages)
+pub messages_others : (path : List ℕ) (n number : ℕ) → number ≢ n → IsOtherNumber path n (messages_of path number)
+messages_others path n number other = grind (arith, messages_in, log_not_messages, messages_of-injective, keys_not_messages)
 
-pub keys_beside : (path : List ℕ) (n number : ℕ) → number ≢ n → IsBeside path n (keys_of path number)
-keys_beside path n number other = grind (arith, keys_in, log_not_keys, messages_not_keys, keys_of-injective)
+pub keys_others : (path : List ℕ) (n number : ℕ) → number ≢ n → IsOtherNumber path n (keys_of path number)
+keys_others path n number other = grind (arith, keys_in, log_not_keys, messages_not_keys, keys_of-injective)

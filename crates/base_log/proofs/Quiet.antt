@@ -11,8 +11,8 @@ use Rattle.base_log.specs.declared.log.End.{End}
 use Rattle.base_log.proofs.Keeping.{log_moved, on_disk_quiet}
 
 -- the same bytes are seen
-pub base_quiet : (d e : DiskState) (path : List ℕ) (told : CommitRecord) → ChangesNothing d e → base_at e path told ≡ base_at d path told
-base_quiet d e path told quiet = grind arith
+pub base_quiet : (d e : DiskState) (path : List ℕ) (recorded : CommitRecord) → ChangesNothing d e → base_at e path recorded ≡ base_at d path recorded
+base_quiet d e path recorded quiet = grind arith
 
 -- the same is seen
 pub seen_quiet : (d e : DiskState) → ChangesNothing d e → e.seen ≡ d.seen
@@ -24,8 +24,8 @@ log_quiet d e path end quiet was =
     log_moved d e path end was (quiet.seen (log_of path)) (on_disk_quiet d e (log_of path) quiet was.on_disk) (λ m inside. quiet.named m (λ h. h) (was.named m inside))
 
 -- a staged record remains staged
-pub staged_quiet : (d e : DiskState) (path : List ℕ) (end : End) (told : CommitRecord) → ChangesNothing d e → IsStaged d path end told → IsStaged e path end told
-staged_quiet d e path end told quiet was = grind (arith, base_quiet, log_quiet, seen_quiet)
+pub staged_quiet : (d e : DiskState) (path : List ℕ) (end : End) (recorded : CommitRecord) → ChangesNothing d e → IsStaged d path end recorded → IsStaged e path end recorded
+staged_quiet d e path end recorded quiet was = grind (arith, base_quiet, log_quiet, seen_quiet)
 
 -- a missing file remains missing, and its bytes can't return
 pub gone_quiet : (d e : DiskState) (path : List ℕ) → ChangesNothing d e → StayGone path d → StayGone path e

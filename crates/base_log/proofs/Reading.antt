@@ -2,12 +2,12 @@
 use Rattle.std.proofs.Common.{◌≡◌, ◌≤◌, ℕ, ◌+◌, List, [], ◌∷◌, ◌++◌, length, get_or, take, drop, sym, ◌∙◌, ap, arith, length-append, length-take, length-drop, take-append-drop, add-zero}
 use Rattle.std.proofs.lemmas.List.{drop_more, drop-drop, drop-take, take-take, get_or-drop, get_or-take}
 use Rattle.std.specs.Int.{w64, from_le_bytes}
-use Rattle.base_log.specs.Log.{opened, mark_by, told_by}
+use Rattle.base_log.specs.Log.{opened, mark_by, recorded_by}
 use Rattle.base_log.specs.Reading.{ReadsTo}
 use Rattle.base_log.specs.declared.log.FolderIdentity.{FolderIdentity}
 use Rattle.base_log.specs.declared.log.CommitRecord.{CommitRecord}
 use Rattle.base_log.specs.declared.log.End.{End}
-use Rattle.base_log.proofs.Logs.{opened-snoc, AreBodies-snoc, last_told-snoc}
+use Rattle.base_log.proofs.Logs.{opened-snoc, AreBodies-snoc, last_recorded-snoc}
 
 -- ---- fields
 
@@ -27,24 +27,24 @@ number_first bytes at m n le is = is ∙ ap (λ (l : List ℕ). from_le_bytes w6
 pub mark_fields : (bytes : List ℕ) (at o f s : ℕ) → o ≡ from_le_bytes w64 (take 8 (drop at bytes)) → f ≡ from_le_bytes w64 (take 8 (drop (at + 8) bytes))
     → s ≡ from_le_bytes w64 (take 8 (drop (at + 16) bytes)) → record { owner = o; first = f; second = s } ≡ mark_by (take 24 (drop at bytes))
 mark_fields bytes at o f s o_is f_is s_is =
-    let o_told = number_first bytes at 24 o (omega arith) o_is in
-    let f_told = number_within bytes at 8 16 f (omega arith) f_is in
-    let s_told = number_within bytes at 16 8 s (omega arith) s_is in
-    λ i. record { owner = o_told i; first = f_told i; second = s_told i }
+    let o_recorded = number_first bytes at 24 o (omega arith) o_is in
+    let f_recorded = number_within bytes at 8 16 f (omega arith) f_is in
+    let s_recorded = number_within bytes at 16 8 s (omega arith) s_is in
+    λ i. record { owner = o_recorded i; first = f_recorded i; second = s_recorded i }
 
 -- the four numbers that a record's bytes tell, and the mark
-pub told_fields : (bytes : List ℕ) (at m k c : ℕ) (mark : FolderIdentity) → m ≡ from_le_bytes w64 (take 8 (drop at bytes)) → k ≡ from_le_bytes w64 (take 8 (drop (at + 8) bytes))
+pub recorded_fields : (bytes : List ℕ) (at m k c : ℕ) (mark : FolderIdentity) → m ≡ from_le_bytes w64 (take 8 (drop at bytes)) → k ≡ from_le_bytes w64 (take 8 (drop (at + 8) bytes))
     → c ≡ from_le_bytes w64 (take 8 (drop (at + 16) bytes)) → mark ≡ mark_by (take 24 (drop (at + 25) bytes))
-    → record { messages = m; keys = k; cursor = c; number = get_or bytes (at + 24) 0; mark = mark } ≡ told_by (take 49 (drop at bytes))
-told_fields bytes at m k c mark m_is k_is c_is mark_is =
+    → record { messages = m; keys = k; cursor = c; number = get_or bytes (at + 24) 0; mark = mark } ≡ recorded_by (take 49 (drop at bytes))
+recorded_fields bytes at m k c mark m_is k_is c_is mark_is =
     let rest = drop at bytes in
     let number : get_or (take 49 rest) 24 0 ≡ get_or bytes (at + 24) 0 = get_or-take 49 rest 24 0 (omega arith) ∙ get_or-drop at bytes 24 0 in
     let behind : drop 25 (take 49 rest) ≡ take 24 (drop (at + 25) bytes) = drop-take 25 24 rest ∙ ap (λ (l : List ℕ). take 24 l) (drop-drop 25 at bytes) in
-    let m_told = number_first bytes at 49 m (omega arith) m_is in
-    let k_told = number_within bytes at 8 41 k (omega arith) k_is in
-    let c_told = number_within bytes at 16 33 c (omega arith) c_is in
-    let mark_told : mark ≡ mark_by (drop 25 (take 49 rest)) = mark_is ∙ ap mark_by (sym behind) in
-    λ i. record { messages = m_told i; keys = k_told i; cursor = c_told i; number = sym number i; mark = mark_told i }
+    let m_recorded = number_first bytes at 49 m (omega arith) m_is in
+    let k_recorded = number_within bytes at 8 41 k (omega arith) k_is in
+    let c_recorded = number_within bytes at 16 33 c (omega arith) c_is in
+    let mark_recorded : mark ≡ mark_by (drop 25 (take 49 rest)) = mark_is ∙ ap mark_by (sym behind) in
+    λ i. record { messages = m_recorded i; keys = k_recorded i; cursor = c_recorded i; number = sym number i; mark = mark_recorded i }
 
 -- ---- records
 
@@ -56,9 +56,9 @@ record_in_front rest long is =
     ∙ ap (λ (l : List ℕ). 1 ∷ l) (sym (take-append-drop 49 (drop 1 rest)) ∙ ap (λ (l : List ℕ). take 49 (drop 1 rest) ++ l) (drop-drop 49 1 rest))
 
 -- one record more
-pub reads_more : (bytes : List ℕ) (end : End) (told : CommitRecord) → ReadsTo bytes end (drop end.gate bytes) → 50 ≤ length (drop end.gate bytes) → get_or bytes end.gate 0 ≡ 1
-    → told ≡ told_by (take 49 (drop (end.gate + 1) bytes)) → ReadsTo bytes (record { gate = end.gate + 50; told = told }) (drop (end.gate + 50) bytes)
-reads_more bytes end told reads long is told_is =
+pub reads_more : (bytes : List ℕ) (end : End) (recorded : CommitRecord) → ReadsTo bytes end (drop end.gate bytes) → 50 ≤ length (drop end.gate bytes) → get_or bytes end.gate 0 ≡ 1
+    → recorded ≡ recorded_by (take 49 (drop (end.gate + 1) bytes)) → ReadsTo bytes (record { gate = end.gate + 50; recorded = recorded }) (drop (end.gate + 50) bytes)
+reads_more bytes end recorded reads long is recorded_is =
     let rest = drop end.gate bytes in
     let body = take 49 (drop 1 rest) in
     let size : length body ≡ 49 = omega (arith, length-take 49 (drop 1 rest), length-drop 1 rest) in
@@ -69,5 +69,5 @@ reads_more bytes end told reads long is told_is =
       parts = front ∙ ap (λ (l : List ℕ). opened (reads.bodies ++ body ∷ []) ++ l) (drop-drop 50 end.gate bytes);
       sizes = AreBodies-snoc reads.bodies body reads.sizes size;
       gate = omega (arith, reads.gate, size, ap length (opened-snoc reads.bodies body []), length-append (opened (reads.bodies ++ body ∷ [])) [], length-append (opened reads.bodies) (1 ∷ body ++ []), length-append body []);
-      told = last_told-snoc reads.bodies body ∙ ap (λ (l : List ℕ). told_by (take 49 l)) (drop-drop 1 end.gate bytes) ∙ sym told_is;
+      recorded = last_recorded-snoc reads.bodies body ∙ ap (λ (l : List ℕ). recorded_by (take 49 l)) (drop-drop 1 end.gate bytes) ∙ sym recorded_is;
     }

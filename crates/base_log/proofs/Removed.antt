@@ -4,9 +4,9 @@ use Rattle.std.specs.Prelude.{IsSome}
 use Rattle.disk_io.specs.Disk.{DiskState, IsIn}
 use Rattle.disk_io.specs.Runs.{ChangesAt, ChangesNothing, LeavesOnly, ThisPath}
 use Rattle.disk_io.specs.Steps.{ChangesFile, TornRemoval}
-use Rattle.base_log.specs.Names.{IsBeside, messages_of, keys_of}
+use Rattle.base_log.specs.Names.{IsOtherNumber, messages_of, keys_of}
 use Rattle.base_log.specs.AtRest.{IsAtRest}
-use Rattle.base_log.specs.Moments.{StandsAlone}
+use Rattle.base_log.specs.Moments.{RepresentsAlone}
 use Rattle.base_log.specs.Opening.{KeepsButOne}
 use Rattle.base_log.specs.Standing.{base_at}
 use Rattle.base_log.specs.declared.log.End.{End}
@@ -20,22 +20,22 @@ not_there None none = refl
 not_there (Some bytes) none = absurd (none refl)
 
 -- the folder is at rest once its paths are on the disk
-pub rest_beside : (d e : DiskState) (path : List ℕ) (end : End) (file : List ℕ) → IsBeside path end.told.number file → IsAtRest d path end → KeepsButOne d e file → ((m : List ℕ) → IsIn path m → e.is_named m) → IsAtRest e path end
-rest_beside d e path end file beside rest kept named = grind (arith, log_moved, on_disk_but_one)
+pub rest_others : (d e : DiskState) (path : List ℕ) (end : End) (file : List ℕ) → IsOtherNumber path end.recorded.number file → IsAtRest d path end → KeepsButOne d e file → ((m : List ℕ) → IsIn path m → e.is_named m) → IsAtRest e path end
+rest_others d e path end file others rest kept named = grind (arith, log_moved, on_disk_but_one)
 
 -- the base of the files that count is the same
-pub base_beside : (d e : DiskState) (path : List ℕ) (end : End) (file : List ℕ) → IsBeside path end.told.number file → ((m : List ℕ) → m ≢ file → e.seen m ≡ d.seen m) → base_at e path end.told ≡ base_at d path end.told
-base_beside d e path end file beside same =
-    same_base d e path end (same (messages_of path end.told.number) beside.not_messages) (same (keys_of path end.told.number) beside.not_keys)
+pub base_others : (d e : DiskState) (path : List ℕ) (end : End) (file : List ℕ) → IsOtherNumber path end.recorded.number file → ((m : List ℕ) → m ≢ file → e.seen m ≡ d.seen m) → base_at e path end.recorded ≡ base_at d path end.recorded
+base_others d e path end file others same =
+    same_base d e path end (same (messages_of path end.recorded.number) others.not_messages) (same (keys_of path end.recorded.number) others.not_keys)
 
 -- the files that a crash leaves during the calls
 module _ (d0 : DiskState) (path : List ℕ) (end : End) (rest : IsAtRest d0 path end) where
-  pub looked_run : (d1 : DiskState) → ChangesNothing d0 d1 → LeavesOnly d0 d1 (StandsAlone path d0 (base_at d0 path end.told))
+  pub looked_run : (d1 : DiskState) → ChangesNothing d0 d1 → LeavesOnly d0 d1 (RepresentsAlone path d0 (base_at d0 path end.recorded))
   looked_run d1 quiet = alone_run d0 path end rest d1 (then_nothing d0 d0 d1 (FilesAlone d0 path end rest) (alone_first d0 path end rest) quiet)
 
-  pub removed_run : (d1 d2 : DiskState) (file : List ℕ) → IsBeside path end.told.number file → ChangesNothing d0 d1
-      → ChangesAt (ThisPath file) (ThisPath file) (ThisPath file) (ChangesFile d1 file TornRemoval) d1 d2 → LeavesOnly d0 d2 (StandsAlone path d0 (base_at d0 path end.told))
-  removed_run d1 d2 file beside quiet call =
+  pub removed_run : (d1 d2 : DiskState) (file : List ℕ) → IsOtherNumber path end.recorded.number file → ChangesNothing d0 d1
+      → ChangesAt (ThisPath file) (ThisPath file) (ThisPath file) (ChangesFile d1 file TornRemoval) d1 d2 → LeavesOnly d0 d2 (RepresentsAlone path d0 (base_at d0 path end.recorded))
+  removed_run d1 d2 file others quiet call =
       alone_run d0 path end rest d2
-      (alone_changed d0 path end rest TornRemoval d1 d2 file beside (quiet.named file (λ h. h) (rest.log.named file beside.inside))
+      (alone_changed d0 path end rest TornRemoval d1 d2 file others (quiet.named file (λ h. h) (rest.log.named file others.inside))
       (then_nothing d0 d0 d1 (FilesAlone d0 path end rest) (alone_first d0 path end rest) quiet) call)

@@ -3,24 +3,24 @@ use Rattle.std.proofs.Common.{◌≡◌, ◌≢◌, ◌≤◌, ◌<◌, inl, ℕ
 use Rattle.std.specs.Prelude.{IsSome}
 use Rattle.disk_io.specs.Disk.{DiskState, Files, bytes_in}
 use Rattle.base_log.specs.Names.{log_of, messages_of, keys_of}
-use Rattle.base_log.specs.Log.{IsLog, IsShutAt, last_told, opened}
-use Rattle.base_log.specs.Standing.{BaseBytes, IsFrontOf, AreThere, IsEnded, TellsBase, StandsFor, base_at}
+use Rattle.base_log.specs.Log.{IsLog, IsShutAt, last_recorded, opened}
+use Rattle.base_log.specs.Standing.{BaseBytes, IsFrontOf, AreThere, IsEnded, RecordsBase, Represents, base_at}
 use Rattle.base_log.specs.declared.log.CommitRecord.{CommitRecord}
 use Rattle.base_log.proofs.Logs.{one_log}
 use Rattle.base_log.proofs.Paths.{messages_not_log, keys_not_log}
 
-pub AreThere-same : (path : List ℕ) (bodies : List (List ℕ)) (a c : Files) → c (messages_of path (last_told bodies).number) ≡ a (messages_of path (last_told bodies).number)
-    → c (keys_of path (last_told bodies).number) ≡ a (keys_of path (last_told bodies).number) → AreThere path bodies a → AreThere path bodies c
+pub AreThere-same : (path : List ℕ) (bodies : List (List ℕ)) (a c : Files) → c (messages_of path (last_recorded bodies).number) ≡ a (messages_of path (last_recorded bodies).number)
+    → c (keys_of path (last_recorded bodies).number) ≡ a (keys_of path (last_recorded bodies).number) → AreThere path bodies a → AreThere path bodies c
 AreThere-same path [] a c m k was = tt
 AreThere-same path (body ∷ bodies) a c m k was = (subst (λ f. IsSome f) (sym m) was.0, subst (λ f. IsSome f) (sym k) was.1)
 
-pub AreThere-both : (path : List ℕ) (bodies : List (List ℕ)) (c : Files) → IsSome (c (messages_of path (last_told bodies).number)) → IsSome (c (keys_of path (last_told bodies).number)) → AreThere path bodies c
+pub AreThere-both : (path : List ℕ) (bodies : List (List ℕ)) (c : Files) → IsSome (c (messages_of path (last_recorded bodies).number)) → IsSome (c (keys_of path (last_recorded bodies).number)) → AreThere path bodies c
 AreThere-both path [] c m k = tt
 AreThere-both path (body ∷ bodies) c m k = (m, k)
 
-pub TellsBase-same : (told : CommitRecord) (path : List ℕ) (base : BaseBytes) (a c : Files) → c (messages_of path told.number) ≡ a (messages_of path told.number)
-    → c (keys_of path told.number) ≡ a (keys_of path told.number) → TellsBase told path base a → TellsBase told path base c
-TellsBase-same told path base a c m k was = grind arith
+pub RecordsBase-same : (recorded : CommitRecord) (path : List ℕ) (base : BaseBytes) (a c : Files) → c (messages_of path recorded.number) ≡ a (messages_of path recorded.number)
+    → c (keys_of path recorded.number) ≡ a (keys_of path recorded.number) → RecordsBase recorded path base a → RecordsBase recorded path base c
+RecordsBase-same recorded path base a c m k was = grind arith
 
 pub front_taken : (n : ℕ) (bytes : List ℕ) → n ≤ length bytes → IsFrontOf (take n bytes) bytes
 front_taken n bytes le = grind (arith, length-take)
@@ -29,33 +29,33 @@ pub front_long : (front bytes : List ℕ) → IsFrontOf front bytes → length f
 front_long front bytes is = omega (arith, ap length is, length-take (length front) bytes)
 
 -- the shown base, if the files are as shown
-pub TellsBase-seen : (told : CommitRecord) (path : List ℕ) (d : DiskState) (c : Files) → told.number < 10 → told.messages ≤ length (bytes_in (d.seen (messages_of path told.number)))
-    → told.keys ≤ length (bytes_in (d.seen (keys_of path told.number))) → c (messages_of path told.number) ≡ d.seen (messages_of path told.number)
-    → c (keys_of path told.number) ≡ d.seen (keys_of path told.number) → TellsBase told path (base_at d path told) c
-TellsBase-seen told path d c digit m_long k_long m k = grind (arith, length-take, front_taken)
+pub RecordsBase-seen : (recorded : CommitRecord) (path : List ℕ) (d : DiskState) (c : Files) → recorded.number < 10 → recorded.messages ≤ length (bytes_in (d.seen (messages_of path recorded.number)))
+    → recorded.keys ≤ length (bytes_in (d.seen (keys_of path recorded.number))) → c (messages_of path recorded.number) ≡ d.seen (messages_of path recorded.number)
+    → c (keys_of path recorded.number) ≡ d.seen (keys_of path recorded.number) → RecordsBase recorded path (base_at d path recorded) c
+RecordsBase-seen recorded path d c digit m_long k_long m k = grind (arith, length-take, front_taken)
 
 -- the facts about a base by these records, which are those of its log
-pub tells_by : (path : List ℕ) (base : BaseBytes) (c : Files) (bodies : List (List ℕ)) → StandsFor path base c → IsLog bodies (bytes_in (c (log_of path))) → AreThere path bodies c × TellsBase (last_told bodies) path base c
-tells_by path base c bodies stands log =
-    let same : stands.bodies ≡ bodies = one_log stands.bodies bodies (bytes_in (c (log_of path))) stands.log log in
-    (subst (λ b. AreThere path b c) same stands.there, subst (λ b. TellsBase (last_told b) path base c) same stands.tells)
+pub recorded_base_by : (path : List ℕ) (base : BaseBytes) (c : Files) (bodies : List (List ℕ)) → Represents path base c → IsLog bodies (bytes_in (c (log_of path))) → AreThere path bodies c × RecordsBase (last_recorded bodies) path base c
+recorded_base_by path base c bodies represented log =
+    let same : represented.bodies ≡ bodies = one_log represented.bodies bodies (bytes_in (c (log_of path))) represented.log log in
+    (subst (λ b. AreThere path b c) same represented.there, subst (λ b. RecordsBase (last_recorded b) path base c) same represented.recorded_base)
 
 -- and how they end
-pub ended_by : (path : List ℕ) (base : BaseBytes) (c : Files) (bodies : List (List ℕ)) → StandsFor path base c → IsLog bodies (bytes_in (c (log_of path))) → IsEnded path bodies c
-ended_by path base c bodies stands log = subst (λ b. IsEnded path b c) (one_log stands.bodies bodies (bytes_in (c (log_of path))) stands.log log) stands.ended
+pub ended_by : (path : List ℕ) (base : BaseBytes) (c : Files) (bodies : List (List ℕ)) → Represents path base c → IsLog bodies (bytes_in (c (log_of path))) → IsEnded path bodies c
+ended_by path base c bodies represented log = subst (λ b. IsEnded path b c) (one_log represented.bodies bodies (bytes_in (c (log_of path))) represented.log log) represented.ended
 
 -- a change of the log alone, after which it has the same records and a closed gate behind them
-pub log_changed : (path : List ℕ) (base : BaseBytes) (a c : Files) (bodies : List (List ℕ)) → StandsFor path base a → IsLog bodies (bytes_in (a (log_of path)))
-    → ((m : List ℕ) → m ≢ log_of path → c m ≡ a m) → IsLog bodies (bytes_in (c (log_of path))) → IsShutAt (length (opened bodies)) (bytes_in (c (log_of path))) → StandsFor path base c
-log_changed path base a c bodies stands log same now shut =
-    let by = tells_by path base a bodies stands log in
-    let told = last_told bodies in
-    let m = same (messages_of path told.number) (messages_not_log path told.number) in
-    let k = same (keys_of path told.number) (keys_not_log path told.number) in
+pub log_changed : (path : List ℕ) (base : BaseBytes) (a c : Files) (bodies : List (List ℕ)) → Represents path base a → IsLog bodies (bytes_in (a (log_of path)))
+    → ((m : List ℕ) → m ≢ log_of path → c m ≡ a m) → IsLog bodies (bytes_in (c (log_of path))) → IsShutAt (length (opened bodies)) (bytes_in (c (log_of path))) → Represents path base c
+log_changed path base a c bodies represented log same now shut =
+    let by = recorded_base_by path base a bodies represented log in
+    let recorded = last_recorded bodies in
+    let m = same (messages_of path recorded.number) (messages_not_log path recorded.number) in
+    let k = same (keys_of path recorded.number) (keys_not_log path recorded.number) in
     record {
       bodies = bodies;
       log = now;
       ended = inl shut;
       there = AreThere-same path bodies a c m k by.0;
-      tells = TellsBase-same told path base a c m k by.1;
+      recorded_base = RecordsBase-same recorded path base a c m k by.1;
     }

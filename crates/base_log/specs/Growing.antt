@@ -19,13 +19,13 @@ file_of path number file.Keys = keys_of path number
 
 -- The number of bytes of the file that a record counts.
 abbrev pub counted : CommitRecord → GrowingFile → ℕ
-counted told file.Messages = told.messages
-counted told file.Keys = told.keys
+counted recorded file.Messages = recorded.messages
+counted recorded file.Keys = recorded.keys
 
 -- The record, with more bytes of the file counted.
 abbrev pub with_more : CommitRecord → GrowingFile → ℕ → CommitRecord
-with_more told file.Messages more = record told { messages = told.messages + more }
-with_more told file.Keys more = record told { keys = told.keys + more }
+with_more recorded file.Messages more = record recorded { messages = recorded.messages + more }
+with_more recorded file.Keys more = record recorded { keys = recorded.keys + more }
 
 -- The base, with more bytes at the end of the file.
 abbrev pub and_bytes : BaseBytes → GrowingFile → List ℕ → BaseBytes

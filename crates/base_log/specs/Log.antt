@@ -41,8 +41,8 @@ abbrev pub no_mark : FolderIdentity
 no_mark = record { owner = 0; first = 0; second = 0 }
 
 -- Three numbers of eight bytes, low byte first, one of one byte, and a mark.
-abbrev pub told_by : List ℕ → CommitRecord
-told_by body = record {
+abbrev pub recorded_by : List ℕ → CommitRecord
+recorded_by body = record {
   messages = from_le_bytes w64 (take 8 body);
   keys = from_le_bytes w64 (take 8 (drop 8 body));
   cursor = from_le_bytes w64 (take 8 (drop 16 body));
@@ -52,24 +52,24 @@ told_by body = record {
 
 -- The bytes of a record after its gate.
 abbrev pub body_of : CommitRecord → List ℕ
-body_of told = to_le_bytes w64 told.messages ++ to_le_bytes w64 told.keys ++ to_le_bytes w64 told.cursor ++ told.number ∷ []
-    ++ to_le_bytes w64 told.mark.owner ++ to_le_bytes w64 told.mark.first ++ to_le_bytes w64 told.mark.second
+body_of recorded = to_le_bytes w64 recorded.messages ++ to_le_bytes w64 recorded.keys ++ to_le_bytes w64 recorded.cursor ++ recorded.number ∷ []
+    ++ to_le_bytes w64 recorded.mark.owner ++ to_le_bytes w64 recorded.mark.first ++ to_le_bytes w64 recorded.mark.second
 
 -- Each of its numbers has eight bytes.
-pub record FitsRecord (told : CommitRecord) : Type 0 where
-  pub messages : told.messages < 2 ^ 64
-  pub keys : told.keys < 2 ^ 64
-  pub cursor : told.cursor < 2 ^ 64
-  pub owner : told.mark.owner < 2 ^ 64
-  pub first : told.mark.first < 2 ^ 64
-  pub second : told.mark.second < 2 ^ 64
+pub record FitsRecord (recorded : CommitRecord) : Type 0 where
+  pub messages : recorded.messages < 2 ^ 64
+  pub keys : recorded.keys < 2 ^ 64
+  pub cursor : recorded.cursor < 2 ^ 64
+  pub owner : recorded.mark.owner < 2 ^ 64
+  pub first : recorded.mark.first < 2 ^ 64
+  pub second : recorded.mark.second < 2 ^ 64
 
 -- The record of an empty log.
-abbrev pub nothing_told : CommitRecord
-nothing_told = record { messages = 0; keys = 0; cursor = 0; number = 0; mark = no_mark }
+abbrev pub nothing_recorded : CommitRecord
+nothing_recorded = record { messages = 0; keys = 0; cursor = 0; number = 0; mark = no_mark }
 
 -- Only the last record counts.
-abbrev pub last_told : List (List ℕ) → CommitRecord
-last_told [] = nothing_told
-last_told (body ∷ []) = told_by body
-last_told (body ∷ next ∷ bodies) = last_told (next ∷ bodies)
+abbrev pub last_recorded : List (List ℕ) → CommitRecord
+last_recorded [] = nothing_recorded
+last_recorded (body ∷ []) = recorded_by body
+last_recorded (body ∷ next ∷ bodies) = last_recorded (next ∷ bodies)

@@ -2,7 +2,7 @@
 use Rattle.std.specs.Prelude.{◌≡◌, ◌⊎◌, ℕ, List}
 use Rattle.disk_io.specs.Disk.{DiskState, Files, Honestly, IsIn}
 use Rattle.disk_io.specs.Runs.{LeavesOnly, OneStepOn}
-use Rattle.base_log.specs.Standing.{BaseBytes, StandsFor}
+use Rattle.base_log.specs.Standing.{BaseBytes, Represents}
 
 -- The files outside the folder that were on the disk are unchanged.
 abbrev pub SameOutside : List ℕ → DiskState → Files → Type 0
@@ -25,16 +25,16 @@ pub record KeepsOutside (path : List ℕ) (old new : DiskState) : Type 0 where
   pub honest : new.is_honest → old.is_honest
 
 -- The files represent this base, and everything outside the folder is unchanged.
-pub record StandsAlone (path : List ℕ) (old : DiskState) (base : BaseBytes) (c : Files) : Type 0 where
+pub record RepresentsAlone (path : List ℕ) (old : DiskState) (base : BaseBytes) (c : Files) : Type 0 where
   pub outside : SameOutside path old c
-  pub stands : StandsFor path base c
+  pub represented : Represents path base c
 
 -- The files represent the base before or the base after, and everything outside the folder is unchanged.
 pub record IsBeforeOrAfter (path : List ℕ) (old : DiskState) (first next : BaseBytes) (c : Files) : Type 0 where
   pub outside : SameOutside path old c
-  pub stands : StandsFor path first c ⊎ StandsFor path next c
+  pub represented : Represents path first c ⊎ Represents path next c
 
 -- A run that commits nothing: a crash at any time leaves this base. Everything outside the folder is unchanged.
 pub record StagesOnly (path : List ℕ) (base : BaseBytes) (old new : DiskState) : Type 0 where
-  pub any_moment : Honestly new (LeavesOnly old new (StandsAlone path old base))
+  pub any_moment : Honestly new (LeavesOnly old new (RepresentsAlone path old base))
   pub outside : KeepsOutside path old new

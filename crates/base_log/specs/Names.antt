@@ -24,7 +24,7 @@ pub record AreNames (names : Names) (number : ℕ) : Type 0 where
   pub keys : names.keys.items ≡ keys_of (folder_of names) number
 
 -- A path in the folder that is neither its log nor a file of that number.
-pub record IsBeside (path : List ℕ) (number : ℕ) (file : List ℕ) : Type 0 where
+pub record IsOtherNumber (path : List ℕ) (number : ℕ) (file : List ℕ) : Type 0 where
   pub inside : IsIn path file
   pub not_log : log_of path ≢ file
   pub not_messages : messages_of path number ≢ file

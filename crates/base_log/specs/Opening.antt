@@ -11,7 +11,7 @@ use Rattle.base_log.specs.declared.folder_error.FolderError.TheVariants as folde
 use Rattle.base_log.specs.Log.{IsLog, IsShutAt}
 use Rattle.base_log.specs.Names.{log_of, messages_of, keys_of}
 use Rattle.base_log.specs.Standing.{BaseBytes, IsNew}
-use Rattle.base_log.specs.Moments.{StandsAlone}
+use Rattle.base_log.specs.Moments.{RepresentsAlone}
 
 -- A fault of the disk as a fault of a folder.
 abbrev pub folder_cause : DiskError → FolderError
@@ -27,8 +27,8 @@ abbrev pub AreAlone : List ℕ → DiskState → Type 0
 AreAlone path disk = (m : List ℕ) → IsIn path m → disk.is_alone m
 
 -- This base with everything else unchanged, or files that a crash might have left before.
-abbrev pub StandsOrWasLeft : List ℕ → DiskState → BaseBytes → Files → Type 0
-StandsOrWasLeft path old base c = StandsAlone path old base c ⊎ old.may_leave c
+abbrev pub RepresentsOrWasLeft : List ℕ → DiskState → BaseBytes → Files → Type 0
+RepresentsOrWasLeft path old base c = RepresentsAlone path old base c ⊎ old.may_leave c
 
 -- A call reports a failure of the device only if the count of failures rose.
 pub record HasFolderCause {T : Type 0} (before now : ℕ) (result : Result T FolderError) : Type 0 where
@@ -44,11 +44,11 @@ pub record KeepsButOne (old new : DiskState) (file : List ℕ) : Type 0 where
   pub honest : new.is_honest → old.is_honest
 
 -- The two files of the number exist, and are as long as a record says.
-pub record HasFiles (path : List ℕ) (files : Files) (told : CommitRecord) : Type 0 where
-  pub messages : IsSome (files (messages_of path told.number))
-  pub keys : IsSome (files (keys_of path told.number))
-  pub messages_long : told.messages ≤ length (bytes_in (files (messages_of path told.number)))
-  pub keys_long : told.keys ≤ length (bytes_in (files (keys_of path told.number)))
+pub record HasFiles (path : List ℕ) (files : Files) (recorded : CommitRecord) : Type 0 where
+  pub messages : IsSome (files (messages_of path recorded.number))
+  pub keys : IsSome (files (keys_of path recorded.number))
+  pub messages_long : recorded.messages ≤ length (bytes_in (files (messages_of path recorded.number)))
+  pub keys_long : recorded.keys ≤ length (bytes_in (files (keys_of path recorded.number)))
 
 -- The log and the files of each number have their bytes on the disk.
 pub record AreFlushed (path : List ℕ) (disk : DiskState) : Type 0 where

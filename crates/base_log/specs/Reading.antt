@@ -2,7 +2,7 @@
 use Rattle.std.specs.Prelude.{◌≡◌, ℕ, List, ◌++◌, length}
 use Rattle.disk_io.specs.Disk.{DiskState, Files, Honestly, bytes_in}
 use Rattle.base_log.specs.Names.{log_of}
-use Rattle.base_log.specs.Log.{opened, AreBodies, EndsHere, last_told}
+use Rattle.base_log.specs.Log.{opened, AreBodies, EndsHere, last_recorded}
 use Rattle.base_log.specs.declared.log.End.{End}
 use Rattle.base_log.specs.declared.log.Log.{Log}
 
@@ -12,7 +12,7 @@ pub record ReadsTo (bytes : List ℕ) (end : End) (rest : List ℕ) : Type 0 whe
   pub parts : bytes ≡ opened bodies ++ rest
   pub sizes : AreBodies bodies
   pub gate : end.gate ≡ length (opened bodies)
-  pub told : last_told bodies ≡ end.told
+  pub recorded : last_recorded bodies ≡ end.recorded
 
 -- The reading includes all of its records.
 pub record ReadsAll (bytes : List ℕ) (end : End) : Type 0 where

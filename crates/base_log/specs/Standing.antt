@@ -2,7 +2,7 @@
 use Rattle.std.specs.Prelude.{◌≡◌, ◌<◌, ◌≤◌, ◌⊎◌, ℕ, List, [], ◌∷◌, ◌++◌, length, take, IsSome}
 use Rattle.disk_io.specs.Disk.{DiskState, Files, bytes_in}
 use Rattle.base_log.specs.Names.{log_of, messages_of, keys_of}
-use Rattle.base_log.specs.Log.{IsLog, IsShutAt, last_told, opened}
+use Rattle.base_log.specs.Log.{IsLog, IsShutAt, last_recorded, opened}
 use Rattle.base_log.specs.declared.log.FolderIdentity.{FolderIdentity}
 use Rattle.base_log.specs.declared.log.CommitRecord.{CommitRecord}
 
@@ -28,17 +28,17 @@ IsFrontOf front bytes = take (length front) bytes ≡ front
 abbrev pub AreThere : List ℕ → List (List ℕ) → Files → Type 0
 AreThere path [] files = Unit {0}
 AreThere path (body ∷ bodies) files =
-    IsSome (files (messages_of path (last_told (body ∷ bodies)).number)) × IsSome (files (keys_of path (last_told (body ∷ bodies)).number))
+    IsSome (files (messages_of path (last_recorded (body ∷ bodies)).number)) × IsSome (files (keys_of path (last_recorded (body ∷ bodies)).number))
 
 -- A record has the lengths of this base, and the files of its number begin with the base.
-pub record TellsBase (told : CommitRecord) (path : List ℕ) (base : BaseBytes) (files : Files) : Type 0 where
-  pub messages_long : told.messages ≡ length base.messages
-  pub keys_long : told.keys ≡ length base.keys
-  pub cursor : told.cursor ≡ base.cursor
-  pub mark : told.mark ≡ base.mark
-  pub digit : told.number < 10
-  pub messages : IsFrontOf base.messages (bytes_in (files (messages_of path told.number)))
-  pub keys : IsFrontOf base.keys (bytes_in (files (keys_of path told.number)))
+pub record RecordsBase (recorded : CommitRecord) (path : List ℕ) (base : BaseBytes) (files : Files) : Type 0 where
+  pub messages_long : recorded.messages ≡ length base.messages
+  pub keys_long : recorded.keys ≡ length base.keys
+  pub cursor : recorded.cursor ≡ base.cursor
+  pub mark : recorded.mark ≡ base.mark
+  pub digit : recorded.number < 10
+  pub messages : IsFrontOf base.messages (bytes_in (files (messages_of path recorded.number)))
+  pub keys : IsFrontOf base.keys (bytes_in (files (keys_of path recorded.number)))
 
 -- No file of messages or of keys has bytes.
 pub record HasNoBytes (path : List ℕ) (files : Files) : Type 0 where
@@ -56,12 +56,12 @@ IsEnded path bodies files = IsShutAt (length (opened bodies)) (bytes_in (files (
 
 -- The files represent this base, also after a crash. Bytes after the last record with an open gate do not count.
 -- Neither do bytes of the other files past the lengths in that record.
-pub record StandsFor (path : List ℕ) (base : BaseBytes) (files : Files) : Type 0 where
+pub record Represents (path : List ℕ) (base : BaseBytes) (files : Files) : Type 0 where
   pub bodies : List (List ℕ)
   pub log : IsLog bodies (bytes_in (files (log_of path)))
   pub ended : IsEnded path bodies files
   pub there : AreThere path bodies files
-  pub tells : TellsBase (last_told bodies) path base files
+  pub recorded_base : RecordsBase (last_recorded bodies) path base files
 
 -- The log is empty, but there are messages or keys.
 pub record IsLost (path : List ℕ) (files : Files) : Type 0 where
@@ -71,13 +71,13 @@ pub record IsLost (path : List ℕ) (files : Files) : Type 0 where
 -- The files represent no base, and they are not lost.
 pub record IsBroken (path : List ℕ) (files : Files) : Type 0 where
   pub logged : IsLost path files → ⊥
-  pub none : (base : BaseBytes) → StandsFor path base files → ⊥
+  pub none : (base : BaseBytes) → Represents path base files → ⊥
 
 -- The base that the shown files have by the lengths of a record.
 abbrev pub base_at : DiskState → List ℕ → CommitRecord → BaseBytes
-base_at disk path told = record {
-  messages = take told.messages (bytes_in (disk.seen (messages_of path told.number)));
-  keys = take told.keys (bytes_in (disk.seen (keys_of path told.number)));
-  cursor = told.cursor;
-  mark = told.mark;
+base_at disk path recorded = record {
+  messages = take recorded.messages (bytes_in (disk.seen (messages_of path recorded.number)));
+  keys = take recorded.keys (bytes_in (disk.seen (keys_of path recorded.number)));
+  cursor = recorded.cursor;
+  mark = recorded.mark;
 }

@@ -23,13 +23,13 @@ pub fn stage_anew<D: Disk>(
     requires names { AreNames names.now number }
     requires free { IsFreeNumber end number }
     requires settled { Honestly (D.state disk.old) (IsAtRest (D.state disk.old) (folder_of names.now) end) }
-    ensures staged { Honestly (D.state disk.new) (IfOk result (λ told. IsStaged (D.state disk.new) (folder_of names.now) end told)) }
-    ensures told { IfOk result (λ told. told ≡ record { messages = 0; keys = 0; cursor = cursor; number = number; mark = end.told.mark }) }
-    ensures same { Honestly (D.state disk.new) (base_at (D.state disk.new) (folder_of names.now) end.told
-        ≡ base_at (D.state disk.old) (folder_of names.now) end.told) }
-    ensures beside { (m : List ℕ) → m ≢ messages_of (folder_of names.now) number → m ≢ keys_of (folder_of names.now) number
+    ensures staged { Honestly (D.state disk.new) (IfOk result (λ recorded. IsStaged (D.state disk.new) (folder_of names.now) end recorded)) }
+    ensures recorded { IfOk result (λ recorded. recorded ≡ record { messages = 0; keys = 0; cursor = cursor; number = number; mark = end.recorded.mark }) }
+    ensures same { Honestly (D.state disk.new) (base_at (D.state disk.new) (folder_of names.now) end.recorded
+        ≡ base_at (D.state disk.old) (folder_of names.now) end.recorded) }
+    ensures others { (m : List ℕ) → m ≢ messages_of (folder_of names.now) number → m ≢ keys_of (folder_of names.now) number
         → (D.state disk.new).seen m ≡ (D.state disk.old).seen m }
-    ensures run { StagesOnly (folder_of names.now) (base_at (D.state disk.old) (folder_of names.now) end.told) (D.state disk.old) (D.state disk.new) }
+    ensures run { StagesOnly (folder_of names.now) (base_at (D.state disk.old) (folder_of names.now) end.recorded) (D.state disk.old) (D.state disk.new) }
     ensures cause { HasCause (D.failures disk.old) (D.failures disk.new) result }
 {
     disk.create(&names.messages)?;
@@ -40,6 +40,6 @@ pub fn stage_anew<D: Disk>(
         keys: 0,
         cursor,
         number,
-        mark: end.told.mark,
+        mark: end.recorded.mark,
     })
 }

@@ -13,18 +13,18 @@ use crate::names::Names;
 use disk_io::{Disk, DiskError, write_synced};
 
 // The bytes of a record, and the closed gate after it.
-fn record_of(told: CommitRecord) -> [u8; 50]
-    ensures bytes { result ≡ body_of told ++ 0 ∷ [] }
-    ensures fits { FitsRecord told }
+fn record_of(recorded: CommitRecord) -> [u8; 50]
+    ensures bytes { result ≡ body_of recorded ++ 0 ∷ [] }
+    ensures fits { FitsRecord recorded }
 {
     let mut record = [0u8; 50];
-    record[0..8].copy_from_slice(&(told.messages as u64).to_le_bytes());
-    record[8..16].copy_from_slice(&(told.keys as u64).to_le_bytes());
-    record[16..24].copy_from_slice(&told.cursor.to_le_bytes());
-    record[24] = told.number;
-    record[25..33].copy_from_slice(&told.mark.owner.to_le_bytes());
-    record[33..41].copy_from_slice(&told.mark.first.to_le_bytes());
-    record[41..49].copy_from_slice(&told.mark.second.to_le_bytes());
+    record[0..8].copy_from_slice(&(recorded.messages as u64).to_le_bytes());
+    record[8..16].copy_from_slice(&(recorded.keys as u64).to_le_bytes());
+    record[16..24].copy_from_slice(&recorded.cursor.to_le_bytes());
+    record[24] = recorded.number;
+    record[25..33].copy_from_slice(&recorded.mark.owner.to_le_bytes());
+    record[33..41].copy_from_slice(&recorded.mark.first.to_le_bytes());
+    record[41..49].copy_from_slice(&recorded.mark.second.to_le_bytes());
     record
 }
 
@@ -34,28 +34,28 @@ pub fn commit<D: Disk>(
     disk: &mut D,
     names: &Names,
     end: End,
-    told: CommitRecord,
+    recorded: CommitRecord,
 ) -> Result<End, DiskError>
-    requires staged { IsStagedBy (D.state disk.old) names.now end told }
+    requires staged { IsStagedBy (D.state disk.old) names.now end recorded }
     requires room { end.gate + 50 < 2 ^ 64 }
 
     ensures settled { Honestly (D.state disk.new) (IfOk result (λ after. IsAtRest (D.state disk.new) (folder_of names.now) after)) }
-    ensures told { IfOk result (λ after. after.told ≡ told) }
-    ensures acknowledged { Honestly (D.state disk.new) (IfOk result (λ after. base_at (D.state disk.new) (folder_of names.now) after.told ≡ base_at (D.state disk.old) (folder_of names.now) told)) }
+    ensures recorded { IfOk result (λ after. after.recorded ≡ recorded) }
+    ensures acknowledged { Honestly (D.state disk.new) (IfOk result (λ after. base_at (D.state disk.new) (folder_of names.now) after.recorded ≡ base_at (D.state disk.old) (folder_of names.now) recorded)) }
 
     // A crash at any time of the call leaves the base from before it or the one after it, and all else as it was.
     ensures any_moment { Honestly (D.state disk.new) (LeavesOnly (D.state disk.old) (D.state disk.new)
-        (IsBeforeOrAfter (folder_of names.now) (D.state disk.old) (base_at (D.state disk.old) (folder_of names.now) end.told) (base_at (D.state disk.old) (folder_of names.now) told))) }
+        (IsBeforeOrAfter (folder_of names.now) (D.state disk.old) (base_at (D.state disk.old) (folder_of names.now) end.recorded) (base_at (D.state disk.old) (folder_of names.now) recorded))) }
     ensures outside { KeepsOutside (folder_of names.now) (D.state disk.old) (D.state disk.new) }
     ensures leaves { LeavesOutside (folder_of names.now) (D.state disk.old) (D.state disk.new) }
     ensures cause { HasCause (D.failures disk.old) (D.failures disk.new) result }
 {
     disk.sync(&names.messages)?;
     disk.sync(&names.keys)?;
-    write_synced(disk, &names.log, end.gate + 1, &record_of(told))?;
+    write_synced(disk, &names.log, end.gate + 1, &record_of(recorded))?;
     write_synced(disk, &names.log, end.gate, &[1])?;
     Ok(End {
         gate: end.gate + 50,
-        told,
+        recorded,
     })
 }

@@ -6,7 +6,7 @@ ghost use Rattle.base_log.specs.Log.{IsShutAt};
 ghost use Rattle.base_log.specs.Names.{AreNames, folder_of};
 ghost use Rattle.base_log.specs.Opening.{HasFiles, HasFolderCause};
 ghost use Rattle.base_log.specs.Reading.{IsLogIn, IsRead};
-ghost use Rattle.base_log.specs.Standing.{HasNoBytes, IsBroken, IsLost, StandsFor, base_at};
+ghost use Rattle.base_log.specs.Standing.{HasNoBytes, IsBroken, IsLost, Represents, base_at};
 
 use crate::folder_error::FolderError;
 use crate::log::{CommitRecord, Log, last_record};
@@ -98,16 +98,20 @@ fn has_bytes<D: Disk>(disk: &mut D, path: &[u8], count: usize) -> Result<bool, D
 }
 
 // Whether both files exist and are as long as the record says.
-fn has_files<D: Disk>(disk: &mut D, names: &Names, told: CommitRecord) -> Result<bool, DiskError>
-    requires { AreNames names.now told.number }
-    ensures has { Honestly (D.state disk.new) (IfOk result (λ has. IsTrue has ↔ HasFiles (folder_of names.now) (D.state disk.old).seen told)) }
+fn has_files<D: Disk>(
+    disk: &mut D,
+    names: &Names,
+    recorded: CommitRecord,
+) -> Result<bool, DiskError>
+    requires { AreNames names.now recorded.number }
+    ensures has { Honestly (D.state disk.new) (IfOk result (λ has. IsTrue has ↔ HasFiles (folder_of names.now) (D.state disk.old).seen recorded)) }
     ensures quiet { ChangesNothing (D.state disk.old) (D.state disk.new) }
     ensures cause { HasCause (D.failures disk.old) (D.failures disk.new) result }
 {
-    if !has_bytes(disk, &names.messages, told.messages)? {
+    if !has_bytes(disk, &names.messages, recorded.messages)? {
         return Ok(false);
     }
-    has_bytes(disk, &names.keys, told.keys)
+    has_bytes(disk, &names.keys, recorded.keys)
 }
 
 // The same if the log has no closed gate after its records: the folder has to be new.
@@ -120,7 +124,7 @@ fn judge_new<D: Disk>(
     requires log { Honestly (D.state disk.old) (IsLogIn folder.now (D.state disk.old).seen log.now) }
     requires read { IsRead log.now }
     requires ajar { IsShutAt log.now.end.gate log.now.bytes.items → ⊥ }
-    ensures stands { Honestly (D.state disk.new) (OnOk result (StandsFor folder.now (base_at (D.state disk.old) folder.now log.now.end.told) (D.state disk.old).seen)) }
+    ensures represented { Honestly (D.state disk.new) (OnOk result (Represents folder.now (base_at (D.state disk.old) folder.now log.now.end.recorded) (D.state disk.old).seen)) }
     ensures lost { Honestly (D.state disk.new) (IsErrOf result FolderError.Lost → IsLost folder.now (D.state disk.old).seen) }
     ensures corrupt { Honestly (D.state disk.new) (IsErrOf result FolderError.Corrupt → IsBroken folder.now (D.state disk.old).seen) }
     ensures quiet { ChangesNothing (D.state disk.old) (D.state disk.new) }
@@ -149,15 +153,15 @@ pub fn judge<D: Disk>(
 ) -> Result<(), FolderError>
     requires log { Honestly (D.state disk.old) (IsLogIn folder.now (D.state disk.old).seen log.now) }
     requires read { IsRead log.now }
-    ensures digit { OnOk result (log.now.end.told.number < 10) }
-    ensures stands { Honestly (D.state disk.new) (OnOk result (StandsFor folder.now (base_at (D.state disk.old) folder.now log.now.end.told) (D.state disk.old).seen)) }
+    ensures digit { OnOk result (log.now.end.recorded.number < 10) }
+    ensures represented { Honestly (D.state disk.new) (OnOk result (Represents folder.now (base_at (D.state disk.old) folder.now log.now.end.recorded) (D.state disk.old).seen)) }
     ensures lost { Honestly (D.state disk.new) (IsErrOf result FolderError.Lost → IsLost folder.now (D.state disk.old).seen) }
     ensures corrupt { Honestly (D.state disk.new) (IsErrOf result FolderError.Corrupt → IsBroken folder.now (D.state disk.old).seen) }
     ensures quiet { ChangesNothing (D.state disk.old) (D.state disk.new) }
     ensures cause { HasFolderCause (D.failures disk.old) (D.failures disk.new) result }
 {
-    let told = log.end.told;
-    if told.number >= NUMBERS {
+    let recorded = log.end.recorded;
+    if recorded.number >= NUMBERS {
         return Err(FolderError::Corrupt);
     }
     if !log.is_shut() {
@@ -166,8 +170,8 @@ pub fn judge<D: Disk>(
     if log.end.gate == 0 {
         return Ok(());
     }
-    let names = Names::new(alloc, folder, told.number)?;
-    if !has_files(disk, &names, told)? {
+    let names = Names::new(alloc, folder, recorded.number)?;
+    if !has_files(disk, &names, recorded)? {
         return Err(FolderError::Corrupt);
     }
     Ok(())

@@ -1,7 +1,7 @@
 //! The log of commits: its records, and the last of them.
 ghost use Rattle.std.specs.Prelude.{◌≡◌, ◌≤◌, ◌+◌, ◌↔◌, length, take, drop, slice_index, IsTrue, MatchBool};
 ghost use Rattle.std.specs.Int.{w64, from_le_bytes};
-ghost use Rattle.base_log.specs.Log.{EndsHere, IsShutAt, mark_by, told_by};
+ghost use Rattle.base_log.specs.Log.{EndsHere, IsShutAt, mark_by, recorded_by};
 ghost use Rattle.base_log.specs.Reading.{ReadsAll};
 
 /// The owner of a base folder, and the two halves of the key of its digests: numbers that the folder keeps and does
@@ -28,7 +28,7 @@ pub struct CommitRecord {
 #[derive(Clone, Copy, Debug, PartialEq, Eq)]
 pub struct End {
     pub gate: usize,
-    pub told: CommitRecord,
+    pub recorded: CommitRecord,
 }
 
 /// The log of a base folder, and the end of its records.
@@ -85,9 +85,9 @@ fn mark_at(bytes: &[u8], at: usize) -> FolderIdentity
 }
 
 // The contents of the record that begins there.
-fn told_at(bytes: &[u8], at: usize) -> CommitRecord
+fn recorded_at(bytes: &[u8], at: usize) -> CommitRecord
     requires { at + 49 ≤ length bytes.now }
-    ensures { result ≡ told_by (take 49 (drop at bytes.now)) }
+    ensures { result ≡ recorded_by (take 49 (drop at bytes.now)) }
 {
     CommitRecord {
         messages: number_at(bytes, at) as usize,
@@ -105,7 +105,7 @@ pub(crate) fn last_record(bytes: &[u8]) -> End
 {
     let mut end = End {
         gate: 0,
-        told: CommitRecord {
+        recorded: CommitRecord {
             messages: 0,
             keys: 0,
             cursor: 0,
@@ -120,7 +120,7 @@ pub(crate) fn last_record(bytes: &[u8]) -> End
     'records: while has_record(bytes, end.gate) {
         end = End {
             gate: end.gate + 50,
-            told: told_at(bytes, end.gate + 1),
+            recorded: recorded_at(bytes, end.gate + 1),
         };
     }
     end

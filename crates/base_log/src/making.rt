@@ -4,9 +4,9 @@ ghost use Rattle.disk_io.specs.Disk.{Honestly, bytes_in};
 ghost use Rattle.disk_io.specs.Runs.{ChangesNothing, LeavesOnly, HasCause};
 ghost use Rattle.disk_io.specs.Synced.{IsOnDisk};
 ghost use Rattle.base_log.specs.Names.{AreNames, folder_of, log_of, messages_of, keys_of};
-ghost use Rattle.base_log.specs.Moments.{StandsAlone, KeepsOutside};
-ghost use Rattle.base_log.specs.Standing.{BaseBytes, StandsFor};
-ghost use Rattle.base_log.specs.Opening.{AreFlushed, AreNamed, HasBareLog, HasFirstFiles, IsNewFolder, KeepsButOne, StandsOrWasLeft, StayGone};
+ghost use Rattle.base_log.specs.Moments.{RepresentsAlone, KeepsOutside};
+ghost use Rattle.base_log.specs.Standing.{BaseBytes, Represents};
+ghost use Rattle.base_log.specs.Opening.{AreFlushed, AreNamed, HasBareLog, HasFirstFiles, IsNewFolder, KeepsButOne, RepresentsOrWasLeft, StayGone};
 
 use crate::names::Names;
 use disk_io::{Disk, DiskError, sync_folder_of, write_synced};
@@ -62,8 +62,8 @@ pub(crate) fn make_log<D: Disk>(alloc: Global, disk: &mut D, names: &Names) -> R
     ensures on_disk { Honestly (D.state disk.new) (OnOk result (IsOnDisk (D.state disk.new) (log_of (folder_of names.now)))) }
     ensures named { Honestly (D.state disk.new) (OnOk result (AreNamed (folder_of names.now) (D.state disk.new))) }
     ensures others { KeepsButOne (D.state disk.old) (D.state disk.new) (log_of (folder_of names.now)) }
-    ensures any_moment { Honestly (D.state disk.new) ((base : BaseBytes) → StandsFor (folder_of names.now) base (D.state disk.old).seen
-        → LeavesOnly (D.state disk.old) (D.state disk.new) (StandsOrWasLeft (folder_of names.now) (D.state disk.old) base)) }
+    ensures any_moment { Honestly (D.state disk.new) ((base : BaseBytes) → Represents (folder_of names.now) base (D.state disk.old).seen
+        → LeavesOnly (D.state disk.old) (D.state disk.new) (RepresentsOrWasLeft (folder_of names.now) (D.state disk.old) base)) }
     ensures cause { HasCause (D.failures disk.old) (D.failures disk.new) result }
 {
     settle_all(alloc, disk, names)?;
@@ -81,8 +81,8 @@ pub(crate) fn make_files<D: Disk>(disk: &mut D, names: &Names) -> Result<(), Dis
     ensures log { Honestly (D.state disk.new) (IsOnDisk (D.state disk.new) (log_of (folder_of names.now))) }
     ensures same { (D.state disk.new).seen (log_of (folder_of names.now)) ≡ (D.state disk.old).seen (log_of (folder_of names.now)) }
     ensures outside { KeepsOutside (folder_of names.now) (D.state disk.old) (D.state disk.new) }
-    ensures any_moment { Honestly (D.state disk.new) ((base : BaseBytes) → StandsFor (folder_of names.now) base (D.state disk.old).seen
-        → LeavesOnly (D.state disk.old) (D.state disk.new) (StandsAlone (folder_of names.now) (D.state disk.old) base)) }
+    ensures any_moment { Honestly (D.state disk.new) ((base : BaseBytes) → Represents (folder_of names.now) base (D.state disk.old).seen
+        → LeavesOnly (D.state disk.old) (D.state disk.new) (RepresentsAlone (folder_of names.now) (D.state disk.old) base)) }
     ensures cause { HasCause (D.failures disk.old) (D.failures disk.new) result }
 {
     disk.create(&names.messages)?;

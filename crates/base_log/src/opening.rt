@@ -4,11 +4,11 @@ ghost use Rattle.disk_io.specs.Disk.{Honestly};
 ghost use Rattle.disk_io.specs.Runs.{ChangesNothing, LeavesOnly, HasCause};
 ghost use Rattle.base_log.specs.Log.{IsShutAt};
 ghost use Rattle.base_log.specs.Names.{AreNames, folder_of, log_of};
-ghost use Rattle.base_log.specs.Standing.{BaseBytes, IsNew, StandsFor, base_at};
+ghost use Rattle.base_log.specs.Standing.{BaseBytes, IsNew, Represents, base_at};
 ghost use Rattle.base_log.specs.Reading.{IsLogRead};
 ghost use Rattle.base_log.specs.AtRest.{IsAtRest, IsLogAt};
 ghost use Rattle.base_log.specs.Moments.{KeepsOutside};
-ghost use Rattle.base_log.specs.Opening.{AreAlone, StandsOrWasLeft, KeepsButOne};
+ghost use Rattle.base_log.specs.Opening.{AreAlone, RepresentsOrWasLeft, KeepsButOne};
 
 use crate::log::Log;
 use crate::making::{make_files, make_log};
@@ -30,8 +30,8 @@ fn settle_log<D: Disk>(
     requires ended { Honestly (D.state disk.old) (IsShutAt log.now.end.gate log.now.bytes.items ⊎ IsNew (folder_of names.now) (D.state disk.old).seen) }
     ensures log { Honestly (D.state disk.new) (OnOk result (IsLogAt (D.state disk.new) (folder_of names.now) log.now.end)) }
     ensures others { KeepsButOne (D.state disk.old) (D.state disk.new) (log_of (folder_of names.now)) }
-    ensures any_moment { Honestly (D.state disk.new) ((base : BaseBytes) → StandsFor (folder_of names.now) base (D.state disk.old).seen
-        → LeavesOnly (D.state disk.old) (D.state disk.new) (StandsOrWasLeft (folder_of names.now) (D.state disk.old) base)) }
+    ensures any_moment { Honestly (D.state disk.new) ((base : BaseBytes) → Represents (folder_of names.now) base (D.state disk.old).seen
+        → LeavesOnly (D.state disk.old) (D.state disk.new) (RepresentsOrWasLeft (folder_of names.now) (D.state disk.old) base)) }
     ensures cause { HasCause (D.failures disk.old) (D.failures disk.new) result }
 {
     sync_folder_of(disk, &names.folder)?;
@@ -59,18 +59,18 @@ fn settle_files<D: Disk>(disk: &mut D, names: &Names) -> Result<(), DiskError>
 /// Opens a base folder that holds a base, with its log as it was read. Missing files are made; others are only synced.
 /// It may crash too, at any time.
 pub fn open<D: Disk>(alloc: Global, disk: &mut D, names: &Names, log: &Log) -> Result<(), DiskError>
-    requires names { AreNames names.now log.now.end.told.number }
+    requires names { AreNames names.now log.now.end.recorded.number }
     requires alone { Honestly (D.state disk.old) (AreAlone (folder_of names.now) (D.state disk.old)) }
     requires log { IsLogRead (D.state disk.old) (folder_of names.now) log.now }
-    requires stands { Honestly (D.state disk.old) (StandsFor (folder_of names.now) (base_at (D.state disk.old) (folder_of names.now) log.now.end.told) (D.state disk.old).seen) }
+    requires represented { Honestly (D.state disk.old) (Represents (folder_of names.now) (base_at (D.state disk.old) (folder_of names.now) log.now.end.recorded) (D.state disk.old).seen) }
 
     ensures settled { Honestly (D.state disk.new) (OnOk result (IsAtRest (D.state disk.new) (folder_of names.now) log.now.end)) }
-    ensures same { Honestly (D.state disk.new) (OnOk result (base_at (D.state disk.new) (folder_of names.now) log.now.end.told
-        ≡ base_at (D.state disk.old) (folder_of names.now) log.now.end.told)) }
+    ensures same { Honestly (D.state disk.new) (OnOk result (base_at (D.state disk.new) (folder_of names.now) log.now.end.recorded
+        ≡ base_at (D.state disk.old) (folder_of names.now) log.now.end.recorded)) }
 
     // A crash at any time leaves the same base and all else as it was, or what a crash might have left before.
     ensures any_moment { Honestly (D.state disk.new) (LeavesOnly (D.state disk.old) (D.state disk.new)
-        (StandsOrWasLeft (folder_of names.now) (D.state disk.old) (base_at (D.state disk.old) (folder_of names.now) log.now.end.told))) }
+        (RepresentsOrWasLeft (folder_of names.now) (D.state disk.old) (base_at (D.state disk.old) (folder_of names.now) log.now.end.recorded))) }
     ensures outside { KeepsOutside (folder_of names.now) (D.state disk.old) (D.state disk.new) }
     ensures cause { HasCause (D.failures disk.old) (D.failures disk.new) result }
 {

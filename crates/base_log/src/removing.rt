@@ -2,7 +2,7 @@
 ghost use Rattle.std.specs.Prelude.{◌≡◌, ◌≢◌, ℕ, List, None, OnOk};
 ghost use Rattle.disk_io.specs.Disk.{Honestly};
 ghost use Rattle.disk_io.specs.Runs.{HasCause};
-ghost use Rattle.base_log.specs.Names.{AreNames, IsBeside, folder_of};
+ghost use Rattle.base_log.specs.Names.{AreNames, IsOtherNumber, folder_of};
 ghost use Rattle.base_log.specs.Standing.{base_at};
 ghost use Rattle.base_log.specs.AtRest.{IsAtRest};
 ghost use Rattle.base_log.specs.Opening.{AreGone};
@@ -19,12 +19,12 @@ pub(crate) fn remove_one<D: Disk>(
     file: &[u8],
     end: End,
 ) -> Result<(), DiskError>
-    requires file { IsBeside folder.now end.told.number file.now }
+    requires file { IsOtherNumber folder.now end.recorded.number file.now }
     requires settled { Honestly (D.state disk.old) (IsAtRest (D.state disk.old) folder.now end) }
     ensures settled { Honestly (D.state disk.new) (OnOk result (IsAtRest (D.state disk.new) folder.now end)) }
     ensures gone { Honestly (D.state disk.new) (OnOk result ((D.state disk.new).seen file.now ≡ None)) }
-    ensures beside { (m : List ℕ) → m ≢ file.now → (D.state disk.new).seen m ≡ (D.state disk.old).seen m }
-    ensures run { StagesOnly folder.now (base_at (D.state disk.old) folder.now end.told) (D.state disk.old) (D.state disk.new) }
+    ensures others { (m : List ℕ) → m ≢ file.now → (D.state disk.new).seen m ≡ (D.state disk.old).seen m }
+    ensures run { StagesOnly folder.now (base_at (D.state disk.old) folder.now end.recorded) (D.state disk.old) (D.state disk.new) }
     ensures leaves { LeavesOutside folder.now (D.state disk.old) (D.state disk.new) }
     ensures cause { HasCause (D.failures disk.old) (D.failures disk.new) result }
 {
@@ -44,12 +44,12 @@ pub fn remove_files<D: Disk>(
     number: u8,
 ) -> Result<(), DiskError>
     requires names { AreNames names.now number }
-    requires other { number ≢ end.told.number }
+    requires other { number ≢ end.recorded.number }
     requires settled { Honestly (D.state disk.old) (IsAtRest (D.state disk.old) (folder_of names.now) end) }
     ensures settled { Honestly (D.state disk.new) (OnOk result (IsAtRest (D.state disk.new) (folder_of names.now) end)) }
     ensures gone { Honestly (D.state disk.new) (OnOk result (AreGone (D.state disk.new) (folder_of names.now) number)) }
-    ensures same { base_at (D.state disk.new) (folder_of names.now) end.told ≡ base_at (D.state disk.old) (folder_of names.now) end.told }
-    ensures run { StagesOnly (folder_of names.now) (base_at (D.state disk.old) (folder_of names.now) end.told) (D.state disk.old) (D.state disk.new) }
+    ensures same { base_at (D.state disk.new) (folder_of names.now) end.recorded ≡ base_at (D.state disk.old) (folder_of names.now) end.recorded }
+    ensures run { StagesOnly (folder_of names.now) (base_at (D.state disk.old) (folder_of names.now) end.recorded) (D.state disk.old) (D.state disk.new) }
     ensures leaves { LeavesOutside (folder_of names.now) (D.state disk.old) (D.state disk.new) }
     ensures cause { HasCause (D.failures disk.old) (D.failures disk.new) result }
 {

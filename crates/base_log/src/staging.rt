@@ -3,7 +3,7 @@
 ghost use Rattle.std.specs.Prelude.{◌≡◌, ◌<◌, ◌+◌, ◌^◌, length, IfOk};
 ghost use Rattle.disk_io.specs.Disk.{Honestly};
 ghost use Rattle.disk_io.specs.Runs.{HasCause};
-ghost use Rattle.disk_io.specs.Steps.{SameBeside};
+ghost use Rattle.disk_io.specs.Steps.{SameOthers};
 ghost use Rattle.base_log.specs.Growing.{and_bytes, counted, file_of, path_in, with_more};
 ghost use Rattle.base_log.specs.Names.{folder_of};
 ghost use Rattle.base_log.specs.Standing.{base_at};
@@ -25,12 +25,12 @@ pub fn stage_nothing<D: Disk>(
 ) -> CommitRecord
     requires { Honestly (D.state _disk.now) (IsAtRest (D.state _disk.now) _folder.now end) }
     ensures staged { Honestly (D.state _disk.now) (IsStaged (D.state _disk.now) _folder.now end result) }
-    ensures told { result ≡ record end.told { cursor = cursor; mark = mark } }
+    ensures recorded { result ≡ record end.recorded { cursor = cursor; mark = mark } }
 {
     CommitRecord {
         cursor,
         mark,
-        ..end.told
+        ..end.recorded
     }
 }
 
@@ -52,28 +52,28 @@ fn path_of(names: &Names, file: GrowingFile) -> &[u8]
 }
 
 // How many bytes of the file the record counts.
-fn counted(told: CommitRecord, file: GrowingFile) -> usize
-    ensures { result ≡ counted told file }
+fn counted(recorded: CommitRecord, file: GrowingFile) -> usize
+    ensures { result ≡ counted recorded file }
 {
     match file {
-        GrowingFile::Messages => told.messages,
-        GrowingFile::Keys => told.keys,
+        GrowingFile::Messages => recorded.messages,
+        GrowingFile::Keys => recorded.keys,
     }
 }
 
 // The record that counts so many bytes more of the file.
-fn with_more(told: CommitRecord, file: GrowingFile, more: usize) -> CommitRecord
-    requires { counted told file + more < 2 ^ 64 }
-    ensures { result ≡ with_more told file more }
+fn with_more(recorded: CommitRecord, file: GrowingFile, more: usize) -> CommitRecord
+    requires { counted recorded file + more < 2 ^ 64 }
+    ensures { result ≡ with_more recorded file more }
 {
     match file {
         GrowingFile::Messages => CommitRecord {
-            messages: told.messages + more,
-            ..told
+            messages: recorded.messages + more,
+            ..recorded
         },
         GrowingFile::Keys => CommitRecord {
-            keys: told.keys + more,
-            ..told
+            keys: recorded.keys + more,
+            ..recorded
         },
     }
 }
@@ -83,21 +83,21 @@ pub fn stage_bytes<D: Disk>(
     disk: &mut D,
     names: &Names,
     end: End,
-    told: CommitRecord,
+    recorded: CommitRecord,
     file: GrowingFile,
     bytes: &[u8],
 ) -> Result<CommitRecord, DiskError>
-    requires staged { IsStagedBy (D.state disk.old) names.now end told }
-    requires room { counted told file + length bytes.now < 2 ^ 64 }
+    requires staged { IsStagedBy (D.state disk.old) names.now end recorded }
+    requires room { counted recorded file + length bytes.now < 2 ^ 64 }
     ensures staged { Honestly (D.state disk.new) (IfOk result (λ more. IsStaged (D.state disk.new) (folder_of names.now) end more)) }
-    ensures told { IfOk result (λ more. more ≡ with_more told file (length bytes.now)) }
-    ensures next { Honestly (D.state disk.new) (IfOk result (HoldsNext (D.state disk.new) (folder_of names.now) end.told
-        (base_at (D.state disk.old) (folder_of names.now) end.told) (and_bytes (base_at (D.state disk.old) (folder_of names.now) told) file bytes.now))) }
-    ensures beside { SameBeside (file_of (folder_of names.now) told.number file) (D.state disk.old).seen (D.state disk.new).seen }
-    ensures run { StagesOnly (folder_of names.now) (base_at (D.state disk.old) (folder_of names.now) end.told) (D.state disk.old) (D.state disk.new) }
+    ensures recorded { IfOk result (λ more. more ≡ with_more recorded file (length bytes.now)) }
+    ensures next { Honestly (D.state disk.new) (IfOk result (HoldsNext (D.state disk.new) (folder_of names.now) end.recorded
+        (base_at (D.state disk.old) (folder_of names.now) end.recorded) (and_bytes (base_at (D.state disk.old) (folder_of names.now) recorded) file bytes.now))) }
+    ensures others { SameOthers (file_of (folder_of names.now) recorded.number file) (D.state disk.old).seen (D.state disk.new).seen }
+    ensures run { StagesOnly (folder_of names.now) (base_at (D.state disk.old) (folder_of names.now) end.recorded) (D.state disk.old) (D.state disk.new) }
     ensures leaves { LeavesOutside (folder_of names.now) (D.state disk.old) (D.state disk.new) }
     ensures cause { HasCause (D.failures disk.old) (D.failures disk.new) result }
 {
-    disk.write_at(path_of(names, file), counted(told, file), bytes)?;
-    Ok(with_more(told, file, bytes.len()))
+    disk.write_at(path_of(names, file), counted(recorded, file), bytes)?;
+    Ok(with_more(recorded, file, bytes.len()))
 }

@@ -4,4 +4,4 @@ pub mod Digests
 pub mod Found
 pub mod Indexed
 pub mod Placed
-pub mod Told
+pub mod Recorded

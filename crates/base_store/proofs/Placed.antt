@@ -11,7 +11,7 @@ use Rattle.echo_filed.specs.Filed.{Filed}
 use Rattle.echo_filed.specs.Stored.{Stored, IsStored, message_in, stored_bytes}
 use Rattle.echo_filed.specs.declared.stored.Version.TheVariants.{Second}
 use Rattle.base_file.specs.Alone.{MayStandAlone}
-use Rattle.base_store.specs.Keys.{FolderStandsFor, HasBytesOf, StandsAt, StandWhereTold, digested, entry, keys_from, place_at, place_behind}
+use Rattle.base_store.specs.Keys.{FolderRepresents, HasBytesOf, RepresentsSeat, AreWhereRecorded, digested, entry, keys_from, place_at, place_behind}
 
 -- the bytes of the messages in order
 abbrev pub bytes_of : List Stored → List ℕ
@@ -62,9 +62,9 @@ entry_place : (place number : ℕ) (rest : List ℕ) → place < 2 ^ 64 → from
 entry_place place number rest fits = grind (arith, append_assoc, take_at, from_le_bytes-to_le_bytes_8)
 
 -- the entry behind the first ones
-place_told : (digest : List ℕ → ℕ) (before : List Stored) (s : Stored) (later : List Stored) → length (bytes_of before) < 2 ^ 64
+place_recorded : (digest : List ℕ → ℕ) (before : List Stored) (s : Stored) (later : List Stored) → length (bytes_of before) < 2 ^ 64
     → place_at (keys_from digest 0 (before ++ (s ∷ later))) (length before) ≡ length (bytes_of before)
-place_told digest before s later fits =
+place_recorded digest before s later fits =
     let p = 0 + length (bytes_of before) in
     let front = keys_from digest 0 before in
     let zero_more : p ≡ length (bytes_of before) = omega arith in
@@ -87,14 +87,14 @@ bytes_through : (before : List Stored) (s : Stored) → length (bytes_of (before
 bytes_through before s = grind (arith, flat_map-append, append-nil, length-append)
 
 -- the place behind a message
-behind_told : (digest : List ℕ → ℕ) (before : List Stored) (s : Stored) (later : List Stored) → length (bytes_of (before ++ (s ∷ []))) < 2 ^ 64
+behind_recorded : (digest : List ℕ → ℕ) (before : List Stored) (s : Stored) (later : List Stored) → length (bytes_of (before ++ (s ∷ []))) < 2 ^ 64
     → place_behind (bytes_of (before ++ (s ∷ later))) (keys_from digest 0 (before ++ (s ∷ later))) (length before) ≡ length (bytes_of (before ++ (s ∷ [])))
-behind_told digest before s [] fits =
+behind_recorded digest before s [] fits =
     let all = before ++ (s ∷ []) in
     let keys = keys_from digest 0 all in
     let last : length keys / 16 ≤ length before + 1 = omega (arith, keys_long digest 0 all, length-append before (s ∷ [])) in
     cond-false (nat_lt (length before + 1) (length keys / 16)) (place_at keys (length before + 1)) (length (bytes_of all)) (le-ltb (length before + 1) (length keys / 16) last)
-behind_told digest before s (x ∷ more) fits =
+behind_recorded digest before s (x ∷ more) fits =
     let all = before ++ (s ∷ (x ∷ more)) in
     let keys = keys_from digest 0 all in
     let long : length keys ≡ 16 * length all = keys_long digest 0 all in
@@ -105,17 +105,17 @@ behind_told digest before s (x ∷ more) fits =
     cond-true (nat_lt (length before + 1) (length keys / 16)) (place_at keys (length before + 1)) (length (bytes_of all)) (lt-ltb (length before + 1) (length keys / 16) not_last)
     ∙ ap (λ (n : ℕ). place_at keys n) (sym next)
     ∙ ap (λ (l : List Stored). place_at (keys_from digest 0 l) (length (before ++ (s ∷ [])))) (sym joined)
-    ∙ place_told digest (before ++ (s ∷ [])) x more fits
+    ∙ place_recorded digest (before ++ (s ∷ [])) x more fits
 
 -- the bytes of a message in the middle
 has_bytes : (digest : List ℕ → ℕ) (before : List Stored) (s : Stored) (later : List Stored) → length (bytes_of (before ++ (s ∷ later))) < 2 ^ 64
     → HasBytesOf (bytes_of (before ++ (s ∷ later))) (keys_from digest 0 (before ++ (s ∷ later))) (length before) s
-has_bytes digest before s later fits = grind (arith, flat_map-append, length-append, bytes_through, place_told, behind_told, cut_out)
+has_bytes digest before s later fits = grind (arith, flat_map-append, length-append, bytes_through, place_recorded, behind_recorded, cut_out)
 
 -- the message of a number
-stands_at : (digest : List ℕ → ℕ) (all : List Stored) (i : ℕ) → length (bytes_of all) < 2 ^ 64 → Parts all i
-    → StandsAt (map (message_in Second) all) (bytes_of all) (keys_from digest 0 all) i
-stands_at digest all i fits p =
+represented_at : (digest : List ℕ → ℕ) (all : List Stored) (i : ℕ) → length (bytes_of all) < 2 ^ 64 → Parts all i
+    → RepresentsSeat (map (message_in Second) all) (bytes_of all) (keys_from digest 0 all) i
+represented_at digest all i fits p =
     let put_together : (p.before ++ (p.s ∷ p.later)) ≡ all = sym p.parts in
     let fits_too : length (bytes_of ((p.before ++ (p.s ∷ p.later)))) < 2 ^ 64 = subst (λ (l : List Stored). length (bytes_of l) < 2 ^ 64) p.parts fits in
     record {
@@ -130,5 +130,5 @@ stands_at digest all i fits p =
           (has_bytes digest p.before p.s p.later fits_too));
     }
 
-pub stand_where_told : (digest : List ℕ → ℕ) (base : List Filed) (cursor : ℕ) (messages keys : List ℕ) → FolderStandsFor digest base cursor messages keys → StandWhereTold base messages keys
-stand_where_told digest base cursor messages keys stands = grind (arith, stands_at, parts_at, length-map, keys_long)
+pub stand_where_recorded : (digest : List ℕ → ℕ) (base : List Filed) (cursor : ℕ) (messages keys : List ℕ) → FolderRepresents digest base cursor messages keys → AreWhereRecorded base messages keys
+stand_where_recorded digest base cursor messages keys represented = grind (arith, represented_at, parts_at, length-map, keys_long)

@@ -4,10 +4,10 @@ use Rattle.disk_io.specs.Disk.{DiskState, Files}
 use Rattle.disk_io.specs.Runs.{ChangesNothing}
 use Rattle.disk_io.proofs.Moments.{no_call, nothing_twice, then_run, weaker_run}
 use Rattle.base_file.specs.Base.{Base}
-use Rattle.base_store.specs.Store.{StoreState, CommitsNothing, GoesOn, IsSameStore, KeepsBeside, LooksOn, LeavesCommitted}
+use Rattle.base_store.specs.Store.{StoreState, CommitsNothing, GoesOn, IsSameStore, KeepsOthers, LooksOn, LeavesCommitted}
 
 pub same_store : (s : StoreState) → IsSameStore s s
-same_store s = record { stands = λ base c. (λ h. h, λ h. h); own = λ m. (λ h. h, λ h. h); undoes = (λ h. h, λ h. h) }
+same_store s = record { represented = λ base c. (λ h. h, λ h. h); own = λ m. (λ h. h, λ h. h); undoes = (λ h. h, λ h. h) }
 
 pub same_twice : (old mid new : StoreState) → IsSameStore old mid → IsSameStore mid new → IsSameStore old new
 same_twice old mid new first second = grind arith
@@ -32,16 +32,16 @@ goes_on_twice old mid new first second = grind arith
 pub looks_commit : (old new : StoreState) → old.is_ready → LooksOn old new → CommitsNothing old new
 looks_commit old new ready looks = grind (arith, weaker_run)
 
-pub beside_twice : (old mid new : StoreState) → IsSameStore old mid → KeepsBeside old mid → KeepsBeside mid new → KeepsBeside old new
-beside_twice old mid new same first second = grind arith
+pub others_twice : (old mid new : StoreState) → IsSameStore old mid → KeepsOthers old mid → KeepsOthers mid new → KeepsOthers old new
+others_twice old mid new same first second = grind arith
 
 -- the files that a crash leaves of the later calls, compared with those before the first call
-stood_before : (old mid : StoreState) (base : Base) (c : Files) → IsSameStore old mid → KeepsBeside old mid → LeavesCommitted mid base c → LeavesCommitted old base c
+stood_before : (old mid : StoreState) (base : Base) (c : Files) → IsSameStore old mid → KeepsOthers old mid → LeavesCommitted mid base c → LeavesCommitted old base c
 stood_before old mid base c same kept stood = grind arith
 
 -- calls that commit nothing, one sequence after another
 pub commits_none : (old mid new : StoreState) → CommitsNothing old mid → GoesOn old mid → CommitsNothing mid new → CommitsNothing old new
-commits_none old mid new first on second = grind (arith, then_run, stood_before, beside_twice, same_twice)
+commits_none old mid new first on second = grind (arith, then_run, stood_before, others_twice, same_twice)
 
 pub looks_then_commits : (old mid new : StoreState) → old.is_ready → LooksOn old mid → CommitsNothing mid new → CommitsNothing old new
 looks_then_commits old mid new ready looks second =

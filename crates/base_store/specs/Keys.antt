@@ -34,7 +34,7 @@ keys_from digest place [] = []
 keys_from digest place (s ∷ later) = entry place (digest (digested (message_in Second s))) ++ keys_from digest (place + length (stored_bytes Second s)) later
 
 -- The two files of a folder with these messages, stored as in a base file. The digest is any function with results of eight bytes.
-pub record FolderStandsFor (digest : List ℕ → ℕ) (base : List Filed) (cursor : ℕ) (messages keys : List ℕ) : Type 0 where
+pub record FolderRepresents (digest : List ℕ → ℕ) (base : List Filed) (cursor : ℕ) (messages keys : List ℕ) : Type 0 where
   pub all : List Stored
   pub sizes : AllByRecursion (IsStored Second) all
   pub sound : AllByRecursion MayStandAlone all
@@ -61,8 +61,8 @@ pub record IsPieceOf (keys : List ℕ) (from : ℕ) (piece : List ℕ) : Type 0 
   pub even : 16 * (length piece / 16) ≡ length piece
 
 -- Each message has its digest in its entry.
-abbrev pub TellsEach : (List ℕ → ℕ) → List Filed → List ℕ → Type 0
-TellsEach digest base keys = (i : ℕ) (d : Filed) → i < length base → digest_at keys i ≡ digest (digested (slice_index_or base i d))
+abbrev pub RecordsEach : (List ℕ → ℕ) → List Filed → List ℕ → Type 0
+RecordsEach digest base keys = (i : ℕ) (d : Filed) → i < length base → digest_at keys i ≡ digest (digested (slice_index_or base i d))
 
 -- The place of the next message, or the end of the messages.
 abbrev pub place_behind : List ℕ → List ℕ → ℕ → ℕ
@@ -75,7 +75,7 @@ pub record HasBytesOf (messages keys : List ℕ) (i : ℕ) (s : Stored) : Type 0
   pub bytes : drop (place_at keys i) (take (place_behind messages keys i) messages) ≡ stored_bytes Second s
 
 -- The message of this number, in its stored form.
-pub record StandsAt (base : List Filed) (messages keys : List ℕ) (i : ℕ) : Type 0 where
+pub record RepresentsSeat (base : List Filed) (messages keys : List ℕ) (i : ℕ) : Type 0 where
   pub s : Stored
   pub size : IsStored Second s
   pub alone : MayStandAlone s
@@ -83,6 +83,6 @@ pub record StandsAt (base : List Filed) (messages keys : List ℕ) (i : ℕ) : T
   pub bytes : HasBytesOf messages keys i s
 
 -- Each message is at the place in its entry.
-pub record StandWhereTold (base : List Filed) (messages keys : List ℕ) : Type 0 where
+pub record AreWhereRecorded (base : List Filed) (messages keys : List ℕ) : Type 0 where
   pub many : length keys ≡ 16 * length base
-  pub each : (i : ℕ) → i < length base → StandsAt base messages keys i
+  pub each : (i : ℕ) → i < length base → RepresentsSeat base messages keys i

@@ -29,7 +29,7 @@ pub record StoreState : Type 1 where
   -- The current message, fetched last.
   pub at_hand : Option Filed
   -- Files that a crash left represent this base.
-  pub stands : Base → Files → Type 0
+  pub represented : Base → Files → Type 0
   -- The paths that belong to the store.
   pub is_own : List ℕ → Type 0
   -- A call that fails in the middle of a change undoes it.
@@ -39,9 +39,9 @@ pub record StoreState : Type 1 where
   -- The numbers in its files can count this message too.
   pub has_room : Filed → Type 0
   -- A crash now leaves the base that was committed last.
-  pub stays : Honestly disk (is_ready → (base : Base) → committed base → (c : Files) → disk.may_leave c → stands base c)
+  pub stays : Honestly disk (is_ready → (base : Base) → committed base → (c : Files) → disk.may_leave c → represented base c)
   -- Reads also show this base.
-  pub shown : Honestly disk (is_ready → (base : Base) → committed base → stands base disk.seen)
+  pub shown : Honestly disk (is_ready → (base : Base) → committed base → represented base disk.seen)
 
 -- The base with one message more at its end.
 abbrev pub with_message : Base → Filed → Base
@@ -57,7 +57,7 @@ purged base = record { messages = map stub_of (take base.cursor base.messages) +
 
 -- Files represent the same bases, the same paths belong to the store, and it undoes failed changes exactly if it did before.
 pub record IsSameStore (old new : StoreState) : Type 0 where
-  pub stands : (base : Base) (c : Files) → new.stands base c ↔ old.stands base c
+  pub represented : (base : Base) (c : Files) → new.represented base c ↔ old.represented base c
   pub own : (m : List ℕ) → new.is_own m ↔ old.is_own m
   pub undoes : new.undoes ↔ old.undoes
 
@@ -71,21 +71,21 @@ pub record LooksOn (old new : StoreState) : Type 0 where
   pub same : IsSameStore old new
 
 -- Other files that were on the disk are unchanged.
-abbrev pub SameBesideStore : StoreState → Files → Type 0
-SameBesideStore old c = (m : List ℕ) → (old.is_own m → ⊥) → old.disk.is_named m → old.disk.is_flushed m → c m ≡ old.disk.seen m
+abbrev pub SameOtherFiles : StoreState → Files → Type 0
+SameOtherFiles old c = (m : List ℕ) → (old.is_own m → ⊥) → old.disk.is_named m → old.disk.is_flushed m → c m ≡ old.disk.seen m
 
 -- A crash left the base committed before, and no other file has changed.
 pub record LeavesCommitted (old : StoreState) (base : Base) (c : Files) : Type 0 where
-  pub beside : SameBesideStore old c
-  pub stands : old.stands base c
+  pub others : SameOtherFiles old c
+  pub represented : old.represented base c
 
 -- A crash left that base or the one being committed, and no other file has changed.
 pub record LeavesEither (old : StoreState) (first next : Base) (c : Files) : Type 0 where
-  pub beside : SameBesideStore old c
-  pub stands : old.stands first c ⊎ old.stands next c
+  pub others : SameOtherFiles old c
+  pub represented : old.represented first c ⊎ old.represented next c
 
 -- Other files show the same bytes, and those on the disk remain there.
-pub record KeepsBeside (old new : StoreState) : Type 0 where
+pub record KeepsOthers (old new : StoreState) : Type 0 where
   pub seen : (m : List ℕ) → (old.is_own m → ⊥) → new.disk.seen m ≡ old.disk.seen m
   pub named : (m : List ℕ) → (old.is_own m → ⊥) → old.disk.is_named m → new.disk.is_named m
   pub flushed : (m : List ℕ) → (old.is_own m → ⊥) → old.disk.is_flushed m → new.disk.is_flushed m
@@ -95,13 +95,13 @@ pub record KeepsBeside (old new : StoreState) : Type 0 where
 -- Until the next commit, a crash leaves the base committed before.
 pub record CommitsNothing (old new : StoreState) : Type 0 where
   pub any_moment : Honestly new.disk ((base : Base) → old.committed base → LeavesOnly old.disk new.disk (LeavesCommitted old base))
-  pub beside : KeepsBeside old new
+  pub others : KeepsOthers old new
   pub same : IsSameStore old new
 
 -- A crash leaves the base committed before, or the one that the store holds.
 pub record MayCommit (old new : StoreState) : Type 0 where
   pub any_moment : Honestly new.disk ((first next : Base) → old.committed first → old.keeps next → LeavesOnly old.disk new.disk (LeavesEither old first next))
-  pub beside : KeepsBeside old new
+  pub others : KeepsOthers old new
   pub same : IsSameStore old new
 
 -- The store allows further calls, and the committed base is the same.

@@ -3,12 +3,12 @@ ghost use Rattle.std.specs.Prelude.{◌≡◌, ◌++◌, ℕ, List};
 ghost use Rattle.echo_filed.specs.Filed.{Filed, key_of};
 ghost use Rattle.base_store.specs.Index.{IsIndexOf};
 ghost use Rattle.base_store.specs.declared.index.Index.{Index};
-ghost use Rattle.base_store.specs.Keys.{FolderStandsFor, StandWhereTold, TellsEach, digested, digested_key};
+ghost use Rattle.base_store.specs.Keys.{FolderRepresents, AreWhereRecorded, RecordsEach, digested, digested_key};
 
 /// In the keys of a base folder each message has an entry at its number, with the digest of its key.
 pub fn each_message_has_its_entry()
     ensures { (digest : List ℕ → ℕ) (base : List Filed) (cursor : ℕ) (messages keys : List ℕ)
-        → FolderStandsFor digest base cursor messages keys → TellsEach digest base keys }
+        → FolderRepresents digest base cursor messages keys → RecordsEach digest base keys }
 {}
 
 /// The digested bytes of a message follow from its key, so messages with one key have one digest.
@@ -18,9 +18,9 @@ pub fn equal_keys_have_one_digest()
 
 /// In a base folder each message begins at the place in its entry, and ends where the next one
 /// begins.
-pub fn each_message_stands_where_told()
+pub fn each_message_is_where_recorded()
     ensures { (digest : List ℕ → ℕ) (base : List Filed) (cursor : ℕ) (messages keys : List ℕ)
-        → FolderStandsFor digest base cursor messages keys → StandWhereTold base messages keys }
+        → FolderRepresents digest base cursor messages keys → AreWhereRecorded base messages keys }
 {}
 
 /// An index stays an index when keys are appended.

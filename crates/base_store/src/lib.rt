@@ -25,7 +25,7 @@ pub use digest::{Digest, bytes_of_key};
 pub use entries::{digest_of, end_of, entry, place_of};
 pub use index::Index;
 pub use laws::{
-    an_index_stays_one, each_message_has_its_entry, each_message_stands_where_told,
+    an_index_stays_one, each_message_has_its_entry, each_message_is_where_recorded,
     equal_keys_have_one_digest,
 };
 pub use memory_store::MemoryStore;

@@ -101,10 +101,10 @@ module _ {K : Type 0} (bytes : K → List ℕ) (first : List K) where
   pub tags_more : (areas : List Area) (k : ℕ) (old new : List K) (tag : List ℕ) → k < length areas
       → Some tag ≡ option_map (λ (area : Area). area.tag) (slice_get areas k) → HaveTags (take k areas) old
       → ((other : List ℕ) → has_tag bytes new other ≡ (has_tag bytes old other || bytes_eq other tag)) → HaveTags (take (k + 1) areas) new
-  tags_more areas k old new tag inside told have step = elim (slice_get_cases areas k).1 [
+  tags_more areas k old new tag inside reported have step = elim (slice_get_cases areas k).1 [
     | inl (area, below, got, read) ↦
         let some_same : (t : List ℕ) → Some tag ≡ Some t → tag ≡ t = λ t e. cc in
-        let own : tag ≡ area.tag = some_same area.tag (told ∙ ap (option_map (λ (a : Area). a.tag)) got) in
+        let own : tag ≡ area.tag = some_same area.tag (reported ∙ ap (option_map (λ (a : Area). a.tag)) got) in
         record {
           so = λ other.
               let p : Area → Bool = λ a. bytes_eq a.tag other in
@@ -118,7 +118,7 @@ module _ {K : Type 0} (bytes : K → List ℕ) (first : List K) where
 
   -- there is a tag at each number below that of the areas
   pub tag_missed : (areas : List Area) (k : ℕ) → k < length areas → None ≡ option_map (λ (area : Area). area.tag) (slice_get areas k) → ⊥
-  tag_missed areas k inside told = grind (arith, slice_get_cases)
+  tag_missed areas k inside reported = grind (arith, slice_get_cases)
 
   -- all areas of a file
   pub tags_of_file : (file : LinkFile) (keys : List K) → HaveTags file.areas keys

@@ -23,7 +23,7 @@ FurtherShown files tag true verdict lines =
 pub record IsMoreShown (files : List LinkFile) (tag : List ℕ) (list : Option (List Line)) (verdict : Verdict) (lines : List ℕ) : Type 0 where
   pub also : List ℕ
   pub absent : List ℕ
-  pub told : FurtherShown files tag true verdict also
+  pub reported : FurtherShown files tag true verdict also
   pub shown : AbsencesShown files tag list absent
   pub whole : lines ≡ verdict_line tag verdict ++ (also ++ absent)
 

@@ -11,7 +11,7 @@ use cmd_status::{Fault, Status, link_files, print_rest};
 use disk_io::Sink;
 use echo_addr::Items;
 use echo_links::LinkFile;
-use model_replay::{ReplayProgress, ScriptFault, World, read_script, replay_told};
+use model_replay::{ReplayProgress, ScriptFault, World, read_script, replay_reported};
 use model_run::Event;
 use std::alloc::Global;
 use std::hash::RandomState;
@@ -27,7 +27,7 @@ pub fn replay<'a, T: ReplayProgress, W: Sink>(
     files: &[Items<u8>],
     stopped: Option<Fault<'a>>,
     hasher: RandomState,
-    told: &T,
+    reported: &T,
     out: &mut W,
 ) -> Result<Status, Fault<'a>>
     ensures { ReplayAnswers script.now files.now stopped.entry (output_of W.contents W.failures W.holds out.old) (output_of W.contents W.failures W.holds out.new) result }
@@ -37,7 +37,7 @@ pub fn replay<'a, T: ReplayProgress, W: Sink>(
     if let Some(fault) = stopped {
         return Err(fault);
     }
-    replay_read(alloc, links, &events, hasher, told, out)
+    replay_read(alloc, links, &events, hasher, reported, out)
 }
 
 // The same of inputs that are read.
@@ -46,14 +46,14 @@ fn replay_read<'a, T: ReplayProgress, W: Sink>(
     links: Vec<LinkFile>,
     events: &[Event],
     hasher: RandomState,
-    told: &T,
+    reported: &T,
     out: &mut W,
 ) -> Result<Status, Fault<'a>>
     ensures { (script : List ℕ) → (inputs : List (List ℕ)) → ScriptOf script (Ok events.now) → AreLinkFiles inputs links.items
         → ReplayAnswers script inputs None (output_of W.contents W.failures W.holds out.old) (output_of W.contents W.failures W.holds out.new) result }
 {
     let systems = links.len();
-    let world = replay_told(alloc, links, events, hasher, told)?;
+    let world = replay_reported(alloc, links, events, hasher, reported)?;
     print_world(alloc, systems, &world, out)
 }
 

@@ -2,7 +2,7 @@ pub mod Reading
 pub mod Names
 pub mod Folders
 pub mod Numbered
-pub mod Told
+pub mod Reported
 pub mod JamAdded
 pub mod Resending
 pub mod Finding

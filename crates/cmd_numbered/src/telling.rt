@@ -4,7 +4,7 @@ ghost use Rattle.std.specs.Io.KnownBytes.{Appends};
 ghost use Rattle.cmd_status.specs.Ended.{Stops};
 ghost use Rattle.cmd_status.specs.Lines.{WritesFront};
 ghost use Rattle.cmd_status.specs.declared.status.Status.TheVariants.{Refused};
-ghost use Rattle.cmd_numbered.specs.Told.{added_line, cuts_line, exported_line, left_line, refused_line, told_line};
+ghost use Rattle.cmd_numbered.specs.Reported.{added_line, cuts_line, exported_line, left_line, refused_line, reported_line};
 
 use crate::adding::JamExport;
 use crate::numbering::Exported;
@@ -61,7 +61,7 @@ fn next_added(exported: &JamExport, made: usize) -> u64
 
 // Adds the line.
 fn push_line(line: &mut Vec<u8>, made: usize, next: u64) -> Result<(), AllocError>
-    ensures { OnOk result (line.new.items ≡ line.old.items ++ told_line made next) }
+    ensures { OnOk result (line.new.items ≡ line.old.items ++ reported_line made next) }
 {
     written(writeln!(line, "exported {made} messages, next {next}"))
 }

@@ -1,6 +1,6 @@
 //! The commands that print what a base holds.
 
-use crate::files::told_bytes;
+use crate::files::reported_bytes;
 use crate::listing::{export_folder, list_folder};
 use base_file::BaseFault;
 use cmd_input::{Progress, is_folder, read_file};
@@ -28,7 +28,7 @@ pub fn run_list<'a, W: Sink>(
         return list_folder(rt, words, first, progress, out);
     }
     let hasher = RandomState::new(rt).map_err(|_| Fault::Base(BaseFault::Read))?;
-    let bytes = told_bytes(rt, words.base, progress)?;
+    let bytes = reported_bytes(rt, words.base, progress)?;
     if words.areas {
         return list_areas(rt.alloc(), &bytes, hasher, out);
     }

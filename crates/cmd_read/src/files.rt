@@ -12,13 +12,13 @@ use std::{fs, io};
 const BUFFER: usize = 65_536;
 
 /// The bytes of the base file with this path.
-pub(crate) fn told_bytes<'a>(
+pub(crate) fn reported_bytes<'a>(
     rt: &HostRuntime,
     base: &'a str,
     progress: &Progress<'_>,
 ) -> Result<Vec<u8>, Fault<'a>> {
     let (file, size) = opened(rt, base).map_err(|error| folder_fault(&error, base))?;
-    read_told(rt, base, file, size, progress)
+    read_reported(rt, base, file, size, progress)
 }
 
 // The file, and how many bytes it has.
@@ -29,7 +29,7 @@ fn opened(rt: &HostRuntime, base: &str) -> io::Result<(File, usize)> {
 }
 
 // Reads the file. Its first bytes, which say how many messages it has, are read before the first report.
-fn read_told<'a>(
+fn read_reported<'a>(
     rt: &HostRuntime,
     base: &'a str,
     file: File,
@@ -43,8 +43,8 @@ fn read_told<'a>(
     if source.read_ahead().is_err() {
         return Err(Fault::CannotUse(base));
     }
-    let mut told = Followed::new(&mut source, size, &watch);
-    let mut bytes = match read_whole(rt.alloc(), &mut told, usize::MAX) {
+    let mut reported = Followed::new(&mut source, size, &watch);
+    let mut bytes = match read_whole(rt.alloc(), &mut reported, usize::MAX) {
         Ok(bytes) => bytes,
         Err(fault) => return Err(input_fault(fault, base)),
     };

@@ -67,7 +67,7 @@ pub fn run_export_jam<W: Sink, E: Sink>(
         Ok(()) => (exported.adding.messages.len(), None),
         Err(fault) => (entries_made(&files, &exported), Some(fault)),
     };
-    let told = match tell_added(rt.alloc(), &exported, made, out) {
+    let reported = match tell_added(rt.alloc(), &exported, made, out) {
         Ok(()) => Ok(Status::Good),
         Err(fault) => Err(fault),
     };
@@ -76,7 +76,7 @@ pub fn run_export_jam<W: Sink, E: Sink>(
         Some(error) => jam_fault(&error, path).report(errors),
         None => {
             tell_cuts(rt.alloc(), exported.adding.jam.cuts, errors);
-            ended(told, errors)
+            ended(reported, errors)
         }
     }
 }

@@ -24,13 +24,13 @@ pub(crate) fn locked_headers<'a>(
     base: &'a str,
 ) -> Result<File, Fault<'a>> {
     let headers = with_end(rt, path, ".jhr")?;
-    let beside = with_end(rt, headers.as_str(), ".~jam~.new")?;
+    let staging_path = with_end(rt, headers.as_str(), ".~jam~.new")?;
     if !is_there(rt, path, headers.as_str())? {
         check_base(rt, base)?;
-        begin_alone(rt, path, headers.as_str(), beside.as_str())?;
-    } else if is_there(rt, path, beside.as_str())? {
+        begin_alone(rt, path, headers.as_str(), staging_path.as_str())?;
+    } else if is_there(rt, path, staging_path.as_str())? {
         // A staging file that cannot be removed is no fault of the base.
-        let _ = begin_alone(rt, path, headers.as_str(), beside.as_str());
+        let _ = begin_alone(rt, path, headers.as_str(), staging_path.as_str());
     }
     locked_again(rt, path)
 }
@@ -53,17 +53,17 @@ fn begin_alone<'a>(
     rt: &HostRuntime,
     path: &'a str,
     headers: &str,
-    beside: &str,
+    staging_path: &str,
 ) -> Result<(), Fault<'a>> {
     let locked = match locked_folder(rt, folder_of(path)) {
         Ok(locked) => locked,
         Err(Fault::OutOfMemory) => return Err(Fault::OutOfMemory),
         Err(_) => return Err(Fault::CannotUse(path)),
     };
-    remove_left(rt, beside);
+    remove_left(rt, staging_path);
     let begun = match is_there(rt, path, headers) {
         Ok(true) => Ok(()),
-        Ok(false) => begin_jam(rt, path, headers, beside),
+        Ok(false) => begin_jam(rt, path, headers, staging_path),
         Err(fault) => Err(fault),
     };
     let _ = locked.unlock();
@@ -76,13 +76,13 @@ fn begin_jam<'a>(
     rt: &HostRuntime,
     path: &'a str,
     headers: &str,
-    beside: &str,
+    staging_path: &str,
 ) -> Result<(), Fault<'a>> {
     make_others(rt, path, true)?;
     let bytes = new_fixed(rt.alloc(), created_now(rt)?)?;
     let making = Making {
         path: headers,
-        beside,
+        staging_path,
         bytes: bytes.as_slice(),
         known_by: HEADERS_KNOWN_BY,
     };

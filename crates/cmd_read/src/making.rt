@@ -13,7 +13,7 @@ use std::{fs, io};
 #[derive(Clone, Copy)]
 pub(crate) struct Making<'a> {
     pub(crate) path: &'a str,
-    pub(crate) beside: &'a str,
+    pub(crate) staging_path: &'a str,
     pub(crate) bytes: &'a [u8],
     pub(crate) known_by: usize,
 }
@@ -26,21 +26,21 @@ pub(crate) fn make_file(rt: &HostRuntime, making: Making<'_>) -> Result<(), Outp
     let file = OpenOptions::new()
         .write(true)
         .create_new(true)
-        .open(rt, making.beside)?;
+        .open(rt, making.staging_path)?;
     let done = match write_flushed(file, making.bytes) {
         Ok(()) => give_name(rt, making),
         failed => failed,
     };
     if done.is_err() {
-        let _ = fs::remove_file(rt, making.beside);
+        let _ = fs::remove_file(rt, making.staging_path);
     }
     done
 }
 
 /// Removes the staging file of a stopped run, if it is a regular file of this user. One that cannot be removed stays.
-pub(crate) fn remove_left(rt: &HostRuntime, beside: &str) {
-    if let Ok(true) = is_own(rt, beside) {
-        let _ = fs::remove_file(rt, beside);
+pub(crate) fn remove_left(rt: &HostRuntime, staging_path: &str) {
+    if let Ok(true) = is_own(rt, staging_path) {
+        let _ = fs::remove_file(rt, staging_path);
     }
 }
 
@@ -53,16 +53,21 @@ fn is_own(rt: &HostRuntime, path: &str) -> io::Result<bool> {
 
 // Removes a staging file: a regular file of this user, or one of another user that begins as a file of its kind.
 fn clear(rt: &HostRuntime, making: Making<'_>) -> Result<(), OutputFault> {
-    match is_own(rt, making.beside) {
+    match is_own(rt, making.staging_path) {
         Ok(true) => {}
         Ok(false) => {
             let known_by = making.known_by.min(making.bytes.len());
-            check_left(rt.alloc(), rt, making.beside, &making.bytes[..known_by])?;
+            check_left(
+                rt.alloc(),
+                rt,
+                making.staging_path,
+                &making.bytes[..known_by],
+            )?;
         }
         Err(error) if error.kind() == ErrorKind::NotFound => return Ok(()),
         Err(error) => return Err(OutputFault::from(error)),
     }
-    fs::remove_file(rt, making.beside)?;
+    fs::remove_file(rt, making.staging_path)?;
     Ok(())
 }
 
@@ -77,8 +82,8 @@ fn write_flushed(file: File, bytes: &[u8]) -> Result<(), OutputFault> {
 
 // Gives the staging file a free name, and flushes the folder.
 fn give_name(rt: &HostRuntime, making: Making<'_>) -> Result<(), OutputFault> {
-    fs::hard_link(rt, making.beside, making.path)?;
+    fs::hard_link(rt, making.staging_path, making.path)?;
     flush_folder(rt, folder_of(making.path))?;
-    fs::remove_file(rt, making.beside)?;
+    fs::remove_file(rt, making.staging_path)?;
     Ok(())
 }

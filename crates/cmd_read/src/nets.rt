@@ -182,6 +182,6 @@ pub fn run_replay<'a, W: Sink>(
 ) -> Result<Status, Fault<'a>> {
     let (script, hasher) = replay_input(rt, script)?;
     let (files, stopped) = read_links(rt, links);
-    let told = Events { progress };
-    replay(rt.alloc(), &script, &files, stopped, hasher, &told, out)
+    let reported = Events { progress };
+    replay(rt.alloc(), &script, &files, stopped, hasher, &reported, out)
 }

@@ -44,7 +44,7 @@ impl<E: Sink> MessageFolder for FolderFiles<'_, '_, E> {
     fn make(&mut self, file: &MessageFile) -> Result<(), Status> {
         let name = str::from_utf8(file.name.as_slice()).unwrap_or("");
         match paths(self.rt, self.folder, name) {
-            Ok((path, beside)) => self.make_at(path.as_str(), beside.as_str(), file),
+            Ok((path, staging_path)) => self.make_at(path.as_str(), staging_path.as_str(), file),
             Err(_) => Err(output_fault(OutputFault::Memory, "").report(self.errors)),
         }
     }
@@ -52,10 +52,15 @@ impl<E: Sink> MessageFolder for FolderFiles<'_, '_, E> {
 
 impl<E: Sink> FolderFiles<'_, '_, E> {
     // Makes the file at this path.
-    fn make_at(&mut self, path: &str, beside: &str, file: &MessageFile) -> Result<(), Status> {
+    fn make_at(
+        &mut self,
+        path: &str,
+        staging_path: &str,
+        file: &MessageFile,
+    ) -> Result<(), Status> {
         let making = Making {
             path,
-            beside,
+            staging_path,
             bytes: file.bytes.as_slice(),
             known_by: MESSAGE_KNOWN_BY,
         };
@@ -180,8 +185,8 @@ fn last_name<'a>(rt: &HostRuntime, folder: &'a str) -> Result<Option<Last>, Faul
 // The path of a file of the folder, and its staging path.
 fn paths(rt: &HostRuntime, folder: &str, name: &str) -> Result<(String, String), AllocError> {
     let path = file_path(rt, folder, name)?;
-    let beside = format!(in rt.alloc(); "{path}.~msg~.new")?;
-    Ok((path, beside))
+    let staging_path = format!(in rt.alloc(); "{path}.~msg~.new")?;
+    Ok((path, staging_path))
 }
 
 // The folder, a `/` where it ends in none, and the name.

@@ -142,7 +142,7 @@ module _ (earlier : List (List ℕ)) (number : ℕ) (line word rest : List ℕ) 
 
     pub system_judged : (found : Option Wrong) → Tells (system_refusal old.system number (tokens rest)) (system_says word (tokens rest)) (new ≡ record old { system = true }) (new ≡ old) found
         → JudgesLine earlier number line new found
-    system_judged found told =
+    system_judged found reported =
         as_parts (system_refusal old.system number (tokens rest)) (system_says word (tokens rest)) found
         (of_kind ∙ cond-true (is_system_line line) (system_fault earlier number line) _ (kind_is (codes "SYSTEM") true is)
         ∙ ap (λ ws. system_refusal (list_any is_system_line earlier) number ws) left_is
@@ -153,7 +153,7 @@ module _ (earlier : List (List ℕ)) (number : ℕ) (line word rest : List ℕ) 
         (ap (λ t. t || old.system) (kind_is (codes "SYSTEM") true is) ∙ sym (ap (λ (b : SaidBefore). b.system) good))
         (keeps_name earlier line old new before (kind_is (codes "NAME") false (other_word word (codes "SYSTEM") (codes "NAME") refl is)) (ap (λ (b : SaidBefore). b.name) good))
         (keeps_tags earlier line old new before (kind_is (codes "AREA") false (other_word word (codes "SYSTEM") (codes "AREA") refl is)) (ap (λ (b : SaidBefore). b.tags) good)))
-        stays told
+        stays reported
 
   -- a NAME line
   module _ (is : bytes_eq word (codes "NAME") ≡ true) where
@@ -170,7 +170,7 @@ module _ (earlier : List (List ℕ)) (number : ℕ) (line word rest : List ℕ) 
 
     pub name_judged : (found : Option Wrong) → Tells (name_refusal old.name number (trimmed rest)) (name_says word (trimmed rest)) (new ≡ record old { name = true }) (new ≡ old) found
         → JudgesLine earlier number line new found
-    name_judged found told =
+    name_judged found reported =
         as_parts (name_refusal old.name number (trimmed rest)) (name_says word (trimmed rest)) found
         (of_kind ∙ cond-false (is_system_line line) (system_fault earlier number line) _ no_system
         ∙ cond-true (is_name_line line) (name_fault earlier number line) _ (kind_is (codes "NAME") true is)
@@ -182,7 +182,7 @@ module _ (earlier : List (List ℕ)) (number : ℕ) (line word rest : List ℕ) 
         (keeps_system earlier line old new before no_system (ap (λ (b : SaidBefore). b.system) good))
         (ap (λ t. t || old.name) (kind_is (codes "NAME") true is) ∙ sym (ap (λ (b : SaidBefore). b.name) good))
         (keeps_tags earlier line old new before (kind_is (codes "AREA") false (other_word word (codes "NAME") (codes "AREA") refl is)) (ap (λ (b : SaidBefore). b.tags) good)))
-        stays told
+        stays reported
 
   -- an AREA line
   module _ (is : bytes_eq word (codes "AREA") ≡ true) where
@@ -210,7 +210,7 @@ module _ (earlier : List (List ℕ)) (number : ℕ) (line word rest : List ℕ) 
     pub area_judged : (found : Option Wrong) → Tells (area_refused old.tags number (tokens rest)) (area_says (tokens rest))
         ((new.system ≡ old.system) × (new.name ≡ old.name) × HasTagAdded old.tags (upper (first_of (tokens rest))) new.tags) (new ≡ old) found
         → JudgesLine earlier number line new found
-    area_judged found told =
+    area_judged found reported =
         as_parts (area_refused old.tags number (tokens rest)) (area_says (tokens rest)) found
         (of_kind ∙ cond-false (is_system_line line) (system_fault earlier number line) _ no_own ∙ cond-false (is_name_line line) (name_fault earlier number line) _ not_name
         ∙ cond-true (is_area_line line) (area_fault earlier number line) _ (kind_is (codes "AREA") true is)
@@ -226,12 +226,12 @@ module _ (earlier : List (List ℕ)) (number : ℕ) (line word rest : List ℕ) 
         (λ t. good.2 t
         ∙ ap (λ ws. bytes_eq t (upper (first_of ws)) || list_any (bytes_eq t) old.tags) (sym left_is)
         ∙ sym (cond-true (is_area_line line) (bytes_eq t (tag_in line) || list_any (bytes_eq t) old.tags) (list_any (bytes_eq t) old.tags) (kind_is (codes "AREA") true is))))
-        stays told
+        stays reported
 
     -- the same for an answer, if memory sufficed
     pub area_judged_so : {E : Type 0} (r : Result (Option Wrong) E)
         → IfOk r (Tells (area_refused old.tags number (tokens rest)) (area_says (tokens rest))
         ((new.system ≡ old.system) × (new.name ≡ old.name) × HasTagAdded old.tags (upper (first_of (tokens rest))) new.tags) (new ≡ old))
         → IfOk r (JudgesLine earlier number line new)
-    area_judged_so (Ok found) told = area_judged found told
-    area_judged_so (Err e) told = tt
+    area_judged_so (Ok found) reported = area_judged found reported
+    area_judged_so (Err e) reported = tt

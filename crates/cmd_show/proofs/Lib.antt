@@ -1,6 +1,6 @@
 pub mod Judging
 pub mod WrongWords
-pub mod Told
+pub mod Reported
 pub mod TagKeys
 pub mod Pushed
 pub mod Stopping

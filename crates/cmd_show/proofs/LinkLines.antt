@@ -24,7 +24,7 @@ sum_more f xs k n old inside is so = elim (slice_get_cases xs k).1 [
 ]
 
 -- the links of an area, found by its tag
-module _ (file : LinkFile) (k : ℕ) (tag : List ℕ) (told : Some tag ≡ option_map (λ (a : Area). a.tag) (slice_get file.areas k)) where
+module _ (file : LinkFile) (k : ℕ) (tag : List ℕ) (reported : Some tag ≡ option_map (λ (a : Area). a.tag) (slice_get file.areas k)) where
   found_of : (area : Area) → slice_get file.areas k ≡ Some area → tag ≡ area.tag
   found_of area is = grind arith
 

@@ -18,7 +18,7 @@ use Rattle.cmd_status.specs.declared.status.Status.{Status}
 use Rattle.cmd_status.specs.declared.status.Status.TheVariants.{Good}
 use Rattle.cmd_status.specs.Ended.{IsOfInput, Stops}
 use Rattle.cmd_print.specs.Said.{LinesFor}
-use Rattle.cmd_show.specs.Showing.{AllShown, IsCutShort, IsShown, PacketStops, ShowAnswers, Stands, hex_text}
+use Rattle.cmd_show.specs.Showing.{AllShown, IsCutShort, IsShown, PacketStops, ShowAnswers, IsInputOf, hex_text}
 use Rattle.cmd_show.specs.Written.{WritesLines}
 use Rattle.cmd_status.specs.Limits.{show_limits}
 use Rattle.cmd_print.specs.Shown.{MessageShown, MessagesShown, Shown, message_lines, whole_text}
@@ -42,7 +42,7 @@ pub one_shown : (full : Bool) (h : Header) (ms : List Message) (n : ℕ) (a b : 
 one_shown full h ms n a b p q = grind (arith, all_messages)
 
 -- an input encodes one list of bytes
-one_standing : (hex : Bool) (input a b : List ℕ) → Stands hex input a → Stands hex input b → a ≡ b
+one_standing : (hex : Bool) (input a b : List ℕ) → IsInputOf hex input a → IsInputOf hex input b → a ≡ b
 one_standing false input a b h k = h ∙ sym k
 one_standing true input a b h k = let same : Ok a ≡ Ok b = sym h ∙ k in cc
 
@@ -91,7 +91,7 @@ abbrev answer_to : Bool → List ℕ → Result Status Fault
 answer_to false input = answer_of (outcome show_limits input)
 answer_to true input = answer_of_digits (decode_of (hex_text input))
 
-stood : (hex : Bool) (input bytes : List ℕ) → Stands hex input bytes → answer_to hex input ≡ answer_of (outcome show_limits bytes)
+stood : (hex : Bool) (input bytes : List ℕ) → IsInputOf hex input bytes → answer_to hex input ≡ answer_of (outcome show_limits bytes)
 stood false input bytes is = ap (λ b. answer_of (outcome show_limits b)) (sym is)
 stood true input bytes is = ap answer_of_digits is
 

@@ -66,6 +66,6 @@ JudgesLine earlier number line new found =
     Tells (line_fault earlier number line) (λ fault. wrong_word fault line) (IsBefore (line ∷ earlier) new) (IsBefore earlier new) found
 
 -- The faulty line that was found, if any.
-abbrev pub line_told : Option Wrong → List FaultyLine
-line_told None = []
-line_told (Some wrong) = record { fault = wrong.fault; word = wrong.word.now } ∷ []
+abbrev pub line_reported : Option Wrong → List FaultyLine
+line_reported None = []
+line_reported (Some wrong) = record { fault = wrong.fault; word = wrong.word.now } ∷ []

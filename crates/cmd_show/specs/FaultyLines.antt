@@ -60,16 +60,16 @@ good_with None line earlier = line ∷ earlier
 good_with (Some fault) line earlier = earlier
 
 -- A faulty line and the later ones, or just the later ones.
-abbrev pub told_with : Option LinkFault → List ℕ → List FaultyLine → List FaultyLine
-told_with None line later = later
-told_with (Some fault) line later = faulty_line fault line ∷ later
+abbrev pub reported_with : Option LinkFault → List ℕ → List FaultyLine → List FaultyLine
+reported_with None line later = later
+reported_with (Some fault) line later = faulty_line fault line ∷ later
 
 -- The faulty lines among these. The first has this number, and comes after these good lines. A line is judged by the good
 -- lines before it.
 abbrev pub faulty_among : List (List ℕ) → ℕ → List (List ℕ) → List FaultyLine
 faulty_among earlier number [] = []
 faulty_among earlier number (line ∷ later) =
-    told_with (line_fault earlier number line) line (faulty_among (good_with (line_fault earlier number line) line earlier) (number + 1) later)
+    reported_with (line_fault earlier number line) line (faulty_among (good_with (line_fault earlier number line) line earlier) (number + 1) later)
 
 -- The faulty lines of a link file.
 unfoldable pub faulty_lines : List ℕ → List FaultyLine

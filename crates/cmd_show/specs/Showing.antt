@@ -28,9 +28,9 @@ abbrev pub hex_text : List ℕ → List ℕ
 hex_text input = filter (λ b. not (is_layout b)) input
 
 -- The bytes that the input encodes: itself, or the bytes of its hexadecimal digits.
-abbrev pub Stands : Bool → List ℕ → List ℕ → Type 0
-Stands false input bytes = bytes ≡ input
-Stands true input bytes = decode_of (hex_text input) ≡ Ok bytes
+abbrev pub IsInputOf : Bool → List ℕ → List ℕ → Type 0
+IsInputOf false input bytes = bytes ≡ input
+IsInputOf true input bytes = decode_of (hex_text input) ≡ Ok bytes
 
 -- All lines of the packet at the front of the bytes.
 pub record AllShown (full : Bool) (bytes lines : List ℕ) : Type 0 where
@@ -43,7 +43,7 @@ pub record AllShown (full : Bool) (bytes lines : List ℕ) : Type 0 where
 
 -- Just the packet at the front of these bytes is printed.
 abbrev pub IsShown : Bool → Bool → List ℕ → Option (List ℕ) → Option (List ℕ) → Type 0
-IsShown full hex input old new = (bytes : List ℕ) × Stands hex input bytes × WritesLines (AllShown full bytes) old new
+IsShown full hex input old new = (bytes : List ℕ) × IsInputOf hex input bytes × WritesLines (AllShown full bytes) old new
 
 -- The lines of the header at the front of the bytes, and of the messages after it.
 pub record FrontShown (full : Bool) (bytes : List ℕ) (messages : List Message) (lines : List ℕ) : Type 0 where
@@ -122,4 +122,4 @@ pub record IsBadHex (hex : Bool) (input : List ℕ) (fault : Fault) : Type 0 whe
 abbrev pub ShowAnswers : Bool → Bool → List ℕ → Output → Output → Result Status Fault → Type 0
 ShowAnswers full hex input old new (Ok status) = (status ≡ Good) × IsShown full hex input old.contents new.contents × PassesAll old new
 ShowAnswers full hex input old new (Err fault) =
-    ((IsOutOfMemory fault ⊎ IsBadHex hex input fault) × (new ≡ old)) ⊎ ((bytes : List ℕ) × Stands hex input bytes × PacketStops full bytes old new fault)
+    ((IsOutOfMemory fault ⊎ IsBadHex hex input fault) × (new ≡ old)) ⊎ ((bytes : List ℕ) × IsInputOf hex input bytes × PacketStops full bytes old new fault)

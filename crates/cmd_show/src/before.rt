@@ -6,7 +6,7 @@ ghost use Rattle.echo_links.specs.Links.{upper};
 ghost use Rattle.echo_links.specs.LinkLines.{first_of};
 ghost use Rattle.echo_links.specs.LinkReading.{name_refusal, system_refusal};
 ghost use Rattle.cmd_show.specs.FaultyLines.{faulty_lines};
-ghost use Rattle.cmd_show.specs.Before.{HasTagAdded, IsBefore, JudgesLine, Tells, area_refused, area_says, line_told, name_says, system_says};
+ghost use Rattle.cmd_show.specs.Before.{HasTagAdded, IsBefore, JudgesLine, Tells, area_refused, area_says, line_reported, name_says, system_says};
 
 use crate::faulty::FaultyLine;
 use crate::tags::Tags;
@@ -167,7 +167,7 @@ fn tell(
     found: &mut Vec<FaultyLine>,
     wrong: Option<Wrong<'_>>,
 ) -> Result<(), AllocError>
-    ensures { OnOk result (found.new.items ≡ found.old.items ++ line_told wrong.entry) }
+    ensures { OnOk result (found.new.items ≡ found.old.items ++ line_reported wrong.entry) }
 {
     if let Some(wrong) = wrong {
         found.push(FaultyLine::new(alloc, wrong.fault, wrong.word)?)?;

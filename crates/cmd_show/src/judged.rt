@@ -35,8 +35,8 @@ fn reported_lines(
     bytes: &[u8],
     why: LinkFault,
 ) -> Result<Vec<FaultyLine>, AllocError>
-    ensures told { IfOk result (λ told. told.items ≡ reported_lines bytes.now (Some why)) }
-    ensures memory { IfOk result (λ told. is_memory why ≡ false) }
+    ensures reported { IfOk result (λ reported. reported.items ≡ reported_lines bytes.now (Some why)) }
+    ensures memory { IfOk result (λ reported. is_memory why ≡ false) }
 {
     if is_memory(why) {
         return Err(AllocError);
@@ -44,9 +44,9 @@ fn reported_lines(
     if !is_homeless(why) {
         return faulty_lines(alloc, bytes);
     }
-    let mut told = Vec::new(alloc);
-    told.push(FaultyLine::new(alloc, why, b"")?)?;
-    Ok(told)
+    let mut reported = Vec::new(alloc);
+    reported.push(FaultyLine::new(alloc, why, b"")?)?;
+    Ok(reported)
 }
 
 fn is_memory(why: LinkFault) -> bool

@@ -38,7 +38,7 @@ pub use exporting::{ExportQuery, export, export_messages, tell_lost};
 pub use faulty::FaultyLine;
 pub use judged::{Judged, judge};
 pub use laws::one_printing;
-pub use link_laws::first_fault_is_told_first;
+pub use link_laws::first_fault_is_reported_first;
 pub use linking::{NamedFile, links};
 pub use links_text::{fault_number, push_number};
 pub use listing::{ListQuery, list, list_messages};

@@ -5,6 +5,6 @@ ghost use Rattle.cmd_show.specs.FaultyLines.{faults_of};
 
 /// The first reported fault of a link file is the one that a reader of link files names. A file
 /// without fault has no report.
-pub fn first_fault_is_told_first()
+pub fn first_fault_is_reported_first()
     ensures { (bytes : List ℕ) → option_map (λ line. line.fault) (slice_get (faults_of bytes) 0) ≡ file_fault bytes }
 {}

@@ -4,10 +4,10 @@ use Rattle.std.specs.Prelude.{IsErrOf}
 use Rattle.base_file.specs.Base.{Base}
 use Rattle.disk_io.specs.Disk.{Files, Honestly}
 use Rattle.disk_io.proofs.Moments.{then_run}
-use Rattle.base_store.specs.Store.{CommitsNothing, GoesOn, IsSameStore, KeepsBeside, KeepsOrCommits, MayCommit, SameBesideStore, StoreState}
+use Rattle.base_store.specs.Store.{CommitsNothing, GoesOn, IsSameStore, KeepsOthers, KeepsOrCommits, MayCommit, SameOtherFiles, StoreState}
 use Rattle.base_store.specs.declared.store_error.StoreError.{StoreError}
 use Rattle.base_store.specs.declared.store_error.StoreError.TheVariants.{TooMany}
-use Rattle.base_store.proofs.Runs.{commits_none, same_twice, beside_twice as kept_twice}
+use Rattle.base_store.proofs.Runs.{commits_none, same_twice, others_twice as kept_twice}
 use Rattle.cmd_status.specs.declared.fault.Fault.{Fault}
 use Rattle.echo_filed.specs.Filed.{Filed}
 use Rattle.echo_toss.specs.declared.step_error.PostStepError.{PostStepError}
@@ -33,9 +33,9 @@ pub full_after : {T : Type 0} (state : T → StoreState) (Adds : Base → Filed 
 full_after state Adds old new mid commits on not = grind (arith, past_after, full_now, commits_none)
 
 -- files as a later call leaves them, as the store was before
-stood_before : (old mid : StoreState) (c : Files) → IsSameStore old mid → KeepsBeside old mid → SameBesideStore mid c → SameBesideStore old c
-stood_before old mid c same kept beside m other named flushed =
-    beside m (λ own. other ((same.own m).0 own)) (kept.named m other named) (kept.flushed m other flushed) ∙ kept.seen m other
+stood_before : (old mid : StoreState) (c : Files) → IsSameStore old mid → KeepsOthers old mid → SameOtherFiles mid c → SameOtherFiles old c
+stood_before old mid c same kept others m other named flushed =
+    others m (λ own. other ((same.own m).0 own)) (kept.named m other named) (kept.flushed m other flushed) ∙ kept.seen m other
 
 -- a possible commit, followed by calls that commit nothing
 pub may_then_nothing : (old mid new : StoreState) → MayCommit old mid → Honestly mid.disk (KeepsOrCommits old mid) → CommitsNothing mid new → MayCommit old new

@@ -7,14 +7,14 @@ use Rattle.disk_io.proofs.Moments.{then_nothing, then_run, weaker_run}
 use Rattle.base_store.specs.Store.{Commits, CommitsNothing, GoesOn, HasStoreCause, KeepsOrCommits, LooksOn, MayCommit, LeavesEither, StoreState}
 use Rattle.base_store.specs.declared.store_error.StoreError.{StoreError}
 use Rattle.base_store.proofs.Causes.{cause_after, no_cause}
-use Rattle.base_store.proofs.Runs.{commits_none, goes_on_twice, looks_commit, looks_go_on, same_twice, beside_twice as kept_twice}
+use Rattle.base_store.proofs.Runs.{commits_none, goes_on_twice, looks_commit, looks_go_on, same_twice, others_twice as kept_twice}
 use Rattle.echo_toss.specs.declared.step_error.PostStepError.{PostStepError}
 use Rattle.echo_toss.specs.declared.step_error.PostStepError.TheVariants as post
 use Rattle.echo_toss.specs.Stores.{LooksWhereRefused}
 use Rattle.cmd_store.specs.declared.command_error.CommandError.{CommandError}
 use Rattle.cmd_store.specs.declared.command_error.CommandError.TheVariants.{Met, Store}
 use Rattle.cmd_store.specs.Stops.{IsOfStore, post_stop}
-use Rattle.cmd_store.specs.Answered.{CommitsNoneWhereMet, GoesOnFromEither, HasCommitted, LooksWhereMet, MayCommitWhereMet, MayMake, StandsForMade}
+use Rattle.cmd_store.specs.Answered.{CommitsNoneWhereMet, GoesOnFromEither, HasCommitted, LooksWhereMet, MayCommitWhereMet, MayMake, RepresentsMade}
 
 -- a run that commits nothing is one that may commit
 pub none_may : (old new : StoreState) → CommitsNothing old new → MayCommit old new
@@ -30,7 +30,7 @@ makes_none Makes old new none = grind (arith, weaker_run)
 
 -- the files that a crash leaves during a commit, compared with those before the command
 pub stood_made : (Makes : Base → Base → Type 0) (old mid : StoreState) (first base next : Base) (c : Files) → CommitsNothing old mid → Makes base next
-    → LeavesEither mid first next c → StandsForMade old (Makes base) first c
+    → LeavesEither mid first next c → RepresentsMade old (Makes base) first c
 stood_made Makes old mid first base next c none made either = grind (arith, ⊎_elim)
 
 -- a run makes a base without a commit, and then may commit it

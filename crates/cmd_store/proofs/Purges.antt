@@ -11,9 +11,9 @@ use Rattle.cmd_status.proofs.Lines.{alone}
 use Rattle.cmd_status.specs.Devices.{Output}
 use Rattle.model_steps.specs.Purging.{changed}
 use Rattle.base_store.specs.Store.{KeepsOrCommits, MayCommit, LeavesEither, StoreState, purged}
-use Rattle.base_store.proofs.Runs.{same_twice, beside_twice as kept_twice}
+use Rattle.base_store.proofs.Runs.{same_twice, others_twice as kept_twice}
 use Rattle.cmd_store.specs.declared.command_error.CommandError.{CommandError}
-use Rattle.cmd_store.specs.Answered.{MayMake, PrintsAll, RefusesNone, StandsForMade}
+use Rattle.cmd_store.specs.Answered.{MayMake, PrintsAll, RefusesNone, RepresentsMade}
 use Rattle.cmd_store.specs.Purged.{HoldsOrPurges, IsPurgedAt, PurgesOn}
 use Rattle.cmd_store.proofs.Printed.{answered}
 
@@ -23,7 +23,7 @@ purge_may old new may = grind (arith, weaker_run, ⊎_elim)
 
 -- the files that a crash leaves during the later commit, if `was` was the committed base before it
 stood_purged : (old mid : StoreState) (first base was : Base) (c : Files) → (was ≡ first) ⊎ (was ≡ base) → MayCommit old mid → LeavesEither mid was (purged base) c
-    → StandsForMade old (HoldsOrPurges base) first c
+    → RepresentsMade old (HoldsOrPurges base) first c
 stood_purged old mid first base was c is may either = grind (arith, ⊎_elim)
 
 -- then the purged base may be committed
@@ -31,13 +31,13 @@ pub purge_then : (old mid new : StoreState) → MayCommit old mid → Honestly m
     → Honestly mid.disk (KeepsOrCommits old mid) → MayCommit mid new → MayMake HoldsOrPurges old new
 purge_then old mid new first kept done may = record {
   any_moment = λ honest before base is h.
-      let at_mid = may.beside.honest honest in
-      let from : (was : Base) → (was ≡ before) ⊎ (was ≡ base) → mid.committed was → LeavesOnly old.disk new.disk (StandsForMade old (HoldsOrPurges base) before) =
+      let at_mid = may.others.honest honest in
+      let from : (was : Base) → (was ≡ before) ⊎ (was ≡ base) → mid.committed was → LeavesOnly old.disk new.disk (RepresentsMade old (HoldsOrPurges base) before) =
       λ was same then.
-      then_run old.disk mid.disk new.disk (StandsForMade old (HoldsOrPurges base) before) (LeavesEither mid was (purged base)) ((purge_may old mid first).any_moment at_mid before base is h)
+      then_run old.disk mid.disk new.disk (RepresentsMade old (HoldsOrPurges base) before) (LeavesEither mid was (purged base)) ((purge_may old mid first).any_moment at_mid before base is h)
       (may.any_moment honest was (purged base) then (kept at_mid base h)) (λ c either. stood_purged old mid before base was c same first either) in
       ⊎_elim (λ still. from before (inl refl) (still before is)) (λ held. from base (inr refl) (held base h)) (done at_mid);
-  beside = kept_twice old mid new first.same first.beside may.beside;
+  others = kept_twice old mid new first.same first.others may.others;
   same = same_twice old mid new first.same may.same;
 }
 

@@ -13,9 +13,9 @@ use Rattle.echo_links.specs.Links.{LinkFile}
 use Rattle.cmd_status.specs.Devices.{Output}
 use Rattle.model_steps.specs.SystemState.{SystemState}
 use Rattle.base_store.specs.Store.{LooksOn, LeavesCommitted, StoreState}
-use Rattle.base_store.proofs.Runs.{goes_on_twice, looks_commit, looks_go_on, looks_then_commits, same_twice, beside_twice as kept_twice}
+use Rattle.base_store.proofs.Runs.{goes_on_twice, looks_commit, looks_go_on, looks_then_commits, same_twice, others_twice as kept_twice}
 use Rattle.cmd_store.specs.declared.command_error.CommandError.{CommandError}
-use Rattle.cmd_store.specs.Answered.{CommitsNoneWhereMet, MayMake, StandsForMade}
+use Rattle.cmd_store.specs.Answered.{CommitsNoneWhereMet, MayMake, RepresentsMade}
 use Rattle.cmd_store.specs.Replied.{FindsOn, PostsAs, Replies, RepliesOn}
 
 -- the message with the found words
@@ -38,7 +38,7 @@ met_looked old mid new result h1 h2 h3 = grind (arith, looks_then_commits, goes_
 
 -- the files that a crash leaves during a command after a look, compared with those before the look
 stood_looked : (IsMade IsOther : Base → Type 0) (old mid : StoreState) (first : Base) (c : Files) → old.is_ready → LooksOn old mid → ((next : Base) → IsMade next → IsOther next)
-    → StandsForMade mid IsMade first c → StandsForMade old IsOther first c
+    → RepresentsMade mid IsMade first c → RepresentsMade old IsOther first c
 stood_looked IsMade IsOther old mid first c ready looks gives stood = grind (arith, looks_commit, ⊎_elim)
 
 pub makes_looked : (Makes Other : Base → Base → Type 0) (old mid new : StoreState) → old.is_ready → LooksOn old mid → Honestly mid.disk ((base : Base) → old.keeps base → (next : Base) → Makes base next → Other base next)
@@ -47,11 +47,11 @@ makes_looked Makes Other old mid new ready looks gives may =
     let none = looks_commit old mid ready looks in
     record {
       any_moment = λ honest first base is h.
-          let before = may.beside.honest honest in
-          then_run old.disk mid.disk new.disk (StandsForMade old (Other base) first) (StandsForMade mid (Makes base) first)
-          (weaker_run old.disk mid.disk (LeavesCommitted old first) (StandsForMade old (Other base) first) (none.any_moment before first is) (λ c s. record { beside = s.beside; stands = inl s.stands }))
+          let before = may.others.honest honest in
+          then_run old.disk mid.disk new.disk (RepresentsMade old (Other base) first) (RepresentsMade mid (Makes base) first)
+          (weaker_run old.disk mid.disk (LeavesCommitted old first) (RepresentsMade old (Other base) first) (none.any_moment before first is) (λ c s. record { others = s.others; represented = inl s.represented }))
           (may.any_moment honest first base (looks.committed first is) (looks.keeps base h)) (λ c s. stood_looked (Makes base) (Other base) old mid first c ready looks (gives before base h) s);
-      beside = kept_twice old mid new none.same none.beside may.beside;
+      others = kept_twice old mid new none.same none.others may.others;
       same = same_twice old mid new none.same may.same;
     }
 

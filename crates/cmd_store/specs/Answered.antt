@@ -6,7 +6,7 @@ use Rattle.disk_io.specs.Runs.{LeavesOnly}
 use Rattle.cmd_status.specs.declared.fault.Fault.{Fault}
 use Rattle.cmd_status.specs.Devices.{Output}
 use Rattle.cmd_status.specs.Ended.{Answers, IsDone, IsOutOfMemory}
-use Rattle.base_store.specs.Store.{CommitsNothing, GoesOn, IsSameStore, KeepsBeside, KeepsOrCommits, LooksOn, MayCommit, SameBesideStore, StoreState}
+use Rattle.base_store.specs.Store.{CommitsNothing, GoesOn, IsSameStore, KeepsOthers, KeepsOrCommits, LooksOn, MayCommit, SameOtherFiles, StoreState}
 use Rattle.cmd_store.specs.declared.command_error.CommandError.{CommandError}
 use Rattle.cmd_store.specs.declared.command_error.CommandError.TheVariants.{Met, Store}
 
@@ -73,12 +73,12 @@ pub record HasCommitted (IsMade : Base → Type 0) (new : StoreState) : Type 0 w
   pub committed : new.committed next
 
 -- A crash left the base committed before, or one that the command makes. Everything else is unchanged.
-pub record StandsForMade (old : StoreState) (IsMade : Base → Type 0) (first : Base) (c : Files) : Type 0 where
-  pub beside : SameBesideStore old c
-  pub stands : old.stands first c ⊎ ((next : Base) × IsMade next × old.stands next c)
+pub record RepresentsMade (old : StoreState) (IsMade : Base → Type 0) (first : Base) (c : Files) : Type 0 where
+  pub others : SameOtherFiles old c
+  pub represented : old.represented first c ⊎ ((next : Base) × IsMade next × old.represented next c)
 
 -- A crash at any time during a command leaves the base committed before, or one that the command makes of the held base.
 pub record MayMake (Makes : Base → Base → Type 0) (old new : StoreState) : Type 0 where
-  pub any_moment : Honestly new.disk ((first base : Base) → old.committed first → old.keeps base → LeavesOnly old.disk new.disk (StandsForMade old (Makes base) first))
-  pub beside : KeepsBeside old new
+  pub any_moment : Honestly new.disk ((first base : Base) → old.committed first → old.keeps base → LeavesOnly old.disk new.disk (RepresentsMade old (Makes base) first))
+  pub others : KeepsOthers old new
   pub same : IsSameStore old new

@@ -28,9 +28,9 @@ IsOfStore (stop.Met fault) = ⊥
 IsOfStore (stop.Store cause) = Unit {0}
 
 -- The reported fault of a command that stopped, with the store at this path.
-abbrev pub IsToldAs : List ℕ → CommandError → Fault → Type 0
-IsToldAs path (stop.Met fault) told = told ≡ fault
-IsToldAs path (stop.Store error.Memory) told = told ≡ OutOfMemory
-IsToldAs path (stop.Store error.TooMany) told = told ≡ Base TooMany
-IsToldAs path (stop.Store error.Device) told = IsCannotUse path told
-IsToldAs path (stop.Store error.Damaged) told = IsCannotUse path told
+abbrev pub IsReportedAs : List ℕ → CommandError → Fault → Type 0
+IsReportedAs path (stop.Met fault) reported = reported ≡ fault
+IsReportedAs path (stop.Store error.Memory) reported = reported ≡ OutOfMemory
+IsReportedAs path (stop.Store error.TooMany) reported = reported ≡ Base TooMany
+IsReportedAs path (stop.Store error.Device) reported = IsCannotUse path reported
+IsReportedAs path (stop.Store error.Damaged) reported = IsCannotUse path reported

@@ -2,7 +2,7 @@
 ghost use Rattle.std.specs.Prelude.{◌≡◌};
 ghost use Rattle.cmd_status.specs.declared.fault.Fault.TheVariants.{OutOfMemory};
 ghost use Rattle.cmd_store.specs.declared.command_error.CommandError.TheVariants as stop;
-ghost use Rattle.cmd_store.specs.Stops.{IsToldAs, post_stop};
+ghost use Rattle.cmd_store.specs.Stops.{IsReportedAs, post_stop};
 
 use base_file::BaseFault;
 use base_store::StoreError;
@@ -69,7 +69,7 @@ impl<'a> CommandError<'a> {
     /// The report, for the store at this path. A damaged message is not identified: the report is that the store
     /// cannot be used.
     pub fn fault(self, base: &'a str) -> Fault<'a>
-        ensures { IsToldAs base.now self.entry result }
+        ensures { IsReportedAs base.now self.entry result }
     {
         match self {
             CommandError::Met(fault) => fault,

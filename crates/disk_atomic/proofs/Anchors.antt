@@ -2,7 +2,7 @@
 use Rattle.std.proofs.Common.{◌≡◌, ◌⊎◌, inl, inr, ⊎_elim, ◌∙◌, Bool, true, false, List, ℕ, sym, arith}
 use Rattle.disk_io.specs.Disk.{DiskState, Files}
 use Rattle.disk_atomic.specs.Changes.{ChangesOnly, HasOnDisk}
-use Rattle.disk_atomic.specs.Naming.{HasItsPath, HasMoved, Names, StandsWhole, StaysThere}
+use Rattle.disk_atomic.specs.Naming.{HasItsPath, HasMoved, Names, IsWholeAtEither, StaysThere}
 use Rattle.disk_atomic.specs.Outgoing.{AreApart, IsStaged}
 use Rattle.disk_atomic.specs.declared.outgoing.Outgoing.{Outgoing}
 use Rattle.disk_atomic.proofs.Changes.{left_there, stays_on_disk}
@@ -39,7 +39,7 @@ module _ (content : Outgoing → List ℕ) (x y : Outgoing) (apart : AreApart x 
     same_stays d0 was = run.seen y.path.now not_path ∙ was
 
   -- the packet after a crash
-  pub whole_stays : (d : DiskState) (b c : Files) → d.may_leave b → Names x.path.now x.staging.now b c → IsAnchored content d y → StandsWhole content c y
+  pub whole_stays : (d : DiskState) (b c : Files) → d.may_leave b → Names x.path.now x.staging.now b c → IsAnchored content d y → IsWholeAtEither content c y
   whole_stays d b c left names on = grind (arith, ⊎_elim, not_path, left_there, not_staging)
 
 -- the packet that is named
@@ -50,5 +50,5 @@ module _ (content : Outgoing → List ℕ) (x : Outgoing) (d e : DiskState) (sta
   pub anchored_now : (named : Bool) → (named ≡ true → HasMoved d e x.path.now x.staging.now) → (named ≡ false → StaysThere d e x.staging.now) → IsAnchored content e x
   anchored_now named h1 h2 = grind (arith, has_path)
 
-  pub whole_now : (b c : Files) → d.may_leave b → Names x.path.now x.staging.now b c → StandsWhole content c x
+  pub whole_now : (b c : Files) → d.may_leave b → Names x.path.now x.staging.now b c → IsWholeAtEither content c x
   whole_now b c left names = grind (arith, left_there, ⊎_elim)

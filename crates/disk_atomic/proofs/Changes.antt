@@ -36,12 +36,12 @@ module _ (paths : List ℕ → Type 0) where
   only_call old new x step is on unnamed shared call =
       let not : (m : List ℕ) → (paths m → ⊥) → m ≡ x → ⊥ = λ m other e. other (subst paths (sym e) is) in
       record {
-        seen = λ m other. call.beside m (not m other);
+        seen = λ m other. call.others m (not m other);
         named = λ m other. call.named m (λ at. other (unnamed m at));
         flushed = λ m other. call.flushed m (not m other);
         alone = λ m other. call.alone m (λ at. other (shared m at));
         honest = call.time.honest;
-        any_moment = one_call old new (DifferAt paths) (λ c m other. refl) call (λ a c left changed m other. changed.beside m (not m other) (inl on));
+        any_moment = one_call old new (DifferAt paths) (λ c m other. refl) call (λ a c left changed m other. changed.others m (not m other) (inl on));
       }
 
   -- it makes a file there, or removes it

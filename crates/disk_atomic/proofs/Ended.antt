@@ -123,8 +123,8 @@ pub removed_finishes : (cursor : ℕ) (l : Left) → cursor ≤ l.before → l.s
 removed_finishes cursor l le other old new named call =
     one_call old new (Finishes cursor l) (λ c. record { others = λ m out. refl; ends = ends_same cursor c c l refl refl }) call
     (λ a c left removes.
-    let path : c l.path.now ≡ a l.path.now = removes.beside l.path.now (λ e. other (sym e)) (inl named) in
+    let path : c l.path.now ≡ a l.path.now = removes.others l.path.now (λ e. other (sym e)) (inl named) in
     record {
-      others = λ m out. removes.beside m (λ e. out (inl e)) (inl named);
+      others = λ m out. removes.others m (λ e. out (inl e)) (inl named);
       ends = record { committed = λ lt. absurd (omega arith); untouched = λ is. path; either = inl path };
     })

@@ -19,8 +19,8 @@ module _ (path staging : List ℕ) (other : staging ≢ path) where
       (λ a c left links.
       let there : a staging ≡ old.seen staging = old.on_disk staging named flushed a left in
       record {
-        others = λ m out. links.beside m (λ e. out (inr e)) (inl free);
-        stands = inr (links.beside staging other (inl free));
+        others = λ m out. links.others m (λ e. out (inr e)) (inl free);
+        stands = inr (links.others staging other (inl free));
         either = ⊎_elim (λ same. inl same) (λ new. inr (new ∙ sym there)) (links.within free);
       })
 
@@ -33,15 +33,15 @@ module _ (path staging : List ℕ) (other : staging ≢ path) where
       let step = ChangesFile d1 staging TornRemoval in
       then_steps d0 d1 d2 R step R run (one_call d1 d2 step (ChangesFile-none d1 staging TornRemoval (λ f. inl refl)) call (λ a c left s. s)) (λ a b r. r)
       (λ a b c at left r q.
-      let same : c path ≡ a staging = q.beside path (λ e. other (sym e)) (inl still) ∙ d1.on_disk path path_named path_flushed b left ∙ is ∙ sym (d0.on_disk staging named flushed a at) in
-      record { others = λ m out. q.beside m (λ e. out (inl e)) (inl still) ∙ r.others m out; stands = inl same; either = inr same })
+      let same : c path ≡ a staging = q.others path (λ e. other (sym e)) (inl still) ∙ d1.on_disk path path_named path_flushed b left ∙ is ∙ sym (d0.on_disk staging named flushed a at) in
+      record { others = λ m out. q.others m (λ e. out (inl e)) (inl still) ∙ r.others m out; stands = inl same; either = inr same })
 
 -- a link is such a call
 pub link_gives : (path staging : List ℕ) → staging ≢ path → (old new : DiskState) → old.is_named staging → old.is_flushed staging → old.is_named path → Links path staging old new → Gives old new path staging
 link_gives path staging other old new named flushed free call = record {
   any_moment = linked_run path staging other old new named flushed free call;
   changes = only_call (EitherPath staging path) old new path (TornNaming (old.seen staging)) (inr refl) free (λ m e. inr e) (λ m e. e) call;
-  stays = record { seen = call.beside staging other; named = call.named staging other; flushed = call.flushed staging other };
+  stays = record { seen = call.others staging other; named = call.named staging other; flushed = call.flushed staging other };
 }
 
 -- the same with quiet calls after it

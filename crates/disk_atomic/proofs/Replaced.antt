@@ -25,7 +25,7 @@ module _ (path staging bytes : List ℕ) where
     -- the renaming
     pub renamed_run : LeavesOnly old new (OneStepOn (Replaces path staging bytes) old)
     renamed_run = one_call old new (Replaces path staging bytes) (λ c. record { others = λ m out. refl; either = inl refl }) call (λ a c left renames. record {
-      others = λ m out. renames.beside m (λ e. out (inl e)) (λ e. out (inr e)) (inl (is.named, named));
+      others = λ m out. renames.others m (λ e. out (inl e)) (λ e. out (inr e)) (inl (is.named, named));
       either = ⊎_elim (λ same. inl same.1) (λ moved. inr (moved.1 ∙ is.seen)) (renames.both is.named named);
     })
 

@@ -50,13 +50,13 @@ pub record IsTaken (old : DiskState) (path staging : List ℕ) : Type 0 where
   pub other : old.seen path ≢ old.seen staging
 
 -- The packet is whole at one of its two paths.
-abbrev pub StandsWhole : (Outgoing → List ℕ) → Files → Outgoing → Type 0
-StandsWhole content c p = (c p.path.now ≡ Some (content p)) ⊎ (c p.staging.now ≡ Some (content p))
+abbrev pub IsWholeAtEither : (Outgoing → List ℕ) → Files → Outgoing → Type 0
+IsWholeAtEither content c p = (c p.path.now ≡ Some (content p)) ⊎ (c p.staging.now ≡ Some (content p))
 
 -- Each packet is whole at one of its two paths, and everything else is unchanged.
 pub record NamesEach (content : Outgoing → List ℕ) (packets : List Outgoing) (before after : Files) : Type 0 where
   pub others : DifferAt (IsOfOne packets) before after
-  pub whole : All (StandsWhole content after) packets
+  pub whole : All (IsWholeAtEither content after) packets
 
 -- The packet has only its path, and it is on the disk.
 pub record HasItsPath (content : Outgoing → List ℕ) (disk : DiskState) (p : Outgoing) : Type 0 where

@@ -14,4 +14,4 @@ TornWrite-none at count file = record {
 }
 
 pub ChangesFile-none : (old : DiskState) (path : List ℕ) (step : Option (List ℕ) → Option (List ℕ) → Type 0) → ((file : Option (List ℕ)) → step file file) → (c : Files) → ChangesFile old path step c c
-ChangesFile-none old path step none c = record { beside = λ m other named. refl; within = λ named. none (c path) }
+ChangesFile-none old path step none c = record { others = λ m other named. refl; within = λ named. none (c path) }

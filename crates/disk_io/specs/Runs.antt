@@ -44,7 +44,7 @@ EitherPath from to m = (m ≡ from) ⊎ (m ≡ to)
 
 -- One call: all but `changed` keep their files and stay flushed, all but `unnamed` stay named, all but `shared` alone.
 pub record ChangesAt (changed unnamed shared : List ℕ → Type 0) (step : Files → Files → Type 0) (old new : DiskState) : Type 0 where
-  pub beside : (m : List ℕ) → (changed m → ⊥) → new.seen m ≡ old.seen m
+  pub others : (m : List ℕ) → (changed m → ⊥) → new.seen m ≡ old.seen m
   pub flushed : KeepsFlushed changed old new
   pub named : KeepsNamed unnamed old new
   pub alone : KeepsAlone shared old new

@@ -27,17 +27,17 @@ abbrev pub TornNaming : Option (List ℕ) → Option (List ℕ) → Option (List
 TornNaming file old new = (new ≡ old) ⊎ (new ≡ file)
 
 -- The other paths lead to the same files.
-abbrev pub SameBeside : List ℕ → Files → Files → Type 0
-SameBeside path old new = (m : List ℕ) → m ≢ path → new m ≡ old m
+abbrev pub SameOthers : List ℕ → Files → Files → Type 0
+SameOthers path old new = (m : List ℕ) → m ≢ path → new m ≡ old m
 
 -- A crash after a step at `path`. Where neither `path` nor another path is named, both may lead to one file, so the
 -- other may have any bytes.
 pub record ChangesFile (old : DiskState) (path : List ℕ) (step : Option (List ℕ) → Option (List ℕ) → Type 0) (before after : Files) : Type 0 where
-  pub beside : (m : List ℕ) → m ≢ path → old.is_named path ⊎ old.is_named m → after m ≡ before m
+  pub others : (m : List ℕ) → m ≢ path → old.is_named path ⊎ old.is_named m → after m ≡ before m
   pub within : old.is_named path → step (before path) (after path)
 
 -- A crash after a rename without a sync: the rename happened, or it did not.
 pub record RenamesFile (old : DiskState) (from to : List ℕ) (before after : Files) : Type 0 where
-  pub beside : (m : List ℕ) → m ≢ from → m ≢ to → (old.is_named from × old.is_named to) ⊎ old.is_named m → after m ≡ before m
+  pub others : (m : List ℕ) → m ≢ from → m ≢ to → (old.is_named from × old.is_named to) ⊎ old.is_named m → after m ≡ before m
   pub target : old.is_named to → (after to ≡ before to) ⊎ (after to ≡ old.seen from)
   pub both : old.is_named from → old.is_named to → ((after from ≡ before from) × (after to ≡ before to)) ⊎ ((after from ≡ None) × (after to ≡ old.seen from))

@@ -53,7 +53,7 @@ same_at new old is = grind arith
 
 -- the step changes files only at one path
 pub record KeepsBut (p : List ℕ) (s : List Step) (x : Step) : Type 0 where
-  pub together : (came : List ℕ → Bool) → AreTogether (x ∷ s) came → AreTogether s came
+  pub together : (reached : List ℕ → Bool) → AreTogether (x ∷ s) reached → AreTogether s reached
   pub same : (m : List ℕ) → m ≢ p → SameAt (shown (x ∷ s) m) (shown s m)
 
 pub flushed_same : (s : List Step) (x : Step) (m : List ℕ) → SameAt (shown (x ∷ s) m) (shown s m) → IsFlushed s m → IsFlushed (x ∷ s) m
@@ -62,16 +62,16 @@ flushed_same s x m same is = grind arith
 pub step_crash : (s : List Step) (x : Step) (p : List ℕ) (R : Option (List ℕ) → Option (List ℕ) → Type 0) → KeepsBut p s x → R (shown s p).seen (shown (x ∷ s) p).seen
     → R (shown s p).kept (shown (x ∷ s) p).kept → LeavesOneStepOn (ChangesFile (disk_after s) p R) (disk_after s) (disk_after (x ∷ s))
 step_crash s x p R keeps seen kept c left = (
-  left_where s left.came,
-  record { came = left.came; together = keeps.together left.came left.together; files = λ m. refl },
+  left_where s left.reached,
+  record { reached = left.reached; together = keeps.together left.reached left.together; files = λ m. refl },
   record {
-    beside = λ m other named.
+    others = λ m other named.
         let same = keeps.same m other in
         left.files m
-        ∙ cond_both (left.came m) (shown (x ∷ s) m).seen (shown (x ∷ s) m).kept (shown s m).seen (shown s m).kept same.seen same.kept;
+        ∙ cond_both (left.reached m) (shown (x ∷ s) m).seen (shown (x ∷ s) m).kept (shown s m).seen (shown s m).kept same.seen same.kept;
     within = λ named.
-        subst (λ (f : Option (List ℕ)). R (left_where s left.came p) f) (sym (left.files p))
-        (at_either R (left.came p) (shown s p).seen (shown s p).kept (shown (x ∷ s) p).seen (shown (x ∷ s) p).kept seen kept);
+        subst (λ (f : Option (List ℕ)). R (left_where s left.reached p) f) (sym (left.files p))
+        (at_either R (left.reached p) (shown s p).seen (shown s p).kept (shown (x ∷ s) p).seen (shown (x ∷ s) p).kept seen kept);
   },
 )
 

@@ -23,11 +23,11 @@ either false x y one two = two
 none_flushed : (s : List Step) (m : List ℕ) → HasNone (shown s m)
 none_flushed [] m = λ none. refl
 none_flushed (Changed path contents ∷ s) m = either (bytes_eq m path.items) _ _ (λ none. absurd cc) (none_flushed s m)
-none_flushed (Made path came ∷ s) m = either (bytes_eq m path.items) _ _ (λ none. absurd cc) (none_flushed s m)
-none_flushed (Removed path came ∷ s) m = either (bytes_eq m path.items) _ _ (λ none. refl) (none_flushed s m)
-none_flushed (Renamed from to file came ∷ s) m =
+none_flushed (Made path reached ∷ s) m = either (bytes_eq m path.items) _ _ (λ none. absurd cc) (none_flushed s m)
+none_flushed (Removed path reached ∷ s) m = either (bytes_eq m path.items) _ _ (λ none. refl) (none_flushed s m)
+none_flushed (Renamed from to file reached ∷ s) m =
     either (bytes_eq m to.items) _ _ (λ none. refl) (either (bytes_eq m from.items) _ _ (λ none. refl) (none_flushed s m))
-none_flushed (Linked from to file came ∷ s) m =
+none_flushed (Linked from to file reached ∷ s) m =
     either (bytes_eq m to.items) _ _ (λ none. refl) (either (bytes_eq m from.items) _ _ (none_flushed s m) (none_flushed s m))
 none_flushed (Synced path ∷ s) m = either (bytes_eq m path.items) _ _ (λ none. refl) (none_flushed s m)
 none_flushed (FolderSynced folder ∷ s) m = none_flushed s m

@@ -29,48 +29,48 @@ both_ends : (b done : Bool) (file seen_from seen_to kept_from kept_to c_from c_t
     → d_from ≡ cond b seen_from kept_from → d_to ≡ cond b seen_to kept_to → ((c_from ≡ d_from) × (c_to ≡ d_to)) ⊎ ((c_from ≡ None) × (c_to ≡ file))
 both_ends b done file seen_from seen_to kept_from kept_to c_from c_to d_from d_to h1 h2 h3 h4 = grind arith
 
-module _ (s : List Step) (at target bytes : Bytes) (came : Bool) (from to : List ℕ) (at_from : at.items ≡ from) (at_to : target.items ≡ to) (other : from ≢ to) (file : Option (List ℕ))
+module _ (s : List Step) (at target bytes : Bytes) (reached : Bool) (from to : List ℕ) (at_from : at.items ≡ from) (at_to : target.items ≡ to) (other : from ≢ to) (file : Option (List ℕ))
     (file_is : file ≡ Some bytes.items) where
-  renamed_to : shown (Renamed at target bytes came ∷ s) to ≡ record (named_anew (Some bytes.items) came (shown s to)) { renamed = true }
+  renamed_to : shown (Renamed at target bytes reached ∷ s) to ≡ record (named_anew (Some bytes.items) reached (shown s to)) { renamed = true }
   renamed_to = cond_true _ _ _ (here to target.items at_to)
 
-  renamed_from : shown (Renamed at target bytes came ∷ s) from ≡ record (named_anew None came (shown s from)) { renamed = true }
+  renamed_from : shown (Renamed at target bytes reached ∷ s) from ≡ record (named_anew None reached (shown s from)) { renamed = true }
   renamed_from = cond_false _ _ _ (elsewhere from to target.items at_to other) ∙ cond_true _ _ _ (here from at.items at_from)
 
-  renamed_there : (m : List ℕ) → m ≢ from → m ≢ to → shown (Renamed at target bytes came ∷ s) m ≡ shown s m
+  renamed_there : (m : List ℕ) → m ≢ from → m ≢ to → shown (Renamed at target bytes reached ∷ s) m ≡ shown s m
   renamed_there m a b = cond_false _ _ _ (elsewhere m to target.items at_to b) ∙ cond_false _ _ _ (elsewhere m from at.items at_from a)
 
-  renamed_crash : (shown s from).seen ≡ file → LeavesOneStepOn (RenamesFile (disk_after s) from to) (disk_after s) (disk_after (Renamed at target bytes came ∷ s))
+  renamed_crash : (shown s from).seen ≡ file → LeavesOneStepOn (RenamesFile (disk_after s) from to) (disk_after s) (disk_after (Renamed at target bytes reached ∷ s))
   renamed_crash seen c left =
-      let chosen = left.came in
+      let chosen = left.reached in
       let joined : chosen from ≡ chosen to = ap chosen (sym at_from) ∙ left.together.0 ∙ ap chosen at_to in
-      let now_to : c to ≡ cond (chosen to) (Some bytes.items) (cond came (Some bytes.items) (shown s to).kept) =
+      let now_to : c to ≡ cond (chosen to) (Some bytes.items) (cond reached (Some bytes.items) (shown s to).kept) =
       left.files to ∙ ap (λ (z : Shown). cond (chosen to) z.seen z.kept) renamed_to in
-      let now_from : c from ≡ cond (chosen to) None (cond came None (shown s from).kept) =
-      left.files from ∙ ap (λ (z : Shown). cond (chosen from) z.seen z.kept) renamed_from ∙ ap (λ b. cond b None (cond came None (shown s from).kept)) joined in
+      let now_from : c from ≡ cond (chosen to) None (cond reached None (shown s from).kept) =
+      left.files from ∙ ap (λ (z : Shown). cond (chosen from) z.seen z.kept) renamed_from ∙ ap (λ b. cond b None (cond reached None (shown s from).kept)) joined in
       let was_from : left_where s chosen from ≡ cond (chosen to) (shown s from).seen (shown s from).kept =
       ap (λ b. cond b (shown s from).seen (shown s from).kept) joined in
       let moved : Some bytes.items ≡ (shown s from).seen = sym file_is ∙ sym seen in (
         left_where s chosen,
-        record { came = chosen; together = left.together.1; files = λ m. refl },
+        record { reached = chosen; together = left.together.1; files = λ m. refl },
         record {
-          beside = λ m a b named.
-              let same = same_at (shown (Renamed at target bytes came ∷ s) m) (shown s m) (renamed_there m a b) in
+          others = λ m a b named.
+              let same = same_at (shown (Renamed at target bytes reached ∷ s) m) (shown s m) (renamed_there m a b) in
               left.files m ∙ cond_both (chosen m) _ _ (shown s m).seen (shown s m).kept same.seen same.kept;
           target = λ named.
               subst (λ f. (c to ≡ left_where s chosen to) ⊎ (c to ≡ f)) moved
-              (one_end (chosen to) came (Some bytes.items) (shown s to).seen (shown s to).kept (c to) (left_where s chosen to) now_to refl);
+              (one_end (chosen to) reached (Some bytes.items) (shown s to).seen (shown s to).kept (c to) (left_where s chosen to) now_to refl);
           both = λ named_from named_to.
               subst (λ f. ((c from ≡ left_where s chosen from) × (c to ≡ left_where s chosen to)) ⊎ ((c from ≡ None) × (c to ≡ f))) moved
-              (both_ends (chosen to) came (Some bytes.items) (shown s from).seen (shown s to).seen (shown s from).kept (shown s to).kept (c from) (c to) (left_where s chosen from) (left_where s chosen to) now_from now_to was_from refl);
+              (both_ends (chosen to) reached (Some bytes.items) (shown s from).seen (shown s to).seen (shown s from).kept (shown s to).kept (c from) (c to) (left_where s chosen from) (left_where s chosen to) now_from now_to was_from refl);
         },
       )
 
-  renamed_effect : (shown s from).seen ≡ file → Renaming from to (disk_after s) (disk_after (Renamed at target bytes came ∷ s))
+  renamed_effect : (shown s from).seen ≡ file → Renaming from to (disk_after s) (disk_after (Renamed at target bytes reached ∷ s))
   renamed_effect seen = grind (arith, renamed_there, renamed_crash, flushed_same, same_at, one_elapses)
 
   -- the files that reads show after the rename
-  renamed_seen : ((shown (Renamed at target bytes came ∷ s) to).seen ≡ file) × ((shown (Renamed at target bytes came ∷ s) from).seen ≡ None) × IsFlushed (Renamed at target bytes came ∷ s) to
+  renamed_seen : ((shown (Renamed at target bytes reached ∷ s) to).seen ≡ file) × ((shown (Renamed at target bytes reached ∷ s) from).seen ≡ None) × IsFlushed (Renamed at target bytes reached ∷ s) to
   renamed_seen = grind (arith, renamed_to, renamed_from)
 
 module _ (result : Result (Unit {0}) DiskError) (old new : List Step) (from to : List ℕ) (other : from ≢ to) (adds : MatchResult result (λ _. AddsRenaming from to (seen_at old from) old new) (λ _. new ≡ old)) where
@@ -78,8 +78,8 @@ module _ (result : Result (Unit {0}) DiskError) (old new : List Step) (from to :
   renaming_effect =
       let s = reverse old in
       by_result result old new (AddsRenaming from to (seen_at old from) old new) (λ (l : List Step). Renaming from to (disk_after s) (disk_after l)) adds
-      (λ a. subst (λ (l : List Step). Renaming from to (disk_after s) (disk_after l)) (sym (reversed old new (Renamed a.at a.target a.bytes a.came) a.adds))
-      (renamed_effect s a.at a.target a.bytes a.came from to a.at_path a.target_path other (seen_at old from) a.file_is refl))
+      (λ a. subst (λ (l : List Step). Renaming from to (disk_after s) (disk_after l)) (sym (reversed old new (Renamed a.at a.target a.bytes a.reached) a.adds))
+      (renamed_effect s a.at a.target a.bytes a.reached from to a.at_path a.target_path other (seen_at old from) a.file_is refl))
       (no_renaming s from to)
 
 module _ (result : Result (Unit {0}) DiskError) (old new : List Step) (from to : List ℕ) (other : from ≢ to) where
@@ -88,8 +88,8 @@ module _ (result : Result (Unit {0}) DiskError) (old new : List Step) (from to :
 
   pub renaming_gone : MatchResult result (λ _. AddsRenaming from to (seen_at old from) old new) (λ _. new ≡ old) → OnOk result (let l = reverse new in (shown l from).seen ≡ None)
   renaming_gone = by_ok result old new (AddsRenaming from to (seen_at old from) old new) (λ (l : List Step). (shown l from).seen ≡ None)
-      (λ a. subst (λ (l : List Step). (shown l from).seen ≡ None) (sym (reversed old new (Renamed a.at a.target a.bytes a.came) a.adds))
-      (renamed_seen (reverse old) a.at a.target a.bytes a.came from to a.at_path a.target_path other (seen_at old from) a.file_is).1)
+      (λ a. subst (λ (l : List Step). (shown l from).seen ≡ None) (sym (reversed old new (Renamed a.at a.target a.bytes a.reached) a.adds))
+      (renamed_seen (reverse old) a.at a.target a.bytes a.reached from to a.at_path a.target_path other (seen_at old from) a.file_is).1)
 
   pub renaming_kept : MatchResult result (λ _. AddsRenaming from to (seen_at old from) old new) (λ _. new ≡ old) → OnOk result (let l = reverse new in IsFlushed l to)
   renaming_kept = grind (arith, by_ok, reversed, renamed_seen)

@@ -37,7 +37,7 @@ module _ (s : List Step) (at : Bytes) (contents : Contents) (p : List ℕ) (is :
   changed_effect : (R : Option (List ℕ) → Option (List ℕ) → Type 0) → R (shown s p).seen (Some contents.seen.items) → R (shown s p).kept (file_of contents.kept)
       → Effect p R NoPath NoPath (disk_after s) (disk_after (Changed at contents ∷ s))
   changed_effect R seen kept = record {
-    beside = λ m other. (changed_keeps.same m other).seen;
+    others = λ m other. (changed_keeps.same m other).seen;
     crash = step_crash s (Changed at contents) p R changed_keeps
         (subst (λ (f : Option (List ℕ)). R (shown s p).seen f) (sym (ap (λ (z : Shown). z.seen) changed_here)) seen)
         (subst (λ (f : Option (List ℕ)). R (shown s p).kept f) (sym (ap (λ (z : Shown). z.kept) changed_here)) kept);

@@ -44,23 +44,23 @@ other_named false x y none is = (refl, is)
 -- ---- renamings
 
 -- a path that is named takes part in no renaming that is not on the disk
-together_at : (s : List Step) (came : List ℕ → Bool) (p : List ℕ) → IsNamed s p → AreTogether s came → AreTogether s (λ m. came m || bytes_eq m p)
-together_at [] came p named was = tt
-together_at (Changed path contents ∷ s) came p named was = together_at s came p (sym (cond_field (λ (z : Shown). z.named) (bytes_eq p path.items) _ (shown s p) refl) ∙ named) was
-together_at (Made path making ∷ s) came p named was = together_at s came p (other_named (bytes_eq p path.items) _ (shown s p) refl named).1 was
-together_at (Removed path done ∷ s) came p named was = together_at s came p (other_named (bytes_eq p path.items) _ (shown s p) refl named).1 was
-together_at (Renamed from to file done ∷ s) came p named was =
+together_at : (s : List Step) (reached : List ℕ → Bool) (p : List ℕ) → IsNamed s p → AreTogether s reached → AreTogether s (λ m. reached m || bytes_eq m p)
+together_at [] reached p named was = tt
+together_at (Changed path contents ∷ s) reached p named was = together_at s reached p (sym (cond_field (λ (z : Shown). z.named) (bytes_eq p path.items) _ (shown s p) refl) ∙ named) was
+together_at (Made path making ∷ s) reached p named was = together_at s reached p (other_named (bytes_eq p path.items) _ (shown s p) refl named).1 was
+together_at (Removed path done ∷ s) reached p named was = together_at s reached p (other_named (bytes_eq p path.items) _ (shown s p) refl named).1 was
+together_at (Renamed from to file done ∷ s) reached p named was =
     let one = other_named (bytes_eq p to.items) _ _ refl named in
     let two = other_named (bytes_eq p from.items) _ (shown s p) refl one.1 in (
-      or_none (came from.items) (bytes_eq from.items p) (apart p from.items two.0) ∙ was.0 ∙ sym (or_none (came to.items) (bytes_eq to.items p) (apart p to.items one.0)),
-      together_at s came p two.1 was.1,
+      or_none (reached from.items) (bytes_eq from.items p) (apart p from.items two.0) ∙ was.0 ∙ sym (or_none (reached to.items) (bytes_eq to.items p) (apart p to.items one.0)),
+      together_at s reached p two.1 was.1,
     )
-together_at (Linked from to file done ∷ s) came p named was =
+together_at (Linked from to file done ∷ s) reached p named was =
     let one = other_named (bytes_eq p to.items) _ _ refl named in
-    together_at s came p (sym (cond_field (λ (z : Shown). z.named) (bytes_eq p from.items) _ (shown s p) refl) ∙ one.1) was
-together_at (Synced path ∷ s) came p named was = together_at s came p (sym (cond_field (λ (z : Shown). z.named) (bytes_eq p path.items) _ (shown s p) refl) ∙ named) was
-together_at (FolderSynced folder ∷ s) came p named was = tt
-together_at (Crashed ∷ s) came p named was = tt
+    together_at s reached p (sym (cond_field (λ (z : Shown). z.named) (bytes_eq p from.items) _ (shown s p) refl) ∙ one.1) was
+together_at (Synced path ∷ s) reached p named was = together_at s reached p (sym (cond_field (λ (z : Shown). z.named) (bytes_eq p path.items) _ (shown s p) refl) ∙ named) was
+together_at (FolderSynced folder ∷ s) reached p named was = tt
+together_at (Crashed ∷ s) reached p named was = tt
 
 renamed_stays : (b : Bool) (x y : Shown) → x.renamed ≡ y.renamed → y.renamed ≡ true → (cond b x y).renamed ≡ true
 renamed_stays true x y same is = same ∙ is
@@ -71,25 +71,25 @@ renamed_by true x y one two = one
 renamed_by false x y one two = two
 
 -- both paths of each rename have the mark
-all_together : (s : List Step) (came : List ℕ → Bool) → ((m : List ℕ) → (shown s m).renamed ≡ true → came m ≡ true) → AreTogether s came
-all_together [] came marked = tt
-all_together (Changed path contents ∷ s) came marked = all_together s came (λ m is. marked m (renamed_stays (bytes_eq m path.items) _ (shown s m) refl is))
-all_together (Made path making ∷ s) came marked = all_together s came (λ m is. marked m (renamed_stays (bytes_eq m path.items) _ (shown s m) refl is))
-all_together (Removed path done ∷ s) came marked = all_together s came (λ m is. marked m (renamed_stays (bytes_eq m path.items) _ (shown s m) refl is))
-all_together (Renamed from to file done ∷ s) came marked =
-    let at_to : came to.items ≡ true = marked to.items (ap (λ (z : Shown). z.renamed) (cond_true (bytes_eq to.items to.items) _ _ (here to.items to.items refl))) in
-    let at_from : came from.items ≡ true = marked from.items (either_renamed (bytes_eq from.items to.items) (bytes_eq from.items from.items) _ _ (shown s from.items) refl refl (here from.items from.items refl)) in
-    (at_from ∙ sym at_to, all_together s came (λ m is. marked m (renamed_by (bytes_eq m to.items) _ _ refl (renamed_by (bytes_eq m from.items) _ (shown s m) refl is))))
+all_together : (s : List Step) (reached : List ℕ → Bool) → ((m : List ℕ) → (shown s m).renamed ≡ true → reached m ≡ true) → AreTogether s reached
+all_together [] reached marked = tt
+all_together (Changed path contents ∷ s) reached marked = all_together s reached (λ m is. marked m (renamed_stays (bytes_eq m path.items) _ (shown s m) refl is))
+all_together (Made path making ∷ s) reached marked = all_together s reached (λ m is. marked m (renamed_stays (bytes_eq m path.items) _ (shown s m) refl is))
+all_together (Removed path done ∷ s) reached marked = all_together s reached (λ m is. marked m (renamed_stays (bytes_eq m path.items) _ (shown s m) refl is))
+all_together (Renamed from to file done ∷ s) reached marked =
+    let at_to : reached to.items ≡ true = marked to.items (ap (λ (z : Shown). z.renamed) (cond_true (bytes_eq to.items to.items) _ _ (here to.items to.items refl))) in
+    let at_from : reached from.items ≡ true = marked from.items (either_renamed (bytes_eq from.items to.items) (bytes_eq from.items from.items) _ _ (shown s from.items) refl refl (here from.items from.items refl)) in
+    (at_from ∙ sym at_to, all_together s reached (λ m is. marked m (renamed_by (bytes_eq m to.items) _ _ refl (renamed_by (bytes_eq m from.items) _ (shown s m) refl is))))
   where
     either_renamed : (a b : Bool) (x y z : Shown) → x.renamed ≡ true → y.renamed ≡ true → b ≡ true → (cond a x (cond b y z)).renamed ≡ true
     either_renamed true b x y z one two is = one
     either_renamed false true x y z one two is = two
     either_renamed false false x y z one two is = absurd cc
-all_together (Linked from to file done ∷ s) came marked =
-    all_together s came (λ m is. marked m (renamed_stays (bytes_eq m to.items) _ _ (sym (cond_field (λ (z : Shown). z.renamed) (bytes_eq m from.items) _ (shown s m) refl)) (renamed_stays (bytes_eq m from.items) _ (shown s m) refl is)))
-all_together (Synced path ∷ s) came marked = all_together s came (λ m is. marked m (renamed_stays (bytes_eq m path.items) _ (shown s m) refl is))
-all_together (FolderSynced folder ∷ s) came marked = tt
-all_together (Crashed ∷ s) came marked = tt
+all_together (Linked from to file done ∷ s) reached marked =
+    all_together s reached (λ m is. marked m (renamed_stays (bytes_eq m to.items) _ _ (sym (cond_field (λ (z : Shown). z.renamed) (bytes_eq m from.items) _ (shown s m) refl)) (renamed_stays (bytes_eq m from.items) _ (shown s m) refl is)))
+all_together (Synced path ∷ s) reached marked = all_together s reached (λ m is. marked m (renamed_stays (bytes_eq m path.items) _ (shown s m) refl is))
+all_together (FolderSynced folder ∷ s) reached marked = tt
+all_together (Crashed ∷ s) reached marked = tt
 
 -- ---- a file
 
@@ -114,15 +114,15 @@ module _ (s : List Step) (at : Bytes) where
 
   file_fewer_by : (c : Files) → MayLeave (Synced at ∷ s) c → (b : Bool) → (shown s at.items).named ≡ b → MayLeave s c
   file_fewer_by c left true is = record {
-    came = λ m. left.came m || bytes_eq m at.items;
-    together = together_at s left.came at.items is left.together;
-    files = λ m. left.files m ∙ settled_file (left.came m) (bytes_eq m at.items) (shown s m) (at_same m true is);
+    reached = λ m. left.reached m || bytes_eq m at.items;
+    together = together_at s left.reached at.items is left.together;
+    files = λ m. left.files m ∙ settled_file (left.reached m) (bytes_eq m at.items) (shown s m) (at_same m true is);
   }
   file_fewer_by c left false is = record {
-    came = left.came;
+    reached = left.reached;
     together = left.together;
     files = λ m. left.files m
-        ∙ cond_both (left.came m) _ _ (shown s m).seen (shown s m).kept (cond_field (λ (z : Shown). z.seen) (bytes_eq m at.items) (put_on_disk (shown s m)) (shown s m) refl) (lost_name (bytes_eq m at.items) (shown s m) (at_same m false is));
+        ∙ cond_both (left.reached m) _ _ (shown s m).seen (shown s m).kept (cond_field (λ (z : Shown). z.seen) (bytes_eq m at.items) (put_on_disk (shown s m)) (shown s m) refl) (lost_name (bytes_eq m at.items) (shown s m) (at_same m false is));
   }
 
   file_nothing : ChangesNothing (disk_after s) (disk_after (Synced at ∷ s))
@@ -173,9 +173,9 @@ module _ (s : List Step) (at : Bytes) where
 
   folder_fewer : (c : Files) → MayLeave (FolderSynced at ∷ s) c → MayLeave s c
   folder_fewer c left = record {
-    came = λ m. left.came m || settled m;
-    together = all_together s (λ m. left.came m || settled m) (λ m is. or_right (left.came m) (settled m) (or_right (is_in at.items m && (shown s m).flushed) (shown s m).renamed is));
-    files = λ m. left.files m ∙ settled_path (left.came m) (settled m) (shown s m).seen (shown s m).kept;
+    reached = λ m. left.reached m || settled m;
+    together = all_together s (λ m. left.reached m || settled m) (λ m is. or_right (left.reached m) (settled m) (or_right (is_in at.items m && (shown s m).flushed) (shown s m).renamed is));
+    files = λ m. left.files m ∙ settled_path (left.reached m) (settled m) (shown s m).seen (shown s m).kept;
   }
 
   folder_nothing : ChangesNothing (disk_after s) (disk_after (FolderSynced at ∷ s))

@@ -13,19 +13,19 @@ pub reversed : (old new : List Step) (x : Step) → new ≡ old ++ x ∷ [] → 
 reversed old new x e = ap (λ (l : List Step). reverse l) e ∙ reverse-append old (x ∷ [])
 
 -- a crash leaves the kept files
-pub none_came : (steps : List Step) → AreTogether steps (λ m. false)
-none_came [] = tt
-none_came (Changed path contents ∷ steps) = none_came steps
-none_came (Made path making ∷ steps) = none_came steps
-none_came (Removed path done ∷ steps) = none_came steps
-none_came (Renamed from to file done ∷ steps) = (refl, none_came steps)
-none_came (Linked from to file done ∷ steps) = none_came steps
-none_came (Synced path ∷ steps) = none_came steps
-none_came (FolderSynced folder ∷ steps) = tt
-none_came (Crashed ∷ steps) = tt
+pub none_reached : (steps : List Step) → AreTogether steps (λ m. false)
+none_reached [] = tt
+none_reached (Changed path contents ∷ steps) = none_reached steps
+none_reached (Made path making ∷ steps) = none_reached steps
+none_reached (Removed path done ∷ steps) = none_reached steps
+none_reached (Renamed from to file done ∷ steps) = (refl, none_reached steps)
+none_reached (Linked from to file done ∷ steps) = none_reached steps
+none_reached (Synced path ∷ steps) = none_reached steps
+none_reached (FolderSynced folder ∷ steps) = tt
+none_reached (Crashed ∷ steps) = tt
 
 pub left_by_crash : (steps : List Step) → MayLeave steps (disk_after (Crashed ∷ steps)).seen
-left_by_crash steps = record { came = λ m. false; together = none_came steps; files = λ m. refl }
+left_by_crash steps = record { reached = λ m. false; together = none_reached steps; files = λ m. refl }
 
 pub one_elapses : (steps : List Step) (x : Step) → Elapses (disk_after steps) (disk_after (x ∷ steps))
 one_elapses steps x = grind (arith, ⊎_elim)

@@ -12,5 +12,5 @@ drop_further k n a b le same =
     sym one ∙ ap (λ (l : List ℕ). drop (n - k) l) same ∙ two
 
 -- a write of fewer bytes is one of more that was cut short
-pub fewer_came : (at k n : ℕ) (old new : Option (List ℕ)) → k ≤ n → TornWrite at k old new → TornWrite at n old new
-fewer_came at k n old new le was = grind (arith, drop_further)
+pub fewer_reached : (at k n : ℕ) (old new : Option (List ℕ)) → k ≤ n → TornWrite at k old new → TornWrite at n old new
+fewer_reached at k n old new le was = grind (arith, drop_further)

@@ -26,36 +26,36 @@ pub record AddsChange (path : List ℕ) (seen : List ℕ → Type 0) (kept : Opt
 
 pub record AddsMaking (path : List ℕ) (old new : List Step) : Type 0 where
   pub at : Bytes
-  pub came : Making
+  pub reached : Making
   pub at_path : at.items ≡ path
-  pub adds : Adds (Made at came) old new
+  pub adds : Adds (Made at reached) old new
 
 pub record AddsRemoval (path : List ℕ) (old new : List Step) : Type 0 where
   pub at : Bytes
-  pub came : Bool
+  pub reached : Bool
   pub at_path : at.items ≡ path
-  pub adds : Adds (Removed at came) old new
+  pub adds : Adds (Removed at reached) old new
 
 -- The call renamed the file that reads show at `from`.
 pub record AddsRenaming (from to : List ℕ) (file : Option (List ℕ)) (old new : List Step) : Type 0 where
   pub at : Bytes
   pub target : Bytes
   pub bytes : Bytes
-  pub came : Bool
+  pub reached : Bool
   pub at_path : at.items ≡ from
   pub target_path : target.items ≡ to
   pub file_is : file ≡ Some bytes.items
-  pub adds : Adds (Renamed at target bytes came) old new
+  pub adds : Adds (Renamed at target bytes reached) old new
 
 pub record AddsLink (from to : List ℕ) (file : Option (List ℕ)) (old new : List Step) : Type 0 where
   pub at : Bytes
   pub target : Bytes
   pub bytes : Bytes
-  pub came : Bool
+  pub reached : Bool
   pub at_path : at.items ≡ from
   pub target_path : target.items ≡ to
   pub file_is : file ≡ Some bytes.items
-  pub adds : Adds (Linked at target bytes came) old new
+  pub adds : Adds (Linked at target bytes reached) old new
 
 -- The call gave the file a second path, if that path had no file.
 abbrev pub LinksWhereFree : Bool → List ℕ → List ℕ → List Step → List Step → Type 0

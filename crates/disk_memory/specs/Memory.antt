@@ -10,25 +10,25 @@ use Rattle.disk_memory.specs.declared.step.Step.TheVariants.{Changed, Made, Remo
 
 -- The two paths of a rename reach the disk together, unless a folder was synced since.
 abbrev pub AreTogether : List Step → (List ℕ → Bool) → Type 0
-AreTogether [] came = Unit {0}
-AreTogether (Changed path contents ∷ steps) came = AreTogether steps came
-AreTogether (Made path making ∷ steps) came = AreTogether steps came
-AreTogether (Removed path done ∷ steps) came = AreTogether steps came
-AreTogether (Renamed from to file done ∷ steps) came = (came from.items ≡ came to.items) × AreTogether steps came
-AreTogether (Linked from to file done ∷ steps) came = AreTogether steps came
-AreTogether (Synced path ∷ steps) came = AreTogether steps came
-AreTogether (FolderSynced folder ∷ steps) came = Unit {0}
-AreTogether (Crashed ∷ steps) came = Unit {0}
+AreTogether [] reached = Unit {0}
+AreTogether (Changed path contents ∷ steps) reached = AreTogether steps reached
+AreTogether (Made path making ∷ steps) reached = AreTogether steps reached
+AreTogether (Removed path done ∷ steps) reached = AreTogether steps reached
+AreTogether (Renamed from to file done ∷ steps) reached = (reached from.items ≡ reached to.items) × AreTogether steps reached
+AreTogether (Linked from to file done ∷ steps) reached = AreTogether steps reached
+AreTogether (Synced path ∷ steps) reached = AreTogether steps reached
+AreTogether (FolderSynced folder ∷ steps) reached = Unit {0}
+AreTogether (Crashed ∷ steps) reached = Unit {0}
 
 -- The files if the shown bytes have reached the disk at some paths. At the others, a crash keeps the old ones.
 abbrev pub left_where : List Step → (List ℕ → Bool) → Files
-left_where steps came m = cond (came m) (shown steps m).seen (shown steps m).kept
+left_where steps reached m = cond (reached m) (shown steps m).seen (shown steps m).kept
 
 -- The files that a crash leaves now, or would leave if more of the shown bytes had reached the disk.
 pub record MayLeave (steps : List Step) (c : Files) : Type 0 where
-  pub came : List ℕ → Bool
-  pub together : AreTogether steps came
-  pub files : (m : List ℕ) → c m ≡ left_where steps came m
+  pub reached : List ℕ → Bool
+  pub together : AreTogether steps reached
+  pub files : (m : List ℕ) → c m ≡ left_where steps reached m
 
 -- A crash left these files after t steps, or later.
 abbrev pub LeftSince : List Step → ℕ → Files → Type 0
@@ -52,7 +52,7 @@ either_is false x y same = same
 
 pub kept_is_seen : (steps : List Step) (m : List ℕ) → IsNamed steps m → IsFlushed steps m → (c : Files) → MayLeave steps c → c m ≡ (shown steps m).seen
 kept_is_seen steps m named flushed c left =
-    left.files m ∙ either_is (left.came m) (shown steps m).seen (shown steps m).kept (flushed.whole named)
+    left.files m ∙ either_is (left.reached m) (shown steps m).seen (shown steps m).kept (flushed.whole named)
 
 pub now_counts : (steps : List Step) (t : ℕ) (c : Files) → t ≤ length steps → MayLeave steps c → LeftSince steps t c
 now_counts [] t c le left = left

@@ -55,20 +55,20 @@ kept_of Done was = Some []
 
 -- A path after a step that gives it another file, or no file.
 abbrev pub named_anew : Option (List ℕ) → Bool → Shown → Shown
-named_anew file came was = record was { seen = file; kept = cond came file was.kept; named = false; flushed = true; alone = false }
+named_anew file reached was = record was { seen = file; kept = cond reached file was.kept; named = false; flushed = true; alone = false }
 
 -- The path of a new file.
 abbrev pub after_making : Making → Shown → Shown
-after_making came was = record was { seen = Some []; kept = kept_of came was.kept; named = false; flushed = false; alone = true }
+after_making reached was = record was { seen = Some []; kept = kept_of reached was.kept; named = false; flushed = false; alone = true }
 
 -- A path after a rename, which changes only its two paths.
 abbrev pub after_renaming : List ℕ → List ℕ → List ℕ → Bool → List ℕ → Shown → Shown
-after_renaming from to file came m was =
-    cond (bytes_eq m to) (record (named_anew (Some file) came was) { renamed = true }) (cond (bytes_eq m from) (record (named_anew None came was) { renamed = true }) was)
+after_renaming from to file reached m was =
+    cond (bytes_eq m to) (record (named_anew (Some file) reached was) { renamed = true }) (cond (bytes_eq m from) (record (named_anew None reached was) { renamed = true }) was)
 
 -- A path after a link, which changes only its two paths.
 abbrev pub after_linking : List ℕ → List ℕ → List ℕ → Bool → List ℕ → Shown → Shown
-after_linking from to file came m was = cond (bytes_eq m to) (named_anew (Some file) came was) (cond (bytes_eq m from) (record was { alone = false }) was)
+after_linking from to file reached m was = cond (bytes_eq m to) (named_anew (Some file) reached was) (cond (bytes_eq m from) (record was { alone = false }) was)
 
 -- After a sync of a folder, a file reaches the disk if its path is in the folder and its bytes are on the disk. The
 -- files at all paths of renames do so too.
@@ -79,10 +79,10 @@ after_folder_sync folder m was =
 -- The effect of each step at a path.
 abbrev pub after : Step → List ℕ → Shown → Shown
 after (Changed path contents) m was = cond (bytes_eq m path.items) (record was { seen = Some contents.seen.items; kept = file_of contents.kept; flushed = false }) was
-after (Made path came) m was = cond (bytes_eq m path.items) (after_making came was) was
-after (Removed path came) m was = cond (bytes_eq m path.items) (named_anew None came was) was
-after (Renamed from to file came) m was = after_renaming from.items to.items file.items came m was
-after (Linked from to file came) m was = after_linking from.items to.items file.items came m was
+after (Made path reached) m was = cond (bytes_eq m path.items) (after_making reached was) was
+after (Removed path reached) m was = cond (bytes_eq m path.items) (named_anew None reached was) was
+after (Renamed from to file reached) m was = after_renaming from.items to.items file.items reached m was
+after (Linked from to file reached) m was = after_linking from.items to.items file.items reached m was
 after (Synced path) m was = cond (bytes_eq m path.items) (record was { kept = cond was.named was.seen was.kept; flushed = true }) was
 after (FolderSynced folder) m was = after_folder_sync folder.items m was
 after Crashed m was = record { seen = was.kept; kept = was.kept; named = true; flushed = true; alone = true; renamed = false }

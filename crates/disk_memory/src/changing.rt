@@ -76,9 +76,9 @@ pub(crate) fn make(disk: &mut MemoryDisk, path: &[u8]) -> Result<(), DiskError>
     ensures cause { HasCause disk.old.failures disk.new.failures result }
 {
     disk.begin()?;
-    let came = making(disk.next_tear());
+    let reached = making(disk.next_tear());
     let path = path.to_vec(disk.alloc)?;
-    disk.steps.push(Step::Made { path, came })?;
+    disk.steps.push(Step::Made { path, reached })?;
     Ok(())
 }
 
@@ -88,9 +88,9 @@ pub(crate) fn remove(disk: &mut MemoryDisk, path: &[u8]) -> Result<(), DiskError
     ensures cause { HasCause disk.old.failures disk.new.failures result }
 {
     disk.begin()?;
-    let came = has_come(disk.next_tear());
+    let reached = has_come(disk.next_tear());
     let path = path.to_vec(disk.alloc)?;
-    disk.steps.push(Step::Removed { path, came })?;
+    disk.steps.push(Step::Removed { path, reached })?;
     Ok(())
 }
 
@@ -101,7 +101,7 @@ pub(crate) fn rename(disk: &mut MemoryDisk, from: &[u8], to: &[u8]) -> Result<()
     ensures cause { HasCause disk.old.failures disk.new.failures result }
 {
     disk.begin()?;
-    let came = has_come(disk.next_tear());
+    let reached = has_come(disk.next_tear());
     let file = seen(&disk.steps, from).to_vec(disk.alloc)?;
     let from = from.to_vec(disk.alloc)?;
     let to = to.to_vec(disk.alloc)?;
@@ -109,7 +109,7 @@ pub(crate) fn rename(disk: &mut MemoryDisk, from: &[u8], to: &[u8]) -> Result<()
         from,
         to,
         file,
-        came,
+        reached,
     })?;
     Ok(())
 }
@@ -125,7 +125,7 @@ pub(crate) fn link(disk: &mut MemoryDisk, from: &[u8], to: &[u8]) -> Result<bool
     if view(&disk.steps, to).seen.is_some() {
         return Ok(false);
     }
-    let came = has_come(disk.next_tear());
+    let reached = has_come(disk.next_tear());
     let file = seen(&disk.steps, from).to_vec(disk.alloc)?;
     let from = from.to_vec(disk.alloc)?;
     let to = to.to_vec(disk.alloc)?;
@@ -133,7 +133,7 @@ pub(crate) fn link(disk: &mut MemoryDisk, from: &[u8], to: &[u8]) -> Result<bool
         from,
         to,
         file,
-        came,
+        reached,
     })?;
     Ok(true)
 }

@@ -33,10 +33,10 @@ fn bytes_in(file: &Option<Vec<u8>>) -> Option<&[u8]>
 }
 
 // The file that a crash leaves of a making.
-fn left_by<'a>(came: Making, was: Option<&'a [u8]>) -> Option<&'a [u8]>
-    ensures { file_behind result ≡ kept_of came (file_behind was.entry) }
+fn left_by<'a>(reached: Making, was: Option<&'a [u8]>) -> Option<&'a [u8]>
+    ensures { file_behind result ≡ kept_of reached (file_behind was.entry) }
 {
-    match came {
+    match reached {
         Making::Lost => was,
         Making::Half => None,
         Making::Done => Some(&[]),
@@ -44,12 +44,12 @@ fn left_by<'a>(came: Making, was: Option<&'a [u8]>) -> Option<&'a [u8]>
 }
 
 // The path leads to another file, or to none.
-fn named_now<'a>(file: Option<&'a [u8]>, came: bool, was: PathView<'a>) -> PathView<'a>
-    ensures { shown_by result ≡ named_anew (file_behind file.entry) came (shown_by was.entry) }
+fn named_now<'a>(file: Option<&'a [u8]>, reached: bool, was: PathView<'a>) -> PathView<'a>
+    ensures { shown_by result ≡ named_anew (file_behind file.entry) reached (shown_by was.entry) }
 {
     PathView {
         seen: file,
-        kept: if came { file } else { was.kept },
+        kept: if reached { file } else { was.kept },
         named: false,
         flushed: true,
         alone: false,
@@ -57,12 +57,12 @@ fn named_now<'a>(file: Option<&'a [u8]>, came: bool, was: PathView<'a>) -> PathV
     }
 }
 
-fn made<'a>(came: Making, was: PathView<'a>) -> PathView<'a>
-    ensures { shown_by result ≡ after_making came (shown_by was.entry) }
+fn made<'a>(reached: Making, was: PathView<'a>) -> PathView<'a>
+    ensures { shown_by result ≡ after_making reached (shown_by was.entry) }
 {
     PathView {
         seen: Some(&[]),
-        kept: left_by(came, was.kept),
+        kept: left_by(reached, was.kept),
         named: false,
         flushed: false,
         alone: true,
@@ -74,11 +74,11 @@ fn renamed<'a>(
     from: &[u8],
     to: &[u8],
     file: &'a [u8],
-    came: bool,
+    reached: bool,
     path: &[u8],
     was: PathView<'a>,
 ) -> PathView<'a>
-    ensures { shown_by result ≡ after_renaming from.now to.now file.now came path.now (shown_by was.entry) }
+    ensures { shown_by result ≡ after_renaming from.now to.now file.now reached path.now (shown_by was.entry) }
 {
     let file = if path == to {
         Some(file)
@@ -89,7 +89,7 @@ fn renamed<'a>(
     };
     PathView {
         renamed: true,
-        ..named_now(file, came, was)
+        ..named_now(file, reached, was)
     }
 }
 
@@ -97,14 +97,14 @@ fn linked<'a>(
     from: &[u8],
     to: &[u8],
     file: &'a [u8],
-    came: bool,
+    reached: bool,
     path: &[u8],
     was: PathView<'a>,
 ) -> PathView<'a>
-    ensures { shown_by result ≡ after_linking from.now to.now file.now came path.now (shown_by was.entry) }
+    ensures { shown_by result ≡ after_linking from.now to.now file.now reached path.now (shown_by was.entry) }
 {
     if path == to {
-        return named_now(Some(file), came, was);
+        return named_now(Some(file), reached, was);
     }
     if path == from {
         return PathView {
@@ -139,8 +139,10 @@ fn stepped<'a>(step: &'a Step, path: &[u8], was: PathView<'a>) -> PathView<'a>
             flushed: false,
             ..was
         },
-        Step::Made { path: at, came } if path == at.as_slice() => made(*came, was),
-        Step::Removed { path: at, came } if path == at.as_slice() => named_now(None, *came, was),
+        Step::Made { path: at, reached } if path == at.as_slice() => made(*reached, was),
+        Step::Removed { path: at, reached } if path == at.as_slice() => named_now(
+            None, *reached, was,
+        ),
         Step::Synced { path: at } if path == at.as_slice() => PathView {
             kept: if was.named { was.seen } else { was.kept },
             flushed: true,
@@ -152,14 +154,14 @@ fn stepped<'a>(step: &'a Step, path: &[u8], was: PathView<'a>) -> PathView<'a>
             from,
             to,
             file,
-            came,
-        } => renamed(from, to, file, *came, path, was),
+            reached,
+        } => renamed(from, to, file, *reached, path, was),
         Step::Linked {
             from,
             to,
             file,
-            came,
-        } => linked(from, to, file, *came, path, was),
+            reached,
+        } => linked(from, to, file, *reached, path, was),
         Step::FolderSynced { folder } => in_synced_folder(folder, path, was),
         Step::Crashed => PathView {
             seen: was.kept,

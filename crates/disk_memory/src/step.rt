@@ -29,26 +29,26 @@ pub enum Step {
     /// A path has an empty new file.
     Made {
         path: Vec<u8>,
-        came: Making,
+        reached: Making,
     },
     /// A path has no file.
     Removed {
         path: Vec<u8>,
-        came: bool,
+        reached: bool,
     },
     /// A file has another path.
     Renamed {
         from: Vec<u8>,
         to: Vec<u8>,
         file: Vec<u8>,
-        came: bool,
+        reached: bool,
     },
     /// A file has a second path.
     Linked {
         from: Vec<u8>,
         to: Vec<u8>,
         file: Vec<u8>,
-        came: bool,
+        reached: bool,
     },
     /// A file was put on the disk.
     Synced {

@@ -36,14 +36,14 @@ pub(crate) fn overwritten(
 
 // The bytes of a write, at its offset, that arrive.
 fn torn(alloc: Global, bytes: &[u8], tear: Tear) -> Result<Vec<u8>, AllocError>
-    ensures { IfOk result (λ came. length came.items ≤ length bytes.now) }
+    ensures { IfOk result (λ reached. length reached.items ≤ length bytes.now) }
 {
     let count = tear.bytes.min(bytes.len());
-    let mut came = bytes[..count].to_vec(alloc)?;
+    let mut reached = bytes[..count].to_vec(alloc)?;
     if let Some(filler) = tear.filler {
-        came.resize(bytes.len(), filler)?;
+        reached.resize(bytes.len(), filler)?;
     }
-    Ok(came)
+    Ok(reached)
 }
 
 // The bytes with others at an offset. Zeros fill the gap if the offset is after the end.
@@ -77,8 +77,8 @@ pub(crate) fn kept_after_write(
     match kept {
         None => Ok(None),
         Some(old) => {
-            let came = torn(alloc, bytes, tear)?;
-            Ok(Some(overwritten_behind(alloc, old, at, &came)?))
+            let reached = torn(alloc, bytes, tear)?;
+            Ok(Some(overwritten_behind(alloc, old, at, &reached)?))
         }
     }
 }

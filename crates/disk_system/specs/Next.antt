@@ -12,8 +12,8 @@ use Rattle.disk_io.specs.Runs.{OneStepOn}
 abbrev pub with_file : List ℕ → Option (List ℕ) → Files → Files
 with_file path file files m = cond (bytes_eq m path) file (files m)
 
-pub beside_file : (path : List ℕ) (file : Option (List ℕ)) (files : Files) (m : List ℕ) → m ≢ path → with_file path file files m ≡ files m
-beside_file path file files m other =
+pub others_file : (path : List ℕ) (file : Option (List ℕ)) (files : Files) (m : List ℕ) → m ≢ path → with_file path file files m ≡ files m
+others_file path file files m other =
     ap (λ b. cond b file (files m)) (false_from_ne_true (bytes_eq m path) (λ same. other ((bytes_eq-Decides m path).0 same)))
 
 pub was_or_is : (old : DiskState) (leaves : Files → Type 0) (c : Files) → leaves c ⊎ ((suc old.moment ≤ old.moment) × old.left_since (suc old.moment) c) → leaves c
@@ -52,7 +52,7 @@ answered P old = record old { is_honest = old.is_honest × P }
 pub others_stay : (old : DiskState) (path : List ℕ) (file : Option (List ℕ)) (step : Option (List ℕ) → Option (List ℕ) → Type 0) (m : List ℕ) → m ≢ path → old.is_named m → old.is_flushed m
     → (c : Files) → OneStepOn (ChangesFile old path step) old c → c m ≡ with_file path file old.seen m
 others_stay old path file step m other named flushed c left =
-    left.2.beside m other (inr named) ∙ old.on_disk m named flushed left.0 left.1 ∙ sym (beside_file path file old.seen m other)
+    left.2.others m other (inr named) ∙ old.on_disk m named flushed left.0 left.1 ∙ sym (others_file path file old.seen m other)
 
 -- One file has other bytes, or its path another file. A crash may leave the result of such a step.
 abbrev pub changed : DiskState → List ℕ → Option (List ℕ) → (Option (List ℕ) → Option (List ℕ) → Type 0) → (List ℕ → Type 0) → DiskState
@@ -74,8 +74,8 @@ Neither from to P m = P m × ((m ≢ from) × (m ≢ to))
 pub rest_stays : (old : DiskState) (from to : List ℕ) (left_from left_to : Option (List ℕ)) (m : List ℕ) → m ≢ from → m ≢ to → old.is_named m → old.is_flushed m
     → (c : Files) → OneStepOn (RenamesFile old from to) old c → c m ≡ with_file to left_to (with_file from left_from old.seen) m
 rest_stays old from to left_from left_to m one two named flushed c left =
-    left.2.beside m one two (inr named) ∙ old.on_disk m named flushed left.0 left.1
-    ∙ sym (beside_file to left_to (with_file from left_from old.seen) m two ∙ beside_file from left_from old.seen m one)
+    left.2.others m one two (inr named) ∙ old.on_disk m named flushed left.0 left.1
+    ∙ sym (others_file to left_to (with_file from left_from old.seen) m two ∙ others_file from left_from old.seen m one)
 
 -- A file has moved to another path, or a failed rename left other files at both.
 abbrev pub moved : (old : DiskState) (from to : List ℕ) (left_from left_to : Option (List ℕ)) (flushed : List ℕ → Type 0) → ((m : List ℕ) → m ≢ to → flushed m → old.is_flushed m) → DiskState

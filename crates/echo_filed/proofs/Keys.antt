@@ -106,6 +106,6 @@ unfolding stub_of
 stub_of_stub m = stub_twice m (msgid_of m.echo.kept) refl
 
 -- the key of a message, by its id
-pub key_told : (m : Filed) (has : Option (List ℕ)) → has ≡ msgid_of m.echo.kept → key_with m has ≡ key_of m
+pub key_reported : (m : Filed) (has : Option (List ℕ)) → has ≡ msgid_of m.echo.kept → key_with m has ≡ key_of m
 unfolding key_of
-key_told m has h = ap (key_with m) h
+key_reported m has h = ap (key_with m) h

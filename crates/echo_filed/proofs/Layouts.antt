@@ -382,9 +382,9 @@ counted_field F w zero_fits number = record {
         ∙ front_again (length s) s rest refl
 
 -- a field with its values in another form
-told_read : {X Y : Type 0} → (X → Y) → Option (X × List ℕ) → Option (Y × List ℕ)
-told_read f None = None
-told_read f (Some found) = Some (f found.0, found.1)
+reported_read : {X Y : Type 0} → (X → Y) → Option (X × List ℕ) → Option (Y × List ℕ)
+reported_read f None = None
+reported_read f (Some found) = Some (f found.0, found.1)
 
 -- the two ways to tell a value
 pub record Tells (X Y : Type 0) (F : X → Type 0) (w : X → List ℕ) (G : Y → Type 0) (v : Y → List ℕ) : Type 0 where
@@ -395,10 +395,10 @@ pub record Tells (X Y : Type 0) (F : X → Type 0) (w : X → List ℕ) (G : Y �
   pub from_fits : (y : Y) → G y → F (from y)
   pub same : (x : X) → w x ≡ v (to x)
 
-pub told_field : {X Y : Type 0} {F : X → Type 0} {w : X → List ℕ} {G : Y → Type 0} {v : Y → List ℕ} → Tells X Y F w G v → Layout X F w → Layout Y G v
-unfolding told_read
-told_field {X} {Y} {F} {w} {G} {v} t field = record {
-  read = λ bytes. told_read t.to (field.read bytes);
+pub reported_field : {X Y : Type 0} {F : X → Type 0} {w : X → List ℕ} {G : Y → Type 0} {v : Y → List ℕ} → Tells X Y F w G v → Layout X F w → Layout Y G v
+unfolding reported_read
+reported_field {X} {Y} {F} {w} {G} {v} t field = record {
+  read = λ bytes. reported_read t.to (field.read bytes);
   takes = λ bytes found are h. takes bytes found are (field.read bytes) refl h;
   again = again;
   cuts = λ bytes are h. cuts bytes are (field.read bytes) refl h;
@@ -406,20 +406,20 @@ told_field {X} {Y} {F} {w} {G} {v} t field = record {
   any_fits = t.to_fits field.any field.any_fits;
 }
   where
-    takes : (bytes : List ℕ) (found : Y × List ℕ) → AreBytes bytes → (o : Option (X × List ℕ)) → field.read bytes ≡ o → told_read t.to o ≡ Some found → Took Y G v bytes found
+    takes : (bytes : List ℕ) (found : Y × List ℕ) → AreBytes bytes → (o : Option (X × List ℕ)) → field.read bytes ≡ o → reported_read t.to o ≡ Some found → Took Y G v bytes found
     takes bytes found are None e h = absurd (cc)
     takes bytes found are (Some one) e h =
         let took = field.takes bytes one are e in
         subst (Took Y G v bytes) (same_some (t.to one.0, one.1) found h)
         (record { fits = t.to_fits one.0 took.fits; whole = took.whole ∙ ap (λ bs. bs ++ one.1) (t.same one.0); rest_bytes = took.rest_bytes })
 
-    again : (y : Y) (rest : List ℕ) → G y → told_read t.to (field.read (v y ++ rest)) ≡ Some (y, rest)
+    again : (y : Y) (rest : List ℕ) → G y → reported_read t.to (field.read (v y ++ rest)) ≡ Some (y, rest)
     again y rest h =
         let bytes : v y ≡ w (t.from y) = ap v (sym (t.back y)) ∙ sym (t.same (t.from y)) in
         let y' = t.back y in
-        ap (λ bs. told_read t.to (field.read (bs ++ rest))) bytes ∙ ap (told_read t.to) (field.again (t.from y) rest (t.from_fits y h)) ∙ (λ i. Some (y' i, rest))
+        ap (λ bs. reported_read t.to (field.read (bs ++ rest))) bytes ∙ ap (reported_read t.to) (field.again (t.from y) rest (t.from_fits y h)) ∙ (λ i. Some (y' i, rest))
 
-    cuts : (bytes : List ℕ) → AreBytes bytes → (o : Option (X × List ℕ)) → field.read bytes ≡ o → told_read t.to o ≡ None → EndsIn Y G v bytes
+    cuts : (bytes : List ℕ) → AreBytes bytes → (o : Option (X × List ℕ)) → field.read bytes ≡ o → reported_read t.to o ≡ None → EndsIn Y G v bytes
     cuts bytes are None e h =
         let inside = field.cuts bytes are e in
         record {

@@ -9,9 +9,9 @@ use Rattle.echo_filed.specs.Filed.{Filed, id_line}
 use Rattle.echo_filed.specs.Stubs.{is_stub, is_stub_with, stub_of, stub_with}
 
 -- the test of a message, by its id
-pub is_stub_told : (m : Filed) (has : Option (List ℕ)) → has ≡ msgid_of m.echo.kept → is_stub m ≡ is_stub_with m has
+pub is_stub_reported : (m : Filed) (has : Option (List ℕ)) → has ≡ msgid_of m.echo.kept → is_stub m ≡ is_stub_with m has
 unfolding is_stub
-is_stub_told m has h = ap (is_stub_with m) (sym h)
+is_stub_reported m has h = ap (is_stub_with m) (sym h)
 
 -- a message with only these lines left
 abbrev pub with_lines : Filed → List (List ℕ) → Filed
@@ -41,8 +41,8 @@ line_with m (Some id) h = refl
 pub left_line : (m : Filed) (has : Option (List ℕ)) → has ≡ msgid_of m.echo.kept → is_stub m ≡ false
     → id_line msgid_word (unwrap_or has []) ∷ [] ≡ (stub_of m).echo.kept
 unfolding is_stub stub_of
-left_line m has told h =
-    ap (λ o. id_line msgid_word (unwrap_or o []) ∷ []) told ∙ line_with m (msgid_of m.echo.kept) h
+left_line m has reported h =
+    ap (λ o. id_line msgid_word (unwrap_or o []) ∷ []) reported ∙ line_with m (msgid_of m.echo.kept) h
 
 -- the bytes of the found value, or else of the default
 pub copied_or : (o : Option (Bor (List ℕ))) (d : Bor (List ℕ)) → (unwrap_or o d).now ≡ unwrap_or (option_copied o) d.now

@@ -5,7 +5,7 @@ use Rattle.echo_packet.specs.Header.{AreBytes, word}
 use Rattle.echo_filed.specs.Stored.{IsStored, Stored, Version, after_length, after_long_length, has_tag, long, stored_bytes}
 pub use Rattle.echo_filed.specs.Fields.{StopsIn}
 use Rattle.echo_filed.specs.Fields.{IsLongString, IsShortString, IsSmall, LastFits, address_bytes, last_of}
-use Rattle.echo_filed.proofs.Layouts.{BothFit, HasLength, IsByte, IsLong, IsWord, Layout, Tells, both, both_by, both_bytes, byte_field, counted_field, fixed_field, inside_unread, itself, long_field, nothing_field, one_byte, told_field, word_field}
+use Rattle.echo_filed.proofs.Layouts.{BothFit, HasLength, IsByte, IsLong, IsWord, Layout, Tells, both, both_by, both_bytes, byte_field, counted_field, fixed_field, inside_unread, itself, long_field, nothing_field, one_byte, reported_field, word_field}
 
 pub short_field : Layout (List ℕ) IsShortString after_length
 short_field = counted_field IsByte one_byte (lit< tt) byte_field
@@ -19,7 +19,7 @@ last_field false = both nothing_field text_field
 
 -- zone, net and node
 pub address_field : Layout Address IsSmall address_bytes
-address_field = told_field tells (both word_field (both word_field word_field))
+address_field = reported_field tells (both word_field (both word_field word_field))
   where
     tells : Tells (ℕ × (ℕ × ℕ)) Address (BothFit IsWord (λ _. BothFit IsWord (λ _. IsWord))) (both_bytes word (λ _. both_bytes word (λ _. word))) IsSmall address_bytes
     tells = record {
@@ -117,7 +117,7 @@ bytes_are version p = refl
 
 -- a stored message
 pub stored_field : (version : Version) → Layout Stored (IsStored version) (stored_bytes version)
-stored_field version = told_field tells (all_fields version)
+stored_field version = reported_field tells (all_fields version)
   where
     tells : Tells Fields Stored (FieldsFit version) (fields_bytes version) (IsStored version) (stored_bytes version)
     tells = record {

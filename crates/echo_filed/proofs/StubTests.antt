@@ -28,9 +28,9 @@ left_alone m (Some id) h =
       echo = record { tag = m.echo.tag; kept = kept i; seen = seen i; path = path i };
     }
 
-told : (m : Filed) (id : Option (List ℕ)) → stub_with m id ≡ m → is_stub_with m id ≡ true
-told m None h = refl
-told m (Some id) h =
+reported : (m : Filed) (id : Option (List ℕ)) → stub_with m id ≡ m → is_stub_with m id ≡ true
+reported m None h = refl
+reported m (Some id) h =
     let kept : m.echo.kept ≡ id_line msgid_word id ∷ [] = sym (ap (λ (x : Filed). x.echo.kept) h) in
     let seen : length m.echo.seen ≡ 0 = sym (ap (λ (x : Filed). length x.echo.seen) h) in
     let path : length m.echo.path ≡ 0 = sym (ap (λ (x : Filed). length x.echo.path) h) in
@@ -43,6 +43,6 @@ pub stays : (m : Filed) → is_stub m ≡ true → stub_of m ≡ m
 unfolding is_stub stub_of
 stays m h = left_alone m (msgid_of m.echo.kept) h
 
-pub stub_told : (m : Filed) → (is_stub m ≡ true → stub_of m ≡ m) × (stub_of m ≡ m → is_stub m ≡ true)
+pub stub_reported : (m : Filed) → (is_stub m ≡ true → stub_of m ≡ m) × (stub_of m ≡ m → is_stub m ≡ true)
 unfolding is_stub stub_of
-stub_told m = (stays m, told m (msgid_of m.echo.kept))
+stub_reported m = (stays m, reported m (msgid_of m.echo.kept))

@@ -2,7 +2,7 @@
 use Rattle.std.specs.Prelude.{◌≡◌, ℕ, ◌-◌, ◌^◌, ◌<◌, ◌≤◌, Bool, true, false, List, [], ◌∷◌, ◌++◌, length, if◌then◌else◌, Option, Result, Ok, Err}
 use Rattle.std.specs.Io.KnownBytes.{Consumes, IsAtEnd}
 use Rattle.echo_packet.specs.Header.{word}
-use Rattle.echo_packet.specs.Field.{Came}
+use Rattle.echo_packet.specs.Field.{Consumed}
 use Rattle.echo_addr.specs.declared.address.Address.{Address}
 use Rattle.disk_io.specs.declared.fixed.Broken.{Broken}
 use Rattle.disk_io.specs.declared.fixed.Broken.TheVariants as broken
@@ -18,8 +18,8 @@ pub record EndsIn (X : Type 0) (Fits : X → Type 0) (write : X → List ℕ) (b
 
 -- Why the field is incomplete: the input ended inside it, or the device failed there.
 abbrev pub Breaks : (X : Type 0) → (X → Type 0) → (X → List ℕ) → Option (List ℕ) → Option (List ℕ) → Broken → Type 0
-Breaks X Fits write old new broken.Cut = Came old new (EndsIn X Fits write) × IsAtEnd new
-Breaks X Fits write old new broken.Device = Came old new (EndsIn X Fits write)
+Breaks X Fits write old new broken.Cut = Consumed old new (EndsIn X Fits write) × IsAtEnd new
+Breaks X Fits write old new broken.Device = Consumed old new (EndsIn X Fits write)
 Breaks X Fits write old new broken.Memory = Unit {0}
 
 -- The call read a value of the field and consumed exactly its bytes.
@@ -29,8 +29,8 @@ Reads {X} Fits write old new (Err e) = Breaks X Fits write old new e
 
 -- The source gave fewer bytes than the string still needs.
 abbrev pub BreaksSized : ℕ → Option (List ℕ) → Option (List ℕ) → Broken → Type 0
-BreaksSized lacks old new broken.Cut = Came old new (λ came. length came < lacks) × IsAtEnd new
-BreaksSized lacks old new broken.Device = Came old new (λ came. length came < lacks)
+BreaksSized lacks old new broken.Cut = Consumed old new (λ consumed. length consumed < lacks) × IsAtEnd new
+BreaksSized lacks old new broken.Device = Consumed old new (λ consumed. length consumed < lacks)
 BreaksSized lacks old new broken.Memory = Unit {0}
 
 -- The call appended more bytes of a string of this length.

@@ -67,8 +67,8 @@ fn take_piece<R: Source>(reader: &mut R, string: &mut Vec<u8>, size: usize) -> R
     let step = (size - had).min(STEP);
     string.reserve_exact(step)?;
     string.resize(had + step, 0)?;
-    let came = fill_from(reader, string, had)?;
-    if came < step {
+    let consumed = fill_from(reader, string, had)?;
+    if consumed < step {
         return Err(Broken::Cut);
     }
     Ok(())

@@ -20,7 +20,7 @@ pub fn key_law()
 pub fn stub_laws()
     ensures keep_keys { (m : Filed) → key_of (stub_of m) ≡ key_of m }
     ensures stay { (m : Filed) → stub_of (stub_of m) ≡ stub_of m }
-    ensures told { (m : Filed) → (is_stub m ≡ true) ↔ (stub_of m ≡ m) }
+    ensures reported { (m : Filed) → (is_stub m ≡ true) ↔ (stub_of m ≡ m) }
 {}
 
 /// The entries of a list as a set: ascending, without repeats, with its members.

@@ -85,13 +85,13 @@ abbrev pub next_number : List ℕ → List ℕ → ℕ
 next_number headers index = first_number headers + entries_in index
 
 -- The number of active messages that the base states.
-abbrev pub told_active : List ℕ → ℕ
-told_active headers = long_at 12 headers
+abbrev pub reported_active : List ℕ → ℕ
+reported_active headers = long_at 12 headers
 
 -- Whether that count includes no entry of zeros at the end of the index.
 abbrev pub is_counted : List ℕ → List ℕ → Bool
 is_counted headers index =
-    entries_in index == length index / 8 || nat_le (told_active headers) (active_in headers index (entries_in index))
+    entries_in index == length index / 8 || nat_le (reported_active headers) (active_in headers index (entries_in index))
 
 -- Whether these are the headers and the index of a base: the mark, numbers that fit four bytes, and whole entries.
 abbrev pub is_base : List ℕ → List ℕ → ℕ → Bool
@@ -117,7 +117,7 @@ standing_in headers index texts =
       entries = entries_in index;
       next = next_number headers index;
       changes = long_at 8 headers;
-      active = told_active headers;
+      active = reported_active headers;
       counted = active_in headers index (entries_in index);
       last = last_in headers index texts;
     }) else None

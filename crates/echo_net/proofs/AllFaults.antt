@@ -46,8 +46,8 @@ module _ {X : Type 0} (p : X → Bool) (xs : List X) (i : ℕ) (d : X) (inside :
       same ∙ (before ∙ sym (taken ∙ (ap (λ (b : Bool). filter p (take i xs) ++ cond b (here ∷ []) []) fails ∙ append-nil (filter p (take i xs)))))
 
 -- the same members by another property
-pub retold : (P Q : Link → Type 0) (all : List Link) → AreLinksInOrder P all → ((l : Link) → P l ↔ Q l) → AreLinksInOrder Q all
-retold P Q all order same = grind arith
+pub restated : (P Q : Link → Type 0) (all : List Link) → AreLinksInOrder P all → ((l : Link) → P l ↔ Q l) → AreLinksInOrder Q all
+restated P Q all order same = grind arith
 
 -- the links that pass a test
 kept_in_order : (p : Link → Bool) (links : List Link) (Q : Link → Type 0) → IsStrictlySortedBy link_order links → ((l : Link) → (Contains links l × IsTrue (p l)) ↔ Q l) →
@@ -128,7 +128,7 @@ module _ (files : List LinkFile) (tag : List ℕ) (carriers : List Address) (lin
     are_self_links = kept_in_order is_self_link links (AppliesTo files tag kinds.SelfLink) up self_links;
     are_unknown = kept_in_order (is_unknown carriers) links (AppliesTo files tag kinds.Unknown) up unknown;
     are_one_sided = kept_in_order (is_one_sided carriers links) links (AppliesTo files tag kinds.OneSided) up one_sided;
-    are_same_net_nodes = retold (λ l. HasTwin (Contains carriers) l.from l.to) (AppliesTo files tag kinds.SameNetNode) added.twins added.are_twins twins;
+    are_same_net_nodes = restated (λ l. HasTwin (Contains carriers) l.from l.to) (AppliesTo files tag kinds.SameNetNode) added.twins added.are_twins twins;
     whole =
         let rest : List NetFault = map (fault_of kinds.SelfLink) (filter is_self_link links) ++ (map (fault_of kinds.Unknown) (filter (is_unknown carriers) links) ++ (map (fault_of kinds.OneSided) (filter (is_one_sided carriers links) links) ++ map (fault_of kinds.SameNetNode) added.twins)) in
         let own : List NetFault = map (fault_of kinds.TwoFiles) shared.found in

@@ -52,13 +52,13 @@ link_held all l = (
       (and_from (same_address l.from l.from) (same_address l.to l.to) (same_itself l.from l.from refl) (same_itself l.to l.to refl)),
 )
 
-pub address_told : (all : List Address) (a : Address) (r : Bool) → IsTrue r ↔ Contains all a → r ≡ has_address all a
-address_told all a r told =
-    both_ways r (has_address all a) (λ yes. (address_held all a).1 (told.0 yes)) (λ yes. told.1 ((address_held all a).0 yes))
+pub address_reported : (all : List Address) (a : Address) (r : Bool) → IsTrue r ↔ Contains all a → r ≡ has_address all a
+address_reported all a r reported =
+    both_ways r (has_address all a) (λ yes. (address_held all a).1 (reported.0 yes)) (λ yes. reported.1 ((address_held all a).0 yes))
 
-pub link_told : (all : List Link) (l : Link) (r : Bool) → IsTrue r ↔ Contains all l → r ≡ has_link all l
-link_told all l r told =
-    both_ways r (has_link all l) (λ yes. (link_held all l).1 (told.0 yes)) (λ yes. told.1 ((link_held all l).0 yes))
+pub link_reported : (all : List Link) (l : Link) (r : Bool) → IsTrue r ↔ Contains all l → r ≡ has_link all l
+link_reported all l r reported =
+    both_ways r (has_link all l) (λ yes. (link_held all l).1 (reported.0 yes)) (λ yes. reported.1 ((link_held all l).0 yes))
 
 -- the last of these, or the address before them
 abbrev pub last_or : Address → List Address → Address
@@ -99,20 +99,20 @@ held_again {X} before after all is same x = (
 -- lists with the same addresses have the same test
 pub same_held : (xs ys : List Address) → ((a : Address) → Contains xs a ↔ Contains ys a) → (a : Address) → has_address xs a ≡ has_address ys a
 same_held xs ys same a =
-    address_told ys a (has_address xs a) (λ h. (same a).0 ((address_held xs a).0 h), λ there. (address_held xs a).1 ((same a).1 there))
+    address_reported ys a (has_address xs a) (λ h. (same a).0 ((address_held xs a).0 h), λ there. (address_held xs a).1 ((same a).1 there))
 
 pub same_links_held : (xs ys : List Link) → ((l : Link) → Contains xs l ↔ Contains ys l) → (l : Link) → has_link xs l ≡ has_link ys l
 same_links_held xs ys same l =
-    link_told ys l (has_link xs l) (λ h. (same l).0 ((link_held xs l).0 h), λ there. (link_held xs l).1 ((same l).1 there))
+    link_reported ys l (has_link xs l) (λ h. (same l).0 ((link_held xs l).0 h), λ there. (link_held xs l).1 ((same l).1 there))
 
 -- the test of the carriers is that of the files
 pub carriers_held : (files : List LinkFile) (tag : List ℕ) (all : List Address) → ((a : Address) → Contains all a ↔ IsTrue (carries files tag a)) → (a : Address)
     → has_address all a ≡ carries files tag a
-carriers_held files tag all members a = sym (address_told all a (carries files tag a) ((members a).1, (members a).0))
+carriers_held files tag all members a = sym (address_reported all a (carries files tag a) ((members a).1, (members a).0))
 
 pub links_held : (files : List LinkFile) (tag : List ℕ) (all : List Link) → ((l : Link) → Contains all l ↔ IsTrue (lists files tag l.from l.to)) → (l : Link)
     → has_link all l ≡ lists files tag l.from l.to
-links_held files tag all members l = sym (link_told all l (lists files tag l.from l.to) ((members l).1, (members l).0))
+links_held files tag all members l = sym (link_reported all l (lists files tag l.from l.to) ((members l).1, (members l).0))
 
 -- the smaller end of a link
 upward_where : (l : Link) (b : Bool) → address_before l.to l.from ≡ b → upward l ≡ (if b then back l else l)

@@ -16,7 +16,7 @@ use Rattle.echo_net.specs.declared.link.Link.{Link}
 use Rattle.model_graph.specs.Walk.{Different, IsAt, Connected, Reaches, Simple, Among}
 use Rattle.model_graph.proofs.Members.{Among-index, Among-from_Contains, Contains-from_Among}
 use Rattle.echo_net.specs.declared.owners.Owner.{Owner}
-use Rattle.echo_net.specs.Firsts.{IsSmallest, StandsTwice}
+use Rattle.echo_net.specs.Firsts.{IsSmallest, OccursTwice}
 use Rattle.echo_net.specs.Nets.{link}
 use Rattle.echo_net.specs.Pairs.{IsShared}
 use Rattle.echo_net.proofs.Orders.{address_exact, address_order, address_total, link_order, link_total, nat_cmp_less, nat_less, owner_order, owner_total, pair_before_is, then_less, at_place, earlier_from_less, earlier_less, later_not_before, next_alike, before_is, before_less, not_before_itself, same_exact, same_itself, before_again, same_where_neither, not_gt, not_lt, one_place, gt_first}
@@ -70,7 +70,7 @@ Different-from_places (x ∷ xs) apart = (
 module _ (systems : List Address) (owners : List Owner) (all : (o : Owner) → Contains owners o ↔ IsAt systems o.file o.system)
     (up : IsStrictlySortedBy owner_order owners) where
   -- an address that occurs twice has two owners next to each other
-  pair_of : (a : Address) → StandsTwice systems a → (k : ℕ) × (k + 1 < length owners) × ((d : Owner) → (get_or owners k d).system ≡ a) × ((d : Owner) → (get_or owners (k + 1) d).system ≡ a)
+  pair_of : (a : Address) → OccursTwice systems a → (k : ℕ) × (k + 1 < length owners) × ((d : Owner) → (get_or owners k d).system ≡ a) × ((d : Owner) → (get_or owners (k + 1) d).system ≡ a)
   pair_of a (i, j, lt, at_i, at_j) =
       let x = owner a i in
       let y = owner a j in
@@ -98,7 +98,7 @@ module _ (systems : List Address) (owners : List Owner) (all : (o : Owner) → C
       ]
 
   -- two owners of one address next to each other show an address that occurs twice
-  pub shared_from : (k : ℕ) (l : Link) → IsShared owners k (k + 1) l → (l.from ≡ l.to) × StandsTwice systems l.from
+  pub shared_from : (k : ℕ) (l : Link) → IsShared owners k (k + 1) l → (l.from ≡ l.to) × OccursTwice systems l.from
   shared_from k l one =
       let d = owner l.from 0 in
       let x = get_or owners k d in
@@ -117,7 +117,7 @@ module _ (systems : List Address) (owners : List Owner) (all : (o : Owner) → C
         ),
       )
 
-  pub shared_to : (l : Link) → (l.from ≡ l.to) × StandsTwice systems l.from → (k : ℕ) × IsShared owners k (k + 1) l
+  pub shared_to : (l : Link) → (l.from ≡ l.to) × OccursTwice systems l.from → (k : ℕ) × IsShared owners k (k + 1) l
   shared_to l (same, twice) =
       let (k, inside, one, next) = pair_of l.from twice in (
         k,
@@ -135,7 +135,7 @@ module _ (systems : List Address) (shared : List Link) where
   no_link [] is l h = omega (arith, h.1)
   no_link (m ∷ ls) is l h = cc
 
-  pub none_shared : ((l : Link) → Contains shared l ↔ ((l.from ≡ l.to) × StandsTwice systems l.from)) → None ≡ slice_get shared 0 → Different systems
+  pub none_shared : ((l : Link) → Contains shared l ↔ ((l.from ≡ l.to) × OccursTwice systems l.from)) → None ≡ slice_get shared 0 → Different systems
   none_shared members is = Different-from_places systems (λ i j a lt at_i at_j.
       no_link shared (sym is) (link a a) ((members (link a a)).1 (refl, (i, j, lt, at_i, at_j))))
 
@@ -143,8 +143,8 @@ module _ (systems : List Address) (shared : List Link) where
   at_first [] l is = cc
   at_first (m ∷ ls) l is = (omega arith, (let same : l ≡ m = cc in sym same))
 
-  pub first_shared : IsStrictlySortedBy link_order shared → ((l : Link) → Contains shared l ↔ ((l.from ≡ l.to) × StandsTwice systems l.from)) →
-      (l : Link) → Some l ≡ slice_get shared 0 → IsSmallest (StandsTwice systems) l.from
+  pub first_shared : IsStrictlySortedBy link_order shared → ((l : Link) → Contains shared l ↔ ((l.from ≡ l.to) × OccursTwice systems l.from)) →
+      (l : Link) → Some l ≡ slice_get shared 0 → IsSmallest (OccursTwice systems) l.from
   first_shared up members l is =
       let first = at_first shared l is in
       record {

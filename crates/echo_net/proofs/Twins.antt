@@ -148,8 +148,8 @@ module _ (systems : List Address) (neighbours : List Neighbour) (up : IsStrictly
     system : Contains systems n.system
     net_node : n.net_node ≡ net_node_of n.system
 
-  beside : (n : Neighbour) → Contains neighbours n → Beside n
-  beside n h =
+  others : (n : Neighbour) → Contains neighbours n → Beside n
+  others n h =
       let (a, in', is) = Among-map_from neighbour_of n systems (Among-from_Contains n (map neighbour_of systems) ((all n).0 h)) in
       record {
         system = subst (Contains systems) (sym (ap (λ (m : Neighbour). m.system) is)) (Contains-from_Among a systems in');
@@ -166,8 +166,8 @@ module _ (systems : List Address) (neighbours : List Neighbour) (up : IsStrictly
       let at_y : IsAt neighbours j y = at_place neighbours j d twin.within in
       let from : l.from ≡ x.system = ap (λ (m : Link). m.from) (twin.pair d) in
       let to : l.to ≡ y.system = ap (λ (m : Link). m.to) (twin.pair d) in
-      let one = beside x (i, at_x.0, at_x.1) in
-      let other = beside y (j, at_y.0, at_y.1) in
+      let one = others x (i, at_x.0, at_x.1) in
+      let other = others y (j, at_y.0, at_y.1) in
       let less = earlier_less neighbour_total neighbours up i j x y at_x at_y twin.later in
       let tied : net_node_order x.net_node y.net_node ≡ Equal = ap (net_node_order x.net_node) (sym (twin.same d)) ∙ tied_itself net_node_total x.net_node in
       let lower : address_order x.system y.system ≡ Less = sym (ap (λ (o : Ordering). ordering_then o (address_order x.system y.system)) tied) ∙ less in

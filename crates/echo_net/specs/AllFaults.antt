@@ -17,7 +17,7 @@ use Rattle.echo_net.specs.declared.verdict.Verdict.{Verdict}
 use Rattle.echo_net.specs.declared.verdict.Verdict.TheVariants.{Yes, No}
 use Rattle.echo_net.specs.Drawn.{AreLinksInOrder, back, has_address, has_link}
 use Rattle.echo_net.specs.Faults.{AreSoundLinks, IsCarried, IsNamedLoop}
-use Rattle.echo_net.specs.Firsts.{HasTwin, IsSmallest, StandsTwice, pair_before}
+use Rattle.echo_net.specs.Firsts.{HasTwin, IsSmallest, OccursTwice, pair_before}
 use Rattle.echo_net.specs.Nets.{link, systems}
 use Rattle.echo_net.specs.Rows.{system_at}
 
@@ -38,7 +38,7 @@ pub record Round : Type 0 where
 -- The fault applies. A loop is the loop of its block.
 abbrev pub Applies : List LinkFile → List ℕ → NetFault → Type 0
 Applies files tag NoSuchArea = ¬ IsCarried files tag
-Applies files tag (TwoFiles a) = StandsTwice (systems files) a
+Applies files tag (TwoFiles a) = OccursTwice (systems files) a
 Applies files tag (SelfLink a) = IsTrue (lists files tag a a)
 Applies files tag (Unknown a b) = IsTrue (lists files tag a b) × (¬ Carries files tag b)
 Applies files tag (OneSided a b) = IsTrue (lists files tag a b) × Carries files tag b × (¬ IsTrue (lists files tag b a))
@@ -146,7 +146,7 @@ pub record AddsApart (files : List LinkFile) (tag : List ℕ) (old new : List Ne
 -- The addresses that two systems have are added, in order.
 pub record AddsTwoFiles (all : List Address) (old new : List NetFault) : Type 0 where
   pub found : List Link
-  pub in_order : AreLinksInOrder (λ l. (l.from ≡ l.to) × StandsTwice all l.from) found
+  pub in_order : AreLinksInOrder (λ l. (l.from ≡ l.to) × OccursTwice all l.from) found
   pub whole : new ≡ old ++ map (fault_of kinds.TwoFiles) found
 
 -- The fault of a link, by the carriers and the links.

@@ -12,7 +12,7 @@ use Rattle.echo_net.specs.declared.verdict.NetFault.{NetFault}
 use Rattle.echo_net.specs.declared.verdict.NetFault.TheVariants.{NoSuchArea, TwoFiles, SelfLink, Unknown, OneSided, SameNetNode, Apart, Loop}
 use Rattle.echo_net.specs.declared.verdict.Verdict.{Verdict}
 use Rattle.echo_net.specs.declared.verdict.Verdict.TheVariants.{Yes, No}
-use Rattle.echo_net.specs.Firsts.{HasTwin, IsSmallest, IsSmallestPair, StandsTwice}
+use Rattle.echo_net.specs.Firsts.{HasTwin, IsSmallest, IsSmallestPair, OccursTwice}
 use Rattle.echo_net.specs.Nets.{systems}
 use Rattle.echo_net.specs.Rows.{system_at}
 
@@ -26,7 +26,7 @@ HaveOneFileEach files = Different (systems files)
 
 -- The smallest address that two files have, or none.
 abbrev pub IsSharedSystem : List LinkFile → Option Address → Type 0
-IsSharedSystem files shared = MatchOption shared (HaveOneFileEach files) (IsSmallest (StandsTwice (systems files)))
+IsSharedSystem files shared = MatchOption shared (HaveOneFileEach files) (IsSmallest (OccursTwice (systems files)))
 
 -- No system lists itself.
 abbrev pub NoneListsItself : List LinkFile → List ℕ → Type 0
@@ -70,7 +70,7 @@ IsNamedLoop files tag loop = NamedLoopBy (λ a b. address_before a b ≡ true) (
 -- The fault is the first clause that fails, with the smallest addresses for which it fails.
 abbrev pub IsFirstFault : List LinkFile → List ℕ → NetFault → Type 0
 IsFirstFault files tag NoSuchArea = ¬ IsCarried files tag
-IsFirstFault files tag (TwoFiles a) = IsCarried files tag × IsSmallest (StandsTwice (systems files)) a
+IsFirstFault files tag (TwoFiles a) = IsCarried files tag × IsSmallest (OccursTwice (systems files)) a
 IsFirstFault files tag (SelfLink a) =
     IsCarried files tag × HaveOneFileEach files × IsSmallest (λ b. IsTrue (lists files tag b b)) a
 IsFirstFault files tag (Unknown a b) =

@@ -22,8 +22,8 @@ pub record IsSmallestPair (Holds : Address → Address → Type 0) (a b : Addres
   pub first : (c d : Address) → Holds c d → pair_before c d a b ≡ false
 
 -- The item is at two indexes.
-abbrev pub StandsTwice : {X : Type 0} → List X → X → Type 0
-StandsTwice xs x = (i : ℕ) × (j : ℕ) × (i < j) × IsAt xs i x × IsAt xs j x
+abbrev pub OccursTwice : {X : Type 0} → List X → X → Type 0
+OccursTwice xs x = (i : ℕ) × (j : ℕ) × (i < j) × IsAt xs i x × IsAt xs j x
 
 -- The first of these links with the property.
 pub record IsFirstLink (links : List Link) (Holds : Link → Type 0) (l : Link) : Type 0 where

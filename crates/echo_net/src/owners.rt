@@ -5,7 +5,7 @@ ghost use Rattle.std.specs.List.Sorted.{IsStrictlySortedBy};
 ghost use Rattle.model_graph.specs.Walk.{Different, IsAt};
 ghost use Rattle.echo_net.specs.declared.link.Link.{Link};
 ghost use Rattle.echo_net.specs.declared.owners.Owner.{Owner};
-ghost use Rattle.echo_net.specs.Firsts.{IsSmallest, StandsTwice};
+ghost use Rattle.echo_net.specs.Firsts.{IsSmallest, OccursTwice};
 ghost use Rattle.echo_net.specs.Pairs.{IsShared};
 
 use crate::link::Link;
@@ -21,7 +21,7 @@ struct Owner {
 
 /// The smallest address that two systems have.
 pub fn shared_address(alloc: Global, systems: &[Address]) -> Result<Option<Address>, AllocError>
-    ensures { IfOk result (λ found. MatchOption found (Different systems.now) (IsSmallest (StandsTwice systems.now))) }
+    ensures { IfOk result (λ found. MatchOption found (Different systems.now) (IsSmallest (OccursTwice systems.now))) }
 {
     let shared = all_shared(alloc, systems)?;
     match shared.first().copied() {
@@ -33,7 +33,7 @@ pub fn shared_address(alloc: Global, systems: &[Address]) -> Result<Option<Addre
 /// Each address that two systems have, as a link to itself, ascending, each once.
 pub fn all_shared(alloc: Global, systems: &[Address]) -> Result<Vec<Link>, AllocError>
     ensures ascending { IfOk result (λ all. IsStrictlySortedBy ⟦<Link as Ord>⟧.cmp all.items) }
-    ensures members { IfOk result (λ all. (l : Link) → Contains all.items l ↔ ((l.from ≡ l.to) × StandsTwice systems.now l.from)) }
+    ensures members { IfOk result (λ all. (l : Link) → Contains all.items l ↔ ((l.from ≡ l.to) × OccursTwice systems.now l.from)) }
 {
     let mut owners = owners(alloc, systems)?;
     put_in_order(&mut owners);

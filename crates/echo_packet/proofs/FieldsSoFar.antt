@@ -11,7 +11,7 @@ use Rattle.echo_packet.specs.declared.fault.PacketFault.TheVariants as fault
 use Rattle.echo_packet.specs.Header.{AreBytes, word, number_at}
 use Rattle.echo_packet.specs.Message.{Message, Part, Number, Numbers, DateTime, ToName, FromName, Subject, Text, IsString, IsMessage, before, zero_ended, numbers, message_bytes, max_name, max_subject}
 use Rattle.echo_packet.specs.Fault.{IsCut, IsLongField, IsLongText, IsTooLong, place_of}
-use Rattle.echo_packet.specs.Field.{Came, FieldFault, IsShort, IsOpen, IsPast, Never, FailsInField, TakesMessage}
+use Rattle.echo_packet.specs.Field.{Consumed, FieldFault, IsShort, IsOpen, IsPast, Never, FailsInField, TakesMessage}
 use Rattle.echo_packet.specs.Next.{AtPart, FailsBehind, FailsInMessage, IsOfField, LosesUpTo, NextFault}
 use Rattle.echo_packet.proofs.Headers.{word-number, word_then, number_at-fits}
 
@@ -60,11 +60,11 @@ numbers-numbered ns bytes size =
 
 -- the source gave the fields before this one, up to the place
 pub record HasFields (most start : ℕ) (old new : Option (List ℕ)) (field : Part) (m : Message) (at : ℕ) : Type 0 where
-  pub came : List ℕ
-  pub is : before field m ≡ word 2 ++ came
+  pub consumed : List ℕ
+  pub is : before field m ≡ word 2 ++ consumed
   pub fits : IsMessage most m
-  pub took : Consumes old new came
-  pub place : at ≡ place_of (start + 2 + length came)
+  pub took : Consumes old new consumed
+  pub place : at ≡ place_of (start + 2 + length consumed)
 
 -- the place moves past a field
 further : (s p q : ℕ) (t u : List ℕ) → p ≡ place_of (s + length t) → q ≡ place_of (p + length u) → q ≡ place_of (s + length (t ++ u))
@@ -72,7 +72,7 @@ further s p q t u here there = omega (arith, length-append t u)
 
 pub has-none : (most start p : ℕ) (a : Option (List ℕ)) → p ≡ place_of (start + 2) → HasFields most start a a Numbers (numbered []) p
 has-none most start p a here = record {
-  came = [];
+  consumed = [];
   is = refl;
   fits = numbered-fits most [] (λ i. omega arith);
   took = Consumes-nil a;
@@ -107,14 +107,14 @@ pub has-text : (most start p q : ℕ) (a b c : Option (List ℕ)) (m : Message) 
     → IsString most s → Consumes b c (zero_ended s) → q ≡ place_of (p + length (zero_ended s)) → TakesMessage most start a c (record m { text = s }) q
 unfolding numbers
 has-text most start p q a b c m s h fits took there =
-    let bytes = h.came ++ zero_ended s in
+    let bytes = h.consumed ++ zero_ended s in
     let whole : message_bytes (record m { text = s }) ≡ word 2 ++ bytes = ap (λ t. t ++ zero_ended s) h.is in
-    let past : q ≡ place_of (start + 2 + length bytes) = further (start + 2) p q h.came (zero_ended s) h.place there in
+    let past : q ≡ place_of (start + 2 + length bytes) = further (start + 2) p q h.consumed (zero_ended s) h.place there in
     record {
-      came = bytes;
+      consumed = bytes;
       is = whole;
       fits = let f = h.fits in with_fields most m m.date m.to_name m.from_name m.subject s f f.date_len f.date f.to_name f.from_name f.subject fits;
-      took = Consumes-trans a b c h.came (zero_ended s) h.took took;
+      took = Consumes-trans a b c h.consumed (zero_ended s) h.took took;
       place = omega (arith, ap length whole);
     }
 
@@ -137,45 +137,45 @@ pub record Tells (limits : Limits) (field : Part) (Cut Long LongText Past PastTe
   pub later : field ≢ Number
 
 at-part : (limits : Limits) (given start p : ℕ) (a b : Option (List ℕ)) (field : Part) (m : Message) (at : ℕ) (Wrong : Part → List ℕ → Type 0) (bs r : List ℕ)
-    (h : HasFields limits.text start a b field m p) → given < limits.messages → bs ≡ h.came ++ r → at ≡ p → Wrong field r
+    (h : HasFields limits.text start a b field m p) → given < limits.messages → bs ≡ h.consumed ++ r → at ≡ p → Wrong field r
     → AtPart limits given start (word 2 ++ bs) at Wrong
 at-part limits given start p a b field m at Wrong bs r h more split here wrong = grind arith
 
-told : (limits : Limits) (given start p : ℕ) (a b : Option (List ℕ)) (field : Part) (m : Message) (Cut Long LongText Past PastText : List ℕ → Type 0) (bs r : List ℕ) (f : PacketFault)
-    (h : HasFields limits.text start a b field m p) → Tells limits field Cut Long LongText Past PastText → given < limits.messages → bs ≡ h.came ++ r
+reported : (limits : Limits) (given start p : ℕ) (a b : Option (List ℕ)) (field : Part) (m : Message) (Cut Long LongText Past PastText : List ℕ → Type 0) (bs r : List ℕ) (f : PacketFault)
+    (h : HasFields limits.text start a b field m p) → Tells limits field Cut Long LongText Past PastText → given < limits.messages → bs ≡ h.consumed ++ r
     → FieldFault Cut Long LongText p r f → NextFault limits given start (word 2 ++ bs) f
-told limits given start p a b field m Cut Long LongText Past PastText bs r f h h1 h2 h3 h4 = grind (arith, at-part)
+reported limits given start p a b field m Cut Long LongText Past PastText bs r f h h1 h2 h3 h4 = grind (arith, at-part)
 
 -- the next field of a message is wrong
 pub next-field : (limits : Limits) (given start p : ℕ) (a b : Option (List ℕ)) (field : Part) (m : Message) (Cut Long LongText Past PastText : List ℕ → Type 0) (f : PacketFault)
     (h : HasFields limits.text start a b field m p) → Tells limits field Cut Long LongText Past PastText → given < limits.messages
     → IfSome b (λ r. FieldFault Cut Long LongText p r f) → IfSome a (λ bs. NextFault limits given start (word 2 ++ bs) f)
-next-field limits given start p a b field m Cut Long LongText Past PastText f h tells more is = grind (arith, Consumes-known, told)
+next-field limits given start p a b field m Cut Long LongText Past PastText f h tells more is = grind (arith, Consumes-known, reported)
 
 -- the source gave bytes of the next field after the earlier fields
 behind : (limits : Limits) (given start p : ℕ) (a b c : Option (List ℕ)) (field : Part) (m : Message) (at : ℕ) (These : List ℕ → Type 0) (Of : Part → List ℕ → Type 0)
-    → HasFields limits.text start a b field m p → given < limits.messages → at ≡ p → ((r : List ℕ) → These r → Of field r) → Came b c These
+    → HasFields limits.text start a b field m p → given < limits.messages → at ≡ p → ((r : List ℕ) → These r → Of field r) → Consumed b c These
     → LosesUpTo limits given start (word 2) a c at Of
-behind limits given start p a b c field m at These Of h more here fits_in (part, came, these) = (
-  h.came ++ part,
-  Consumes-trans a b c h.came part h.took came,
-  at-part limits given start p a b field m at Of (h.came ++ part) part h more refl here (fits_in part these),
+behind limits given start p a b c field m at These Of h more here fits_in (part, consumed, these) = (
+  h.consumed ++ part,
+  Consumes-trans a b c h.consumed part h.took consumed,
+  at-part limits given start p a b field m at Of (h.consumed ++ part) part h more refl here (fits_in part these),
 )
 
 -- the bytes that left the source at a fault of the next field
 inside : (limits : Limits) (given start p : ℕ) (a b c : Option (List ℕ)) (field : Part) (m : Message) (Cut Long LongText Past PastText : List ℕ → Type 0) (f : PacketFault)
     → HasFields limits.text start a b field m p → Tells limits field Cut Long LongText Past PastText → given < limits.messages → FailsInField Cut Past PastText p b c f
     → FailsInMessage limits given start (word 2) a c f
-inside limits given start p a b c field m Cut Long LongText Past PastText (fault.Truncated at) h tells more (here, came) =
-    behind limits given start p a b c field m at Cut (IsCut limits) h more here tells.cut came
-inside limits given start p a b c field m Cut Long LongText Past PastText (fault.Read at) h tells more (here, came) =
-    behind limits given start p a b c field m at Cut (IsCut limits) h more here tells.cut came
-inside limits given start p a b c field m Cut Long LongText Past PastText fault.Memory h tells more came =
-    (p, behind limits given start p a b c field m p Cut (IsCut limits) h more refl tells.cut came)
-inside limits given start p a b c field m Cut Long LongText Past PastText (fault.FieldTooLong at) h tells more (here, came) =
-    behind limits given start p a b c field m at Past (IsOfField limits) h more here tells.past came
-inside limits given start p a b c field m Cut Long LongText Past PastText (fault.TextTooLong at) h tells more (here, came) =
-    behind limits given start p a b c field m at PastText (IsOfField limits) h more here tells.past_text came
+inside limits given start p a b c field m Cut Long LongText Past PastText (fault.Truncated at) h tells more (here, consumed) =
+    behind limits given start p a b c field m at Cut (IsCut limits) h more here tells.cut consumed
+inside limits given start p a b c field m Cut Long LongText Past PastText (fault.Read at) h tells more (here, consumed) =
+    behind limits given start p a b c field m at Cut (IsCut limits) h more here tells.cut consumed
+inside limits given start p a b c field m Cut Long LongText Past PastText fault.Memory h tells more consumed =
+    (p, behind limits given start p a b c field m p Cut (IsCut limits) h more refl tells.cut consumed)
+inside limits given start p a b c field m Cut Long LongText Past PastText (fault.FieldTooLong at) h tells more (here, consumed) =
+    behind limits given start p a b c field m at Past (IsOfField limits) h more here tells.past consumed
+inside limits given start p a b c field m Cut Long LongText Past PastText (fault.TextTooLong at) h tells more (here, consumed) =
+    behind limits given start p a b c field m at PastText (IsOfField limits) h more here tells.past_text consumed
 inside limits given start p a b c field m Cut Long LongText Past PastText (fault.NotType2 at) h tells more lost = absurd lost
 inside limits given start p a b c field m Cut Long LongText Past PastText (fault.NotMessage at) h tells more lost = absurd lost
 inside limits given start p a b c field m Cut Long LongText Past PastText fault.Stopped h tells more lost = absurd lost

@@ -9,7 +9,7 @@ use Rattle.echo_packet.specs.declared.fault.PacketFault.TheVariants as fault
 use Rattle.echo_packet.specs.Header.{AreBytes, word, number_at}
 use Rattle.echo_packet.specs.Message.{Message, Part, Number, message_bytes}
 use Rattle.echo_packet.specs.Fault.{IsCut}
-use Rattle.echo_packet.specs.Field.{Came, FailsInFixed, FixedFault, IsShort, TakesMessage}
+use Rattle.echo_packet.specs.Field.{Consumed, FailsInFixed, FixedFault, IsShort, TakesMessage}
 use Rattle.echo_packet.specs.Next.{AtPart, FailsInMessage, IsOfField, LosesUpTo, NextFault}
 use Rattle.echo_packet.proofs.Headers.{word-number}
 use Rattle.echo_packet.proofs.FieldsSoFar.{numbered, numbered-fits, Consumes-known, Consumes-front}
@@ -28,26 +28,26 @@ at_number limits given start at bs Wrong fits here wrong = record {
   wrong = wrong;
 }
 
-number_told : (limits : Limits) (given start : ℕ) (bs : List ℕ) (f : PacketFault) → start < 2 ^ 64 → FixedFault 2 start bs f → NextFault limits given start bs f
-number_told limits given start bs f h1 h2 = grind (arith, at_number)
+number_reported : (limits : Limits) (given start : ℕ) (bs : List ℕ) (f : PacketFault) → start < 2 ^ 64 → FixedFault 2 start bs f → NextFault limits given start bs f
+number_reported limits given start bs f h1 h2 = grind (arith, at_number)
 
 -- the input or the device ended inside the number
 pub number-cut : (limits : Limits) (given start : ℕ) (a : Option (List ℕ)) (f : PacketFault) → start < 2 ^ 64 → IfSome a (λ bs. FixedFault 2 start bs f)
     → IfSome a (λ bs. NextFault limits given start bs f)
 number-cut limits given start None f fits h = tt
-number-cut limits given start (Some bs) f fits h = number_told limits given start bs f fits h
+number-cut limits given start (Some bs) f fits h = number_reported limits given start bs f fits h
 
 -- only bytes of the number left the source
 of_number : (limits : Limits) (given start at : ℕ) (a b : Option (List ℕ)) (These : List ℕ → Type 0) (Of : Part → List ℕ → Type 0) → start < 2 ^ 64 → at ≡ start
-    → ((r : List ℕ) → These r → Of Number r) → Came a b These → LosesUpTo limits given start [] a b at Of
-of_number limits given start at a b These Of fits here fits_in (part, came, these) = (part, came, at_number limits given start at part Of fits here (fits_in part these))
+    → ((r : List ℕ) → These r → Of Number r) → Consumed a b These → LosesUpTo limits given start [] a b at Of
+of_number limits given start at a b These Of fits here fits_in (part, consumed, these) = (part, consumed, at_number limits given start at part Of fits here (fits_in part these))
 
 -- the bytes that left it if the number is cut
 pub number-inside : (limits : Limits) (given start : ℕ) (a b : Option (List ℕ)) (f : PacketFault) → start < 2 ^ 64 → FailsInFixed 2 start a b f
     → FailsInMessage limits given start [] a b f
-number-inside limits given start a b (fault.Truncated at) fits (here, came) = of_number limits given start at a b (IsShort 2) (IsCut limits) fits here (λ r cut. cut) came
-number-inside limits given start a b (fault.Read at) fits (here, came) = of_number limits given start at a b (IsShort 2) (IsCut limits) fits here (λ r cut. cut) came
-number-inside limits given start a b fault.Memory fits came = (start, of_number limits given start start a b (IsShort 2) (IsCut limits) fits refl (λ r cut. cut) came)
+number-inside limits given start a b (fault.Truncated at) fits (here, consumed) = of_number limits given start at a b (IsShort 2) (IsCut limits) fits here (λ r cut. cut) consumed
+number-inside limits given start a b (fault.Read at) fits (here, consumed) = of_number limits given start at a b (IsShort 2) (IsCut limits) fits here (λ r cut. cut) consumed
+number-inside limits given start a b fault.Memory fits consumed = (start, of_number limits given start start a b (IsShort 2) (IsCut limits) fits refl (λ r cut. cut) consumed)
 number-inside limits given start a b (fault.FieldTooLong at) fits lost = absurd lost.1.2
 number-inside limits given start a b (fault.TextTooLong at) fits lost = absurd lost.1.2
 number-inside limits given start a b (fault.NotType2 at) fits lost = absurd lost
@@ -91,8 +91,8 @@ number-then limits given start a b ns f bytes size took two wrong =
 -- the bytes that left the source, the number 2 included
 then_lost : (limits : Limits) (given start at : ℕ) (a b c : Option (List ℕ)) (ns : List ℕ) (Of : Part → List ℕ → Type 0) → ns ≡ word 2 → Consumes a b ns
     → LosesUpTo limits given start (word 2) b c at Of → LosesUpTo limits given start [] a c at Of
-then_lost limits given start at a b c ns Of is took (came, lost, so) =
-    (ns ++ came, Consumes-trans a b c ns came took lost, subst (λ t. AtPart limits given start (t ++ came) at Of) (sym is) so)
+then_lost limits given start at a b c ns Of is took (consumed, lost, so) =
+    (ns ++ consumed, Consumes-trans a b c ns consumed took lost, subst (λ t. AtPart limits given start (t ++ consumed) at Of) (sym is) so)
 
 -- the bytes that left it at a fault of a field after the number 2
 pub then-inside : (limits : Limits) (given start : ℕ) (a b c : Option (List ℕ)) (ns : List ℕ) (f : PacketFault) → ns ≡ word 2 → Consumes a b ns
@@ -104,4 +104,4 @@ pub takes-whole : (most start at : ℕ) (a b c : Option (List ℕ)) (ns : List �
     → number_at 0 ns ≡ 2 → TakesMessage most start b c m at → Consumes a c (message_bytes m)
 takes-whole most start at a b c ns m bytes size took two h =
     let is : ns ≡ word 2 = number-bytes ns bytes size ∙ ap word two in
-    subst (Consumes a c) (ap (λ t. t ++ h.came) is ∙ sym h.is) (Consumes-trans a b c ns h.came took h.took)
+    subst (Consumes a c) (ap (λ t. t ++ h.consumed) is ∙ sym h.is) (Consumes-trans a b c ns h.consumed took h.took)

@@ -16,8 +16,8 @@ use Rattle.echo_packet.specs.Message.{Message, HasNoZero, IsMessage, zero_ended,
 use Rattle.echo_packet.specs.Fault.{IsTooLong, place_of}
 
 -- The source gave bytes that have P.
-abbrev pub Came : Option (List ℕ) → Option (List ℕ) → (List ℕ → Type 0) → Type 0
-Came old new P = (came : List ℕ) × Consumes old new came × P came
+abbrev pub Consumed : Option (List ℕ) → Option (List ℕ) → (List ℕ → Type 0) → Type 0
+Consumed old new P = (consumed : List ℕ) × Consumes old new consumed × P consumed
 
 -- The bytes end inside a string of at most this many bytes.
 abbrev pub IsOpen : ℕ → List ℕ → Type 0
@@ -29,9 +29,9 @@ IsPast most bs = HasNoZero bs × (length bs ≡ most + 1)
 
 -- The source broke inside a string: it gave bytes without a 00, and `room` more bytes fit.
 abbrev pub BreaksString : ℕ → Option (List ℕ) → Option (List ℕ) → Broken → Type 0
-BreaksString room old new broken.Cut = Came old new (IsOpen room) × IsAtEnd new
-BreaksString room old new broken.Device = Came old new (IsOpen room)
-BreaksString room old new broken.Memory = Came old new (IsOpen room)
+BreaksString room old new broken.Cut = Consumed old new (IsOpen room) × IsAtEnd new
+BreaksString room old new broken.Device = Consumed old new (IsOpen room)
+BreaksString room old new broken.Memory = Consumed old new (IsOpen room)
 
 -- The index of a string's 00 in the bytes. At most `room` bytes fit before it.
 abbrev pub IsPiece : ℕ → List ℕ → Piece → Type 0
@@ -45,7 +45,7 @@ StepsString room had has old new (Ok taken.Part) =
     (t : List ℕ) × (has ≡ had ++ t) × Consumes old new t × HasNoZero t × (0 < length t) × (length t ≤ room)
 StepsString room had has old new (Ok taken.Whole) =
     (t : List ℕ) × (has ≡ had ++ t) × Consumes old new (zero_ended t) × HasNoZero t × (length t ≤ room)
-StepsString room had has old new (Ok taken.TooLong) = Came old new (IsPast room)
+StepsString room had has old new (Ok taken.TooLong) = Consumed old new (IsPast room)
 StepsString room had has old new (Err b) = BreaksString room old new b
 
 -- The fault of a field that begins at the place, by the bytes from there on.
@@ -59,11 +59,11 @@ FieldFault Cut Long LongText place bs _ = ⊥
 
 -- At a fault, the source gave no byte after the field at the place. The bytes end inside it or show that it is too long.
 abbrev pub FailsInField : (List ℕ → Type 0) → (List ℕ → Type 0) → (List ℕ → Type 0) → ℕ → Option (List ℕ) → Option (List ℕ) → PacketFault → Type 0
-FailsInField Cut Past PastText place old new (fault.Truncated at) = (at ≡ place) × Came old new Cut
-FailsInField Cut Past PastText place old new (fault.Read at) = (at ≡ place) × Came old new Cut
-FailsInField Cut Past PastText place old new fault.Memory = Came old new Cut
-FailsInField Cut Past PastText place old new (fault.FieldTooLong at) = (at ≡ place) × Came old new Past
-FailsInField Cut Past PastText place old new (fault.TextTooLong at) = (at ≡ place) × Came old new PastText
+FailsInField Cut Past PastText place old new (fault.Truncated at) = (at ≡ place) × Consumed old new Cut
+FailsInField Cut Past PastText place old new (fault.Read at) = (at ≡ place) × Consumed old new Cut
+FailsInField Cut Past PastText place old new fault.Memory = Consumed old new Cut
+FailsInField Cut Past PastText place old new (fault.FieldTooLong at) = (at ≡ place) × Consumed old new Past
+FailsInField Cut Past PastText place old new (fault.TextTooLong at) = (at ≡ place) × Consumed old new PastText
 FailsInField Cut Past PastText place old new _ = ⊥
 
 -- The bytes end inside a field of that size.
@@ -121,8 +121,8 @@ long_fault_at _ at = fault.FieldTooLong at
 
 -- After the number 2, the source gave the rest of a whole message, up to the place.
 pub record TakesMessage (most start : ℕ) (old new : Option (List ℕ)) (m : Message) (at : ℕ) : Type 0 where
-  pub came : List ℕ
-  pub is : message_bytes m ≡ word 2 ++ came
+  pub consumed : List ℕ
+  pub is : message_bytes m ≡ word 2 ++ consumed
   pub fits : IsMessage most m
-  pub took : Consumes old new came
+  pub took : Consumes old new consumed
   pub place : at ≡ place_of (start + length (message_bytes m))

@@ -7,7 +7,7 @@ use Rattle.echo_packet.specs.declared.fault.PacketFault.{PacketFault}
 use Rattle.echo_packet.specs.declared.fault.PacketFault.TheVariants as fault
 use Rattle.echo_packet.specs.Header.{word}
 use Rattle.echo_packet.specs.Message.{Message, Part, Number, Numbers, DateTime, before, message_bytes, most_of, HasNoZero, IsMessage}
-use Rattle.echo_packet.specs.Field.{Came}
+use Rattle.echo_packet.specs.Field.{Consumed}
 use Rattle.echo_packet.specs.Fault.{IsCut, IsLongField, IsLongText, IsOtherNumber, IsOneTooMany, place_of}
 
 -- `given` messages and `start` bytes are before these bytes. Some fields of one more message follow, then the wrong field.
@@ -41,7 +41,7 @@ IsOfField limits field r = HasNoZero r × (length r ≤ most_of limits.text fiel
 
 -- After the front, the source gave some fields of one more message, then bytes of the field at the place that have `Of`.
 abbrev pub LosesUpTo : Limits → ℕ → ℕ → List ℕ → Option (List ℕ) → Option (List ℕ) → ℕ → (Part → List ℕ → Type 0) → Type 0
-LosesUpTo limits given start front old new at Of = Came old new (λ came. AtPart limits given start (front ++ came) at Of)
+LosesUpTo limits given start front old new at Of = Consumed old new (λ consumed. AtPart limits given start (front ++ consumed) at Of)
 
 -- At a fault, the source gave no byte after the field at the place. At its end, a failure or out of memory, the bytes
 -- end inside that field.

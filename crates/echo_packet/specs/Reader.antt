@@ -8,7 +8,7 @@ use Rattle.echo_packet.specs.declared.reader.PacketReader.{PacketReader}
 use Rattle.echo_packet.specs.declared.reader.Stage.TheVariants as stage
 use Rattle.echo_packet.specs.Header.{number_at}
 use Rattle.echo_packet.specs.Message.{Message}
-use Rattle.echo_packet.specs.Field.{Came, IsShort}
+use Rattle.echo_packet.specs.Field.{Consumed, IsShort}
 use Rattle.echo_packet.specs.Next.{CountsFailures}
 
 -- The source, with the bytes not yet read.
@@ -67,9 +67,9 @@ FrontFault bs _ = ⊥
 
 -- At a fault, at most the header left the source: a part of it, or all of it if the packet type is wrong.
 abbrev pub FailsInFront : Option (List ℕ) → Option (List ℕ) → PacketFault → Type 0
-FailsInFront old new (fault.Truncated at) = (at ≡ 0) × Came old new (IsShort 58)
-FailsInFront old new (fault.Read at) = (at ≡ 0) × Came old new (IsShort 58)
-FailsInFront old new (fault.NotType2 at) = (at ≡ 18) × Came old new (λ came. length came ≡ 58)
+FailsInFront old new (fault.Truncated at) = (at ≡ 0) × Consumed old new (IsShort 58)
+FailsInFront old new (fault.Read at) = (at ≡ 0) × Consumed old new (IsShort 58)
+FailsInFront old new (fault.NotType2 at) = (at ≡ 18) × Consumed old new (λ consumed. length consumed ≡ 58)
 FailsInFront old new _ = ⊥
 
 -- A failed call dropped the source that it took by value. At most the header left it. A read fault, and only that,

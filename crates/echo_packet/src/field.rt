@@ -3,7 +3,7 @@ ghost use Rattle.std.specs.Prelude.{◌<◌, length, IfNone, IfSome, IfOk, IfErr
 ghost use Rattle.std.specs.Io.KnownBytes.{Consumes};
 ghost use Rattle.disk_io.specs.Fixed.{CountsBreak};
 ghost use Rattle.echo_packet.specs.Message.{IsString, zero_ended};
-ghost use Rattle.echo_packet.specs.Field.{BreaksString, Came, IsPast, IsPiece, StepsString};
+ghost use Rattle.echo_packet.specs.Field.{BreaksString, Consumed, IsPast, IsPiece, StepsString};
 
 use disk_io::{Broken, Source, are_bytes};
 use memchr::memchr;
@@ -112,7 +112,7 @@ pub(crate) fn read_string<R: Source>(
 ) -> Result<Option<Vec<u8>>, Broken>
     ensures found { IfOk result (λ read. IfSome read (λ s. IsString most s.items)) }
     ensures taken { IfOk result (λ read. IfSome read (λ s. Consumes (R.remaining reader.old) (R.remaining reader.new) (zero_ended s.items))) }
-    ensures too_long { IfOk result (λ read. IfNone read (Came (R.remaining reader.old) (R.remaining reader.new) (IsPast most))) }
+    ensures too_long { IfOk result (λ read. IfNone read (Consumed (R.remaining reader.old) (R.remaining reader.new) (IsPast most))) }
     ensures broken { IfErr result (BreaksString most (R.remaining reader.old) (R.remaining reader.new)) }
     ensures device { CountsBreak result (R.failures reader.old) (R.failures reader.new) }
 {

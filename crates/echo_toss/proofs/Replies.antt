@@ -5,8 +5,8 @@ use Rattle.std.proofs.lemmas.Bool.{false_from_ne_true}
 use Rattle.echo_text.specs.Ids.{NoId, SpellsId, is_id}
 use Rattle.echo_text.proofs.PassedTests.{passed_where_spelled, spelled_where_passed}
 
-pub told : {A E : Type 0} (bytes : List ℕ) (r : Result A E) (P : A → Type 0) (Q : E → Type 0) → ((a : A) → P a → SpellsId bytes) → ((e : E) → Q e → NoId bytes)
+pub reported : {A E : Type 0} (bytes : List ℕ) (r : Result A E) (P : A → Type 0) (Q : E → Type 0) → ((a : A) → P a → SpellsId bytes) → ((e : E) → Q e → NoId bytes)
     → MatchResult r P Q → is_ok r ≡ is_id bytes
-told bytes (Ok a) P Q spells none h = sym (passed_where_spelled bytes (spells a h))
-told bytes (Err e) P Q spells none h =
+reported bytes (Ok a) P Q spells none h = sym (passed_where_spelled bytes (spells a h))
+reported bytes (Err e) P Q spells none h =
     sym (false_from_ne_true (is_id bytes) (λ yes. let s = spelled_where_passed bytes yes in none e h s.0 s.1 s.2 s.3))

@@ -10,7 +10,7 @@ use Rattle.echo_packet.specs.declared.fault.PacketFault.TheVariants as fault
 use Rattle.echo_packet.specs.Header.{IsHeader, header_bytes}
 use Rattle.echo_packet.specs.Message.{AreMessages, Message, messages_bytes}
 use Rattle.echo_packet.specs.Fault.{FaultOf}
-use Rattle.echo_packet.specs.Field.{Came}
+use Rattle.echo_packet.specs.Field.{Consumed}
 use Rattle.echo_packet.specs.Next.{FailsInMessage, NextFault}
 use Rattle.echo_packet.specs.Run.{IsOfCall, SoFar}
 use Rattle.echo_packet.proofs.MessageByMessage.{run-fails}
@@ -55,15 +55,15 @@ behind limits header sender old new (Some bs) mid (Some rest) after ms given at 
 -- the bytes that left the reader before the device failed
 cut : (limits : Limits) (header : Header) (sender : Address) (old new : SystemState) (before mid left after : Option (List ℕ)) (ms : List Message) (given at place : ℕ) (tally : Tally)
     → IsHeader header → Consumes before mid (header_bytes header) → HasTaken limits sender old mid left ms given at tally new
-    → FailsInMessage limits given at [] left after (fault.Read place) → Came before after (λ came. FaultOf came limits ms (fault.Truncated place))
-cut limits header sender old new before mid left after ms given at place tally is lost h (came, gone, part) =
+    → FailsInMessage limits given at [] left after (fault.Read place) → Consumed before after (λ consumed. FaultOf consumed limits ms (fault.Truncated place))
+cut limits header sender old new before mid left after ms given at place tally is lost h (consumed, gone, part) =
     let front = Consumes-trans before mid left (header_bytes header) (messages_bytes ms) lost h.bytes in
-    let all = Consumes-trans before left after (header_bytes header ++ messages_bytes ms) came front gone in
-    let total = header_bytes header ++ (messages_bytes ms ++ came) in (
+    let all = Consumes-trans before left after (header_bytes header ++ messages_bytes ms) consumed front gone in
+    let total = header_bytes header ++ (messages_bytes ms ++ consumed) in (
       total,
-      subst (Consumes before after) (append_assoc (header_bytes header) (messages_bytes ms) came) all,
+      subst (Consumes before after) (append_assoc (header_bytes header) (messages_bytes ms) consumed) all,
       of_bytes total limits ms (fault.Truncated place) (λ c. c)
-          (run-fails limits total header ms came given at (fault.Truncated place) (so_far limits header ms total came sender old new mid left given at tally is h refl) part),
+          (run-fails limits total header ms consumed given at (fault.Truncated place) (so_far limits header ms total consumed sender old new mid left given at tally is h refl) part),
     )
 
 -- the messages before the stop

@@ -35,11 +35,11 @@ record IsSame (header : Header) (ms : List Message) (rest : List ℕ) (other : H
   pub same_messages : all ≡ ms
   pub left : after ≡ Some rest
 
-same_packet : (limits : Limits) (h k : Header) (ms all : List Message) (bytes rest came left : List ℕ) → PacketOf limits h ms bytes → PacketOf limits k all came
-    → bytes ++ rest ≡ came ++ left → IsSame h ms rest k all (Some left)
-same_packet limits h k ms all bytes rest came left is other same =
+same_packet : (limits : Limits) (h k : Header) (ms all : List Message) (bytes rest consumed left : List ℕ) → PacketOf limits h ms bytes → PacketOf limits k all consumed
+    → bytes ++ rest ≡ consumed ++ left → IsSame h ms rest k all (Some left)
+same_packet limits h k ms all bytes rest consumed left is other same =
     let one = one_header h k (messages_bytes ms ++ (word 0 ++ rest)) (messages_bytes all ++ (word 0 ++ left)) is.header other.header
-    (sym (parts h ms bytes rest is.bytes) ∙ same ∙ parts k all came left other.bytes) in
+    (sym (parts h ms bytes rest is.bytes) ∙ same ∙ parts k all consumed left other.bytes) in
     let room : 0 + length ms ≤ limits.messages = let r = is.messages.room in omega arith in
     let more : 0 + length all ≤ limits.messages = let r = other.messages.room in omega arith in
     let list = one_list limits 0 ms all rest left is.messages.each other.messages.each room more one.1 in

@@ -10,7 +10,7 @@ use Rattle.echo_packet.specs.Header.{IsHeader, header_bytes}
 use Rattle.echo_packet.specs.Message.{AreMessages, Message, messages_bytes}
 use Rattle.echo_packet.specs.Packet.{PacketOf}
 use Rattle.echo_packet.specs.Fault.{FaultOf}
-use Rattle.echo_packet.specs.Field.{Came}
+use Rattle.echo_packet.specs.Field.{Consumed}
 use Rattle.echo_packet.specs.Reader.{FailsInFront, FrontFault}
 use Rattle.model_steps.specs.SystemState.{SystemState}
 use Rattle.model_steps.specs.Tossing.{destination_of, sender_of, outcomes, tossed}
@@ -50,7 +50,7 @@ pub record BeginsWith (limits : Limits) (header : Header) (ms : List Message) (b
 pub record TossesAll (limits : Limits) (old : SystemState) (before after : Option (List ℕ)) (tally : Tally) (new : SystemState) : Type 0 where
   pub header : Header
   pub messages : List Message
-  pub bytes : Came before after (PacketOf limits header messages)
+  pub bytes : Consumed before after (PacketOf limits header messages)
   pub for_us : IsForUs old header
   pub done : HasTossed (sender_of old.file header) messages old tally new
 
@@ -65,7 +65,7 @@ pub record TossesSome (limits : Limits) (old : SystemState) (before : Option (Li
 -- The reader consumed a header with another destination, and the system tossed no message.
 pub record IsForOther (old : SystemState) (before after : Option (List ℕ)) (tally : Tally) (destination : Address) (new : SystemState) : Type 0 where
   pub header : Header
-  pub bytes : Came before after (λ came. IsHeader header × (came ≡ header_bytes header))
+  pub bytes : Consumed before after (λ consumed. IsHeader header × (consumed ≡ header_bytes header))
   pub is : destination ≡ destination_of old.file header
   pub other : destination ≢ old.file.system
   pub nothing : HasTossedNone old tally new
@@ -78,7 +78,7 @@ pub record FailsInHeader (old : SystemState) (before after : Option (List ℕ)) 
 
 -- The bytes have the fault after these messages. If the device failed, the consumed bytes end inside the field at the place.
 abbrev pub StopsBehind : Limits → List Message → Option (List ℕ) → Option (List ℕ) → PacketFault → Type 0
-StopsBehind limits ms before after (fault.Read at) = Came before after (λ came. FaultOf came limits ms (fault.Truncated at))
+StopsBehind limits ms before after (fault.Read at) = Consumed before after (λ consumed. FaultOf consumed limits ms (fault.Truncated at))
 StopsBehind limits ms before after f = IfSome before (λ bs. FaultOf bs limits ms f)
 
 -- A fault after the header. The system tossed the messages before it.

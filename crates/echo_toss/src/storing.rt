@@ -5,7 +5,7 @@ ghost use Rattle.base_file.specs.declared.fault.BaseFault.{BaseFault as Fault};
 ghost use Rattle.base_file.specs.Base.{IsBase};
 ghost use Rattle.base_file.specs.BaseFile.{LoadOf, Loaded, is_countable, saved_bytes};
 ghost use Rattle.base_file.specs.Loading.{AnswersLoad, CountsLoad, FailsToLoad, TakesBase};
-ghost use Rattle.base_file.specs.Saving.{CountsSaved, Saves, TellsTooMany};
+ghost use Rattle.base_file.specs.Saving.{CountsSaved, Saves, ReportsTooMany};
 ghost use Rattle.echo_toss.specs.Stored.{base_in};
 
 use crate::tosser::Tosser;
@@ -23,7 +23,7 @@ impl<S: BuildHasher> Tosser<S> {
         ensures base { IsBase self.now.base self.now.cursor }
         ensures bytes { Saves (W.contents writer.old) (W.contents writer.new) result (saved_bytes self.now.base self.now.cursor) }
         ensures device { CountsSaved result (W.failures writer.old) (W.failures writer.new) }
-        ensures too_many { TellsTooMany (is_countable self.now.base self.now.cursor) result }
+        ensures too_many { ReportsTooMany (is_countable self.now.base self.now.cursor) result }
     {
         self.store.base().save(writer)
     }

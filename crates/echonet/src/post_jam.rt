@@ -59,12 +59,12 @@ fn post_entry<W: Sink, E: Sink>(
         Ok(draft) => poster.post_or_refuse(&draft, out, errors),
         Err(fault) => return PostEnd::Stopped(fault.report(errors)),
     };
-    let told = match ended {
+    let reported = match ended {
         PostEnd::Posted => outbox.mark(&unsent),
         PostEnd::Refused(_) => tell_refused(rt.alloc(), unsent.number(), out),
         PostEnd::Stopped(_) => Ok(()),
     };
-    match told {
+    match reported {
         Ok(()) => ended,
         Err(fault) => PostEnd::Stopped(fault.report(errors)),
     }

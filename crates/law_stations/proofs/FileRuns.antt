@@ -74,8 +74,8 @@ module _ (noting : Bool) where
     where
       by : (answer : Result Tally TossFault) (noted : List ℕ) → ReportsPacket noted new.lines answer None → TossesSo bytes old.system new.system answer
           → TossesPacketThere bytes old.system new.system
-      by (Ok tally) noted told so = so
-      by (Err f) noted told so = absurd (none_some told.0)
+      by (Ok tally) noted reported so = so
+      by (Err f) noted reported so = absurd (none_some reported.0)
 
   -- and a file that stopped it
   stopped-at : (file : Coming) (later : List Coming) (old new : TossRun) (fault : Fault) → TossesFileBy (Unit {0}) (TossesPacketBy noting) itself file old (Some fault) new
@@ -91,8 +91,8 @@ module _ (noting : Bool) where
     where
       by : (answer : Result Tally TossFault) (noted : List ℕ) → ReportsPacket noted new.lines answer (Some fault) → TossesSo bytes old.system new.system answer
           → (new.system ≡ old.system) ⊎ TossesFront bytes old.system new.system
-      by (Ok tally) noted told so = absurd (none_some (sym told.0))
-      by (Err f) noted told so = so
+      by (Ok tally) noted reported so = absurd (none_some (sym reported.0))
+      by (Err f) noted reported so = so
 
   -- the number of files left is the number of files after the last opened one
   left-behind : (files : List Coming) (old : TossRun) (fault : Fault) (left : List Coming) (new : TossRun)

@@ -45,17 +45,17 @@ module _ {D Kept : Type 0} (state : D → DiskState) (place : Kept → Place) (s
           next = after.after;
           ended = record {
             may = after.leads.leads;
-            stands = record { at = after.at; on_disk = after.on_disk; kept = λ shared. kept shared after.at.shows.station.base after.at.shows.stands };
+            represented = record { at = after.at; on_disk = after.on_disk; kept = λ shared. kept shared after.at.shows.station.base after.at.shows.represented };
             elsewhere = elsewhere;
           };
         };
     none = λ was kept. record {
       may = refl;
-      stands = record { at = was.at; on_disk = was.on_disk; kept = λ shared. kept shared was.at.shows.station.base was.at.shows.stands };
+      represented = record { at = was.at; on_disk = was.on_disk; kept = λ shared. kept shared was.at.shows.station.base was.at.shows.represented };
       elsewhere = elsewhere;
     };
   }
 
 pub commands-go-on : {D Kept : Type 0} (state : D → DiskState) (place : Kept → Place) → CommandsGoOn state place
-commands-go-on state place seats seat i asked d old whole result stands does =
-    goes-on state place seats seat i asked stands.at.shows.station.base d old whole result does stands.on_disk
+commands-go-on state place seats seat i asked d old whole result represented does =
+    goes-on state place seats seat i asked represented.at.shows.station.base d old whole result does represented.on_disk

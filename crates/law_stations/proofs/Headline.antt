@@ -22,7 +22,7 @@ use Rattle.law_stations.specs.Nets.{Net, Paired}
 use Rattle.law_stations.proofs.EachEvent.{LedAll, led-from-first}
 use Rattle.law_stations.proofs.Pairs.{paired-back}
 use Rattle.law_stations.proofs.Readings.{one-packet}
-use Rattle.law_stations.proofs.Sound.{files-fit, is-unchanged, reads, sound, stands}
+use Rattle.law_stations.proofs.Sound.{files-fit, is-unchanged, reads, sound, represented}
 use Rattle.law_stations.proofs.Systems.{says-so}
 use Rattle.law_stations.proofs.Moving.{nth-middle}
 use Rattle.model_run.proofs.HarmLists.{among-nth}
@@ -76,18 +76,18 @@ module _ (commands : List CommandEvent) (net : Net) (files : List LinkFile) (tag
   in-order = record {
     sound = sound commands net files fit led;
     sent_once = λ packets paired i file messages cursor holds has key of_area.
-        let at = stands net run led.agrees i file messages cursor holds in
+        let at = represented net run led.agrees i file messages cursor holds in
         let P : List Packet → Type 0 = λ ps. sent_count file.system key ps ≤ 1 in
         subst P (sym (all-read net.packets run.packets packets led.agrees.packets paired))
         (at.same (λ f ms c. IsTrue (has_area f tag) → sent_count f.system key run.packets ≤ 1) (λ has_tag. orderly.sent_once at.s at.among has_tag key of_area) has);
     never_own = λ packets paired i file messages cursor holds has m in_it posting.
-        let at = stands net run led.agrees i file messages cursor holds in
+        let at = represented net run led.agrees i file messages cursor holds in
         let P : List Packet → Type 0 = λ ps. sent_count file.system (key_of m) ps ≡ 0 in
         subst P (sym (all-read net.packets run.packets packets led.agrees.packets paired))
         (at.same (λ f ms c. IsTrue (has_area f tag) → Among m ms → sent_count f.system (key_of m) run.packets ≡ 0)
         (λ has_tag there. orderly.never_own at.s at.among has_tag m there posting) has in_it);
     all_came = λ is posting among_postings of_area i file messages cursor holds has.
-        let at = stands net run led.agrees i file messages cursor holds in
+        let at = represented net run led.agrees i file messages cursor holds in
         let (f, at_f, posted) = led.agrees.postings posting among_postings in
         at.same (λ f ms c. IsTrue (has_area f tag) → HasUnchanged commands i ms c posting) (λ has_tag. unchanged i at.s at.at posting
         (orderly.all_came (settled is) f at_f posting posted.filed (record { own = posted.own; area = of_area }) at.s at.among has_tag)) has;

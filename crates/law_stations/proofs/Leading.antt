@@ -11,8 +11,8 @@ use Rattle.cmd_status.specs.declared.fault.Fault.{Fault}
 use Rattle.cmd_status.specs.Devices.{Output}
 use Rattle.cmd_store.specs.declared.command_error.CommandError.{CommandError}
 use Rattle.cmd_store.specs.declared.command_error.CommandError.TheVariants.{Met, Store}
-use Rattle.station.specs.Place.{KeepsElsewhere, Place, SameElsewhere, StandsOrWasLeft}
-use Rattle.station.specs.Running.{IsRun, RunsIn, StandsAsBefore, StandsWhereMet}
+use Rattle.station.specs.Place.{KeepsElsewhere, Place, SameElsewhere, RepresentsOrWasLeft}
+use Rattle.station.specs.Running.{IsRun, RunsIn, RepresentsAsBefore, RepresentsWhereMet}
 use Rattle.law_stations.specs.Commands.{Command}
 use Rattle.law_stations.specs.Nets.{with_base}
 use Rattle.law_stations.specs.Disks.{Disks}
@@ -43,9 +43,9 @@ module _ (place : Place) (links : List ℕ) (i : ℕ) (d : Disks) (old new : Dis
   SaysIn file = LinksOf at.shows.station.links (Ok file)
 
   -- files that a crash left show the unchanged station
-  as-it-was : (c : Files) → c links ≡ old.seen links → place.stands_for base c → ShowsStation place links i c d
-  as-it-was c linked stands =
-      record { station = at.shows.station; there = at.shows.there; of_links = linked ∙ at.shows.of_links; stands = stands }
+  as-it-was : (c : Files) → c links ≡ old.seen links → place.represents base c → ShowsStation place links i c d
+  as-it-was c linked represented =
+      record { station = at.shows.station; there = at.shows.there; of_links = linked ∙ at.shows.of_links; represented = represented }
 
   -- the contents of a link file that was read
   pub says-so : (Reads : LinkFile → Type 0) → ReadsLinks Reads links old → (file : LinkFile) → Reads file → SaysIn file
@@ -66,18 +66,18 @@ module _ (place : Place) (links : List ℕ) (i : ℕ) (d : Disks) (old new : Dis
   left-links c left = new.on_disk links still-linked.named still-linked.flushed c left ∙ same-links
 
   -- a crash that left the base unchanged, or a state that an earlier crash might have left
-  was-left : (c : Files) → StandsOrWasLeft place old base c → old.may_leave c ⊎ ShowsStation place links i c d
-  was-left c (inl alone) = inr (as-it-was c (outside-links c alone.elsewhere) alone.stands)
+  was-left : (c : Files) → RepresentsOrWasLeft place old base c → old.may_leave c ⊎ ShowsStation place links i c d
+  was-left c (inl alone) = inr (as-it-was c (outside-links c alone.elsewhere) alone.represented)
   was-left c (inr was) = inl was
 
   -- the disk after a command that left the base unchanged
-  is-as-before : StandsAsBefore place old new base → IsAsBefore place links i d new
+  is-as-before : RepresentsAsBefore place old new base → IsAsBefore place links i d new
   is-as-before it = grind (arith, as-it-was, same-links, still-linked, left-links)
 
   -- if a command met a fault
   module _ {A : Type 0} (IsAnswer : LinkFile → Base → Type 0) (Makes May : LinkFile → Base → Base → Type 0) (Reads : LinkFile → Type 0) (IsShut Stops : Fault → Type 0) (failed : Type 0) (result : Result A CommandError) where
-    stands-so : IsRun IsAnswer Makes May place Reads failed old new result → (fault : Fault) → result ≡ Err (Met fault) → StandsAsBefore place old new base
-    stands-so run fault is = subst (λ (r : Result A CommandError). IfErr r (StandsWhereMet place old new base)) is (run.runs base at.shows.stands).met
+    represented-so : IsRun IsAnswer Makes May place Reads failed old new result → (fault : Fault) → result ≡ Err (Met fault) → RepresentsAsBefore place old new base
+    represented-so run fault is = subst (λ (r : Result A CommandError). IfErr r (RepresentsWhereMet place old new base)) is (run.runs base at.shows.represented).met
 
     abbrev is-shut-by : CommandError → Type 0
     is-shut-by (Met fault) = IsShut fault
@@ -85,7 +85,7 @@ module _ (place : Place) (links : List ℕ) (i : ℕ) (d : Disks) (old new : Dis
 
     pub stays : (out out_now : Output) → RunsIn IsAnswer Makes May place Reads IsShut Stops failed old new out out_now result → (fault : Fault) → result ≡ Err (Met fault)
         → IsAsBefore place links i d new ⊎ IsShut fault
-    stays out out_now h1 fault h2 = grind (arith, is-as-before, stands-so)
+    stays out out_now h1 fault h2 = grind (arith, is-as-before, represented-so)
 
   module _ (IsCommand : Command → Type 0) where
     -- this command
@@ -93,21 +93,21 @@ module _ (place : Place) (links : List ℕ) (i : ℕ) (d : Disks) (old new : Dis
     led next to = record { command = to.command; is = to.is; leads = to.leads }
 
     -- or after a command that made another base
-    pub after-it : (next : Base) (to : LeadsTo IsCommand i d next) (c : Files) → c links ≡ old.seen links → place.stands_for next c → ShowsStation place links i c to.after
-    after-it next to c linked stands = record {
+    pub after-it : (next : Base) (to : LeadsTo IsCommand i d next) (c : Files) → c links ≡ old.seen links → place.represents next c → ShowsStation place links i c to.after
+    after-it next to c linked represented = record {
       station = with_base next at.shows.station;
       there = ap (nth i) to.stations ∙ changed-there i (with_base next) at.shows.station d.net.stations at.shows.there;
       of_links = linked ∙ at.shows.of_links;
-      stands = stands;
+      represented = represented;
     }
 
     -- the disk after a command that made this base and committed it
-    abbrev pub is-after : (next : Base) (to : LeadsTo IsCommand i d next) → place.stands_for next new.seen → ((c : Files) → new.may_leave c → place.stands_for next c) → IsAfter IsCommand place links i d new
-    is-after next to seen stands = record {
+    abbrev pub is-after : (next : Base) (to : LeadsTo IsCommand i d next) → place.represents next new.seen → ((c : Files) → new.may_leave c → place.represents next c) → IsAfter IsCommand place links i d new
+    is-after next to seen represented = record {
       after = to.after;
       leads = led next to;
       at = record { shows = after-it next to new.seen same-links seen; linked = still-linked; outside = at.outside };
-      on_disk = λ c since. after-it next to c (left-links c since) (stands c since);
+      on_disk = λ c since. after-it next to c (left-links c since) (represented c since);
     }
 
     may-be : (c : Files) → old.may_leave c ⊎ ShowsStation place links i c d → old.may_leave c ⊎ AreAsMay IsCommand place links i d c
@@ -119,10 +119,10 @@ module _ (place : Place) (links : List ℕ) (i : ℕ) (d : Disks) (old new : Dis
         (makes : (file : LinkFile) (next : Base) → SaysIn file → Makes file base next → LeadsTo IsCommand i d next) where
       -- the effect of a command that ran
       ran : IsRun IsAnswer Makes May place Reads failed old new result → RefinesEvent IsCommand place links i d old new result
-      ran run = grind (arith, was-left, stands-so, same-links, still-linked, says-so, as-it-was, led, after-it, outside-links, ⊎_elim)
+      ran run = grind (arith, was-left, represented-so, same-links, still-linked, says-so, as-it-was, led, after-it, outside-links, ⊎_elim)
 
       -- the effect of a command that did not run
-      not-run : (fault : Fault) → result ≡ Err (Met fault) → LeavesOnly old new (StandsOrWasLeft place old base) → RefinesEvent IsCommand place links i d old new result
+      not-run : (fault : Fault) → result ≡ Err (Met fault) → LeavesOnly old new (RepresentsOrWasLeft place old base) → RefinesEvent IsCommand place links i d old new result
       not-run fault is leaves = grind (arith, may-be, was-left, same-links, still-linked, ⊎_elim)
 
       -- the effect of a command

@@ -11,7 +11,7 @@ use Rattle.echo_filed.specs.declared.key.Key.{Key}
 use Rattle.echo_filed.specs.Filed.{Filed, key_of, same_key}
 use Rattle.echo_filed.specs.Stubs.{is_stub, stub_of}
 use Rattle.echo_filed.proofs.Keys.{stub_of_stub}
-use Rattle.echo_filed.proofs.StubTests.{stub_told}
+use Rattle.echo_filed.proofs.StubTests.{stub_reported}
 use Rattle.base_file.specs.Base.{IsBase}
 use Rattle.model_steps.specs.declared.packet.Packet.{Packet}
 use Rattle.model_steps.specs.Tossing.{received, sender_of}
@@ -191,7 +191,7 @@ module _ (commands : List LoneCommand) (file : LinkFile) (fits : IsFile file) (s
 
   owed-sent : (m : Filed) → Among m (take z.system.cursor z.system.base) → is_stub m ≡ false → (a : Address) → IsOwed file m a →
       sent_count a (key_of m) z.sent ≡ 1
-  owed-sent m i not_stub a owed = grind (arith, kept-take, ok, not_both, stub_told, stub_of_stub, sent-owed, the_laws, sofar, owed-there)
+  owed-sent m i not_stub a owed = grind (arith, kept-take, ok, not_both, stub_reported, stub_of_stub, sent-owed, the_laws, sofar, owed-there)
 
   pub in-order : IsInOrderAlone commands s
   in-order = record {

@@ -6,18 +6,18 @@ use Rattle.law_stations.specs.Commands.{CommandEvent}
 use Rattle.law_stations.specs.Disks.{Disks}
 use Rattle.law_stations.specs.Stopping.{MayHappen}
 use Rattle.law_stations.proofs.Elsewhere.{elsewhere}
-use Rattle.law_stations.specs.Neighbours.{IsApart, OthersStay, SameOnDisk, StandsOnDisk, StaysOnDisk}
+use Rattle.law_stations.specs.Neighbours.{IsApart, OthersStay, SameOnDisk, RepresentsOnDisk, StaysOnDisk}
 use Rattle.law_stations.specs.OnDisks.{LeavesElsewhere, ShowsStation}
 
 module _ (place other : Place) (old new : DiskState) (links : List ℕ) (i : ℕ) (event : CommandEvent) (d after : Disks) (left : LeavesElsewhere place old new) (apart : IsApart other links place)
-    (was : StandsOnDisk other links i old d) (off : i ≢ event.station) (happens : MayHappen event d after) where
+    (was : RepresentsOnDisk other links i old d) (off : i ≢ event.station) (happens : MayHappen event d after) where
   -- files that changed nothing elsewhere on the disk show the station
   abbrev shows : (c : Files) → c links ≡ old.seen links → SameOnDisk other old c → ShowsStation other links i c after
   shows c linked same = record {
     station = was.at.shows.station;
     there = elsewhere event i d after off happens ∙ was.at.shows.there;
     of_links = linked ∙ was.at.shows.of_links;
-    stands = was.kept c same;
+    represented = was.kept c same;
   }
 
   left-so : (c : Files) → old.may_leave c ⊎ SameElsewhere place old c → ShowsStation other links i c after

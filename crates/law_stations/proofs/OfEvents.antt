@@ -66,9 +66,9 @@ post-agrees words body net new i run agrees posts =
     let next : posts.next ≡ with_message (base_of s) m = posts.makes.is ∙ (λ j. with_message (has.base j) (same j)) in
     let H : System → Type 0 = λ z. HasSystem (with_base posts.next station) z in
     let N : System → Type 0 = λ z. HasPosting m z in
-    let told = posted file tag draft serial stamp in
+    let reported = posted file tag draft serial stamp in
     subst (λ (n : Net). Agrees n (after_event run (Posting i tag draft serial stamp))) (sym posts.becomes)
-    (puts-agree net run i posts.next f net.packets run.packets [] (net.postings ++ told ∷ []) agrees (record {
+    (puts-agree net run i posts.next f net.packets run.packets [] (net.postings ++ reported ∷ []) agrees (record {
       station = station;
       at = posts.at.there;
       s = s;
@@ -80,8 +80,8 @@ post-agrees words body net new i run agrees posts =
       });
       paired = agrees.packets;
       longer = λ x h. (let P : System → Type 0 = λ z. Among x z.history in subst P (sym is) (Among-append_left x s.history (m ∷ []) h));
-      kept = λ x h. Among-append_left x net.postings (told ∷ []) h;
-      posted = λ x h. elim (Among-append_cases x net.postings (told ∷ []) h) [
+      kept = λ x h. Among-append_left x net.postings (reported ∷ []) h;
+      posted = λ x h. elim (Among-append_cases x net.postings (reported ∷ []) h) [
         | inl old ↦ inl old
         | inr last ↦ elim last [
           | inl e ↦ (let P : Filed → Type 0 = λ y. HasPosting y (f s) in
@@ -95,7 +95,7 @@ post-agrees words body net new i run agrees posts =
           elim (Among-append_cases x s.history (m ∷ []) owned.filed) [
             | inl old ↦ inl (record { filed = old; own = owned.own })
             | inr last ↦ elim last [
-              | inl e ↦ inr (Among-append_right x net.postings (told ∷ []) (inl (e ∙ sym same)))
+              | inl e ↦ inr (Among-append_right x net.postings (reported ∷ []) (inl (e ∙ sym same)))
               | inr none ↦ absurd none
             ]
           ];

@@ -9,17 +9,17 @@ use Rattle.law_stations.specs.Stopping.{EndsSome, staging_of}
 use Rattle.law_stations.proofs.Whole.{disks_with, gets-name, with_packets}
 
 -- Of the packets that wait after other files, those at their paths get their names.
-pub record Parted (IsAt IsBeside : PacketFile → Type 0) (i cursor : ℕ) (before : List StagingFile) (net : Net) (ps : List PacketFile) : Type 0 where
+pub record Parted (IsAt IsStaged : PacketFile → Type 0) (i cursor : ℕ) (before : List StagingFile) (net : Net) (ps : List PacketFile) : Type 0 where
   pub steps : ℕ
   pub named : List PacketFile
   pub waiting : List PacketFile
   pub ends : EndsSome steps i (disks_with net (before ++ map (staging_of i cursor) ps)) (disks_with (with_packets net (map bytes_of named)) (before ++ map (staging_of i cursor) waiting))
   pub at_paths : AllByRecursion IsAt named
-  pub staging_paths : AllByRecursion IsBeside waiting
+  pub staging_paths : AllByRecursion IsStaged waiting
 
-module _ (IsAt IsBeside : PacketFile → Type 0) (i cursor most : ℕ) where
+module _ (IsAt IsStaged : PacketFile → Type 0) (i cursor most : ℕ) where
   -- there are none
-  abbrev no-more : (before : List StagingFile) (net : Net) → Parted IsAt IsBeside i cursor before net []
+  abbrev no-more : (before : List StagingFile) (net : Net) → Parted IsAt IsStaged i cursor before net []
   no-more before net = record {
     steps = 0;
     named = [];
@@ -34,7 +34,7 @@ module _ (IsAt IsBeside : PacketFile → Type 0) (i cursor most : ℕ) where
 
   -- one packet gets its name
   abbrev one-more : (p : PacketFile) (ps : List PacketFile) (before : List StagingFile) (net : Net) → HasCursor net i most → cursor < most → IsAt p
-      → Parted IsAt IsBeside i cursor before (with_packet net p.bytes) ps → Parted IsAt IsBeside i cursor before net (p ∷ ps)
+      → Parted IsAt IsStaged i cursor before (with_packet net p.bytes) ps → Parted IsAt IsStaged i cursor before net (p ∷ ps)
   one-more p ps before net has less at rest =
       let P : List (List ℕ) → Type 0 = λ all.
       EndsSome rest.steps i (disks_with (with_packet net p.bytes) (before ++ map (staging_of i cursor) ps))
@@ -53,8 +53,8 @@ module _ (IsAt IsBeside : PacketFile → Type 0) (i cursor most : ℕ) where
       }
 
   -- one packet waits
-  one-waits : (p : PacketFile) (ps : List PacketFile) (before : List StagingFile) (net : Net) → IsBeside p
-      → Parted IsAt IsBeside i cursor (before ++ staging_of i cursor p ∷ []) net ps → Parted IsAt IsBeside i cursor before net (p ∷ ps)
+  one-waits : (p : PacketFile) (ps : List PacketFile) (before : List StagingFile) (net : Net) → IsStaged p
+      → Parted IsAt IsStaged i cursor (before ++ staging_of i cursor p ∷ []) net ps → Parted IsAt IsStaged i cursor before net (p ∷ ps)
   one-waits p ps before net staging rest =
       let b = staging_of i cursor p in
       let now = with_packets net (map bytes_of rest.named) in
@@ -70,7 +70,7 @@ module _ (IsAt IsBeside : PacketFile → Type 0) (i cursor most : ℕ) where
       }
 
   pub parted : (ps : List PacketFile) (before : List StagingFile) (net : Net) → HasCursor net i most → ((q : PacketFile) → Among q ps → cursor < most)
-      → AllByRecursion (λ (p : PacketFile). IsAt p ⊎ IsBeside p) ps → Parted IsAt IsBeside i cursor before net ps
+      → AllByRecursion (λ (p : PacketFile). IsAt p ⊎ IsStaged p) ps → Parted IsAt IsStaged i cursor before net ps
   parted [] before net has less all = no-more before net
   parted (p ∷ ps) before net has less (inl at, all) =
       one-more p ps before net has (less p (inl refl)) at (parted ps before (with_packet net p.bytes) has (λ q h. less q (inr h)) all)
@@ -79,7 +79,7 @@ module _ (IsAt IsBeside : PacketFile → Type 0) (i cursor most : ℕ) where
 
   -- all of them are at their paths
   pub all-named : (ps : List PacketFile) (before : List StagingFile) (net : Net) → HasCursor net i most → ((q : PacketFile) → Among q ps → cursor < most)
-      → AllByRecursion IsAt ps → (whole : Parted IsAt IsBeside i cursor before net ps) × (whole.waiting ≡ [])
+      → AllByRecursion IsAt ps → (whole : Parted IsAt IsStaged i cursor before net ps) × (whole.waiting ≡ [])
   all-named [] before net has less all = (no-more before net, refl)
   all-named (p ∷ ps) before net has less (at, all) =
       let (rest, none) = all-named ps before (with_packet net p.bytes) has (λ q h. less q (inr h)) all in

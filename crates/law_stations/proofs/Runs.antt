@@ -100,13 +100,13 @@ module _ (place : Place) (Reads : LinkFile → Type 0) (IsShut Stops : Fault →
       ended : (answer : Option Fault) → result ≡ Ok answer → TossRuns → IsAfterToss indexes left place links i d new answer
       ended answer ok (inl run) =
           let says = says-so place links i d old new at kept Reads read run.file run.read in
-          let on = run.runs base at.shows.stands in
+          let on = run.runs base at.shows.represented in
           let it : IsKept place (TossesTo honest noting limits device run.file base files left out out_now result) new =
           subst (λ (r : Result (Option Fault) CommandError). OnOk r (IsKept place (TossesTo honest noting limits device run.file base files left out out_now result) new)) ok on.kept in
           let (all, stopped, behind) =
           answered run.file files left base it.next answer (subst (λ (r : Result (Option Fault) CommandError). TossesTo honest noting limits device run.file base files left out out_now r it.next) ok it.made) in
           record {
-            at = is-after place links i d old new at kept (IsToss indexes) it.next (tossing at.shows.station run.file i d at.shows.there says files indexes it.next are all) it.seen it.stands;
+            at = is-after place links i d old new at kept (IsToss indexes) it.next (tossing at.shows.station run.file i d at.shows.there says files indexes it.next are all) it.seen it.represented;
             delivered = delivered-so indexes d.net.delivered all.stopped answer all.left left stopped behind;
           }
       ended answer ok (inr (inl shut)) = absurd (cc (sym ok ∙ shut.is))

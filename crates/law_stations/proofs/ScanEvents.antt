@@ -21,7 +21,7 @@ use Rattle.cmd_store.specs.Scanned.{ScansOn}
 use Rattle.cmd_store.specs.declared.command_error.CommandError.{CommandError}
 use Rattle.cmd_store.specs.declared.command_error.CommandError.TheVariants.{Met}
 use Rattle.echo_toss.specs.PacketsIn.{state_in}
-use Rattle.station.specs.Place.{KeepsElsewhere, Place, StandsOrWasLeft}
+use Rattle.station.specs.Place.{KeepsElsewhere, Place, RepresentsOrWasLeft}
 use Rattle.station.specs.Running.{IsNotRun, IsStopped}
 use Rattle.station_scan.specs.Left.{IsLeftOf}
 use Rattle.station_scan.specs.Publishing.{UnchangedExcept}
@@ -91,9 +91,9 @@ module _ (stamp : Stamp) (place : Place) (links outbound : List ℕ) (i : ℕ) (
   keeps-elsewhere = record { seen = kept.seen; named = kept.named; flushed = kept.flushed; alone = kept.alone; honest = kept.honest }
 
   -- the station is unchanged
-  as-it-was : (c : Files) → c links ≡ old.seen links → place.stands_for base c → ShowsStation place links i c d
-  as-it-was c linked stands =
-      record { station = at.shows.station; there = at.shows.there; of_links = linked ∙ at.shows.of_links; stands = stands }
+  as-it-was : (c : Files) → c links ≡ old.seen links → place.represents base c → ShowsStation place links i c d
+  as-it-was c linked represented =
+      record { station = at.shows.station; there = at.shows.there; of_links = linked ∙ at.shows.of_links; represented = represented }
 
   -- A scan leaves everything on the disk unchanged except the paths that it touches.
   abbrev SameAway : Files → Type 0
@@ -102,12 +102,12 @@ module _ (stamp : Stamp) (place : Place) (links outbound : List ℕ) (i : ℕ) (
   same-links-in : (c : Files) → SameAway c → c links ≡ old.seen links
   same-links-in c same = same links away at.linked.named at.linked.flushed
 
-  opened-away : (c : Files) → StandsOrWasLeft place old base c → SameAway c
+  opened-away : (c : Files) → RepresentsOrWasLeft place old base c → SameAway c
   opened-away c (inl alone) m off named flushed = alone.elsewhere m (λ own. off (inl own)) named flushed
   opened-away c (inr was) m off named flushed = old.on_disk m named flushed c was
 
-  was-left : (c : Files) → StandsOrWasLeft place old base c → old.may_leave c ⊎ ShowsStation place links i c d
-  was-left c (inl alone) = inr (as-it-was c (same-links-in c (opened-away c (inl alone))) alone.stands)
+  was-left : (c : Files) → RepresentsOrWasLeft place old base c → old.may_leave c ⊎ ShowsStation place links i c d
+  was-left c (inl alone) = inr (as-it-was c (same-links-in c (opened-away c (inl alone))) alone.represented)
   was-left c (inr was) = inl was
 
   -- the steps before the commit
@@ -119,7 +119,7 @@ module _ (stamp : Stamp) (place : Place) (links outbound : List ℕ) (i : ℕ) (
         ∙ opened-away before opens m off named flushed
 
     prepares-shows : (c : Files) → IsPreparing place outbound own old base found files c → ShowsStation place links i c d
-    prepares-shows c prepares = as-it-was c (same-links-in c (prepares-away c prepares)) prepares.2.stands
+    prepares-shows c prepares = as-it-was c (same-links-in c (prepares-away c prepares)) prepares.2.represented
 
     may-prepare-away : (c : Files) → old.may_leave c ⊎ IsPreparing place outbound own old base found files c → SameAway c
     may-prepare-away c (inl was) m off named flushed = old.on_disk m named flushed c was
@@ -168,14 +168,14 @@ module _ (stamp : Stamp) (place : Place) (links outbound : List ℕ) (i : ℕ) (
     }
 
     -- files after it, some of its packets at their paths
-    abbrev after : (c : Files) → c links ≡ old.seen links → All HasBytes files → place.stands_for next c
+    abbrev after : (c : Files) → c links ≡ old.seen links → All HasBytes files → place.represents next c
         → Parted (IsAtPath outbound c) (IsStagingPath outbound own c) i base.cursor ended.staging (with_left ended.net i [] next) files → AreAfterScan stamp place links outbound i d ended base c
-    after c linked bytes stands p =
+    after c linked bytes represented p =
         let now = disks_with (with_packets moved.net (map bytes_of p.named)) (ended.staging ++ map (staging_of i base.cursor) p.waiting) in
         record {
           after = now;
           leads = (n, ended, ends, inr (inr (p.steps, moved, moves bytes, p.ends)));
-          shows = record { station = with_base next at.shows.station; there = now-there; of_links = linked ∙ at.shows.of_links; stands = stands };
+          shows = record { station = with_base next at.shows.station; there = now-there; of_links = linked ∙ at.shows.of_links; represented = represented };
           file = file;
           says = says;
           named = p.named;
@@ -218,13 +218,13 @@ module _ (stamp : Stamp) (place : Place) (links outbound : List ℕ) (i : ℕ) (
       left-by c (inr on) = inr (on-way c on)
 
       -- if it ended well
-      module _ (sent : AreSentOut (IsTrue put.opened) place.is_own outbound own (place.stands_for next) base.cursor put.found files put.opened new) where
-        abbrev after-all : (c : Files) → c links ≡ old.seen links → place.stands_for next c → AllByRecursion (IsAtPath outbound c) files
+      module _ (sent : AreSentOut (IsTrue put.opened) place.is_own outbound own (place.represents next) base.cursor put.found files put.opened new) where
+        abbrev after-all : (c : Files) → c links ≡ old.seen links → place.represents next c → AllByRecursion (IsAtPath outbound c) files
             → (scan : AreAfterScan stamp place links outbound i d ended base c) × (scan.waiting ≡ [])
-        after-all c linked stands all =
+        after-all c linked represented all =
             let (p, no_more) = all-named (IsAtPath outbound c) (IsStagingPath outbound own c) i base.cursor (length base.messages) files ended.staging
             (with_left ended.net i [] next) now-has (some-waits file base.messages base.cursor stamp files answers.right.packets) all in
-            (after c linked sent.bytes stands p, no_more)
+            (after c linked sent.bytes represented p, no_more)
 
         whole : (c : Files) → new.may_leave c → (scan : AreAfterScan stamp place links outbound i d ended base c) × (scan.waiting ≡ [])
         whole c now =
@@ -239,15 +239,15 @@ module _ (stamp : Stamp) (place : Place) (links outbound : List ℕ) (i : ℕ) (
               none_waits = no_more;
               at = record { shows = scan.shows; linked = still-linked; outside = at.outside };
               on_disk = λ c now.
-                  record { station = scan.shows.station; there = scan.shows.there; of_links = left-links c now ∙ at.shows.of_links; stands = sent.on_disk c now };
+                  record { station = scan.shows.station; there = scan.shows.there; of_links = left-links c now ∙ at.shows.of_links; represented = sent.on_disk c now };
             }
 
       -- the answer is no fault of the command
       placed : (fault : Fault) → result ≡ Err (Command (Met fault)) → ⊥
       placed fault is = subst (λ (r : Result (Unit {0}) ScanError). IfErr r (IsOfPlacing failed (IsTaken place.is_own outbound own base.cursor put.found files put.opened) (most < base.cursor))) is put.why
 
-      sent-out : result ≡ Ok tt → AreSentOut (IsTrue put.opened) place.is_own outbound own (place.stands_for next) base.cursor put.found files put.opened new
-      sent-out ok = subst (λ (r : Result (Unit {0}) ScanError). OnOk r (AreSentOut (IsTrue put.opened) place.is_own outbound own (place.stands_for next) base.cursor put.found files put.opened new)) ok put.sent
+      sent-out : result ≡ Ok tt → AreSentOut (IsTrue put.opened) place.is_own outbound own (place.represents next) base.cursor put.found files put.opened new
+      sent-out ok = subst (λ (r : Result (Unit {0}) ScanError). OnOk r (AreSentOut (IsTrue put.opened) place.is_own outbound own (place.represents next) base.cursor put.found files put.opened new)) ok put.sent
 
       put-so : ScansAsEvent stamp place links outbound i d ended base old new result
       put-so = record {
@@ -297,7 +297,7 @@ module _ (stamp : Stamp) (place : Place) (links outbound : List ℕ) (i : ℕ) (
   ran : (Reads : LinkFile → Type 0) (IsShut Stops : Fault → Type 0) (out out_now : Output) (IsTrue : Files → Type 0) (failed : Type 0) (result : Result (Unit {0}) ScanError) → ReadsLinks Reads links old
       → ScansIn stamp place outbound IsTrue Reads IsShut Stops failed old new out out_now result → ScansAsEvent stamp place links outbound i d ended base old new result
   ran Reads IsShut Stops out out_now IsTrue failed result read (inl run) =
-      let on = run.runs base at.shows.stands in
+      let on = run.runs base at.shows.represented in
       let of_links = read run.file run.read in
       made-so run.file (subst (λ (b : List ℕ). LinksOf b (Ok run.file)) (some_same (sym of_links.seen ∙ at.shows.of_links)) of_links.judged) out out_now IsTrue failed result on.made on.answer on.put
   ran Reads IsShut Stops out out_now IsTrue failed result read (inr not) = not-run IsShut Stops out out_now result not.stopped not.is not.not_run

@@ -25,20 +25,20 @@ module _ (place : Place) (outbound links : List ℕ) (i : ℕ) (d : Disks) (old 
   linked : IsLinkedOn links new
   linked = record { named = kept.named links away at.linked.named; flushed = kept.flushed links away at.linked.flushed }
 
-  shows : (c : Files) → c links ≡ old.seen links → place.stands_for at.shows.station.base c → ShowsStation place links i c d
-  shows c same stands = record { station = at.shows.station; there = at.shows.there; of_links = same ∙ at.shows.of_links; stands = stands }
+  shows : (c : Files) → c links ≡ old.seen links → place.represents at.shows.station.base c → ShowsStation place links i c d
+  shows c same represented = record { station = at.shows.station; there = at.shows.there; of_links = same ∙ at.shows.of_links; represented = represented }
 
-  as-before : place.stands_for at.shows.station.base new.seen → ((c : Files) → new.may_leave c → place.stands_for at.shows.station.base c) → IsAsBefore place links i d new
-  as-before seen stands = record {
+  as-before : place.represents at.shows.station.base new.seen → ((c : Files) → new.may_leave c → place.represents at.shows.station.base c) → IsAsBefore place links i d new
+  as-before seen represented = record {
     at = record { shows = shows new.seen (kept.seen links away) seen; linked = linked; outside = at.outside };
-    on_disk = λ c left. shows c (new.on_disk links linked.named linked.flushed c left ∙ kept.seen links away) (stands c left);
+    on_disk = λ c left. shows c (new.on_disk links linked.named linked.flushed c left ∙ kept.seen links away) (represented c left);
   }
 
   module _ (IsTrue : Files → Type 0) (IsShut Stops : Fault → Type 0) (failed : Type 0) (result : Result (Unit {0}) ScanError) (fault : Fault) (is : result ≡ Err (Command (Met fault))) where
     -- no placing meets a fault
     put-so : (own : List ℕ) (packets : List PacketFile) (made : Result (List PacketFile) CommandError) → IsPutAs place outbound own IsTrue failed old new at.shows.station.base packets made result → IsAsBefore place links i d new
     put-so own packets (Ok files) put = absurd (subst (λ (r : Result (Unit {0}) ScanError). IfErr r (IsOfPlacing failed (IsTaken place.is_own outbound own at.shows.station.base.cursor put.found files put.opened) (most < at.shows.station.base.cursor))) is put.why)
-    put-so own packets (Err why) put = as-before put.shown (λ c left. (put.lasts c left).2.stands)
+    put-so own packets (Err why) put = as-before put.shown (λ c left. (put.lasts c left).2.represented)
 
     abbrev is-shut-by : ScanError → Type 0
     is-shut-by (Command (Met why)) = IsShut why

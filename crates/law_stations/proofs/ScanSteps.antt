@@ -55,20 +55,20 @@ module _ {D Kept : Type 0} (state : D → DiskState) (place : Kept → Place) (s
           next = after.scan.after;
           ended = record {
             may = after.scan.leads;
-            stands = record { at = after.at; on_disk = after.on_disk; kept = λ shared. kept shared after.at.shows.station.base after.at.shows.stands };
+            represented = record { at = after.at; on_disk = after.on_disk; kept = λ shared. kept shared after.at.shows.station.base after.at.shows.represented };
             elsewhere = elsewhere;
           };
         };
     none = λ was kept. record {
       may = refl;
-      stands = record { at = was.at; on_disk = was.on_disk; kept = λ shared. kept shared was.at.shows.station.base was.at.shows.stands };
+      represented = record { at = was.at; on_disk = was.on_disk; kept = λ shared. kept shared was.at.shows.station.base was.at.shows.represented };
       elsewhere = elsewhere;
     };
   }
 
 pub scans-go-on : {D Kept : Type 0} (state : D → DiskState) (place : Kept → Place) → ScansGoOn state place
-scans-go-on state place seats seat i stamp d ended old whole result stands does =
-    goes-on state place seats seat i stamp d ended stands.at.shows.station.base old whole result does stands.on_disk
+scans-go-on state place seats seat i stamp d ended old whole result represented does =
+    goes-on state place seats seat i stamp d ended represented.at.shows.station.base old whole result does represented.on_disk
 
 pub tosses-go-on : {D Kept : Type 0} (state : D → DiskState) (place : Kept → Place) → TossesGoOn state place
 tosses-go-on state place seats seat i indexes left d old new result answer tosses is kept =
@@ -80,7 +80,7 @@ tosses-go-on state place seats seat i indexes left d old new result answer tosse
         next = after.at.after;
         ended = record {
           may = after.at.leads.leads;
-          stands = record { at = after.at.at; on_disk = after.at.on_disk; kept = λ shared. kept shared after.at.at.shows.station.base after.at.at.shows.stands };
+          represented = record { at = after.at.at; on_disk = after.at.on_disk; kept = λ shared. kept shared after.at.at.shows.station.base after.at.at.shows.represented };
           elsewhere = reaches-by (place seat.kept) (reach place seat) (state old) (state new) (λ m own. inl own) tosses.does.elsewhere;
         };
       };

@@ -8,10 +8,10 @@ use Rattle.law_stations.specs.Commands.{Command, CommandEvent, Purge}
 use Rattle.law_stations.specs.Disks.{Disks}
 use Rattle.law_stations.specs.Stopping.{MayHappen}
 use Rattle.law_stations.proofs.Elsewhere.{change-other, elsewhere}
-use Rattle.law_stations.specs.Neighbours.{StandsOnDisk, StaysOnDisk}
+use Rattle.law_stations.specs.Neighbours.{RepresentsOnDisk, StaysOnDisk}
 use Rattle.law_stations.specs.OnDisks.{LeavesElsewhere, ShowsStation}
 use Rattle.law_stations.proofs.Neighbours.{others-stay}
-use Rattle.law_stations.specs.Seats.{AreNeighbours, AreSeated, IsShared, Seat, StandsAt, reach}
+use Rattle.law_stations.specs.Seats.{AreNeighbours, AreSeated, IsShared, Seat, RepresentsSeat, reach}
 use Rattle.law_stations.specs.Steps.{HasCrashed, HasEnded, IsAllOnDisk, IsOn, MayLead, WasCut}
 use Rattle.model_run.proofs.HarmLists.{nth-changed as changed-there}
 use Rattle.model_run.proofs.Targets.{some_same}
@@ -19,10 +19,10 @@ use Rattle.model_run.proofs.Targets.{some_same}
 -- files show the station if the net has the same station
 abbrev shows-too : (place : Place) (links : List ℕ) (i : ℕ) (c : Files) (d next : Disks) → nth i next.net.stations ≡ nth i d.net.stations → ShowsStation place links i c d
     → ShowsStation place links i c next
-shows-too place links i c d next same shows = record { station = shows.station; there = same ∙ shows.there; of_links = shows.of_links; stands = shows.stands }
+shows-too place links i c d next same shows = record { station = shows.station; there = same ∙ shows.there; of_links = shows.of_links; represented = shows.represented }
 
 -- a station on the disk is in the files that a crash leaves
-shown-on : (place : Place) (links : List ℕ) (i : ℕ) (disk : DiskState) (d : Disks) → StandsOnDisk place links i disk d → (c : Files) → disk.may_leave c → ShowsStation place links i c d
+shown-on : (place : Place) (links : List ℕ) (i : ℕ) (disk : DiskState) (d : Disks) → RepresentsOnDisk place links i disk d → (c : Files) → disk.may_leave c → ShowsStation place links i c d
 shown-on place links i disk d s c left = grind arith
 
 -- the result of a command, as an event
@@ -39,7 +39,7 @@ may-happen i (Some command) d next leads = inr leads
 
 module _ {D Kept : Type 0} (state : D → DiskState) (place : Kept → Place) (seats : List (Seat Kept)) (near : AreNeighbours place seats) where
   -- a station is unchanged on another disk
-  moved : (j : ℕ) (b : Seat Kept) (disk : DiskState) (d next : Disks) → nth j next.net.stations ≡ nth j d.net.stations → StandsAt place seats j b disk d → StandsAt place seats j b disk next
+  moved : (j : ℕ) (b : Seat Kept) (disk : DiskState) (d next : Disks) → nth j next.net.stations ≡ nth j d.net.stations → RepresentsSeat place seats j b disk d → RepresentsSeat place seats j b disk next
   moved j b disk d next same s = record {
     at = record { shows = shows-too (place b.kept) b.links j disk.seen d next same s.at.shows; linked = s.at.linked; outside = s.at.outside };
     on_disk = λ c left. shows-too (place b.kept) b.links j c d next same (s.on_disk c left);
@@ -48,18 +48,18 @@ module _ {D Kept : Type 0} (state : D → DiskState) (place : Kept → Place) (s
 
   -- a disk that begins with the state that a crash left
   anew : (j : ℕ) (b : Seat Kept) (begun : DiskState) (d : Disks) → nth j seats ≡ Some b → ((place b.kept).is_own b.links → ⊥) → IsAllOnDisk begun
-      → ShowsStation (place b.kept) b.links j begun.seen d → StandsAt place seats j b begun d
+      → ShowsStation (place b.kept) b.links j begun.seen d → RepresentsSeat place seats j b begun d
   anew j b begun d is outside all shows = record {
     at = record { shows = shows; linked = record { named = all.named b.links; flushed = all.flushed b.links }; outside = outside };
     on_disk = λ c left.
         let same : (m : List ℕ) → begun.seen m ≡ c m = λ m. sym (begun.on_disk m (all.named m) (all.flushed m) c left) in
         subst (λ (f : Files). ShowsStation (place b.kept) b.links j f d) (λ k m. same m k) shows;
-    kept = λ shared c same. near.settled j b is shared shows.station.base begun.seen c (λ m own. same m own (all.named m) (all.flushed m)) shows.stands;
+    kept = λ shared c same. near.settled j b is shared shows.station.base begun.seen c (λ m own. same m own (all.named m) (all.flushed m)) shows.represented;
   }
 
   -- a neighbour of a station at which a command was run
   stays : (i j : ℕ) (a b : Seat Kept) (command : Option Command) (d next : Disks) (old new : DiskState) → nth i seats ≡ Some a → nth j seats ≡ Some b → j ≢ i
-      → b.disk ≡ a.disk → LeavesElsewhere (reach place a) old new → MayLead command i d next → StandsAt place seats j b old d
+      → b.disk ≡ a.disk → LeavesElsewhere (reach place a) old new → MayLead command i d next → RepresentsSeat place seats j b old d
       → StaysOnDisk (place b.kept) b.links j old new d next
   stays i j a b command d next old new there is off same left may s =
       let shared : IsShared seats j b = record { j = i; other = a; there = there; differs = off; same_disk = sym same } in
@@ -68,7 +68,7 @@ module _ {D Kept : Type 0} (state : D → DiskState) (place : Kept → Place) (s
 
   module _ (number : ℕ) (old then : D) (disks : List D) (d next : Disks) (there : nth number disks ≡ Some old) (seated : AreSeated state place seats disks d) where
     -- the stations of this disk are on its new state, and the net has the same stations of other disks
-    renewed : ((j : ℕ) (b : Seat Kept) → nth j seats ≡ Some b → b.disk ≡ number → StandsAt place seats j b (state old) d → StandsAt place seats j b (state then) next)
+    renewed : ((j : ℕ) (b : Seat Kept) → nth j seats ≡ Some b → b.disk ≡ number → RepresentsSeat place seats j b (state old) d → RepresentsSeat place seats j b (state then) next)
         → ((j : ℕ) (b : Seat Kept) → nth j seats ≡ Some b → b.disk ≢ number → nth j next.net.stations ≡ nth j d.net.stations)
         → AreSeated state place seats (change number (λ x. then) disks) next
     renewed here off j b is = ⊎_elim
@@ -76,22 +76,22 @@ module _ {D Kept : Type 0} (state : D → DiskState) (place : Kept → Place) (s
         let s = seated j b is in
         let one : s.disk ≡ old = some_same (sym s.there ∙ ap (λ (n : ℕ). nth n disks) same ∙ there) in
         let P : ℕ → Type 0 = λ n. nth n (change number (λ x. then) disks) ≡ Some then in
-        let Q : D → Type 0 = λ x. StandsAt place seats j b (state x) d in
-        record { disk = then; there = subst P (sym same) (changed-there number (λ x. then) old disks there); stands = here j b is same (subst Q one s.stands) })
+        let Q : D → Type 0 = λ x. RepresentsSeat place seats j b (state x) d in
+        record { disk = then; there = subst P (sym same) (changed-there number (λ x. then) old disks there); represented = here j b is same (subst Q one s.represented) })
         (λ (other : b.disk ≢ number).
         let s = seated j b is in
-        record { disk = s.disk; there = change-other (λ x. then) number b.disk disks other ∙ s.there; stands = moved j b (state s.disk) d next (off j b is other) s.stands })
+        record { disk = s.disk; there = change-other (λ x. then) number b.disk disks other ∙ s.there; represented = moved j b (state s.disk) d next (off j b is other) s.represented })
         (cases_eq b.disk number)
 
     -- after a command at a station
-    by-command : (i : ℕ) (command : Option Command) (a : Seat Kept) → IsOn seats number i a → MayLead command i d next → StandsAt place seats i a (state then) next
-        → ((j : ℕ) (b : Seat Kept) → nth j seats ≡ Some b → b.disk ≡ number → j ≢ i → StandsAt place seats j b (state old) d → StandsAt place seats j b (state then) next)
+    by-command : (i : ℕ) (command : Option Command) (a : Seat Kept) → IsOn seats number i a → MayLead command i d next → RepresentsSeat place seats i a (state then) next
+        → ((j : ℕ) (b : Seat Kept) → nth j seats ≡ Some b → b.disk ≡ number → j ≢ i → RepresentsSeat place seats j b (state old) d → RepresentsSeat place seats j b (state then) next)
         → AreSeated state place seats (change number (λ x. then) disks) next
     by-command i command a on may own others = renewed
         (λ j b is same was. ⊎_elim
         (λ (e : j ≡ i).
         let one : a ≡ b = some_same (sym on.there ∙ ap (λ (n : ℕ). nth n seats) (sym e) ∙ is) in
-        let P : ℕ → Seat Kept → Type 0 = λ n x. StandsAt place seats n x (state then) next in
+        let P : ℕ → Seat Kept → Type 0 = λ n x. RepresentsSeat place seats n x (state then) next in
         subst (P j) one (subst (λ (n : ℕ). P n a) (sym e) own))
         (λ (off : j ≢ i). others j b is same off was)
         (cases_eq j i))
@@ -102,7 +102,7 @@ module _ {D Kept : Type 0} (state : D → DiskState) (place : Kept → Place) (s
 
     pub ended : (i : ℕ) (command : Option Command) (a : Seat Kept) → IsOn seats number i a → HasEnded place seats a i command d next (state old) (state then)
         → AreSeated state place seats (change number (λ x. then) disks) next
-    ended i command a on h = by-command i command a on h.may h.stands (λ j b is same off was.
+    ended i command a on h = by-command i command a on h.may h.represented (λ j b is same off was.
         let s = stays i j a b command d next (state old) (state then) on.there is off (same ∙ sym on.on) h.elsewhere h.may was in
         record { at = s.at.at; on_disk = shown-on (place b.kept) b.links j (state then) next s.at; kept = λ shared. s.at.kept })
 
@@ -110,7 +110,7 @@ module _ {D Kept : Type 0} (state : D → DiskState) (place : Kept → Place) (s
         → AreSeated state place seats (change number (λ x. then) disks) next
     cut i command whole a on w =
         let own = seated i a on.there in
-        by-command i command a on w.may (anew i a (state then) next on.there own.stands.at.outside w.begins w.shows) (λ j b is same off was.
+        by-command i command a on w.may (anew i a (state then) next on.there own.represented.at.outside w.begins w.shows) (λ j b is same off was.
         let s = stays i j a b command d next (state old) (state whole) on.there is off (same ∙ sym on.on) w.elsewhere w.may was in
         anew j b (state then) next is was.at.outside w.begins (s.crash (state then).seen w.left))
 

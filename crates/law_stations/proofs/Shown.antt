@@ -138,9 +138,9 @@ module _ (commands plain : List CommandEvent) (d : Disks) (net : Net) (like : Pa
             let P : List ℕ → Type 0 = λ b. ReadsAs b p in
             has.tossed j k place (is.named.tossed j named p there (subst P (sym one) reads) m in_it tagged))
         | inr waits ↦ (
-            let (file, stands, same) = waits in
+            let (file, represented, same) = waits in
             let P : List ℕ → Type 0 = λ b. ReadsAs b p in
-            absurd (is.staging file p stands (subst P (sym same) reads) m in_it tagged))
+            absurd (is.staging file p represented (subst P (sym same) reads) m in_it tagged))
       ];
     }
 

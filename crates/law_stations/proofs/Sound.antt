@@ -43,9 +43,9 @@ pub record Stands (run : Run) (i : ℕ) (file : LinkFile) (messages : List Filed
   pub among : Among s run.systems
   pub same : (P : LinkFile → List Filed → ℕ → Type 0) → P s.file s.base s.cursor → P file messages cursor
 
-pub stands : (net : Net) (run : Run) → Agrees net run → (i : ℕ) (file : LinkFile) (messages : List Filed) (cursor : ℕ) → StationHolds net i file messages cursor
+pub represented : (net : Net) (run : Run) → Agrees net run → (i : ℕ) (file : LinkFile) (messages : List Filed) (cursor : ℕ) → StationHolds net i file messages cursor
     → Stands run i file messages cursor
-stands net run agrees i file messages cursor holds =
+represented net run agrees i file messages cursor holds =
     let (s, at, has) = paired-nth HasSystem i holds.station net.stations run.systems agrees.stations holds.there in
     let once = said-once holds.station s has file messages cursor holds.says in
     record { s = s; at = at; among = nth-among i s run.systems at; same = λ P h. subst (λ (x : SystemState). P x.file x.base x.cursor) (sym once) h }
@@ -103,10 +103,10 @@ module _ (commands : List CommandEvent) (net : Net) (files : List LinkFile) (fit
         let (s, there, has) = paired-among HasSystem station net.stations run.systems led.agrees.stations among in
         (s.file, s.base, s.cursor, says-so station s has, has.is_base);
     filed_once = λ i file messages cursor holds key.
-        let at = stands net run led.agrees i file messages cursor holds in
+        let at = represented net run led.agrees i file messages cursor holds in
         at.same (λ f ms c. count key ms ≤ 1) (filed-once run (run-ok the_laws files fit led.events) at.s at.among key);
     only_posted = λ i file messages cursor holds.
-        let at = stands net run led.agrees i file messages cursor holds in
+        let at = represented net run led.agrees i file messages cursor holds in
         at.same (λ f ms c. (m : Filed) → Among m ms → (posting : Filed) × Among posting net.postings × (posting.echo.tag ≡ m.echo.tag) × IsUnchanged commands i ms c m posting)
         (from-posting i at.s at.at);
   }

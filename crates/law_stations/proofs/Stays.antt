@@ -92,17 +92,17 @@ module _ (file : LinkFile) (fits : IsFile file) (s new : LoneStation) (events ad
       let kept : nth i then.system.history ≡ Some h =
       ap (λ (ns : List Filed). nth i ns) grown.1 ∙ nth-append i h now.system.history grown.0 there in
       let (n, at, leaves) = leaves-at then.purged_to i then.system.history h kept in
-      let stands : nth i then.system.base ≡ Some n = ap (λ (ns : List Filed). nth i ns) after.base ∙ at in
+      let represented : nth i then.system.base ≡ Some n = ap (λ (ns : List Filed). nth i ns) after.base ∙ at in
       let least = no-less in
       let most = after.purged_before in
       elim left [
         | inl stub ↦ elim leaves [
-          | inl again ↦ inl (stands ∙ ap (λ (x : Filed). Some x) (again.1 ∙ sym stub.1))
+          | inl again ↦ inl (represented ∙ ap (λ (x : Filed). Some x) (again.1 ∙ sym stub.1))
           | inr other ↦ absurd (omega (arith, stub.0, other.0, least))
         ]
         | inr whole ↦ elim leaves [
-          | inl stub ↦ inr (was-purged (omega (arith, whole.0, stub.0)), omega (arith, stub.0, most), stands ∙ ap (λ (x : Filed). Some x) (stub.1 ∙ ap stub_of (sym whole.1)))
-          | inr other ↦ inl (stands ∙ ap (λ (x : Filed). Some x) (other.1 ∙ sym whole.1))
+          | inl stub ↦ inr (was-purged (omega (arith, whole.0, stub.0)), omega (arith, stub.0, most), represented ∙ ap (λ (x : Filed). Some x) (stub.1 ∙ ap stub_of (sym whole.1)))
+          | inr other ↦ inl (represented ∙ ap (λ (x : Filed). Some x) (other.1 ∙ sym whole.1))
         ]
       ]
 

@@ -15,7 +15,7 @@ use Rattle.law_stations.specs.Disks.{Disks}
 use Rattle.law_stations.specs.DiskKinds.{IsMail, IsPostAs, IsReplyAs}
 use Rattle.law_stations.specs.Neighbours.{IsKeptOn}
 use Rattle.law_stations.specs.OnDisks.{RefinesEvent, IsAsBefore}
-use Rattle.law_stations.specs.Seats.{IsShared, Seat, StandsAt}
+use Rattle.law_stations.specs.Seats.{IsShared, Seat, RepresentsSeat}
 use Rattle.law_stations.specs.Steps.{HasEnded, IsAllOnDisk, WasCut}
 
 -- A request to a station.
@@ -60,7 +60,7 @@ pub record GoesOnEnded {Kept : Type 0} (IsCommand : Command → Type 0) (place :
 
 -- If another station is on the same disk, the base that this station's files hold is on the disk.
 abbrev pub IsKeptWhereShared : {Kept : Type 0} → (Kept → Place) → List (Seat Kept) → Seat Kept → ℕ → DiskState → Type 0
-IsKeptWhereShared place seats seat i disk = IsShared seats i seat → (base : Base) → (place seat.kept).stands_for base disk.seen → IsKeptOn (place seat.kept) base disk
+IsKeptWhereShared place seats seat i disk = IsShared seats i seat → (base : Base) → (place seat.kept).represents base disk.seen → IsKeptOn (place seat.kept) base disk
 
 -- If a crash cuts a command at a station, or if it ends well, the net goes on by one of its command events. If the station
 -- is unchanged, as after a fault, the net goes on by no event.
@@ -75,6 +75,6 @@ pub record CommandGoesOn {D Kept : Type 0} (state : D → DiskState) (place : Ke
 -- Each command goes on so if it does on the disk what its event may do.
 abbrev pub CommandsGoOn : {D Kept : Type 0} → (D → DiskState) → (Kept → Place) → Type 0
 CommandsGoOn {D} {Kept} state place = (seats : List (Seat Kept)) (seat : Seat Kept) (i : ℕ) (asked : Asked) (d : Disks) (old whole : D) (result : Result (AnswerOf asked) CommandError)
-    → (stands : StandsAt place seats i seat (state old) d)
-    → RefinesEvent (IsAsked asked stands.at.shows.station.base) (place seat.kept) seat.links i d (state old) (state whole) result
-    → CommandGoesOn state place seats seat i asked stands.at.shows.station.base d old whole result
+    → (represented : RepresentsSeat place seats i seat (state old) d)
+    → RefinesEvent (IsAsked asked represented.at.shows.station.base) (place seat.kept) seat.links i d (state old) (state whole) result
+    → CommandGoesOn state place seats seat i asked represented.at.shows.station.base d old whole result

@@ -21,7 +21,7 @@ pub record ShowsStation (place : Place) (links : List ℕ) (i : ℕ) (c : Files)
   pub station : Station
   pub there : nth i d.net.stations ≡ Some station
   pub of_links : c links ≡ Some station.links
-  pub stands : place.stands_for station.base c
+  pub represented : place.represents station.base c
 
 -- The link file is on the disk.
 pub record IsLinkedOn (links : List ℕ) (disk : DiskState) : Type 0 where

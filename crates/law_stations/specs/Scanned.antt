@@ -14,7 +14,7 @@ use Rattle.law_stations.specs.Disks.{Disks}
 use Rattle.law_stations.specs.OnDisks.{IsAsBefore, TossesAsEvent}
 use Rattle.law_stations.specs.Scans.{ScansAsEvent}
 use Rattle.law_stations.specs.Asked.{GoesOnCut, GoesOnEnded, IsKeptWhereShared}
-use Rattle.law_stations.specs.Seats.{Seat, StandsAt}
+use Rattle.law_stations.specs.Seats.{Seat, RepresentsSeat}
 use Rattle.law_stations.specs.Steps.{HasEnded, IsAllOnDisk}
 
 -- The packets that a toss tossed whole are delivered.
@@ -43,6 +43,6 @@ pub record ScanGoesOn {D Kept : Type 0} (state : D → DiskState) (place : Kept 
 
 abbrev pub ScansGoOn : {D Kept : Type 0} → (D → DiskState) → (Kept → Place) → Type 0
 ScansGoOn {D} {Kept} state place = (seats : List (Seat Kept)) (seat : Seat Kept) (i : ℕ) (stamp : Stamp) (d ended : Disks) (old whole : D) (result : Result (Unit {0}) ScanError)
-    → (stands : StandsAt place seats i seat (state old) d)
-    → ScansAsEvent stamp (place seat.kept) seat.links seat.outbound i d ended stands.at.shows.station.base (state old) (state whole) result
+    → (represented : RepresentsSeat place seats i seat (state old) d)
+    → ScansAsEvent stamp (place seat.kept) seat.links seat.outbound i d ended represented.at.shows.station.base (state old) (state whole) result
     → ScanGoesOn state place seats seat i stamp d old whole result

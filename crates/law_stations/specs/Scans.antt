@@ -53,7 +53,7 @@ pub record IsAfterScan (stamp : Stamp) (place : Place) (links outbound : List �
 
 -- A place, and all paths of packets in a folder.
 abbrev pub with_packets_in : List ℕ → Place → Place
-with_packets_in outbound place = record { stands_for = place.stands_for; is_own = λ m. IsTouched place.is_own outbound m }
+with_packets_in outbound place = record { represents = place.represents; is_own = λ m. IsTouched place.is_own outbound m }
 
 -- A scan does on the disk what its command event may do.
 pub record ScansAsEvent (stamp : Stamp) (place : Place) (links outbound : List ℕ) (i : ℕ) (d ended : Disks) (base : Base) (old new : DiskState) (result : Result (Unit {0}) ScanError) : Type 0 where

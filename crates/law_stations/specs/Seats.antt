@@ -32,7 +32,7 @@ pub record IsBelow (folder path : List ℕ) : Type 0 where
 
 -- What commands at the station may touch: the files of its base, and its folder of packets.
 abbrev pub reach : {Kept : Type 0} → (Kept → Place) → Seat Kept → Place
-reach place seat = record { stands_for = (place seat.kept).stands_for; is_own = λ m. (place seat.kept).is_own m ⊎ IsBelow seat.outbound m }
+reach place seat = record { represents = (place seat.kept).represents; is_own = λ m. (place seat.kept).is_own m ⊎ IsBelow seat.outbound m }
 
 -- Another station is on the same disk.
 pub record IsShared {Kept : Type 0} (seats : List (Seat Kept)) (i : ℕ) (seat : Seat Kept) : Type 0 where
@@ -44,7 +44,7 @@ pub record IsShared {Kept : Type 0} (seats : List (Seat Kept)) (i : ℕ) (seat :
 
 -- The base that the files hold depends only on the files of the place.
 abbrev pub IsSettledByOwn : Place → Type 0
-IsSettledByOwn place = (base : Base) (before after : Files) → ((m : List ℕ) → place.is_own m → after m ≡ before m) → place.stands_for base before → place.stands_for base after
+IsSettledByOwn place = (base : Base) (before after : Files) → ((m : List ℕ) → place.is_own m → after m ≡ before m) → place.represents base before → place.represents base after
 
 -- Neither of two stations on one disk touches the link file or the base of the other.
 pub record AreNeighbours {Kept : Type 0} (place : Kept → Place) (seats : List (Seat Kept)) : Type 0 where
@@ -53,7 +53,7 @@ pub record AreNeighbours {Kept : Type 0} (place : Kept → Place) (seats : List 
 
 -- Between two steps the disk shows the link file and the base of the station, and each crash leaves them so. If the
 -- station shares the disk, its base is on the disk.
-pub record StandsAt {Kept : Type 0} (place : Kept → Place) (seats : List (Seat Kept)) (i : ℕ) (seat : Seat Kept) (disk : DiskState) (d : Disks) : Type 0 where
+pub record RepresentsSeat {Kept : Type 0} (place : Kept → Place) (seats : List (Seat Kept)) (i : ℕ) (seat : Seat Kept) (disk : DiskState) (d : Disks) : Type 0 where
   pub at : IsStationAt (place seat.kept) seat.links i disk d
   pub on_disk : (c : Files) → disk.may_leave c → ShowsStation (place seat.kept) seat.links i c d
   pub kept : IsShared seats i seat → IsKeptOn (place seat.kept) at.shows.station.base disk
@@ -62,7 +62,7 @@ pub record StandsAt {Kept : Type 0} (place : Kept → Place) (seats : List (Seat
 pub record IsSeated {D Kept : Type 0} (state : D → DiskState) (place : Kept → Place) (seats : List (Seat Kept)) (i : ℕ) (seat : Seat Kept) (disks : List D) (d : Disks) : Type 0 where
   pub disk : D
   pub there : nth seat.disk disks ≡ Some disk
-  pub stands : StandsAt place seats i seat (state disk) d
+  pub represented : RepresentsSeat place seats i seat (state disk) d
 
 abbrev pub AreSeated : {D Kept : Type 0} → (D → DiskState) → (Kept → Place) → List (Seat Kept) → List D → Disks → Type 0
 AreSeated state place seats disks d = (i : ℕ) (seat : Seat _) → nth i seats ≡ Some seat → IsSeated state place seats i seat disks d

@@ -7,7 +7,7 @@ use Rattle.law_stations.specs.Commands.{Command, CommandEvent}
 use Rattle.law_stations.specs.Disks.{Disks}
 use Rattle.law_stations.specs.Stopping.{PartialEffect}
 use Rattle.law_stations.specs.OnDisks.{LeavesElsewhere, ShowsStation}
-use Rattle.law_stations.specs.Seats.{Seat, StandsAt, reach}
+use Rattle.law_stations.specs.Seats.{Seat, RepresentsSeat, reach}
 
 -- A command at a station ends. Or a crash cuts it; without the crash it would have led to this disk. Or there is a crash
 -- between commands. `None` is a command without an effect.
@@ -40,7 +40,7 @@ pub record IsAllOnDisk (disk : DiskState) : Type 0 where
 -- The command ended. The disk shows a state to which the command may have led, and everything elsewhere is unchanged.
 pub record HasEnded {Kept : Type 0} (place : Kept → Place) (seats : List (Seat Kept)) (seat : Seat Kept) (i : ℕ) (command : Option Command) (d next : Disks) (old new : DiskState) : Type 0 where
   pub may : MayLead command i d next
-  pub stands : StandsAt place seats i seat new next
+  pub represented : RepresentsSeat place seats i seat new next
   pub elsewhere : LeavesElsewhere (reach place seat) old new
 
 -- A crash cut the command and left the state with which the disk begins: one to which the command may have led the net.

@@ -173,15 +173,15 @@ module _ {A : Type 0} (can : CanTell A) (linked : A → A → Bool) (simple : Si
       above (suc k) h e = (k, same_below level parent b (suc k) (parent x) y e h)
 
   -- z is a child of b that is a, or is linked with a
-  abbrev IsBeside : A → A → A → Type 0
-  IsBeside b a z = IsParent level parent b z × ((z ≡ a) ⊎ IsTrue (linked a z))
+  abbrev IsSiblingOf : A → A → A → Type 0
+  IsSiblingOf b a z = IsParent level parent b z × ((z ≡ a) ⊎ IsTrue (linked a z))
 
   -- x descends from such a child of b
   abbrev InBranch : A → A → A → Type 0
-  InBranch b a x = (z : A) × (k : ℕ) × IsBeside b a z × IsBelow level parent z k x
+  InBranch b a x = (z : A) × (k : ℕ) × IsSiblingOf b a z × IsBelow level parent z k x
 
   -- a link between two children of b leads from a branch to the same one
-  stays_beside : (b a z y : A) → IsParent level parent b a → IsBeside b a z → IsParent level parent b y → IsTrue (linked z y) → IsBeside b a y
+  stays_beside : (b a z y : A) → IsParent level parent b a → IsSiblingOf b a z → IsParent level parent b y → IsTrue (linked z y) → IsSiblingOf b a y
   stays_beside b a z y at_a at_z at_y link = (
     at_y,
     elim at_z.1 [
@@ -207,11 +207,11 @@ module _ {A : Type 0} (can : CanTell A) (linked : A → A → Bool) (simple : Si
         ]
       ]
     where
-      above : (z : A) → IsBeside b a z → (k : ℕ) → IsBelow level parent z k x → parent x ≡ y → InBranch b a y
+      above : (z : A) → IsSiblingOf b a z → (k : ℕ) → IsBelow level parent z k x → parent x ≡ y → InBranch b a y
       above z at_z zero h e = absurd (other (sym at_z.0.1 ∙ (ap parent (sym h) ∙ e)))
       above z at_z (suc k) h e = (z, k, at_z, same_below level parent z k (parent x) y e h.1)
 
-      beside : (z : A) → IsBeside b a z → (k : ℕ) → IsBelow level parent z k x → AreSiblings level parent x y → InBranch b a y
+      beside : (z : A) → IsSiblingOf b a z → (k : ℕ) → IsBelow level parent z k x → AreSiblings level parent x y → InBranch b a y
       beside z at_z zero h alike =
           let at_y : IsParent level parent b y = (alike.1, sym alike.2 ∙ (ap parent h ∙ at_z.0.1)) in
           (y, zero, stays_beside b a z y at_a at_z at_y (link_from linked x z y h link), refl)
@@ -224,7 +224,7 @@ module _ {A : Type 0} (can : CanTell A) (linked : A → A → Bool) (simple : Si
       let (z, k, at_z, h) = Around-keeps linked b (InBranch b a) (stays_in_branch b a at_a) a c around start in
       top z at_z k h
     where
-      top : (z : A) → IsBeside b a z → (k : ℕ) → IsBelow level parent z k c → IsTrue (linked a c)
+      top : (z : A) → IsSiblingOf b a z → (k : ℕ) → IsBelow level parent z k c → IsTrue (linked a c)
       top z at_z zero h = elim at_z.1 [ inl e ↦ absurd (other (sym (h ∙ e))) | inr link ↦ link_to linked a z c (sym h) link ]
       top z at_z (suc k) h =
           absurd (omega (arith, level-below z (suc k) c h, level-child b z at_z.0, level-child b c at_c))

@@ -20,7 +20,7 @@ mod world;
 
 pub use laws::replay_laws;
 pub use receivers::Receivers;
-pub use replay_progress::{ReplayProgress, Untold};
-pub use replaying::{replay, replay_counted, replay_told};
+pub use replay_progress::{ReplayProgress, Unreported};
+pub use replaying::{replay, replay_counted, replay_reported};
 pub use script::{ScriptFault, read_script};
 pub use world::World;

@@ -7,8 +7,8 @@ pub trait ReplayProgress {
 
 /// Reports nothing.
 #[derive(Clone, Copy)]
-pub struct Untold;
+pub struct Unreported;
 
-impl ReplayProgress for Untold {
+impl ReplayProgress for Unreported {
     fn tell(&self, _happened: usize, _events: usize) {}
 }

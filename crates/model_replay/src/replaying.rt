@@ -9,7 +9,7 @@ ghost use Rattle.model_steps.specs.SystemState.{state_at_first};
 
 use crate::happening::happen;
 use crate::receivers::Receivers;
-use crate::replay_progress::{ReplayProgress, Untold};
+use crate::replay_progress::{ReplayProgress, Unreported};
 use crate::world::World;
 use echo_links::LinkFile;
 use echo_toss::Tosser;
@@ -29,20 +29,20 @@ pub fn replay(
 ) -> Result<World, AllocError>
     ensures { IfOk result (λ world. IsWorldOf world (run_of files.items (map run_event events.now))) }
 {
-    replay_told(alloc, files, events, hasher, &Untold)
+    replay_reported(alloc, files, events, hasher, &Unreported)
 }
 
 /// The same, and `told` hears of each event once it happened.
-pub fn replay_told<T: ReplayProgress>(
+pub fn replay_reported<T: ReplayProgress>(
     alloc: Global,
     files: Vec<LinkFile>,
     events: &[Event],
     hasher: RandomState,
-    told: &T,
+    reported: &T,
 ) -> Result<World, AllocError>
     ensures { IfOk result (λ world. IsWorldOf world (run_of files.items (map run_event events.now))) }
 {
-    let (world, _) = replayed(alloc, files, events, hasher, told)?;
+    let (world, _) = replayed(alloc, files, events, hasher, reported)?;
     Ok(world)
 }
 
@@ -56,7 +56,7 @@ pub fn replay_counted(
     ensures world { IfOk result (λ found. IsWorldOf found.0 (run_of files.items (map run_event events.now))) }
     ensures counts { IfOk result (λ found. found.1.items ≡ packet_counts (start files.items) (map run_event events.now)) }
 {
-    replayed(alloc, files, events, hasher, &Untold)
+    replayed(alloc, files, events, hasher, &Unreported)
 }
 
 // The same, and `told` hears of each event.
@@ -65,7 +65,7 @@ fn replayed<T: ReplayProgress>(
     files: Vec<LinkFile>,
     events: &[Event],
     hasher: RandomState,
-    told: &T,
+    reported: &T,
 ) -> Result<(World, Vec<usize>), AllocError>
     ensures world { IfOk result (λ found. IsWorldOf found.0 (run_of files.items (map run_event events.now))) }
     ensures counts { IfOk result (λ found. found.1.items ≡ packet_counts (start files.items) (map run_event events.now)) }
@@ -79,7 +79,7 @@ fn replayed<T: ReplayProgress>(
     'events: for event in events {
         happen(alloc, &receivers, &mut world, event)?;
         counts.push(world.packets())?;
-        told.tell(counts.len(), events.len());
+        reported.tell(counts.len(), events.len());
     }
     Ok((world, counts))
 }

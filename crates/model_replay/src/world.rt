@@ -4,7 +4,7 @@ ghost use Rattle.std.specs.Prelude.{◌≡◌, None, IfOk, IfSome, length, drop,
 ghost use Rattle.std.specs.Io.KnownBytes.{Keeps};
 ghost use Rattle.std.specs.List.{list_all};
 ghost use Rattle.base_file.specs.BaseFile.{is_countable, saved_bytes};
-ghost use Rattle.base_file.specs.Saving.{CountsSaved, Saves, TellsTooMany};
+ghost use Rattle.base_file.specs.Saving.{CountsSaved, Saves, ReportsTooMany};
 ghost use Rattle.model_run.specs.Run.{Run, destination, nth};
 ghost use Rattle.model_run.specs.World.{area_count, filed_at, waiting_at, is_settled, undelivered};
 ghost use Rattle.model_replay.specs.Worlds.{IsWorldOf, OfSystem, encoded, made, message_at};
@@ -206,7 +206,7 @@ impl World {
         ensures bytes { (run : Run) → IsWorldOf self.now run → OfSystem result (nth system run.systems) (λ saved s.
             Saves (W.contents writer.old) (W.contents writer.new) saved (saved_bytes s.base s.cursor)) }
         ensures device { IfSome result (λ saved. CountsSaved saved (W.failures writer.old) (W.failures writer.new)) }
-        ensures too_many { (run : Run) → IsWorldOf self.now run → OfSystem result (nth system run.systems) (λ saved s. TellsTooMany (is_countable s.base s.cursor) saved) }
+        ensures too_many { (run : Run) → IsWorldOf self.now run → OfSystem result (nth system run.systems) (λ saved s. ReportsTooMany (is_countable s.base s.cursor) saved) }
         ensures none { result ≡ None → Keeps (W.contents writer.old) (W.contents writer.new) × (W.failures writer.new ≡ W.failures writer.old) }
     {
         Some(self.systems.get(system)?.save(writer))

@@ -92,8 +92,8 @@ sent_once : (earlier : List (Event ℕ ℕ ℕ ℕ)) → Among (posted 0) (filed
 sent_once earlier is_filed first = grind (arith, is_target, only_target)
 
 -- an empty SEEN-BY misleads no receiver if 1 is the only one
-told : (x : ℕ) → Among x (1 ∷ []) → HasSeenBy (polygon 2) (posted 0) (1 ∷ []) x []
-told x h = grind (arith, linked-parts)
+reported : (x : ℕ) → Among x (1 ∷ []) → HasSeenBy (polygon 2) (posted 0) (1 ∷ []) x []
+reported x h = grind (arith, linked-parts)
 
 -- 1 has not filed the posting of 0
 not_at_1 : ¬ Has 1 7 (posted 0 ∷ [])
@@ -114,7 +114,7 @@ filing-needed = record {
     others filing apart = absurd (apart refl)
     others keeping apart = (tt, (tt, (λ x h. (refl, refl), (tt, tt))))
     others sending apart = (tt, (tt, (sent_once (post 0 ∷ []) (inl refl) (λ has. has.1), (tt, tt))))
-    others telling apart = (tt, (tt, (told, (λ d carrier h. absurd h, tt))))
+    others telling apart = (tt, (tt, (reported, (λ d carrier h. absurd h, tt))))
     others keys apart = (tt, (tt, (tt, (λ m h. absurd h, tt))))
 
 -- a message is sent with this content and filed, and nothing is left to do
@@ -128,7 +128,7 @@ settling-possible : (content : ℕ) → Always (IsPossible (polygon 2)) (settlin
 settling-possible content = (tt, (inl refl, (tt, (refl, tt))))
 
 settling-kept : (content : ℕ) (rule : Rule) → rule ≢ keeping → Kept (polygon 2) (λ a b. a ≡ b) (settling content) rule
-settling-kept content rule h1 = grind (arith, not_at_1, sent_once, linked-parts, told)
+settling-kept content rule h1 = grind (arith, not_at_1, sent_once, linked-parts, reported)
 
 -- all rules are kept if the content stays
 pub can-be-kept : IsMet
@@ -180,18 +180,18 @@ sending-needed = record {
     others filing apart = (tt, (tt, (tt, tt)))
     others keeping apart = (λ x h. (refl, refl), (λ x h. (refl, refl), (tt, tt)))
     others sending apart = absurd (apart refl)
-    others telling apart = (told, (told, (λ d carrier h. absurd h, tt)))
+    others telling apart = (reported, (reported, (λ d carrier h. absurd h, tt)))
     others keys apart = (tt, (tt, (λ m h. absurd h, tt)))
 
 -- in a triangle the SEEN-BY for 1 lacks 2, which is sent the message too, and 1 sends it there again
-abbrev untold : List (Event ℕ ℕ ℕ ℕ)
-untold = Exports (received 1) (2 ∷ []) (λ x. says 1) ∷ come 1 ∷ Exports (posted 0) (1 ∷ 2 ∷ []) (λ x. says 1) ∷ post 0 ∷ []
+abbrev unreported : List (Event ℕ ℕ ℕ ℕ)
+unreported = Exports (received 1) (2 ∷ []) (λ x. says 1) ∷ come 1 ∷ Exports (posted 0) (1 ∷ 2 ∷ []) (λ x. says 1) ∷ post 0 ∷ []
 
 pub telling-needed : IsNeeded telling
 telling-needed = record {
   net = polygon 3;
   tidy = polygon-tidy 3;
-  run = untold;
+  run = unreported;
   possible = (tt, (inl refl, (tt, (refl, tt))));
   others = others;
   broken = λ orderly. orderly.sent_once.0 (inr (inl refl));
@@ -223,7 +223,7 @@ telling-needed = record {
           inl (omega (arith, under, λ (e : x ≡ 1). other (sym e), not_0))),
     )
 
-    others : (other : Rule) → other ≢ telling → Kept (polygon 3) (λ a b. a ≡ b) untold other
+    others : (other : Rule) → other ≢ telling → Kept (polygon 3) (λ a b. a ≡ b) unreported other
     others filing apart = (tt, ((λ yes. (refl, not_at_1), λ new. refl), (tt, (tt, tt))))
     others keeping apart = (λ x h. (refl, refl), (tt, (λ x h. (refl, refl), (tt, tt))))
     others sending apart = (
@@ -322,5 +322,5 @@ keys-needed = record {
     others filing apart = (tt, (tt, (tt, tt)))
     others keeping apart = (λ x h. (refl, refl), (tt, (tt, tt)))
     others sending apart = (sent_once (post 1 ∷ post 0 ∷ []) (inr (inl refl)) (λ has. has.1), (tt, (tt, tt)))
-    others telling apart = (told, (λ d carrier h. absurd h, (λ d carrier h. absurd h, tt)))
+    others telling apart = (reported, (λ d carrier h. absurd h, (λ d carrier h. absurd h, tt)))
     others keys apart = absurd (apart refl)

@@ -11,7 +11,7 @@ use Rattle.echo_filed.specs.declared.key.Key.TheVariants.{ByContent, ById}
 use Rattle.echo_filed.specs.Filed.{Filed, key_of, key_with}
 use Rattle.echo_filed.specs.Stubs.{is_stub, stub_of, stub_with}
 use Rattle.echo_filed.proofs.Keys.{stub_of_stub}
-use Rattle.echo_filed.proofs.StubTests.{stub_told}
+use Rattle.echo_filed.proofs.StubTests.{stub_reported}
 use Rattle.model_steps.specs.declared.packet.Packet.{Packet}
 use Rattle.model_steps.specs.Resending.{is_resent, is_whole_in, resent, scanned_from}
 use Rattle.model_steps.specs.Scanning.{copy_to, goes_to}
@@ -49,7 +49,7 @@ as-filed area b h kept whole =
       | inl same ↦ same
       | inr stub ↦ (let again : stub_of b ≡ b = ap stub_of stub ∙ (stub_of_stub h ∙ sym stub) in
           let text = (and-parts (bytes_eq b.echo.tag area) (not (is_some (msgid_of b.echo.kept) && is_stub b)) whole).1 in
-          stub ∙ unstubbed b h kept.key (no-id (msgid_of b.echo.kept) (is_stub b) text ((stub_told b).1 again)))
+          stub ∙ unstubbed b h kept.key (no-id (msgid_of b.echo.kept) (is_stub b) text ((stub_reported b).1 again)))
     ]
 
 module _ (laws : Laws) (files : List LinkFile) (fit : FilesFit files) (events : List RunEvent) (i : ℕ) (s : System)

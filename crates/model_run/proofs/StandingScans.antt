@@ -16,7 +16,7 @@ use Rattle.echo_filed.specs.Filed.{Filed, key_of, same_key}
 use Rattle.model_run.specs.Nets.{Net}
 use Rattle.model_run.specs.Rules.{IsTarget, HasPlainSeenBy}
 use Rattle.model_run.proofs.Eras.{exported-append, filed-cases, ByRules, one_more}
-use Rattle.model_run.proofs.Telling.{told-plainly}
+use Rattle.model_run.proofs.Telling.{reported-plainly}
 use Rattle.model_run.specs.Run.{System, Run, change, nth, scanning_at}
 use Rattle.model_run.specs.Orderly.{count}
 use Rattle.model_run.specs.Tidy.{Tidy, lists}
@@ -125,7 +125,7 @@ module _ (laws : Laws) (files : List LinkFile) (tag : List ℕ) (tidy : Tidy fil
           targets = λ x. goes m area x;
           one_each = laws.addresses_once (targets s.file m);
         };
-        tells = λ x h. told-plainly net (tidy-net laws files tag tidy) (filed_as (address_of s) m) (targets_of m) x (copied s.file m).echo.seen ((goes m area x).0 h).link (tells m area);
+        tells = λ x h. reported-plainly net (tidy-net laws files tag tidy) (filed_as (address_of s) m) (targets_of m) x (copied s.file m).echo.seen ((goes m area x).0 h).link (tells m area);
         new_keys = tt;
       })
     where

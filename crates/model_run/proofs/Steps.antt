@@ -9,7 +9,7 @@ use Rattle.model_run.specs.Nets.{Net, Tidy}
 use Rattle.model_run.specs.Events.{Text, Filed, Copy, copy_to, Has}
 use Rattle.model_run.specs.Rules.{IsTarget, HasSeenBy}
 use Rattle.model_run.specs.RulesOrderly.{Compares, place, goal}
-use Rattle.model_run.proofs.Targets.{simple, carriers_to, beyond-target, told-parent, Parent, View, IsPoster, Good, Sent, IsSentTo, Invariant}
+use Rattle.model_run.proofs.Targets.{simple, carriers_to, beyond-target, reported-parent, Parent, View, IsPoster, Good, Sent, IsSentTo, Invariant}
 use Rattle.model_run.proofs.Lists.{Among-map_to, Among-map_from, Different-append}
 
 module _ {A N K C : Type 0} where
@@ -177,7 +177,7 @@ module _ {A N K C : Type 0} (can : CanTell A) (net : Net A N) (tidy : Tidy net) 
     good_m = old.good m is_filed
 
     parent : (x : A) → Among x to → Parent net x good_m.poster.at (text x).seen m.at
-    parent x h = told-parent can net tidy good_m.poster.at m good_m.carrier good_m.posted.carrier good_m.source to all x (text x).seen
+    parent x h = reported-parent can net tidy good_m.poster.at m good_m.carrier good_m.posted.carrier good_m.source to all x (text x).seen
         (targets x h) (tells x h)
 
     new-sent : (x : A) → Among x to → Sent net Same after_export (copy_to m text x)

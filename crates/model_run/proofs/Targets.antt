@@ -149,16 +149,16 @@ module _ {A N : Type 0} (can : CanTell A) (net : Net A N) (tidy : Tidy net) wher
         ]
 
     -- the SEEN-BY for a target is in order there
-    pub told-parent : (to : List A) → ((l : A) → IsTarget net m l → Among l to) → (x : A) (seen : List N) →
+    pub reported-parent : (to : List A) → ((l : A) → IsTarget net m l → Among l to) → (x : A) (seen : List N) →
         IsTarget net m x → HasSeenBy net m to x seen → Parent net x f seen m.at
-    told-parent to all x seen target told =
+    reported-parent to all x seen target reported =
         record {
           way = record { link = tidy.both m.at x target.link; passed = beyond };
           outside = λ d at_d beyond_x other h.
               let (not_m, not_link) = further can net.linked simple f m.at x d reaches target.link beyond beyond_x other in
-              not_listed d at_d beyond_x not_m (told.behind d at_d (behind f m.at x d differ reaches_x beyond beyond_x) other h);
+              not_listed d at_d beyond_x not_m (reported.behind d at_d (behind f m.at x d differ reaches_x beyond beyond_x) other h);
           links = λ l link joined.
-              told.others l (all l (beyond-target l link (links_beyond f m.at x l differ joined beyond))) joined;
+              reported.others l (all l (beyond-target l link (links_beyond f m.at x l differ joined beyond))) joined;
         }
       where
         beyond : Beyond net.linked m.at f x

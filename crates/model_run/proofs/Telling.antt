@@ -24,8 +24,8 @@ module _ {A N K C : Type 0} (net : Net A N) (tidy : Tidy net) (m : Filed A N K C
         ]
       ]
 
-  pub told-plainly : HasSeenBy net m to x seen
-  told-plainly = record {
+  pub reported-plainly : HasSeenBy net m to x seen
+  reported-plainly = record {
     others = λ l h joined. plain.all l h;
     behind = λ d carrier beyond other h. elim (plain.only (net.net_node d) h) [
       | inl before ↦ before

@@ -6,8 +6,8 @@ use Rattle.model_run.specs.Events.{Filed, Copy, Event, filed, exported, copies, 
 use Rattle.model_run.specs.Rules.{Always, IsPossible, Kept, Rule}
 
 -- Any two are equal or not.
-abbrev pub AreToldApart : Type 0 → Type 0
-AreToldApart X = (x y : X) → (x ≡ y) ⊎ (x ≢ y)
+abbrev pub AreDistinct : Type 0 → Type 0
+AreDistinct X = (x y : X) → (x ≡ y) ⊎ (x ≢ y)
 
 -- Contents may be compared by this: an equivalence, or an order such as "has further lines".
 pub record Compares {C : Type 0} (Same : C → C → Type 0) : Type 0 where

@@ -7,7 +7,7 @@ ghost use Rattle.echo_addr.specs.declared.address.NetNode.{NetNode};
 ghost use Rattle.echo_links.specs.Links.{LinkFile};
 ghost use Rattle.model_run.specs.Events.{Event};
 ghost use Rattle.model_run.specs.Rules.{Always, IsPossible, Kept, Rule};
-ghost use Rattle.model_run.specs.RulesOrderly.{AreToldApart, Compares, Orderly};
+ghost use Rattle.model_run.specs.RulesOrderly.{AreDistinct, Compares, Orderly};
 ghost use Rattle.echo_filed.specs.declared.key.Key.{Key};
 ghost use Rattle.model_run.specs.Event.{RunEvent};
 ghost use Rattle.model_run.specs.Run.{run_of};
@@ -35,7 +35,7 @@ pub fn tidy_files_are_a_tidy_net()
 /// run on these files is orderly. Keys and contents have any types. `same` compares contents and is any
 /// reflexive and transitive relation.
 pub fn any_tossers_on_tidy_files_are_orderly<K, C>()
-    ensures { AreToldApart K → (files : List LinkFile) (tag : List ℕ) → Tidy files tag →
+    ensures { AreDistinct K → (files : List LinkFile) (tag : List ℕ) → Tidy files tag →
         (same : C → C → Bool) → Compares (λ a b. IsTrue (same a b)) →
         (run : List (Event Address NetNode K C)) → Always (IsPossible (net_of files tag)) run →
         ((rule : Rule) → Kept (net_of files tag) (λ a b. IsTrue (same a b)) run rule) →

@@ -9,7 +9,7 @@ use Rattle.echo_filed.specs.Stubs.{stub_of, stub_with}
 use Rattle.model_run.specs.Run.{Run, System, nth}
 use Rattle.model_run.specs.Orderly.{IsPosting, count, sent_count}
 use Rattle.model_run.specs.Harms.{Harm}
-use Rattle.model_why.specs.declared.shown.Harm.{Harm as Told}
+use Rattle.model_why.specs.declared.shown.Harm.{Harm as Reported}
 use Rattle.model_why.specs.declared.shown.Harm.TheVariants.{NeverGets, NeverSettles, SentAgain, SentOwn}
 use Rattle.model_why.specs.Found.{BreaksIt, HasHarm, HasPosted}
 use Rattle.model_why.proofs.Judged.{in-nth, nth-in}
@@ -70,9 +70,9 @@ was_posted run tag id stubs many keys p =
       }
     ]
 
-pub told-harm : (run : Run) (tag id : List ℕ) (told : Told) → AreStubs run → AreAsMany run → ((m : Filed) → key_of (stub_of m) ≡ key_of m) →
-    BreaksIt told → HasHarm run tag id told → Harm run tag
-told-harm run tag id (SentAgain a times) stubs many keys breaks h =
+pub reported-harm : (run : Run) (tag id : List ℕ) (reported : Reported) → AreStubs run → AreAsMany run → ((m : Filed) → key_of (stub_of m) ≡ key_of m) →
+    BreaksIt reported → HasHarm run tag id reported → Harm run tag
+reported-harm run tag id (SentAgain a times) stubs many keys breaks h =
     let P : Address → Type 0 = λ b. 2 ≤ sent_count b (ById tag id) run.packets in
     inl (record {
       system = h.carrier.system;
@@ -82,7 +82,7 @@ told-harm run tag id (SentAgain a times) stubs many keys breaks h =
       of_area = refl;
       again = subst P (sym h.carrier.address) (let sent = h.sent in let again = h.again in omega (arith, sent, again));
     })
-told-harm run tag id (SentOwn a) stubs many keys breaks h =
+reported-harm run tag id (SentOwn a) stubs many keys breaks h =
     let P : Address → Type 0 = λ b. 1 ≤ sent_count b (ById tag id) run.packets in
     let Q : Key → Type 0 = λ k. 1 ≤ sent_count h.poster.system.file.system k run.packets in
     inr (inl (record {
@@ -94,7 +94,7 @@ told-harm run tag id (SentOwn a) stubs many keys breaks h =
       posting = h.poster.posting;
       sent = subst Q (sym h.poster.key) (subst P (sym h.address) h.sent);
     }))
-told-harm run tag id (NeverGets a) stubs many keys breaks h =
+reported-harm run tag id (NeverGets a) stubs many keys breaks h =
     let posted = was_posted run tag id stubs many keys h.poster in
     let Q : Key → Type 0 = λ k. count k h.carrier.system.base ≡ 0 in
     inr (inr (record {
@@ -109,4 +109,4 @@ told-harm run tag id (NeverGets a) stubs many keys breaks h =
       carries = h.carrier.carries;
       lacks = subst Q (sym posted.key) h.lacks;
     }))
-told-harm run tag id NeverSettles stubs many keys breaks h = absurd breaks
+reported-harm run tag id NeverSettles stubs many keys breaks h = absurd breaks

@@ -11,7 +11,7 @@ KeepsOwn s lent back = ChangesOnly (λ m. s.is_own m → ⊥) lent back
 
 -- Only the store's own files decide whether files hold a base.
 abbrev pub AreSettledByOwn : StoreState → Type 0
-AreSettledByOwn s = (base : Base) (before after : Files) → ((m : List ℕ) → s.is_own m → after m ≡ before m) → s.stands base before → s.stands base after
+AreSettledByOwn s = (base : Base) (before after : Files) → ((m : List ℕ) → s.is_own m → after m ≡ before m) → s.represented base before → s.represented base after
 
 -- The store holds the base from before, and a committed base stays committed.
 pub record HoldsAsBefore (old new : StoreState) : Type 0 where

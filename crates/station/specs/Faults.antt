@@ -15,8 +15,8 @@ IsTooLarge path _ = ⊥
 
 -- The fault that reports a disk's error at the file with this path.
 abbrev pub IsFaultAt : List ℕ → DiskError → Fault → Type 0
-IsFaultAt path disk_error.Memory told = told ≡ OutOfMemory
-IsFaultAt path disk_error.Device told = IsCannotUse path told
+IsFaultAt path disk_error.Memory reported = reported ≡ OutOfMemory
+IsFaultAt path disk_error.Device reported = IsCannotUse path reported
 
 -- Memory ran out, or the file with this path cannot be used, since a device failed.
 abbrev pub FailsAt : List ℕ → Type 0 → Fault → Type 0

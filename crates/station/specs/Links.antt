@@ -21,7 +21,7 @@ pub record AreFaulty (disk : DiskState) (links : List ℕ) (fault : Fault) : Typ
   pub seen : disk.seen links ≡ Some bytes
   pub why : LinkFault
   pub judged : LinksOf bytes (Err why)
-  pub told : fault ≡ Link why
+  pub reported : fault ≡ Link why
 
 -- The link file cannot be read, or memory ran out during its check, or it has a fault.
 abbrev pub NoLinks : DiskState → List ℕ → Type 0 → Fault → Type 0

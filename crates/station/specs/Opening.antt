@@ -7,7 +7,7 @@ use Rattle.disk_io.specs.Runs.{LeavesOnly}
 use Rattle.echo_links.specs.Links.{LinkFile}
 use Rattle.cmd_status.specs.declared.fault.Fault.{Fault}
 use Rattle.base_store.specs.Store.{StoreState}
-use Rattle.station.specs.Place.{IsOfPlace, KeepsElsewhere, Place, StandsOrWasLeft}
+use Rattle.station.specs.Place.{IsOfPlace, KeepsElsewhere, Place, RepresentsOrWasLeft}
 
 -- Neither lock holds a file.
 abbrev pub AreFree : Option (List ℕ) → Option (List ℕ) → Type 0
@@ -19,9 +19,9 @@ HaveFailed disk disk_now links links_now base base_now = Failed disk disk_now �
 
 -- The store holds the base that the files held, and has committed it. Opening it changed no base.
 pub record IsOpenFor (place : Place) (old : DiskState) (s : StoreState) : Type 0 where
-  pub keeps : (base : Base) → place.stands_for base old.seen → s.keeps base
-  pub committed : (base : Base) → place.stands_for base old.seen → s.committed base
-  pub run : (base : Base) → place.stands_for base old.seen → LeavesOnly old s.disk (StandsOrWasLeft place old base)
+  pub keeps : (base : Base) → place.represents base old.seen → s.keeps base
+  pub committed : (base : Base) → place.represents base old.seen → s.committed base
+  pub run : (base : Base) → place.represents base old.seen → LeavesOnly old s.disk (RepresentsOrWasLeft place old base)
 
 -- The station is open as this store, with this link file. The counts are the failures of the disk, before and now.
 pub record IsOpened (place : Place) (Reads : LinkFile → Type 0) (old : DiskState) (before now : ℕ) (s : StoreState) (links : LinkFile) : Type 0 where
@@ -34,5 +34,5 @@ pub record IsOpened (place : Place) (Reads : LinkFile → Type 0) (old : DiskSta
 -- The station is not opened, for this reason. A crash during the opening leaves the base from before.
 pub record IsNotOpened (place : Place) (Shut : Fault → Type 0) (old new : DiskState) (fault : Fault) : Type 0 where
   pub cause : Honestly new (Shut fault)
-  pub crash : Honestly new ((base : Base) → place.stands_for base old.seen → LeavesOnly old new (StandsOrWasLeft place old base))
+  pub crash : Honestly new ((base : Base) → place.represents base old.seen → LeavesOnly old new (RepresentsOrWasLeft place old base))
   pub elsewhere : KeepsElsewhere place old new

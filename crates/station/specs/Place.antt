@@ -6,7 +6,7 @@ use Rattle.base_store.specs.Store.{StoreState}
 
 -- Which files hold which base, and which paths are the station's own.
 pub record Place : Type 1 where
-  pub stands_for : Base → Files → Type 0
+  pub represents : Base → Files → Type 0
   pub is_own : List ℕ → Type 0
 
 -- The other files that were on the disk are unchanged.
@@ -22,16 +22,16 @@ pub record KeepsElsewhere (place : Place) (old new : DiskState) : Type 0 where
   pub honest : new.is_honest → old.is_honest
 
 -- The files hold this base, and nothing elsewhere has changed.
-pub record StandsAlone (place : Place) (old : DiskState) (base : Base) (c : Files) : Type 0 where
+pub record RepresentsAlone (place : Place) (old : DiskState) (base : Base) (c : Files) : Type 0 where
   pub elsewhere : SameElsewhere place old c
-  pub stands : place.stands_for base c
+  pub represented : place.represents base c
 
 -- These files, or a state that a crash before could have left.
-abbrev pub StandsOrWasLeft : Place → DiskState → Base → Files → Type 0
-StandsOrWasLeft place old base c = StandsAlone place old base c ⊎ old.may_leave c
+abbrev pub RepresentsOrWasLeft : Place → DiskState → Base → Files → Type 0
+RepresentsOrWasLeft place old base c = RepresentsAlone place old base c ⊎ old.may_leave c
 
 -- This is a store of this place, and nothing elsewhere has changed.
 pub record IsOfPlace (place : Place) (old : DiskState) (s : StoreState) : Type 0 where
   pub own : (m : List ℕ) → s.is_own m → place.is_own m
-  pub stands : (base : Base) (c : Files) → s.stands base c ↔ place.stands_for base c
+  pub represented : (base : Base) (c : Files) → s.represented base c ↔ place.represents base c
   pub elsewhere : KeepsElsewhere place old s.disk

@@ -13,40 +13,40 @@ use Rattle.cmd_store.specs.declared.command_error.CommandError.TheVariants.{Met,
 use Rattle.echo_filed.specs.Filed.{Filed}
 use Rattle.cmd_store.specs.Bounded.{IsPast}
 use Rattle.station.specs.Opening.{IsOpenFor}
-use Rattle.station.specs.Place.{IsOfPlace, Place, SameElsewhere, StandsOrWasLeft}
+use Rattle.station.specs.Place.{IsOfPlace, Place, SameElsewhere, RepresentsOrWasLeft}
 
 -- The files hold a base that the command makes, as they are seen and after any crash.
 pub record IsKept (place : Place) (IsMade : Base → Type 0) (now : DiskState) : Type 0 where
   pub next : Base
   pub made : IsMade next
-  pub seen : place.stands_for next now.seen
-  pub stands : (c : Files) → now.may_leave c → place.stands_for next c
+  pub seen : place.represents next now.seen
+  pub represented : (c : Files) → now.may_leave c → place.represents next c
 
 -- The files hold the base from before, or one that the command makes; nothing elsewhere has changed.
-pub record StandsForMadeAlone (place : Place) (old : DiskState) (IsMade : Base → Type 0) (base : Base) (c : Files) : Type 0 where
+pub record RepresentsMadeAlone (place : Place) (old : DiskState) (IsMade : Base → Type 0) (base : Base) (c : Files) : Type 0 where
   pub elsewhere : SameElsewhere place old c
-  pub stands : place.stands_for base c ⊎ ((next : Base) × IsMade next × place.stands_for next c)
+  pub represented : place.represents base c ⊎ ((next : Base) × IsMade next × place.represents next c)
 
 -- These files, or a state that a crash before could have left.
 abbrev pub MadeOrWasLeft : Place → DiskState → (Base → Type 0) → Base → Files → Type 0
-MadeOrWasLeft place old IsMade base c = StandsForMadeAlone place old IsMade base c ⊎ old.may_leave c
+MadeOrWasLeft place old IsMade base c = RepresentsMadeAlone place old IsMade base c ⊎ old.may_leave c
 
 -- The files hold the base from before, as they are seen and after any crash, during the run or later.
-pub record StandsAsBefore (place : Place) (old new : DiskState) (base : Base) : Type 0 where
-  pub crash : LeavesOnly old new (StandsOrWasLeft place old base)
-  pub seen : place.stands_for base new.seen
-  pub stands : (c : Files) → new.may_leave c → place.stands_for base c
+pub record RepresentsAsBefore (place : Place) (old new : DiskState) (base : Base) : Type 0 where
+  pub crash : LeavesOnly old new (RepresentsOrWasLeft place old base)
+  pub seen : place.represents base new.seen
+  pub represented : (c : Files) → new.may_leave c → place.represents base c
 
 -- If the store did not fail, the files hold the base from before.
-abbrev pub StandsWhereMet : Place → DiskState → DiskState → Base → CommandError → Type 0
-StandsWhereMet place old new base (Met fault) = StandsAsBefore place old new base
-StandsWhereMet place old new base (Store cause) = Unit {0}
+abbrev pub RepresentsWhereMet : Place → DiskState → DiskState → Base → CommandError → Type 0
+RepresentsWhereMet place old new base (Met fault) = RepresentsAsBefore place old new base
+RepresentsWhereMet place old new base (Store cause) = Unit {0}
 
 -- The result of a run on a station that held this base.
 pub record IsRunOn {A : Type 0} (IsAnswer : Type 0) (Makes May : Base → Type 0) (place : Place) (old new : DiskState) (base : Base) (result : Result A CommandError) : Type 0 where
   pub answer : IsAnswer
   pub kept : OnOk result (IsKept place Makes new)
-  pub met : IfErr result (StandsWhereMet place old new base)
+  pub met : IfErr result (RepresentsWhereMet place old new base)
   pub crash : LeavesOnly old new (MadeOrWasLeft place old May base)
   pub whole : IsErrOf result (Store Damaged) → ⊥
 
@@ -54,7 +54,7 @@ pub record IsRunOn {A : Type 0} (IsAnswer : Type 0) (Makes May : Base → Type 0
 pub record IsRun {A : Type 0} (IsAnswer : LinkFile → Base → Type 0) (Makes May : LinkFile → Base → Base → Type 0) (place : Place) (Reads : LinkFile → Type 0) (failed : Type 0) (old new : DiskState) (result : Result A CommandError) : Type 0 where
   pub file : LinkFile
   pub read : Reads file
-  pub runs : (base : Base) → place.stands_for base old.seen → IsRunOn (IsAnswer file base) (Makes file base) (May file base) place old new base result
+  pub runs : (base : Base) → place.represents base old.seen → IsRunOn (IsAnswer file base) (Makes file base) (May file base) place old new base result
   pub cause : IsErrOf result (Store Device) → failed
 
 -- The command was not run, for this reason. Nothing is printed, and a crash leaves the base from before.
@@ -63,7 +63,7 @@ pub record IsNotRun {A : Type 0} (place : Place) (Shut : Fault → Type 0) (old 
   pub is : result ≡ Err (Met fault)
   pub cause : Shut fault
   pub printed : new_out ≡ old_out
-  pub crash : (base : Base) → place.stands_for base old.seen → LeavesOnly old new (StandsOrWasLeft place old base)
+  pub crash : (base : Base) → place.represents base old.seen → LeavesOnly old new (RepresentsOrWasLeft place old base)
 
 -- The program stopped the command on the open station, for this reason. Nothing is printed, and the base is unchanged.
 pub record IsStopped {A : Type 0} (place : Place) (Stops : Fault → Type 0) (old new : DiskState) (old_out new_out : Output) (result : Result A CommandError) : Type 0 where
@@ -71,7 +71,7 @@ pub record IsStopped {A : Type 0} (place : Place) (Stops : Fault → Type 0) (ol
   pub is : result ≡ Err (Met fault)
   pub cause : Stops fault
   pub printed : new_out ≡ old_out
-  pub stands : (base : Base) → place.stands_for base old.seen → StandsAsBefore place old new base
+  pub represented : (base : Base) → place.represents base old.seen → RepresentsAsBefore place old new base
 
 -- The result of a command on a station. It is not run if the station is shut, as its fault says, or if the program stops it.
 abbrev pub RunsIn : {A : Type 0} → (LinkFile → Base → Type 0) → (LinkFile → Base → Base → Type 0) → (LinkFile → Base → Base → Type 0) → Place → (LinkFile → Type 0) → (Fault → Type 0) → (Fault → Type 0) → Type 0
@@ -88,4 +88,4 @@ pub record IsRefusedFull {K : Type 0} (state : K → StoreState) (held : Bool) (
   pub begun : IsOpenFor place old (state kept)
   pub of_place : IsOfPlace place old (state kept)
   pub past : IsPast held state (Adds file) (May file) (state kept)
-  pub crash : (base : Base) → place.stands_for base old.seen → LeavesOnly old new (StandsOrWasLeft place old base)
+  pub crash : (base : Base) → place.represents base old.seen → LeavesOnly old new (RepresentsOrWasLeft place old base)

@@ -24,7 +24,7 @@ pub struct Followed<'w, R, T> {
     messages: usize,
     read: usize,
     // How many bytes were read at the last report.
-    told: usize,
+    reported: usize,
 }
 
 impl<'w, R: Source, T: MessageProgress> Followed<'w, R, T> {
@@ -39,7 +39,7 @@ impl<'w, R: Source, T: MessageProgress> Followed<'w, R, T> {
             size,
             messages,
             read: 0,
-            told: 0,
+            reported: 0,
         }
     }
 
@@ -48,8 +48,8 @@ impl<'w, R: Source, T: MessageProgress> Followed<'w, R, T> {
         ensures { self.new.source ≡ self.old.source }
     {
         self.read = self.read.saturating_add(more);
-        if self.read.saturating_sub(self.told) >= SOME && self.messages > 0 {
-            self.told = self.read;
+        if self.read.saturating_sub(self.reported) >= SOME && self.messages > 0 {
+            self.reported = self.read;
             self.watch.tell(self.place(), self.messages);
         }
     }

@@ -6,12 +6,12 @@ use Rattle.disk_io.specs.Runs.{LeavesOnly}
 use Rattle.disk_io.proofs.Moments.{weaker_run}
 use Rattle.base_log.specs.Moments.{KeepsOutside}
 use Rattle.station_bases.specs.Opening.{IsBegun, IsOfFolder}
-use Rattle.base_folder_store.specs.Held.{StandsForBase, StandsForBaseAlone, StandsForBaseOrWasLeft}
+use Rattle.base_folder_store.specs.Held.{RepresentsBase, RepresentsBaseAlone, RepresentsBaseOrWasLeft}
 use Rattle.echo_links.specs.Links.{LinkFile}
 use Rattle.cmd_status.specs.declared.fault.Fault.{Fault}
 use Rattle.base_store.specs.Store.{StoreState}
 use Rattle.station.specs.Opening.{IsNotOpened, IsOpened}
-use Rattle.station.specs.Place.{KeepsElsewhere, StandsOrWasLeft}
+use Rattle.station.specs.Place.{KeepsElsewhere, RepresentsOrWasLeft}
 use Rattle.station_bases.specs.InFolder.{IsFolderShut, IsOwnLinks, folder_place}
 
 module _ (keyed : ℕ → ℕ → List ℕ → ℕ) (path : List ℕ) (d0 : DiskState) where
@@ -19,26 +19,26 @@ module _ (keyed : ℕ → ℕ → List ℕ → ℕ) (path : List ℕ) (d0 : Disk
   elsewhere_of d1 outside = record { seen = outside.seen; named = outside.named; flushed = outside.flushed; alone = outside.alone; honest = outside.honest }
 
   -- the state that a crash leaves
-  left_as : (d1 : DiskState) (base : Base) → LeavesOnly d0 d1 (StandsForBaseOrWasLeft keyed path d0 base) → LeavesOnly d0 d1 (StandsOrWasLeft (folder_place keyed path) d0 base)
+  left_as : (d1 : DiskState) (base : Base) → LeavesOnly d0 d1 (RepresentsBaseOrWasLeft keyed path d0 base) → LeavesOnly d0 d1 (RepresentsOrWasLeft (folder_place keyed path) d0 base)
   left_as d1 base run =
-      weaker_run d0 d1 (StandsForBaseOrWasLeft keyed path d0 base) (StandsOrWasLeft (folder_place keyed path) d0 base) run
-      (λ c left. ⊎_elim (λ (alone : StandsForBaseAlone keyed path d0 base c). inl (record { elsewhere = alone.outside; stands = alone.stands })) (λ was. inr was) left)
+      weaker_run d0 d1 (RepresentsBaseOrWasLeft keyed path d0 base) (RepresentsOrWasLeft (folder_place keyed path) d0 base) run
+      (λ c left. ⊎_elim (λ (alone : RepresentsBaseAlone keyed path d0 base c). inl (record { elsewhere = alone.outside; represented = alone.represented })) (λ was. inr was) left)
 
   pub is_opened : (s : StoreState) (links : List ℕ) (strange : Bool) (file : LinkFile) (before now : ℕ) → s.is_ready → Honestly s.disk (IsBegun keyed links path strange d0 s file) → IsOfFolder keyed path d0 s → before ≤ now
       → IsOpened (folder_place keyed path) (λ file. IsOwnLinks links path strange d0 file) d0 before now s file
   is_opened s links strange file before now ready begun of later = record {
     ready = ready;
     read = λ honest. record { of_links = (begun honest).of_links; ours = (begun honest).ours };
-    begun = λ honest. record { keeps = (begun honest).keeps; committed = (begun honest).committed; run = λ base stands. left_as s.disk base ((begun honest).run base stands) };
-    of_place = record { own = λ m. (of.own m).0; stands = of.stands; elsewhere = elsewhere_of s.disk of.outside };
+    begun = λ honest. record { keeps = (begun honest).keeps; committed = (begun honest).committed; run = λ base represented. left_as s.disk base ((begun honest).run base represented) };
+    of_place = record { own = λ m. (of.own m).0; represented = of.represented; elsewhere = elsewhere_of s.disk of.outside };
     later = later;
   }
 
   pub is_not_opened : (d1 : DiskState) (links base : List ℕ) (strange : Bool) (failed : Type 0) (fault : Fault) → Honestly d1 (IsFolderShut links base path strange failed d0 d1 fault)
-      → Honestly d1 ((b : Base) → StandsForBase keyed path b d0.seen → LeavesOnly d0 d1 (StandsForBaseOrWasLeft keyed path d0 b)) → KeepsOutside path d0 d1
+      → Honestly d1 ((b : Base) → RepresentsBase keyed path b d0.seen → LeavesOnly d0 d1 (RepresentsBaseOrWasLeft keyed path d0 b)) → KeepsOutside path d0 d1
       → IsNotOpened (folder_place keyed path) (IsFolderShut links base path strange failed d0 d1) d0 d1 fault
   is_not_opened d1 links base strange failed fault cause run outside = record {
     cause = cause;
-    crash = λ honest b stands. left_as d1 b (run honest b stands);
+    crash = λ honest b represented. left_as d1 b (run honest b represented);
     elsewhere = elsewhere_of d1 outside;
   }

@@ -13,7 +13,7 @@ use Rattle.base_file.specs.BaseFile.{AreSound, BaseOf, Begins, LoadOf, Loaded, h
 use Rattle.base_file.specs.Pieces.{BeginsWith, IsJudged}
 use Rattle.base_file.specs.declared.piece.Next.TheVariants as next
 use Rattle.base_file.specs.declared.base.loading.Head.{Head}
-use Rattle.base_file.proofs.LoneMessages.{stands_alone}
+use Rattle.base_file.proofs.LoneMessages.{represented_alone}
 use Rattle.base_file.proofs.Loaded.{all_filed, loaded_is_base}
 use Rattle.base_file.proofs.Loading.{base_is, say_more, whole_loads}
 use Rattle.base_file.proofs.Pieces.{head_begins, next_begins}
@@ -32,7 +32,7 @@ use Rattle.station_bases.proofs.EntryMore.{keep_more, head_long as head_size}
 
 all_alone : (cursor : ℕ) (earlier : List Filed) (all : List Stored) → AreSound Second cursor earlier all → AllByRecursion MayStandAlone all
 all_alone cursor earlier [] sound = tt
-all_alone cursor earlier (s ∷ later) sound = (stands_alone s cursor earlier sound.0, all_alone cursor (earlier ++ message_in Second s ∷ []) later sound.1)
+all_alone cursor earlier (s ∷ later) sound = (represented_alone s cursor earlier sound.0, all_alone cursor (earlier ++ message_in Second s ∷ []) later sound.1)
 
 head_front : (cursor number : ℕ) (rest : List ℕ) → take 8 (head_bytes Second cursor number ++ rest) ≡ magic Second
 unfolding head_bytes
@@ -143,9 +143,9 @@ module _ (file : List ℕ) (head : Head) (e f : Entries) (j : AreJudged file hea
       let d = entry_digest e in
       let at_end = end_judged file head e j in
       let here : e.end - 16 ≡ 0 + length (flat_map (stored_bytes Second) j.all) = omega (arith, at_end) in
-      let told : number ≡ d (digested m) = digest ∙ ap d (ap digested_key s.judged.judges.2.own ∙ sym (of_key m)) in
+      let recorded : number ≡ d (digested m) = digest ∙ ap d (ap digested_key s.judged.judges.2.own ∙ sym (of_key m)) in
       let first : entry (e.end - 16) number ≡ keys_from d (0 + length (flat_map (stored_bytes Second) j.all)) (one ∷ []) =
-      (λ i. entry (here i) (told i)) ∙ sym (append-nil (entry (0 + length (flat_map (stored_bytes Second) j.all)) (d (digested m)))) in
+      (λ i. entry (here i) (recorded i)) ∙ sym (append-nil (entry (0 + length (flat_map (stored_bytes Second) j.all)) (d (digested m)))) in
       record {
         all = j.all ++ one ∷ [];
         begins = subst (λ (n : ℕ). Begins Second head.cursor head.number (j.all ++ one ∷ []) (drop n file) file) (sym end) (begun at new);

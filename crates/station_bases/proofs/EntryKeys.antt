@@ -2,9 +2,9 @@
 use Rattle.std.proofs.Common.{◌≡◌, ℕ, List, refl}
 use Rattle.base_log.specs.Standing.{BaseBytes}
 use Rattle.base_file.specs.Base.{Base}
-use Rattle.base_store.specs.Keys.{StandWhereTold, digested_key}
+use Rattle.base_store.specs.Keys.{AreWhereRecorded, digested_key}
 use Rattle.base_store.specs.Sip.{sip_digest}
-use Rattle.base_store.proofs.Placed.{stand_where_told}
+use Rattle.base_store.proofs.Placed.{stand_where_recorded}
 use Rattle.base_folder_store.specs.Answers.{HaveDigest}
 use Rattle.base_folder_store.specs.Held.{HoldsBase}
 use Rattle.base_folder_store.proofs.Seen.{id_digest, key_digest}
@@ -25,13 +25,13 @@ module _ (file : List ℕ) (e : Entries) (messages : List Filed) (cursor : ℕ) 
   unfolding base
   holds = record { files = are; cursor = refl }
 
-  pub where_told : StandWhereTold messages (message_bytes file e) e.keys.items
-  where_told = stand_where_told (entry_digest e) messages cursor (message_bytes file e) e.keys.items are
+  pub where_recorded : AreWhereRecorded messages (message_bytes file e) e.keys.items
+  where_recorded = stand_where_recorded (entry_digest e) messages cursor (message_bytes file e) e.keys.items are
 
-  pub key_told : (key : Key) (number : ℕ) → number ≡ entry_digest e (digested_key key) → HaveDigest (λ m. same_key (key_of m) key) number messages e.keys.items
+  pub key_recorded : (key : Key) (number : ℕ) → number ≡ entry_digest e (digested_key key) → HaveDigest (λ m. same_key (key_of m) key) number messages e.keys.items
   unfolding base
-  key_told key number is = key_digest sip_digest (as_folder file e cursor) base key number holds is
+  key_recorded key number is = key_digest sip_digest (as_folder file e cursor) base key number holds is
 
-  pub id_told : (id : List ℕ) (number : ℕ) → number ≡ entry_digest e id → HaveDigest (has_id id) number messages e.keys.items
+  pub id_recorded : (id : List ℕ) (number : ℕ) → number ≡ entry_digest e id → HaveDigest (has_id id) number messages e.keys.items
   unfolding base
-  id_told id number is = id_digest sip_digest (as_folder file e cursor) base id number holds is
+  id_recorded id number is = id_digest sip_digest (as_folder file e cursor) base id number holds is

@@ -12,11 +12,11 @@ use Rattle.base_file.specs.Base.{Base, IsBase, is_known}
 use Rattle.base_file.specs.BaseFile.{LoadOf, head_bytes, is_countable, saved_bytes, stored_at, stored_from}
 use Rattle.base_file.proofs.Saved.{saved_loads}
 use Rattle.base_file.proofs.SavedMessages.{all_more, countable_if, countable_parts, enough_more, saved_parts, stored_here}
-use Rattle.base_store.specs.Keys.{FolderStandsFor, IsPieceOf, digested, entry}
+use Rattle.base_store.specs.Keys.{FolderRepresents, IsPieceOf, digested, entry}
 use Rattle.base_store.specs.Store.{all_scanned, with_message}
 use Rattle.base_store.specs.Sip.{sip_digest}
 use Rattle.base_store.specs.declared.sip.SipDigest.{SipDigest}
-use Rattle.base_store.proofs.Placed.{stand_where_told}
+use Rattle.base_store.proofs.Placed.{stand_where_recorded}
 use Rattle.base_folder_store.specs.Added.{with_stored}
 use Rattle.base_folder_store.specs.Held.{HoldsBase, digest_by}
 use Rattle.base_log.specs.Standing.{BaseBytes}
@@ -69,7 +69,7 @@ unfolding is_countable
 scanned file e base plain was =
     let files = was.files in
     let within = files.holds.within in
-    let many = (stand_where_told (entry_digest e) base.messages base.cursor (message_bytes file e) e.keys.items files).many in
+    let many = (stand_where_recorded (entry_digest e) base.messages base.cursor (message_bytes file e) e.keys.items files).many in
     let end = length base.messages in
     let each : IsBase base.messages end = record { each = files.holds.each; new = files.holds.new; within = omega arith } in
     let same = same_forms base.cursor end 0 base.messages within (was.forms plain) in
@@ -136,11 +136,11 @@ pub added : HoldsOneMore → (file : List ℕ) (e f : Entries) (base : Base) (m 
     → is_known base.messages (key_of m) ≡ false → number ≡ entry_digest e (digested m)
     → f.digest ≡ e.digest → f.cursor ≡ e.cursor → f.end ≡ e.end → f.waiting.items ≡ e.waiting.items ++ bytes → f.keys.items ≡ e.keys.items ++ entry (e.end - 16 + length e.waiting.items) number
     → (f.odd ≡ false → (e.odd ≡ false) × (is_short Second 1 0 m ≡ false)) → HoldEntries file f (with_message base m)
-added law file e f base m bytes number was reach head alone filed is short room fits new told digest cursor end waits keys odd =
+added law file e f base m bytes number was reach head alone filed is short room fits new recorded digest cursor end waits keys odd =
     let files = was.files in
     let within = files.holds.within in
     let here = message_bytes file e in
-    let many = (stand_where_told (entry_digest e) base.messages base.cursor here e.keys.items files).many in
+    let many = (stand_where_recorded (entry_digest e) base.messages base.cursor here e.keys.items files).many in
     let front = length-take-le e.end file reach in
     let long : length here ≡ e.end - 16 + length e.waiting.items =
     omega (arith, length-append (drop 16 (take e.end file)) e.waiting.items, length-drop 16 (take e.end file), front) in
@@ -149,11 +149,11 @@ added law file e f base m bytes number was reach head alone filed is short room 
     let entries : e.keys.items ++ entry (length here) number ≡ f.keys.items = ap (λ (n : ℕ). e.keys.items ++ entry n number) long ∙ sym keys in
     let held : BaseBytes = record { messages = here; keys = e.keys.items; cursor = base.cursor; mark = record { owner = 0; first = e.digest.first; second = e.digest.second } } in
     let law_files = (law sip_digest held base m bytes (record { files = files; cursor = refl }) alone filed new (omega (arith, length-append here bytes, long, fits))).files in
-    let next = subst (λ (n : ℕ). FolderStandsFor (entry_digest e) (base.messages ++ m ∷ []) base.cursor (here ++ bytes) (e.keys.items ++ entry (length here) n)) (sym told) law_files in
+    let next = subst (λ (n : ℕ). FolderRepresents (entry_digest e) (base.messages ++ m ∷ []) base.cursor (here ++ bytes) (e.keys.items ++ entry (length here) n)) (sym recorded) law_files in
     record {
-      files = subst (λ (g : SipDigest). FolderStandsFor (sip_digest g.first g.second) (base.messages ++ m ∷ []) base.cursor (message_bytes file f) f.keys.items) (sym digest)
-          (subst (λ (l : List ℕ). FolderStandsFor (entry_digest e) (base.messages ++ m ∷ []) base.cursor l f.keys.items) more
-          (subst (λ (l : List ℕ). FolderStandsFor (entry_digest e) (base.messages ++ m ∷ []) base.cursor (here ++ bytes) l) entries next));
+      files = subst (λ (g : SipDigest). FolderRepresents (sip_digest g.first g.second) (base.messages ++ m ∷ []) base.cursor (message_bytes file f) f.keys.items) (sym digest)
+          (subst (λ (l : List ℕ). FolderRepresents (entry_digest e) (base.messages ++ m ∷ []) base.cursor l f.keys.items) more
+          (subst (λ (l : List ℕ). FolderRepresents (entry_digest e) (base.messages ++ m ∷ []) base.cursor (here ++ bytes) l) entries next));
       saved = sym more ∙ ap (λ (l : List ℕ). here ++ l) is ∙ saved_more base.cursor base.messages m within here was.saved;
       countable = count_more base.cursor base.messages m within was.countable (omega (arith, many, room)) short;
       forms = λ none. let both = odd none in keep_more base.cursor 0 base.messages m (was.forms both.0) (λ past. both.1);
@@ -164,9 +164,9 @@ added law file e f base m bytes number was reach head alone filed is short room 
 pub held_still : (file later : List ℕ) (e f : Entries) (base : Base) → message_bytes file e ≡ message_bytes later f → f.digest ≡ e.digest → f.cursor ≡ e.cursor → f.odd ≡ e.odd → f.keys.items ≡ e.keys.items
     → HoldEntries file e base → HoldEntries later f base
 held_still file later e f base more digest cursor odd keys was = record {
-  files = subst (λ (g : SipDigest). FolderStandsFor (sip_digest g.first g.second) base.messages base.cursor (message_bytes later f) f.keys.items) (sym digest)
-      (subst (λ (l : List ℕ). FolderStandsFor (entry_digest e) base.messages base.cursor l f.keys.items) more
-      (subst (λ (l : List ℕ). FolderStandsFor (entry_digest e) base.messages base.cursor (message_bytes file e) l) (sym keys) was.files));
+  files = subst (λ (g : SipDigest). FolderRepresents (sip_digest g.first g.second) base.messages base.cursor (message_bytes later f) f.keys.items) (sym digest)
+      (subst (λ (l : List ℕ). FolderRepresents (entry_digest e) base.messages base.cursor l f.keys.items) more
+      (subst (λ (l : List ℕ). FolderRepresents (entry_digest e) base.messages base.cursor (message_bytes file e) l) (sym keys) was.files));
   saved = sym more ∙ was.saved;
   countable = was.countable;
   forms = λ none. was.forms (sym odd ∙ none);
@@ -176,7 +176,7 @@ held_still file later e f base more digest cursor odd keys was = record {
 -- the number of its entries
 pub many_held : (file : List ℕ) (e : Entries) (base : Base) → HoldEntries file e base → length e.keys.items / 16 ≡ length base.messages
 many_held file e base was =
-    let many = (stand_where_told (entry_digest e) base.messages base.cursor (message_bytes file e) e.keys.items was.files).many in
+    let many = (stand_where_recorded (entry_digest e) base.messages base.cursor (message_bytes file e) e.keys.items was.files).many in
     omega (arith, many)
 
 -- and four bytes count them

@@ -8,13 +8,13 @@ use Rattle.disk_io.specs.Runs.{OneStepOn}
 use Rattle.disk_io.specs.Synced.{IsOnDisk}
 use Rattle.disk_io.proofs.Moments.{left_now}
 use Rattle.base_log.specs.AtRest.{IsStaged}
-use Rattle.base_log.specs.Log.{IsLog, IsShutAt, last_told, opened}
+use Rattle.base_log.specs.Log.{IsLog, IsShutAt, last_recorded, opened}
 use Rattle.base_log.specs.Names.{keys_of, log_of, messages_of}
-use Rattle.base_log.specs.Standing.{BaseBytes, IsEnded, StandsFor, base_at}
+use Rattle.base_log.specs.Standing.{BaseBytes, IsEnded, Represents, base_at}
 use Rattle.base_log.specs.declared.log.End.{End}
 use Rattle.base_log.specs.declared.log.CommitRecord.{CommitRecord}
 use Rattle.base_log.proofs.Paths.{keys_in, log_in, messages_in}
-use Rattle.base_log.proofs.Same.{AreThere-same, TellsBase-same}
+use Rattle.base_log.proofs.Same.{AreThere-same, RecordsBase-same}
 use Rattle.base_folder_store.specs.Held.{HoldsBase}
 use Rattle.base_folder_store.specs.Opened.{and_waiting, held_by, path_of}
 use Rattle.base_folder_store.specs.State.{IsUsable, state_of}
@@ -34,17 +34,17 @@ ended_same path bodies a c same (inr new) = inr (record {
 })
 
 -- and hold the same base
-stands_same : (path : List ℕ) (base : BaseBytes) (a c : Files) → ((m : List ℕ) → IsIn path m → c m ≡ a m) → StandsFor path base a → StandsFor path base c
-stands_same path base a c same was =
-    let told = last_told was.bodies in
-    let m = same (messages_of path told.number) (messages_in path told.number) in
-    let k = same (keys_of path told.number) (keys_in path told.number) in
+represented_same : (path : List ℕ) (base : BaseBytes) (a c : Files) → ((m : List ℕ) → IsIn path m → c m ≡ a m) → Represents path base a → Represents path base c
+represented_same path base a c same was =
+    let recorded = last_recorded was.bodies in
+    let m = same (messages_of path recorded.number) (messages_in path recorded.number) in
+    let k = same (keys_of path recorded.number) (keys_in path recorded.number) in
     record {
       bodies = was.bodies;
       log = subst (λ f. IsLog was.bodies (bytes_in f)) (sym (same (log_of path) (log_in path))) was.log;
       ended = ended_same path was.bodies a c same was.ended;
       there = AreThere-same path was.bodies a c m k was.there;
-      tells = TellsBase-same told path base a c m k was.tells;
+      recorded_base = RecordsBase-same recorded path base a c m k was.recorded_base;
     }
 
 -- the paths outside the folder
@@ -55,11 +55,11 @@ module _ (path : List ℕ) (d e : DiskState) (run : ChangesOnly (Outside path) d
   inside : (m : List ℕ) → IsIn path m → Outside path m → ⊥
   inside m is out = out is
 
-  base_same : (told : CommitRecord) → base_at e path told ≡ base_at d path told
-  base_same told =
-      let m = run.seen (messages_of path told.number) (inside (messages_of path told.number) (messages_in path told.number)) in
-      let k = run.seen (keys_of path told.number) (inside (keys_of path told.number) (keys_in path told.number)) in
-      λ i. record { messages = take told.messages (bytes_in (m i)); keys = take told.keys (bytes_in (k i)); cursor = told.cursor; mark = told.mark }
+  base_same : (recorded : CommitRecord) → base_at e path recorded ≡ base_at d path recorded
+  base_same recorded =
+      let m = run.seen (messages_of path recorded.number) (inside (messages_of path recorded.number) (messages_in path recorded.number)) in
+      let k = run.seen (keys_of path recorded.number) (inside (keys_of path recorded.number) (keys_in path recorded.number)) in
+      λ i. record { messages = take recorded.messages (bytes_in (m i)); keys = take recorded.keys (bytes_in (k i)); cursor = recorded.cursor; mark = recorded.mark }
 
   on_disk_same : (m : List ℕ) → IsIn path m → IsOnDisk d m → IsOnDisk e m
   on_disk_same m is on = record {
@@ -70,13 +70,13 @@ module _ (path : List ℕ) (d e : DiskState) (run : ChangesOnly (Outside path) d
   }
 
   -- a staged base stays staged
-  staged_same : (end : End) (told : CommitRecord) → IsStaged d path end told → IsStaged e path end told
-  staged_same end told was =
-      let m_in = messages_in path told.number in
-      let k_in = keys_in path told.number in
-      let messages = run.seen (messages_of path told.number) (inside (messages_of path told.number) m_in) in
-      let keys = run.seen (keys_of path told.number) (inside (keys_of path told.number) k_in) in
-      let same : base_at d path end.told ≡ base_at e path end.told = sym (base_same end.told) in
+  staged_same : (end : End) (recorded : CommitRecord) → IsStaged d path end recorded → IsStaged e path end recorded
+  staged_same end recorded was =
+      let m_in = messages_in path recorded.number in
+      let k_in = keys_in path recorded.number in
+      let messages = run.seen (messages_of path recorded.number) (inside (messages_of path recorded.number) m_in) in
+      let keys = run.seen (keys_of path recorded.number) (inside (keys_of path recorded.number) k_in) in
+      let same : base_at d path end.recorded ≡ base_at e path end.recorded = sym (base_same end.recorded) in
       record {
         log = record {
           bodies = was.log.bodies;
@@ -86,21 +86,21 @@ module _ (path : List ℕ) (d e : DiskState) (run : ChangesOnly (Outside path) d
           log = ap bytes_in (run.seen (log_of path) (inside (log_of path) (log_in path))) ∙ was.log.log;
           shut = was.log.shut;
           gate = was.log.gate;
-          told = was.log.told;
+          recorded = was.log.recorded;
           on_disk = on_disk_same (log_of path) (log_in path) was.log.on_disk;
           named = λ m is. run.named m (inside m is) (was.log.named m is);
         };
-        stands = λ c left.
+        represented = λ c left.
             let from = left_now d e (OneStepOn (DifferAt (Outside path)) d) run.any_moment c left in
-            subst (λ (b : BaseBytes). StandsFor path b c) same (stands_same path (base_at d path end.told) from.0 c (λ m is. from.2 m (inside m is)) (was.stands from.0 from.1));
-        shown = subst (λ (b : BaseBytes). StandsFor path b e.seen) same (stands_same path (base_at d path end.told) d.seen e.seen (λ m is. run.seen m (inside m is)) was.shown);
+            subst (λ (b : BaseBytes). Represents path b c) same (represented_same path (base_at d path end.recorded) from.0 c (λ m is. from.2 m (inside m is)) (was.represented from.0 from.1));
+        shown = subst (λ (b : BaseBytes). Represents path b e.seen) same (represented_same path (base_at d path end.recorded) d.seen e.seen (λ m is. run.seen m (inside m is)) was.shown);
         digit = was.digit;
         messages_there = subst (λ f. IsSome f) (sym messages) was.messages_there;
         keys_there = subst (λ f. IsSome f) (sym keys) was.keys_there;
-        messages_alone = run.alone (messages_of path told.number) (inside (messages_of path told.number) m_in) was.messages_alone;
-        keys_alone = run.alone (keys_of path told.number) (inside (keys_of path told.number) k_in) was.keys_alone;
-        messages_long = subst (λ f. told.messages ≤ length (bytes_in f)) (sym messages) was.messages_long;
-        keys_long = subst (λ f. told.keys ≤ length (bytes_in f)) (sym keys) was.keys_long;
+        messages_alone = run.alone (messages_of path recorded.number) (inside (messages_of path recorded.number) m_in) was.messages_alone;
+        keys_alone = run.alone (keys_of path recorded.number) (inside (keys_of path recorded.number) k_in) was.keys_alone;
+        messages_long = subst (λ f. recorded.messages ≤ length (bytes_in f)) (sym messages) was.messages_long;
+        keys_long = subst (λ f. recorded.keys ≤ length (bytes_in f)) (sym keys) was.keys_long;
         messages_behind = was.messages_behind;
         keys_behind = was.keys_behind;
       }
@@ -109,7 +109,7 @@ module _ (keyed : ℕ → ℕ → List ℕ → ℕ) (f : Folder) (message : Opti
   -- an open folder stays open, with its base and its committed base
   as_before : ChangesOnly (Outside (path_of f)) d e → IsUsable d f → HoldsAsBefore (state_of d keyed f message) (state_of e keyed f message)
   as_before run usable =
-      let held : held_by e f ≡ held_by d f = ap (λ (b : BaseBytes). and_waiting b f.waiting) (base_same (path_of f) d e run f.told) in
+      let held : held_by e f ≡ held_by d f = ap (λ (b : BaseBytes). and_waiting b f.waiting) (base_same (path_of f) d e run f.recorded) in
       record {
         ready = record {
           named = usable.named;
@@ -117,18 +117,18 @@ module _ (keyed : ℕ → ℕ → List ℕ → ℕ) (f : Folder) (message : Opti
               let was = usable.opened (run.honest honest) in
               record {
                 names = was.names;
-                staged = staged_same (path_of f) d e run f.end f.told was.staged;
+                staged = staged_same (path_of f) d e run f.end f.recorded was.staged;
                 keys = was.keys;
               };
         };
         keeps = λ base is. subst (λ (b : BaseBytes). HoldsBase keyed b base) (sym held) is;
-        committed = λ base is. subst (λ (b : BaseBytes). HoldsBase keyed b base) (sym (base_same (path_of f) d e run f.end.told)) is;
+        committed = λ base is. subst (λ (b : BaseBytes). HoldsBase keyed b base) (sym (base_same (path_of f) d e run f.end.recorded)) is;
       }
 
   pub given_back : IsGivenBack (state_of d keyed f message) d e (state_of e keyed f message)
   given_back = record {
-    settled = λ base before after same stands. record { bytes = stands.bytes; stands = stands_same (path_of f) stands.bytes before after same stands.stands; holds = stands.holds };
-    same = record { stands = λ base c. (λ is. is, λ is. is); own = λ m. (λ is. is, λ is. is); undoes = (λ is. is, λ is. is) };
+    settled = λ base before after same represented. record { bytes = represented.bytes; represented = represented_same (path_of f) represented.bytes before after same represented.represented; holds = represented.holds };
+    same = record { represented = λ base c. (λ is. is, λ is. is); own = λ m. (λ is. is, λ is. is); undoes = (λ is. is, λ is. is) };
     holds = λ usable run. as_before run usable;
   }
 

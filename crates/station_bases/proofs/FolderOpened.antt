@@ -13,11 +13,11 @@ use Rattle.base_folder.specs.declared.open_error.OpenError.{OpenError}
 use Rattle.base_folder.specs.declared.open_error.OpenError.TheVariants as unread
 use Rattle.station_bases.specs.Opening.{IsNotOpened}
 use Rattle.cmd_status.specs.declared.fault.Fault.{Fault}
-use Rattle.base_folder_store.specs.Held.{StandsForBase}
+use Rattle.base_folder_store.specs.Held.{RepresentsBase}
 use Rattle.base_log.proofs.Quiet.{seen_quiet as seen_same}
 
-pub quiet_stands : (keyed : ℕ → ℕ → List ℕ → ℕ) (path : List ℕ) (base : Base) (d e : DiskState) → ChangesNothing d e → StandsForBase keyed path base d.seen → StandsForBase keyed path base e.seen
-quiet_stands keyed path base d e quiet stands = subst (λ (f : Files). StandsForBase keyed path base f) (sym (seen_same d e quiet)) stands
+pub quiet_represented : (keyed : ℕ → ℕ → List ℕ → ℕ) (path : List ℕ) (base : Base) (d e : DiskState) → ChangesNothing d e → RepresentsBase keyed path base d.seen → RepresentsBase keyed path base e.seen
+quiet_represented keyed path base d e quiet represented = subst (λ (f : Files). RepresentsBase keyed path base f) (sym (seen_same d e quiet)) represented
 
 left_alone : (d e f : DiskState) (why : OpenError) → ChangesNothing d e → IsLeftAlone e f why → IsLeftAlone d f why
 left_alone d e f (unread.NotOwner address) quiet left = nothing_twice d e f quiet left
@@ -33,13 +33,13 @@ not_opened own other strange base path part failed d e f fault same more quiet s
   why = shut.why;
   wrong = subst (λ (a : Address). IsNotOurs a strange path d.seen shut.why) same (subst (λ (files : Files). IsNotOurs other strange path files shut.why) (seen_same d e quiet) shut.wrong);
   left = left_alone d e f shut.why quiet shut.left;
-  told = shut.told;
+  recorded = shut.recorded;
   cause = λ is. more (shut.cause is);
 }
 
 -- the same for a run
 pub opens_since : (path : List ℕ) (d e f : DiskState) → ChangesNothing d e → OpensOnly path e f → OpensOnly path d f
 opens_since path d e f quiet run = record {
-  any_moment = λ honest keyed base stands. opened_run_since keyed path d e f base quiet (run.any_moment honest keyed base (quiet_stands keyed path base d e quiet stands));
+  any_moment = λ honest keyed base represented. opened_run_since keyed path d e f base quiet (run.any_moment honest keyed base (quiet_represented keyed path base d e quiet represented));
   outside = outside_twice path d e f (outside_quiet path d e quiet) run.outside;
 }

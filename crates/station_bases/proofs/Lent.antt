@@ -30,8 +30,8 @@ module _ {S T : Type 0} (path own : List ℕ) (held : Held S T) (place : ℕ) (d
 
   pub given_back : IsGivenBack (file_state d path own held place) d e (file_state e path own held place)
   given_back = record {
-    settled = λ b before after same stands. subst (λ f. IsBaseGiven f b.messages b.cursor) (sym (same path (inr refl))) stands;
-    same = record { stands = λ b c. (λ is. is, λ is. is); own = λ m. (λ is. is, λ is. is); undoes = (λ is. is, λ is. is) };
+    settled = λ b before after same represented. subst (λ f. IsBaseGiven f b.messages b.cursor) (sym (same path (inr refl))) represented;
+    same = record { represented = λ b c. (λ is. is, λ is. is); own = λ m. (λ is. is, λ is. is); undoes = (λ is. is, λ is. is) };
     holds = λ ready run. record {
       ready = (ready.0, reach_seen d e path held (run.seen path own_path) run.honest ready.1);
       keeps = λ b is. held_seen d e path held (run.seen path own_path) b is;

@@ -14,8 +14,8 @@ use Rattle.cmd_status.specs.Inputs.{IsBaseGiven}
 use Rattle.cmd_status.specs.declared.fault.Fault.{Fault}
 use Rattle.station.specs.Links.{AreLinks}
 use Rattle.station.specs.Opening.{IsNotOpened, IsOpenFor, IsOpened}
-use Rattle.station.specs.Place.{IsOfPlace, KeepsElsewhere, StandsOrWasLeft}
-use Rattle.station_bases.specs.InFile.{IsHeld, IsWithinReach, StandsInFile, file_state}
+use Rattle.station.specs.Place.{IsOfPlace, KeepsElsewhere, RepresentsOrWasLeft}
+use Rattle.station_bases.specs.InFile.{IsHeld, IsWithinReach, RepresentsInFile, file_state}
 use Rattle.station_bases.specs.declared.held.Held.{Held}
 use Rattle.station_bases.specs.Reading.{IsFileShut, IsSettled, IsShutFor, file_place}
 
@@ -42,24 +42,24 @@ quiet_elsewhere path d0 d1 quiet = record {
 }
 
 module _ {S T : Type 0} (d0 d1 : DiskState) (path own : List ℕ) (held : Held S T) (place : ℕ) (quiet : ChangesNothing d0 d1) where
-  opened_file : IsSettled d1 path → ((b : Base) → StandsInFile path b d0.seen → IsHeld d1 path held b) → IsOpenFor (file_place path) d0 (file_state d1 path own held place)
+  opened_file : IsSettled d1 path → ((b : Base) → RepresentsInFile path b d0.seen → IsHeld d1 path held b) → IsOpenFor (file_place path) d0 (file_state d1 path own held place)
   opened_file on only = record {
     keeps = only;
-    committed = λ b stands.
-        let seen = subst (λ f. IsBaseGiven f b.messages b.cursor) (sym (quiet.seen path)) stands in
+    committed = λ b represented.
+        let seen = subst (λ f. IsBaseGiven f b.messages b.cursor) (sym (quiet.seen path)) represented in
         record { seen = seen; left = λ c left. subst (λ f. IsBaseGiven f b.messages b.cursor) (sym (d1.on_disk path on.named on.flushed c left)) seen };
-    run = λ b stands. weaker_run d0 d1 d0.may_leave (StandsOrWasLeft (file_place path) d0 b) quiet.run (λ c left. inr left);
+    run = λ b represented. weaker_run d0 d1 d0.may_leave (RepresentsOrWasLeft (file_place path) d0 b) quiet.run (λ c left. inr left);
   }
 
   of_file : IsOfPlace (file_place path) d0 (file_state d1 path own held place)
   of_file = record {
     own = λ m of. (own, of);
-    stands = λ b c. (λ h. h, λ h. h);
+    represented = λ b c. (λ h. h, λ h. h);
     elsewhere = quiet_elsewhere path d0 d1 quiet;
   }
 
   pub is_opened : (links : List ℕ) (file : LinkFile) (before now : ℕ) → before ≤ now → All (λ b. b ≢ 47) own → IsWithinReach d1 path held → Honestly d1 (AreLinks d0 links file) → Honestly d1 (IsSettled d1 path)
-      → Honestly d1 ((b : Base) → StandsInFile path b d0.seen → IsHeld d1 path held b)
+      → Honestly d1 ((b : Base) → RepresentsInFile path b d0.seen → IsHeld d1 path held b)
       → IsOpened (file_place path) (λ file. AreLinks d0 links file) d0 before now (file_state d1 path own held place) file
   is_opened links file before now later plain reach read on only = record {
     ready = (plain, reach);
@@ -73,6 +73,6 @@ pub is_not_opened : (links path : List ℕ) (F : Type 0) (d0 d1 : DiskState) (fa
     → IsNotOpened (file_place path) (IsShutFor links path F d0 d1) d0 d1 fault
 is_not_opened links path F d0 d1 fault quiet shut = record {
   cause = λ honest. (quiet, shut honest);
-  crash = λ honest base stands. weaker_run d0 d1 d0.may_leave (StandsOrWasLeft (file_place path) d0 base) quiet.run (λ c left. inr left);
+  crash = λ honest base represented. weaker_run d0 d1 d0.may_leave (RepresentsOrWasLeft (file_place path) d0 base) quiet.run (λ c left. inr left);
   elsewhere = quiet_elsewhere path d0 d1 quiet;
 }

@@ -9,23 +9,23 @@ use Rattle.disk_atomic.specs.Changes.{ChangesOnly, HasOnDisk}
 use Rattle.disk_atomic.specs.Replacing.{Replaces}
 use Rattle.disk_atomic.specs.StagingPaths.{staging_path}
 use Rattle.cmd_status.specs.Inputs.{IsBaseGiven}
-use Rattle.base_store.specs.Store.{CommitsNothing, GoesOn, IsSameStore, KeepsBeside, LeavesCommitted, LeavesEither, LooksOn, MayCommit, StoreState}
-use Rattle.station_bases.specs.InFile.{IsHeld, IsInFile, IsOfFile, IsWithinReach, PutsBase, StandsInFile, file_state}
+use Rattle.base_store.specs.Store.{CommitsNothing, GoesOn, IsSameStore, KeepsOthers, LeavesCommitted, LeavesEither, LooksOn, MayCommit, StoreState}
+use Rattle.station_bases.specs.InFile.{IsHeld, IsInFile, IsOfFile, IsWithinReach, PutsBase, RepresentsInFile, file_state}
 use Rattle.station_bases.specs.declared.held.Held.{Held}
 
-pub stands_now : (path bytes : List ℕ) (base : Base) (c : Files) → IsBaseGiven (Some bytes) base.messages base.cursor → c path ≡ Some bytes → StandsInFile path base c
-stands_now path bytes base c says is = subst (λ f. IsBaseGiven f base.messages base.cursor) (sym is) says
+pub represented_now : (path bytes : List ℕ) (base : Base) (c : Files) → IsBaseGiven (Some bytes) base.messages base.cursor → c path ≡ Some bytes → RepresentsInFile path base c
+represented_now path bytes base c says is = subst (λ f. IsBaseGiven f base.messages base.cursor) (sym is) says
 
 pub put_run : (path own bytes : List ℕ) (base : Base) (d0 d1 : DiskState) → IsBaseGiven (Some bytes) base.messages base.cursor
     → LeavesOnly d0 d1 (OneStepOn (Replaces path (staging_path path own) bytes) d0) → LeavesOnly d0 d1 (OneStepOn (PutsBase path own base) d0)
 put_run path own bytes base d0 d1 says run =
     weaker_run d0 d1 (OneStepOn (Replaces path (staging_path path own) bytes) d0) (OneStepOn (PutsBase path own base) d0) run
-    (λ c step. (step.0, step.1, record { others = step.2.others; either = ⊎_elim (λ was. inl was) (λ is. inr (stands_now path bytes base c says is)) step.2.either }))
+    (λ c step. (step.0, step.1, record { others = step.2.others; either = ⊎_elim (λ was. inl was) (λ is. inr (represented_now path bytes base c says is)) step.2.either }))
 
 pub put_now : (path bytes : List ℕ) (base : Base) (d : DiskState) → IsBaseGiven (Some bytes) base.messages base.cursor → HasOnDisk d path bytes → IsInFile d path base
 put_now path bytes base d says on = record {
-  seen = stands_now path bytes base d.seen says on.seen;
-  left = λ c left. stands_now path bytes base c says (d.on_disk path on.named on.flushed c left ∙ on.seen);
+  seen = represented_now path bytes base d.seen says on.seen;
+  left = λ c left. represented_now path bytes base c says (d.on_disk path on.named on.flushed c left ∙ on.seen);
 }
 
 -- a committed base stays committed
@@ -43,7 +43,7 @@ module _ {S T : Type 0} (path own : List ℕ) (held later : Held S T) (d0 d1 : D
   new = file_state d1 path own later p1
 
   same : IsSameStore old new
-  same = record { stands = λ b c. (λ h. h, λ h. h); own = λ m. (λ h. h, λ h. h); undoes = (λ h. h, λ h. h) }
+  same = record { represented = λ b c. (λ h. h, λ h. h); own = λ m. (λ h. h, λ h. h); undoes = (λ h. h, λ h. h) }
 
   -- a look at the file
   pub looks_file : ChangesNothing d0 d1 → All (λ b. b ≢ 47) own → IsWithinReach d1 path later → ((b : Base) → IsHeld d0 path held b → IsHeld d1 path later b) → ((b : Base) → IsHeld d1 path later b → IsHeld d0 path held b) → LooksOn old new
@@ -56,8 +56,8 @@ module _ {S T : Type 0} (path own : List ℕ) (held later : Held S T) (d0 d1 : D
     same = same;
   }
 
-  quiet_beside : ChangesNothing d0 d1 → KeepsBeside old new
-  quiet_beside quiet = record {
+  quiet_others : ChangesNothing d0 d1 → KeepsOthers old new
+  quiet_others quiet = record {
     seen = λ m other. quiet.seen m;
     named = λ m other is. quiet.named m (λ h. h) is;
     flushed = λ m other is. quiet.flushed m (λ h. h) is;
@@ -69,16 +69,16 @@ module _ {S T : Type 0} (path own : List ℕ) (held later : Held S T) (d0 d1 : D
   pub quiet_commits : ChangesNothing d0 d1 → CommitsNothing old new
   quiet_commits quiet = record {
     any_moment = λ honest base is.
-        weaker_run d0 d1 d0.may_leave (LeavesCommitted old base) quiet.run (λ c left. record { beside = λ m other named flushed. d0.on_disk m named flushed c left; stands = is.left c left });
-    beside = quiet_beside quiet;
+        weaker_run d0 d1 d0.may_leave (LeavesCommitted old base) quiet.run (λ c left. record { others = λ m other named flushed. d0.on_disk m named flushed c left; represented = is.left c left });
+    others = quiet_others quiet;
     same = same;
   }
 
   pub quiet_may_commit : ChangesNothing d0 d1 → MayCommit old new
   quiet_may_commit quiet = record {
     any_moment = λ honest first next was is.
-        weaker_run d0 d1 d0.may_leave (LeavesEither old first next) quiet.run (λ c left. record { beside = λ m other named flushed. d0.on_disk m named flushed c left; stands = inl (was.left c left) });
-    beside = quiet_beside quiet;
+        weaker_run d0 d1 d0.may_leave (LeavesEither old first next) quiet.run (λ c left. record { others = λ m other named flushed. d0.on_disk m named flushed c left; represented = inl (was.left c left) });
+    others = quiet_others quiet;
     same = same;
   }
 
@@ -92,9 +92,9 @@ module _ {S T : Type 0} (path own : List ℕ) (held later : Held S T) (d0 d1 : D
     any_moment = λ honest first next was is.
         weaker_run d0 d1 (OneStepOn (PutsBase path own next) d0) (LeavesEither old first next) (run honest next is)
         (λ c step. record {
-          beside = λ m other named flushed. step.2.others m other ∙ d0.on_disk m named flushed step.0 step.1;
-          stands = ⊎_elim (λ (one : c path ≡ step.0 path). inl (subst (λ f. IsBaseGiven f first.messages first.cursor) (sym one) (was.left step.0 step.1))) (λ now. inr now) step.2.either;
+          others = λ m other named flushed. step.2.others m other ∙ d0.on_disk m named flushed step.0 step.1;
+          represented = ⊎_elim (λ (one : c path ≡ step.0 path). inl (subst (λ f. IsBaseGiven f first.messages first.cursor) (sym one) (was.left step.0 step.1))) (λ now. inr now) step.2.either;
         });
-    beside = record { seen = changes.seen; named = changes.named; flushed = changes.flushed; alone = changes.alone; honest = changes.honest };
+    others = record { seen = changes.seen; named = changes.named; flushed = changes.flushed; alone = changes.alone; honest = changes.honest };
     same = same;
   }

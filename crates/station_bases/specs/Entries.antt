@@ -9,7 +9,7 @@ use Rattle.base_file.specs.Base.{Base}
 use Rattle.base_file.specs.BaseFile.{head_bytes, is_countable, stored_from}
 use Rattle.base_folder_store.specs.Ahead.{IsPartOf}
 use Rattle.base_store.specs.Index.{IsIndexOf}
-use Rattle.base_store.specs.Keys.{FolderStandsFor}
+use Rattle.base_store.specs.Keys.{FolderRepresents}
 use Rattle.base_store.specs.Sip.{sip_digest}
 use Rattle.base_store.specs.declared.store_error.StoreError.{StoreError}
 use Rattle.base_store.specs.declared.store_error.StoreError.TheVariants as error
@@ -47,7 +47,7 @@ pub record CanLookUp (disk : DiskState) (path : List ℕ) (e : Entries) : Type 0
 
 -- The entries and the bytes are those of these messages.
 abbrev pub AreEntriesOf : List ℕ → Entries → List Filed → ℕ → Type 0
-AreEntriesOf file e messages cursor = FolderStandsFor (entry_digest e) messages cursor (message_bytes file e) e.keys.items
+AreEntriesOf file e messages cursor = FolderRepresents (entry_digest e) messages cursor (message_bytes file e) e.keys.items
 
 -- No message from the cursor on changes its stored form when it is scanned.
 abbrev pub KeepForms : ℕ → ℕ → List Filed → Type 0

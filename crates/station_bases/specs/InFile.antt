@@ -14,13 +14,13 @@ use Rattle.station_bases.specs.declared.held.Held.{Held}
 use Rattle.station_bases.specs.declared.held.Held.TheVariants.{Apart, Whole}
 
 -- The path has a base file of this base, or there is no file and the base is empty.
-abbrev pub StandsInFile : List ℕ → Base → Files → Type 0
-StandsInFile path base c = IsBaseGiven (c path) base.messages base.cursor
+abbrev pub RepresentsInFile : List ℕ → Base → Files → Type 0
+RepresentsInFile path base c = IsBaseGiven (c path) base.messages base.cursor
 
 -- The file holds the base, as it is seen and after any crash.
 pub record IsInFile (disk : DiskState) (path : List ℕ) (base : Base) : Type 0 where
-  pub seen : StandsInFile path base disk.seen
-  pub left : (c : Files) → disk.may_leave c → StandsInFile path base c
+  pub seen : RepresentsInFile path base disk.seen
+  pub left : (c : Files) → disk.may_leave c → RepresentsInFile path base c
 
 -- The base file's path, or its staging path.
 abbrev pub IsOfFile : List ℕ → List ℕ → List ℕ → Type 0
@@ -68,7 +68,7 @@ file_state disk path own held place = record {
   keeps = λ b. IsHeld disk path held b;
   committed = λ b. IsInFile disk path b;
   at_hand = fetched_last held place;
-  stands = λ b c. StandsInFile path b c;
+  represented = λ b c. RepresentsInFile path b c;
   is_own = IsOfFile path own;
   undoes = Unit {0};
   is_full = IsFullHeld held;
@@ -84,4 +84,4 @@ rest_state disk rest = file_state disk rest.path.now rest.own rest.held rest.pla
 -- The path has its old file or a file of this base. The staging path may have any file, and all else is unchanged.
 pub record PutsBase (path own : List ℕ) (base : Base) (before after : Files) : Type 0 where
   pub others : DifferAt (IsOfFile path own) before after
-  pub either : (after path ≡ before path) ⊎ StandsInFile path base after
+  pub either : (after path ≡ before path) ⊎ RepresentsInFile path base after

@@ -3,7 +3,7 @@ use Rattle.std.specs.Prelude.{◌⊎◌, ℕ, Bool, List}
 use Rattle.echo_addr.specs.declared.address.Address.{Address}
 use Rattle.base_folder.specs.Ours.{IsOfOther}
 use Rattle.disk_io.specs.Disk.{DiskState, IsIn}
-use Rattle.base_folder_store.specs.Held.{StandsForBase}
+use Rattle.base_folder_store.specs.Held.{RepresentsBase}
 use Rattle.station_bases.specs.Opening.{IsLockedOut, IsShut}
 use Rattle.echo_links.specs.Links.{LinkFile}
 use Rattle.station.specs.Links.{AreLinks}
@@ -12,7 +12,7 @@ use Rattle.station.specs.Place.{Place}
 
 -- The place of a base folder.
 abbrev pub folder_place : (ℕ → ℕ → List ℕ → ℕ) → List ℕ → Place
-folder_place keyed path = record { stands_for = λ base c. StandsForBase keyed path base c; is_own = λ m. IsIn path m }
+folder_place keyed path = record { represents = λ base c. RepresentsBase keyed path base c; is_own = λ m. IsIn path m }
 
 -- The link file reads as this, and the folder belongs to no other system.
 pub record IsOwnLinks (links path : List ℕ) (strange : Bool) (disk : DiskState) (file : LinkFile) : Type 0 where

@@ -3,14 +3,14 @@ use Rattle.std.specs.Prelude.{◌≡◌, ◌⊎◌, ◌↔◌, ℕ, Bool, List}
 use Rattle.echo_addr.specs.declared.address.Address.{Address}
 use Rattle.base_file.specs.Base.{Base}
 use Rattle.base_folder.specs.Ours.{IsLeftAlone, IsNotOurs, IsOfOther}
-use Rattle.base_folder.specs.OpenError.{IsToldAs}
+use Rattle.base_folder.specs.OpenError.{IsReportedAs}
 use Rattle.base_folder.specs.declared.open_error.OpenError.{OpenError}
 use Rattle.base_folder.specs.declared.open_error.OpenError.TheVariants as unread
 use Rattle.base_folder.specs.Unopened.{HasOpened, HaveRoom, IsOpenedFor}
 use Rattle.disk_io.specs.Disk.{DiskState, Files, Honestly, IsIn}
 use Rattle.disk_io.specs.Runs.{ChangesNothing, LeavesOnly}
 use Rattle.base_log.specs.Moments.{KeepsOutside}
-use Rattle.base_folder_store.specs.Held.{StandsForBase, StandsForBaseOrWasLeft}
+use Rattle.base_folder_store.specs.Held.{RepresentsBase, RepresentsBaseOrWasLeft}
 use Rattle.base_folder_store.specs.declared.folder.Folder.{Folder}
 use Rattle.echo_links.specs.Links.{LinkFile}
 use Rattle.station.specs.Faults.{FailsAt}
@@ -23,7 +23,7 @@ pub record IsNotOpened (own : Address) (strange : Bool) (base path : List ℕ) (
   pub why : OpenError
   pub wrong : IsNotOurs own strange path old.seen why
   pub left : IsLeftAlone old new why
-  pub told : IsToldAs base why fault
+  pub recorded : IsReportedAs base why fault
   pub cause : why ≡ unread.Device → failed
 
 -- Nothing was changed: there are no links, or the folder cannot be locked.
@@ -41,20 +41,20 @@ pub record IsShut (links base path : List ℕ) (strange : Bool) (failed : Type 0
 pub record IsBegun (keyed : ℕ → ℕ → List ℕ → ℕ) (links path : List ℕ) (strange : Bool) (old : DiskState) (s : StoreState) (file : LinkFile) : Type 0 where
   pub of_links : AreLinks old links file
   pub ours : (address : Address) → IsOfOther file.system strange path old.seen address → ⊥
-  pub keeps : (base : Base) → StandsForBase keyed path base old.seen → s.keeps base
-  pub committed : (base : Base) → StandsForBase keyed path base old.seen → s.committed base
-  pub run : (base : Base) → StandsForBase keyed path base old.seen → LeavesOnly old s.disk (StandsForBaseOrWasLeft keyed path old base)
+  pub keeps : (base : Base) → RepresentsBase keyed path base old.seen → s.keeps base
+  pub committed : (base : Base) → RepresentsBase keyed path base old.seen → s.committed base
+  pub run : (base : Base) → RepresentsBase keyed path base old.seen → LeavesOnly old s.disk (RepresentsBaseOrWasLeft keyed path old base)
 
 -- The link file is read, and the folder is open for its system. The folder is no other system's, and holds the same base.
 pub record IsOpenStation (links path : List ℕ) (strange : Bool) (first second : ℕ) (old new : DiskState) (file : LinkFile) (folder : Folder) : Type 0 where
   pub of_links : Honestly new (AreLinks old links file)
   pub own : IsOpenedFor path file.system first second new folder
   pub other : Honestly new ((address : Address) → IsOfOther file.system strange path old.seen address → ⊥)
-  pub same : Honestly new ((keyed : ℕ → ℕ → List ℕ → ℕ) (base : Base) → HaveRoom keyed → StandsForBase keyed path base old.seen → HasOpened keyed new base folder)
+  pub same : Honestly new ((keyed : ℕ → ℕ → List ℕ → ℕ) (base : Base) → HaveRoom keyed → RepresentsBase keyed path base old.seen → HasOpened keyed new base folder)
 
 -- The store is that of this folder, calls are allowed, and nothing outside has changed.
 pub record IsOfFolder (keyed : ℕ → ℕ → List ℕ → ℕ) (path : List ℕ) (old : DiskState) (s : StoreState) : Type 0 where
   pub ready : s.is_ready
   pub own : (m : List ℕ) → s.is_own m ↔ IsIn path m
-  pub stands : (base : Base) (c : Files) → s.stands base c ↔ StandsForBase keyed path base c
+  pub represented : (base : Base) (c : Files) → s.represented base c ↔ RepresentsBase keyed path base c
   pub outside : KeepsOutside path old s.disk

@@ -8,11 +8,11 @@ use Rattle.cmd_status.specs.declared.fault.Fault.{Fault}
 use Rattle.cmd_status.specs.Ended.{IsOutOfMemory}
 use Rattle.cmd_status.specs.Inputs.{IsBaseFault}
 use Rattle.station.specs.Place.{Place}
-use Rattle.station_bases.specs.InFile.{IsOfFile, StandsInFile}
+use Rattle.station_bases.specs.InFile.{IsOfFile, RepresentsInFile}
 
 -- The place of a base file: its path, and its staging path for each system.
 abbrev pub file_place : List ℕ → Place
-file_place path = record { stands_for = λ base c. StandsInFile path base c; is_own = λ m. (own : List ℕ) × IsOfFile path own m }
+file_place path = record { represents = λ base c. RepresentsInFile path base c; is_own = λ m. (own : List ℕ) × IsOfFile path own m }
 
 -- Nothing has changed, and the count of the device's failures has not fallen.
 pub record ReadsOnly (old new : DiskState) (before now : ℕ) : Type 0 where

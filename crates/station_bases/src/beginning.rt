@@ -46,7 +46,7 @@ pub(crate) fn open_store<'a, D: Disk + Drop, H: Digest, L: FileLock, K: FileLock
     ensures locked { IfErr result (λ stopped. ((L.held lock.new ≡ Some at.entry.links.now) × (K.held held.new ≡ Some at.entry.base.now)) ⊎ ChangesNothing (D.state disk) (D.state stopped.disk)) }
     ensures begun { IfOk result (λ begun. Honestly (D.state begun.store.disk)
         (IsBegun H.keyed at.entry.links.now at.entry.path.now found.strange (D.state disk) (⟦<FolderStore<D, H> as Store>⟧.state begun.store) begun.links)) }
-    ensures of_folder { IfOk result (λ begun. IsOfFolder H.keyed at.entry.path.now (D.state disk) (⟦<FolderStore<D, H> as Store>⟧.state begun.store) × (begun.store.folder.told.mark.owner ≡ number_of begun.links.system)) }
+    ensures of_folder { IfOk result (λ begun. IsOfFolder H.keyed at.entry.path.now (D.state disk) (⟦<FolderStore<D, H> as Store>⟧.state begun.store) × (begun.store.folder.recorded.mark.owner ≡ number_of begun.links.system)) }
     ensures later { IfOk result (λ begun. D.failures disk ≤ D.failures begun.store.disk) }
     ensures run { IfErr result (λ stopped. OpensOnly at.entry.path.now (D.state disk) (D.state stopped.disk)) }
     ensures err { IfErr result (λ stopped. Honestly (D.state stopped.disk) (

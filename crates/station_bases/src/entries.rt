@@ -3,7 +3,7 @@ ghost use Rattle.std.specs.Prelude.{◌≡◌, ◌≤◌, ◌<◌, ◌+◌, ◌-
 ghost use Rattle.disk_io.specs.Disk.{Honestly, bytes_in};
 ghost use Rattle.disk_io.specs.Runs.{ChangesNothing, HasCause};
 ghost use Rattle.echo_filed.specs.Filed.{Filed};
-ghost use Rattle.base_store.specs.Keys.{StandWhereTold};
+ghost use Rattle.base_store.specs.Keys.{AreWhereRecorded};
 ghost use Rattle.base_folder_store.specs.Answers.{Answers, HasReadCause, IsStoredOf};
 ghost use Rattle.base_folder_store.specs.Ahead.{IsPartOf};
 ghost use Rattle.station_bases.specs.Entries.{CanLookUp, IsWithinFile, message_bytes};
@@ -101,7 +101,7 @@ impl Entries {
         requires legible { Honestly (D.state disk.old) (IsWithinFile (D.state disk.old) path.now self.now) }
         requires head { 16 ≤ self.now.end }
         requires within { place < length self.now.keys.items / 16 }
-        ensures stored { Honestly (D.state disk.new) ((base : List Filed) → StandWhereTold base (message_bytes (bytes_in ((D.state disk.old).seen path.now)) self.now) self.now.keys.items
+        ensures stored { Honestly (D.state disk.new) ((base : List Filed) → AreWhereRecorded base (message_bytes (bytes_in ((D.state disk.old).seen path.now)) self.now) self.now.keys.items
             → place < length base → Answers (λ bytes. IsStoredOf base place bytes.items) result) }
         ensures quiet { ChangesNothing (D.state disk.old) (D.state disk.new) }
         ensures cause { HasReadCause (D.failures disk.old) (D.failures disk.new) result }
@@ -128,7 +128,7 @@ impl Entries {
     ) -> Result<Filed, StoreError>
         requires can { CanLookUp (D.state disk.old) path.now self.old }
         requires within { place < length self.old.keys.items / 16 }
-        ensures read { Honestly (D.state disk.new) ((base : List Filed) → StandWhereTold base (message_bytes (bytes_in ((D.state disk.old).seen path.now)) self.old) self.old.keys.items
+        ensures read { Honestly (D.state disk.new) ((base : List Filed) → AreWhereRecorded base (message_bytes (bytes_in ((D.state disk.old).seen path.now)) self.old) self.old.keys.items
             → place < length base → Answers (λ message. slice_get base place ≡ Some message) result) }
         ensures ahead { Honestly (D.state disk.new) (IsPartOf (bytes_in ((D.state disk.old).seen path.now)) self.new.ahead) }
         ensures same { self.new ≡ record self.old { ahead = self.new.ahead } }

@@ -5,7 +5,7 @@ ghost use Rattle.disk_io.specs.Disk.{Honestly, bytes_in};
 ghost use Rattle.disk_io.specs.Runs.{ChangesNothing};
 ghost use Rattle.echo_filed.specs.Filed.{Filed};
 ghost use Rattle.base_store.specs.Index.{IsIndexOf, covered};
-ghost use Rattle.base_store.specs.Keys.{StandWhereTold};
+ghost use Rattle.base_store.specs.Keys.{AreWhereRecorded};
 ghost use Rattle.base_folder_store.specs.Answers.{Answers, HasReadCause, HaveDigest};
 ghost use Rattle.station_bases.specs.Entries.{AreIndexed, CanLookUp, message_bytes};
 
@@ -53,7 +53,7 @@ impl Entries {
     ) -> Result<bool, StoreError>
         requires can { CanLookUp (D.state disk.old) path.now self.now }
         requires covered { length self.now.keys.items / 16 ≤ covered self.now.index digest }
-        ensures found { Honestly (D.state disk.new) ((base : List Filed) → StandWhereTold base (message_bytes (bytes_in ((D.state disk.old).seen path.now)) self.now) self.now.keys.items
+        ensures found { Honestly (D.state disk.new) ((base : List Filed) → AreWhereRecorded base (message_bytes (bytes_in ((D.state disk.old).seen path.now)) self.now) self.now.keys.items
             → HaveDigest (W.test sought.now) digest base self.now.keys.items
             → Answers (λ found. found ≡ list_any (W.test sought.now) base) result) }
         ensures quiet { ChangesNothing (D.state disk.old) (D.state disk.new) }
@@ -81,7 +81,7 @@ impl Entries {
         digest: u64,
     ) -> Result<bool, StoreError>
         requires can { CanLookUp (D.state disk.old) path.now self.old }
-        ensures found { Honestly (D.state disk.new) ((base : List Filed) → StandWhereTold base (message_bytes (bytes_in ((D.state disk.old).seen path.now)) self.old) self.old.keys.items
+        ensures found { Honestly (D.state disk.new) ((base : List Filed) → AreWhereRecorded base (message_bytes (bytes_in ((D.state disk.old).seen path.now)) self.old) self.old.keys.items
             → HaveDigest (W.test sought.now) digest base self.old.keys.items
             → Answers (λ found. found ≡ list_any (W.test sought.now) base) result) }
         ensures same { self.new ≡ record self.old { index = self.new.index } }

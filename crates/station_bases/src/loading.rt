@@ -9,7 +9,7 @@ ghost use Rattle.cmd_status.specs.Ended.{IsOutOfMemory};
 ghost use Rattle.cmd_status.specs.Inputs.{IsBaseFault, IsBaseGiven};
 ghost use Rattle.station.specs.Opening.{AreFree, HaveFailed};
 ghost use Rattle.station.specs.Faults.{IsFaultAt};
-ghost use Rattle.station_bases.specs.InFile.{IsHeld, IsWithinReach, StandsInFile};
+ghost use Rattle.station_bases.specs.InFile.{IsHeld, IsWithinReach, RepresentsInFile};
 ghost use Rattle.station_bases.specs.Reading.{IsFileShut, IsSettled, IsUnreadFor, ReadsOnly};
 
 use crate::entry_opening::open_entries;
@@ -85,7 +85,7 @@ fn open_apart<D: Disk, S: BuildHasher + Drop, T: MessageProgress>(
     hasher: S,
     watch: &T,
 ) -> Result<Option<Held<S>>, DiskError>
-    ensures held { Honestly (D.state disk.new) (IfOk result (λ found. IfSome found (λ held. (base : TheBase) → StandsInFile path.now base (D.state disk.old).seen → IsHeld (D.state disk.new) path.now held base))) }
+    ensures held { Honestly (D.state disk.new) (IfOk result (λ found. IfSome found (λ held. (base : TheBase) → RepresentsInFile path.now base (D.state disk.old).seen → IsHeld (D.state disk.new) path.now held base))) }
     ensures reach { IfOk result (λ found. IfSome found (IsWithinReach (D.state disk.new) path.now)) }
     ensures there { Honestly (D.state disk.new) (IfOk result (λ found. IfNone found (IsSome ((D.state disk.old).seen path.now)))) }
     ensures settled { Honestly (D.state disk.new) (OnOk result (IsSettled (D.state disk.new) path.now)) }
@@ -111,7 +111,7 @@ fn open_whole<'a, D: Disk, S: BuildHasher + Drop, T: MessageProgress>(
     watch: &T,
 ) -> Result<Base<S>, Fault<'a>>
     requires there { Honestly (D.state disk.old) (IsSome ((D.state disk.old).seen path.now)) }
-    ensures same { Honestly (D.state disk.new) ((base : TheBase) → StandsInFile path.entry.now base (D.state disk.old).seen → IfOk result (λ b. base ≡ b)) }
+    ensures same { Honestly (D.state disk.new) ((base : TheBase) → RepresentsInFile path.entry.now base (D.state disk.old).seen → IfOk result (λ b. base ≡ b)) }
     ensures reads { ReadsOnly (D.state disk.old) (D.state disk.new) (D.failures disk.old) (D.failures disk.new) }
     ensures err { Honestly (D.state disk.new) (IfErr result (IsUnreadFor path.entry.now (Failed (D.failures disk.old) (D.failures disk.new)) (D.state disk.old))) }
 {
@@ -137,7 +137,7 @@ fn base_at<
 ) -> Result<Held<S>, Fault<'a>>
     requires links_locked { L.held _locks.now.links ≡ Some at.links.now }
     requires base_locked { K.held _locks.now.base ≡ Some at.base.now }
-    ensures same { Honestly (D.state disk.new) ((base : TheBase) → StandsInFile at.entry.base.now base (D.state disk.old).seen → IfOk result (λ held. IsHeld (D.state disk.new) at.entry.base.now held base)) }
+    ensures same { Honestly (D.state disk.new) ((base : TheBase) → RepresentsInFile at.entry.base.now base (D.state disk.old).seen → IfOk result (λ held. IsHeld (D.state disk.new) at.entry.base.now held base)) }
     ensures reach { IfOk result (IsWithinReach (D.state disk.new) at.entry.base.now) }
     ensures settled { Honestly (D.state disk.new) (OnOk result (IsSettled (D.state disk.new) at.entry.base.now)) }
     ensures reads { ReadsOnly (D.state disk.old) (D.state disk.new) (D.failures disk.old) (D.failures disk.new) }
@@ -177,7 +177,7 @@ fn locked_base<
     requires free { K.held locks.old.base ≡ None }
     ensures locked { OnOk result (K.held locks.new.base ≡ Some at.entry.base.now) }
     ensures links { locks.new.links ≡ locks.old.links }
-    ensures same { Honestly (D.state disk.new) ((base : TheBase) → StandsInFile at.entry.base.now base (D.state disk.old).seen → IfOk result (λ held. IsHeld (D.state disk.new) at.entry.base.now held base)) }
+    ensures same { Honestly (D.state disk.new) ((base : TheBase) → RepresentsInFile at.entry.base.now base (D.state disk.old).seen → IfOk result (λ held. IsHeld (D.state disk.new) at.entry.base.now held base)) }
     ensures reach { IfOk result (IsWithinReach (D.state disk.new) at.entry.base.now) }
     ensures settled { Honestly (D.state disk.new) (OnOk result (IsSettled (D.state disk.new) at.entry.base.now)) }
     ensures reads { ReadsOnly (D.state disk.old) (D.state disk.new) (D.failures disk.old) (D.failures disk.new) }
@@ -204,7 +204,7 @@ pub(crate) fn read_station<
     requires { AreFree (L.held locks.old.links) (K.held locks.old.base) }
     ensures locked { OnOk result ((L.held locks.new.links ≡ Some at.entry.links.now) × (K.held locks.new.base ≡ Some at.entry.base.now)) }
     ensures order { K.held locks.new.base ≡ Some at.entry.base.now → L.held locks.new.links ≡ Some at.entry.links.now }
-    ensures read { Honestly (D.state disk.new) (IfOk result (λ read. AreLinks (D.state disk.old) at.entry.links.now read.links × ((base : TheBase) → StandsInFile at.entry.base.now base (D.state disk.old).seen → IsHeld (D.state disk.new) at.entry.base.now read.held base))) }
+    ensures read { Honestly (D.state disk.new) (IfOk result (λ read. AreLinks (D.state disk.old) at.entry.links.now read.links × ((base : TheBase) → RepresentsInFile at.entry.base.now base (D.state disk.old).seen → IsHeld (D.state disk.new) at.entry.base.now read.held base))) }
     ensures reach { IfOk result (λ read. IsWithinReach (D.state disk.new) at.entry.base.now read.held) }
     ensures plain { IfOk result (λ read. All (λ b. b ≢ 47) read.own) }
     ensures settled { Honestly (D.state disk.new) (OnOk result (IsSettled (D.state disk.new) at.entry.base.now)) }

@@ -8,7 +8,7 @@ ghost use Rattle.disk_io.specs.Device.{Failed};
 ghost use Rattle.disk_io.specs.Disk.{Honestly};
 ghost use Rattle.disk_io.specs.Runs.{ChangesNothing};
 ghost use Rattle.base_log.specs.Opening.{AreAlone};
-ghost use Rattle.base_folder_store.specs.Held.{StandsForBase};
+ghost use Rattle.base_folder_store.specs.Held.{RepresentsBase};
 ghost use Rattle.station.specs.Opening.{AreFree, HaveFailed};
 ghost use Rattle.station_bases.specs.Opening.{IsLockedOut, IsNotOpened, IsOpenStation, IsShut};
 
@@ -38,7 +38,7 @@ fn folder_at<'a, D: Disk, L: FileLock, K: FileLock>(
     requires alone { Honestly (D.state disk.old) (AreAlone at.path.now (D.state disk.old)) }
     ensures own { IfOk result (IsOpenedFor at.entry.path.now own found.key.0 found.key.1 (D.state disk.new)) }
     ensures other { Honestly (D.state disk.new) ((address : TheAddress) → IsOfOther own found.strange at.entry.path.now (D.state disk.old).seen address → OnOk result ⊥) }
-    ensures same { Honestly (D.state disk.new) ((keyed : ℕ → ℕ → List ℕ → ℕ) (base : Base) → HaveRoom keyed → StandsForBase keyed at.entry.path.now base (D.state disk.old).seen
+    ensures same { Honestly (D.state disk.new) ((keyed : ℕ → ℕ → List ℕ → ℕ) (base : Base) → HaveRoom keyed → RepresentsBase keyed at.entry.path.now base (D.state disk.old).seen
         → IfOk result (HasOpened keyed (D.state disk.new) base)) }
     ensures run { OpensOnly at.entry.path.now (D.state disk.old) (D.state disk.new) }
     ensures err { Honestly (D.state disk.new) (IfErr result (IsNotOpened own found.strange at.entry.base.now at.entry.path.now (Failed (D.failures disk.old) (D.failures disk.new)) (D.state disk.old) (D.state disk.new))) }

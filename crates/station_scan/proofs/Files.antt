@@ -5,7 +5,7 @@ use Rattle.std.proofs.lemmas.List.Elements.{All-contains, All-map}
 use Rattle.base_file.specs.Base.{Base}
 use Rattle.disk_io.specs.Disk.{DiskState, Files, bytes_in}
 use Rattle.disk_atomic.specs.ListStaged.{IsNameByte}
-use Rattle.disk_atomic.specs.Naming.{HasItsPath, StandsWhole}
+use Rattle.disk_atomic.specs.Naming.{HasItsPath, IsWholeAtEither}
 use Rattle.disk_atomic.specs.Outgoing.{IsAtStaging, IsFree, SendsBytes}
 use Rattle.disk_atomic.specs.declared.outgoing.Outgoing.{Outgoing}
 use Rattle.disk_atomic.proofs.Packets.{nobody}
@@ -116,7 +116,7 @@ module _ (to : Sending) (planned : AreRoutes to) (base : Base) (packets : List O
   files_bytes all = all_files HasBytes all
 
   -- packets that a crash leaves
-  pub are_whole : (c : Files) → All (StandsWhole (for_address (content_of to base)) c) packets → All (IsWhole to.outbound.now to.own.now c) (files_to to base)
+  pub are_whole : (c : Files) → All (IsWholeAtEither (for_address (content_of to base)) c) packets → All (IsWhole to.outbound.now to.own.now c) (files_to to base)
   are_whole c all = all_files (IsWhole to.outbound.now to.own.now c) (λ k z lt.
       let is = for.routed k z lt in ⊎_elim (λ e. inl (ap c (sym is.path) ∙ e)) (λ e. inr (ap c (sym is.staging) ∙ e)) (all k z lt))
 

@@ -41,13 +41,13 @@ module _ (Own : List ℕ → Type 0) (outbound own : List ℕ) (Stays Comes Stay
 
   looked_step : (c : Files) → After c → Before c
   looked_step c (inl step) =
-      inl (step.0, quiet.no_more step.0 step.1, record { between = step.2.between; ends = step.2.ends; writes = step.2.writes; stands = stays c step.2.stands })
+      inl (step.0, quiet.no_more step.0 step.1, record { between = step.2.between; ends = step.2.ends; writes = step.2.writes; represented = stays c step.2.represented })
   looked_step c (inr with) = inr (commits_looked c with)
 
   looked_moments : LeavesOnly d1 d2 After → LeavesOnly d0 d2 Before
   looked_moments run =
       then_run d0 d1 d2 Before After
-      (weaker_run d0 d1 d0.may_leave Before quiet.run (λ c left. inl (c, left, record { between = c; ends = finishes_none cursor found c; writes = λ m other. refl; stands = stood c left })))
+      (weaker_run d0 d1 d0.may_leave Before quiet.run (λ c left. inl (c, left, record { between = c; ends = finishes_none cursor found c; writes = λ m other. refl; represented = stood c left })))
       run looked_step
 
   looked_sent : (is_true : Type 0) (result : Result (Unit {0}) ScanError) → OnOk result (AreSentOut is_true Own outbound own Came cursor found files d1.seen d2) → OnOk result (AreSentOut is_true Own outbound own Comes cursor found files d0.seen d2)
@@ -97,9 +97,9 @@ looked_stop Own outbound own Stays Stayed cursor files d0 d1 d2 quiet stays stoo
       crash =
           then_run d0 d1 d2 (OneStepOn (PreparesScan outbound own Stays cursor found files) d0) (OneStepOn (PreparesScan outbound own Stayed cursor found files) d1)
           (weaker_run d0 d1 d0.may_leave (OneStepOn (PreparesScan outbound own Stays cursor found files) d0) quiet.run
-          (λ c left. (c, left, record { between = c; ends = finishes_none cursor found c; writes = λ m other. refl; stands = stood c left })))
+          (λ c left. (c, left, record { between = c; ends = finishes_none cursor found c; writes = λ m other. refl; represented = stood c left })))
           stops.crash
-          (λ c step. (step.0, quiet.no_more step.0 step.1, record { between = step.2.between; ends = step.2.ends; writes = step.2.writes; stands = stays c step.2.stands }));
+          (λ c step. (step.0, quiet.no_more step.0 step.1, record { between = step.2.between; ends = step.2.ends; writes = step.2.writes; represented = stays c step.2.represented }));
       shown = stays d2.seen stops.shown;
       others = λ m other. stops.others m other ∙ quiet.seen m;
       reported =

@@ -40,10 +40,10 @@ left_off Own is_true outbound own found each m is (l, among, at) =
 module _ (Own : List ℕ → Type 0) (outbound own : List ℕ) (is_true failed : Type 0) (cursor : ℕ) (files : List PacketFile) (s0 s1 : StoreState) (inside : (m : List ℕ) → s0.is_own m → Own m)
     (used : IsUsedAt (IsOfNameOff Own outbound own) s0 s1) (ready : s0.is_ready) (honest0 : s0.disk.is_honest) (first next : Base) (was : s0.committed first) where
   abbrev Stays : Files → Type 0
-  Stays = s0.stands first
+  Stays = s0.represented first
 
   abbrev Comes : Files → Type 0
-  Comes = s0.stands next
+  Comes = s0.represented next
 
   module _ (result1 : Result (Unit {0}) PlacingError) (ends : EndsLeft is_true Own outbound own cursor s0.disk s1.disk result1) where
     abbrev found : List Left
@@ -52,12 +52,12 @@ module _ (Own : List ℕ → Type 0) (outbound own : List ℕ) (is_true failed :
     abbrev May : Files → Type 0
     May c = OneStepOn (PreparesScan outbound own Stays cursor found files) s0.disk c ⊎ CommitsScan Own outbound own (IsOnDisk s0.disk) Stays Comes cursor found files s0.disk.seen c
 
-    stands_ended : (a c : Files) → s0.disk.may_leave a → FinishesEach cursor found a c → Stays c
-    stands_ended a c left finishes =
+    represented_ended : (a c : Files) → s0.disk.may_leave a → FinishesEach cursor found a c → Stays c
+    represented_ended a c left finishes =
         used.settled first a c (λ m is. finishes.others m (left_off Own is_true outbound own found ends.each m (inside m is))) (s0.stays honest0 ready first was a left)
 
     ended_moments : LeavesOnly s0.disk s1.disk May
-    ended_moments = grind (arith, weaker_run, stands_ended)
+    ended_moments = grind (arith, weaker_run, represented_ended)
 
     -- it stopped before
     pub not_sent : (cause : PlacingError) → (cause ≡ Device → failed) → (cause ≡ Taken → AreFreeLeft Own outbound own s0.disk.seen → ⊥) → SendsOut is_true failed Own outbound own Stays Comes cursor files s0.disk s1.disk (Err (Placing cause))
@@ -68,7 +68,7 @@ module _ (Own : List ℕ → Type 0) (outbound own : List ℕ) (is_true failed :
     Prepared = OneStepOn (PreparesScan outbound own Stays cursor found files) s0.disk
 
     pub stopped_only : LeavesOnly s0.disk s1.disk Prepared
-    stopped_only = grind (arith, weaker_run, stands_ended)
+    stopped_only = grind (arith, weaker_run, represented_ended)
 
     pub stopped_crash : (s2 : StoreState) → LeavesOnly s1.disk s2.disk (WritesStaging s1 outbound own files first) → LeavesOnly s0.disk s2.disk Prepared
     stopped_crash s2 run =
@@ -76,7 +76,7 @@ module _ (Own : List ℕ → Type 0) (outbound own : List ℕ) (is_true failed :
         (λ c over.
         let b = over.writes.0 in
         let at = left_now s0.disk s1.disk (OneStepOn (FinishesEach cursor found) s0.disk) ends.any_moment b over.writes.1 in
-        (at.0, at.1, record { between = b; ends = at.2; writes = over.writes.2; stands = (used.same.stands first c).0 over.stands }))
+        (at.0, at.1, record { between = b; ends = at.2; writes = over.writes.2; represented = (used.same.represented first c).0 over.represented }))
 
   -- they are finished
   module _ (ends : EndsLeft is_true Own outbound own cursor s0.disk s1.disk (Ok tt)) (s2 : StoreState) (honest2 : s2.disk.is_honest) (kept : KeepsStoreBut (IsOfThese s1.is_own outbound own files) s1 s2) (is : s0.keeps next) where
@@ -96,7 +96,7 @@ module _ (Own : List ℕ → Type 0) (outbound own : List ℕ) (is_true failed :
     sent_moment c (inl over) =
         let b = over.writes.0 in
         let at = left_now s0.disk s1.disk (OneStepOn (FinishesEach cursor these) s0.disk) ends.any_moment b over.writes.1 in
-        inl (at.0, at.1, record { between = b; ends = at.2; writes = over.writes.2; stands = (used.same.stands first c).0 over.stands })
+        inl (at.0, at.1, record { between = b; ends = at.2; writes = over.writes.2; represented = (used.same.represented first c).0 over.represented })
     sent_moment c (inr with) = inr (record {
       between = s1.disk.seen;
       ended = all_ended;
@@ -105,7 +105,7 @@ module _ (Own : List ℕ → Type 0) (outbound own : List ℕ) (is_true failed :
           with.others m (λ of. other (of_these m of))
           (⊎_elim (λ on. (ends.changes.named m on.1 on.0.0, ends.changes.flushed m on.1 on.0.1))
           (λ ended. (ends.named m (ended.0, ended.1, ⊎_elim (λ e. inl e) (λ p. inr p.0) ended.2), ends.flushed m ended)) at);
-      either = ⊎_elim (λ none. inl ((used.same.stands first c).0 none.0, none.1)) (λ all. inr ((used.same.stands next c).0 all.0, all.1, all.2)) with.either;
+      either = ⊎_elim (λ none. inl ((used.same.represented first c).0 none.0, none.1)) (λ all. inr ((used.same.represented next c).0 all.0, all.1, all.2)) with.either;
     })
 
     sent_crash : LeavesOnly s1.disk s2.disk (SendsThese s1 outbound own files first next) → LeavesOnly s0.disk s2.disk All_may
@@ -115,7 +115,7 @@ module _ (Own : List ℕ → Type 0) (outbound own : List ℕ) (is_true failed :
     sent_out made are sent =
         let kept_next = used.holds.keeps next is in
         let now = sent.committed.committed honest2 next kept_next in
-        let back : (c : Files) → s2.stands next c → Comes c = λ c stands. (used.same.stands next c).0 ((kept.same.stands next c).0 stands) in
+        let back : (c : Files) → s2.represented next c → Comes c = λ c represented. (used.same.represented next c).0 ((kept.same.represented next c).0 represented) in
         record {
           all = ends.all;
           between = s1.disk.seen;

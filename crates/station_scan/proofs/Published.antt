@@ -9,7 +9,7 @@ use Rattle.disk_io.specs.declared.disk_error.DiskError.{DiskError}
 use Rattle.disk_io.specs.Runs.{ChangesNothing, LeavesOnly, OneStepOn}
 use Rattle.disk_io.proofs.Moments.{then_run, weaker_run}
 use Rattle.disk_atomic.specs.Changes.{ChangesOnly, DifferAt, HasOnDisk}
-use Rattle.disk_atomic.specs.Naming.{HasItsPath, NamesEach, StandsWhole}
+use Rattle.disk_atomic.specs.Naming.{HasItsPath, NamesEach, IsWholeAtEither}
 use Rattle.disk_atomic.specs.Outgoing.{IsAtStaging, IsFilled, IsOfOne, IsStaged, SendsBytes, staged_in}
 use Rattle.disk_atomic.specs.Publishing.{IsApartFrom}
 use Rattle.disk_atomic.specs.declared.outgoing.Outgoing.{Outgoing}
@@ -64,7 +64,7 @@ holds_now s ready = record { ready = ready; keeps = λ base h. h; committed = λ
 -- ---- the content of packets by another function
 
 module _ (one other : Outgoing → List ℕ) (packets : List Outgoing) (same : All (λ p. one p ≡ other p) packets) where
-  pub whole_as : (c : Files) → All (StandsWhole one c) packets → All (StandsWhole other c) packets
+  pub whole_as : (c : Files) → All (IsWholeAtEither one c) packets → All (IsWholeAtEither other c) packets
   whole_as c all k z lt = grind (arith, get_or)
 
   pub bytes_as : All (SendsBytes one) packets → All (SendsBytes other) packets
@@ -92,13 +92,13 @@ module _ (packets : List Outgoing) (s0 : StoreState) (apart : All (IsApartFrom s
 
   -- the staging files are seen as before
   pub same_staged : All (λ p. staged_in s1.disk.seen p ≡ has p) packets
-  same_staged k z lt = ap bytes_in (may.beside.seen _ (apart k z lt).staging)
+  same_staged k z lt = ap bytes_in (may.others.seen _ (apart k z lt).staging)
 
   back_staged : All (λ p. has p ≡ staged_in s1.disk.seen p) packets
   back_staged k z lt = sym (same_staged k z lt)
 
   pub staged_still : All (IsStaged (staged_in s1.disk.seen) s1.disk) packets
-  staged_still k z lt = record { file = filled_as has (staged_in s1.disk.seen) packets back_staged s1.disk all_filled k z lt; named = may.beside.named _ (apart k z lt).path (staged.staged k z lt).named }
+  staged_still k z lt = record { file = filled_as has (staged_in s1.disk.seen) packets back_staged s1.disk all_filled k z lt; named = may.others.named _ (apart k z lt).path (staged.staged k z lt).named }
 
   committing : s1.disk.is_honest → (first next : Base) → s0.committed first → s0.keeps next → LeavesOnly s0.disk s1.disk (CommitsWith s0 (IsOfOne packets) has packets first next)
   committing honest first next was is = grind (arith, weaker_run, ⊎_elim, get_or)
@@ -112,11 +112,11 @@ module _ (packets : List Outgoing) (s0 : StoreState) (apart : All (IsApartFrom s
       then_run s0.disk s1.disk s2.disk (CommitsWith s0 (IsOfOne packets) has packets first next) (OneStepOn (NamesEach (staged_in s1.disk.seen) packets) s1.disk) (committing honest first next was is) names
       (λ c step. record {
         others = λ m out other on.
-            step.2.others m other ∙ s1.disk.on_disk m (may.beside.named m out on.0) (may.beside.flushed m out on.1) step.0 step.1 ∙ may.beside.seen m out;
+            step.2.others m other ∙ s1.disk.on_disk m (may.others.named m out on.0) (may.others.flushed m out on.1) step.0 step.1 ∙ may.others.seen m out;
         either = inr (
-          (may.same.stands next c).0 (used.settled next step.0 c (λ m own. step.2.others m (own_not m own)) (s1.stays honest commits.ready next next_committed step.0 step.1)),
+          (may.same.represented next c).0 (used.settled next step.0 c (λ m own. step.2.others m (own_not m own)) (s1.stays honest commits.ready next next_committed step.0 step.1)),
           whole_as (staged_in s1.disk.seen) has packets same_staged c step.2.whole,
-          staged.bytes (may.beside.honest honest),
+          staged.bytes (may.others.honest honest),
         );
       })
 
@@ -131,7 +131,7 @@ module _ (outbound trial : List ℕ) (content : Outgoing → List ℕ) (packets 
       weaker_run s0.disk s1.disk (OneStepOn (DifferAt (IsAtStaging packets trial)) s0.disk) (May first next) used.changes.any_moment
       (λ c step. inl (record {
         staged = step;
-        stands = used.settled first step.0 c (λ m own. step.2 m (own_not_staging s0 outbound trial packets going m own)) (s0.stays (used.changes.honest honest) ready first was step.0 step.1);
+        represented = used.settled first step.0 c (λ m own. step.2 m (own_not_staging s0 outbound trial packets going m own)) (s0.stays (used.changes.honest honest) ready first was step.0 step.1);
       }))
 
   going_at : (m : List ℕ) → IsAtStaging packets trial m → IsGoingAt packets trial m
@@ -148,8 +148,8 @@ module _ (outbound trial : List ℕ) (content : Outgoing → List ℕ) (packets 
         others = λ m out other on.
             with.others m (λ own. out ((used.same.own m).0 own)) (λ of. other (inl of)) (run.named m (not m other) on.0, run.flushed m (not m other) on.1) ∙ run.seen m (not m other);
         either =
-            ⊎_elim (λ none. inl ((used.same.stands first c).0 none.0, none.1))
-            (λ all. inr ((used.same.stands next c).0 all.0, whole_as (staged_in s1.disk.seen) content packets written c all.1, bytes_as (staged_in s1.disk.seen) content packets written all.2)) with.either;
+            ⊎_elim (λ none. inl ((used.same.represented first c).0 none.0, none.1))
+            (λ all. inr ((used.same.represented next c).0 all.0, whole_as (staged_in s1.disk.seen) content packets written c all.1, bytes_as (staged_in s1.disk.seen) content packets written all.2)) with.either;
       }))
 
   -- and the paths that it touches

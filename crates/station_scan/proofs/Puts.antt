@@ -99,12 +99,12 @@ module _ (Own : List ℕ → Type 0) (to : Sending) (own_is : to.own.now ≡ dot
     ]
 
     stops_put : (some : Type 0) → (some → failed) → (files : List PacketFile) (why : CommandError) (result : Result (Unit {0}) ScanError) → StopsFrom outbound own some s1 s2 base files why result
-        → StopsScan is_true failed Own outbound own (s0.stands base) cursor files s0.disk s2.disk why result
+        → StopsScan is_true failed Own outbound own (s0.represented base) cursor files s0.disk s2.disk why result
     stops_put some wider files why result stops = record {
       found = found;
       each = ends.each;
       crash = stopped_crash Own outbound own is_true failed cursor files s0 s1 inside used moved.ready honest0 base (all_scanned base) moved.committed (Ok tt) ends s2 stops.crash;
-      shown = (used.same.stands base s2.disk.seen).0 stops.shown;
+      shown = (used.same.represented base s2.disk.seen).0 stops.shown;
       others = λ m other. stops.others m (λ of. other (inr of)) ∙ ends.changes.seen m (λ of. other (inl of));
       reported = ⊎_elim (λ reported. inl (reported.0, λ m of. gone_or_was files m of (reported.1 m))) (λ reported. inr reported) (reports_wider some failed s1.disk.seen s2.disk.seen why result wider stops.reported);
     }
@@ -112,11 +112,11 @@ module _ (Own : List ℕ → Type 0) (to : Sending) (own_is : to.own.now ≡ dot
     module _ {D : Type 0} (state : D → DiskState) (some : Type 0) (wider : some → failed) (out now : Output) (result : Result (Unit {0}) ScanError) where
       put_made : (made : Result (List PacketFile) CommandError) → IsPutFrom state Own outbound own some s1 s2 base packets made result → IsPutOn Own outbound own IsTrue failed s0 s2 base packets made result
       put_made (Ok files) put =
-          subst (λ (n : ℕ). SendsOut is_true failed Own outbound own (s0.stands base) (s0.stands (all_scanned base)) n files s0.disk s2.disk result) same_cursor
+          subst (λ (n : ℕ). SendsOut is_true failed Own outbound own (s0.represented base) (s0.represented (all_scanned base)) n files s0.disk s2.disk result) same_cursor
           (sends_out Own outbound own is_true failed cursor files s0 s1 inside used moved.ready honest0 base (all_scanned base) moved.committed ends s2 honest2 put.keeps moved.keeps (λ b. files) refl result put.sent put.crash
           (subst (λ (n : ℕ). IfErr result (IsOfPlacing failed (AreTaken Own outbound own files s1.disk.seen) (most < n))) (sym same_cursor)
           (put_wider some failed (AreTaken Own outbound own files s1.disk.seen) (AreTaken Own outbound own files s1.disk.seen) (most < base.cursor) result wider (λ t. t) put.why)))
-      put_made (Err why) put = subst (λ (n : ℕ). StopsScan is_true failed Own outbound own (s0.stands base) n packets s0.disk s2.disk why result) same_cursor (stops_put some wider packets why result put)
+      put_made (Err why) put = subst (λ (n : ℕ). StopsScan is_true failed Own outbound own (s0.represented base) n packets s0.disk s2.disk why result) same_cursor (stops_put some wider packets why result put)
 
       pub scans_put : ScansFrom state Own to some s1 s2 out now base result → ScansOnStore to.source.stamp Own outbound IsTrue failed s0 s2 out now to.source.links.now base result
       scans_put scans = record { made = scans.made; answer = scans.answer; put = put_as s2 scans.made result (put_made scans.made scans.put); whole = scans.whole }
@@ -137,7 +137,7 @@ module _ (Own : List ℕ → Type 0) (to : Sending) (own_is : to.own.now ≡ dot
   -- they were not, and the lines were printed or not
   module _ (cause : PlacingError) (result1 : Result (Unit {0}) PlacingError) (ends : EndsLeft is_true Own outbound own cursor s0.disk s1.disk result1) (s2 : StoreState) (quiet : ChangesNothing s1.disk s2.disk) (honest1 : s1.disk.is_honest)
       (device : cause ≡ placing.Device → failed) (taken : cause ≡ placing.Taken → AreFreeLeft Own outbound own s0.disk.seen → ⊥) where
-    left_sends : SendsOut is_true failed Own outbound own (s0.stands base) (s0.stands (all_scanned base)) cursor packets s0.disk s2.disk (Err (Placing cause))
+    left_sends : SendsOut is_true failed Own outbound own (s0.represented base) (s0.represented (all_scanned base)) cursor packets s0.disk s2.disk (Err (Placing cause))
     left_sends =
         let before = not_sent Own outbound own is_true failed cursor packets s0 s1 inside used moved.ready honest0 base (all_scanned base) moved.committed result1 ends cause device taken in
         record { found = before.found; each = before.each; sent = tt; crash = then_nothing s0.disk s1.disk s2.disk _ before.crash quiet; why = before.why }
@@ -145,13 +145,13 @@ module _ (Own : List ℕ → Type 0) (to : Sending) (own_is : to.own.now ≡ dot
     left_why : (stop : CommandError) → (IsErrOf (store_answer {A = Unit {0}} (Err stop)) error.Device → failed) → (why : PlacingError) → why ≡ cause → IsOfPlacing failed ⊥ ⊥ (Staying (left_cause why stop))
     left_why stop h1 why h2 = grind arith
 
-    left_stops : (stop : CommandError) → (IsErrOf (store_answer {A = Unit {0}} (Err stop)) error.Device → failed) → StopsScan is_true failed Own outbound own (s0.stands base) cursor packets s0.disk s2.disk stop (Err (Staying (left_cause cause stop)))
+    left_stops : (stop : CommandError) → (IsErrOf (store_answer {A = Unit {0}} (Err stop)) error.Device → failed) → StopsScan is_true failed Own outbound own (s0.represented base) cursor packets s0.disk s2.disk stop (Err (Staying (left_cause cause stop)))
     left_stops stop device_of = record {
       found = ends.found;
       each = ends.each;
       crash =
           then_nothing s0.disk s1.disk s2.disk _ (stopped_only Own outbound own is_true failed cursor packets s0 s1 inside used moved.ready honest0 base (all_scanned base) moved.committed result1 ends) quiet;
-      shown = (used.same.stands base s2.disk.seen).0 (subst (λ (f : Files). s1.stands base f) (sym (same_seen s1.disk s2.disk quiet)) (s1.shown honest1 used.holds.ready base (used.holds.committed base moved.committed)));
+      shown = (used.same.represented base s2.disk.seen).0 (subst (λ (f : Files). s1.represented base f) (sym (same_seen s1.disk s2.disk quiet)) (s1.shown honest1 used.holds.ready base (used.holds.committed base moved.committed)));
       others = λ m other. quiet.seen m ∙ ends.changes.seen m (λ of. other (inl of));
       reported = inr (left_cause cause stop, refl, left_why stop device_of cause refl);
     }
@@ -177,7 +177,7 @@ scans_early Own outbound source IsTrue failed s0 s2 base out now why (Ok done) m
     sent = tt;
     crash =
         weaker_run s0.disk s2.disk s0.disk.may_leave _ quiet.run
-        (λ c left. inl (c, left, record { between = c; ends = finishes_none base.cursor [] c; writes = λ m other. refl; stands = s0.stays honest moved.ready base moved.committed c left }));
+        (λ c left. inl (c, left, record { between = c; ends = finishes_none base.cursor [] c; writes = λ m other. refl; represented = s0.stays honest moved.ready base moved.committed c left }));
     why = is;
   };
   whole = reported_whole why (Ok done) not whole;

@@ -14,7 +14,7 @@ use Rattle.model_steps.specs.declared.stamp.Stamp.{Stamp}
 use Rattle.base_store.specs.Store.{StoreState, all_scanned}
 use Rattle.cmd_store.specs.declared.command_error.CommandError.{CommandError}
 use Rattle.station.specs.Opening.{IsOpenFor}
-use Rattle.station.specs.Place.{IsOfPlace, KeepsElsewhere, Place, StandsAlone, StandsOrWasLeft}
+use Rattle.station.specs.Place.{IsOfPlace, KeepsElsewhere, Place, RepresentsAlone, RepresentsOrWasLeft}
 use Rattle.station_scan.specs.Fitting.{AreFit}
 use Rattle.station_scan.specs.Left.{AreAllLeft, IsLeftOf}
 use Rattle.station_scan.specs.Publishing.{IsOnDisk, UnchangedExcept, KeepsStoreBut}
@@ -58,12 +58,12 @@ elsewhere_keeps place outbound d0 d1 kept = grind arith
 
 module _ (place : Place) (d0 d2 : DiskState) (s1 s2 : StoreState) (begun : IsOpenFor place d0 s1) (of : IsOfPlace place d0 s1) (quiet : ChangesNothing s2.disk d2) (Own : List ℕ → Type 0)
     (own_in : (m : List ℕ) → Own m → place.is_own m) (in_own : (m : List ℕ) → place.is_own m → Own m) (outbound : List ℕ) where
-  module _ (own : List ℕ) (base : Base) (stands : place.stands_for base d0.seen) where
+  module _ (own : List ℕ) (base : Base) (represented : place.represents base d0.seen) where
     abbrev Stays : Files → Type 0
-    Stays = place.stands_for base
+    Stays = place.represents base
 
     abbrev Comes : Files → Type 0
-    Comes = place.stands_for (all_scanned base)
+    Comes = place.represents (all_scanned base)
 
     -- the steps before the commit
     module _ (files : List PacketFile) (found : List Left) where
@@ -71,12 +71,12 @@ module _ (place : Place) (d0 d2 : DiskState) (s1 s2 : StoreState) (begun : IsOpe
       Prepares = IsPreparing place outbound own d0 base found files
 
       abbrev Prepares_on : Files → Type 0
-      Prepares_on = OneStepOn (PreparesScan outbound own (s1.stands base) base.cursor found files) s1.disk
+      Prepares_on = OneStepOn (PreparesScan outbound own (s1.represented base) base.cursor found files) s1.disk
 
-      opened_prepares : (c : Files) → StandsOrWasLeft place d0 base c → d0.may_leave c ⊎ Prepares c
+      opened_prepares : (c : Files) → RepresentsOrWasLeft place d0 base c → d0.may_leave c ⊎ Prepares c
       opened_prepares c left =
           ⊎_elim
-          (λ (alone : StandsAlone place d0 base c). inr (c, inl alone, record { between = c; ends = finishes_none base.cursor found c; writes = λ m other. refl; stands = alone.stands }))
+          (λ (alone : RepresentsAlone place d0 base c). inr (c, inl alone, record { between = c; ends = finishes_none base.cursor found c; writes = λ m other. refl; represented = alone.represented }))
           (λ was. inl was)
           left
 
@@ -87,17 +87,17 @@ module _ (place : Place) (d0 d2 : DiskState) (s1 s2 : StoreState) (begun : IsOpe
       stopped_crash crash =
           let May : Files → Type 0 = λ c. d0.may_leave c ⊎ Prepares c in
           then_nothing d0 s2.disk d2 May
-          (then_run d0 s1.disk s2.disk May Prepares_on (weaker_run d0 s1.disk (StandsOrWasLeft place d0 base) May (begun.run base stands) opened_prepares) crash (λ c on. inr (prepared_on c on)))
+          (then_run d0 s1.disk s2.disk May Prepares_on (weaker_run d0 s1.disk (RepresentsOrWasLeft place d0 base) May (begun.run base represented) opened_prepares) crash (λ c on. inr (prepared_on c on)))
           quiet
 
     -- the report of a scan that stopped
-    stopped_told : (files : List PacketFile) (some failed : Type 0) (why : CommandError) (result : Result (Unit {0}) ScanError) → (some → failed) → ReportsStop some outbound own files s1.disk.seen s2.disk.seen why result
+    stopped_reported : (files : List PacketFile) (some failed : Type 0) (why : CommandError) (result : Result (Unit {0}) ScanError) → (some → failed) → ReportsStop some outbound own files s1.disk.seen s2.disk.seen why result
         → ReportsStop failed outbound own files s1.disk.seen d2.seen why result
-    stopped_told files some failed why result wider (inl (is, gone)) = inl (is, λ m at. ⊎_elim (λ none. inl (quiet.seen m ∙ none)) (λ same. inr (quiet.seen m ∙ same)) (gone m at))
-    stopped_told files some failed why result wider (inr (left, is, cause)) = inr (left, is, put_wider some failed ⊥ ⊥ ⊥ (Err (Staying left)) wider (λ none. none) cause)
+    stopped_reported files some failed why result wider (inl (is, gone)) = inl (is, λ m at. ⊎_elim (λ none. inl (quiet.seen m ∙ none)) (λ same. inr (quiet.seen m ∙ same)) (gone m at))
+    stopped_reported files some failed why result wider (inr (left, is, cause)) = inr (left, is, put_wider some failed ⊥ ⊥ ⊥ (Err (Staying left)) wider (λ none. none) cause)
 
     stopped_in : (files : List PacketFile) (IsTrue : Files → Type 0) (some failed : Type 0) (why : CommandError) (result : Result (Unit {0}) ScanError) → (some → failed)
-        → StopsScan (IsTrue s1.disk.seen) some Own outbound own (s1.stands base) base.cursor files s1.disk s2.disk why result → StopsScanIn place outbound own IsTrue failed d0 d2 base files why result
+        → StopsScan (IsTrue s1.disk.seen) some Own outbound own (s1.represented base) base.cursor files s1.disk s2.disk why result → StopsScanIn place outbound own IsTrue failed d0 d2 base files why result
     stopped_in files IsTrue some failed why result wider stops = record {
       opened = s1.disk.seen;
       elsewhere = of.elsewhere.seen;
@@ -105,12 +105,12 @@ module _ (place : Place) (d0 d2 : DiskState) (s1 s2 : StoreState) (begun : IsOpe
       each = λ k z lt. left_as Own place.is_own in_own outbound own (IsTrue s1.disk.seen) (get_or stops.found k z) (stops.each k z lt);
       crash = stopped_crash files stops.found stops.crash;
       lasts = λ c left. prepared_on files stops.found c (left_now s1.disk s2.disk (Prepares_on files stops.found) stops.crash c (quiet.no_more c left));
-      shown = subst Stays (sym (same_seen s2.disk d2 quiet)) ((of.stands base s2.disk.seen).0 stops.shown);
+      shown = subst Stays (sym (same_seen s2.disk d2 quiet)) ((of.represented base s2.disk.seen).0 stops.shown);
       others = λ m other. quiet.seen m ∙ stops.others m other;
-      reported = stopped_told files some failed why result wider stops.reported;
+      reported = stopped_reported files some failed why result wider stops.reported;
     }
 
-    module _ (files : List PacketFile) (is_true : Type 0) (some : Type 0) (result : Result (Unit {0}) ScanError) (sends : SendsOut is_true some Own outbound own (s1.stands base) (s1.stands (all_scanned base)) base.cursor files s1.disk s2.disk result) where
+    module _ (files : List PacketFile) (is_true : Type 0) (some : Type 0) (result : Result (Unit {0}) ScanError) (sends : SendsOut is_true some Own outbound own (s1.represented base) (s1.represented (all_scanned base)) base.cursor files s1.disk s2.disk result) where
       abbrev found : List Left
       found = sends.found
 
@@ -121,9 +121,9 @@ module _ (place : Place) (d0 d2 : DiskState) (s1 s2 : StoreState) (begun : IsOpe
       On_way = IsOnItsWay place outbound own d0 base found files s1.disk.seen
 
       abbrev Sends : Files → Type 0
-      Sends c = Prepares_on files found c ⊎ CommitsScan Own outbound own (IsOnDisk s1.disk) (s1.stands base) (s1.stands (all_scanned base)) base.cursor found files s1.disk.seen c
+      Sends c = Prepares_on files found c ⊎ CommitsScan Own outbound own (IsOnDisk s1.disk) (s1.represented base) (s1.represented (all_scanned base)) base.cursor found files s1.disk.seen c
 
-      opened_may : (c : Files) → StandsOrWasLeft place d0 base c → May c
+      opened_may : (c : Files) → RepresentsOrWasLeft place d0 base c → May c
       opened_may c left = ⊎_elim (λ was. inl was) (λ prepares. inr (inl prepares)) (opened_prepares files found c left)
 
       on_disk_still : (m : List ℕ) → (place.is_own m → ⊥) → IsOnDisk d0 m → IsOnDisk s1.disk m
@@ -138,19 +138,19 @@ module _ (place : Place) (d0 d2 : DiskState) (s1 s2 : StoreState) (begun : IsOpe
         others = λ m other on.
             with.others m (λ these. other (these_as Own place.is_own in_own outbound own files own_in m these))
             (⊎_elim (λ is. inl (on_disk_still m (λ o. other (inl o)) is.0, is.1)) (λ ended. inr ended) on);
-        either = ⊎_elim (λ none. inl ((of.stands base c).0 none.0, none.1)) (λ all. inr ((of.stands (all_scanned base) c).0 all.0, all.1, all.2)) with.either;
+        either = ⊎_elim (λ none. inl ((of.represented base c).0 none.0, none.1)) (λ all. inr ((of.represented (all_scanned base) c).0 all.0, all.1, all.2)) with.either;
       })
 
       put_crash : LeavesOnly d0 d2 May
       put_crash =
           then_nothing d0 s2.disk d2 May
-          (then_run d0 s1.disk s2.disk May Sends (weaker_run d0 s1.disk (StandsOrWasLeft place d0 base) May (begun.run base stands) opened_may) sends.crash (λ c on. inr (sent_on c on)))
+          (then_run d0 s1.disk s2.disk May Sends (weaker_run d0 s1.disk (RepresentsOrWasLeft place d0 base) May (begun.run base represented) opened_may) sends.crash (λ c on. inr (sent_on c on)))
           quiet
 
       put_lasts : (c : Files) → d2.may_leave c → On_way c
       put_lasts c left = sent_on c (left_now s1.disk s2.disk Sends sends.crash c (quiet.no_more c left))
 
-      put_sent : (r : Result (Unit {0}) ScanError) → OnOk r (AreSentOut is_true Own outbound own (s1.stands (all_scanned base)) base.cursor found files s1.disk.seen s2.disk)
+      put_sent : (r : Result (Unit {0}) ScanError) → OnOk r (AreSentOut is_true Own outbound own (s1.represented (all_scanned base)) base.cursor found files s1.disk.seen s2.disk)
           → OnOk r (AreSentOut is_true place.is_own outbound own Comes base.cursor found files s1.disk.seen d2)
       put_sent (Ok done) sent = record {
         all = all_left_as Own place.is_own in_own outbound own is_true s1.disk.seen found own_in sent.all;
@@ -162,15 +162,15 @@ module _ (place : Place) (d0 d2 : DiskState) (s1 s2 : StoreState) (begun : IsOpe
             let path = outbound ++ (get_or files k z).name in
             record { seen = quiet.seen path ∙ at.seen; named = quiet.named path (λ h. h) at.named; flushed = quiet.flushed path (λ h. h) at.flushed };
         gone = λ k z lt. quiet.seen (staging_path (outbound ++ (get_or files k z).name) own) ∙ sent.gone k z lt;
-        shown = subst Comes (sym (same_seen s2.disk d2 quiet)) ((of.stands (all_scanned base) s2.disk.seen).0 sent.shown);
-        on_disk = λ c left. (of.stands (all_scanned base) c).0 (sent.on_disk c (quiet.no_more c left));
+        shown = subst Comes (sym (same_seen s2.disk d2 quiet)) ((of.represented (all_scanned base) s2.disk.seen).0 sent.shown);
+        on_disk = λ c left. (of.represented (all_scanned base) c).0 (sent.on_disk c (quiet.no_more c left));
         others = λ m other. quiet.seen m ∙ sent.others m (λ these. other (these_as Own place.is_own in_own outbound own files own_in m these));
         bytes = sent.bytes;
       }
       put_sent (Err why) sent = tt
 
     put_in : (files : List PacketFile) (IsTrue : Files → Type 0) (some failed : Type 0) (result : Result (Unit {0}) ScanError) → (some → failed)
-        → SendsOut (IsTrue s1.disk.seen) some Own outbound own (s1.stands base) (s1.stands (all_scanned base)) base.cursor files s1.disk s2.disk result → IsPutIn place outbound own IsTrue failed d0 d2 base files result
+        → SendsOut (IsTrue s1.disk.seen) some Own outbound own (s1.represented base) (s1.represented (all_scanned base)) base.cursor files s1.disk s2.disk result → IsPutIn place outbound own IsTrue failed d0 d2 base files result
     put_in files IsTrue some failed result wider sends = record {
       opened = s1.disk.seen;
       elsewhere = of.elsewhere.seen;
@@ -188,12 +188,12 @@ module _ (place : Place) (d0 d2 : DiskState) (s1 s2 : StoreState) (begun : IsOpe
     put_as IsTrue some failed packets (Err why) result wider stops = stopped_in packets IsTrue some failed why result wider stops
 
   -- the scan of a station
-  pub scanned_on : (stamp : Stamp) (IsTrue : Files → Type 0) (some failed : Type 0) (out now : Output) (file : LinkFile) (base : Base) (result : Result (Unit {0}) ScanError) → place.stands_for base d0.seen → (some → failed)
+  pub scanned_on : (stamp : Stamp) (IsTrue : Files → Type 0) (some failed : Type 0) (out now : Output) (file : LinkFile) (base : Base) (result : Result (Unit {0}) ScanError) → place.represents base d0.seen → (some → failed)
       → ScansOnStore stamp Own outbound IsTrue some s1 s2 out now file base result → IsScanOn stamp place outbound IsTrue failed d0 d2 out now file base result
-  scanned_on stamp IsTrue some failed out now file base result stands wider scans = record {
+  scanned_on stamp IsTrue some failed out now file base result represented wider scans = record {
     made = scans.made;
     answer = scans.answer;
-    put = put_as (dotted file.system) base stands IsTrue some failed (packets_in stamp file base) scans.made result wider scans.put;
+    put = put_as (dotted file.system) base represented IsTrue some failed (packets_in stamp file base) scans.made result wider scans.put;
     whole = scans.whole;
   }
 

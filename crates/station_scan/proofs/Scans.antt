@@ -27,14 +27,14 @@ use Rattle.station_scan.proofs.Looked.{looked_out, looked_stop, same_seen}
 
 -- it stopped, and nothing was written
 pub stops_quiet : (is_true failed : Type 0) (Own : List ℕ → Type 0) (outbound own : List ℕ) (cursor : ℕ) (files : List PacketFile) (s1 : StoreState) (new : DiskState) (base : Base) (why : CommandError)
-    → s1.disk.is_honest → s1.is_ready → s1.committed base → ChangesNothing s1.disk new → StopsScan is_true failed Own outbound own (s1.stands base) cursor files s1.disk new why (Err (Command why))
+    → s1.disk.is_honest → s1.is_ready → s1.committed base → ChangesNothing s1.disk new → StopsScan is_true failed Own outbound own (s1.represented base) cursor files s1.disk new why (Err (Command why))
 stops_quiet is_true failed Own outbound own cursor files s1 new base why honest ready is quiet = record {
   found = [];
   each = λ k z lt. absurd (omega (arith, lt));
   crash =
       weaker_run s1.disk new s1.disk.may_leave _ quiet.run
-      (λ c left. (c, left, record { between = c; ends = finishes_none cursor [] c; writes = λ m other. refl; stands = s1.stays honest ready base is c left }));
-  shown = subst (λ (c : Files). s1.stands base c) (sym (same_seen s1.disk new quiet)) (s1.shown honest ready base is);
+      (λ c left. (c, left, record { between = c; ends = finishes_none cursor [] c; writes = λ m other. refl; represented = s1.stays honest ready base is c left }));
+  shown = subst (λ (c : Files). s1.represented base c) (sym (same_seen s1.disk new quiet)) (s1.shown honest ready base is);
   others = λ m other. quiet.seen m;
   reported = inl (refl, λ m of. inr (quiet.seen m));
 }
@@ -51,7 +51,7 @@ scans_stopped stamp Own outbound IsTrue failed s1 s2 out now file base why hones
 
 -- as the packets are put, before the cursor was moved
 put_moved : (Own : List ℕ → Type 0) (outbound own : List ℕ) (IsTrue : Files → Type 0) (some failed : Type 0) → (some → failed) → (s1 sA s2 : StoreState) (base : Base) (packets : List PacketFile) (made : Result (List PacketFile) CommandError)
-    (result : Result (Unit {0}) ScanError) → IsSameStore s1 sA → ChangesNothing s1.disk sA.disk → ((c : Files) → sA.stands base c → s1.stands base c) → ((c : Files) → s1.disk.may_leave c → s1.stands base c)
+    (result : Result (Unit {0}) ScanError) → IsSameStore s1 sA → ChangesNothing s1.disk sA.disk → ((c : Files) → sA.represented base c → s1.represented base c) → ((c : Files) → s1.disk.may_leave c → s1.represented base c)
     → IsPutOn Own outbound own IsTrue some sA s2 base packets made result → IsPutOn Own outbound own IsTrue failed s1 s2 base packets made result
 put_moved Own outbound own IsTrue some failed h1 s1 sA s2 base packets made result h2 h3 h4 h5 h6 = grind (arith, looked_out, looked_stop)
 

@@ -52,7 +52,7 @@ module _ (outbound own : List ℕ) (files : List PacketFile) (few : List ℕ →
       weaker_run s0.disk s1.disk (OneStepOn (DifferAt few) s0.disk) (WritesStaging s0 outbound own files first) used.changes.any_moment
       (λ c step. record {
         writes = (step.0, step.1, λ m other. step.2 m (λ at. other (into m at)));
-        stands = used.settled first step.0 c (λ m o. step.2 m (off m o)) (s0.stays honest ready first was step.0 step.1);
+        represented = used.settled first step.0 c (λ m o. step.2 m (off m o)) (s0.stays honest ready first was step.0 step.1);
       })
 
   abbrev May : Files → Type 0
@@ -71,12 +71,12 @@ module _ (outbound own : List ℕ) (files : List PacketFile) (few : List ℕ →
   later : (c : Files) → SendsThese s1 outbound own files first next c → May c
   later c (inl over) =
       let step = left_now s0.disk s1.disk (OneStepOn (DifferAt few) s0.disk) used.changes.any_moment over.writes.0 over.writes.1 in
-      inl (record { writes = (step.0, step.1, λ m other. over.writes.2 m other ∙ step.2 m (λ at. other (into m at))); stands = (used.same.stands first c).0 over.stands })
+      inl (record { writes = (step.0, step.1, λ m other. over.writes.2 m other ∙ step.2 m (λ at. other (into m at))); represented = (used.same.represented first c).0 over.represented })
   later c (inr with) = inr (record {
     others = λ m other on.
         let not : few m → ⊥ = λ at. not_these m other (into m at) in
         with.others m (λ of. other (⊎_elim (λ o. inl ((used.same.own m).0 o)) (λ p. inr p) of)) (used.changes.named m not on.0, used.changes.flushed m not on.1) ∙ used.changes.seen m not;
-    either = ⊎_elim (λ none. inl ((used.same.stands first c).0 none.0, none.1)) (λ all. inr ((used.same.stands next c).0 all.0, all.1, all.2)) with.either;
+    either = ⊎_elim (λ none. inl ((used.same.represented first c).0 none.0, none.1)) (λ all. inr ((used.same.represented next c).0 all.0, all.1, all.2)) with.either;
   })
 
   -- only these paths are touched
@@ -180,17 +180,17 @@ module _ {D : Type 0} (state : D → DiskState) (Own : List ℕ → Type 0) (to 
           }) commits);
           crash = crash_then s2 (weaker_run s1.disk s2.disk (LeavesEither s1 base next) (SendsThese s1 out own files base next) (may.any_moment honest2 base next committed kept)
               (λ c either. inr (record {
-                others = λ m other on. either.beside m (λ o. other (inl o)) on.0 on.1;
-                either = ⊎_elim (λ stands. inl (stands, nothing (IsFreeAt out c))) (λ stands. inr (stands, nothing (IsWhole out own c), nothing HasBytes)) either.stands;
+                others = λ m other on. either.others m (λ o. other (inl o)) on.0 on.1;
+                either = ⊎_elim (λ represented. inl (represented, nothing (IsFreeAt out c))) (λ represented. inr (represented, nothing (IsWhole out own c), nothing HasBytes)) either.represented;
               })));
           keeps = keeps_after s2 (record {
             same = may.same;
             keeps = record {
-              seen = λ m other. may.beside.seen m (λ o. other (inl o));
-              named = λ m other is. may.beside.named m (λ o. other (inl o)) is;
-              flushed = λ m other is. may.beside.flushed m (λ o. other (inl o)) is;
-              alone = λ m other is. may.beside.alone m (λ o. other (inl o)) is;
-              honest = may.beside.honest;
+              seen = λ m other. may.others.seen m (λ o. other (inl o));
+              named = λ m other is. may.others.named m (λ o. other (inl o)) is;
+              flushed = λ m other is. may.others.flushed m (λ o. other (inl o)) is;
+              alone = λ m other is. may.others.alone m (λ o. other (inl o)) is;
+              honest = may.others.honest;
             };
           });
           why = why_sent (λ e. absurd (of_base_alone done placing.Taken alone e));
@@ -223,7 +223,7 @@ module _ {D : Type 0} (state : D → DiskState) (Own : List ℕ → Type 0) (to 
     moment : (c : Files) → PublishesOn s1 (ended_before s1 next) packets to.trial.now base next c → SendsThese s1 out own files base next c
     moment c (inl over) = inl (record {
       writes = (over.staged.0, over.staged.1, λ m other. over.staged.2 m (λ at. other (as_files (λ l. IsStagingOfPacket out own l m) (staging_packet to can.routes base packets for m at))));
-      stands = over.stands;
+      represented = over.represented;
     })
     moment c (inr with) = inr (record {
       others = λ m other on. with.others m (λ o. other (inl o)) (λ of. other (inr (as_files (λ l. IsOfPacket out own l m) (of_packet to can.routes base packets for m of)))) on;

@@ -27,7 +27,7 @@ tried_looked state Own outbound own files d0 d1 h1 h2 = grind (arith, tried_afte
 -- so it was before its cursor was moved
 pub tries_moved : {D : Type 0} (state : D → DiskState) (stamp : Stamp) (Own : List ℕ → Type 0) (outbound : List ℕ) (s1 sA s2 : StoreState) (out now : Output) (file : LinkFile) (base : Base) (result : Result (Unit {0}) ScanError) → ChangesNothing s1.disk sA.disk
     → OnOk result (TriesOn state stamp Own outbound sA s2 out now file base) → OnOk result (TriesOn state stamp Own outbound s1 s2 out now file base)
-tries_moved state stamp Own outbound s1 sA s2 out now file base (Ok done) quiet (inl stands) = inl stands
+tries_moved state stamp Own outbound s1 sA s2 out now file base (Ok done) quiet (inl represented) = inl represented
 tries_moved state stamp Own outbound s1 sA s2 out now file base (Ok done) quiet (inr (files, answer, was)) = inr (files, answer, tried_looked state Own outbound (dotted file.system) files s1.disk sA.disk quiet was)
 tries_moved state stamp Own outbound s1 sA s2 out now file base (Err why) quiet tries = tt
 
@@ -40,13 +40,13 @@ module _ {D : Type 0} (state : D → DiskState) (stamp : Stamp) (place : Place) 
       inr (tried_after state (IsOfNameOff Own outbound own) (IsTouched place.is_own outbound) (staging_path outbound own) d0 s1.disk (λ m is. inr (own, is.0)) (λ m off. of.elsewhere.seen m (λ o. off (inl o))) was)
 
   tries_in : (base : Base) → TriesOn state stamp Own outbound s1 s2 out now file base
-      → ((c : Files) → d2.may_leave c → place.stands_for base c)
+      → ((c : Files) → d2.may_leave c → place.represents base c)
       ⊎ ((f : LinkFile) × Reads f × ((files : List PacketFile) × ScansOn stamp (state_in f base) out now (Ok files) × IsTriedIn state place outbound (dotted f.system) files d0))
-  tries_in base (inl (ready, is)) = inl (λ c left. (of.stands base c).0 ((same.stands base c).0 (s2.stays honest ready base is c (quiet.no_more c left))))
+  tries_in base (inl (ready, is)) = inl (λ c left. (of.represented base c).0 ((same.represented base c).0 (s2.stays honest ready base is c (quiet.no_more c left))))
   tries_in base (inr (files, answer, was)) = inr (file, read, (files, answer, tried_open files was))
 
   -- so it was on the disk on which the store was opened
-  pub scan_tries : (result : Result (Unit {0}) ScanError) → ((base : Base) → place.stands_for base d0.seen → OnOk result (TriesOn state stamp Own outbound s1 s2 out now file base))
+  pub scan_tries : (result : Result (Unit {0}) ScanError) → ((base : Base) → place.represents base d0.seen → OnOk result (TriesOn state stamp Own outbound s1 s2 out now file base))
       → OnOk result (ScanTries state stamp place outbound Reads d0 d2 out now)
-  scan_tries (Ok done) tries = λ base stands. tries_in base (tries base stands)
+  scan_tries (Ok done) tries = λ base represented. tries_in base (tries base represented)
   scan_tries (Err why) tries = tt

@@ -20,8 +20,8 @@ module _ (paths : List ℕ → Type 0) (s0 a b : StoreState) (d0 d1 : DiskState)
 
   pub used : (s1 : StoreState) → LooksOn b s1 → ChangesNothing d1 s1.disk → IsUsedAt paths s0 s1
   used s1 last into = record {
-    settled = λ base before after same stands.
-        (looks.same.stands base after).0 (back.settled base before after (λ m own. same m ((looks.same.own m).0 own)) ((looks.same.stands base before).1 stands));
+    settled = λ base before after same represented.
+        (looks.same.represented base after).0 (back.settled base before after (λ m own. same m ((looks.same.own m).0 own)) ((looks.same.represented base before).1 represented));
     same = same_twice s0 b s1 (same_twice s0 a b looks.same back.same) last.same;
     holds = record {
       ready = last.ready;

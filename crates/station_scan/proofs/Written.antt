@@ -38,8 +38,8 @@ module _ (paths : List ℕ → Type 0) where
   }
 
   pub used_settled : (s0 s1 : StoreState) → IsUsedAt paths s0 s1 → AreSettledByOwn s1
-  used_settled s0 s1 used base before after same stands =
-      (used.same.stands base after).1 (used.settled base before after (λ m own. same m ((used.same.own m).1 own)) ((used.same.stands base before).0 stands))
+  used_settled s0 s1 used base before after same represented =
+      (used.same.represented base after).1 (used.settled base before after (λ m own. same m ((used.same.own m).1 own)) ((used.same.represented base before).0 represented))
 
 -- the packets still go to paths that it does not own
 pub off_still : (s0 s1 : StoreState) (batch : Batch) → IsSameStore s0 s1 → IsBatchOff s0 batch → IsBatchOff s1 batch

@@ -57,7 +57,7 @@ ReportsFrom failed before after why result =
 pub record StopsFrom (outbound own : List ℕ) (failed : Type 0) (old new : StoreState) (base : Base) (files : List PacketFile) (why : CommandError) (result : Result (Unit {0}) ScanError) : Type 0 where
   pub crash : LeavesOnly old.disk new.disk (WritesStaging old outbound own files base)
   pub others : DifferAt (IsStagingOfPacket outbound own files) old.disk.seen new.disk.seen
-  pub shown : old.stands base new.disk.seen
+  pub shown : old.represented base new.disk.seen
   pub reported : ReportsFrom failed old.disk.seen new.disk.seen why result
 
 -- The packets that were made are sent out, or the scan stopped.

@@ -7,7 +7,7 @@ use Rattle.disk_io.specs.declared.disk_error.DiskError.{DiskError}
 use Rattle.disk_io.specs.declared.disk_error.DiskError.TheVariants as disk_error
 use Rattle.disk_io.specs.Runs.{KeepsAlone, KeepsFlushed, KeepsNamed, LeavesOnly, OneStepOn}
 use Rattle.disk_atomic.specs.Changes.{DifferAt}
-use Rattle.disk_atomic.specs.Naming.{HasItsPath, StandsWhole}
+use Rattle.disk_atomic.specs.Naming.{HasItsPath, IsWholeAtEither}
 use Rattle.disk_atomic.specs.Outgoing.{ArePlaced, CanGrowStaging, IsAtStaging, IsFilled, IsFree, IsStagingGone, IsOfOne, IsStaged, SendsBytes, staged_in}
 use Rattle.disk_atomic.specs.Publishing.{IsApartFrom, placing_cause}
 use Rattle.disk_atomic.specs.Trying.{WasTried}
@@ -57,7 +57,7 @@ IsTriedWith state packets trial old = (length packets ≡ 0) ⊎ WasTried state 
 -- Before the commit staging files are written, and the trial path is used. The files hold the committed base.
 pub record StagesOver (old : StoreState) (packets : List Outgoing) (trial : List ℕ) (first : Base) (c : Files) : Type 0 where
   pub staged : OneStepOn (DifferAt (IsAtStaging packets trial)) old.disk c
-  pub stands : old.stands first c
+  pub represented : old.represented first c
 
 -- nothing has the packet's path
 abbrev pub IsFreeIn : Files → Outgoing → Type 0
@@ -68,7 +68,7 @@ IsFreeIn c p = c p.path.now ≡ None
 -- paths, is as it was seen.
 pub record CommitsWith (old : StoreState) (paths : List ℕ → Type 0) (content : Outgoing → List ℕ) (packets : List Outgoing) (first next : Base) (c : Files) : Type 0 where
   pub others : (m : List ℕ) → (old.is_own m → ⊥) → (paths m → ⊥) → IsOnDisk old.disk m → c m ≡ old.disk.seen m
-  pub either : (old.stands first c × All (IsFreeIn c) packets) ⊎ (old.stands next c × All (StandsWhole content c) packets × All (SendsBytes content) packets)
+  pub either : (old.represented first c × All (IsFreeIn c) packets) ⊎ (old.represented next c × All (IsWholeAtEither content c) packets × All (SendsBytes content) packets)
 
 -- What a crash at any time during the steps may leave.
 abbrev pub PublishesOn : StoreState → (Outgoing → List ℕ) → List Outgoing → List ℕ → Base → Base → Files → Type 0

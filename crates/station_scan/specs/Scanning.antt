@@ -22,7 +22,7 @@ use Rattle.cmd_store.specs.Scanned.{ScansOn}
 use Rattle.cmd_store.specs.declared.command_error.CommandError.{CommandError}
 use Rattle.cmd_store.specs.declared.command_error.CommandError.TheVariants.{Store}
 use Rattle.echo_toss.specs.PacketsIn.{state_in}
-use Rattle.station.specs.Place.{Place, StandsOrWasLeft}
+use Rattle.station.specs.Place.{Place, RepresentsOrWasLeft}
 use Rattle.station.specs.Running.{IsNotRun, IsStopped}
 use Rattle.station_scan.specs.Fitting.{AreTaken}
 use Rattle.station_scan.specs.Left.{AreAllLeft, AreFreeLeft, IsEnded, IsEndedAt, IsLeftOf, IsOfName}
@@ -43,7 +43,7 @@ pub record PreparesScan (outbound own : List ℕ) (Stays : Files → Type 0) (cu
   pub between : Files
   pub ends : FinishesEach cursor found before between
   pub writes : DifferAt (IsStagingOfPacket outbound own files) between after
-  pub stands : Stays after
+  pub represented : Stays after
 
 -- From the commit on, where these files were seen before the scan: the leftover packets are finished. Either the files hold the base that
 -- was committed before, and no file has the path of a packet of this scan. Or they hold the new base, and each packet, which is bytes, is
@@ -111,9 +111,9 @@ pub record StopsScan (is_true failed : Type 0) (Own : List ℕ → Type 0) (outb
 -- The packets that a scan of a store returned are sent out. Or the scan stopped while these packets were made.
 abbrev pub IsPutOn : (List ℕ → Type 0) → List ℕ → List ℕ → (Files → Type 0) → Type 0 → StoreState → StoreState → Base → List PacketFile → Result (List PacketFile) CommandError → Result (Unit {0}) ScanError → Type 0
 IsPutOn Own outbound own IsTrue failed old new base packets (Ok files) result =
-    SendsOut (IsTrue old.disk.seen) failed Own outbound own (old.stands base) (old.stands (all_scanned base)) base.cursor files old.disk new.disk result
+    SendsOut (IsTrue old.disk.seen) failed Own outbound own (old.represented base) (old.represented (all_scanned base)) base.cursor files old.disk new.disk result
 IsPutOn Own outbound own IsTrue failed old new base packets (Err why) result =
-    StopsScan (IsTrue old.disk.seen) failed Own outbound own (old.stands base) base.cursor packets old.disk new.disk why result
+    StopsScan (IsTrue old.disk.seen) failed Own outbound own (old.represented base) base.cursor packets old.disk new.disk why result
 
 -- The result of a scan of a store that held this base, and had committed it.
 pub record ScansOnStore (stamp : Stamp) (Own : List ℕ → Type 0) (outbound : List ℕ) (IsTrue : Files → Type 0) (failed : Type 0) (old new : StoreState) (old_out new_out : Output) (file : LinkFile) (base : Base) (result : Result (Unit {0}) ScanError) : Type 0 where
@@ -132,13 +132,13 @@ pub record IsScanFull {S : Type 0} (state : S → StoreState) (base : Base) : Ty
 -- The steps of a scan of this base before the commit.
 abbrev pub IsPreparing : Place → List ℕ → List ℕ → DiskState → Base → List Left → List PacketFile → Files → Type 0
 IsPreparing place outbound own old base found files c =
-    (before : Files) × StandsOrWasLeft place old base before × PreparesScan outbound own (place.stands_for base) base.cursor found files before c
+    (before : Files) × RepresentsOrWasLeft place old base before × PreparesScan outbound own (place.represents base) base.cursor found files before c
 
 -- These steps, or those from the commit on. These files were seen once the station was open.
 abbrev pub IsOnItsWay : Place → List ℕ → List ℕ → DiskState → Base → List Left → List PacketFile → Files → Files → Type 0
 IsOnItsWay place outbound own old base found files opened c =
     IsPreparing place outbound own old base found files c
-    ⊎ CommitsScan place.is_own outbound own (IsOnDisk old) (place.stands_for base) (place.stands_for (all_scanned base)) base.cursor found files opened c
+    ⊎ CommitsScan place.is_own outbound own (IsOnDisk old) (place.represents base) (place.represents (all_scanned base)) base.cursor found files opened c
 
 -- What a crash during the scan may leave: a state of these steps, or one that a crash before could have left.
 abbrev pub MayLeave : Place → List ℕ → List ℕ → DiskState → Base → List Left → List PacketFile → Files → Files → Type 0
@@ -151,7 +151,7 @@ pub record IsPutIn (place : Place) (outbound own : List ℕ) (IsTrue : Files →
   pub elsewhere : (m : List ℕ) → (place.is_own m → ⊥) → opened m ≡ old.seen m
   pub found : List Left
   pub each : All (IsLeftOf (IsTrue opened) place.is_own outbound own) found
-  pub sent : OnOk result (AreSentOut (IsTrue opened) place.is_own outbound own (place.stands_for (all_scanned base)) base.cursor found files opened new)
+  pub sent : OnOk result (AreSentOut (IsTrue opened) place.is_own outbound own (place.represents (all_scanned base)) base.cursor found files opened new)
   pub crash : LeavesOnly old new (MayLeave place outbound own old base found files opened)
   -- However it ended, the base that was read is on the disk, or the new one.
   pub lasts : (c : Files) → new.may_leave c → IsOnItsWay place outbound own old base found files opened c
@@ -166,7 +166,7 @@ pub record StopsScanIn (place : Place) (outbound own : List ℕ) (IsTrue : Files
   pub each : All (IsLeftOf (IsTrue opened) place.is_own outbound own) found
   pub crash : LeavesOnly old new (λ c. old.may_leave c ⊎ IsPreparing place outbound own old base found files c)
   pub lasts : (c : Files) → new.may_leave c → IsPreparing place outbound own old base found files c
-  pub shown : place.stands_for base new.seen
+  pub shown : place.represents base new.seen
   pub others : DifferAt (λ m. IsOfLeft found m ⊎ IsStagingOfPacket outbound own files m) opened new.seen
   pub reported : ReportsStop failed outbound own files opened new.seen why result
 
@@ -186,7 +186,7 @@ pub record IsScanOn (stamp : Stamp) (place : Place) (outbound : List ℕ) (IsTru
 pub record IsScanRun (stamp : Stamp) (place : Place) (outbound : List ℕ) (IsTrue : Files → Type 0) (Reads : LinkFile → Type 0) (failed : Type 0) (old new : DiskState) (old_out new_out : Output) (result : Result (Unit {0}) ScanError) : Type 0 where
   pub file : LinkFile
   pub read : Reads file
-  pub runs : (base : Base) → place.stands_for base old.seen → IsScanOn stamp place outbound IsTrue failed old new old_out new_out file base result
+  pub runs : (base : Base) → place.represents base old.seen → IsScanOn stamp place outbound IsTrue failed old new old_out new_out file base result
   pub cause : IsErrOf result (Command (Store Device)) → failed
 
 -- The scan was not run: the station is shut, or the program stopped it.
@@ -214,6 +214,6 @@ IsTriedIn state place outbound own files old = (length files ≡ 0) ⊎ WasTried
 
 -- Where a scan ended well each crash leaves the base from before, or it was tried for the packets that were made of that.
 abbrev pub ScanTries : {D : Type 0} → (D → DiskState) → Stamp → Place → List ℕ → (LinkFile → Type 0) → DiskState → DiskState → Output → Output → Type 0
-ScanTries state stamp place outbound Reads old new old_out new_out = (base : Base) → place.stands_for base old.seen
-    → ((c : Files) → new.may_leave c → place.stands_for base c)
+ScanTries state stamp place outbound Reads old new old_out new_out = (base : Base) → place.represents base old.seen
+    → ((c : Files) → new.may_leave c → place.represents base c)
     ⊎ ((file : LinkFile) × Reads file × ((files : List PacketFile) × ScansOn stamp (state_in file base) old_out new_out (Ok files) × IsTriedIn state place outbound (dotted file.system) files old))

@@ -19,13 +19,13 @@ IsOfThese Own outbound own files m = Own m ⊎ IsOfPacket outbound own files m
 -- before the commit: staging files are written, and the files hold the committed base
 pub record WritesStaging (old : StoreState) (outbound own : List ℕ) (files : List PacketFile) (first : Base) (c : Files) : Type 0 where
   pub writes : OneStepOn (DifferAt (IsStagingOfPacket outbound own files)) old.disk c
-  pub stands : old.stands first c
+  pub represented : old.represented first c
 
 -- From the commit on. Either the files hold the base that was committed before, and no file has the path of a packet. Or they hold the
 -- store's new base, and each packet, which is bytes, is whole at one of its two paths. All else on the disk is as it was seen.
 pub record CommitsThese (old : StoreState) (outbound own : List ℕ) (files : List PacketFile) (first next : Base) (c : Files) : Type 0 where
   pub others : (m : List ℕ) → (IsOfThese old.is_own outbound own files m → ⊥) → IsOnDisk old.disk m → c m ≡ old.disk.seen m
-  pub either : (old.stands first c × All (IsFreeAt outbound c) files) ⊎ (old.stands next c × All (IsWhole outbound own c) files × All HasBytes files)
+  pub either : (old.represented first c × All (IsFreeAt outbound c) files) ⊎ (old.represented next c × All (IsWhole outbound own c) files × All HasBytes files)
 
 -- What a crash at any time during the steps may leave.
 abbrev pub SendsThese : StoreState → List ℕ → List ℕ → List PacketFile → Base → Base → Files → Type 0

@@ -74,7 +74,7 @@ pub fn run_scan<
     // Packets are committed only after a file of their folder got a second path.
     ensures tried { Honestly (D.state result.disk) (OnOk result.done (ScanTries D.state scan.old.stamp (P.place station) scan.old.outbound.now (P.reads station (D.state disk)) (D.state disk) (D.state result.disk)
         (output_of W.contents W.failures W.holds out.old) (output_of W.contents W.failures W.holds out.new))) }
-    ensures many { Honestly (D.state result.disk) ((base : Base) → (P.place station).stands_for base (D.state disk).seen
+    ensures many { Honestly (D.state result.disk) ((base : Base) → (P.place station).represents base (D.state disk).seen
         → IsErrOf result.done (ScanError.Command (CommandError.Store StoreError.TooMany)) → IsScanFull P.Kept.state base) }
     ensures keeps { UnchangedExcept (IsTouched (P.place station).is_own scan.old.outbound.now) (D.state disk) (D.state result.disk) }
     ensures passed { OnOk result.done (Q.lets before.old) }

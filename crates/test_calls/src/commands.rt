@@ -42,9 +42,9 @@ fn listed(alloc: Global, input: &[u8], lines: &mut [u8], line: &mut [u8]) -> End
 // Whether the command stopped at its full standard output, or at a growth that was refused.
 fn is_stopped(ending: Ending, line: &[u8]) -> bool {
     let (status, _, faulty) = ending;
-    let told = line.get(..faulty).unwrap_or(b"");
-    let full = told == b"echonet: cannot use -\n".as_slice();
-    status == Status::Device && (full || told == b"echonet: out of memory\n".as_slice())
+    let reported = line.get(..faulty).unwrap_or(b"");
+    let full = reported == b"echonet: cannot use -\n".as_slice();
+    status == Status::Device && (full || reported == b"echonet: out of memory\n".as_slice())
 }
 
 // A fault of standard output names it `-`.

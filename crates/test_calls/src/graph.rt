@@ -26,8 +26,8 @@ fn graph_of(
 
 #[test]
 fn tells_what_no_walk_reaches(rt: HostRuntime) -> Result<(), Fail> {
-    let beside = graph_of(&rt, rt.alloc(), 4, &[(0, 1), (1, 2), (2, 0)])?;
-    assert_eq!(rt; unreached(rt.alloc(), &beside)?, Some(3));
+    let others = graph_of(&rt, rt.alloc(), 4, &[(0, 1), (1, 2), (2, 0)])?;
+    assert_eq!(rt; unreached(rt.alloc(), &others)?, Some(3));
     let ring = graph_of(&rt, rt.alloc(), 4, &[(0, 2), (2, 1), (1, 3), (3, 0)])?;
     assert_eq!(rt; unreached(rt.alloc(), &ring)?, None);
     let none = graph_of(&rt, rt.alloc(), 0, &[])?;

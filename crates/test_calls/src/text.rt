@@ -4,7 +4,7 @@ use echo_text::MsgId;
 use std::alloc::Global;
 use std::test::Fail;
 
-fn is_told(alloc: Global, bytes: &[u8], want: MsgId<'_>, text: &[u8]) -> Result<bool, Fail> {
+fn is_reported(alloc: Global, bytes: &[u8], want: MsgId<'_>, text: &[u8]) -> Result<bool, Fail> {
     let id = MsgId::read(bytes)?;
     let plain = id.plain(alloc)?;
     Ok(id == want && plain.as_slice() == text)
@@ -17,8 +17,8 @@ fn bare_ids(rt: HostRuntime) -> Result<(), Fail> {
         quoted: false,
         serial: 43_981,
     };
-    assert!(rt; is_told(rt.alloc(), b"1:10/1 0000ABCD", want, b"1:10/1")?);
-    assert!(rt; is_told(rt.alloc(), b" \t1:10/1   0000abcd\n ", want, b"1:10/1")?);
+    assert!(rt; is_reported(rt.alloc(), b"1:10/1 0000ABCD", want, b"1:10/1")?);
+    assert!(rt; is_reported(rt.alloc(), b" \t1:10/1   0000abcd\n ", want, b"1:10/1")?);
     Ok(())
 }
 
@@ -30,13 +30,13 @@ fn quoted_ids(rt: HostRuntime) -> Result<(), Fail> {
         serial: 1,
     };
     let bytes = b"\"a \"\"b\"\"\" 00000001";
-    assert!(rt; is_told(rt.alloc(), bytes, doubled, b"a \"b\"")?);
+    assert!(rt; is_reported(rt.alloc(), bytes, doubled, b"a \"b\"")?);
     let empty = MsgId {
         origin: b"",
         quoted: true,
         serial: 4_294_967_295,
     };
-    assert!(rt; is_told(rt.alloc(), b"\"\" ffffFFFF", empty, b"")?);
+    assert!(rt; is_reported(rt.alloc(), b"\"\" ffffFFFF", empty, b"")?);
     Ok(())
 }
 

@@ -75,21 +75,25 @@ fn stage<D: Disk>(
     disk: &mut D,
     names: &Names,
     end: End,
-    told: CommitRecord,
+    recorded: CommitRecord,
     messages: &[u8],
     keys: &[u8],
 ) -> Result<CommitRecord, FolderError>
-    requires names { AreNames names.now told.number }
-    requires staged { Honestly (D.state disk.old) (IsStaged (D.state disk.old) (folder_of names.now) end told) }
+    requires names { AreNames names.now recorded.number }
+    requires staged { Honestly (D.state disk.old) (IsStaged (D.state disk.old) (folder_of names.now) end recorded) }
     ensures staged { Honestly (D.state disk.new) (IfOk result (λ more. IsStaged (D.state disk.new) (folder_of names.now) end more)) }
     ensures honest { (D.state disk.new).is_honest → (D.state disk.old).is_honest }
-    ensures number { IfOk result (λ more. more.number ≡ told.number) }
+    ensures number { IfOk result (λ more. more.number ≡ recorded.number) }
 {
-    if told.messages > LIMIT || told.keys > LIMIT || messages.len() > LIMIT || keys.len() > LIMIT {
+    if recorded.messages > LIMIT
+        || recorded.keys > LIMIT
+        || messages.len() > LIMIT
+        || keys.len() > LIMIT
+    {
         return Err(FolderError::Corrupt);
     }
-    let told = stage_bytes(disk, names, end, told, GrowingFile::Messages, messages)?;
-    Ok(stage_bytes(disk, names, end, told, GrowingFile::Keys, keys)?)
+    let recorded = stage_bytes(disk, names, end, recorded, GrowingFile::Messages, messages)?;
+    Ok(stage_bytes(disk, names, end, recorded, GrowingFile::Keys, keys)?)
 }
 
 // Stages a change in two parts, and commits it.
@@ -97,23 +101,23 @@ fn stage_and_commit<D: Disk>(
     disk: &mut D,
     names: &Names,
     end: End,
-    told: CommitRecord,
+    recorded: CommitRecord,
     change: &Change,
 ) -> Result<End, FolderError>
-    requires names { AreNames names.now told.number }
-    requires staged { Honestly (D.state disk.old) (IsStaged (D.state disk.old) (folder_of names.now) end told) }
+    requires names { AreNames names.now recorded.number }
+    requires staged { Honestly (D.state disk.old) (IsStaged (D.state disk.old) (folder_of names.now) end recorded) }
     ensures settled { Honestly (D.state disk.new) (IfOk result (λ after. IsAtRest (D.state disk.new) (folder_of names.now) after)) }
 {
     let messages = change.messages.as_slice();
     let keys = change.keys.as_slice();
     let half = messages.len() / 2;
     let some = keys.len() / 2;
-    let told = stage(disk, names, end, told, &messages[..half], &keys[..some])?;
-    let told = stage(disk, names, end, told, &messages[half..], &keys[some..])?;
+    let recorded = stage(disk, names, end, recorded, &messages[..half], &keys[..some])?;
+    let recorded = stage(disk, names, end, recorded, &messages[half..], &keys[some..])?;
     if end.gate > LIMIT {
         return Err(FolderError::Corrupt);
     }
-    Ok(commit(disk, names, end, told)?)
+    Ok(commit(disk, names, end, recorded)?)
 }
 
 /// Opens a base folder.
@@ -127,7 +131,7 @@ pub(crate) fn open_folder<D: Disk>(
 {
     let log = read_log(alloc, disk, folder)?;
     judge(alloc, disk, folder, &log)?;
-    let names = Names::new(alloc, folder, log.end.told.number)?;
+    let names = Names::new(alloc, folder, log.end.recorded.number)?;
     open(alloc, disk, &names, &log)?;
     Ok(log.end)
 }
@@ -160,12 +164,12 @@ fn append<D: Disk>(
     requires { Honestly (D.state disk.old) (IsAtRest (D.state disk.old) folder.now end) }
     ensures settled { Honestly (D.state disk.new) (IfOk result (λ after. IsAtRest (D.state disk.new) folder.now after)) }
 {
-    if end.told.number > 9 {
+    if end.recorded.number > 9 {
         return Err(FolderError::Corrupt);
     }
-    let names = Names::new(alloc, folder, end.told.number)?;
-    let told = stage_nothing(disk, &names.folder, end, change.cursor, change.mark);
-    stage_and_commit(disk, &names, end, told, change)
+    let names = Names::new(alloc, folder, end.recorded.number)?;
+    let recorded = stage_nothing(disk, &names.folder, end, change.cursor, change.mark);
+    stage_and_commit(disk, &names, end, recorded, change)
 }
 
 fn renew<D: Disk>(
@@ -178,14 +182,14 @@ fn renew<D: Disk>(
     requires { Honestly (D.state disk.old) (IsAtRest (D.state disk.old) folder.now end) }
     ensures settled { Honestly (D.state disk.new) (IfOk result (λ after. IsAtRest (D.state disk.new) folder.now after)) }
 {
-    let number = if end.told.number < 9 {
-        end.told.number + 1
+    let number = if end.recorded.number < 9 {
+        end.recorded.number + 1
     } else {
         0
     };
     let names = Names::new(alloc, folder, number)?;
-    let told = stage_anew(disk, &names, end, number, change.cursor)?;
-    stage_and_commit(disk, &names, end, told, change)
+    let recorded = stage_anew(disk, &names, end, number, change.cursor)?;
+    stage_and_commit(disk, &names, end, recorded, change)
 }
 
 // The first bytes of a file.
@@ -210,14 +214,14 @@ pub(crate) fn read_base<D: Disk>(
     folder: &[u8],
     end: End,
 ) -> Result<Base, FolderError> {
-    if end.told.number > 9 {
+    if end.recorded.number > 9 {
         return Err(FolderError::Corrupt);
     }
-    let names = Names::new(alloc, folder, end.told.number)?;
+    let names = Names::new(alloc, folder, end.recorded.number)?;
     Ok(Base {
-        messages: read_front(alloc, disk, &names.messages, end.told.messages)?,
-        keys: read_front(alloc, disk, &names.keys, end.told.keys)?,
-        cursor: end.told.cursor,
-        mark: end.told.mark,
+        messages: read_front(alloc, disk, &names.messages, end.recorded.messages)?,
+        keys: read_front(alloc, disk, &names.keys, end.recorded.keys)?,
+        cursor: end.recorded.cursor,
+        mark: end.recorded.mark,
     })
 }

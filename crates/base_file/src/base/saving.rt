@@ -8,7 +8,7 @@ ghost use Rattle.echo_filed.specs.Stored.{is_short_enough, stored_bytes};
 ghost use Rattle.echo_filed.specs.Sending.{CountsUnsent};
 ghost use Rattle.base_file.specs.Base.{IsBase};
 ghost use Rattle.base_file.specs.BaseFile.{head_bytes, is_countable, saved_bytes, stored_from};
-ghost use Rattle.base_file.specs.Saving.{CountsSaved, Saves, TellsTooMany};
+ghost use Rattle.base_file.specs.Saving.{CountsSaved, Saves, ReportsTooMany};
 
 use crate::base::Base;
 use crate::base::loading::SECOND;
@@ -117,7 +117,7 @@ impl<S: BuildHasher> Base<S> {
         ensures base { IsBase self.now.messages self.now.cursor }
         ensures bytes { Saves (W.contents writer.old) (W.contents writer.new) result (saved_bytes self.now.messages self.now.cursor) }
         ensures device { CountsSaved result (W.failures writer.old) (W.failures writer.new) }
-        ensures too_many { TellsTooMany (is_countable self.now.messages self.now.cursor) result }
+        ensures too_many { ReportsTooMany (is_countable self.now.messages self.now.cursor) result }
     {
         let alloc = *self.entries.allocator();
         if !are_countable(alloc, &self.entries, self.cursor)? {

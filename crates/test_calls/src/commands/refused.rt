@@ -28,12 +28,12 @@ const LISTED: &[u8] =
 // Whether the command ended well with these lines, or in one of these faults after a beginning of them.
 fn is_right(ending: Ending, lines: &[u8], line: &[u8], whole: &[u8], faults: &[&[u8]]) -> bool {
     let (status, printed, faulty) = ending;
-    let told = line.get(..faulty).unwrap_or(b"");
+    let reported = line.get(..faulty).unwrap_or(b"");
     match status {
-        Status::Good => lines.get(..printed) == Some(whole) && told.is_empty(),
+        Status::Good => lines.get(..printed) == Some(whole) && reported.is_empty(),
         Status::Device => {
             lines.get(..printed) == whole.get(..printed)
-                && faults.iter().any(|fault| told == *fault)
+                && faults.iter().any(|fault| reported == *fault)
         }
         _ => false,
     }

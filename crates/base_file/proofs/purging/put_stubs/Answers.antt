@@ -9,21 +9,21 @@ use Rattle.base_file.proofs.purging.put_stubs.Goals as goal
 
 pub put_stub-requires-clause-own : goal.put_stub-requires-clause-own
 put_stub-requires-clause-own g c =
-    let told = changed_lines_on (values c.args.entries.now) (values c.places.entries) c.places.i c.args.cursor c.index.result.now (omega arith) (omega arith) (subst (λ n. c.args.cursor ≤ n) (sym (length-map c.args.entries.now.entries (λ e. e.1))) c.requires.within)
+    let reported = changed_lines_on (values c.args.entries.now) (values c.places.entries) c.places.i c.args.cursor c.index.result.now (omega arith) (omega arith) (subst (λ n. c.args.cursor ≤ n) (sym (length-map c.args.entries.now.entries (λ e. e.1))) c.requires.within)
     c.places.invariant.done c.index.ensures c.places.lines.items c.pop.new.self.items c.in-Some.own c.places.invariant.to_do (sym c.is_stub.ensures ∙ c.if-not-is_stub.true) c.in-Some.ensures.items in
     let P : Option Filed → Type 0 = λ o. IfSome o (λ m. c.in-Some.own ≡ (stub_of m).echo.kept) in
-    subst P (sym c.index.ensures) told.1
+    subst P (sym c.index.ensures) reported.1
 
 pub places-preserved-in-Some : goal.places-preserved-in-Some
 places-preserved-in-Some g c =
-    let told = changed_lines_on (values c.args.entries.now) (values c.places.entries) c.places.i c.args.cursor c.index.result.now (omega arith) (omega arith) (subst (λ n. c.args.cursor ≤ n) (sym (length-map c.args.entries.now.entries (λ e. e.1))) c.requires.within)
+    let reported = changed_lines_on (values c.args.entries.now) (values c.places.entries) c.places.i c.args.cursor c.index.result.now (omega arith) (omega arith) (subst (λ n. c.args.cursor ≤ n) (sym (length-map c.args.entries.now.entries (λ e. e.1))) c.requires.within)
     c.places.invariant.done c.index.ensures c.places.lines.items c.pop.new.self.items c.in-Some.own c.places.invariant.to_do (sym c.is_stub.ensures ∙ c.if-not-is_stub.true) c.in-Some.ensures.items in
     let P : Option Filed → Type 0 = λ o. IfSome o (λ m. values c.put_stub.new.entries ≡ set (values c.places.entries) (c.places.i - 1) (stub_of m)) in
     let written = subst P c.index.ensures c.put_stub.ensures.values in
     record {
       above = omega arith;
       same_keys = c.put_stub.ensures.keys ∙ c.places.invariant.same_keys;
-      to_do = told.0;
+      to_do = reported.0;
       done = changed_goes_on (values c.args.entries.now) (values c.places.entries) c.places.i c.args.cursor c.index.result.now (omega arith) (omega arith) (subst (λ n. c.args.cursor ≤ n) (sym (length-map c.args.entries.now.entries (λ e. e.1))) c.requires.within)
           c.places.invariant.done c.index.ensures (values c.put_stub.new.entries) written;
     }

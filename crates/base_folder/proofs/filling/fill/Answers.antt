@@ -1,7 +1,7 @@
 use Rattle.std.proofs.Common.{◌≡◌, ◌∙◌, List, ℕ, OnOk, ap, arith, inr, subst}
 use Rattle.base_log.specs.Moments.{KeepsOutside}
 use Rattle.base_log.proofs.Keeping.{outside_twice}
-use Rattle.base_folder_store.specs.Held.{HoldsBase, StandsForBase}
+use Rattle.base_folder_store.specs.Held.{HoldsBase, RepresentsBase}
 use Rattle.base_folder_store.specs.Opened.{committed_by, held_by, path_of}
 use Rattle.base_folder.specs.Filled.{IsKept, IsUnfilled, no_messages}
 use Rattle.base_folder.specs.declared.unfilled.UnfilledFolder.TheVariants as unfilled
@@ -17,19 +17,19 @@ use Rattle.base_folder.proofs.filling.fill.Goals as goal
 at : (g : given.Over) (c : After-fill_opened g) → path_of c.give_key.new.folder ≡ c.args.path.now
 at g c = ap path_of c.give_key.ensures.only ∙ c.in_ok-folder.ensures.fresh.path
 
-front : (g : given.Over) (c : After-fill_opened g) → (g.D.Disk.state c.open_base.new.disk).is_honest → StandsForBase g.H.Digest.keyed c.args.path.now no_messages (g.D.Disk.state c.args.disk.now).seen
+front : (g : given.Over) (c : After-fill_opened g) → (g.D.Disk.state c.open_base.new.disk).is_honest → RepresentsBase g.H.Digest.keyed c.args.path.now no_messages (g.D.Disk.state c.args.disk.now).seen
     → HoldsBase g.H.Digest.keyed (held_by (g.D.Disk.state c.open_base.new.disk) c.give_key.new.folder) no_messages
-front g c honest stands =
+front g c honest represented =
     let keyed = g.H.Digest.keyed in
     let says = c.in_ok-folder.ensures in
-    claimed_same keyed g.met.H.Digest.fits (g.D.Disk.state c.open_base.new.disk) c.in_ok-folder.folder c.give_key.new.folder no_messages (says.opened honest) c.give_key.ensures.only c.give_key.ensures.key c.give_key.ensures.kept (says.same honest keyed no_messages stands)
+    claimed_same keyed g.met.H.Digest.fits (g.D.Disk.state c.open_base.new.disk) c.in_ok-folder.folder c.give_key.new.folder no_messages (says.opened honest) c.give_key.ensures.only c.give_key.ensures.key c.give_key.ensures.kept (says.same honest keyed no_messages represented)
 
-first : (g : given.Over) (c : After-fill_opened g) → (g.D.Disk.state c.open_base.new.disk).is_honest → StandsForBase g.H.Digest.keyed c.args.path.now no_messages (g.D.Disk.state c.args.disk.now).seen
+first : (g : given.Over) (c : After-fill_opened g) → (g.D.Disk.state c.open_base.new.disk).is_honest → RepresentsBase g.H.Digest.keyed c.args.path.now no_messages (g.D.Disk.state c.args.disk.now).seen
     → HoldsBase g.H.Digest.keyed (committed_by (g.D.Disk.state c.open_base.new.disk) c.give_key.new.folder) no_messages
-first g c honest stands =
+first g c honest represented =
     let keyed = g.H.Digest.keyed in
     let says = c.in_ok-folder.ensures in
-    claimed_committed keyed (g.D.Disk.state c.open_base.new.disk) c.in_ok-folder.folder c.give_key.new.folder no_messages c.give_key.ensures.only says.fresh.settled says.fresh.written (says.same honest keyed no_messages stands)
+    claimed_committed keyed (g.D.Disk.state c.open_base.new.disk) c.in_ok-folder.folder c.give_key.new.folder no_messages c.give_key.ensures.only says.fresh.settled says.fresh.written (says.same honest keyed no_messages represented)
 
 pub fill_opened-requires-clause-usable : goal.fill_opened-requires-clause-usable
 fill_opened-requires-clause-usable g c =
@@ -41,8 +41,8 @@ fill_opened-requires-clause-usable g c =
     }
 
 pub returns-in_err-folder-clause-any_moment : goal.returns-in_err-folder-clause-any_moment
-returns-in_err-folder-clause-any_moment g c = λ honest source base holds stands.
-    opened_run g.H.Digest.keyed c.args.path.now (g.D.Disk.state c.args.disk.now) (g.D.Disk.state c.open_base.new.disk) no_messages base (c.open_base.ensures.run.any_moment honest g.H.Digest.keyed no_messages stands)
+returns-in_err-folder-clause-any_moment g c = λ honest source base holds represented.
+    opened_run g.H.Digest.keyed c.args.path.now (g.D.Disk.state c.args.disk.now) (g.D.Disk.state c.open_base.new.disk) no_messages base (c.open_base.ensures.run.any_moment honest g.H.Digest.keyed no_messages represented)
 
 pub returns-in_err-folder-clause-reads : goal.returns-in_err-folder-clause-reads
 returns-in_err-folder-clause-reads g c =
@@ -57,23 +57,23 @@ returns-in_err-folder-clause-wrong g c = λ honest.
     err_is (IsUnfilled c.args.strange c.args.path.now (g.D.Disk.state c.args.disk.now).seen) (unfilled.Folder c.in_err-folder.field-0.0) c.from_residual.result c.from_residual.ensures.1 (inr (c.in_err-folder.ensures.wrong honest))
 
 pub returns-in_err-folder-clause-many : goal.returns-in_err-folder-clause-many
-returns-in_err-folder-clause-many g c = λ honest source base holds stands is.
+returns-in_err-folder-clause-many g c = λ honest source base holds represented is.
     absurd (never_many c.args.strange c.args.path.now (g.D.Disk.state c.args.disk.now).seen c.in_err-folder.field-0.0 c.from_residual.result c.from_residual.ensures.1 (c.in_err-folder.ensures.wrong honest) is)
 
 pub returns-clause-filled : goal.returns-clause-filled
-returns-clause-filled g c = λ honest source base holds stands.
+returns-clause-filled g c = λ honest source base holds represented.
     let after = (goal.at.returns-clause-filled g c).After-fill_opened in
     let keyed = g.H.Digest.keyed in
     subst (λ (p : List ℕ). OnOk c.fill_opened.result (IsKept keyed p (g.D.Disk.state c.fill_opened.new.disk) base)) (at g after)
-    (c.fill_opened.ensures.filled honest source base holds (front g after (c.fill_opened.ensures.outside.honest honest) stands))
+    (c.fill_opened.ensures.filled honest source base holds (front g after (c.fill_opened.ensures.outside.honest honest) represented))
 
 pub returns-clause-any_moment : goal.returns-clause-any_moment
-returns-clause-any_moment g c = λ honest source base holds stands.
+returns-clause-any_moment g c = λ honest source base holds represented.
     let after = (goal.at.returns-clause-any_moment g c).After-fill_opened in
     let keyed = g.H.Digest.keyed in
     let before = c.fill_opened.ensures.outside.honest honest in
     fill_run keyed c.args.path.now (path_of c.give_key.new.folder) (g.D.Disk.state c.args.disk.now) (g.D.Disk.state c.open_base.new.disk) (g.D.Disk.state c.fill_opened.new.disk) no_messages base (at g after)
-    (c.open_base.ensures.run.any_moment before keyed no_messages stands) c.open_base.ensures.run.outside (c.fill_opened.ensures.any_moment honest source no_messages base holds (first g after before stands) (front g after before stands))
+    (c.open_base.ensures.run.any_moment before keyed no_messages represented) c.open_base.ensures.run.outside (c.fill_opened.ensures.any_moment honest source no_messages base holds (first g after before represented) (front g after before represented))
 
 pub returns-clause-outside : goal.returns-clause-outside
 returns-clause-outside g c =
@@ -90,6 +90,6 @@ pub returns-clause-wrong : goal.returns-clause-wrong
 returns-clause-wrong g c = λ honest. c.fill_opened.ensures.cause.sound c.args.strange c.args.path.now (g.D.Disk.state c.args.disk.now).seen
 
 pub returns-clause-many : goal.returns-clause-many
-returns-clause-many g c = λ honest source base holds stands is.
+returns-clause-many g c = λ honest source base holds represented is.
     let after = (goal.at.returns-clause-many g c).After-fill_opened in
-    full_at g.D.Disk.state g.H.Digest.keyed _ _ base (at g after) (c.fill_opened.ensures.many honest source base holds (front g after (c.fill_opened.ensures.outside.honest honest) stands) is)
+    full_at g.D.Disk.state g.H.Digest.keyed _ _ base (at g after) (c.fill_opened.ensures.many honest source base holds (front g after (c.fill_opened.ensures.outside.honest honest) represented) is)

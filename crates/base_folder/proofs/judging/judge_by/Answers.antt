@@ -10,7 +10,7 @@ returns-in_ok-messages-in-Err-Corrupt-clause-wrong g c h2 =
     let h1 = c.whole_of.ensures.quiet.honest h2 in
     let h0 = c.judge.ensures.quiet.honest h1 in
     let log = c.args.log.now in
-    let told = log.end.told in
+    let recorded = log.end.recorded in
     let path = c.args.path.now in
     let d0 = g.D.Disk.state c.args.disk.now in
     let d1 = g.D.Disk.state c.judge.new.disk in
@@ -21,5 +21,5 @@ returns-in_ok-messages-in-Err-Corrupt-clause-wrong g c h2 =
       end = log.end;
       log = subst (λ (l : List ℕ). IsFolderLog c.args.strange l log.end) (c.requires.log h0) (record { reads = c.requires.read; own = own });
       broken = c.in-Err-Corrupt.ensures.corrupt h1 (ap (λ (e : FolderError). Err e) c.in-Err-Corrupt.field-0-is);
-      whole = subst (λ (f : Files). AreWhole (take told.keys (bytes_in (f (keys_of path told.number)))) told.messages (length (bytes_in (f (messages_of path told.number)))) c.in_ok-messages-in-Err-Corrupt.messages) same (c.in_ok-messages-in-Err-Corrupt.ensures.whole h2);
+      whole = subst (λ (f : Files). AreWhole (take recorded.keys (bytes_in (f (keys_of path recorded.number)))) recorded.messages (length (bytes_in (f (messages_of path recorded.number)))) c.in_ok-messages-in-Err-Corrupt.messages) same (c.in_ok-messages-in-Err-Corrupt.ensures.whole h2);
     }

@@ -15,9 +15,9 @@ returns-clause-folder g c honest =
     let log = c.in_ok-log.log in
     subst (λ (l : List ℕ). IsFolderLog c.args.strange l log.end) (c.in_ok-log.ensures.log (c.judge_by.ensures.quiet.honest honest)) c.in_ok-judge_by.ensures.folder
 
-pub returns-clause-stands : goal.returns-clause-stands
-returns-clause-stands g c honest =
-    stood_before (g.D.Disk.state c.args.disk.now) (g.D.Disk.state c.read_log.new.disk) c.args.path.now c.in_ok-log.log.end.told c.read_log.ensures.quiet (c.in_ok-judge_by.ensures.stands honest)
+pub returns-clause-represented : goal.returns-clause-represented
+returns-clause-represented g c honest =
+    stood_before (g.D.Disk.state c.args.disk.now) (g.D.Disk.state c.read_log.new.disk) c.args.path.now c.in_ok-log.log.end.recorded c.read_log.ensures.quiet (c.in_ok-judge_by.ensures.represented honest)
 
 pub returns-in_err-judge_by-clause-wrong : goal.returns-in_err-judge_by-clause-wrong
 returns-in_err-judge_by-clause-wrong g c honest =

@@ -19,9 +19,9 @@ use Rattle.base_folder.proofs.Wrongs.{sound_by}
 use Rattle.base_folder.proofs.looking.folder_by.Goals as goal
 
 -- it holds the bytes that the log counts
-by_log : (path : List ℕ) (d e : DiskState) (log : Log) (f : Folder) → ChangesNothing d e → IsFresh path f → f.end ≡ log.end → held_by e f ≡ base_at d path log.end.told
+by_log : (path : List ℕ) (d e : DiskState) (log : Log) (f : Folder) → ChangesNothing d e → IsFresh path f → f.end ≡ log.end → held_by e f ≡ base_at d path log.end.recorded
 by_log path d e log f quiet fresh same =
-    opened_bytes d e path f log.end.told (base_at d path log.end.told) quiet fresh.path (fresh.settled ∙ ap (λ (x : End). x.told) same) refl fresh.written
+    opened_bytes d e path f log.end.recorded (base_at d path log.end.recorded) quiet fresh.path (fresh.settled ∙ ap (λ (x : End). x.recorded) same) refl fresh.written
 
 pub returns-in_err-judge_by-clause-wrong : goal.returns-in_err-judge_by-clause-wrong
 returns-in_err-judge_by-clause-wrong g c honest =
@@ -35,7 +35,7 @@ judge_messages-requires g c =
     let d = g.D.Disk.state c.args.disk.now in
     let e = g.D.Disk.state c.judge_by.new.disk in
     let quiet = c.judge_by.ensures.quiet in
-    looked_at c.args.path.now d e c.args.log.now c.in_ok-folder.folder quiet c.requires.read.read c.in_ok-folder.ensures.fresh c.in_ok-folder.ensures.end c.in_ok-folder.ensures.keys c.requires.log c.in_ok-judge_by.ensures.stands
+    looked_at c.args.path.now d e c.args.log.now c.in_ok-folder.folder quiet c.requires.read.read c.in_ok-folder.ensures.fresh c.in_ok-folder.ensures.end c.in_ok-folder.ensures.keys c.requires.log c.in_ok-judge_by.ensures.represented
 
 pub returns-in_err-judge_messages-clause-wrong : goal.returns-in_err-judge_messages-clause-wrong
 returns-in_err-judge_messages-clause-wrong g c honest =
@@ -50,7 +50,7 @@ returns-in_err-judge_messages-clause-wrong g c honest =
     let why = c.in_err-judge_messages.field-0.0 in
     let bytes = by_log path d e log f quiet c.in_ok-folder.ensures.fresh c.in_ok-folder.ensures.end in
     err_is (IsUnseen keyed c.args.strange path d.seen) why c.from_residual-in_err-judge_messages.result c.from_residual-in_err-judge_messages.ensures.1
-    (unseen_message keyed c.args.strange path d.seen (held_by e f) why (λ b stands. bytes ∙ base_is path b d d log (quiet_disk d) (c.requires.log (quiet.honest h1)) c.requires.read.read stands) (c.in_err-judge_messages.ensures.damaged honest))
+    (unseen_message keyed c.args.strange path d.seen (held_by e f) why (λ b represented. bytes ∙ base_is path b d d log (quiet_disk d) (c.requires.log (quiet.honest h1)) c.requires.read.read represented) (c.in_err-judge_messages.ensures.damaged honest))
 
 pub returns-clause-bytes : goal.returns-clause-bytes
 returns-clause-bytes g c =
@@ -66,7 +66,7 @@ returns-clause-ready g c =
     let e = g.D.Disk.state c.judge_by.new.disk in
     let n = g.D.Disk.state c.judge_messages.new.disk in
     looked_quiet e n c.in_ok-folder.folder c.judge_messages.ensures.quiet
-    (looked_at c.args.path.now d e c.args.log.now c.in_ok-folder.folder c.judge_by.ensures.quiet c.requires.read.read c.in_ok-folder.ensures.fresh c.in_ok-folder.ensures.end c.in_ok-folder.ensures.keys c.requires.log c.in_ok-judge_by.ensures.stands)
+    (looked_at c.args.path.now d e c.args.log.now c.in_ok-folder.folder c.judge_by.ensures.quiet c.requires.read.read c.in_ok-folder.ensures.fresh c.in_ok-folder.ensures.end c.in_ok-folder.ensures.keys c.requires.log c.in_ok-judge_by.ensures.represented)
 
 pub returns-clause-vouched : goal.returns-clause-vouched
 returns-clause-vouched g c honest =
@@ -80,5 +80,5 @@ returns-clause-sound g c honest =
     let h1 = c.judge_messages.ensures.quiet.honest honest in
     let d = g.D.Disk.state c.args.disk.now in
     let log = c.args.log.now in
-    sound_by c.args.strange c.args.path.now d.seen log.end (base_at d c.args.path.now log.end.told)
-    (subst (λ (l : List ℕ). IsFolderLog c.args.strange l log.end) (c.requires.log (c.judge_by.ensures.quiet.honest h1)) c.in_ok-judge_by.ensures.folder) (c.in_ok-judge_by.ensures.stands h1)
+    sound_by c.args.strange c.args.path.now d.seen log.end (base_at d c.args.path.now log.end.recorded)
+    (subst (λ (l : List ℕ). IsFolderLog c.args.strange l log.end) (c.requires.log (c.judge_by.ensures.quiet.honest h1)) c.in_ok-judge_by.ensures.folder) (c.in_ok-judge_by.ensures.represented h1)

@@ -1,7 +1,7 @@
 use Rattle.std.proofs.Common.{◌≡◌, Option, sym, subst}
 use Rattle.std.specs.Prelude.{IfSome}
 use Rattle.disk_io.specs.Disk.{Files, Honestly}
-use Rattle.base_log.specs.Standing.{StandsFor}
+use Rattle.base_log.specs.Standing.{Represents}
 use Rattle.base_folder_store.specs.Opened.{held_by}
 use Rattle.base_folder_store.specs.Vouched.{IsLookedAt}
 use Rattle.base_folder.specs.Looked.{AreVouched, HasLogs, IsUnseen}
@@ -22,13 +22,13 @@ returns-in_err-looked-clause-wrong g c honest =
     (subst (λ (f : Files). IsUnseen keyed c.args.strange path f e) same (c.in_err-looked.ensures.wrong honest))
 
 pub returns-in-Some-clause-found : goal.returns-in-Some-clause-found
-returns-in-Some-clause-found g c honest base stands =
+returns-in-Some-clause-found g c honest base represented =
     let d0 = g.D.Disk.state c.args.disk.now in
     let d1 = g.D.Disk.state c.tries.disk in
     let d2 = g.D.Disk.state c.look_once.new.disk in
     let same : d1.seen ≡ d0.seen = λ i m. c.tries.invariant.quiet.seen m i in
     subst (λ (o : Option LookedFolder). IfSome o (λ l. held_by d2 l.folder ≡ base)) c.in-Some.is
-    (c.in_ok-looked.ensures.found honest base (subst (λ (f : Files). StandsFor c.args.path.now base f) (sym same) stands))
+    (c.in_ok-looked.ensures.found honest base (subst (λ (f : Files). Represents c.args.path.now base f) (sym same) represented))
 
 pub returns-in-Some-clause-ready : goal.returns-in-Some-clause-ready
 returns-in-Some-clause-ready g c =

@@ -25,7 +25,7 @@ returns-in_err-folder-clause-wrong g c honest =
     (at_err (IsUnseen keyed c.args.strange path d1.seen) c.folder_by-read.result e c.in_err-folder.was (c.folder_by-read.ensures.wrong (c.read_log-2.ensures.quiet.honest honest))))
 
 pub returns-clause-found : goal.returns-clause-found
-returns-clause-found g c honest base stands =
+returns-clause-found g c honest base represented =
     let path = c.args.path.now in
     let d0 = g.D.Disk.state c.args.disk.now in
     let d1 = g.D.Disk.state c.read_log.new.disk in
@@ -35,9 +35,9 @@ returns-clause-found g c honest base stands =
     let folder = c.in_ok-folder.folder in
     let h2 = c.read_log-2.ensures.quiet.honest honest in
     let h1 = c.folder_by-read.ensures.quiet.honest h2 in
-    let is = base_is path base d0 d1 log c.read_log.ensures.quiet (c.in_ok-before.ensures.log h1) c.in_ok-before.ensures.read stands in
+    let is = base_is path base d0 d1 log c.read_log.ensures.quiet (c.in_ok-before.ensures.log h1) c.in_ok-before.ensures.read represented in
     held_quiet d2 d3 folder c.read_log-2.ensures.quiet
-    ∙ at_ok (λ f. held_by d2 f ≡ base_at d1 path log.end.told) c.folder_by-read.result folder c.in_ok-folder.was c.folder_by-read.ensures.bytes
+    ∙ at_ok (λ f. held_by d2 f ≡ base_at d1 path log.end.recorded) c.folder_by-read.result folder c.in_ok-folder.was c.folder_by-read.ensures.bytes
     ∙ is
 
 pub returns-clause-seen : goal.returns-clause-seen

@@ -9,7 +9,7 @@ open-requires-clause-alone g c honest = λ m inside. c.judged.ensures.quiet.alon
 pub open-requires-clause-log : goal.open-requires-clause-log
 open-requires-clause-log g c =
     let says = c.in_ok-log.ensures in
-    log_since c.args.path.now (g.D.Disk.state c.args.disk.now) (g.D.Disk.state c.judged.new.disk) c.in_ok-log.log c.judged.ensures.quiet says.digit says.read says.log says.stands
+    log_since c.args.path.now (g.D.Disk.state c.args.disk.now) (g.D.Disk.state c.judged.new.disk) c.in_ok-log.log c.judged.ensures.quiet says.digit says.read says.log says.represented
 
 pub returns-in_err-log-clause-run : goal.returns-in_err-log-clause-run
 returns-in_err-log-clause-run g c = looked_only c.args.path.now (g.D.Disk.state c.args.disk.now) (g.D.Disk.state c.judged.new.disk) c.judged.ensures.quiet
@@ -20,9 +20,9 @@ returns-in_err-folder-clause-run g c =
     opened_only c.args.path.now (g.D.Disk.state c.args.disk.now) (g.D.Disk.state c.judged.new.disk) (g.D.Disk.state c.open.new.disk) c.in_ok-log.log c.judged.ensures.quiet says.log says.read c.open.ensures.any_moment c.open.ensures.outside
 
 pub returns-clause-same : goal.returns-clause-same
-returns-clause-same g c honest keyed base stands =
+returns-clause-same g c honest keyed base represented =
     let h1 = c.open.ensures.outside.honest honest in
-    opened_holds keyed c.args.path.now (g.D.Disk.state c.args.disk.now) (g.D.Disk.state c.judged.new.disk) (g.D.Disk.state c.open.new.disk) c.in_ok-log.log c.in_ok-folder.folder base stands c.judged.ensures.quiet
+    opened_holds keyed c.args.path.now (g.D.Disk.state c.args.disk.now) (g.D.Disk.state c.judged.new.disk) (g.D.Disk.state c.open.new.disk) c.in_ok-log.log c.in_ok-folder.folder base represented c.judged.ensures.quiet
     (c.in_ok-log.ensures.log h1) c.in_ok-log.ensures.read (c.in_ok-folder.ensures.found honest)
 
 pub returns-clause-run : goal.returns-clause-run
@@ -35,4 +35,4 @@ returns-clause-sound g c honest =
     let h1 = c.open.ensures.outside.honest honest in
     let d0 = g.D.Disk.state c.args.disk.now in
     let end = c.in_ok-log.log.end in
-    sound_by c.args.strange c.args.path.now d0.seen end (base_at d0 c.args.path.now end.told) (c.in_ok-log.ensures.folder h1) (c.in_ok-log.ensures.stands h1)
+    sound_by c.args.strange c.args.path.now d0.seen end (base_at d0 c.args.path.now end.recorded) (c.in_ok-log.ensures.folder h1) (c.in_ok-log.ensures.represented h1)

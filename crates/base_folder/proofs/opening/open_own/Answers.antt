@@ -6,7 +6,7 @@ use Rattle.base_folder_store.specs.Opened.{path_of}
 use Rattle.base_folder_store.specs.declared.folder.Folder.{Folder}
 use Rattle.base_folder.specs.Ours.{IsLeftAlone, IsNotOurs, number_of}
 use Rattle.base_folder.proofs.Lookings.{err_is}
-use Rattle.base_folder.proofs.Openings.{claimed_committed, claimed_named, claimed_opened, claimed_same, log_since, looked_only, opened_holds, opened_only, other_cause, other_left, other_told, told_other}
+use Rattle.base_folder.proofs.Openings.{claimed_committed, claimed_named, claimed_opened, claimed_same, log_since, looked_only, opened_holds, opened_only, other_cause, other_left, other_recorded, recorded_other}
 use Rattle.base_folder.proofs.Wrongs.{sound_by}
 use Rattle.base_folder.proofs.opening.open_own.Goals as goal
 
@@ -16,7 +16,7 @@ open-requires-clause-alone g c honest = λ m inside. c.judged.ensures.quiet.alon
 pub open-requires-clause-log : goal.open-requires-clause-log
 open-requires-clause-log g c =
     let says = c.in_ok-log.ensures in
-    log_since c.args.path.now (g.D.Disk.state c.args.disk.now) (g.D.Disk.state c.judged.new.disk) c.in_ok-log.log c.judged.ensures.quiet says.digit says.read says.log says.stands
+    log_since c.args.path.now (g.D.Disk.state c.args.disk.now) (g.D.Disk.state c.judged.new.disk) c.in_ok-log.log c.judged.ensures.quiet says.digit says.read says.log says.represented
 
 pub returns-in_err-log-clause-run : goal.returns-in_err-log-clause-run
 returns-in_err-log-clause-run g c = looked_only c.args.path.now (g.D.Disk.state c.args.disk.now) (g.D.Disk.state c.judged.new.disk) c.judged.ensures.quiet
@@ -24,7 +24,7 @@ returns-in_err-log-clause-run g c = looked_only c.args.path.now (g.D.Disk.state 
 pub claim_for-requires : goal.claim_for-requires
 claim_for-requires g c =
     let own = c.args.own in
-    subst (λ (t : CommitRecord). (t.mark.owner ≡ 0) ⊎ (t.mark.owner ≡ number_of own)) (sym (c.in_ok-folder.ensures.fresh.settled ∙ ap (λ (e : End). e.told) c.in_ok-folder.ensures.end))
+    subst (λ (t : CommitRecord). (t.mark.owner ≡ 0) ⊎ (t.mark.owner ≡ number_of own)) (sym (c.in_ok-folder.ensures.fresh.settled ∙ ap (λ (e : End). e.recorded) c.in_ok-folder.ensures.end))
     c.in_ok-judge_owner.ensures.ours
 
 pub returns-in_err-judge_owner-clause-run : goal.returns-in_err-judge_owner-clause-run
@@ -35,21 +35,21 @@ returns-in_err-judge_owner-clause-refused g c = λ honest.
     let old = g.D.Disk.state c.args.disk.now in
     let new = g.D.Disk.state c.judged.new.disk in
     let e = c.in_err-judge_owner.field-0.0 in
-    err_is (IsLeftAlone old new) e c.from_residual-in_err-judge_owner.result c.from_residual-in_err-judge_owner.ensures.1 (other_left c.args.own c.in_ok-log.log.end.told.mark old new e c.judged.ensures.quiet c.in_err-judge_owner.ensures.other)
+    err_is (IsLeftAlone old new) e c.from_residual-in_err-judge_owner.result c.from_residual-in_err-judge_owner.ensures.1 (other_left c.args.own c.in_ok-log.log.end.recorded.mark old new e c.judged.ensures.quiet c.in_err-judge_owner.ensures.other)
 
 pub returns-in_err-judge_owner-clause-wrong : goal.returns-in_err-judge_owner-clause-wrong
 returns-in_err-judge_owner-clause-wrong g c = λ honest.
     let own = c.args.own in
     let path = c.args.path.now in
     let files = (g.D.Disk.state c.args.disk.now).seen in
-    let told = c.in_ok-log.log.end.told in
+    let recorded = c.in_ok-log.log.end.recorded in
     let e = c.in_err-judge_owner.field-0.0 in
     err_is (IsNotOurs own c.args.strange path files) e c.from_residual-in_err-judge_owner.result c.from_residual-in_err-judge_owner.ensures.1
-    (other_told own c.args.strange path files told e (record { end = c.in_ok-log.log.end; log = c.in_ok-log.ensures.folder honest; is = refl }) c.in_err-judge_owner.ensures.other)
+    (other_recorded own c.args.strange path files recorded e (record { end = c.in_ok-log.log.end; log = c.in_ok-log.ensures.folder honest; is = refl }) c.in_err-judge_owner.ensures.other)
 
 pub returns-in_err-judge_owner-clause-cause : goal.returns-in_err-judge_owner-clause-cause
 returns-in_err-judge_owner-clause-cause g c =
-    other_cause c.args.own c.in_ok-log.log.end.told.mark c.in_err-judge_owner.field-0.0 _ _ c.from_residual-in_err-judge_owner.result c.from_residual-in_err-judge_owner.ensures.1 c.judged.ensures.cause.later c.in_err-judge_owner.ensures.other
+    other_cause c.args.own c.in_ok-log.log.end.recorded.mark c.in_err-judge_owner.field-0.0 _ _ c.from_residual-in_err-judge_owner.result c.from_residual-in_err-judge_owner.ensures.1 c.judged.ensures.cause.later c.in_err-judge_owner.ensures.other
 
 pub returns-in_err-folder-clause-run : goal.returns-in_err-folder-clause-run
 returns-in_err-folder-clause-run g c =
@@ -57,7 +57,7 @@ returns-in_err-folder-clause-run g c =
     opened_only c.args.path.now (g.D.Disk.state c.args.disk.now) (g.D.Disk.state c.judged.new.disk) (g.D.Disk.state c.open.new.disk) c.in_ok-log.log c.judged.ensures.quiet says.log says.read c.open.ensures.any_moment c.open.ensures.outside
 
 pub returns-clause-same : goal.returns-clause-same
-returns-clause-same g c honest keyed base fits stands =
+returns-clause-same g c honest keyed base fits represented =
     let h1 = c.open.ensures.outside.honest honest in
     let d = g.D.Disk.state c.open.new.disk in
     let f = c.in_ok-folder.folder in
@@ -65,7 +65,7 @@ returns-clause-same g c honest keyed base fits stands =
     let only = c.claim_for.ensures.only in
     let fresh = c.in_ok-folder.ensures.fresh in
     let holds =
-    opened_holds keyed c.args.path.now (g.D.Disk.state c.args.disk.now) (g.D.Disk.state c.judged.new.disk) d c.in_ok-log.log f base stands c.judged.ensures.quiet (c.in_ok-log.ensures.log h1) c.in_ok-log.ensures.read (c.in_ok-folder.ensures.found honest) in
+    opened_holds keyed c.args.path.now (g.D.Disk.state c.args.disk.now) (g.D.Disk.state c.judged.new.disk) d c.in_ok-log.log f base represented c.judged.ensures.quiet (c.in_ok-log.ensures.log h1) c.in_ok-log.ensures.read (c.in_ok-folder.ensures.found honest) in
     record {
       held = claimed_same keyed fits d f n base (c.in_ok-folder.ensures.opened honest) only c.claim_for.ensures.key c.claim_for.ensures.ours.kept holds;
       committed = claimed_committed keyed d f n base only fresh.settled fresh.written holds;
@@ -81,14 +81,14 @@ returns-clause-sound g c honest =
     let h1 = c.open.ensures.outside.honest honest in
     let d0 = g.D.Disk.state c.args.disk.now in
     let end = c.in_ok-log.log.end in
-    sound_by c.args.strange c.args.path.now d0.seen end (base_at d0 c.args.path.now end.told) (c.in_ok-log.ensures.folder h1) (c.in_ok-log.ensures.stands h1)
+    sound_by c.args.strange c.args.path.now d0.seen end (base_at d0 c.args.path.now end.recorded) (c.in_ok-log.ensures.folder h1) (c.in_ok-log.ensures.represented h1)
 
 pub returns-clause-other : goal.returns-clause-other
 returns-clause-other g c honest address other =
     let h1 = c.open.ensures.outside.honest honest in
     let own = c.args.own in
-    let told = c.in_ok-log.log.end.told in
-    told_other own c.args.strange c.args.path.now (g.D.Disk.state c.args.disk.now).seen told address (record { end = c.in_ok-log.log.end; log = c.in_ok-log.ensures.folder h1; is = refl })
+    let recorded = c.in_ok-log.log.end.recorded in
+    recorded_other own c.args.strange c.args.path.now (g.D.Disk.state c.args.disk.now).seen recorded address (record { end = c.in_ok-log.log.end; log = c.in_ok-log.ensures.folder h1; is = refl })
     c.in_ok-judge_owner.ensures.ours other
 
 pub returns-clause-own : goal.returns-clause-own
@@ -106,11 +106,11 @@ returns-clause-own g c =
       ours = c.claim_for.ensures.ours.owner;
       drawn = λ none.
           ⊎_elim
-          (λ (free : c.in_ok-log.log.end.told.mark.owner ≡ 0). inl (c.claim_for.ensures.drawn (record {
-            owner = ap (λ (t : CommitRecord). t.mark.owner) fresh.settled ∙ ap (λ (e : End). e.told.mark.owner) end ∙ free;
+          (λ (free : c.in_ok-log.log.end.recorded.mark.owner ≡ 0). inl (c.claim_for.ensures.drawn (record {
+            owner = ap (λ (t : CommitRecord). t.mark.owner) fresh.settled ∙ ap (λ (e : End). e.recorded.mark.owner) end ∙ free;
             keys = sym (ap (λ (x : Folder). x.keys) only) ∙ none;
           })))
-          (λ (ours : c.in_ok-log.log.end.told.mark.owner ≡ number_of c.args.own).
-          inr (ap (λ (x : Folder). x.end.told.mark.owner) only ∙ ap (λ (e : End). e.told.mark.owner) end ∙ ours))
+          (λ (ours : c.in_ok-log.log.end.recorded.mark.owner ≡ number_of c.args.own).
+          inr (ap (λ (x : Folder). x.end.recorded.mark.owner) only ∙ ap (λ (e : End). e.recorded.mark.owner) end ∙ ours))
           c.in_ok-judge_owner.ensures.ours;
     }

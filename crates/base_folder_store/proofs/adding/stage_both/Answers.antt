@@ -17,49 +17,49 @@ stage_bytes-requires-clause-staged g c = record { names = c.requires.names; stag
 
 pub stage_bytes-requires-2-clause-staged : goal.stage_bytes-requires-2-clause-staged
 stage_bytes-requires-2-clause-staged g c = record {
-  names = subst (λ (n : ℕ). AreNames c.args.names.now n) (sym (ap (λ (t : CommitRecord). t.number) c.in_ok-more.ensures.told)) c.requires.names;
+  names = subst (λ (n : ℕ). AreNames c.args.names.now n) (sym (ap (λ (t : CommitRecord). t.number) c.in_ok-more.ensures.recorded)) c.requires.names;
   staged = c.in_ok-more.ensures.staged;
 }
 
 pub stage_bytes-requires-2-clause-room : goal.stage_bytes-requires-2-clause-room
-stage_bytes-requires-2-clause-room g c = subst (λ (n : ℕ). n + length c.args.keys.now < 2 ^ 64) (sym (ap (λ (t : CommitRecord). t.keys) c.in_ok-more.ensures.told)) c.requires.keys_room
+stage_bytes-requires-2-clause-room g c = subst (λ (n : ℕ). n + length c.args.keys.now < 2 ^ 64) (sym (ap (λ (t : CommitRecord). t.keys) c.in_ok-more.ensures.recorded)) c.requires.keys_room
 
 -- the bytes of the second call, after those of the first
-both : (path : List ℕ) (d e f : DiskState) (end : End) (told more : CommitRecord) (bytes keys : List ℕ) (r : Result CommitRecord DiskError) → (f.is_honest → e.is_honest) → more ≡ record told { messages = told.messages + length bytes }
-    → Honestly e (HoldsNext e path end.told (base_at d path end.told) (and_messages (base_at d path told) bytes) more) → IfOk r (λ m. m ≡ record more { keys = more.keys + length keys })
-    → Honestly f (IfOk r (λ m. IsStaged f path end m)) → Honestly f (IfOk r (HoldsNext f path end.told (base_at e path end.told) (and_keys (base_at e path more) keys)))
-    → IfOk r (λ m. StagesBoth path d f end told m bytes keys)
-both path d e f end told more bytes keys (Ok m) since is first next staged second = record {
+both : (path : List ℕ) (d e f : DiskState) (end : End) (recorded more : CommitRecord) (bytes keys : List ℕ) (r : Result CommitRecord DiskError) → (f.is_honest → e.is_honest) → more ≡ record recorded { messages = recorded.messages + length bytes }
+    → Honestly e (HoldsNext e path end.recorded (base_at d path end.recorded) (and_messages (base_at d path recorded) bytes) more) → IfOk r (λ m. m ≡ record more { keys = more.keys + length keys })
+    → Honestly f (IfOk r (λ m. IsStaged f path end m)) → Honestly f (IfOk r (HoldsNext f path end.recorded (base_at e path end.recorded) (and_keys (base_at e path more) keys)))
+    → IfOk r (λ m. StagesBoth path d f end recorded m bytes keys)
+both path d e f end recorded more bytes keys (Ok m) since is first next staged second = record {
   staged = staged;
   added = λ honest. (second honest).added ∙ ap (λ (b : BaseBytes). and_keys b keys) (first (since honest)).added;
   same = λ honest. (second honest).same ∙ (first (since honest)).same;
   number = ap (λ (t : CommitRecord). t.number) next ∙ ap (λ (t : CommitRecord). t.number) is;
   mark = ap (λ (t : CommitRecord). t.mark) next ∙ ap (λ (t : CommitRecord). t.mark) is;
 }
-both path d e f end told more bytes keys (Err failed) since is first next staged second = tt
+both path d e f end recorded more bytes keys (Err failed) since is first next staged second = tt
 
 pub returns-clause-staged : goal.returns-clause-staged
 returns-clause-staged g c =
     let one = c.in_ok-more.ensures in
     let two = c.stage_bytes-2.ensures in
-    both (folder_of c.args.names.now) (g.D.Disk.state c.args.disk.now) (g.D.Disk.state c.stage_bytes.new.disk) (g.D.Disk.state c.stage_bytes-2.new.disk) c.args.end c.args.told c.in_ok-more.more c.args.bytes.now c.args.keys.now c.stage_bytes-2.result
-    two.run.outside.honest one.told one.next two.told two.staged two.next
+    both (folder_of c.args.names.now) (g.D.Disk.state c.args.disk.now) (g.D.Disk.state c.stage_bytes.new.disk) (g.D.Disk.state c.stage_bytes-2.new.disk) c.args.end c.args.recorded c.in_ok-more.more c.args.bytes.now c.args.keys.now c.stage_bytes-2.result
+    two.run.outside.honest one.recorded one.next two.recorded two.staged two.next
 
 pub returns-clause-run : goal.returns-clause-run
 returns-clause-run g c =
     let path = folder_of c.args.names.now in
     let d = g.D.Disk.state c.args.disk.now in
     let e = g.D.Disk.state c.stage_bytes.new.disk in
-    run_twice path path d e (g.D.Disk.state c.stage_bytes-2.new.disk) (base_at d path c.args.end.told) (base_at e path c.args.end.told) refl
+    run_twice path path d e (g.D.Disk.state c.stage_bytes-2.new.disk) (base_at d path c.args.end.recorded) (base_at e path c.args.end.recorded) refl
     c.stage_bytes.ensures.run c.stage_bytes-2.ensures.run (λ honest. (c.in_ok-more.ensures.next honest).same)
 
-pub returns-in_err-more-clause-beside : goal.returns-in_err-more-clause-beside
-returns-in_err-more-clause-beside g c = λ m messages keys. c.stage_bytes.ensures.beside m messages
+pub returns-in_err-more-clause-others : goal.returns-in_err-more-clause-others
+returns-in_err-more-clause-others g c = λ m messages keys. c.stage_bytes.ensures.others m messages
 
-pub returns-clause-beside : goal.returns-clause-beside
-returns-clause-beside g c = λ m messages keys.
-    c.stage_bytes-2.ensures.beside m (λ is. keys (is ∙ ap (λ (t : CommitRecord). keys_of (folder_of c.args.names.now) t.number) c.in_ok-more.ensures.told))
-    ∙ c.stage_bytes.ensures.beside m messages
+pub returns-clause-others : goal.returns-clause-others
+returns-clause-others g c = λ m messages keys.
+    c.stage_bytes-2.ensures.others m (λ is. keys (is ∙ ap (λ (t : CommitRecord). keys_of (folder_of c.args.names.now) t.number) c.in_ok-more.ensures.recorded))
+    ∙ c.stage_bytes.ensures.others m messages
 
 pub returns-clause-leaves : goal.returns-clause-leaves
 returns-clause-leaves g c =

@@ -5,8 +5,8 @@ use Rattle.disk_io.specs.Runs.{ChangesNothing}
 use Rattle.disk_io.proofs.Moments.{then_nothing, left_now}
 use Rattle.base_log.specs.declared.log.End.{End}
 use Rattle.base_log.specs.Names.{folder_of, log_of, messages_of, keys_of}
-use Rattle.base_log.specs.Moments.{StagesOnly, StandsAlone}
-use Rattle.base_log.specs.Standing.{BaseBytes, StandsFor, base_at}
+use Rattle.base_log.specs.Moments.{StagesOnly, RepresentsAlone}
+use Rattle.base_log.specs.Standing.{BaseBytes, Represents, base_at}
 use Rattle.base_log.proofs.Keeping.{log_moved, on_disk_but_one, on_disk_quiet, outside_but_one, outside_quiet, outside_twice}
 use Rattle.base_log.proofs.Calls.{Made, but_one_call}
 use Rattle.base_log.proofs.Made.{keys_run, messages_run, outside_both}
@@ -27,26 +27,26 @@ keys_made g c =
 
 -- a run that leaves the base at rest, and changes no files but those of the number
 record Makes (path : List ℕ) (end : End) (number : ℕ) (old new : DiskState) : Type 0 where
-  run : StagesOnly path (base_at old path end.told) old new
-  beside : (m : List ℕ) → m ≢ messages_of path number → m ≢ keys_of path number → new.seen m ≡ old.seen m
+  run : StagesOnly path (base_at old path end.recorded) old new
+  others : (m : List ℕ) → m ≢ messages_of path number → m ≢ keys_of path number → new.seen m ≡ old.seen m
 
 then_quiet : {path : List ℕ} {end : End} {number : ℕ} {old mid : DiskState} (new : DiskState) → Makes path end number old mid → ChangesNothing mid new → Makes path end number old new
 then_quiet {path} {end} {number} {old} {mid} new was quiet = record {
   run = record {
-    any_moment = λ honest. then_nothing old mid new (StandsAlone path old (base_at old path end.told)) (was.run.any_moment (quiet.honest honest)) quiet;
+    any_moment = λ honest. then_nothing old mid new (RepresentsAlone path old (base_at old path end.recorded)) (was.run.any_moment (quiet.honest honest)) quiet;
     outside = outside_twice path old mid new was.run.outside (outside_quiet path mid new quiet);
   };
-  beside = λ m ne nk. quiet.seen m ∙ was.beside m ne nk;
+  others = λ m ne nk. quiet.seen m ∙ was.others m ne nk;
 }
 
-module _ {path : List ℕ} {end : End} {number : ℕ} {old new : DiskState} (other : number ≢ end.told.number) (made : Makes path end number old new) where
-  messages_same : new.seen (messages_of path end.told.number) ≡ old.seen (messages_of path end.told.number)
-  messages_same = made.beside (messages_of path end.told.number) (λ is. other (sym (messages_of-injective path end.told.number number is))) (messages_not_keys path end.told.number number)
+module _ {path : List ℕ} {end : End} {number : ℕ} {old new : DiskState} (other : number ≢ end.recorded.number) (made : Makes path end number old new) where
+  messages_same : new.seen (messages_of path end.recorded.number) ≡ old.seen (messages_of path end.recorded.number)
+  messages_same = made.others (messages_of path end.recorded.number) (λ is. other (sym (messages_of-injective path end.recorded.number number is))) (messages_not_keys path end.recorded.number number)
 
-  keys_same : new.seen (keys_of path end.told.number) ≡ old.seen (keys_of path end.told.number)
-  keys_same = made.beside (keys_of path end.told.number) (keys_not_messages path end.told.number number) (λ is. other (sym (keys_of-injective path end.told.number number is)))
+  keys_same : new.seen (keys_of path end.recorded.number) ≡ old.seen (keys_of path end.recorded.number)
+  keys_same = made.others (keys_of path end.recorded.number) (keys_not_messages path end.recorded.number number) (λ is. other (sym (keys_of-injective path end.recorded.number number is)))
 
-  same_base_left : base_at new path end.told ≡ base_at old path end.told
+  same_base_left : base_at new path end.recorded ≡ base_at old path end.recorded
   same_base_left = same_base old new path end messages_same keys_same
 
 one_made : (g : given.Over) (c : After-create g) → Makes (folder_of c.args.names.now) c.args.end c.args.number (g.D.Disk.state c.args.disk.now) (g.D.Disk.state c.create.new.self)
@@ -62,7 +62,7 @@ one_made g c =
             alone_run d0 path c.args.end rest d1 (messages_run d0 path c.args.end rest c.args.number c.requires.free.other d1 one);
         outside = outside_but_one path d0 d1 (messages_of path c.args.number) (messages_in path c.args.number) (but_one_call d0 d1 (messages_of path c.args.number) one);
       };
-      beside = λ m ne nk. one.beside m ne;
+      others = λ m ne nk. one.others m ne;
     }
 
 both_made : (g : given.Over) (c : After-create-2 g) (one : Made (g.D.Disk.state c.args.disk.now) (g.D.Disk.state c.create.new.self) (messages_of (folder_of c.args.names.now) c.args.number))
@@ -80,7 +80,7 @@ both_made g c one =
             alone_run d0 path c.args.end rest d2 (keys_run d0 path c.args.end rest c.args.number c.requires.free.other d1 one d2 two);
         outside = outside_both path c.args.number d0 d1 d2 one two;
       };
-      beside = λ m ne nk. two.beside m nk ∙ one.beside m ne;
+      others = λ m ne nk. two.others m nk ∙ one.others m ne;
     }
 
 pub returns-in_err-create-clause-run : goal.returns-in_err-create-clause-run
@@ -89,8 +89,8 @@ returns-in_err-create-clause-run g c = (one_made g (goal.at.returns-in_err-creat
 pub returns-in_err-create-clause-same : goal.returns-in_err-create-clause-same
 returns-in_err-create-clause-same g c honest = same_base_left c.requires.free.other (one_made g (goal.at.returns-in_err-create-clause-same g c).After-create)
 
-pub returns-in_err-create-clause-beside : goal.returns-in_err-create-clause-beside
-returns-in_err-create-clause-beside g c = (one_made g (goal.at.returns-in_err-create-clause-beside g c).After-create).beside
+pub returns-in_err-create-clause-others : goal.returns-in_err-create-clause-others
+returns-in_err-create-clause-others g c = (one_made g (goal.at.returns-in_err-create-clause-others g c).After-create).others
 
 pub returns-in_err-create-2-clause-run : goal.returns-in_err-create-2-clause-run
 returns-in_err-create-2-clause-run g c = (both_made g (goal.at.returns-in_err-create-2-clause-run g c).After-create-2 (messages_made g (goal.at.returns-in_err-create-2-clause-run g c).After-create)).run
@@ -98,8 +98,8 @@ returns-in_err-create-2-clause-run g c = (both_made g (goal.at.returns-in_err-cr
 pub returns-in_err-create-2-clause-same : goal.returns-in_err-create-2-clause-same
 returns-in_err-create-2-clause-same g c honest = same_base_left c.requires.free.other (both_made g (goal.at.returns-in_err-create-2-clause-same g c).After-create-2 (messages_made g (goal.at.returns-in_err-create-2-clause-same g c).After-create))
 
-pub returns-in_err-create-2-clause-beside : goal.returns-in_err-create-2-clause-beside
-returns-in_err-create-2-clause-beside g c = (both_made g (goal.at.returns-in_err-create-2-clause-beside g c).After-create-2 (messages_made g (goal.at.returns-in_err-create-2-clause-beside g c).After-create)).beside
+pub returns-in_err-create-2-clause-others : goal.returns-in_err-create-2-clause-others
+returns-in_err-create-2-clause-others g c = (both_made g (goal.at.returns-in_err-create-2-clause-others g c).After-create-2 (messages_made g (goal.at.returns-in_err-create-2-clause-others g c).After-create)).others
 
 pub returns-in_err-sync_folder_of-clause-run : goal.returns-in_err-sync_folder_of-clause-run
 returns-in_err-sync_folder_of-clause-run g c = (then_quiet (g.D.Disk.state c.sync_folder_of.new.disk) (both_made g (goal.at.returns-in_err-sync_folder_of-clause-run g c).After-create-2 (messages_made g (goal.at.returns-in_err-sync_folder_of-clause-run g c).After-create)) c.sync_folder_of.ensures.quiet).run
@@ -107,8 +107,8 @@ returns-in_err-sync_folder_of-clause-run g c = (then_quiet (g.D.Disk.state c.syn
 pub returns-in_err-sync_folder_of-clause-same : goal.returns-in_err-sync_folder_of-clause-same
 returns-in_err-sync_folder_of-clause-same g c honest = same_base_left c.requires.free.other (then_quiet (g.D.Disk.state c.sync_folder_of.new.disk) (both_made g (goal.at.returns-in_err-sync_folder_of-clause-same g c).After-create-2 (messages_made g (goal.at.returns-in_err-sync_folder_of-clause-same g c).After-create)) c.sync_folder_of.ensures.quiet)
 
-pub returns-in_err-sync_folder_of-clause-beside : goal.returns-in_err-sync_folder_of-clause-beside
-returns-in_err-sync_folder_of-clause-beside g c = (then_quiet (g.D.Disk.state c.sync_folder_of.new.disk) (both_made g (goal.at.returns-in_err-sync_folder_of-clause-beside g c).After-create-2 (messages_made g (goal.at.returns-in_err-sync_folder_of-clause-beside g c).After-create)) c.sync_folder_of.ensures.quiet).beside
+pub returns-in_err-sync_folder_of-clause-others : goal.returns-in_err-sync_folder_of-clause-others
+returns-in_err-sync_folder_of-clause-others g c = (then_quiet (g.D.Disk.state c.sync_folder_of.new.disk) (both_made g (goal.at.returns-in_err-sync_folder_of-clause-others g c).After-create-2 (messages_made g (goal.at.returns-in_err-sync_folder_of-clause-others g c).After-create)) c.sync_folder_of.ensures.quiet).others
 
 pub returns-clause-run : goal.returns-clause-run
 returns-clause-run g c = (then_quiet (g.D.Disk.state c.sync_folder_of.new.disk) (both_made g (goal.at.returns-clause-run g c).After-create-2 (messages_made g (goal.at.returns-clause-run g c).After-create)) c.sync_folder_of.ensures.quiet).run
@@ -116,8 +116,8 @@ returns-clause-run g c = (then_quiet (g.D.Disk.state c.sync_folder_of.new.disk) 
 pub returns-clause-same : goal.returns-clause-same
 returns-clause-same g c honest = same_base_left c.requires.free.other (then_quiet (g.D.Disk.state c.sync_folder_of.new.disk) (both_made g (goal.at.returns-clause-same g c).After-create-2 (messages_made g (goal.at.returns-clause-same g c).After-create)) c.sync_folder_of.ensures.quiet)
 
-pub returns-clause-beside : goal.returns-clause-beside
-returns-clause-beside g c = (then_quiet (g.D.Disk.state c.sync_folder_of.new.disk) (both_made g (goal.at.returns-clause-beside g c).After-create-2 (messages_made g (goal.at.returns-clause-beside g c).After-create)) c.sync_folder_of.ensures.quiet).beside
+pub returns-clause-others : goal.returns-clause-others
+returns-clause-others g c = (then_quiet (g.D.Disk.state c.sync_folder_of.new.disk) (both_made g (goal.at.returns-clause-others g c).After-create-2 (messages_made g (goal.at.returns-clause-others g c).After-create)) c.sync_folder_of.ensures.quiet).others
 
 pub returns-clause-staged : goal.returns-clause-staged
 returns-clause-staged g c honest =
@@ -135,18 +135,18 @@ returns-clause-staged g c honest =
     let d3 = g.D.Disk.state c.sync_folder_of.new.disk in
     let made = then_quiet d3 (both_made g (goal.at.returns-clause-staged g c).After-create-2 one) quiet in
     let rest = c.requires.settled (one.time.honest (two.time.honest (quiet.honest honest))) in
-    let same : base_at d3 path end.told ≡ base_at d0 path end.told = same_base_left c.requires.free.other made in
-    let log_seen : d3.seen (log_of path) ≡ d0.seen (log_of path) = made.beside (log_of path) (log_not_messages path number) (log_not_keys path number) in
+    let same : base_at d3 path end.recorded ≡ base_at d0 path end.recorded = same_base_left c.requires.free.other made in
+    let log_seen : d3.seen (log_of path) ≡ d0.seen (log_of path) = made.others (log_of path) (log_not_messages path number) (log_not_keys path number) in
     let on = on_disk_quiet d2 d3 (log_of path) quiet
     (on_disk_but_one d1 d2 (log_of path) k (but_one_call d1 d2 k two) (log_not_keys path number) (on_disk_but_one d0 d1 (log_of path) m (but_one_call d0 d1 m one) (log_not_messages path number) rest.log.on_disk)) in
     let messages : c.deref.result.now ≡ m = c.deref.ensures.value ∙ c.requires.names.messages in
     let keys : c.deref-2.result.now ≡ k = c.deref-2.ensures.value ∙ c.requires.names.keys in
-    let m_made : d3.seen m ≡ Some [] = quiet.seen m ∙ two.beside m (messages_not_keys path number number) ∙ subst (λ (l : List ℕ). d1.seen l ≡ Some []) messages c.in_ok-create.ensures.made in
+    let m_made : d3.seen m ≡ Some [] = quiet.seen m ∙ two.others m (messages_not_keys path number number) ∙ subst (λ (l : List ℕ). d1.seen l ≡ Some []) messages c.in_ok-create.ensures.made in
     let k_made : d3.seen k ≡ Some [] = quiet.seen k ∙ subst (λ (l : List ℕ). d2.seen l ≡ Some []) keys c.in_ok-create-2.ensures.made in
     record {
       log = log_moved d0 d3 path end rest.log log_seen on (subst (λ (p : List ℕ). (n : List ℕ) → IsIn p n → d3.is_named n) c.deref-3.ensures.value c.in_ok-sync_folder_of.ensures.durable);
-      stands = λ f left. subst (λ (b : BaseBytes). StandsFor path b f) (sym same) (left_now d0 d3 (StandsAlone path d0 (base_at d0 path end.told)) (made.run.any_moment honest) f left).stands;
-      shown = subst (λ (b : BaseBytes). StandsFor path b d3.seen) (sym same) (rest_same d0 path end rest d3.seen log_seen (messages_same c.requires.free.other made) (keys_same c.requires.free.other made));
+      represented = λ f left. subst (λ (b : BaseBytes). Represents path b f) (sym same) (left_now d0 d3 (RepresentsAlone path d0 (base_at d0 path end.recorded)) (made.run.any_moment honest) f left).represented;
+      shown = subst (λ (b : BaseBytes). Represents path b d3.seen) (sym same) (rest_same d0 path end rest d3.seen log_seen (messages_same c.requires.free.other made) (keys_same c.requires.free.other made));
       digit = c.requires.free.digit;
       messages_there = subst (λ f. IsSome f) (sym m_made) refl;
       keys_there = subst (λ f. IsSome f) (sym k_made) refl;

@@ -7,7 +7,7 @@ use Rattle.base_log.specs.Names.{folder_of, log_of}
 use Rattle.base_log.specs.Log.{body_of}
 use Rattle.disk_io.proofs.Moments.{then_nothing}
 use Rattle.base_log.proofs.Keeping.{outside_quiet}
-use Rattle.base_log.proofs.Gates.{told_by-body_of, P, Ready, run_at_first, ready, run_record, done_record, run_gate, done_gate, same_gate}
+use Rattle.base_log.proofs.Gates.{recorded_by-body_of, P, Ready, run_at_first, ready, run_record, done_record, run_gate, done_gate, same_gate}
 use Rattle.base_log.proofs.LeftOutside.{KeepsAround, around_changed, around_quiet, around_twice, left_quiet}
 use Rattle.base_log.proofs.Paths.{log_in}
 use Rattle.base_log.proofs.committing.commit.Given as given
@@ -24,11 +24,11 @@ record_kept g c =
     subst (λ (l : List ℕ). KeepsOthers (g.D.Disk.state c.sync-2.new.self) (g.D.Disk.state c.write_synced.new.disk) l) (c.deref-3.ensures.value ∙ c.requires.staged.names.log) c.write_synced.ensures.others
 
 at_record : (g : given.Over) (c : After-write_synced g) (h0 : (g.D.Disk.state c.args.disk.now).is_honest)
-    → Ready (g.D.Disk.state c.args.disk.now) (folder_of c.args.names.now) c.args.end c.args.told (c.requires.staged.staged h0) (g.D.Disk.state c.sync-2.new.self) (c.requires.staged.staged h0).log.rest
+    → Ready (g.D.Disk.state c.args.disk.now) (folder_of c.args.names.now) c.args.end c.args.recorded (c.requires.staged.staged h0) (g.D.Disk.state c.sync-2.new.self) (c.requires.staged.staged h0).log.rest
 at_record g c h0 =
     let d1 = g.D.Disk.state c.sync.new.self in
     let d2 = g.D.Disk.state c.sync-2.new.self in
-    ready (g.D.Disk.state c.args.disk.now) (folder_of c.args.names.now) c.args.end c.args.told (c.requires.staged.staged h0) d1 d2 c.sync.ensures.quiet c.sync-2.ensures.quiet
+    ready (g.D.Disk.state c.args.disk.now) (folder_of c.args.names.now) c.args.end c.args.recorded (c.requires.staged.staged h0) d1 d2 c.sync.ensures.quiet c.sync-2.ensures.quiet
     (subst (λ (l : List ℕ). d1.is_flushed l) (c.deref.ensures.value ∙ c.requires.staged.names.messages) c.in_ok-sync.ensures.durable)
     (subst (λ (l : List ℕ). d2.is_flushed l) (c.deref-2.ensures.value ∙ c.requires.staged.names.keys) c.in_ok-sync-2.ensures.durable)
 
@@ -42,10 +42,10 @@ gate_kept g c =
     subst (λ (l : List ℕ). KeepsOthers (g.D.Disk.state c.write_synced.new.disk) (g.D.Disk.state c.write_synced-2.new.disk) l) (c.deref-4.ensures.value ∙ c.requires.staged.names.log) c.write_synced-2.ensures.others
 
 at_gate : (g : given.Over) (c : After-write_synced-2 g) (h0 : (g.D.Disk.state c.args.disk.now).is_honest) (h3 : (g.D.Disk.state c.write_synced.new.disk).is_honest)
-    → Ready (g.D.Disk.state c.args.disk.now) (folder_of c.args.names.now) c.args.end c.args.told (c.requires.staged.staged h0) (g.D.Disk.state c.write_synced.new.disk) ((body_of c.args.told ++ 0 ∷ []) ++ drop (length c.record_of.result) (c.requires.staged.staged h0).log.rest)
+    → Ready (g.D.Disk.state c.args.disk.now) (folder_of c.args.names.now) c.args.end c.args.recorded (c.requires.staged.staged h0) (g.D.Disk.state c.write_synced.new.disk) ((body_of c.args.recorded ++ 0 ∷ []) ++ drop (length c.record_of.result) (c.requires.staged.staged h0).log.rest)
 at_gate g c h0 h3 =
     let path = folder_of c.args.names.now in
-    let told = c.args.told in
+    let recorded = c.args.recorded in
     let end = c.args.end in
     let staged = c.requires.staged.staged h0 in
     let d0 = g.D.Disk.state c.args.disk.now in
@@ -55,13 +55,13 @@ at_gate g c h0 h3 =
     let bytes = c.record_of.result in
     let m_flushed = subst (λ (l : List ℕ). d1.is_flushed l) (c.deref.ensures.value ∙ c.requires.staged.names.messages) c.in_ok-sync.ensures.durable in
     let k_flushed = subst (λ (l : List ℕ). d2.is_flushed l) (c.deref-2.ensures.value ∙ c.requires.staged.names.keys) c.in_ok-sync-2.ensures.durable in
-    let at = ready d0 path end told staged d1 d2 c.sync.ensures.quiet c.sync-2.ensures.quiet m_flushed k_flushed in
+    let at = ready d0 path end recorded staged d1 d2 c.sync.ensures.quiet c.sync-2.ensures.quiet m_flushed k_flushed in
     let log : c.deref-3.result.now ≡ log_of path = c.deref-3.ensures.value ∙ c.requires.staged.names.log in
     let more = subst (λ (l : List ℕ). LeavesOnly d2 d3 (OneStepOn (ChangesFile d2 l (TornWrite (end.gate + 1) (length bytes))) d2)) log c.write_synced.ensures.any_moment in
     let kept = subst (λ (l : List ℕ). KeepsOthers d2 d3 l) log c.write_synced.ensures.others in
     let on = subst (λ (l : List ℕ). IsOnDisk d3 l) log (c.in_ok-write_synced.ensures.durable h3) in
     let written = subst (λ (l : List ℕ). IsWrittenAt (bytes_in (d2.seen l)) (end.gate + 1) bytes (bytes_in (d3.seen l))) log c.in_ok-write_synced.ensures.written in
-    subst (λ (l : List ℕ). Ready d0 path end told staged d3 (l ++ drop (length bytes) staged.log.rest)) c.record_of.ensures.bytes (done_record d0 path end told staged d2 d3 bytes at more kept on written)
+    subst (λ (l : List ℕ). Ready d0 path end recorded staged d3 (l ++ drop (length bytes) staged.log.rest)) c.record_of.ensures.bytes (done_record d0 path end recorded staged d2 d3 bytes at more kept on written)
 
 -- everything outside the folder, after both files are synced, after the record is written, and after the gate is opened
 synced_around : (g : given.Over) (c : After-sync-2 g) → KeepsAround (folder_of c.args.names.now) (g.D.Disk.state c.args.disk.now) (g.D.Disk.state c.sync-2.new.self)
@@ -87,8 +87,8 @@ returns-in_err-sync-2-clause-any_moment g c h2 =
     let d0 = g.D.Disk.state c.args.disk.now in
     let d1 = g.D.Disk.state c.sync.new.self in
     let d2 = g.D.Disk.state c.sync-2.new.self in
-    let all = P d0 path c.args.end c.args.told staged in
-    then_nothing d0 d1 d2 all (then_nothing d0 d0 d1 all (run_at_first d0 path c.args.end c.args.told staged) c.sync.ensures.quiet) c.sync-2.ensures.quiet
+    let all = P d0 path c.args.end c.args.recorded staged in
+    then_nothing d0 d1 d2 all (then_nothing d0 d0 d1 all (run_at_first d0 path c.args.end c.args.recorded staged) c.sync.ensures.quiet) c.sync-2.ensures.quiet
 
 pub returns-in_err-sync-2-clause-outside : goal.returns-in_err-sync-2-clause-outside
 returns-in_err-sync-2-clause-outside g c = (synced_around g (goal.at.returns-in_err-sync-2-clause-outside g c).After-sync-2).outside
@@ -100,7 +100,7 @@ pub returns-in_err-write_synced-clause-any_moment : goal.returns-in_err-write_sy
 returns-in_err-write_synced-clause-any_moment g c h3 =
     let h0 = c.sync.ensures.quiet.honest (c.sync-2.ensures.quiet.honest (c.write_synced.ensures.others.honest h3)) in
     let at = (goal.at.returns-in_err-write_synced-clause-any_moment g c).After-write_synced in
-    run_record (g.D.Disk.state c.args.disk.now) (folder_of c.args.names.now) c.args.end c.args.told (c.requires.staged.staged h0) (g.D.Disk.state c.sync-2.new.self) (g.D.Disk.state c.write_synced.new.disk)
+    run_record (g.D.Disk.state c.args.disk.now) (folder_of c.args.names.now) c.args.end c.args.recorded (c.requires.staged.staged h0) (g.D.Disk.state c.sync-2.new.self) (g.D.Disk.state c.write_synced.new.disk)
     (length c.record_of.result) (at_record g at h0) (record_run g at)
 
 pub returns-in_err-write_synced-clause-outside : goal.returns-in_err-write_synced-clause-outside
@@ -115,8 +115,8 @@ returns-in_err-write_synced-2-clause-any_moment g c h4 =
     let h0 = c.sync.ensures.quiet.honest (c.sync-2.ensures.quiet.honest (c.write_synced.ensures.others.honest h3)) in
     let written = (goal.at.returns-in_err-write_synced-2-clause-any_moment g c).After-write_synced-2 in
     let rest = drop (length c.record_of.result) (c.requires.staged.staged h0).log.rest in
-    run_gate (g.D.Disk.state c.args.disk.now) (folder_of c.args.names.now) c.args.end c.args.told (c.requires.staged.staged h0) (g.D.Disk.state c.write_synced.new.disk) (g.D.Disk.state c.write_synced-2.new.disk)
-    (body_of c.args.told) rest refl (told_by-body_of c.args.told c.record_of.ensures.fits) (at_gate g written h0 h3) (gate_run g written)
+    run_gate (g.D.Disk.state c.args.disk.now) (folder_of c.args.names.now) c.args.end c.args.recorded (c.requires.staged.staged h0) (g.D.Disk.state c.write_synced.new.disk) (g.D.Disk.state c.write_synced-2.new.disk)
+    (body_of c.args.recorded) rest refl (recorded_by-body_of c.args.recorded c.record_of.ensures.fits) (at_gate g written h0 h3) (gate_run g written)
 
 pub returns-in_err-write_synced-2-clause-outside : goal.returns-in_err-write_synced-2-clause-outside
 returns-in_err-write_synced-2-clause-outside g c =
@@ -138,16 +138,16 @@ returns-clause-settled g c h4 =
     let log : c.deref-4.result.now ≡ log_of (folder_of c.args.names.now) = c.deref-4.ensures.value ∙ c.requires.staged.names.log in
     let on = subst (λ (l : List ℕ). IsOnDisk d4 l) log (c.in_ok-write_synced-2.ensures.durable h4) in
     let written = subst (λ (l : List ℕ). IsWrittenAt (bytes_in (d3.seen l)) c.args.end.gate (1 ∷ []) (bytes_in (d4.seen l))) log c.in_ok-write_synced-2.ensures.written in
-    done_gate (g.D.Disk.state c.args.disk.now) (folder_of c.args.names.now) c.args.end c.args.told (c.requires.staged.staged h0) d3 d4 (body_of c.args.told) (drop (length c.record_of.result) (c.requires.staged.staged h0).log.rest) refl
-    (told_by-body_of c.args.told c.record_of.ensures.fits) (at_gate g at h0 h3) (gate_kept g at) on written
+    done_gate (g.D.Disk.state c.args.disk.now) (folder_of c.args.names.now) c.args.end c.args.recorded (c.requires.staged.staged h0) d3 d4 (body_of c.args.recorded) (drop (length c.record_of.result) (c.requires.staged.staged h0).log.rest) refl
+    (recorded_by-body_of c.args.recorded c.record_of.ensures.fits) (at_gate g at h0 h3) (gate_kept g at) on written
 
 pub returns-clause-acknowledged : goal.returns-clause-acknowledged
 returns-clause-acknowledged g c h4 =
     let h3 = c.write_synced-2.ensures.others.honest h4 in
     let h0 = c.sync.ensures.quiet.honest (c.sync-2.ensures.quiet.honest (c.write_synced.ensures.others.honest h3)) in
     let at = (goal.at.returns-clause-acknowledged g c).After-write_synced-2 in
-    same_gate (g.D.Disk.state c.args.disk.now) (folder_of c.args.names.now) c.args.end c.args.told (c.requires.staged.staged h0) (g.D.Disk.state c.write_synced.new.disk) (g.D.Disk.state c.write_synced-2.new.disk)
-    ((body_of c.args.told ++ 0 ∷ []) ++ drop (length c.record_of.result) (c.requires.staged.staged h0).log.rest) (at_gate g at h0 h3) (gate_kept g at)
+    same_gate (g.D.Disk.state c.args.disk.now) (folder_of c.args.names.now) c.args.end c.args.recorded (c.requires.staged.staged h0) (g.D.Disk.state c.write_synced.new.disk) (g.D.Disk.state c.write_synced-2.new.disk)
+    ((body_of c.args.recorded ++ 0 ∷ []) ++ drop (length c.record_of.result) (c.requires.staged.staged h0).log.rest) (at_gate g at h0 h3) (gate_kept g at)
 
 pub returns-clause-any_moment : goal.returns-clause-any_moment
 returns-clause-any_moment g c h4 =
@@ -155,8 +155,8 @@ returns-clause-any_moment g c h4 =
     let h0 = c.sync.ensures.quiet.honest (c.sync-2.ensures.quiet.honest (c.write_synced.ensures.others.honest h3)) in
     let written = (goal.at.returns-clause-any_moment g c).After-write_synced-2 in
     let rest = drop (length c.record_of.result) (c.requires.staged.staged h0).log.rest in
-    run_gate (g.D.Disk.state c.args.disk.now) (folder_of c.args.names.now) c.args.end c.args.told (c.requires.staged.staged h0) (g.D.Disk.state c.write_synced.new.disk) (g.D.Disk.state c.write_synced-2.new.disk)
-    (body_of c.args.told) rest refl (told_by-body_of c.args.told c.record_of.ensures.fits) (at_gate g written h0 h3) (gate_run g written)
+    run_gate (g.D.Disk.state c.args.disk.now) (folder_of c.args.names.now) c.args.end c.args.recorded (c.requires.staged.staged h0) (g.D.Disk.state c.write_synced.new.disk) (g.D.Disk.state c.write_synced-2.new.disk)
+    (body_of c.args.recorded) rest refl (recorded_by-body_of c.args.recorded c.record_of.ensures.fits) (at_gate g written h0 h3) (gate_run g written)
 
 pub returns-clause-outside : goal.returns-clause-outside
 returns-clause-outside g c =

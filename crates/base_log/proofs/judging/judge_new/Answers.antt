@@ -1,5 +1,5 @@
 use Rattle.std.proofs.Common.{◌≢◌, length, ap, arith}
-use Rattle.base_log.proofs.Opened.{new_stands, not_new}
+use Rattle.base_log.proofs.Opened.{new_represented, not_new}
 use Rattle.base_log.proofs.judging.judge_new.Goals as goal
 
 pub returns-then-size-gt1-clause-corrupt : goal.returns-then-size-gt1-clause-corrupt
@@ -10,8 +10,8 @@ returns-then-size-gt1-clause-corrupt g c honest is =
     not_new log.bytes.items log.end c.requires.read c.args.folder.now (g.D.Disk.state c.args.disk.now).seen seen many c.requires.ajar
     (λ new. absurd (omega (arith, new.log, ap length seen, c.if-size-gt1.true, c.len-size.ensures, log.bytes.ok.0)))
 
-pub returns-then-branch-clause-stands : goal.returns-then-branch-clause-stands
-returns-then-branch-clause-stands g c honest = grind (arith, new_stands)
+pub returns-then-branch-clause-represented : goal.returns-then-branch-clause-represented
+returns-then-branch-clause-represented g c honest = grind (arith, new_represented)
 
 pub returns-clause-corrupt : goal.returns-clause-corrupt
 returns-clause-corrupt g c honest is =

@@ -6,11 +6,11 @@ use Rattle.disk_io.specs.Runs.{ChangesNothing, LeavesOnly}
 use Rattle.disk_io.specs.Synced.{IsOnDisk}
 use Rattle.disk_io.proofs.Moments.{then_nothing}
 use Rattle.base_log.specs.Names.{folder_of, log_of, messages_of, keys_of}
-use Rattle.base_log.specs.Moments.{KeepsOutside, StandsAlone}
-use Rattle.base_log.specs.Standing.{BaseBytes, StandsFor}
+use Rattle.base_log.specs.Moments.{KeepsOutside, RepresentsAlone}
+use Rattle.base_log.specs.Standing.{BaseBytes, Represents}
 use Rattle.base_log.proofs.Keeping.{on_disk_but_one, on_disk_quiet, outside_but_one, outside_quiet, outside_twice}
 use Rattle.base_log.proofs.Calls.{Made, but_one_call}
-use Rattle.base_log.proofs.Empty.{log_alone_stands}
+use Rattle.base_log.proofs.Empty.{log_alone_represented}
 use Rattle.base_log.proofs.Made.{log_both, log_first, outside_both}
 use Rattle.base_log.proofs.Paths.{log_not_messages, log_not_keys, messages_in, messages_not_keys}
 use Rattle.base_log.proofs.making.make_files.Given as given
@@ -27,7 +27,7 @@ keys_made g c =
 
 -- a run that leaves the log on the disk and each base of no record, and everything outside the folder
 record Leaves (path : List ℕ) (old new : DiskState) : Type 0 where
-  any_moment : Honestly new ((base : BaseBytes) → StandsFor path base old.seen → LeavesOnly old new (StandsAlone path old base))
+  any_moment : Honestly new ((base : BaseBytes) → Represents path base old.seen → LeavesOnly old new (RepresentsAlone path old base))
   log : Honestly new (IsOnDisk new (log_of path))
   same : new.seen (log_of path) ≡ old.seen (log_of path)
   outside : KeepsOutside path old new
@@ -41,7 +41,7 @@ one_made g c =
     let d1 = g.D.Disk.state c.create.new.self in
     let kept = but_one_call d0 d1 file one in
     record {
-      any_moment = λ honest base stands. let bare = c.requires.bare (kept.honest honest) in log_alone_stands d0 path bare.log d1 base stands bare.none bare.shut (log_first d0 path bare.log bare.named 0 d1 one);
+      any_moment = λ honest base represented. let bare = c.requires.bare (kept.honest honest) in log_alone_represented d0 path bare.log d1 base represented bare.none bare.shut (log_first d0 path bare.log bare.named 0 d1 one);
       log = λ honest. on_disk_but_one d0 d1 (log_of path) file kept (log_not_messages path 0) (c.requires.bare (kept.honest honest)).log;
       same = kept.seen (log_of path) (log_not_messages path 0);
       outside = outside_but_one path d0 d1 file (messages_in path 0) kept;
@@ -58,9 +58,9 @@ both_made g c one was =
     let d2 = g.D.Disk.state c.create-2.new.self in
     let kept = but_one_call d1 d2 (keys_of path 0) two in
     record {
-      any_moment = λ honest base stands.
+      any_moment = λ honest base represented.
           let bare = c.requires.bare (one.time.honest (kept.honest honest)) in
-          log_alone_stands d0 path bare.log d2 base stands bare.none bare.shut (log_both d0 path bare.log bare.named 0 d1 one d2 two);
+          log_alone_represented d0 path bare.log d2 base represented bare.none bare.shut (log_both d0 path bare.log bare.named 0 d1 one d2 two);
       log = λ honest. on_disk_but_one d1 d2 (log_of path) (keys_of path 0) kept (log_not_keys path 0) (was.log (kept.honest honest));
       same = kept.seen (log_of path) (log_not_keys path 0) ∙ was.same;
       outside = outside_both path 0 d0 d1 d2 one two;
@@ -68,7 +68,7 @@ both_made g c one was =
 
 then_quiet : {path : List ℕ} {old mid : DiskState} (new : DiskState) → Leaves path old mid → ChangesNothing mid new → Leaves path old new
 then_quiet {path} {old} {mid} new was quiet = record {
-  any_moment = λ honest base stands. then_nothing old mid new (StandsAlone path old base) (was.any_moment (quiet.honest honest) base stands) quiet;
+  any_moment = λ honest base represented. then_nothing old mid new (RepresentsAlone path old base) (was.any_moment (quiet.honest honest) base represented) quiet;
   log = λ honest. on_disk_quiet mid new (log_of path) quiet (was.log (quiet.honest honest));
   same = quiet.seen (log_of path) ∙ was.same;
   outside = outside_twice path old mid new was.outside (outside_quiet path mid new quiet);
@@ -122,7 +122,7 @@ returns-clause-made g c =
     let k = keys_of path 0 in
     let messages : c.deref.result.now ≡ m = c.deref.ensures.value ∙ c.requires.names.messages in
     let keys : c.deref-2.result.now ≡ k = c.deref-2.ensures.value ∙ c.requires.names.keys in
-    let m_made : d3.seen m ≡ Some [] = quiet.seen m ∙ two.beside m (messages_not_keys path 0 0) ∙ subst (λ (l : List ℕ). d1.seen l ≡ Some []) messages c.in_ok-create.ensures.made in
+    let m_made : d3.seen m ≡ Some [] = quiet.seen m ∙ two.others m (messages_not_keys path 0 0) ∙ subst (λ (l : List ℕ). d1.seen l ≡ Some []) messages c.in_ok-create.ensures.made in
     let k_made : d3.seen k ≡ Some [] = quiet.seen k ∙ subst (λ (l : List ℕ). d2.seen l ≡ Some []) keys c.in_ok-create-2.ensures.made in
     on_ok_weaker {P = (n : List ℕ) → IsIn c.deref-3.result.now n → d3.is_named n} c.sync_folder_of.result
     (λ named. record {

@@ -5,12 +5,12 @@ use Rattle.disk_io.proofs.Moments.{then_nothing}
 use Rattle.disk_io.specs.Runs.{ChangesNothing, LeavesOnly}
 use Rattle.base_log.specs.Moments.{KeepsOutside}
 use Rattle.base_log.specs.Names.{AreNames, folder_of, log_of, messages_of, keys_of}
-use Rattle.base_log.specs.Opening.{HasFiles, StandsOrWasLeft}
+use Rattle.base_log.specs.Opening.{HasFiles, RepresentsOrWasLeft}
 use Rattle.base_log.specs.Standing.{BaseBytes, base_at}
 use Rattle.base_log.specs.declared.log.CommitRecord.{CommitRecord}
 use Rattle.base_log.proofs.Keeping.{log_moved, outside_but_one, outside_quiet, outside_twice}
 use Rattle.base_log.proofs.Empty.{chained_alone, no_record}
-use Rattle.base_log.proofs.Opened.{end_shut, end_tells, files_beside, files_settled, first_files, has_files, none_at, none_log, nothing_read}
+use Rattle.base_log.proofs.Opened.{end_shut, end_recorded_base, files_others, files_settled, first_files, has_files, none_at, none_log, nothing_read}
 use Rattle.base_log.proofs.Paths.{log_in, messages_in, keys_in, messages_not_log, keys_not_log}
 use Rattle.base_log.proofs.Renewed.{same_base}
 use Rattle.base_log.proofs.opening.open.Given as given
@@ -22,7 +22,7 @@ settle_log-requires-clause-ended g c h0 =
     let path = folder_of c.args.names.now in
     let log = c.args.log.now in
     let d0 = g.D.Disk.state c.args.disk.now in
-    end_shut log.bytes.items log.end c.requires.log.read path d0.seen (c.requires.log.same h0) (base_at d0 path log.end.told) (c.requires.stands h0)
+    end_shut log.bytes.items log.end c.requires.log.read path d0.seen (c.requires.log.same h0) (base_at d0 path log.end.recorded) (c.requires.represented h0)
 
 pub settle_files-requires : goal.settle_files-requires
 settle_files-requires g c =
@@ -31,10 +31,10 @@ settle_files-requires g c =
     let d0 = g.D.Disk.state c.args.disk.now in
     let d1 = g.D.Disk.state c.settle_log.new.disk in
     let some : log.end.gate ≢ 0 = λ none. absurd (omega (arith, none, c.if-log-gt0.true)) in
-    let has : d1.is_honest → HasFiles path d1.seen log.end.told =
+    let has : d1.is_honest → HasFiles path d1.seen log.end.recorded =
     λ h1.
     let h0 = c.settle_log.ensures.others.honest h1 in
-    files_beside d0 d1 path log.end.told c.settle_log.ensures.others (has_files log.bytes.items log.end c.requires.log.read path d0.seen (c.requires.log.same h0) (base_at d0 path log.end.told) (c.requires.stands h0) some) in
+    files_others d0 d1 path log.end.recorded c.settle_log.ensures.others (has_files log.bytes.items log.end c.requires.log.read path d0.seen (c.requires.log.same h0) (base_at d0 path log.end.recorded) (c.requires.represented h0) some) in
     record {
       messages = λ h1. subst (λ (l : List ℕ). IsSome (d1.seen l)) (sym c.requires.names.messages) (has h1).messages;
       keys = λ h1. subst (λ (l : List ℕ). IsSome (d1.seen l)) (sym c.requires.names.keys) (has h1).keys;
@@ -66,29 +66,29 @@ settle_files-requires-2 g c =
 
 -- a run that leaves the base of the folder, and everything outside the folder
 record Leaves (path : List ℕ) (base : BaseBytes) (old new : DiskState) : Type 0 where
-  any_moment : Honestly new (LeavesOnly old new (StandsOrWasLeft path old base))
+  any_moment : Honestly new (LeavesOnly old new (RepresentsOrWasLeft path old base))
   outside : KeepsOutside path old new
 
 then_quiet : {path : List ℕ} {base : BaseBytes} {old mid : DiskState} (new : DiskState) → Leaves path base old mid → ChangesNothing mid new → Leaves path base old new
 then_quiet {path} {base} {old} {mid} new was quiet = record {
-  any_moment = λ h. then_nothing old mid new (StandsOrWasLeft path old base) (was.any_moment (quiet.honest h)) quiet;
+  any_moment = λ h. then_nothing old mid new (RepresentsOrWasLeft path old base) (was.any_moment (quiet.honest h)) quiet;
   outside = outside_twice path old mid new was.outside (outside_quiet path mid new quiet);
 }
 
 log_settled : (g : given.Over) (c : After-settle_log g)
-    → Leaves (folder_of c.args.names.now) (base_at (g.D.Disk.state c.args.disk.now) (folder_of c.args.names.now) c.args.log.now.end.told) (g.D.Disk.state c.args.disk.now) (g.D.Disk.state c.settle_log.new.disk)
+    → Leaves (folder_of c.args.names.now) (base_at (g.D.Disk.state c.args.disk.now) (folder_of c.args.names.now) c.args.log.now.end.recorded) (g.D.Disk.state c.args.disk.now) (g.D.Disk.state c.settle_log.new.disk)
 log_settled g c =
     let path = folder_of c.args.names.now in
     let d0 = g.D.Disk.state c.args.disk.now in
     let others = c.settle_log.ensures.others in
     record {
-      any_moment = λ h1. c.settle_log.ensures.any_moment h1 (base_at d0 path c.args.log.now.end.told) (c.requires.stands (others.honest h1));
+      any_moment = λ h1. c.settle_log.ensures.any_moment h1 (base_at d0 path c.args.log.now.end.recorded) (c.requires.represented (others.honest h1));
       outside = outside_but_one path d0 (g.D.Disk.state c.settle_log.new.disk) (log_of path) (log_in path) others;
     }
 
 -- the files of a folder without a record are made
 made : (g : given.Over) (c : After-make_files g)
-    → Leaves (folder_of c.args.names.now) (base_at (g.D.Disk.state c.args.disk.now) (folder_of c.args.names.now) c.args.log.now.end.told) (g.D.Disk.state c.args.disk.now) (g.D.Disk.state c.make_files.new.disk)
+    → Leaves (folder_of c.args.names.now) (base_at (g.D.Disk.state c.args.disk.now) (folder_of c.args.names.now) c.args.log.now.end.recorded) (g.D.Disk.state c.args.disk.now) (g.D.Disk.state c.make_files.new.disk)
 made g c =
     let path = folder_of c.args.names.now in
     let log = c.args.log.now in
@@ -96,17 +96,17 @@ made g c =
     let d1 = g.D.Disk.state c.settle_log.new.disk in
     let d2 = g.D.Disk.state c.make_files.new.disk in
     let others = c.settle_log.ensures.others in
-    let base = base_at d0 path log.end.told in
+    let base = base_at d0 path log.end.recorded in
     let none : log.end.gate ≡ 0 = omega (arith, c.if-log-gt0.false) in
     record {
       any_moment = λ h2.
           let h1 = c.make_files.ensures.outside.honest h2 in
           let h0 = others.honest h1 in
-          let stands = c.requires.stands h0 in
+          let represented = c.requires.represented h0 in
           let no_log = none_log log.bytes.items log.end c.requires.log.read path d0.seen (c.requires.log.same h0) (omega (arith, none)) in
           let shut = none_at d1 path log.end (c.in_ok-settle_log.ensures.log h1) none in
-          chained_alone d0 d1 d2 path base (c.settle_log.ensures.any_moment h1 base stands) (outside_but_one path d0 d1 (log_of path) (log_in path) others)
-          (c.make_files.ensures.any_moment h2 base (no_record path base d0.seen d1.seen stands no_log shut.0 (inl shut.1)));
+          chained_alone d0 d1 d2 path base (c.settle_log.ensures.any_moment h1 base represented) (outside_but_one path d0 d1 (log_of path) (log_in path) others)
+          (c.make_files.ensures.any_moment h2 base (no_record path base d0.seen d1.seen represented no_log shut.0 (inl shut.1)));
       outside = outside_twice path d0 d1 d2 (outside_but_one path d0 d1 (log_of path) (log_in path) others) c.make_files.ensures.outside;
     }
 
@@ -138,29 +138,29 @@ pub returns-then-log-gt0 : goal.returns-then-log-gt0
 returns-then-log-gt0 g c =
     let path = folder_of c.args.names.now in
     let log = c.args.log.now in
-    let told = log.end.told in
+    let recorded = log.end.recorded in
     let d0 = g.D.Disk.state c.args.disk.now in
     let d1 = g.D.Disk.state c.settle_log.new.disk in
     let d2 = g.D.Disk.state c.settle_files.new.disk in
     let others = c.settle_log.ensures.others in
     let quiet = c.settle_files.ensures.quiet in
     let run = then_quiet d2 (log_settled g (goal.at.returns-then-log-gt0 g c).After-settle_log) quiet in
-    let m = messages_of path told.number in
-    let k = keys_of path told.number in
+    let m = messages_of path recorded.number in
+    let k = keys_of path recorded.number in
     record {
       settled = λ h2.
           let h1 = quiet.honest h2 in
           let h0 = others.honest h1 in
-          let base = base_at d0 path told in
+          let base = base_at d0 path recorded in
           let some : log.end.gate ≢ 0 = λ none. absurd (omega (arith, none, c.if-log-gt0.true)) in
-          let tells = end_tells log.bytes.items log.end c.requires.log.read path d0.seen (c.requires.log.same h0) base (c.requires.stands h0) in
-          let has = has_files log.bytes.items log.end c.requires.log.read path d0.seen (c.requires.log.same h0) base (c.requires.stands h0) some in
-          files_settled d1 d2 path log.end (c.in_ok-settle_log.ensures.log h1) quiet tells.digit (files_beside d0 d1 path told others has)
-          (others.alone m (messages_not_log path told.number) (c.requires.alone h0 m (messages_in path told.number)))
-          (others.alone k (keys_not_log path told.number) (c.requires.alone h0 k (keys_in path told.number)))
+          let recorded_base = end_recorded_base log.bytes.items log.end c.requires.log.read path d0.seen (c.requires.log.same h0) base (c.requires.represented h0) in
+          let has = has_files log.bytes.items log.end c.requires.log.read path d0.seen (c.requires.log.same h0) base (c.requires.represented h0) some in
+          files_settled d1 d2 path log.end (c.in_ok-settle_log.ensures.log h1) quiet recorded_base.digit (files_others d0 d1 path recorded others has)
+          (others.alone m (messages_not_log path recorded.number) (c.requires.alone h0 m (messages_in path recorded.number)))
+          (others.alone k (keys_not_log path recorded.number) (c.requires.alone h0 k (keys_in path recorded.number)))
           (subst (λ (l : List ℕ). d2.is_flushed l) c.requires.names.messages c.in_ok-settle_files.ensures.messages)
           (subst (λ (l : List ℕ). d2.is_flushed l) c.requires.names.keys c.in_ok-settle_files.ensures.keys);
-      same = λ h2. same_base d0 d2 path log.end (quiet.seen m ∙ others.seen m (messages_not_log path told.number)) (quiet.seen k ∙ others.seen k (keys_not_log path told.number));
+      same = λ h2. same_base d0 d2 path log.end (quiet.seen m ∙ others.seen m (messages_not_log path recorded.number)) (quiet.seen k ∙ others.seen k (keys_not_log path recorded.number));
       any_moment = run.any_moment;
       outside = run.outside;
       cause = search rules;
@@ -170,7 +170,7 @@ pub returns : goal.returns
 returns g c =
     let path = folder_of c.args.names.now in
     let log = c.args.log.now in
-    let told = log.end.told in
+    let recorded = log.end.recorded in
     let d0 = g.D.Disk.state c.args.disk.now in
     let d1 = g.D.Disk.state c.settle_log.new.disk in
     let d2 = g.D.Disk.state c.make_files.new.disk in
@@ -184,7 +184,7 @@ returns g c =
           let h2 = quiet.honest h3 in
           let h1 = c.make_files.ensures.outside.honest h2 in
           files_settled d2 d3 path log.end (log_moved d1 d2 path log.end (c.in_ok-settle_log.ensures.log h1) c.make_files.ensures.same (c.make_files.ensures.log h2) files.named) quiet
-          (omega (arith, ap (λ (t : CommitRecord). t.number) none)) (first_files path d2.seen told none files.messages files.keys)
+          (omega (arith, ap (λ (t : CommitRecord). t.number) none)) (first_files path d2.seen recorded none files.messages files.keys)
           (subst (λ (t : CommitRecord). d2.is_alone (messages_of path t.number)) (sym none) files.messages_alone)
           (subst (λ (t : CommitRecord). d2.is_alone (keys_of path t.number)) (sym none) files.keys_alone)
           (subst (λ (l : List ℕ). d3.is_flushed l) c.requires.names.messages c.in_ok-settle_files-2.ensures.messages)

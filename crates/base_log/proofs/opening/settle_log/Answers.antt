@@ -4,10 +4,10 @@ use Rattle.disk_io.specs.Runs.{ChangesNothing, LeavesOnly}
 use Rattle.disk_io.proofs.Moments.{nothing_twice}
 use Rattle.base_log.specs.Log.{IsShutAt}
 use Rattle.base_log.specs.Names.{folder_of, log_of}
-use Rattle.base_log.specs.Opening.{AreNamed, KeepsButOne, StandsOrWasLeft}
-use Rattle.base_log.specs.Standing.{BaseBytes, IsNew, StandsFor}
+use Rattle.base_log.specs.Opening.{AreNamed, KeepsButOne, RepresentsOrWasLeft}
+use Rattle.base_log.specs.Standing.{BaseBytes, IsNew, Represents}
 use Rattle.base_log.proofs.Keeping.{but_one_quiet, but_one_twice, outside_quiet}
-use Rattle.base_log.proofs.Empty.{chained_quiet, stands_quiet, was_left}
+use Rattle.base_log.proofs.Empty.{chained_quiet, represented_quiet, was_left}
 use Rattle.base_log.proofs.Opened.{made_read, new_few, shut_read, some_there}
 use Rattle.base_log.proofs.Paths.{log_in}
 use Rattle.base_log.proofs.Quiet.{new_quiet}
@@ -18,15 +18,15 @@ use Rattle.base_log.proofs.opening.settle_log.Goals as goal
 -- a run that changes no file but the log, and leaves the base that the folder represents
 record Leaves (path : List ℕ) (old new : DiskState) : Type 0 where
   others : KeepsButOne old new (log_of path)
-  any_moment : Honestly new ((base : BaseBytes) → StandsFor path base old.seen → LeavesOnly old new (StandsOrWasLeft path old base))
+  any_moment : Honestly new ((base : BaseBytes) → Represents path base old.seen → LeavesOnly old new (RepresentsOrWasLeft path old base))
 
 by_quiet : (path : List ℕ) (old new : DiskState) → ChangesNothing old new → Leaves path old new
-by_quiet path old new quiet = record { others = but_one_quiet old new (log_of path) quiet; any_moment = λ honest base stands. was_left old new path base quiet }
+by_quiet path old new quiet = record { others = but_one_quiet old new (log_of path) quiet; any_moment = λ honest base represented. was_left old new path base quiet }
 
 after_quiet : {path : List ℕ} (old : DiskState) {mid new : DiskState} → ChangesNothing old mid → Leaves path mid new → Leaves path old new
 after_quiet {path} old {mid} {new} quiet then = record {
   others = but_one_twice old mid new (log_of path) (but_one_quiet old mid (log_of path) quiet) then.others;
-  any_moment = λ honest base stands. chained_quiet old mid new path base quiet (outside_quiet path old mid quiet) (then.any_moment honest base (stands_quiet old mid path base quiet stands));
+  any_moment = λ honest base represented. chained_quiet old mid new path base quiet (outside_quiet path old mid quiet) (then.any_moment honest base (represented_quiet old mid path base quiet represented));
 }
 
 both_synced : (g : given.Over) (c : After-sync g) → Leaves (folder_of c.args.names.now) (g.D.Disk.state c.args.disk.now) (g.D.Disk.state c.sync.new.self)

@@ -2,44 +2,44 @@ use Rattle.std.proofs.Common.{List, arith, ℕ, ◌≡◌, None, sym, ◌∙◌,
 use Rattle.std.proofs.lemmas.Result.{on_ok_weaker}
 use Rattle.disk_io.proofs.Moments.{then_run}
 use Rattle.base_log.specs.AtRest.{IsAtRest}
-use Rattle.base_log.specs.Moments.{LeavesOutside, StagesOnly, StandsAlone}
-use Rattle.base_log.specs.Names.{IsBeside, folder_of, keys_of, messages_of}
+use Rattle.base_log.specs.Moments.{LeavesOutside, StagesOnly, RepresentsAlone}
+use Rattle.base_log.specs.Names.{IsOtherNumber, folder_of, keys_of, messages_of}
 use Rattle.base_log.specs.Standing.{BaseBytes, base_at}
 use Rattle.base_log.proofs.Keeping.{outside_twice}
 use Rattle.base_log.proofs.Calls.{cause_since}
 use Rattle.base_log.proofs.Empty.{alone_since}
 use Rattle.base_log.proofs.LeftOutside.{left_twice}
-use Rattle.base_log.proofs.Paths.{keys_beside, messages_beside, messages_not_keys}
-use Rattle.base_log.proofs.Removed.{base_beside}
+use Rattle.base_log.proofs.Paths.{keys_others, messages_others, messages_not_keys}
+use Rattle.base_log.proofs.Removed.{base_others}
 use Rattle.base_log.proofs.removing.remove_files.Goals as goal
 
 pub remove_one-requires : goal.remove_one-requires
 remove_one-requires g c =
-    let messages = messages_beside (folder_of c.args.names.now) c.args.end.told.number c.args.number c.requires.other in
+    let messages = messages_others (folder_of c.args.names.now) c.args.end.recorded.number c.args.number c.requires.other in
     record {
-      file = subst (λ (p : List ℕ). IsBeside p c.args.end.told.number c.deref-2.result.now) (sym c.deref.ensures.value)
-          (subst (λ (f : List ℕ). IsBeside (folder_of c.args.names.now) c.args.end.told.number f) (sym (c.deref-2.ensures.value ∙ c.requires.names.messages)) messages);
+      file = subst (λ (p : List ℕ). IsOtherNumber p c.args.end.recorded.number c.deref-2.result.now) (sym c.deref.ensures.value)
+          (subst (λ (f : List ℕ). IsOtherNumber (folder_of c.args.names.now) c.args.end.recorded.number f) (sym (c.deref-2.ensures.value ∙ c.requires.names.messages)) messages);
       settled = λ honest. subst (λ (p : List ℕ). IsAtRest (g.D.Disk.state c.args.disk.now) p c.args.end) (sym c.deref.ensures.value) (c.requires.settled honest);
     }
 
 pub remove_one-requires-2 : goal.remove_one-requires-2
 remove_one-requires-2 g c =
-    let keys = keys_beside (folder_of c.args.names.now) c.args.end.told.number c.args.number c.requires.other in
+    let keys = keys_others (folder_of c.args.names.now) c.args.end.recorded.number c.args.number c.requires.other in
     record {
-      file = subst (λ (p : List ℕ). IsBeside p c.args.end.told.number c.deref-4.result.now) (sym c.deref-3.ensures.value)
-          (subst (λ (f : List ℕ). IsBeside (folder_of c.args.names.now) c.args.end.told.number f) (sym (c.deref-4.ensures.value ∙ c.requires.names.keys)) keys);
+      file = subst (λ (p : List ℕ). IsOtherNumber p c.args.end.recorded.number c.deref-4.result.now) (sym c.deref-3.ensures.value)
+          (subst (λ (f : List ℕ). IsOtherNumber (folder_of c.args.names.now) c.args.end.recorded.number f) (sym (c.deref-4.ensures.value ∙ c.requires.names.keys)) keys);
       settled = λ honest. subst (λ (p : List ℕ). IsAtRest (g.D.Disk.state c.remove_one.new.disk) p c.args.end) (c.deref.ensures.value ∙ sym c.deref-3.ensures.value) (c.in_ok-remove_one.ensures.settled honest);
     }
 
 pub returns-in_err-remove_one : goal.returns-in_err-remove_one
-returns-in_err-remove_one g c = grind (arith, messages_beside, base_beside)
+returns-in_err-remove_one g c = grind (arith, messages_others, base_others)
 
 pub returns : goal.returns
 returns g c =
     let path = folder_of c.args.names.now in
     let end = c.args.end in
     let number = c.args.number in
-    let n = end.told.number in
+    let n = end.recorded.number in
     let d0 = g.D.Disk.state c.args.disk.now in
     let d1 = g.D.Disk.state c.remove_one.new.disk in
     let d2 = g.D.Disk.state c.remove_one-2.new.disk in
@@ -47,11 +47,11 @@ returns g c =
     let two = c.remove_one-2.ensures in
     let messages : c.deref-2.result.now ≡ messages_of path number = c.deref-2.ensures.value ∙ c.requires.names.messages in
     let keys : c.deref-4.result.now ≡ keys_of path number = c.deref-4.ensures.value ∙ c.requires.names.keys in
-    let m_beside = subst (λ (f : List ℕ). IsBeside path n f) (sym messages) (messages_beside path n number c.requires.other) in
-    let k_beside = subst (λ (f : List ℕ). IsBeside path n f) (sym keys) (keys_beside path n number c.requires.other) in
-    let same = base_beside d0 d1 path end c.deref-2.result.now m_beside one.beside in
-    let run_1 = subst (λ (p : List ℕ). StagesOnly p (base_at d0 p end.told) d0 d1) c.deref.ensures.value one.run in
-    let run_2 = subst (λ (p : List ℕ). StagesOnly p (base_at d1 p end.told) d1 d2) c.deref-3.ensures.value two.run in
+    let m_others = subst (λ (f : List ℕ). IsOtherNumber path n f) (sym messages) (messages_others path n number c.requires.other) in
+    let k_others = subst (λ (f : List ℕ). IsOtherNumber path n f) (sym keys) (keys_others path n number c.requires.other) in
+    let same = base_others d0 d1 path end c.deref-2.result.now m_others one.others in
+    let run_1 = subst (λ (p : List ℕ). StagesOnly p (base_at d0 p end.recorded) d0 d1) c.deref.ensures.value one.run in
+    let run_2 = subst (λ (p : List ℕ). StagesOnly p (base_at d1 p end.recorded) d1 d2) c.deref-3.ensures.value two.run in
     let left_1 = subst (λ (p : List ℕ). LeavesOutside p d0 d1) c.deref.ensures.value one.leaves in
     let left_2 = subst (λ (p : List ℕ). LeavesOutside p d1 d2) c.deref-3.ensures.value two.leaves in
     record {
@@ -60,14 +60,14 @@ returns g c =
           let gone_1 : d1.seen (messages_of path number) ≡ None = subst (λ (f : List ℕ). d1.seen f ≡ None) messages (c.in_ok-remove_one.ensures.gone (two.run.outside.honest honest)) in
           on_ok_weaker {P = d2.seen c.deref-4.result.now ≡ None} c.remove_one-2.result
           (λ gone. record {
-            messages = two.beside (messages_of path number) (λ is. messages_not_keys path number number (is ∙ keys)) ∙ gone_1;
+            messages = two.others (messages_of path number) (λ is. messages_not_keys path number number (is ∙ keys)) ∙ gone_1;
             keys = subst (λ (f : List ℕ). d2.seen f ≡ None) keys gone;
           }) (two.gone honest);
-      same = base_beside d1 d2 path end c.deref-4.result.now k_beside two.beside ∙ same;
+      same = base_others d1 d2 path end c.deref-4.result.now k_others two.others ∙ same;
       run = record {
         any_moment = λ honest.
-            then_run d0 d1 d2 (StandsAlone path d0 (base_at d0 path end.told)) (StandsAlone path d1 (base_at d1 path end.told)) (run_1.any_moment (two.run.outside.honest honest)) (run_2.any_moment honest)
-            (λ f left. alone_since d0 d1 path (base_at d0 path end.told) f run_1.outside (subst (λ (b : BaseBytes). StandsAlone path d1 b f) same left));
+            then_run d0 d1 d2 (RepresentsAlone path d0 (base_at d0 path end.recorded)) (RepresentsAlone path d1 (base_at d1 path end.recorded)) (run_1.any_moment (two.run.outside.honest honest)) (run_2.any_moment honest)
+            (λ f left. alone_since d0 d1 path (base_at d0 path end.recorded) f run_1.outside (subst (λ (b : BaseBytes). RepresentsAlone path d1 b f) same left));
         outside = outside_twice path d0 d1 d2 run_1.outside run_2.outside;
       };
       leaves = left_twice path d0 d1 d2 run_1.outside.named left_1 left_2;

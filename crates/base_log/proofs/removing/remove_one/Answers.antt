@@ -3,12 +3,12 @@ use Rattle.std.proofs.lemmas.Result.{on_ok_weaker}
 use Rattle.disk_io.specs.Disk.{IsIn}
 use Rattle.disk_io.specs.Steps.{TornRemoval}
 use Rattle.disk_io.proofs.Moments.{then_nothing}
-use Rattle.base_log.specs.Moments.{StandsAlone}
+use Rattle.base_log.specs.Moments.{RepresentsAlone}
 use Rattle.base_log.specs.Standing.{base_at}
 use Rattle.base_log.proofs.Keeping.{but_one_quiet, but_one_twice, outside_but_one}
 use Rattle.base_log.proofs.Calls.{but_one_call, cause_since}
 use Rattle.base_log.proofs.LeftOutside.{left_call, left_quiet, left_twice}
-use Rattle.base_log.proofs.Removed.{looked_run, not_there, removed_run, rest_beside}
+use Rattle.base_log.proofs.Removed.{looked_run, not_there, removed_run, rest_others}
 use Rattle.base_log.proofs.removing.remove_one.Goals as goal
 
 pub returns-in_err-exists : goal.returns-in_err-exists
@@ -21,7 +21,7 @@ returns-in_err-exists g c =
     record {
       settled = search rules;
       gone = search rules;
-      beside = search rules;
+      others = search rules;
       run = record {
         any_moment = λ honest. looked_run d0 path c.args.end (c.requires.settled (quiet.honest honest)) d1 quiet;
         outside = outside_but_one path d0 d1 file c.requires.file.inside (but_one_quiet d0 d1 file quiet);
@@ -41,9 +41,9 @@ returns-then-not-branch g c =
     record {
       settled = λ honest.
           let rest = c.requires.settled (quiet.honest honest) in
-          rest_beside d0 d1 path c.args.end file c.requires.file rest kept (λ m inside. quiet.named m (λ h. h) (rest.log.named m inside));
+          rest_others d0 d1 path c.args.end file c.requires.file rest kept (λ m inside. quiet.named m (λ h. h) (rest.log.named m inside));
       gone = λ honest. quiet.seen file ∙ not_there (d0.seen file) (λ is. absurd (cc ((c.in_ok-exists.ensures.found honest).1 is, c.if-not-branch.true)));
-      beside = kept.seen;
+      others = kept.seen;
       run = record {
         any_moment = λ honest. looked_run d0 path c.args.end (c.requires.settled (quiet.honest honest)) d1 quiet;
         outside = outside_but_one path d0 d1 file c.requires.file.inside kept;
@@ -64,7 +64,7 @@ returns-in_err-remove g c =
     record {
       settled = search rules;
       gone = search rules;
-      beside = kept.seen;
+      others = kept.seen;
       run = record {
         any_moment = λ honest. removed_run d0 path c.args.end (c.requires.settled (quiet.honest (c.remove.ensures.changes.time.honest honest))) d1 d2 file c.requires.file quiet c.remove.ensures.changes;
         outside = outside_but_one path d0 d2 file c.requires.file.inside kept;
@@ -91,12 +91,12 @@ returns g c =
     record {
       settled = λ honest.
           on_ok_weaker {P = (m : List ℕ) → IsIn path m → d3.is_named m} c.sync_folder_of.result
-          (λ named. rest_beside d0 d3 path c.args.end file c.requires.file (c.requires.settled (kept.honest honest)) kept named) c.sync_folder_of.ensures.durable;
+          (λ named. rest_others d0 d3 path c.args.end file c.requires.file (c.requires.settled (kept.honest honest)) kept named) c.sync_folder_of.ensures.durable;
       gone = λ honest. on_ok_weaker {P = (m : List ℕ) → IsIn path m → d3.is_named m} c.sync_folder_of.result (λ named. synced.seen file ∙ c.in_ok-remove.ensures.gone) c.sync_folder_of.ensures.durable;
-      beside = kept.seen;
+      others = kept.seen;
       run = record {
         any_moment = λ honest.
-            then_nothing d0 d2 d3 (StandsAlone path d0 (base_at d0 path c.args.end.told)) (removed_run d0 path c.args.end (c.requires.settled (kept.honest honest)) d1 d2 file c.requires.file looked changes) synced;
+            then_nothing d0 d2 d3 (RepresentsAlone path d0 (base_at d0 path c.args.end.recorded)) (removed_run d0 path c.args.end (c.requires.settled (kept.honest honest)) d1 d2 file c.requires.file looked changes) synced;
         outside = outside_but_one path d0 d3 file c.requires.file.inside kept;
       };
       leaves = left_twice path d0 d2 d3 outside.named left (left_quiet path d2 d3 synced);

@@ -17,8 +17,8 @@ use Rattle.base_log.proofs.staging.stage_bytes.Goals.{After-counted, After-write
 use Rattle.base_log.proofs.staging.stage_bytes.Goals as goal
 
 -- the path that is written
-at_path : (g : given.Over) (c : After-counted g) → c.path_of.result.now ≡ file_of (folder_of c.args.names.now) c.args.told.number c.args.file
-at_path g c = c.path_of.ensures ∙ file_named c.args.names.now c.args.told.number c.args.file c.requires.staged.names
+at_path : (g : given.Over) (c : After-counted g) → c.path_of.result.now ≡ file_of (folder_of c.args.names.now) c.args.recorded.number c.args.file
+at_path g c = c.path_of.ensures ∙ file_named c.args.names.now c.args.recorded.number c.args.file c.requires.staged.names
 
 pub write_at-requires-clause-there : goal.write_at-requires-clause-there
 write_at-requires-clause-there g c honest = grind (arith, at_path, file_there)
@@ -27,43 +27,43 @@ pub write_at-requires-clause-within : goal.write_at-requires-clause-within
 write_at-requires-clause-within g c honest =
     let d = g.D.Disk.state c.args.disk.now in
     subst (λ (n : ℕ). n ≤ length (bytes_in (d.seen c.path_of.result.now))) (sym c.counted.ensures)
-    (subst (λ (l : List ℕ). counted c.args.told c.args.file ≤ length (bytes_in (d.seen l))) (sym (at_path g (goal.at.write_at-requires-clause-within g c).After-counted))
-    (file_long d (folder_of c.args.names.now) c.args.end c.args.told c.args.file (c.requires.staged.staged honest)))
+    (subst (λ (l : List ℕ). counted c.args.recorded c.args.file ≤ length (bytes_in (d.seen l))) (sym (at_path g (goal.at.write_at-requires-clause-within g c).After-counted))
+    (file_long d (folder_of c.args.names.now) c.args.end c.args.recorded c.args.file (c.requires.staged.staged honest)))
 
 pub write_at-requires-clause-alone : goal.write_at-requires-clause-alone
 write_at-requires-clause-alone g c honest = grind (arith, at_path, file_alone)
 
 -- the call, at the file's path and behind the bytes that the record counts
 record Writing (g : given.Over) (c : After-write_at g) : Type 0 where
-  path : c.path_of.result.now ≡ file_of (folder_of c.args.names.now) c.args.told.number c.args.file
-  call : Wrote (g.D.Disk.state c.args.disk.now) (g.D.Disk.state c.write_at.new.self) (file_of (folder_of c.args.names.now) c.args.told.number c.args.file) (counted c.args.told c.args.file) (length c.args.bytes.now)
+  path : c.path_of.result.now ≡ file_of (folder_of c.args.names.now) c.args.recorded.number c.args.file
+  call : Wrote (g.D.Disk.state c.args.disk.now) (g.D.Disk.state c.write_at.new.self) (file_of (folder_of c.args.names.now) c.args.recorded.number c.args.file) (counted c.args.recorded c.args.file) (length c.args.bytes.now)
 
 wrote : (g : given.Over) (c : After-write_at g) → Writing g c
 wrote g c = grind (arith, file_named)
 
-run : (g : given.Over) (c : After-write_at g) → StagesOnly (folder_of c.args.names.now) (base_at (g.D.Disk.state c.args.disk.now) (folder_of c.args.names.now) c.args.end.told) (g.D.Disk.state c.args.disk.now) (g.D.Disk.state c.write_at.new.self)
+run : (g : given.Over) (c : After-write_at g) → StagesOnly (folder_of c.args.names.now) (base_at (g.D.Disk.state c.args.disk.now) (folder_of c.args.names.now) c.args.end.recorded) (g.D.Disk.state c.args.disk.now) (g.D.Disk.state c.write_at.new.self)
 run g c =
     let path = folder_of c.args.names.now in
-    let told = c.args.told in
+    let recorded = c.args.recorded in
     let d0 = g.D.Disk.state c.args.disk.now in
     let d = g.D.Disk.state c.write_at.new.self in
     let one = wrote g c in
     record {
-      any_moment = λ honest. grown_run d0 d path c.args.end told c.args.file (c.requires.staged.staged (c.write_at.ensures.changes.time.honest honest)) (length c.args.bytes.now) one.call;
-      outside = outside_kept path (file_of path told.number c.args.file) d0 d (file_inside path told.number c.args.file) (others_kept d0 d (file_of path told.number c.args.file) (counted told c.args.file) (length c.args.bytes.now) one.call);
+      any_moment = λ honest. grown_run d0 d path c.args.end recorded c.args.file (c.requires.staged.staged (c.write_at.ensures.changes.time.honest honest)) (length c.args.bytes.now) one.call;
+      outside = outside_kept path (file_of path recorded.number c.args.file) d0 d (file_inside path recorded.number c.args.file) (others_kept d0 d (file_of path recorded.number c.args.file) (counted recorded c.args.file) (length c.args.bytes.now) one.call);
     }
 
 leaves : (g : given.Over) (c : After-write_at g) → LeavesOutside (folder_of c.args.names.now) (g.D.Disk.state c.args.disk.now) (g.D.Disk.state c.write_at.new.self)
 leaves g c =
     let path = folder_of c.args.names.now in
-    left_call path (file_of path c.args.told.number c.args.file) (g.D.Disk.state c.args.disk.now) (g.D.Disk.state c.write_at.new.self) (TornWrite (counted c.args.told c.args.file) (length c.args.bytes.now))
-    (file_inside path c.args.told.number c.args.file) (wrote g c).call
+    left_call path (file_of path c.args.recorded.number c.args.file) (g.D.Disk.state c.args.disk.now) (g.D.Disk.state c.write_at.new.self) (TornWrite (counted c.args.recorded c.args.file) (length c.args.bytes.now))
+    (file_inside path c.args.recorded.number c.args.file) (wrote g c).call
 
 pub returns-in_err-write_at-clause-run : goal.returns-in_err-write_at-clause-run
 returns-in_err-write_at-clause-run g c = run g (goal.at.returns-in_err-write_at-clause-run g c).After-write_at
 
-pub returns-in_err-write_at-clause-beside : goal.returns-in_err-write_at-clause-beside
-returns-in_err-write_at-clause-beside g c = (wrote g (goal.at.returns-in_err-write_at-clause-beside g c).After-write_at).call.beside
+pub returns-in_err-write_at-clause-others : goal.returns-in_err-write_at-clause-others
+returns-in_err-write_at-clause-others g c = (wrote g (goal.at.returns-in_err-write_at-clause-others g c).After-write_at).call.others
 
 pub returns-in_err-write_at-clause-leaves : goal.returns-in_err-write_at-clause-leaves
 returns-in_err-write_at-clause-leaves g c = leaves g (goal.at.returns-in_err-write_at-clause-leaves g c).After-write_at
@@ -71,8 +71,8 @@ returns-in_err-write_at-clause-leaves g c = leaves g (goal.at.returns-in_err-wri
 pub returns-clause-run : goal.returns-clause-run
 returns-clause-run g c = run g (goal.at.returns-clause-run g c).After-write_at
 
-pub returns-clause-beside : goal.returns-clause-beside
-returns-clause-beside g c = (wrote g (goal.at.returns-clause-beside g c).After-write_at).call.beside
+pub returns-clause-others : goal.returns-clause-others
+returns-clause-others g c = (wrote g (goal.at.returns-clause-others g c).After-write_at).call.others
 
 pub returns-clause-leaves : goal.returns-clause-leaves
 returns-clause-leaves g c = leaves g (goal.at.returns-clause-leaves g c).After-write_at
@@ -80,24 +80,24 @@ returns-clause-leaves g c = leaves g (goal.at.returns-clause-leaves g c).After-w
 pub returns-clause-staged : goal.returns-clause-staged
 returns-clause-staged g c honest =
     let path = folder_of c.args.names.now in
-    let told = c.args.told in
+    let recorded = c.args.recorded in
     let d0 = g.D.Disk.state c.args.disk.now in
     let d = g.D.Disk.state c.write_at.new.self in
     let one = wrote g (goal.at.returns-clause-staged g c).After-write_at in
-    let written = subst (λ (n : ℕ). IsWrittenAt (bytes_in (d0.seen (file_of path told.number c.args.file))) n c.args.bytes.now (bytes_in (d.seen (file_of path told.number c.args.file)))) c.counted.ensures
+    let written = subst (λ (n : ℕ). IsWrittenAt (bytes_in (d0.seen (file_of path recorded.number c.args.file))) n c.args.bytes.now (bytes_in (d.seen (file_of path recorded.number c.args.file)))) c.counted.ensures
     (subst (λ (l : List ℕ). IsWrittenAt (bytes_in (d0.seen l)) c.counted.result c.args.bytes.now (bytes_in (d.seen l))) one.path c.in_ok-write_at.ensures.written) in
     subst (λ (m : CommitRecord). IsStaged d path c.args.end m) (sym c.with_more.ensures)
-    (grown_staged d0 d path c.args.end told c.args.file (c.requires.staged.staged (c.write_at.ensures.changes.time.honest honest)) c.args.bytes.now one.call written
+    (grown_staged d0 d path c.args.end recorded c.args.file (c.requires.staged.staged (c.write_at.ensures.changes.time.honest honest)) c.args.bytes.now one.call written
     (subst (λ (l : List ℕ). IsSome (d.seen l)) one.path c.write_at.ensures.there))
 
 pub returns-clause-next : goal.returns-clause-next
 returns-clause-next g c honest =
     let path = folder_of c.args.names.now in
-    let told = c.args.told in
+    let recorded = c.args.recorded in
     let d0 = g.D.Disk.state c.args.disk.now in
     let d = g.D.Disk.state c.write_at.new.self in
     let one = wrote g (goal.at.returns-clause-next g c).After-write_at in
-    let written = subst (λ (n : ℕ). IsWrittenAt (bytes_in (d0.seen (file_of path told.number c.args.file))) n c.args.bytes.now (bytes_in (d.seen (file_of path told.number c.args.file)))) c.counted.ensures
+    let written = subst (λ (n : ℕ). IsWrittenAt (bytes_in (d0.seen (file_of path recorded.number c.args.file))) n c.args.bytes.now (bytes_in (d.seen (file_of path recorded.number c.args.file)))) c.counted.ensures
     (subst (λ (l : List ℕ). IsWrittenAt (bytes_in (d0.seen l)) c.counted.result c.args.bytes.now (bytes_in (d.seen l))) one.path c.in_ok-write_at.ensures.written) in
-    let next = grown_next d0 d path c.args.end told c.args.file (c.requires.staged.staged (c.write_at.ensures.changes.time.honest honest)) c.args.bytes.now one.call written in
+    let next = grown_next d0 d path c.args.end recorded c.args.file (c.requires.staged.staged (c.write_at.ensures.changes.time.honest honest)) c.args.bytes.now one.call written in
     record { added = ap (λ (m : CommitRecord). base_at d path m) c.with_more.ensures ∙ next.added; same = next.same }

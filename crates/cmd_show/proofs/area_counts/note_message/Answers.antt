@@ -18,19 +18,19 @@ counted_more-after-requires-clause-purged c = grind arith
 
 -- no message has this number
 pub returns-in_default-clause-counts : goal.returns-in_default-clause-counts
-returns-in_default-clause-counts c = λ base told inside have.
-    absurd (some_there base c.args.i inside (sym (ap option_copied c.in_default.is) ∙ told))
+returns-in_default-clause-counts c = λ base reported inside have.
+    absurd (some_there base c.args.i inside (sym (ap option_copied c.in_default.is) ∙ reported))
 
 pub returns-in_default-clause-within : goal.returns-in_default-clause-within
 returns-in_default-clause-within c = λ tag. within_next c.args.i _ (c.requires.within tag)
 
 pub returns-clause-counts : goal.returns-clause-counts
-returns-clause-counts c = λ base told inside have.
+returns-clause-counts c = λ base reported inside have.
     let tag_of : Vec ℕ Global → List ℕ = λ key. key.items in
     let m = c.in-Some.message.now in
     let i = c.args.i in
     let es = c.args.counts.now.entries in
-    let got : slice_get base i ≡ Some m = sym told ∙ ap option_copied c.in-Some.is in
+    let got : slice_get base i ≡ Some m = sym reported ∙ ap option_copied c.in-Some.is in
     let many : length (take i base) ≡ i = length-take-le i base (omega (arith, inside)) in
     let own = c.in_ok-key.ensures.items ∙ c.tag_of-tag.ensures in
     let state = c.state_of.ensures ∙ ap (λ n. state_of c.args.cursor n m) (sym many) in

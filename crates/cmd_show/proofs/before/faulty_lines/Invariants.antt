@@ -1,10 +1,10 @@
 use Rattle.std.proofs.Common.{◌+◌, ◌≤◌, length}
-use Rattle.cmd_show.proofs.Told.{LinesTold}
+use Rattle.cmd_show.proofs.Reported.{ReportedLines}
 use Rattle.cmd_show.proofs.before.faulty_lines.Given as goal
 
 abbrev pub invariant-lines : goal.invariant-lines
 invariant-lines l = record {
-  told : LinesTold l.bytes l.number l.rest l.before l.found.items;
+  reported : ReportedLines l.bytes l.number l.rest l.before l.found.items;
   room : l.number + length l.rest ≤ length l.bytes;
 }
 

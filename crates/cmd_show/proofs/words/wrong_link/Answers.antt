@@ -17,9 +17,9 @@ pub returns-then-not-branch : goal.returns-then-not-branch
 returns-then-not-branch c =
     let a = c.in-Some-address.address in
     let old = not-false (list_any (λ b. is_eq (address_order a b)) c.links.sorted.keys) (sym c.in_ok-insert.ensures.added ∙ c.if-not-branch.true) in
-    let told = link_repeated c.args.number (tokens c.args.rest.now) c.in-Some.word.now (tokens c.in-Some.after.now) (tokens c.links.left.now) c.links.sorted.keys
+    let reported = link_repeated c.args.number (tokens c.args.rest.now) c.in-Some.word.now (tokens c.in-Some.after.now) (tokens c.links.left.now) c.links.sorted.keys
     c.links.invariant c.in-Some.ensures.token a c.in-Some-address.ensures old in
-    (told.0, told.1, tt)
+    (reported.0, reported.1, tt)
 
 pub links-smaller : goal.links-smaller
 links-smaller c = omega (arith, c.in-Some.ensures.shorter)

@@ -21,7 +21,7 @@ returns-in-Some-stopped-clause-tossed g c = λ honest base kept.
     (stopped_files g.P.PacketFiles.is_honest c.args.noting c.args.limits (device_of g.P.Reader.Read.remaining g.P.Reader.Source.failures) c.args.links.now (g.T.Store.state c.args.store.now) (g.T.Store.state c.files.store) (g.T.Store.state c.toss_next.new.store)
     _ _ (g.P.PacketFiles.coming c.args.packets.now) (g.P.PacketFiles.coming c.files.packets) (g.P.PacketFiles.coming c.open_next.new.self) c.args.lines.now.items c.files.lines.items c.toss_next.new.lines.items
     c.files.packets c.open_next.new.self c.in-Ok.reader c.toss_next.new.reader c.in-Some-stopped.fault _ base c.files.invariant c.open_next.ensures.honest (rw c.in-Ok.is at c.in-Some.ensures.next) (c.in_ok-stopped-in-Ok.ensures.tossed honest) c.in-Some-stopped.is
-    (c.toss_next.ensures.commits.beside.honest honest) kept)
+    (c.toss_next.ensures.commits.others.honest honest) kept)
 
 pub returns-in-Err-clause-tossed : goal.returns-in-Err-clause-tossed
 returns-in-Err-clause-tossed g c = λ honest base kept.

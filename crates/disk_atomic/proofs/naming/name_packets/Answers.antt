@@ -1,6 +1,6 @@
 use Rattle.std.proofs.Common.{◌<◌, ◌∙◌, get_or, inr, ⊎_elim, length, arith}
 use Rattle.std.proofs.lemmas.Bool.{and_parts}
-use Rattle.disk_atomic.specs.Naming.{HasItsPath, Names, NamesEach, StandsWhole}
+use Rattle.disk_atomic.specs.Naming.{HasItsPath, Names, NamesEach, IsWholeAtEither}
 use Rattle.disk_atomic.specs.Outgoing.{AreApart, IsOfOne, IsStaged, staged_in}
 use Rattle.disk_atomic.proofs.Anchors.{anchor_stays, anchored_now, has_path, has_path_stays, IsAnchored, IsSameAt, same_stays, staged_stays, whole_now, whole_stays}
 use Rattle.disk_atomic.proofs.Changes.{then_only, then_steps}
@@ -39,7 +39,7 @@ returns-in_err-all-clause-any_moment g c honest =
     then_steps d0 d e (NamesEach of packets) (Names x.path.now x.staging.now) (NamesEach of packets) (inv.any_moment h1) (moments honest) (λ a b r. r)
     (λ a b f at left r q. record {
       others = λ m out. q.others m (λ o. out (x, among packets i z lt, o)) ∙ r.others m out;
-      whole = each AreApart apart_back packets pairs i z lt (IsAnchored of d) (IsStaged of d) (StandsWhole of f) (λ y apart on. whole_stays of x y apart d b f left q on) (λ y apart on. whole_stays of x y apart d b f left q (inr on.file))
+      whole = each AreApart apart_back packets pairs i z lt (IsAnchored of d) (IsStaged of d) (IsWholeAtEither of f) (λ y apart on. whole_stays of x y apart d b f left q on) (λ y apart on. whole_stays of x y apart d b f left q (inr on.file))
           (whole_now of x d e staged.file b f left q) (inv.anchored h1) inv.staged;
     })
 
@@ -71,7 +71,7 @@ packets-preserved g c =
           then_steps d0 d e (NamesEach of packets) (Names x.path.now x.staging.now) (NamesEach of packets) (inv.any_moment h1) (moments honest) (λ a b r. r)
           (λ a b f at left r q. record {
             others = λ m out. q.others m (λ o. out (x, among packets i z lt, o)) ∙ r.others m out;
-            whole = each AreApart apart_back packets pairs i z lt (IsAnchored of d) (IsStaged of d) (StandsWhole of f) (λ y apart on. whole_stays of x y apart d b f left q on) (λ y apart on. whole_stays of x y apart d b f left q (inr on.file))
+            whole = each AreApart apart_back packets pairs i z lt (IsAnchored of d) (IsStaged of d) (IsWholeAtEither of f) (λ y apart on. whole_stays of x y apart d b f left q on) (λ y apart on. whole_stays of x y apart d b f left q (inr on.file))
                 (whole_now of x d e staged.file b f left q) (inv.anchored h1) inv.staged;
           });
       anchored = λ honest. behind AreApart apart_back packets pairs i z lt (IsAnchored of d) (IsAnchored of e) (λ y apart. anchor_stays of x y apart d e one)

@@ -51,7 +51,7 @@ returns-clause-tries g c = removed g (goal.at.returns-clause-tries g c).After-re
 
 pub returns-clause-gone : goal.returns-clause-gone
 returns-clause-gone g c is m inside other none =
-    c.remove.ensures.changes.flushed m other (c.in_ok-sync_folder_of.ensures.gone m inside (sym (c.remove.ensures.changes.beside m other) ∙ none))
+    c.remove.ensures.changes.flushed m other (c.in_ok-sync_folder_of.ensures.gone m inside (sym (c.remove.ensures.changes.others m other) ∙ none))
 
 pub returns-clause-tried : goal.returns-clause-tried
 returns-clause-tried g c is = grind arith

@@ -29,11 +29,11 @@ returns-clause-adds c =
         at = at;
         target = target;
         bytes = file;
-        came = c.has_come-came.result;
+        reached = c.has_come-reached.result;
         at_path = at_path;
         target_path = target_path;
         file_is = some_bytes (seen_at c.args.disk.now.steps.items c.args.from.now) file.items c.requires bytes;
-        adds = c.in_ok-push.ensures.items ∙ ap (λ (v : Vec Step Global). v.items ++ Linked at target file c.has_come-came.result ∷ []) same;
+        adds = c.in_ok-push.ensures.items ∙ ap (λ (v : Vec Step Global). v.items ++ Linked at target file c.has_come-reached.result ∷ []) same;
       },
       free,
     )

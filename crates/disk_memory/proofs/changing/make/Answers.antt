@@ -8,12 +8,12 @@ use Rattle.disk_memory.proofs.changing.make.Goals as goal
 pub returns-clause-adds : goal.returns-clause-adds
 returns-clause-adds c =
     let at = c.in_ok-path.path in
-    let came = c.making-came.result in
+    let reached = c.making-reached.result in
     let at_path : at.items ≡ c.args.path.now = search rules in
     record {
       at = at;
-      came = came;
+      reached = reached;
       at_path = at_path;
       adds = c.in_ok-push.ensures.items
-          ∙ ap (λ (v : Vec Step Global). v.items ++ Made at came ∷ []) (c.next_tear.ensures.same ∙ c.in_ok-begin.ensures.same);
+          ∙ ap (λ (v : Vec Step Global). v.items ++ Made at reached ∷ []) (c.next_tear.ensures.same ∙ c.in_ok-begin.ensures.same);
     }

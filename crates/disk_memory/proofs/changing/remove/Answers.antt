@@ -11,8 +11,8 @@ returns-clause-adds c =
     let at_path : at.items ≡ c.args.path.now = search rules in
     record {
       at = at;
-      came = c.has_come-came.result;
+      reached = c.has_come-reached.result;
       at_path = at_path;
       adds = c.in_ok-push.ensures.items
-          ∙ ap (λ (v : Vec Step Global). v.items ++ Removed at c.has_come-came.result ∷ []) (c.next_tear.ensures.same ∙ c.in_ok-begin.ensures.same);
+          ∙ ap (λ (v : Vec Step Global). v.items ++ Removed at c.has_come-reached.result ∷ []) (c.next_tear.ensures.same ∙ c.in_ok-begin.ensures.same);
     }

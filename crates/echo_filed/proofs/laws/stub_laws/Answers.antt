@@ -1,5 +1,5 @@
 use Rattle.echo_filed.proofs.Keys.{stub_keeps_key, stub_of_stub}
-use Rattle.echo_filed.proofs.StubTests.{stub_told}
+use Rattle.echo_filed.proofs.StubTests.{stub_reported}
 use Rattle.echo_filed.proofs.laws.stub_laws.Goals as goal
 
 pub returns-clause-keep_keys : goal.returns-clause-keep_keys
@@ -8,5 +8,5 @@ returns-clause-keep_keys c = stub_keeps_key
 pub returns-clause-stay : goal.returns-clause-stay
 returns-clause-stay c = stub_of_stub
 
-pub returns-clause-told : goal.returns-clause-told
-returns-clause-told c = stub_told
+pub returns-clause-reported : goal.returns-clause-reported
+returns-clause-reported c = stub_reported

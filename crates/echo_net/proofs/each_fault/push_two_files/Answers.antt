@@ -3,7 +3,7 @@ use Rattle.std.proofs.lemmas.Result.{on_ok_weaker}
 use Rattle.echo_net.specs.declared.each_fault.Kind.TheVariants as kinds
 use Rattle.echo_net.specs.declared.link.Link.{Link}
 use Rattle.echo_net.specs.AllFaults.{fault_of}
-use Rattle.echo_net.specs.Firsts.{StandsTwice}
+use Rattle.echo_net.specs.Firsts.{OccursTwice}
 use Rattle.echo_net.proofs.Drawings.{links_in_order}
 use Rattle.echo_net.proofs.each_fault.push_two_files.Goals as goal
 
@@ -13,7 +13,7 @@ returns c =
     on_ok_weaker c.push_faults.result
     (λ whole. record {
       found = found;
-      in_order = links_in_order (λ l. (l.from ≡ l.to) × StandsTwice c.args.systems.now l.from) found c.in_ok-found.ensures.ascending c.in_ok-found.ensures.members;
+      in_order = links_in_order (λ l. (l.from ≡ l.to) × OccursTwice c.args.systems.now l.from) found c.in_ok-found.ensures.ascending c.in_ok-found.ensures.members;
       whole = whole ∙ ap (λ (ls : List Link). c.args.all.now.items ++ map (fault_of kinds.TwoFiles) ls) c.deref.ensures.value;
     })
     c.push_faults.ensures

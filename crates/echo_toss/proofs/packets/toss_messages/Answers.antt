@@ -27,7 +27,7 @@ messages-preserved g c =
     let counted = all_counted-tally_with c.messages.tally c.in_ok-outcome-in-Some.outcome in
     record {
       each = λ honest base kept.
-          let was = h.each (answer.commits.beside.honest honest) base kept in
+          let was = h.each (answer.commits.others.honest honest) base kept in
           let next = was.0 in
           let gone = was.1 in (
             and_filed next (tossing c.args.links.now next.messages c.args.sender m),

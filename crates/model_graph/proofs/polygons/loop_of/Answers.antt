@@ -17,8 +17,8 @@ first_of links found pinch is = MatchOption-at_some ((b a c : ℕ) → ¬ IsPinc
 
 -- if links are not parted, there is a pinch
 pinched : (links : ℕ → ℕ → Bool) (parted : Bool) (found : Option Pinch) → Simple links → (IsTrue parted ↔ Parted links) → parted ≡ false → MatchOption found ((b a c : ℕ) → ¬ IsPinch links b a c) (λ (pinch : Pinch). FirstPinch links pinch.at pinch.one pinch.other) → IsSome found
-pinched links parted None simple told apart none = absurd (both_ways parted apart (told.1 (Parted-from_no_pinch links simple none)))
-pinched links parted (Some pinch) simple told apart first = refl
+pinched links parted None simple reported apart none = absurd (both_ways parted apart (reported.1 (Parted-from_no_pinch links simple none)))
+pinched links parted (Some pinch) simple reported apart first = refl
 
 pub returns-then-parted : goal.returns-then-parted
 returns-then-parted c =

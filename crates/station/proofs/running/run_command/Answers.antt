@@ -25,15 +25,15 @@ returns-in-Ok-prepare-clause-runs g c = λ honest.
     let same : f4 ≡ f3 = c.into_disk-disk.ensures.failures in
     let quiet = c.into_disk-disk.ensures.quiet in
     let honest2 = quiet.honest honest in
-    let honest1 = did.crash.beside.honest honest2 in
+    let honest1 = did.crash.others.honest honest2 in
     let honest0 = looked.looks.quiet.honest honest1 in
     let begun = looks_open place d0 s0 s1 looked.looks (opened.begun honest0) in
     let of = looks_of place d0 s0 s1 looked.looks opened.of_place in
     inl (record {
       file = c.in-Ok.opened.links;
       read = opened.read honest0;
-      runs = λ base stands.
-          run_on place d0 d2 s1 s2 begun of quiet base stands _ _ _ _ c.run-done.result f2 f3 honest2
+      runs = λ base represented.
+          run_on place d0 d2 s1 s2 begun of quiet base represented _ _ _ _ c.run-done.result f2 f3 honest2
           (did.answers honest2 base) (did.committed honest2 base) did.ready did.met did.crash did.cause;
       cause = λ is. inl (failed_wider f0 f2 f3 f4 (omega arith) (omega (arith, same)) (did.cause.failed (ap (λ r. store_answer r) is)));
     })
@@ -52,7 +52,7 @@ returns-in-Ok-prepare-clause-many g c = λ honest is.
     let did = c.run-done.ensures in
     let quiet = c.into_disk-disk.ensures.quiet in
     let honest2 = quiet.honest honest in
-    let honest0 = looks.quiet.honest (did.crash.beside.honest honest2) in
+    let honest0 = looks.quiet.honest (did.crash.others.honest honest2) in
     let begun = looks_open place d0 s0 s1 looks (opened.begun honest0) in
     let of = looks_of place d0 s0 s1 looks opened.of_place in
     let full = did.many (ap (λ r. store_answer r) is) in
@@ -63,7 +63,7 @@ returns-in-Ok-prepare-clause-many g c = λ honest is.
       begun = begun;
       of_place = of;
       past = past_of state _ _ _ s1 s2 full;
-      crash = λ base stands. refused_run place d0 d2 s1 s2 begun of quiet base stands state _ _ _ honest2 full;
+      crash = λ base represented. refused_run place d0 d2 s1 s2 begun of quiet base represented state _ _ _ honest2 full;
     }
 
 pub returns-in-Ok-prepare-clause-elsewhere : goal.returns-in-Ok-prepare-clause-elsewhere
@@ -73,7 +73,7 @@ returns-in-Ok-prepare-clause-elsewhere g c =
     let s1 = g.P.Kept.Store.state c.prepare.new.store in
     let place = g.P.OpenStation.place c.args.station in
     elsewhere_after place d0 (g.D.Disk.state c.into_disk-disk.result) s1 (g.P.Kept.Store.state c.run-done.new.store)
-    (looks_of place d0 s0 s1 c.prepare.ensures.looks c.in-Ok.ensures.opened.of_place) c.run-done.ensures.crash.beside c.into_disk-disk.ensures.quiet
+    (looks_of place d0 s0 s1 c.prepare.ensures.looks c.in-Ok.ensures.opened.of_place) c.run-done.ensures.crash.others c.into_disk-disk.ensures.quiet
 
 pub returns-in-Ok-clause-runs : goal.returns-in-Ok-clause-runs
 returns-in-Ok-clause-runs g c = λ honest.
@@ -91,7 +91,7 @@ returns-in-Ok-clause-runs g c = λ honest.
       is = refl;
       cause = c.in-Err-prepare.ensures.stopped;
       printed = refl;
-      stands = stopped_on place d0 d2 s1 begun (looks_of place d0 s0 s1 looks c.in-Ok.ensures.opened.of_place) quiet looks.ready (quiet.honest honest);
+      represented = stopped_on place d0 d2 s1 begun (looks_of place d0 s0 s1 looks c.in-Ok.ensures.opened.of_place) quiet looks.ready (quiet.honest honest);
     }))
 
 pub returns-clause-runs : goal.returns-clause-runs

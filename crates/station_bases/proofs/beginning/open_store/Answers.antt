@@ -1,6 +1,6 @@
 use Rattle.std.proofs.Common.{subst, sym}
 use Rattle.disk_io.specs.Runs.{LeavesOnly}
-use Rattle.base_folder_store.specs.Held.{StandsForBaseOrWasLeft}
+use Rattle.base_folder_store.specs.Held.{RepresentsBaseOrWasLeft}
 use Rattle.station_bases.proofs.beginning.open_store.Goals as goal
 
 pub returns-in-Ok-clause-begun : goal.returns-in-Ok-clause-begun
@@ -13,7 +13,7 @@ returns-in-Ok-clause-begun g c honest =
     record {
       of_links = c.in-Ok.ensures.opened.of_links h;
       ours = c.in-Ok.ensures.opened.other h;
-      keeps = λ base stands. c.new.ensures.keeps base (c.in-Ok.ensures.opened.same h keyed base g.met.H.Digest.fits stands).held;
-      committed = λ base stands. c.new.ensures.committed base (c.in-Ok.ensures.opened.same h keyed base g.met.H.Digest.fits stands).committed;
-      run = λ base stands. subst (λ d. LeavesOnly d0 (g.D.Disk.state d) (StandsForBaseOrWasLeft keyed path d0 base)) (sym same) (c.open_station.ensures.run.any_moment h keyed base stands);
+      keeps = λ base represented. c.new.ensures.keeps base (c.in-Ok.ensures.opened.same h keyed base g.met.H.Digest.fits represented).held;
+      committed = λ base represented. c.new.ensures.committed base (c.in-Ok.ensures.opened.same h keyed base g.met.H.Digest.fits represented).committed;
+      run = λ base represented. subst (λ d. LeavesOnly d0 (g.D.Disk.state d) (RepresentsBaseOrWasLeft keyed path d0 base)) (sym same) (c.open_station.ensures.run.any_moment h keyed base represented);
     }

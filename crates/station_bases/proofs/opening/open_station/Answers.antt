@@ -7,7 +7,7 @@ use Rattle.disk_io.specs.Device.{Failed}
 use Rattle.disk_io.specs.Disk.{Files}
 use Rattle.station.specs.Opening.{HaveFailed}
 use Rattle.station.proofs.Failures.{failed_wider}
-use Rattle.station_bases.proofs.FolderOpened.{not_opened, opens_since, quiet_stands}
+use Rattle.station_bases.proofs.FolderOpened.{not_opened, opens_since, quiet_represented}
 use Rattle.station_bases.proofs.opening.open_station.Goals as goal
 use Rattle.base_log.proofs.Quiet.{seen_quiet as seen_same}
 
@@ -58,5 +58,5 @@ returns-clause-opened g c =
       other = λ honest address of.
           let seen = subst (λ (files : Files). IsOfOther own strange path files address) (sym (seen_same d0 d1 quiet)) of in
           says.other honest address (subst (λ (a : Address). IsOfOther a strange path d1.seen address) (sym c.system.ensures.own) seen);
-      same = λ honest keyed base fits stands. says.same honest keyed base fits (quiet_stands keyed path base d0 d1 quiet stands);
+      same = λ honest keyed base fits represented. says.same honest keyed base fits (quiet_represented keyed path base d0 d1 quiet represented);
     }

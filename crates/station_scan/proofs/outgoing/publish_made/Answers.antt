@@ -22,7 +22,7 @@ returns-then-is_empty-clause-sends g c = λ before passed honest base moved.
     let f1 = g.P.Kept.Store.failures c.args.store in
     let f2 = g.P.Kept.Store.failures c.commit_alone.result.store in
     let made = c.as_slice-ended.result.now in
-    sends_alone g.D.Disk.state (g.P.Paths.OwnPaths.is_own c.args.paths.now) to (Failed f1 f2) (g.P.Kept.Store.state before) s1 c.args.packets.now passed base moved c.requires.ready (did.either.beside.honest honest) made
+    sends_alone g.D.Disk.state (g.P.Paths.OwnPaths.is_own c.args.paths.now) to (Failed f1 f2) (g.P.Kept.Store.state before) s1 c.args.packets.now passed base moved c.requires.ready (did.either.others.honest honest) made
     (for_made to c.requires.ready.routes passed.sent c.args.packets.now passed.counted made (c.as_slice-ended.ensures.value ∙ c.in-Ok.ensures)) (g.P.Kept.Store.state c.commit_alone.result.store) honest f1 f2 c.commit_alone.result.done g.P.Kept.Store.state did.cause (λ f. f)
     (eqb-true _ _ (sym c.is_empty.ensures ∙ c.if-is_empty.true)) did.base did.committed did.either
 

@@ -8,7 +8,7 @@ returns-in-Ok-clause-published g c =
     let s1 = g.P.Kept.Store.state c.commit.new.self in
     let s2 = g.P.Kept.Store.state c.name_on-store.result.store in
     let used = c.name_on-store.ensures.used in
-    published_if c.args.packets.now s0 s1 s2 c.name_on-store.result.done c.named_done-done.result c.named_done-done.ensures (λ honest. c.commit.ensures.either.beside.honest (used.changes.honest honest))
+    published_if c.args.packets.now s0 s1 s2 c.name_on-store.result.done c.named_done-done.result c.named_done-done.ensures (λ honest. c.commit.ensures.either.others.honest (used.changes.honest honest))
     (same_staged c.args.packets.now s0 c.requires.apart s1 c.commit.ensures.either c.requires.staged) c.name_on-store.ensures.named (commits_still s0 s1 s2 c.in-Ok.ensures.committed used.holds used.changes.honest) c.requires.staged.bytes
 
 pub returns-in-Ok-clause-any_moment : goal.returns-in-Ok-clause-any_moment

@@ -47,10 +47,10 @@ returns-in-Ok-prepare-clause-runs g c = λ honest.
     inl (record {
       file = c.in-Ok.opened.links;
       read = opened.read honest0;
-      runs = λ base stands.
+      runs = λ base represented.
           scanned_on place d0 d2 s1 s2 begun of quiet (g.P.Paths.OwnPaths.is_own c.paths-paths.result) (λ m o. (own m).0 o) (λ m o. (own m).1 o) c.args.scan.now.outbound.now c.args.scan.now.stamp
-          (g.G.ListStaged.is_true c.scan_kept-store.new.scan.listing) (Failed f2 f3 ⊎ listed) (HaveFailed f0 f4 l0 l1 k0 k1 ⊎ listed) out now c.in-Ok.opened.links base c.scan_kept-store.result.done stands (failed_too (Failed f2 f3) (Failed f0 f4) (Failed l0 l1 ⊎ Failed k0 k1) listed wider)
-          (did.scans honest2 base (begun.keeps base stands) (begun.committed base stands));
+          (g.G.ListStaged.is_true c.scan_kept-store.new.scan.listing) (Failed f2 f3 ⊎ listed) (HaveFailed f0 f4 l0 l1 k0 k1 ⊎ listed) out now c.in-Ok.opened.links base c.scan_kept-store.result.done represented (failed_too (Failed f2 f3) (Failed f0 f4) (Failed l0 l1 ⊎ Failed k0 k1) listed wider)
+          (did.scans honest2 base (begun.keeps base represented) (begun.committed base represented));
       cause = λ is. inl (inl (wider (did.device is)));
     })
 
@@ -73,7 +73,7 @@ returns-in-Ok-prepare-clause-tried g c = λ honest.
     let now = output_of g.W.Write.contents g.W.Sink.failures g.W.Sink.holds c.scan_kept-store.new.out in
     scan_tries g.D.Disk.state c.args.scan.now.stamp place c.args.scan.now.outbound.now (g.P.OpenStation.reads c.args.station d0) d0 d2 s1 s2 (looks_of place d0 s0 s1 looks opened.of_place) quiet did.keeps.same honest2
     (g.P.Paths.OwnPaths.is_own c.paths-paths.result) out now c.in-Ok.opened.links (opened.read honest0) c.scan_kept-store.result.done
-    (λ base stands. did.tried honest2 base (begun.keeps base stands) (begun.committed base stands))
+    (λ base represented. did.tried honest2 base (begun.keeps base represented) (begun.committed base represented))
 
 pub returns-in-Ok-prepare-clause-many : goal.returns-in-Ok-prepare-clause-many
 returns-in-Ok-prepare-clause-many g c = grind (arith, looks_open)
@@ -107,7 +107,7 @@ returns-in-Ok-clause-runs g c = λ honest.
         is = refl;
         cause = c.in-Err-prepare.ensures.stopped;
         printed = refl;
-        stands = stopped_on place d0 d2 s1 begun (looks_of place d0 s0 s1 looks c.in-Ok.ensures.opened.of_place) quiet looks.ready (quiet.honest honest);
+        represented = stopped_on place d0 d2 s1 begun (looks_of place d0 s0 s1 looks c.in-Ok.ensures.opened.of_place) quiet looks.ready (quiet.honest honest);
       });
     })
 

@@ -5,8 +5,8 @@ use Rattle.base_log.specs.AtRest.{IsAtRest}
 use Rattle.base_log.specs.Names.{log_of}
 use Rattle.base_log.specs.Opening.{AreAlone}
 use Rattle.base_log.specs.Reading.{IsLogIn}
-use Rattle.base_log.specs.Standing.{BaseBytes, StandsFor, base_at}
-use Rattle.base_log.proofs.Empty.{stands_quiet}
+use Rattle.base_log.specs.Standing.{BaseBytes, Represents, base_at}
+use Rattle.base_log.proofs.Empty.{represented_quiet}
 use Rattle.base_log.proofs.Quiet.{base_quiet}
 use Rattle.test_disks.proofs.bases.open_folder.Goals as goal
 
@@ -27,15 +27,15 @@ open-requires-clause-log g c =
       read = c.in_ok-log.ensures.read;
     }
 
-pub open-requires-clause-stands : goal.open-requires-clause-stands
-open-requires-clause-stands g c h2 =
+pub open-requires-clause-represented : goal.open-requires-clause-represented
+open-requires-clause-represented g c h2 =
     let path = c.args.folder.now in
-    let told = c.in_ok-log.log.end.told in
+    let recorded = c.in_ok-log.log.end.recorded in
     let d1 = g.D.Disk.state c.read_log.new.disk in
     let d2 = g.D.Disk.state c.judge.new.disk in
     let quiet = c.judge.ensures.quiet in
-    subst (λ (p : List ℕ). StandsFor p (base_at d2 p told) d2.seen) (sym c.in_ok-names.ensures.folder)
-    (subst (λ (b : BaseBytes). StandsFor path b d2.seen) (sym (base_quiet d1 d2 path told quiet)) (stands_quiet d1 d2 path (base_at d1 path told) quiet (c.in_ok-judge.ensures.stands h2)))
+    subst (λ (p : List ℕ). Represents p (base_at d2 p recorded) d2.seen) (sym c.in_ok-names.ensures.folder)
+    (subst (λ (b : BaseBytes). Represents path b d2.seen) (sym (base_quiet d1 d2 path recorded quiet)) (represented_quiet d1 d2 path (base_at d1 path recorded) quiet (c.in_ok-judge.ensures.represented h2)))
 
 pub returns : goal.returns
 returns g c = record {

@@ -2,7 +2,7 @@ use Rattle.std.proofs.Common.{List, ℕ, Result, sym, subst, ◌≡◌, ◌∙�
 use Rattle.std.proofs.lemmas.Result.{on_ok_weaker}
 use Rattle.disk_io.specs.Disk.{DiskState, Honestly}
 use Rattle.disk_io.specs.Runs.{LeavesOnly}
-use Rattle.base_log.specs.Moments.{LeavesOutside, StandsAlone}
+use Rattle.base_log.specs.Moments.{LeavesOutside, RepresentsAlone}
 use Rattle.base_log.proofs.LeftOutside.{left_twice}
 use Rattle.base_store.specs.declared.store_error.StoreError.{StoreError}
 use Rattle.base_folder_store.specs.Calls.{IsAcknowledged}
@@ -18,7 +18,7 @@ returns-clause-stays g c = stays_twice c.tell.result c.in_ok-write_out.ensures.s
 since : {T : Type 0} (d e f : DiskState) (one two three : Folder) (r : Result T StoreError) → (f.is_honest → e.is_honest) → Honestly e (held_by e two ≡ held_by d one) → IsAcknowledged e f two three r → IsAcknowledged d f one three r
 since d e f one two three r before held done = record {
   written = done.written;
-  told = done.told;
+  recorded = done.recorded;
   same = λ honest. on_ok_weaker r (λ same. same ∙ held (before honest)) (done.same honest);
   committed = λ honest. on_ok_weaker r (λ same. same ∙ held (before honest)) (done.committed honest);
   settled = done.settled;
@@ -58,4 +58,4 @@ returns-clause-refused g c honest is =
     let f = c.args.self.now in
     let d = g.D.Disk.state c.args.disk.now in
     let same = c.tell.ensures.refused is in
-    subst (λ x. LeavesOnly d (g.D.Disk.state x) (StandsAlone (path_of f) d (committed_by d f))) (sym same) (c.write_out.ensures.run.any_moment (c.tell.ensures.run.outside.honest honest))
+    subst (λ x. LeavesOnly d (g.D.Disk.state x) (RepresentsAlone (path_of f) d (committed_by d f))) (sym same) (c.write_out.ensures.run.any_moment (c.tell.ensures.run.outside.honest honest))

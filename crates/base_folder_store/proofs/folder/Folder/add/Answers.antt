@@ -10,7 +10,7 @@ returns-clause-waits c =
     record {
       names = refl;
       end = refl;
-      told = refl;
+      recorded = refl;
       keys = omega arith;
       messages = c.in_ok-add.ensures.messages;
       entries = c.in_ok-add.ensures.keys ∙ (λ i. c.args.self.now.waiting.keys.items ++ entered i);

@@ -5,10 +5,10 @@ use Rattle.base_log.specs.Standing.{base_at}
 use Rattle.base_log.specs.declared.log.CommitRecord.{CommitRecord}
 use Rattle.base_log.proofs.Renewed.{alone_first, alone_run}
 use Rattle.base_folder_store.specs.Calls.{StagesOnly}
-use Rattle.base_folder_store.specs.Left.{IsBesideIn}
+use Rattle.base_folder_store.specs.Left.{IsStagedIn}
 use Rattle.base_folder_store.specs.Opened.{IsWritten, path_of}
 use Rattle.base_folder_store.specs.declared.folder.Folder.{Folder}
-use Rattle.base_folder_store.proofs.Beside.{readable_beside}
+use Rattle.base_folder_store.proofs.Beside.{readable_others}
 use Rattle.base_folder_store.proofs.Staged.{outside_same}
 use Rattle.base_folder_store.proofs.Waits.{written_held}
 use Rattle.base_folder_store.proofs.folder.Folder.anew.Given as given
@@ -33,7 +33,7 @@ stage_anew-requires-clause-settled g c honest =
 -- the run, once new files were to be made
 record Made (g : given.Over) (c : After-stage_anew g) : Type 0 where
   folder : folder_of c.in_ok-names.names ≡ path_of c.args.self.now
-  run : StagesOnly (path_of c.args.self.now) (base_at (g.D.Disk.state c.args.disk.now) (path_of c.args.self.now) c.args.self.now.end.told) (g.D.Disk.state c.args.disk.now) (g.D.Disk.state c.stage_anew.new.disk)
+  run : StagesOnly (path_of c.args.self.now) (base_at (g.D.Disk.state c.args.disk.now) (path_of c.args.self.now) c.args.self.now.end.recorded) (g.D.Disk.state c.args.disk.now) (g.D.Disk.state c.stage_anew.new.disk)
 
 made : (g : given.Over) (c : After-stage_anew g) → Made g c
 made g c =
@@ -42,11 +42,11 @@ made g c =
     let folder : folder_of c.in_ok-names.names ≡ path_of c.args.self.now = c.in_ok-names.ensures.folder ∙ c.deref.ensures.value in
     record {
       folder = folder;
-      run = subst (λ (p : List ℕ). StagesOnly p (base_at d p c.args.self.now.end.told) d e) folder c.stage_anew.ensures.run;
+      run = subst (λ (p : List ℕ). StagesOnly p (base_at d p c.args.self.now.end.recorded) d e) folder c.stage_anew.ensures.run;
     }
 
-pub returns-in_err-told-clause-run : goal.returns-in_err-told-clause-run
-returns-in_err-told-clause-run g c = (made g (goal.at.returns-in_err-told-clause-run g c).After-stage_anew).run
+pub returns-in_err-recorded-clause-run : goal.returns-in_err-recorded-clause-run
+returns-in_err-recorded-clause-run g c = (made g (goal.at.returns-in_err-recorded-clause-run g c).After-stage_anew).run
 
 pub returns-clause-run : goal.returns-clause-run
 returns-clause-run g c = (made g (goal.at.returns-clause-run g c).After-stage_anew).run
@@ -56,44 +56,44 @@ returns-clause-opened g c honest =
     let f = c.args.self.now in
     let d0 = g.D.Disk.state c.args.disk.now in
     let d1 = g.D.Disk.state c.stage_anew.new.disk in
-    let next : Folder = record { names = c.in_ok-names.names; end = f.end; told = c.in_ok-told.told; keys = 0; waiting = c.new-waiting.result } in
-    let told = c.in_ok-told.ensures.told in
+    let next : Folder = record { names = c.in_ok-names.names; end = f.end; recorded = c.in_ok-recorded.recorded; keys = 0; waiting = c.new-waiting.result } in
+    let recorded = c.in_ok-recorded.ensures.recorded in
     let none : IsWritten next = record { messages = c.new-waiting.ensures.messages; keys = c.new-waiting.ensures.keys } in
     record {
-      names = subst (λ (t : CommitRecord). AreNames c.in_ok-names.names t.number) (sym told) c.in_ok-names.ensures.names;
-      staged = c.in_ok-told.ensures.staged honest;
-      keys = let count = ap (λ (t : CommitRecord). t.keys) told in let wait = ap (λ (l : List ℕ). length l) none.keys in omega (arith, count, wait);
+      names = subst (λ (t : CommitRecord). AreNames c.in_ok-names.names t.number) (sym recorded) c.in_ok-names.ensures.names;
+      staged = c.in_ok-recorded.ensures.staged honest;
+      keys = let count = ap (λ (t : CommitRecord). t.keys) recorded in let wait = ap (λ (l : List ℕ). length l) none.keys in omega (arith, count, wait);
     }
 
 pub returns-clause-empty : goal.returns-clause-empty
 returns-clause-empty g c =
     let d0 = g.D.Disk.state c.args.disk.now in
     let d1 = g.D.Disk.state c.stage_anew.new.disk in
-    let next : Folder = record { names = c.in_ok-names.names; end = c.args.self.now.end; told = c.in_ok-told.told; keys = 0; waiting = c.new-waiting.result } in
+    let next : Folder = record { names = c.in_ok-names.names; end = c.args.self.now.end; recorded = c.in_ok-recorded.recorded; keys = 0; waiting = c.new-waiting.result } in
     let none : IsWritten next = record { messages = c.new-waiting.ensures.messages; keys = c.new-waiting.ensures.keys } in
-    written_held d1 next none ∙ ap (λ (t : CommitRecord). base_at d1 (folder_of c.in_ok-names.names) t) c.in_ok-told.ensures.told
+    written_held d1 next none ∙ ap (λ (t : CommitRecord). base_at d1 (folder_of c.in_ok-names.names) t) c.in_ok-recorded.ensures.recorded
 
 pub returns-clause-committed : goal.returns-clause-committed
 returns-clause-committed g c honest =
-    c.in_ok-told.ensures.same honest ∙ ap (λ (p : List ℕ). base_at (g.D.Disk.state c.args.disk.now) p c.args.self.now.end.told) (made g (goal.at.returns-clause-committed g c).After-stage_anew).folder
+    c.in_ok-recorded.ensures.same honest ∙ ap (λ (p : List ℕ). base_at (g.D.Disk.state c.args.disk.now) p c.args.self.now.end.recorded) (made g (goal.at.returns-clause-committed g c).After-stage_anew).folder
 
 pub returns-clause-paired : goal.returns-clause-paired
 returns-clause-paired g c =
     let f = c.args.self.now in
     let path = folder_of c.in_ok-names.names in
-    let next : Folder = record { names = c.in_ok-names.names; end = f.end; told = c.in_ok-told.told; keys = 0; waiting = c.new-waiting.result } in
-    let told = c.in_ok-told.ensures.told in
-    let beside : IsBesideIn f next = record {
+    let next : Folder = record { names = c.in_ok-names.names; end = f.end; recorded = c.in_ok-recorded.recorded; keys = 0; waiting = c.new-waiting.result } in
+    let recorded = c.in_ok-recorded.ensures.recorded in
+    let others : IsStagedIn f next = record {
       path = (made g (goal.at.returns-clause-paired g c).After-stage_anew).folder;
       end = refl;
-      number = λ is. c.other_number-number.ensures.other (sym (ap (λ (t : CommitRecord). t.number) told) ∙ is);
-      mark = ap (λ (t : CommitRecord). t.mark) told;
+      number = λ is. c.other_number-number.ensures.other (sym (ap (λ (t : CommitRecord). t.number) recorded) ∙ is);
+      mark = ap (λ (t : CommitRecord). t.mark) recorded;
     } in
     record {
       readable = λ honest.
-          readable_beside (g.D.Disk.state c.args.disk.now) (g.D.Disk.state c.stage_anew.new.disk) f next beside
-          (λ m messages keys. c.stage_anew.ensures.beside m (λ is. messages (is ∙ ap (λ (t : CommitRecord). messages_of path t.number) (sym told))) (λ is. keys (is ∙ ap (λ (t : CommitRecord). keys_of path t.number) (sym told))))
+          readable_others (g.D.Disk.state c.args.disk.now) (g.D.Disk.state c.stage_anew.new.disk) f next others
+          (λ m messages keys. c.stage_anew.ensures.others m (λ is. messages (is ∙ ap (λ (t : CommitRecord). messages_of path t.number) (sym recorded))) (λ is. keys (is ∙ ap (λ (t : CommitRecord). keys_of path t.number) (sym recorded))))
           (c.requires.readable (c.stage_anew.ensures.run.outside.honest honest));
-      beside = beside;
-      named = subst (λ (t : CommitRecord). AreNames c.in_ok-names.names t.number) (sym told) c.in_ok-names.ensures.names;
+      others = others;
+      named = subst (λ (t : CommitRecord). AreNames c.in_ok-names.names t.number) (sym recorded) c.in_ok-names.ensures.names;
     }

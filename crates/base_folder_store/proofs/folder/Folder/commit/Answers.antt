@@ -20,7 +20,7 @@ returns-clause-stays g c =
       named = stays.named;
       opened = λ honest.
           on_ok_weaker {P = IsAtRest e (path_of f) f.end} c.remove_former.result
-          (λ rest. rest_open (g.D.Disk.state c.acknowledge.new.disk) e f (c.in_ok-acknowledge.ensures.stays.opened (c.remove_former.ensures.run.outside.honest honest)) rest done.told) (c.remove_former.ensures.settled honest);
+          (λ rest. rest_open (g.D.Disk.state c.acknowledge.new.disk) e f (c.in_ok-acknowledge.ensures.stays.opened (c.remove_former.ensures.run.outside.honest honest)) rest done.recorded) (c.remove_former.ensures.settled honest);
       path = stays.path;
       mark = stays.mark;
     }
@@ -33,8 +33,8 @@ returns-clause-done g c =
     let now = λ (honest : e.is_honest). c.remove_former.ensures.same ∙ done.committed (c.remove_former.ensures.run.outside.honest honest) in
     record {
       written = on_ok_from c.remove_former.result done.written;
-      told = on_ok_from c.remove_former.result done.told;
-      same = λ honest. on_ok_from c.remove_former.result (rest_held e f done.told done.written ∙ now honest);
+      recorded = on_ok_from c.remove_former.result done.recorded;
+      same = λ honest. on_ok_from c.remove_former.result (rest_held e f done.recorded done.written ∙ now honest);
       committed = λ honest. on_ok_from c.remove_former.result (now honest);
       settled = c.remove_former.ensures.settled;
     }
@@ -53,8 +53,8 @@ returns-clause-gone g c honest =
     let d2 = g.D.Disk.state c.remove_former.new.disk in
     let f0 = c.args.self.now in
     let f = c.acknowledge.new.self in
-    let former = f0.end.told.number in
-    on_ok_weaker {P = former < 10 → former ≢ f.end.told.number → AreGone d2 (path_of f) former} c.remove_former.result
+    let former = f0.end.recorded.number in
+    on_ok_weaker {P = former < 10 → former ≢ f.end.recorded.number → AreGone d2 (path_of f) former} c.remove_former.result
     (λ gone digit other. subst (λ (p : List ℕ). AreGone d2 p former) c.acknowledge.ensures.stays.path (gone digit other)) (c.remove_former.ensures.gone honest)
 
 pub returns-clause-leaves : goal.returns-clause-leaves

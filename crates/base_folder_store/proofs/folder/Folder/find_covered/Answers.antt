@@ -6,7 +6,7 @@ use Rattle.echo_filed.specs.Filed.{Filed}
 use Rattle.base_folder_store.specs.Answers.{IsStoredOf}
 use Rattle.base_folder_store.specs.Opened.{held_by}
 use Rattle.base_folder_store.specs.declared.reading.StoredMessage.{StoredMessage}
-use Rattle.base_folder_store.proofs.Bases.{told_quiet}
+use Rattle.base_folder_store.proofs.Bases.{recorded_quiet}
 use Rattle.base_folder_store.proofs.Causes.{answers_error}
 use Rattle.base_folder_store.proofs.Legible.{keys_all, legible_quiet}
 use Rattle.base_folder_store.proofs.Looked.{none_found, passed_on, some_message, stored_of}
@@ -22,23 +22,23 @@ stored-requires-clause-legible g c honest =
     legible_quiet (g.D.Disk.state c.args.disk.now) (g.D.Disk.state c.entries.disk) c.args.self.now quiet (c.requires.legible (quiet.honest honest))
 
 pub returns-in_err-stored-clause-found : goal.returns-in_err-stored-clause-found
-returns-in_err-stored-clause-found g c honest = λ base told have.
+returns-in_err-stored-clause-found g c honest = λ base recorded have.
     let d = g.D.Disk.state c.args.disk.now in
     let f = c.args.self.now in
     let quiet = c.entries.invariant.quiet in
     let h0 = quiet.honest (c.stored.ensures.quiet.honest honest) in
-    let inside = few c.entries.below f.keys c.in-Some.place (held_by d f).keys base (keys_all d f (c.requires.legible h0)) told.many c.entries.invariant.within c.in-Some.ensures.found in
+    let inside = few c.entries.below f.keys c.in-Some.place (held_by d f).keys base (keys_all d f (c.requires.legible h0)) recorded.many c.entries.invariant.within c.in-Some.ensures.found in
     answers_error {T = StoredMessage} (λ (b : StoredMessage). IsStoredOf base c.in-Some.place b.bytes.items) (λ (found : Bool). found ≡ list_any (g.W.Sought.test c.args.sought.now) base) _ c.from_residual.result c.from_residual.ensures.1
-    (c.in_err-stored.ensures.stored honest base (told_quiet d (g.D.Disk.state c.entries.disk) f base quiet told) inside)
+    (c.in_err-stored.ensures.stored honest base (recorded_quiet d (g.D.Disk.state c.entries.disk) f base quiet recorded) inside)
 
 pub returns-in_err-is_stored-clause-found : goal.returns-in_err-is_stored-clause-found
-returns-in_err-is_stored-clause-found g c honest = λ base told have.
+returns-in_err-is_stored-clause-found g c honest = λ base recorded have.
     let d = g.D.Disk.state c.args.disk.now in
     let f = c.args.self.now in
     let quiet = c.entries.invariant.quiet in
     let h0 = quiet.honest (c.stored.ensures.quiet.honest honest) in
-    let inside = few c.entries.below f.keys c.in-Some.place (held_by d f).keys base (keys_all d f (c.requires.legible h0)) told.many c.entries.invariant.within c.in-Some.ensures.found in
-    let of = c.in_ok-stored.ensures.stored honest base (told_quiet d (g.D.Disk.state c.entries.disk) f base quiet told) inside in
+    let inside = few c.entries.below f.keys c.in-Some.place (held_by d f).keys base (keys_all d f (c.requires.legible h0)) recorded.many c.entries.invariant.within c.in-Some.ensures.found in
+    let of = c.in_ok-stored.ensures.stored honest base (recorded_quiet d (g.D.Disk.state c.entries.disk) f base quiet recorded) inside in
     let m : Filed = some_message base c.in-Some.place inside in
     answers_error {T = Bool} (λ (found : Bool). found ≡ g.W.Sought.test c.args.sought.now (get_or base c.in-Some.place m)) (λ (found : Bool). found ≡ list_any (g.W.Sought.test c.args.sought.now) base) _ c.from_residual-in_err-is_stored.result c.from_residual-in_err-is_stored.ensures.1
     (c.in_err-is_stored.ensures.found (get_or base c.in-Some.place m) (stored_of base c.in-Some.place c.in_ok-stored.stored.bytes.items c.deref.result.now of c.deref.ensures.value m))
@@ -47,14 +47,14 @@ pub returns-in_err-is_stored-clause-quiet : goal.returns-in_err-is_stored-clause
 returns-in_err-is_stored-clause-quiet g c = nothing_twice (g.D.Disk.state c.args.disk.now) (g.D.Disk.state c.entries.disk) (g.D.Disk.state c.stored.new.disk) c.entries.invariant.quiet c.stored.ensures.quiet
 
 pub returns-then-branch-clause-found : goal.returns-then-branch-clause-found
-returns-then-branch-clause-found g c honest = λ base told have.
+returns-then-branch-clause-found g c honest = λ base recorded have.
     let d = g.D.Disk.state c.args.disk.now in
     let f = c.args.self.now in
     let test = g.W.Sought.test c.args.sought.now in
     let quiet = c.entries.invariant.quiet in
     let h0 = quiet.honest (c.stored.ensures.quiet.honest honest) in
-    let inside = few c.entries.below f.keys c.in-Some.place (held_by d f).keys base (keys_all d f (c.requires.legible h0)) told.many c.entries.invariant.within c.in-Some.ensures.found in
-    let of = c.in_ok-stored.ensures.stored honest base (told_quiet d (g.D.Disk.state c.entries.disk) f base quiet told) inside in
+    let inside = few c.entries.below f.keys c.in-Some.place (held_by d f).keys base (keys_all d f (c.requires.legible h0)) recorded.many c.entries.invariant.within c.in-Some.ensures.found in
+    let of = c.in_ok-stored.ensures.stored honest base (recorded_quiet d (g.D.Disk.state c.entries.disk) f base quiet recorded) inside in
     let m : Filed = some_message base c.in-Some.place inside in
     let is = c.in_ok-is_stored.ensures.found (get_or base c.in-Some.place m) (stored_of base c.in-Some.place c.in_ok-stored.stored.bytes.items c.deref.result.now of c.deref.ensures.value m) in
     sym (list_any_at test base c.in-Some.place m inside (sym is ∙ c.if-branch.true))
@@ -70,7 +70,7 @@ entries-preserved g c =
       quiet = nothing_twice (g.D.Disk.state c.args.disk.now) (g.D.Disk.state c.entries.disk) (g.D.Disk.state c.stored.new.disk) c.entries.invariant.quiet c.stored.ensures.quiet;
       cause = let later = c.stored.ensures.cause.later in let before = c.entries.invariant.cause in omega (arith, later, before);
       within = omega (arith, under, low);
-      passed = λ honest base told have.
+      passed = λ honest base recorded have.
           let d = g.D.Disk.state c.args.disk.now in
           let f = c.args.self.now in
           let test = g.W.Sought.test c.args.sought.now in
@@ -78,21 +78,21 @@ entries-preserved g c =
           let before = c.stored.ensures.quiet.honest honest in
           let first = quiet.honest before in
           let all = keys_all d f (c.requires.legible first) in
-          let inside = few c.entries.below f.keys c.in-Some.place (held_by d f).keys base all told.many low under in
-          let of = c.in_ok-stored.ensures.stored honest base (told_quiet d (g.D.Disk.state c.entries.disk) f base quiet told) inside in
+          let inside = few c.entries.below f.keys c.in-Some.place (held_by d f).keys base all recorded.many low under in
+          let of = c.in_ok-stored.ensures.stored honest base (recorded_quiet d (g.D.Disk.state c.entries.disk) f base quiet recorded) inside in
           let enough = c.requires.covered first in
-          passed_on test c.args.digest base (held_by d f).keys c.entries.below c.in-Some.place told.many have (c.entries.invariant.passed before base told have)
+          passed_on test c.args.digest base (held_by d f).keys c.entries.below c.in-Some.place recorded.many have (c.entries.invariant.passed before base recorded have)
           (λ j behind bound short. c.in-Some.ensures.last (held_by d f).keys (c.requires.indexed first) j behind bound (omega (arith, short, all, enough)))
           (λ m. sym (c.in_ok-is_stored.ensures.found (get_or base c.in-Some.place m) (stored_of base c.in-Some.place c.in_ok-stored.stored.bytes.items c.deref.result.now of c.deref.ensures.value m)) ∙ c.if-branch.false);
     }
 
 pub returns-clause-found : goal.returns-clause-found
-returns-clause-found g c honest = λ base told have.
+returns-clause-found g c honest = λ base recorded have.
     let d = g.D.Disk.state c.args.disk.now in
     let f = c.args.self.now in
     let test = g.W.Sought.test c.args.sought.now in
     let first = c.entries.invariant.quiet.honest honest in
     let all = keys_all d f (c.requires.legible first) in
     let enough = c.requires.covered first in
-    sym (none_found test c.args.digest base (held_by d f).keys c.entries.below told.many have (c.entries.invariant.passed honest base told have)
+    sym (none_found test c.args.digest base (held_by d f).keys c.entries.below recorded.many have (c.entries.invariant.passed honest base recorded have)
     (λ j bound short. c.in_default.ensures.none (held_by d f).keys (c.requires.indexed first) j bound (omega (arith, short, all, enough))))

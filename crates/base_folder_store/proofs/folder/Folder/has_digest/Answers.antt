@@ -8,7 +8,7 @@ use Rattle.base_folder_store.proofs.folder.Folder.has_digest.Goals as goal
 pub returns : goal.returns
 returns g c =
     let m = c.args.message.now in
-    let mark = c.args.self.now.told.mark in
+    let mark = c.args.self.now.recorded.mark in
     let bytes : c.deref.result.now ≡ digested m = c.deref.ensures.value ∙ c.in_ok-digested.ensures ∙ ap digested_key c.in_ok-key.ensures ∙ sym (of_key m) in
     let is_digest = c.digest.ensures ∙ ap (λ (l : List ℕ). digest_by g.H.Digest.keyed mark l) bytes in
     same_number c.args.digest c.digest.result c.args.digest (digest_by g.H.Digest.keyed mark (digested m)) refl is_digest

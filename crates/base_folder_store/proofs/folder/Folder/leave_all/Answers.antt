@@ -4,7 +4,7 @@ use Rattle.base_folder_store.specs.Calls.{StagesOnly}
 use Rattle.base_folder_store.specs.Held.{HoldsBase}
 use Rattle.base_folder_store.specs.Left.{IsPurgedTo, changed_in}
 use Rattle.base_folder_store.specs.Opened.{committed_by, path_of}
-use Rattle.base_folder_store.proofs.Beside.{committed_beside, many_readable}
+use Rattle.base_folder_store.proofs.Beside.{committed_others, many_readable}
 use Rattle.base_folder_store.proofs.Causes.{failed_since, handed_on}
 use Rattle.base_folder_store.proofs.Runs.{run_none, run_twice}
 use Rattle.base_folder_store.proofs.Stubbed.{at_most_one}
@@ -47,7 +47,7 @@ messages-preserved g c =
           omega (arith, was, more, one);
       few = let most = at_most_one c.in_ok-one.one in let one = c.one_if-changed.ensures in let was = before.few in omega (arith, most, one, was);
       same = λ honest. c.in_ok-one.ensures.same honest ∙ before.same (c.leave_next.ensures.run.outside.honest honest);
-      path = c.in_ok-one.ensures.purged.paired.beside.path ∙ sym before.purged.paired.beside.path ∙ before.path;
+      path = c.in_ok-one.ensures.purged.paired.others.path ∙ sym before.purged.paired.others.path ∙ before.path;
       run = left g (goal.at.messages-preserved g c).After-leave_next;
       cause = let later = c.leave_next.ensures.cause.later in let was = before.cause in omega (arith, later, was);
     }
@@ -87,7 +87,7 @@ returns-clause-changed g c honest =
     let before = c.messages.invariant in
     let paired = c.requires.paired in
     λ keyed base holds.
-    let here = subst (λ (b : BaseBytes). HoldsBase keyed b base) (committed_beside d0 f c.args.next.now paired.beside) holds in
+    let here = subst (λ (b : BaseBytes). HoldsBase keyed b base) (committed_others d0 f c.args.next.now paired.others) holds in
     let many = many_readable keyed d0 f base (paired.readable (before.run.outside.honest honest)) here in
     let past = c.messages-test.false in
     let at : c.messages.place ≡ length base.messages = omega (arith, many, past, c.count-place-end.ensures, c.messages.auto.place-end) in

@@ -8,7 +8,7 @@ use Rattle.base_log.specs.Standing.{BaseBytes}
 use Rattle.base_log.proofs.Quiet.{base_quiet}
 use Rattle.base_file.specs.Alone.{IsStoredAlone}
 use Rattle.base_file.specs.Base.{Base}
-use Rattle.base_store.specs.Keys.{HasBytesOf, StandWhereTold, digest_at}
+use Rattle.base_store.specs.Keys.{HasBytesOf, AreWhereRecorded, digest_at}
 use Rattle.base_folder_store.specs.Answers.{IsStoredOf}
 use Rattle.base_folder_store.specs.Calls.{StagesOnly}
 use Rattle.base_folder_store.specs.Held.{HoldsBase}
@@ -17,8 +17,8 @@ use Rattle.base_folder_store.specs.Opened.{committed_by, held_by, path_of}
 use Rattle.base_folder_store.specs.declared.folder.Folder.{Folder}
 use Rattle.base_folder_store.specs.declared.leaving.Left.{Left}
 use Rattle.base_folder_store.specs.declared.reading.StoredMessage.{StoredMessage}
-use Rattle.base_folder_store.proofs.Bases.{open_quiet, told_where}
-use Rattle.base_folder_store.proofs.Beside.{committed_beside, many_readable, readable_beside, readable_held, readable_quiet, told_readable}
+use Rattle.base_folder_store.proofs.Bases.{open_quiet, recorded_where}
+use Rattle.base_folder_store.proofs.Beside.{committed_others, many_readable, readable_others, readable_held, readable_quiet, recorded_readable}
 use Rattle.base_folder_store.proofs.Causes.{failed_since, handed_on, purge_cause}
 use Rattle.base_folder_store.proofs.Fits.{room_left, shorter_more}
 use Rattle.base_folder_store.proofs.Legible.{held_quiet, keys_all, legible_open, messages_all}
@@ -44,25 +44,25 @@ left g c =
     let d0 = g.D.Disk.state c.args.disk.now in
     let d1 = g.D.Disk.state c.stored.new.disk in
     let quiet = c.stored.ensures.quiet in
-    run_twice (path_of n) (path_of n) d0 d1 (g.D.Disk.state c.stage_left.new.disk) (committed_by d0 n) (committed_by d1 n) refl (run_quiet d0 d1 n c.requires.purged.opened quiet) c.stage_left.ensures.run (λ honest. base_quiet d0 d1 (path_of n) n.end.told quiet)
+    run_twice (path_of n) (path_of n) d0 d1 (g.D.Disk.state c.stage_left.new.disk) (committed_by d0 n) (committed_by d1 n) refl (run_quiet d0 d1 n c.requires.purged.opened quiet) c.stage_left.ensures.run (λ honest. base_quiet d0 d1 (path_of n) n.end.recorded quiet)
 
 -- the message of the number, in a base that is held
 record Message (d : DiskState) (f n : Folder) (place : ℕ) (keyed : ℕ → ℕ → List ℕ → ℕ) (base : Base) : Type 0 where
   holds : HoldsBase keyed (committed_by d f) base
-  told : StandWhereTold base.messages (held_by d f).messages (held_by d f).keys
+  recorded : AreWhereRecorded base.messages (held_by d f).messages (held_by d f).keys
   within : place < length base.messages
   left : HoldsLeft keyed base (committed_by d f) place (held_by d n)
 
 message : (d : DiskState) (f n : Folder) (place : ℕ) → IsPurgedTo d f n place → place < f.keys / 16 → d.is_honest → (keyed : ℕ → ℕ → List ℕ → ℕ) (base : Base) → HoldsBase keyed (committed_by d n) base → Message d f n place keyed base
 message d f n place purged inside honest keyed base holds =
     let paired = purged.paired in
-    let same = committed_beside d f n paired.beside in
+    let same = committed_others d f n paired.others in
     let here = subst (λ (b : BaseBytes). HoldsBase keyed b base) same holds in
     let readable = paired.readable honest in
     let many = many_readable keyed d f base readable here in
     record {
       holds = here;
-      told = told_readable keyed d f base readable here;
+      recorded = recorded_readable keyed d f base readable here;
       within = omega (arith, many, inside);
       left = subst (λ (b : BaseBytes). HoldsLeft keyed base b place (held_by d n)) same (purged.left honest keyed base holds);
     }
@@ -79,11 +79,11 @@ stage_left-requires g c = record {
 record Here (g : given.Over) (c : After-stage_left g) (base : Base) : Type 0 where
   s : Stored
   is : (d : Filed) → get_or base.messages c.args.place d ≡ message_in Second s
-  left : IsLeftOf (nat_lt c.args.place c.args.self.now.end.told.cursor) s c.in_ok-left.left
+  left : IsLeftOf (nat_lt c.args.place c.args.self.now.end.recorded.cursor) s c.in_ok-left.left
   bytes : c.deref.result.now ≡ c.in_ok-left.left.bytes.items
-  stands : Stored
-  has : HasBytesOf (committed_by (g.D.Disk.state c.args.disk.now) c.args.self.now).messages (committed_by (g.D.Disk.state c.args.disk.now) c.args.self.now).keys c.args.place stands
-  shorter : length c.deref.result.now ≤ length (stored_bytes Second stands)
+  represented : Stored
+  has : HasBytesOf (committed_by (g.D.Disk.state c.args.disk.now) c.args.self.now).messages (committed_by (g.D.Disk.state c.args.disk.now) c.args.self.now).keys c.args.place represented
+  shorter : length c.deref.result.now ≤ length (stored_bytes Second represented)
 
 here : (g : given.Over) (c : After-stage_left g) (h1 : (g.D.Disk.state c.stored.new.disk).is_honest) (keyed : ℕ → ℕ → List ℕ → ℕ) (base : Base)
     → Message (g.D.Disk.state c.args.disk.now) c.args.self.now c.args.next.now c.args.place keyed base → Here g c base
@@ -91,19 +91,19 @@ here g c h1 keyed base m =
     let f = c.args.self.now in
     let d0 = g.D.Disk.state c.args.disk.now in
     let held : held_by d0 f ≡ committed_by d0 f = readable_held d0 f (c.requires.purged.paired.readable (c.stored.ensures.quiet.honest h1)) in
-    let of = c.in_ok-stored.ensures.stored h1 base.messages m.told m.within in
-    let stands = m.told.each c.args.place m.within in
+    let of = c.in_ok-stored.ensures.stored h1 base.messages m.recorded m.within in
+    let represented = m.recorded.each c.args.place m.within in
     let left = c.in_ok-left.ensures.left of.s of.size of.alone of.same in
     let bytes = c.deref.ensures.value in
-    let long = ap (λ (l : List ℕ). length l) (c.in_ok-stored.ensures.there h1 stands.s stands.bytes) in
+    let long = ap (λ (l : List ℕ). length l) (c.in_ok-stored.ensures.there h1 represented.s represented.bytes) in
     let shorter = left.shorter in
     record {
       s = of.s;
       is = of.is;
       left = left;
       bytes = bytes;
-      stands = stands.s;
-      has = subst (λ (b : BaseBytes). HasBytesOf b.messages b.keys c.args.place stands.s) held stands.bytes;
+      represented = represented.s;
+      has = subst (λ (b : BaseBytes). HasBytesOf b.messages b.keys c.args.place represented.s) held represented.bytes;
       shorter = let one = ap (λ (l : List ℕ). length l) bytes in let two = ap (λ (l : List ℕ). length l) of.same in omega (arith, one, two, long, shorter);
     }
 
@@ -130,7 +130,7 @@ returns-in_err-stored-clause-cause g c =
     purge_cause (g.D.Disk.state c.stored.new.disk) (committed_by (g.D.Disk.state c.args.disk.now) c.args.next.now) _ _ _ c.from_residual.result c.from_residual.ensures.1 c.in_err-stored.ensures.cause
     (λ honest is keyed base holds.
     let m = message (g.D.Disk.state c.args.disk.now) c.args.self.now c.args.next.now c.args.place c.requires.purged c.requires.within (c.stored.ensures.quiet.honest honest) keyed base holds in
-    not_damaged (λ (stored : StoredMessage). IsStoredOf base.messages c.args.place stored.bytes.items) _ (c.in_err-stored.ensures.stored honest base.messages m.told m.within) is)
+    not_damaged (λ (stored : StoredMessage). IsStoredOf base.messages c.args.place stored.bytes.items) _ (c.in_err-stored.ensures.stored honest base.messages m.recorded m.within) is)
 
 pub returns-in_err-left-clause-cause : goal.returns-in_err-left-clause-cause
 returns-in_err-left-clause-cause g c = record {
@@ -138,8 +138,8 @@ returns-in_err-left-clause-cause g c = record {
   failed = λ is. absurd (c.in_err-left.ensures.device (handed_on _ _ c.from_residual-in_err-left.result c.from_residual-in_err-left.ensures.1 is));
   damaged = λ honest is keyed base holds.
       let m = message (g.D.Disk.state c.args.disk.now) c.args.self.now c.args.next.now c.args.place c.requires.purged c.requires.within (c.stored.ensures.quiet.honest honest) keyed base holds in
-      let of = c.in_ok-stored.ensures.stored honest base.messages m.told m.within in
-      not_damaged (λ (left : Left). IsLeftOf (nat_lt c.args.place c.args.self.now.end.told.cursor) of.s left) _ (c.in_err-left.ensures.left of.s of.size of.alone of.same)
+      let of = c.in_ok-stored.ensures.stored honest base.messages m.recorded m.within in
+      not_damaged (λ (left : Left). IsLeftOf (nat_lt c.args.place c.args.self.now.end.recorded.cursor) of.s left) _ (c.in_err-left.ensures.left of.s of.size of.alone of.same)
       (handed_on _ _ c.from_residual-in_err-left.result c.from_residual-in_err-left.ensures.1 is);
 }
 
@@ -165,18 +165,18 @@ returns-in_err-stage_left-clause-cause g c =
           let at = here g after h1 keyed base m in
           let opened = c.requires.purged.opened h0 in
           let legible = legible_open d0 n opened in
-          room_left keyed base (committed_by d0 c.args.self.now) (held_by d0 n) n c.args.place (length c.deref.result.now) at.stands m.holds m.left m.within at.has at.shorter (messages_all d0 n legible) (keys_all d0 n legible) opened.keys
+          room_left keyed base (committed_by d0 c.args.self.now) (held_by d0 n) n c.args.place (length c.deref.result.now) at.represented m.holds m.left m.within at.has at.shorter (messages_all d0 n legible) (keys_all d0 n legible) opened.keys
           (c.in_err-stage_left.ensures.damaged (handed_on _ _ c.from_residual-in_err-stage_left.result c.from_residual-in_err-stage_left.ensures.1 is));
     }
 
 pub returns-clause-same : goal.returns-clause-same
 returns-clause-same g c honest =
     let n = c.args.next.now in
-    c.in_ok-stage_left.ensures.same honest ∙ base_quiet (g.D.Disk.state c.args.disk.now) (g.D.Disk.state c.stored.new.disk) (path_of n) n.end.told c.stored.ensures.quiet
+    c.in_ok-stage_left.ensures.same honest ∙ base_quiet (g.D.Disk.state c.args.disk.now) (g.D.Disk.state c.stored.new.disk) (path_of n) n.end.recorded c.stored.ensures.quiet
 
 -- whether the message was scanned
-scanned_below : (d : DiskState) (f : Folder) (place : ℕ) (keyed : ℕ → ℕ → List ℕ → ℕ) (base : Base) → HoldsBase keyed (committed_by d f) base → IsBelow (nat_lt place f.end.told.cursor) place base.cursor
-scanned_below d f place keyed base holds = subst (λ (n : ℕ). IsBelow (nat_lt place f.end.told.cursor) place n) holds.cursor (is_below place f.end.told.cursor)
+scanned_below : (d : DiskState) (f : Folder) (place : ℕ) (keyed : ℕ → ℕ → List ℕ → ℕ) (base : Base) → HoldsBase keyed (committed_by d f) base → IsBelow (nat_lt place f.end.recorded.cursor) place base.cursor
+scanned_below d f place keyed base holds = subst (λ (n : ℕ). IsBelow (nat_lt place f.end.recorded.cursor) place n) holds.cursor (is_below place f.end.recorded.cursor)
 
 pub returns-clause-changed : goal.returns-clause-changed
 returns-clause-changed g c honest =
@@ -186,7 +186,7 @@ returns-clause-changed g c honest =
     let m = message (g.D.Disk.state c.args.disk.now) c.args.self.now c.args.next.now c.args.place c.requires.purged c.requires.within (c.stored.ensures.quiet.honest h1) keyed base holds in
     let at = here g after h1 keyed base m in
     let d : Filed = some_message base.messages c.args.place m.within in
-    let scanned = nat_lt c.args.place c.args.self.now.end.told.cursor in
+    let scanned = nat_lt c.args.place c.args.self.now.end.recorded.cursor in
     changed_step base c.args.place d scanned c.in_ok-left.left.changed m.within (scanned_below (g.D.Disk.state c.args.disk.now) c.args.self.now c.args.place keyed base m.holds)
     (at.left.changed ∙ ap (λ (x : Filed). scanned && not (is_stub x)) (sym (at.is d)))
 
@@ -204,12 +204,12 @@ returns-clause-purged g c =
     let after = (goal.at.returns-clause-purged g c).After-stage_left in
     record {
       paired = record {
-        readable = λ honest. readable_beside d1 d2 f n was.beside staged.files.beside (readable_quiet d0 d1 f quiet (was.readable (quiet.honest (staged.run.outside.honest honest))));
-        beside = record {
-          path = staged.stays.path ∙ was.beside.path;
-          end = staged.files.end ∙ was.beside.end;
-          number = λ is. was.beside.number (sym staged.files.number ∙ is);
-          mark = staged.stays.mark ∙ was.beside.mark;
+        readable = λ honest. readable_others d1 d2 f n was.others staged.files.others (readable_quiet d0 d1 f quiet (was.readable (quiet.honest (staged.run.outside.honest honest))));
+        others = record {
+          path = staged.stays.path ∙ was.others.path;
+          end = staged.files.end ∙ was.others.end;
+          number = λ is. was.others.number (sym staged.files.number ∙ is);
+          mark = staged.stays.mark ∙ was.others.mark;
         };
         named = staged.stays.named;
       };
@@ -218,24 +218,24 @@ returns-clause-purged g c =
       left = λ honest keyed base holds.
           let h1 = staged.run.outside.honest honest in
           let h0 = quiet.honest h1 in
-          let same = c.in_ok-stage_left.ensures.same honest ∙ base_quiet d0 d1 (path_of n) n.end.told quiet in
+          let same = c.in_ok-stage_left.ensures.same honest ∙ base_quiet d0 d1 (path_of n) n.end.recorded quiet in
           let m = message d0 f n place c.requires.purged c.requires.within h0 keyed base (subst (λ (b : BaseBytes). HoldsBase keyed b base) same holds) in
           let at = here g after h1 keyed base m in
           let d : Filed = some_message base.messages place m.within in
           let one = get_or base.messages place d in
-          let scanned = nat_lt place f.end.told.cursor in
+          let scanned = nat_lt place f.end.recorded.cursor in
           let bytes = c.deref.result.now in
           let more = c.in_ok-stage_left.ensures.staged honest in
           let held : held_by d1 n ≡ held_by d0 n = held_quiet d0 d1 n quiet in
           let was_held = subst (λ (b : BaseBytes). HoldsLeft keyed base (committed_by d0 f) place b) (sym held) m.left in
           let stored = subst (λ (x : Filed). IsStoredAlone (left_if scanned x) bytes) (sym (at.is d)) (subst (λ (l : List ℕ). IsStoredAlone (left_if scanned (message_in Second at.s)) l) (sym at.bytes) at.left.stored) in
-          let told = told_where keyed (committed_by d0 f) base m.holds in
-          subst (λ (b : BaseBytes). HoldsLeft keyed base b (place + 1) (held_by d2 c.stage_left.new.self)) (sym (same ∙ committed_beside d0 f n was.beside))
+          let recorded = recorded_where keyed (committed_by d0 f) base m.holds in
+          subst (λ (b : BaseBytes). HoldsLeft keyed base b (place + 1) (held_by d2 c.stage_left.new.self)) (sym (same ∙ committed_others d0 f n was.others))
           (record {
             left =
-                left_more keyed (committed_by d0 f) (held_by d1 n) (held_by d2 c.stage_left.new.self) base place c.in_ok-stored.stored.digest d bytes scanned m.holds was.beside.mark m.within was_held.left
+                left_more keyed (committed_by d0 f) (held_by d1 n) (held_by d2 c.stage_left.new.self) base place c.in_ok-stored.stored.digest d bytes scanned m.holds was.others.mark m.within was_held.left
                 (scanned_below (g.D.Disk.state c.args.disk.now) c.args.self.now c.args.place keyed base m.holds) stored
                 (c.in_ok-stored.ensures.digest h1 ∙ ap (λ (b : BaseBytes). digest_at b.keys place) (readable_held d0 f (was.readable h0))) more.staged more.fits;
-            shorter = λ within. shorter_more base.messages (committed_by d0 f) (held_by d1 n) (held_by d2 c.stage_left.new.self) place c.in_ok-stored.stored.digest bytes at.stands told at.has (was_held.shorter m.within) at.shorter more.staged within;
+            shorter = λ within. shorter_more base.messages (committed_by d0 f) (held_by d1 n) (held_by d2 c.stage_left.new.self) place c.in_ok-stored.stored.digest bytes at.represented recorded at.has (was_held.shorter m.within) at.shorter more.staged within;
           });
     }

@@ -2,9 +2,9 @@ use Rattle.std.proofs.Common.{◌≡◌, List, ℕ, refl, sym, subst}
 use Rattle.disk_io.specs.Runs.{LeavesOnly}
 use Rattle.base_log.specs.AtRest.{IsAtRest}
 use Rattle.base_log.specs.Moments.{KeepsOutside}
-use Rattle.base_log.specs.Opening.{AreAlone, StandsOrWasLeft}
+use Rattle.base_log.specs.Opening.{AreAlone, RepresentsOrWasLeft}
 use Rattle.base_log.specs.Reading.{IsLogIn}
-use Rattle.base_log.specs.Standing.{StandsFor, base_at}
+use Rattle.base_log.specs.Standing.{Represents, base_at}
 use Rattle.base_store.proofs.Runs.{quiet_disk}
 use Rattle.base_folder_store.specs.declared.folder.Folder.{Folder}
 use Rattle.base_folder_store.proofs.Bases.{opened_bytes, opened_is}
@@ -19,15 +19,15 @@ open-requires-clause-log g c = record {
   read = c.requires.log.read;
 }
 
-pub open-requires-clause-stands : goal.open-requires-clause-stands
-open-requires-clause-stands g c honest =
+pub open-requires-clause-represented : goal.open-requires-clause-represented
+open-requires-clause-represented g c honest =
     let d = g.D.Disk.state c.args.disk.now in
-    subst (λ (p : List ℕ). StandsFor p (base_at d p c.args.log.now.end.told) d.seen) (sym c.in_ok-names.ensures.folder) (c.requires.log.stands honest)
+    subst (λ (p : List ℕ). Represents p (base_at d p c.args.log.now.end.recorded) d.seen) (sym c.in_ok-names.ensures.folder) (c.requires.log.represented honest)
 
 pub returns-in_err-open-clause-any_moment : goal.returns-in_err-open-clause-any_moment
 returns-in_err-open-clause-any_moment g c honest =
     let d = g.D.Disk.state c.args.disk.now in
-    subst (λ (p : List ℕ). LeavesOnly d (g.D.Disk.state c.open.new.disk) (StandsOrWasLeft p d (base_at d p c.args.log.now.end.told))) c.in_ok-names.ensures.folder (c.open.ensures.any_moment honest)
+    subst (λ (p : List ℕ). LeavesOnly d (g.D.Disk.state c.open.new.disk) (RepresentsOrWasLeft p d (base_at d p c.args.log.now.end.recorded))) c.in_ok-names.ensures.folder (c.open.ensures.any_moment honest)
 
 pub returns-in_err-open-clause-outside : goal.returns-in_err-open-clause-outside
 returns-in_err-open-clause-outside g c =
@@ -38,7 +38,7 @@ returns-clause-opened g c honest =
     let d1 = g.D.Disk.state c.open.new.disk in
     let end = c.args.log.now.end in
     let at = c.in_ok-names.ensures.folder in
-    let folder : Folder = record { names = c.in_ok-names.names; end = end; told = end.told; keys = end.told.keys; waiting = c.new-waiting.result } in
+    let folder : Folder = record { names = c.in_ok-names.names; end = end; recorded = end.recorded; keys = end.recorded.keys; waiting = c.new-waiting.result } in
     opened_is d1 d1 c.args.path.now end folder (quiet_disk d1)
     (subst (λ (p : List ℕ). IsAtRest d1 p end) at (c.in_ok-open.ensures.settled honest)) at c.in_ok-names.ensures.names refl refl refl
     (record { messages = c.new-waiting.ensures.messages; keys = c.new-waiting.ensures.keys })
@@ -47,15 +47,15 @@ pub returns-clause-found : goal.returns-clause-found
 returns-clause-found g c honest =
     let d0 = g.D.Disk.state c.args.disk.now in
     let d1 = g.D.Disk.state c.open.new.disk in
-    let told = c.args.log.now.end.told in
-    let folder : Folder = record { names = c.in_ok-names.names; end = c.args.log.now.end; told = told; keys = told.keys; waiting = c.new-waiting.result } in
-    opened_bytes d1 d1 c.args.path.now folder told (base_at d0 c.args.path.now told) (quiet_disk d1) c.in_ok-names.ensures.folder refl
-    (subst (λ (p : List ℕ). base_at d1 p told ≡ base_at d0 p told) c.in_ok-names.ensures.folder (c.in_ok-open.ensures.same honest)) (record { messages = c.new-waiting.ensures.messages; keys = c.new-waiting.ensures.keys })
+    let recorded = c.args.log.now.end.recorded in
+    let folder : Folder = record { names = c.in_ok-names.names; end = c.args.log.now.end; recorded = recorded; keys = recorded.keys; waiting = c.new-waiting.result } in
+    opened_bytes d1 d1 c.args.path.now folder recorded (base_at d0 c.args.path.now recorded) (quiet_disk d1) c.in_ok-names.ensures.folder refl
+    (subst (λ (p : List ℕ). base_at d1 p recorded ≡ base_at d0 p recorded) c.in_ok-names.ensures.folder (c.in_ok-open.ensures.same honest)) (record { messages = c.new-waiting.ensures.messages; keys = c.new-waiting.ensures.keys })
 
 pub returns-clause-any_moment : goal.returns-clause-any_moment
 returns-clause-any_moment g c honest =
     let d = g.D.Disk.state c.args.disk.now in
-    subst (λ (p : List ℕ). LeavesOnly d (g.D.Disk.state c.open.new.disk) (StandsOrWasLeft p d (base_at d p c.args.log.now.end.told))) c.in_ok-names.ensures.folder (c.open.ensures.any_moment honest)
+    subst (λ (p : List ℕ). LeavesOnly d (g.D.Disk.state c.open.new.disk) (RepresentsOrWasLeft p d (base_at d p c.args.log.now.end.recorded))) c.in_ok-names.ensures.folder (c.open.ensures.any_moment honest)
 
 pub returns-clause-outside : goal.returns-clause-outside
 returns-clause-outside g c =

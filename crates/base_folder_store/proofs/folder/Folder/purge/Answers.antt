@@ -19,7 +19,7 @@ use Rattle.base_folder_store.proofs.folder.Folder.purge.Goals as goal
 pub anew-requires-clause-readable : goal.anew-requires-clause-readable
 anew-requires-clause-readable g c honest =
     let done = c.in_ok-commit.ensures.done in
-    rest_readable (g.D.Disk.state c.commit.new.disk) c.commit.new.self (c.in_ok-commit.ensures.stays.opened honest) done.told done.written
+    rest_readable (g.D.Disk.state c.commit.new.disk) c.commit.new.self (c.in_ok-commit.ensures.stays.opened honest) done.recorded done.written
 
 pub leave_all-requires : goal.leave_all-requires
 leave_all-requires g c =
@@ -33,7 +33,7 @@ leave_all-requires g c =
       left = λ honest keyed base holds. record {
         left =
             left_none keyed (committed_by e next) (held_by e next) base holds
-            (made.empty ∙ ap (λ (end : End). record { messages = []; keys = []; cursor = 0; mark = end.told.mark }) (sym made.paired.beside.end));
+            (made.empty ∙ ap (λ (end : End). record { messages = []; keys = []; cursor = 0; mark = end.recorded.mark }) (sym made.paired.others.end));
         shorter = λ within. let none = ap (λ (b : BaseBytes). length b.messages) made.empty in omega (arith, none);
       };
     }
@@ -52,7 +52,7 @@ left g c =
     let b = g.D.Disk.state c.commit.new.disk in
     let e = g.D.Disk.state c.anew.new.disk in
     let begun = run_from_commit (path_of f) (path_of now) d b e (committed_by d f) (held_by d f) (committed_by b now) c.commit.ensures.stays.path c.commit.ensures.run c.anew.ensures.run c.in_ok-commit.ensures.done.committed in
-    let path : path_of next ≡ path_of f = c.in_ok-next.ensures.paired.beside.path ∙ c.commit.ensures.stays.path in
+    let path : path_of next ≡ path_of f = c.in_ok-next.ensures.paired.others.path ∙ c.commit.ensures.stays.path in
     let same = λ (honest : e.is_honest). c.in_ok-next.ensures.committed honest ∙ c.in_ok-commit.ensures.done.committed (c.anew.ensures.run.outside.honest honest) in
     record {
       same = λ honest. same (c.leave_all.ensures.run.outside.honest honest);
@@ -133,9 +133,9 @@ returns-clause-stays g c =
     let now = c.in_ok-changed.ensures.purged in
     record {
       named = now.paired.named;
-      opened = λ honest. cursor_open (g.D.Disk.state c.leave_all.new.disk) c.leave_all.new.next c.commit.new.self.end.told.cursor (now.opened honest);
-      path = now.paired.beside.path ∙ was.path;
-      mark = now.paired.beside.mark ∙ ap (λ (t : CommitRecord). t.mark) c.in_ok-commit.ensures.done.told ∙ was.mark;
+      opened = λ honest. cursor_open (g.D.Disk.state c.leave_all.new.disk) c.leave_all.new.next c.commit.new.self.end.recorded.cursor (now.opened honest);
+      path = now.paired.others.path ∙ was.path;
+      mark = now.paired.others.mark ∙ ap (λ (t : CommitRecord). t.mark) c.in_ok-commit.ensures.done.recorded ∙ was.mark;
     }
 
 pub returns-in_err-commit-clause-many : goal.returns-in_err-commit-clause-many
@@ -156,9 +156,9 @@ returns-clause-purged g c honest =
     let was = subst (λ (b : BaseBytes). HoldsBase keyed b base) (sym (c.in_ok-commit.ensures.done.committed h1)) holds in
     let made = (left g (goal.at.returns-clause-purged g c).After-leave_all).same honest in
     let here = subst (λ (b : BaseBytes). HoldsBase keyed b base) (sym (c.in_ok-changed.ensures.same honest ∙ made)) holds in
-    let many = many_readable keyed d1 f1 base (rest_readable d1 f1 (c.in_ok-commit.ensures.stays.opened h1) c.in_ok-commit.ensures.done.told c.in_ok-commit.ensures.done.written) was in
+    let many = many_readable keyed d1 f1 base (rest_readable d1 f1 (c.in_ok-commit.ensures.stays.opened h1) c.in_ok-commit.ensures.done.recorded c.in_ok-commit.ensures.done.written) was in
     let all = subst (λ (n : ℕ). HoldsBase keyed (held_by d3 n3) (first_left base n)) many (purged.left honest keyed base here).left in
-    let now : Folder = record n3 { told = record n3.told { cursor = f1.end.told.cursor } } in
+    let now : Folder = record n3 { recorded = record n3.recorded { cursor = f1.end.recorded.cursor } } in
     left_whole keyed (committed_by d1 f1) (held_by d3 n3) (held_by d3 now) base was all refl
 
 pub returns-clause-count : goal.returns-clause-count

@@ -20,7 +20,7 @@ returns-in-Some-part-clause-read g c honest = λ s size alone has.
     let h0 = c.read.ensures.quiet.honest honest in
     let legible = c.requires.legible h0 in
     let held = (held_by d f).messages in
-    let part : IsPartOf held c.read.new.self = part_kept d c.deref-2.result.now (messages_of (path_of f) f.told.number) f.told.messages f.waiting.messages.items c.args.ahead.now c.read.new.self
+    let part : IsPartOf held c.read.new.self = part_kept d c.deref-2.result.now (messages_of (path_of f) f.recorded.number) f.recorded.messages f.waiting.messages.items c.args.ahead.now c.read.new.self
     (c.deref-2.ensures.value ∙ legible.names.messages) (c.read.ensures.part honest) (c.requires.part h0) in
     let long = messages_all d f legible in
     let all : length held ≡ c.in-Some.all = omega (arith, long, c.in-Some.ensures, c.len.ensures) in

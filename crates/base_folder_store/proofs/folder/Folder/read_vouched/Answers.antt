@@ -32,13 +32,13 @@ returns-then-branch-clause-message g c honest = λ s there has.
 
 pub returns-then-branch-clause-vouched : goal.returns-then-branch-clause-vouched
 returns-then-branch-clause-vouched g c honest = λ s there.
-    let mark = c.args.self.now.told.mark in
+    let mark = c.args.self.now.recorded.mark in
     let read = c.in_ok-message.ensures.read (message_in Second s) (alone_there _ _ s _ _ there c.deref.ensures.value (c.in_ok-stored.ensures.there honest s there.stored)) in
     sym (c.in_ok-stored.ensures.digest honest) ∙ c.in_ok-has_digest.ensures.0 c.if-branch.true ∙ ap (λ (m : Filed). digest_by g.H.Digest.keyed mark (digested m)) read
 
 pub returns-clause-message : goal.returns-clause-message
 returns-clause-message g c honest = λ s there has.
-    let mark = c.args.self.now.told.mark in
+    let mark = c.args.self.now.recorded.mark in
     let read = c.in_ok-message.ensures.read (message_in Second s) (alone_there _ _ s _ _ there c.deref.ensures.value (c.in_ok-stored.ensures.there honest s there.stored)) in
     let is = c.in_ok-stored.ensures.digest honest ∙ has ∙ sym (ap (λ (m : Filed). digest_by g.H.Digest.keyed mark (digested m)) read) in
     true≢false (sym (c.in_ok-has_digest.ensures.1 is) ∙ c.if-branch.false)

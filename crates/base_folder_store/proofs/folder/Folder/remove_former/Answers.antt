@@ -37,8 +37,8 @@ removed g c =
     let folder : folder_of c.in_ok-names.names ≡ path_of c.args.self.now = c.in_ok-names.ensures.folder ∙ c.deref.ensures.value in
     record {
       folder = folder;
-      same = subst (λ (p : List ℕ). base_at e p end.told ≡ base_at d p end.told) folder c.remove_files.ensures.same;
-      run = subst (λ (p : List ℕ). StagesOnly p (base_at d p end.told) d e) folder c.remove_files.ensures.run;
+      same = subst (λ (p : List ℕ). base_at e p end.recorded ≡ base_at d p end.recorded) folder c.remove_files.ensures.same;
+      run = subst (λ (p : List ℕ). StagesOnly p (base_at d p end.recorded) d e) folder c.remove_files.ensures.run;
       leaves = subst (λ (p : List ℕ). LeavesOutside p d e) folder c.remove_files.ensures.leaves;
     }
 

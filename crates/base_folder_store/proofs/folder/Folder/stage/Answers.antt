@@ -15,17 +15,17 @@ use Rattle.base_folder_store.proofs.folder.Folder.stage.Goals as goal
 record Added (g : given.Over) (c : After-add g) : Type 0 where
   named : IsNamed c.add.new.self
   path : path_of c.add.new.self ≡ path_of c.args.self.now
-  number : c.add.new.self.told.number ≡ c.args.self.now.told.number
-  mark : c.add.new.self.told.mark ≡ c.args.self.now.told.mark
+  number : c.add.new.self.recorded.number ≡ c.args.self.now.recorded.number
+  mark : c.add.new.self.recorded.mark ≡ c.args.self.now.recorded.mark
   same : committed_by (g.D.Disk.state c.args.disk.now) c.add.new.self ≡ committed_by (g.D.Disk.state c.args.disk.now) c.args.self.now
 
 added : (g : given.Over) (c : After-add g) → Added g c
 added g c = record {
-  named = names_kept c.args.self.now c.add.new.self c.add.ensures.names c.add.ensures.told c.requires.named;
+  named = names_kept c.args.self.now c.add.new.self c.add.ensures.names c.add.ensures.recorded c.requires.named;
   path = ap folder_of c.add.ensures.names;
-  number = ap (λ (t : CommitRecord). t.number) c.add.ensures.told;
-  mark = ap (λ (t : CommitRecord). t.mark) c.add.ensures.told;
-  same = λ i. base_at (g.D.Disk.state c.args.disk.now) (folder_of (c.add.ensures.names i)) (c.add.ensures.end i).told;
+  number = ap (λ (t : CommitRecord). t.number) c.add.ensures.recorded;
+  mark = ap (λ (t : CommitRecord). t.mark) c.add.ensures.recorded;
+  same = λ i. base_at (g.D.Disk.state c.args.disk.now) (folder_of (c.add.ensures.names i)) (c.add.ensures.end i).recorded;
 }
 
 pub returns-in_err-add-clause-stays : goal.returns-in_err-add-clause-stays
@@ -78,9 +78,9 @@ returns-clause-files g c =
     record {
       end = files.end ∙ c.add.ensures.end;
       number = files.number ∙ (added g (goal.at.returns-clause-files g c).After-add).number;
-      beside = λ m messages keys.
-          files.beside m (λ is. messages (is ∙ (λ i. messages_of (folder_of (c.add.ensures.names i)) (c.add.ensures.told i).number)))
-          (λ is. keys (is ∙ (λ i. keys_of (folder_of (c.add.ensures.names i)) (c.add.ensures.told i).number)));
+      others = λ m messages keys.
+          files.others m (λ is. messages (is ∙ (λ i. messages_of (folder_of (c.add.ensures.names i)) (c.add.ensures.recorded i).number)))
+          (λ is. keys (is ∙ (λ i. keys_of (folder_of (c.add.ensures.names i)) (c.add.ensures.recorded i).number)));
     }
 
 pub returns-clause-staged : goal.returns-clause-staged

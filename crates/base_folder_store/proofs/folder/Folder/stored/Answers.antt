@@ -36,7 +36,7 @@ entry g c h1 =
     }
 
 pub returns-in_err-entry-clause-stored : goal.returns-in_err-entry-clause-stored
-returns-in_err-entry-clause-stored g c honest = λ base told inside.
+returns-in_err-entry-clause-stored g c honest = λ base recorded inside.
     answers_whole {T = Vec ℕ Global} (λ (stored : StoredMessage). IsStoredOf base c.args.place stored.bytes.items) _ c.from_residual.result c.from_residual.ensures.1 (c.in_err-entry.ensures.whole honest)
 
 pub returns-in_err-entry-clause-there : goal.returns-in_err-entry-clause-there
@@ -62,10 +62,10 @@ has_entry g c honest s has =
     (piece_has (held_by d f).messages (held_by d f).keys c.deref.result.now c.args.place one.piece one.inside one.two s has)
 
 pub returns-in_err-bytes-clause-stored : goal.returns-in_err-bytes-clause-stored
-returns-in_err-bytes-clause-stored g c honest = λ base told inside.
-    let stands = told.each c.args.place inside in
-    answers_error {T = Vec ℕ Global} (λ (b : Vec ℕ Global). b.items ≡ stored_bytes Second stands.s) (λ (stored : StoredMessage). IsStoredOf base c.args.place stored.bytes.items) _ c.from_residual-in_err-bytes.result c.from_residual-in_err-bytes.ensures.1
-    (c.in_err-bytes.ensures.stored honest stands.s (has_entry g (goal.at.returns-in_err-bytes-clause-stored g c).After-stored_by honest stands.s stands.bytes))
+returns-in_err-bytes-clause-stored g c honest = λ base recorded inside.
+    let represented = recorded.each c.args.place inside in
+    answers_error {T = Vec ℕ Global} (λ (b : Vec ℕ Global). b.items ≡ stored_bytes Second represented.s) (λ (stored : StoredMessage). IsStoredOf base c.args.place stored.bytes.items) _ c.from_residual-in_err-bytes.result c.from_residual-in_err-bytes.ensures.1
+    (c.in_err-bytes.ensures.stored honest represented.s (has_entry g (goal.at.returns-in_err-bytes-clause-stored g c).After-stored_by honest represented.s represented.bytes))
 
 pub returns-in_err-bytes-clause-there : goal.returns-in_err-bytes-clause-there
 returns-in_err-bytes-clause-there g c honest = λ s has.
@@ -73,14 +73,14 @@ returns-in_err-bytes-clause-there g c honest = λ s has.
     (c.in_err-bytes.ensures.stored honest s (has_entry g (goal.at.returns-in_err-bytes-clause-there g c).After-stored_by honest s has))
 
 pub returns-clause-stored : goal.returns-clause-stored
-returns-clause-stored g c honest = λ base told inside.
-    let stands = told.each c.args.place inside in
+returns-clause-stored g c honest = λ base recorded inside.
+    let represented = recorded.each c.args.place inside in
     record {
-      s = stands.s;
-      size = stands.size;
-      alone = stands.alone;
-      is = stands.is;
-      same = c.in_ok-bytes.ensures.stored honest stands.s (has_entry g (goal.at.returns-clause-stored g c).After-stored_by honest stands.s stands.bytes);
+      s = represented.s;
+      size = represented.size;
+      alone = represented.alone;
+      is = represented.is;
+      same = c.in_ok-bytes.ensures.stored honest represented.s (has_entry g (goal.at.returns-clause-stored g c).After-stored_by honest represented.s represented.bytes);
     }
 
 pub returns-clause-there : goal.returns-clause-there

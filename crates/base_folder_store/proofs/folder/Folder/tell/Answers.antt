@@ -6,18 +6,18 @@ use Rattle.base_log.specs.Standing.{BaseBytes, base_at}
 use Rattle.base_folder_store.specs.Calls.{CommitsOnly}
 use Rattle.base_folder_store.specs.Opened.{IsWritten, committed_by, held_by, path_of}
 use Rattle.base_folder_store.specs.declared.folder.Folder.{Folder}
-use Rattle.base_folder_store.proofs.Staged.{committed_held, committed_open, committed_told}
+use Rattle.base_folder_store.proofs.Staged.{committed_held, committed_open, committed_recorded}
 use Rattle.base_folder_store.proofs.Waits.{written_held}
 use Rattle.base_folder_store.proofs.folder.Folder.tell.Goals as goal
 
 pub returns-clause-stays : goal.returns-clause-stays
 returns-clause-stays g c =
     let f = c.args.self.now in
-    let now : Folder = record { names = f.names; end = c.in_ok-end.end; told = f.told; keys = f.keys; waiting = f.waiting } in
+    let now : Folder = record { names = f.names; end = c.in_ok-end.end; recorded = f.recorded; keys = f.keys; waiting = f.waiting } in
     record {
       named = c.requires.usable.named;
       opened = λ honest.
-          committed_open (g.D.Disk.state c.args.disk.now) (g.D.Disk.state c.commit.new.disk) f now (c.requires.usable.opened (c.commit.ensures.outside.honest honest)) refl refl refl refl (c.in_ok-end.ensures.settled honest) c.in_ok-end.ensures.told;
+          committed_open (g.D.Disk.state c.args.disk.now) (g.D.Disk.state c.commit.new.disk) f now (c.requires.usable.opened (c.commit.ensures.outside.honest honest)) refl refl refl refl (c.in_ok-end.ensures.settled honest) c.in_ok-end.ensures.recorded;
       path = refl;
       mark = refl;
     }
@@ -28,17 +28,17 @@ returns-clause-done g c =
     let d = g.D.Disk.state c.args.disk.now in
     let e = g.D.Disk.state c.commit.new.disk in
     let none : IsWritten f = c.requires.written in
-    let now : Folder = record { names = f.names; end = c.in_ok-end.end; told = f.told; keys = f.keys; waiting = f.waiting } in
+    let now : Folder = record { names = f.names; end = c.in_ok-end.end; recorded = f.recorded; keys = f.keys; waiting = f.waiting } in
     record {
       written = record { messages = none.messages; keys = none.keys };
-      told = c.in_ok-end.ensures.told;
-      same = λ honest. committed_held d e f now refl refl c.in_ok-end.ensures.told (c.in_ok-end.ensures.acknowledged honest ∙ sym (written_held d f none)) (record { messages = none.messages; keys = none.keys });
-      committed = λ honest. committed_told d e f now refl (c.in_ok-end.ensures.acknowledged honest ∙ sym (written_held d f none));
+      recorded = c.in_ok-end.ensures.recorded;
+      same = λ honest. committed_held d e f now refl refl c.in_ok-end.ensures.recorded (c.in_ok-end.ensures.acknowledged honest ∙ sym (written_held d f none)) (record { messages = none.messages; keys = none.keys });
+      committed = λ honest. committed_recorded d e f now refl (c.in_ok-end.ensures.acknowledged honest ∙ sym (written_held d f none));
       settled = c.in_ok-end.ensures.settled;
     }
 
 -- a commit of a folder without waiting bytes, as a run
-run_of : (d e : DiskState) (f : Folder) → IsWritten f → Honestly e (LeavesOnly d e (IsBeforeOrAfter (path_of f) d (committed_by d f) (base_at d (path_of f) f.told))) → KeepsOutside (path_of f) d e
+run_of : (d e : DiskState) (f : Folder) → IsWritten f → Honestly e (LeavesOnly d e (IsBeforeOrAfter (path_of f) d (committed_by d f) (base_at d (path_of f) f.recorded))) → KeepsOutside (path_of f) d e
     → CommitsOnly (path_of f) (committed_by d f) (held_by d f) d e
 run_of d e f none run kept = subst (λ (b : BaseBytes). CommitsOnly (path_of f) (committed_by d f) b d e) (sym (written_held d f none)) (record { any_moment = run; outside = kept })
 

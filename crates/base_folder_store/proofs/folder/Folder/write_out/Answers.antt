@@ -8,7 +8,7 @@ use Rattle.base_folder_store.proofs.folder.Folder.write_out.Goals as goal
 pub returns-clause-stays : goal.returns-clause-stays
 returns-clause-stays g c =
     let f = c.args.self.now in
-    let now : Folder = record { names = f.names; end = f.end; told = c.in_ok-more.more; keys = f.keys; waiting = c.clear.new.self } in
+    let now : Folder = record { names = f.names; end = f.end; recorded = c.in_ok-more.more; keys = f.keys; waiting = c.clear.new.self } in
     let none : IsWritten now = record { messages = c.clear.ensures.messages; keys = c.clear.ensures.keys } in
     let staged = c.in_ok-more.ensures.staged in
     record {
@@ -23,7 +23,7 @@ returns-clause-stays g c =
 pub returns-clause-out : goal.returns-clause-out
 returns-clause-out g c =
     let f = c.args.self.now in
-    let now : Folder = record { names = f.names; end = f.end; told = c.in_ok-more.more; keys = f.keys; waiting = c.clear.new.self } in
+    let now : Folder = record { names = f.names; end = f.end; recorded = c.in_ok-more.more; keys = f.keys; waiting = c.clear.new.self } in
     let none : IsWritten now = record { messages = c.clear.ensures.messages; keys = c.clear.ensures.keys } in
     let staged = c.in_ok-more.ensures.staged in
     record {

@@ -5,7 +5,7 @@ use Rattle.base_file.specs.Base.{Base}
 use Rattle.echo_filed.specs.Filed.{Filed}
 use Rattle.base_folder_store.specs.State.{IsCached, state_of, where_so}
 use Rattle.base_folder_store.specs.Opened.{held_by}
-use Rattle.base_folder_store.proofs.Bases.{told_where}
+use Rattle.base_folder_store.proofs.Bases.{recorded_where}
 use Rattle.base_folder_store.proofs.Causes.{handed_on}
 use Rattle.base_folder_store.proofs.Legible.{held_quiet, legible_open}
 use Rattle.base_folder_store.proofs.Cached.{indexed_held, parts_held}
@@ -35,7 +35,7 @@ returns-in_err-message-clause-cause g c =
     (where_so (state_of (g.D.Disk.state c.read.new.disk) keyed s.folder s.message) (IsCached (g.D.Disk.state c.read.new.disk) s.folder s.index c.read.new.buffers)) (λ (base : Base) (m : Filed). slice_get base.messages c.args.place ≡ Some m) (g.D.Disk.failures s.disk) (g.D.Disk.failures c.read.new.disk) c.in_err-message.field-0.0
     c.in_err-message.ensures.cause (λ honest base holds.
     let was = c.in_err-message.ensures.quiet.honest honest in
-    c.in_err-message.ensures.read honest base.messages (told_where keyed (held_by d s.folder) base holds) (c.requires.within was base holds)))
+    c.in_err-message.ensures.read honest base.messages (recorded_where keyed (held_by d s.folder) base holds) (c.requires.within was base holds)))
 
 pub returns-clause-fetched : goal.returns-clause-fetched
 returns-clause-fetched g c = λ honest base holds.
@@ -43,7 +43,7 @@ returns-clause-fetched g c = λ honest base holds.
     let d = g.D.Disk.state s.disk in
     let keyed = g.H.Digest.keyed in
     let was = c.in_ok-message.ensures.quiet.honest honest in
-    sym (c.in_ok-message.ensures.read honest base.messages (told_where keyed (held_by d s.folder) base holds) (c.requires.within was base holds))
+    sym (c.in_ok-message.ensures.read honest base.messages (recorded_where keyed (held_by d s.folder) base holds) (c.requires.within was base holds))
 
 pub returns-in_err-message-clause-looks : goal.returns-in_err-message-clause-looks
 returns-in_err-message-clause-looks g c =

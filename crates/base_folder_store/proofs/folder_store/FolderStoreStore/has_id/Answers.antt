@@ -4,7 +4,7 @@ use Rattle.echo_filed.specs.Filed.{has_id}
 use Rattle.base_file.specs.Base.{Base}
 use Rattle.base_folder_store.specs.Opened.{held_by}
 use Rattle.base_folder_store.specs.State.{IsCached, state_of, where_so}
-use Rattle.base_folder_store.proofs.Bases.{told_where}
+use Rattle.base_folder_store.proofs.Bases.{recorded_where}
 use Rattle.base_folder_store.proofs.Cached.{indexed_held, parts_held}
 use Rattle.base_folder_store.proofs.Legible.{held_quiet, legible_open}
 use Rattle.base_folder_store.proofs.Seen.{id_digest}
@@ -18,7 +18,7 @@ returns-clause-found g c = λ honest base holds.
     let d = g.D.Disk.state s.disk in
     let keyed = g.H.Digest.keyed in
     answered (λ (found : Bool). found ≡ list_any (has_id c.args.msgid.now) base.messages) c.find.result
-    (c.find.ensures.found honest base.messages (told_where keyed (held_by d s.folder) base holds)
+    (c.find.ensures.found honest base.messages (recorded_where keyed (held_by d s.folder) base holds)
     (id_digest keyed (held_by d s.folder) base c.args.msgid.now c.digest-digest.result holds c.digest-digest.ensures))
 
 pub returns-clause-cause : goal.returns-clause-cause
@@ -28,7 +28,7 @@ returns-clause-cause g c =
     let keyed = g.H.Digest.keyed in
     let e = g.D.Disk.state c.find.new.disk in
     read_cause (where_so (state_of d keyed s.folder s.message) (IsCached d s.folder s.index s.buffers)) (where_so (state_of e keyed s.folder s.message) (IsCached e s.folder c.find.new.index s.buffers)) (λ (base : Base) (found : Bool). found ≡ list_any (has_id c.args.msgid.now) base.messages) (g.D.Disk.failures s.disk) (g.D.Disk.failures c.find.new.disk) c.find.result c.find.ensures.cause
-    (λ honest base holds. c.find.ensures.found honest base.messages (told_where keyed (held_by d s.folder) base holds)
+    (λ honest base holds. c.find.ensures.found honest base.messages (recorded_where keyed (held_by d s.folder) base holds)
     (id_digest keyed (held_by d s.folder) base c.args.msgid.now c.digest-digest.result holds c.digest-digest.ensures))
 
 pub find-requires-clause-legible : goal.find-requires-clause-legible

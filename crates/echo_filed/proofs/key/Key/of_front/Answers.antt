@@ -5,7 +5,7 @@ use Rattle.echo_addr.specs.declared.address.NetNode.{NetNode}
 use Rattle.echo_filed.specs.declared.key.Key.{Key}
 use Rattle.echo_filed.specs.declared.key.Key.TheVariants.{ByContent, ById}
 use Rattle.echo_filed.specs.Filed.{Filed, key_of}
-use Rattle.echo_filed.proofs.Keys.{key_told}
+use Rattle.echo_filed.proofs.Keys.{key_reported}
 use Rattle.echo_filed.proofs.key.Key.of_front.Goals as goal
 
 -- a key that depends on no further part is the key of each such message
@@ -16,7 +16,7 @@ each (Err e) k of all h = tt
 
 pub returns-in-Some : goal.returns-in-Some
 returns-in-Some c =
-    let told = ap option_copied (sym c.in-Some.is) ∙ c.msgid.ensures in
+    let reported = ap option_copied (sym c.in-Some.is) ∙ c.msgid.ensures in
     let of : Option Address → List NetNode → List NetNode → Filed = λ sender seen path. record {
       sender = sender;
       date = c.args.date.now;
@@ -26,11 +26,11 @@ returns-in-Some c =
       echo = record { tag = c.args.front.now.tag; kept = c.args.front.now.kept; seen = seen; path = path };
     } in
     each c.by_id.result (ById c.as_slice-tag.result.now c.in-Some.msgid.now) (λ sender seen path. key_of (of sender seen path))
-    (λ sender seen path. ap (λ t. ById t c.in-Some.msgid.now) c.as_slice-tag.ensures ∙ key_told (of sender seen path) (Some c.in-Some.msgid.now) told) c.by_id.ensures
+    (λ sender seen path. ap (λ t. ById t c.in-Some.msgid.now) c.as_slice-tag.ensures ∙ key_reported (of sender seen path) (Some c.in-Some.msgid.now) reported) c.by_id.ensures
 
 pub returns : goal.returns
 returns c =
-    let told = ap option_copied (sym c.in_default.is) ∙ c.msgid.ensures in
+    let reported = ap option_copied (sym c.in_default.is) ∙ c.msgid.ensures in
     let of : Option Address → List NetNode → List NetNode → Filed = λ sender seen path. record {
       sender = sender;
       date = c.args.date.now;
@@ -42,4 +42,4 @@ returns c =
     let tag = c.as_slice-tag.ensures in
     let kept = c.in_ok-kept.ensures in
     each c.by_content.result (ByContent c.as_slice-tag.result.now c.args.date.now c.args.to_name.now c.args.from_name.now c.args.subject.now c.in_ok-kept.kept) (λ sender seen path. key_of (of sender seen path))
-    (λ sender seen path. (λ i. ByContent (tag i) c.args.date.now c.args.to_name.now c.args.from_name.now c.args.subject.now (kept i)) ∙ key_told (of sender seen path) None told) c.by_content.ensures
+    (λ sender seen path. (λ i. ByContent (tag i) c.args.date.now c.args.to_name.now c.args.from_name.now c.args.subject.now (kept i)) ∙ key_reported (of sender seen path) None reported) c.by_content.ensures

@@ -9,7 +9,7 @@ use Rattle.station_bases.proofs.EntryMore.{added}
 use Rattle.station_bases.proofs.entries.Entries.add.Goals as goal
 
 pub returns-clause-held : goal.returns-clause-held
-returns-clause-held c = λ file base inside held new told.
+returns-clause-held c = λ file base inside held new recorded.
     let e = c.args.self.now in
     let f = record c.push.new.self { odd = c.either-self.result } in
     let same = c.push.ensures.same in
@@ -17,7 +17,7 @@ returns-clause-held c = λ file base inside held new told.
     let bytes = c.in_ok-bytes.bytes.items in
     let room = c.in_ok-place.ensures.room in
     added c.one_message_more.ensures file e f base m bytes c.args.digest held inside c.requires.head c.in_ok-bytes.ensures.stored c.in_ok-bytes.ensures.filed c.in_ok-bytes.ensures.bytes c.in_ok-check_room.ensures.room.text
-    (let count = c.in_ok-check_room.ensures.room.messages in omega (arith, count, c.count.ensures)) (omega (arith, room, c.len.ensures, c.in_ok-place.ensures.place)) new told
+    (let count = c.in_ok-check_room.ensures.room.messages in omega (arith, count, c.count.ensures)) (omega (arith, room, c.len.ensures, c.in_ok-place.ensures.place)) new recorded
     (ap (λ x. x.digest) same) (ap (λ x. x.cursor) same) (ap (λ x. x.end) same)
     (c.in_ok-push.ensures.waiting ∙ ap (λ (l : List ℕ). e.waiting.items ++ l) c.deref.ensures.value)
     (c.in_ok-push.ensures.keys ∙ ap (λ (l : List ℕ). e.keys.items ++ l) (c.entry-entry.ensures ∙ ap (λ (n : ℕ). entry n c.args.digest) c.in_ok-place.ensures.place))

@@ -3,7 +3,7 @@ use Rattle.std.specs.Prelude.{slice_get}
 use Rattle.disk_io.specs.Disk.{bytes_in}
 use Rattle.echo_filed.specs.Filed.{Filed}
 use Rattle.base_folder_store.proofs.Causes.{answers_error}
-use Rattle.station_bases.proofs.EntryKeys.{where_told}
+use Rattle.station_bases.proofs.EntryKeys.{where_recorded}
 use Rattle.station_bases.proofs.EntryMore.{many_held}
 use Rattle.station_bases.proofs.entries.Entries.fetch.Goals as goal
 
@@ -17,9 +17,9 @@ pub returns-in_err-message-clause-fetched : goal.returns-in_err-message-clause-f
 returns-in_err-message-clause-fetched g c honest = λ base held less.
     let file = bytes_in ((g.D.Disk.state c.args.disk.now).seen c.args.path.now) in
     answers_error {T = Filed} (λ (m : Filed). slice_get base.messages c.args.place ≡ Some m) _ _ c.from_residual.result c.from_residual.ensures.1
-    (c.in_err-message.ensures.read honest base.messages (where_told file c.args.self.now base.messages base.cursor held.files) less)
+    (c.in_err-message.ensures.read honest base.messages (where_recorded file c.args.self.now base.messages base.cursor held.files) less)
 
 pub returns-clause-fetched : goal.returns-clause-fetched
 returns-clause-fetched g c honest = λ base held less.
     let file = bytes_in ((g.D.Disk.state c.args.disk.now).seen c.args.path.now) in
-    sym (c.in_ok-message.ensures.read honest base.messages (where_told file c.args.self.now base.messages base.cursor held.files) less)
+    sym (c.in_ok-message.ensures.read honest base.messages (where_recorded file c.args.self.now base.messages base.cursor held.files) less)

@@ -7,7 +7,7 @@ use Rattle.disk_io.specs.Disk.{DiskState, bytes_in}
 use Rattle.disk_io.specs.Runs.{ChangesNothing}
 use Rattle.disk_io.proofs.Moments.{nothing_twice}
 use Rattle.echo_filed.specs.Filed.{Filed}
-use Rattle.base_store.specs.Keys.{StandWhereTold}
+use Rattle.base_store.specs.Keys.{AreWhereRecorded}
 use Rattle.base_folder_store.specs.Answers.{IsStoredOf}
 use Rattle.base_folder_store.proofs.Causes.{answers_error}
 use Rattle.base_folder_store.proofs.Looked.{none_found, passed_on, some_message, stored_of}
@@ -20,11 +20,11 @@ use Rattle.station_bases.proofs.entries.Entries.find_covered.Goals as goal
 few : (below count place : ℕ) (keys : List ℕ) (base : List Filed) → length keys ≡ count → length keys ≡ 16 * length base → below ≤ count / 16 → place < below → place < length base
 few below count place keys base all many within under = omega (arith, all, many, within, under)
 
-told_still : (d0 d1 : DiskState) (path : List ℕ) (e : Entries) (base : List Filed) → ChangesNothing d0 d1 → StandWhereTold base (message_bytes (bytes_in (d0.seen path)) e) e.keys.items → StandWhereTold base (message_bytes (bytes_in (d1.seen path)) e) e.keys.items
-told_still d0 d1 path e base quiet told = subst (λ (l : List ℕ). StandWhereTold base (message_bytes l e) e.keys.items) (sym (same_file d0 d1 path quiet)) told
+recorded_still : (d0 d1 : DiskState) (path : List ℕ) (e : Entries) (base : List Filed) → ChangesNothing d0 d1 → AreWhereRecorded base (message_bytes (bytes_in (d0.seen path)) e) e.keys.items → AreWhereRecorded base (message_bytes (bytes_in (d1.seen path)) e) e.keys.items
+recorded_still d0 d1 path e base quiet recorded = subst (λ (l : List ℕ). AreWhereRecorded base (message_bytes l e) e.keys.items) (sym (same_file d0 d1 path quiet)) recorded
 
-inside : (e : Entries) (below place : ℕ) (base : List Filed) (bytes : List ℕ) → StandWhereTold base bytes e.keys.items → below ≤ length e.keys.items / 16 → place < below → place < length base
-inside e below place base bytes told low under = let many = told.many in omega (arith, many, low, under)
+inside : (e : Entries) (below place : ℕ) (base : List Filed) (bytes : List ℕ) → AreWhereRecorded base bytes e.keys.items → below ≤ length e.keys.items / 16 → place < below → place < length base
+inside e below place base bytes recorded low under = let many = recorded.many in omega (arith, many, low, under)
 
 pub stored-requires-clause-legible : goal.stored-requires-clause-legible
 stored-requires-clause-legible g c honest =
@@ -32,21 +32,21 @@ stored-requires-clause-legible g c honest =
     reach_still (g.D.Disk.state c.args.disk.now) (g.D.Disk.state c.entries.disk) c.args.path.now quiet c.args.self.now (c.requires.can.legible (quiet.honest honest))
 
 pub returns-in_err-bytes-clause-found : goal.returns-in_err-bytes-clause-found
-returns-in_err-bytes-clause-found g c honest = λ base told have.
+returns-in_err-bytes-clause-found g c honest = λ base recorded have.
     let d = g.D.Disk.state c.args.disk.now in
     let f = c.args.self.now in
     let quiet = c.entries.invariant.quiet in
-    let low = inside f c.entries.below c.in-Some.place base (message_bytes (bytes_in (d.seen c.args.path.now)) f) told c.entries.invariant.within c.in-Some.ensures.found in
+    let low = inside f c.entries.below c.in-Some.place base (message_bytes (bytes_in (d.seen c.args.path.now)) f) recorded c.entries.invariant.within c.in-Some.ensures.found in
     answers_error {T = Vec ℕ Global} (λ (b : Vec ℕ Global). IsStoredOf base c.in-Some.place b.items) (λ (found : Bool). found ≡ list_any (g.W.Sought.test c.args.sought.now) base) _ c.from_residual.result c.from_residual.ensures.1
-    (c.in_err-bytes.ensures.stored honest base (told_still d (g.D.Disk.state c.entries.disk) c.args.path.now f base quiet told) low)
+    (c.in_err-bytes.ensures.stored honest base (recorded_still d (g.D.Disk.state c.entries.disk) c.args.path.now f base quiet recorded) low)
 
 pub returns-in_err-is_stored-clause-found : goal.returns-in_err-is_stored-clause-found
-returns-in_err-is_stored-clause-found g c honest = λ base told have.
+returns-in_err-is_stored-clause-found g c honest = λ base recorded have.
     let d = g.D.Disk.state c.args.disk.now in
     let f = c.args.self.now in
     let quiet = c.entries.invariant.quiet in
-    let low = inside f c.entries.below c.in-Some.place base (message_bytes (bytes_in (d.seen c.args.path.now)) f) told c.entries.invariant.within c.in-Some.ensures.found in
-    let of = c.in_ok-bytes.ensures.stored honest base (told_still d (g.D.Disk.state c.entries.disk) c.args.path.now f base quiet told) low in
+    let low = inside f c.entries.below c.in-Some.place base (message_bytes (bytes_in (d.seen c.args.path.now)) f) recorded c.entries.invariant.within c.in-Some.ensures.found in
+    let of = c.in_ok-bytes.ensures.stored honest base (recorded_still d (g.D.Disk.state c.entries.disk) c.args.path.now f base quiet recorded) low in
     let m : Filed = some_message base c.in-Some.place low in
     answers_error {T = Bool} (λ (found : Bool). found ≡ g.W.Sought.test c.args.sought.now (get_or base c.in-Some.place m)) (λ (found : Bool). found ≡ list_any (g.W.Sought.test c.args.sought.now) base) _ c.from_residual-in_err-is_stored.result c.from_residual-in_err-is_stored.ensures.1
     (c.in_err-is_stored.ensures.found (get_or base c.in-Some.place m) (stored_of base c.in-Some.place c.in_ok-bytes.bytes.items c.deref.result.now of c.deref.ensures.value m))
@@ -55,13 +55,13 @@ pub returns-in_err-is_stored-clause-quiet : goal.returns-in_err-is_stored-clause
 returns-in_err-is_stored-clause-quiet g c = nothing_twice (g.D.Disk.state c.args.disk.now) (g.D.Disk.state c.entries.disk) (g.D.Disk.state c.stored.new.disk) c.entries.invariant.quiet c.stored.ensures.quiet
 
 pub returns-then-branch-clause-found : goal.returns-then-branch-clause-found
-returns-then-branch-clause-found g c honest = λ base told have.
+returns-then-branch-clause-found g c honest = λ base recorded have.
     let d = g.D.Disk.state c.args.disk.now in
     let f = c.args.self.now in
     let test = g.W.Sought.test c.args.sought.now in
     let quiet = c.entries.invariant.quiet in
-    let low = inside f c.entries.below c.in-Some.place base (message_bytes (bytes_in (d.seen c.args.path.now)) f) told c.entries.invariant.within c.in-Some.ensures.found in
-    let of = c.in_ok-bytes.ensures.stored honest base (told_still d (g.D.Disk.state c.entries.disk) c.args.path.now f base quiet told) low in
+    let low = inside f c.entries.below c.in-Some.place base (message_bytes (bytes_in (d.seen c.args.path.now)) f) recorded c.entries.invariant.within c.in-Some.ensures.found in
+    let of = c.in_ok-bytes.ensures.stored honest base (recorded_still d (g.D.Disk.state c.entries.disk) c.args.path.now f base quiet recorded) low in
     let m : Filed = some_message base c.in-Some.place low in
     let is = c.in_ok-is_stored.ensures.found (get_or base c.in-Some.place m) (stored_of base c.in-Some.place c.in_ok-bytes.bytes.items c.deref.result.now of c.deref.ensures.value m) in
     sym (list_any_at test base c.in-Some.place m low (sym is ∙ c.if-branch.true))
@@ -77,24 +77,24 @@ entries-preserved g c =
       quiet = nothing_twice (g.D.Disk.state c.args.disk.now) (g.D.Disk.state c.entries.disk) (g.D.Disk.state c.stored.new.disk) c.entries.invariant.quiet c.stored.ensures.quiet;
       cause = let later = c.stored.ensures.cause.later in let before = c.entries.invariant.cause in omega (arith, later, before);
       within = omega (arith, under, less);
-      passed = λ honest base told have.
+      passed = λ honest base recorded have.
           let d = g.D.Disk.state c.args.disk.now in
           let f = c.args.self.now in
           let test = g.W.Sought.test c.args.sought.now in
           let quiet = c.entries.invariant.quiet in
           let before = c.stored.ensures.quiet.honest honest in
-          let low = inside f c.entries.below c.in-Some.place base (message_bytes (bytes_in (d.seen c.args.path.now)) f) told less under in
-          let of = c.in_ok-bytes.ensures.stored honest base (told_still d (g.D.Disk.state c.entries.disk) c.args.path.now f base quiet told) low in
+          let low = inside f c.entries.below c.in-Some.place base (message_bytes (bytes_in (d.seen c.args.path.now)) f) recorded less under in
+          let of = c.in_ok-bytes.ensures.stored honest base (recorded_still d (g.D.Disk.state c.entries.disk) c.args.path.now f base quiet recorded) low in
           let enough = c.requires.covered in
-          passed_on test c.args.digest base f.keys.items c.entries.below c.in-Some.place told.many have (c.entries.invariant.passed before base told have)
+          passed_on test c.args.digest base f.keys.items c.entries.below c.in-Some.place recorded.many have (c.entries.invariant.passed before base recorded have)
           (λ j behind bound short. c.in-Some.ensures.last f.keys.items c.requires.can.indexed.index j behind bound (omega (arith, short, enough)))
           (λ m. sym (c.in_ok-is_stored.ensures.found (get_or base c.in-Some.place m) (stored_of base c.in-Some.place c.in_ok-bytes.bytes.items c.deref.result.now of c.deref.ensures.value m)) ∙ c.if-branch.false);
     }
 
 pub returns-clause-found : goal.returns-clause-found
-returns-clause-found g c honest = λ base told have.
+returns-clause-found g c honest = λ base recorded have.
     let f = c.args.self.now in
     let test = g.W.Sought.test c.args.sought.now in
     let enough = c.requires.covered in
-    sym (none_found test c.args.digest base f.keys.items c.entries.below told.many have (c.entries.invariant.passed honest base told have)
+    sym (none_found test c.args.digest base f.keys.items c.entries.below recorded.many have (c.entries.invariant.passed honest base recorded have)
     (λ j bound short. c.in_default.ensures.none f.keys.items c.requires.can.indexed.index j bound (omega (arith, short, enough))))

@@ -1,10 +1,10 @@
 use Rattle.disk_io.specs.Disk.{bytes_in}
-use Rattle.station_bases.proofs.EntryKeys.{id_told, where_told}
+use Rattle.station_bases.proofs.EntryKeys.{id_recorded, where_recorded}
 use Rattle.station_bases.proofs.entries.Entries.has_id.Goals as goal
 
 pub returns-clause-found : goal.returns-clause-found
 returns-clause-found g c honest = λ base held.
     let e = c.args.self.now in
     let file = bytes_in ((g.D.Disk.state c.args.disk.now).seen c.args.path.now) in
-    c.find.ensures.found honest base.messages (where_told file e base.messages base.cursor held.files)
-    (id_told file e base.messages base.cursor held.files c.args.msgid.now c.of-digest.result c.of-digest.ensures)
+    c.find.ensures.found honest base.messages (where_recorded file e base.messages base.cursor held.files)
+    (id_recorded file e base.messages base.cursor held.files c.args.msgid.now c.of-digest.result c.of-digest.ensures)

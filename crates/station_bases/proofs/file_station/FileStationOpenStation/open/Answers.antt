@@ -22,7 +22,7 @@ returns-in-Ok-clause-opened g c =
     (is_opened d0 d1 path s.rest.own s.rest.held s.rest.place c.read_station.ensures.reads.quiet links file f0 f1 c.read_station.ensures.reads.later
     (subst (λ (o : List ℕ). All (λ b. b ≢ 47) o) (sym c.new.ensures.own) read.plain)
     (subst (λ h. IsWithinReach d1 path h) (sym c.new.ensures.held) read.reach) (λ honest. (read.read honest).0) read.settled
-    (λ honest b stands. subst (λ h. IsHeld d1 path h b) (sym c.new.ensures.held) ((read.read honest).1 b stands))))
+    (λ honest b represented. subst (λ h. IsHeld d1 path h b) (sym c.new.ensures.held) ((read.read honest).1 b represented))))
 
 pub returns-in-Err-clause-stopped : goal.returns-in-Err-clause-stopped
 returns-in-Err-clause-stopped g c =

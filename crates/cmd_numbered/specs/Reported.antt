@@ -4,16 +4,16 @@ use Rattle.cmd_numbered.specs.declared.adding.JamExport.{JamExport}
 use Rattle.cmd_numbered.specs.declared.numbering.Exported.{Exported}
 
 -- The line with the number of exported messages and the next number.
-abbrev pub told_line : ℕ → ℕ → List ℕ
-told_line made next = codes "exported " ++ (decimal made ++ (codes " messages, next " ++ (decimal next ++ codes "\n")))
+abbrev pub reported_line : ℕ → ℕ → List ℕ
+reported_line made next = codes "exported " ++ (decimal made ++ (codes " messages, next " ++ (decimal next ++ codes "\n")))
 
 -- That line, for files of a folder.
 abbrev pub exported_line : Exported → List ℕ
-exported_line exported = told_line exported.made exported.next
+exported_line exported = reported_line exported.made exported.next
 
 -- The line of an export that added this many messages to a JAM base. Next is the first message left, or the end.
 abbrev pub added_line : JamExport → ℕ → List ℕ
-added_line exported made = told_line made (unwrap_or (slice_get exported.adding.messages.items made) exported.end)
+added_line exported made = reported_line made (unwrap_or (slice_get exported.adding.messages.items made) exported.end)
 
 -- The line on standard error if subfields were cut.
 abbrev pub cuts_line : ℕ → List ℕ

@@ -6,7 +6,7 @@ use Rattle.std.proofs.lemmas.Nat.{from_le_bytes-to_le_bytes_8}
 use Rattle.echo_filed.specs.Filed.{Filed}
 use Rattle.echo_filed.specs.Stored.{Stored, message_in, stored_bytes}
 use Rattle.echo_filed.specs.declared.stored.Version.TheVariants.{Second}
-use Rattle.base_store.specs.Keys.{digested, entry, keys_from, digest_at, FolderStandsFor, TellsEach}
+use Rattle.base_store.specs.Keys.{digested, entry, keys_from, digest_at, FolderRepresents, RecordsEach}
 
 -- the first entry
 at_first : (place number : ℕ) (rest : List ℕ) → number < 2 ^ 64 → from_le_bytes w64 (take 8 (drop 8 (entry place number ++ rest))) ≡ number
@@ -20,15 +20,15 @@ at_next place number rest i =
     ap (λ (l : List ℕ). from_le_bytes w64 (take 8 l))
     (ap (λ (n : ℕ). drop n (entry place number ++ rest)) sum ∙ sym (drop-drop (16 * i + 8) 16 (entry place number ++ rest)) ∙ ap (λ (l : List ℕ). drop (16 * i + 8) l) behind)
 
-told_from : (digest : List ℕ → ℕ) → ((bytes : List ℕ) → digest bytes < 2 ^ 64) → (all : List Stored) (place i : ℕ) (d : Filed) → i < length (map (message_in Second) all)
+recorded_from : (digest : List ℕ → ℕ) → ((bytes : List ℕ) → digest bytes < 2 ^ 64) → (all : List Stored) (place i : ℕ) (d : Filed) → i < length (map (message_in Second) all)
     → digest_at (keys_from digest place all) i ≡ digest (digested (get_or (map (message_in Second) all) i d))
-told_from digest fits [] place i d within = absurd (omega arith)
-told_from digest fits (s ∷ later) place zero d within =
+recorded_from digest fits [] place i d within = absurd (omega arith)
+recorded_from digest fits (s ∷ later) place zero d within =
     let first : 16 * 0 + 8 ≡ 8 = omega arith in
     at_first place (digest (digested (message_in Second s))) (keys_from digest (place + length (stored_bytes Second s)) later) (fits (digested (message_in Second s)))
-told_from digest fits (s ∷ later) place (suc i) d within =
+recorded_from digest fits (s ∷ later) place (suc i) d within =
     at_next place (digest (digested (message_in Second s))) (keys_from digest (place + length (stored_bytes Second s)) later) i
-    ∙ told_from digest fits later (place + length (stored_bytes Second s)) i d (omega arith)
+    ∙ recorded_from digest fits later (place + length (stored_bytes Second s)) i d (omega arith)
 
-pub tells_each : (digest : List ℕ → ℕ) (base : List Filed) (cursor : ℕ) (messages keys : List ℕ) → FolderStandsFor digest base cursor messages keys → TellsEach digest base keys
-tells_each digest base cursor messages keys stands i d within = grind (arith, told_from, get_or)
+pub recorded_base_each : (digest : List ℕ → ℕ) (base : List Filed) (cursor : ℕ) (messages keys : List ℕ) → FolderRepresents digest base cursor messages keys → RecordsEach digest base keys
+recorded_base_each digest base cursor messages keys represented i d within = grind (arith, recorded_from, get_or)

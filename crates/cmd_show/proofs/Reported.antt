@@ -11,36 +11,36 @@ use Rattle.echo_links.specs.LinkLines.{LinksOf, file_fault, file_lines, first_fa
 use Rattle.echo_links.proofs.LinkBytes.{no_lines_left}
 use Rattle.cmd_show.specs.declared.faulty.FaultyLine.{FaultyLine}
 use Rattle.cmd_show.specs.declared.words.Wrong.{Wrong}
-use Rattle.cmd_show.specs.FaultyLines.{faults_of, faulty_among, faulty_lines, good_with, reported_lines, told_with}
+use Rattle.cmd_show.specs.FaultyLines.{faults_of, faulty_among, faulty_lines, good_with, reported_lines, reported_with}
 use Rattle.cmd_show.specs.declared.judged.Judged.TheVariants.{Faulty}
 use Rattle.cmd_show.specs.Judging.{IsJudged, is_memory}
-use Rattle.cmd_show.specs.Before.{IsBefore, JudgesLine, SaidBefore, line_told}
+use Rattle.cmd_show.specs.Before.{IsBefore, JudgesLine, SaidBefore, line_reported}
 
 -- ---- line by line
 
 -- this many lines were judged, these faulty ones were found, and these bytes are left
-pub record LinesTold (bytes : List ℕ) (number : ℕ) (rest : List ℕ) (b : SaidBefore) (found : List FaultyLine) : Type 0 where
+pub record ReportedLines (bytes : List ℕ) (number : ℕ) (rest : List ℕ) (b : SaidBefore) (found : List FaultyLine) : Type 0 where
   pub earlier : List (List ℕ)
   pub before : IsBefore earlier b
-  pub told : faulty_lines bytes ≡ found ++ faulty_among earlier (number + 1) (file_lines rest)
+  pub reported : faulty_lines bytes ≡ found ++ faulty_among earlier (number + 1) (file_lines rest)
 
-pub none_told : (bytes : List ℕ) (b : SaidBefore) (found : List FaultyLine) → b ≡ record { system = false; name = false; tags = [] } → found ≡ [] → LinesTold bytes 0 bytes b found
+pub none_reported : (bytes : List ℕ) (b : SaidBefore) (found : List FaultyLine) → b ≡ record { system = false; name = false; tags = [] } → found ≡ [] → ReportedLines bytes 0 bytes b found
 unfolding faulty_lines
-none_told bytes b found begun none = grind arith
+none_reported bytes b found begun none = grind arith
 
 -- the faulty lines among a line and those after it
 line_first : (earlier : List (List ℕ)) (number : ℕ) (line : List ℕ) (later : List (List ℕ)) (new : SaidBefore) (wrong : Option Wrong) → JudgesLine earlier number line new wrong
-    → (good : List (List ℕ)) × IsBefore good new × (faulty_among earlier number (line ∷ later) ≡ line_told wrong ++ faulty_among good (number + 1) later)
+    → (good : List (List ℕ)) × IsBefore good new × (faulty_among earlier number (line ∷ later) ≡ line_reported wrong ++ faulty_among good (number + 1) later)
 line_first earlier number line later new wrong h1 = grind arith
 
-pub one_told : (bytes : List ℕ) (number : ℕ) (rest line after : List ℕ) (old new : SaidBefore) (found more : List FaultyLine) (wrong : Option Wrong)
-    (so : LinesTold bytes number rest old found) → file_lines rest ≡ line ∷ file_lines after → JudgesLine so.earlier (number + 1) line new wrong
-    → more ≡ found ++ line_told wrong → LinesTold bytes (number + 1) after new more
-one_told bytes number rest line after old new found more wrong so next judged added = grind (arith, line_first, append_assoc)
+pub one_reported : (bytes : List ℕ) (number : ℕ) (rest line after : List ℕ) (old new : SaidBefore) (found more : List FaultyLine) (wrong : Option Wrong)
+    (so : ReportedLines bytes number rest old found) → file_lines rest ≡ line ∷ file_lines after → JudgesLine so.earlier (number + 1) line new wrong
+    → more ≡ found ++ line_reported wrong → ReportedLines bytes (number + 1) after new more
+one_reported bytes number rest line after old new found more wrong so next judged added = grind (arith, line_first, append_assoc)
 
-pub all_told : (bytes : List ℕ) (number : ℕ) (rest : List ℕ) (b : SaidBefore) (found : List FaultyLine) → LinesTold bytes number rest b found → rest ≡ [] → found ≡ faulty_lines bytes
-all_told bytes number rest b found so none =
-    sym (so.told ∙ ap (λ ls. found ++ faulty_among so.earlier (number + 1) ls) (ap file_lines none ∙ no_lines_left) ∙ append-nil found)
+pub all_reported : (bytes : List ℕ) (number : ℕ) (rest : List ℕ) (b : SaidBefore) (found : List FaultyLine) → ReportedLines bytes number rest b found → rest ≡ [] → found ≡ faulty_lines bytes
+all_reported bytes number rest b found so none =
+    sym (so.reported ∙ ap (λ ls. found ++ faulty_among so.earlier (number + 1) ls) (ap file_lines none ∙ no_lines_left) ∙ append-nil found)
 
 -- ---- the first fault
 
@@ -54,10 +54,10 @@ first_of_lines earlier number (line ∷ later) why h = by (first_of_lines (line 
         → (o : Option LinkFault) → line_fault earlier number line ≡ o
         → option_map (λ (l : FaultyLine). l.fault) (slice_get (faulty_among earlier number (line ∷ later)) 0) ≡ Some why
     by behind None is =
-        ap (λ f. option_map (λ (l : FaultyLine). l.fault) (slice_get (told_with f line (faulty_among (good_with f line earlier) (number + 1) later)) 0)) is
+        ap (λ f. option_map (λ (l : FaultyLine). l.fault) (slice_get (reported_with f line (faulty_among (good_with f line earlier) (number + 1) later)) 0)) is
         ∙ behind (sym (ap (λ f. option_or f (first_fault (line ∷ earlier) (number + 1) later)) is) ∙ h)
     by behind (Some f) is =
-        ap (λ f. option_map (λ (l : FaultyLine). l.fault) (slice_get (told_with f line (faulty_among (good_with f line earlier) (number + 1) later)) 0)) is
+        ap (λ f. option_map (λ (l : FaultyLine). l.fault) (slice_get (reported_with f line (faulty_among (good_with f line earlier) (number + 1) later)) 0)) is
         ∙ sym (ap (λ f. option_or f (first_fault (line ∷ earlier) (number + 1) later)) is) ∙ h
 
 -- a fault of a file, except a missing system, is that of a line
@@ -75,16 +75,16 @@ module _ (bytes : List ℕ) where
   by_fault : (o : Option LinkFault) → file_fault bytes ≡ o → option_map (λ (l : FaultyLine). l.fault) (slice_get (reported_lines bytes o) 0) ≡ o
   by_fault o h1 = grind (arith, cases_Bool, of_a_line, true≢false)
 
-  pub first_told : option_map (λ (l : FaultyLine). l.fault) (slice_get (faults_of bytes) 0) ≡ file_fault bytes
+  pub first_reported : option_map (λ (l : FaultyLine). l.fault) (slice_get (faults_of bytes) 0) ≡ file_fault bytes
   unfolding faults_of
-  first_told = by_fault (file_fault bytes) refl
+  first_reported = by_fault (file_fault bytes) refl
 
   -- the reported lines of a file with this fault are all its faults
-  pub told_with_fault : (why : LinkFault) (told : List FaultyLine) → file_fault bytes ≡ Some why → told ≡ reported_lines bytes (Some why) → told ≡ faults_of bytes
+  pub reported_with_fault : (why : LinkFault) (reported : List FaultyLine) → file_fault bytes ≡ Some why → reported ≡ reported_lines bytes (Some why) → reported ≡ faults_of bytes
   unfolding faults_of
-  told_with_fault why told is so = so ∙ ap (reported_lines bytes) (sym is)
+  reported_with_fault why reported is so = so ∙ ap (reported_lines bytes) (sym is)
 
 -- a file was judged, unless memory ran out in its reading
-pub judged_faulty : (bytes : List ℕ) (why : LinkFault) (told : List FaultyLine) (read : Result LinkFile LinkFault) → read ≡ Err why
-    → (read ≡ Err fault.Memory) ⊎ LinksOf bytes read → is_memory why ≡ false → told ≡ reported_lines bytes (Some why) → IsJudged bytes (Faulty told)
-judged_faulty bytes why told read is judged other so = grind (arith, true≢false, told_with_fault)
+pub judged_faulty : (bytes : List ℕ) (why : LinkFault) (reported : List FaultyLine) (read : Result LinkFile LinkFault) → read ≡ Err why
+    → (read ≡ Err fault.Memory) ⊎ LinksOf bytes read → is_memory why ≡ false → reported ≡ reported_lines bytes (Some why) → IsJudged bytes (Faulty reported)
+judged_faulty bytes why reported read is judged other so = grind (arith, true≢false, reported_with_fault)
