@@ -10,8 +10,9 @@ use std::alloc::{AllocError, Global};
 const MOST: usize = 4_294_967_294;
 
 /// For the low bits of digests the last message with them, and for each message the previous one
-/// with the same bits: counted from 1, and 0 for none. They take 5 to 8 bytes a message. The caller
-/// holds the keys, and passes to each call the same ones, or the same and more behind them.
+/// with the same bits: counted from 1, and 0 for none. They take 6 to 8 bytes a message, and on
+/// average one or two messages share their low bits. The caller holds the keys, and passes to each
+/// call the same ones, or the same and more behind them.
 #[derive(Drop)]
 pub struct Chains {
     heads: Vec<u32>,
@@ -42,8 +43,8 @@ impl Chains {
         ensures chains { (keys : List ℕ) → AreChains keys self.old → AreChains keys self.new }
         ensures room { OnOk result (0 < length self.new.heads.items) }
     {
-        if self.heads.len() <= all / 4 {
-            let heads = vec![in alloc; 0; (all / 2).next_power_of_two()]?;
+        if self.heads.len() <= all / 2 {
+            let heads = vec![in alloc; 0; (all / 2 + 1).next_power_of_two()]?;
             self.heads = heads;
             self.before.clear();
         }

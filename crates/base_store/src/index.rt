@@ -11,7 +11,7 @@ use std::alloc::{AllocError, Global};
 /// How many look-ups pass over the keys before chains are made of them: a posting has no more.
 const PASSES: u8 = 2;
 
-/// Chains, and the keys that they are made of: some 21 to 24 bytes a message.
+/// Chains, and the keys that they are made of: some 22 to 24 bytes a message.
 ///
 /// Expected digests need no chains: one pass finds the messages that have them, and the keys that
 /// were gone over are not kept. The first look-ups of other digests are made so too.

@@ -50,7 +50,7 @@ returns-in_err-is_stored-clause-found g c honest = λ base recorded have.
     let of = c.in_ok-bytes.ensures.stored honest base (recorded_still d (g.D.Disk.state c.entries.disk) c.args.path.now f base quiet recorded) low in
     let m : Filed = some_message base c.in-Some.place low in
     answers_error {T = Bool} (λ (found : Bool). found ≡ g.W.Sought.test c.args.sought.now (get_or base c.in-Some.place m)) (λ (found : Bool). found ≡ list_any (g.W.Sought.test c.args.sought.now) base) _ c.from_residual-in_err-is_stored.result c.from_residual-in_err-is_stored.ensures.1
-    (c.in_err-is_stored.ensures.found (get_or base c.in-Some.place m) (stored_of base c.in-Some.place c.in_ok-bytes.bytes.items c.deref-2.result.now of c.deref-2.ensures.value m))
+    (c.in_err-is_stored.ensures.found (get_or base c.in-Some.place m) (stored_of base c.in-Some.place c.in_ok-bytes.bytes.items c.deref-in-Some.result.now of c.deref-in-Some.ensures.value m))
 
 pub returns-in_err-is_stored-clause-quiet : goal.returns-in_err-is_stored-clause-quiet
 returns-in_err-is_stored-clause-quiet g c = nothing_twice (g.D.Disk.state c.args.disk.now) (g.D.Disk.state c.entries.disk) (g.D.Disk.state c.stored.new.disk) c.entries.invariant.quiet c.stored.ensures.quiet
@@ -64,7 +64,7 @@ returns-then-branch-clause-found g c honest = λ base recorded have.
     let low = inside f c.entries.below c.in-Some.place base (message_bytes (bytes_in (d.seen c.args.path.now)) f) recorded c.entries.invariant.within c.in-Some.ensures.found.0 in
     let of = c.in_ok-bytes.ensures.stored honest base (recorded_still d (g.D.Disk.state c.entries.disk) c.args.path.now f base quiet recorded) low in
     let m : Filed = some_message base c.in-Some.place low in
-    let is = c.in_ok-is_stored.ensures.found (get_or base c.in-Some.place m) (stored_of base c.in-Some.place c.in_ok-bytes.bytes.items c.deref-2.result.now of c.deref-2.ensures.value m) in
+    let is = c.in_ok-is_stored.ensures.found (get_or base c.in-Some.place m) (stored_of base c.in-Some.place c.in_ok-bytes.bytes.items c.deref-in-Some.result.now of c.deref-in-Some.ensures.value m) in
     sym (list_any_at test base c.in-Some.place m low (sym is ∙ c.if-branch.true))
 
 pub returns-then-branch-clause-quiet : goal.returns-then-branch-clause-quiet
@@ -89,7 +89,7 @@ entries-preserved g c =
           passed_on test c.args.digest base f.keys.items c.entries.below c.in-Some.place recorded.many have (c.entries.invariant.passed before base recorded have)
           (subst (λ (l : List ℕ). (j : ℕ) → c.in-Some.place < j → j < c.entries.below → j < length l / 16 → digest_at l j ≢ c.args.digest) c.deref.ensures.value
           (c.in-Some.ensures.last (subst (λ (l : List ℕ). AreChains l f.chains) (sym c.deref.ensures.value) c.requires.can.indexed.chains)))
-          (λ m. sym (c.in_ok-is_stored.ensures.found (get_or base c.in-Some.place m) (stored_of base c.in-Some.place c.in_ok-bytes.bytes.items c.deref-2.result.now of c.deref-2.ensures.value m)) ∙ c.if-branch.false);
+          (λ m. sym (c.in_ok-is_stored.ensures.found (get_or base c.in-Some.place m) (stored_of base c.in-Some.place c.in_ok-bytes.bytes.items c.deref-in-Some.result.now of c.deref-in-Some.ensures.value m)) ∙ c.if-branch.false);
     }
 
 pub returns-clause-found : goal.returns-clause-found
