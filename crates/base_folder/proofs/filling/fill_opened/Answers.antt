@@ -2,7 +2,6 @@ use Rattle.std.proofs.Common.{◌≡◌, ◌+◌, ◌∙◌, ℕ, Err, inr, refl
 use Rattle.std.specs.Prelude.{IsErrOf}
 use Rattle.disk_io.specs.Disk.{Files}
 use Rattle.disk_io.specs.Runs.{LeavesOnly}
-use Rattle.base_file.specs.Base.{Base}
 use Rattle.base_log.specs.Standing.{BaseBytes, Represents}
 use Rattle.base_folder_store.specs.Calls.{CommitsOnly}
 use Rattle.base_store.specs.declared.store_error.StoreError.TheVariants as store
@@ -53,7 +52,7 @@ returns-in_err-add_all-clause-any_moment g c = λ honest none front.
       filled = on_ok_none _ why c.from_residual.result c.from_residual.ensures.1;
     }
 
--- The commit leaves no message or all, those of an honest source or as many as any source has.
+-- All messages are held, and the commit leaves none or all.
 held : (g : given.Over) (c : After-commit g) → (g.D.Disk.state c.commit.new.disk).is_honest → HoldsBase g.H.Digest.keyed (held_by (g.D.Disk.state c.args.disk.now) c.args.folder.now) no_messages
     → HoldsMany g.H.Digest.keyed (held_by (g.D.Disk.state c.add_all.new.disk) c.add_all.new.folder) (g.M.MessageSource.state c.args.messages.now).count
 held g c honest front =
@@ -67,22 +66,6 @@ leaves : (g : given.Over) (c : After-commit g) (P : Files → Type 0) → (g.D.D
     → LeavesOnly (g.D.Disk.state c.args.disk.now) (g.D.Disk.state c.commit.new.disk) (RepresentsNoneOr g.H.Digest.keyed (path_of c.args.folder.now) (g.D.Disk.state c.args.disk.now) P)
 leaves g c P honest none gives = fills_run g.H.Digest.keyed (path_of c.args.folder.now) (g.D.Disk.state c.args.disk.now) (g.D.Disk.state c.commit.new.disk) _ _ P none gives ((run g c).any_moment honest)
 
-base_left : (g : given.Over) (c : After-commit g) → (g.D.Disk.state c.commit.new.disk).is_honest → HoldsBase g.H.Digest.keyed (committed_by (g.D.Disk.state c.args.disk.now) c.args.folder.now) no_messages
-    → HoldsBase g.H.Digest.keyed (held_by (g.D.Disk.state c.args.disk.now) c.args.folder.now) no_messages → (g.M.MessageSource.state c.add_all.new.messages).is_honest → (base : Base) → (g.M.MessageSource.state c.args.messages.now).holds base
-    → LeavesOnly (g.D.Disk.state c.args.disk.now) (g.D.Disk.state c.commit.new.disk)
-    (RepresentsNoneOr g.H.Digest.keyed (path_of c.args.folder.now) (g.D.Disk.state c.args.disk.now) (RepresentsBase g.H.Digest.keyed (path_of c.args.folder.now) base))
-base_left g c honest none front source base holds =
-    leaves g c (RepresentsBase g.H.Digest.keyed (path_of c.args.folder.now) base) honest none
-    (λ files is. record { bytes = held_by (g.D.Disk.state c.add_all.new.disk) c.add_all.new.folder; represented = is; holds = c.in_ok-add_all.ensures.added (c.commit.ensures.run.outside.honest honest) source base holds front })
-
-many_left : (g : given.Over) (c : After-commit g) → (g.D.Disk.state c.commit.new.disk).is_honest → HoldsBase g.H.Digest.keyed (committed_by (g.D.Disk.state c.args.disk.now) c.args.folder.now) no_messages
-    → HoldsBase g.H.Digest.keyed (held_by (g.D.Disk.state c.args.disk.now) c.args.folder.now) no_messages
-    → LeavesOnly (g.D.Disk.state c.args.disk.now) (g.D.Disk.state c.commit.new.disk)
-    (RepresentsNoneOr g.H.Digest.keyed (path_of c.args.folder.now) (g.D.Disk.state c.args.disk.now) (RepresentsMany g.H.Digest.keyed (path_of c.args.folder.now) (g.M.MessageSource.state c.args.messages.now).count))
-many_left g c honest none front =
-    leaves g c (RepresentsMany g.H.Digest.keyed (path_of c.args.folder.now) (g.M.MessageSource.state c.args.messages.now).count) honest none
-    (λ files is. record { bytes = held_by (g.D.Disk.state c.add_all.new.disk) c.add_all.new.folder; represented = is; holds = held g c honest front })
-
 pub returns-in_err-commit-clause-any_moment : goal.returns-in_err-commit-clause-any_moment
 returns-in_err-commit-clause-any_moment g c = λ honest none front.
     let after = (goal.at.returns-in_err-commit-clause-any_moment g c).After-commit in
@@ -91,6 +74,7 @@ returns-in_err-commit-clause-any_moment g c = λ honest none front.
     let d = g.D.Disk.state c.args.disk.now in
     let e = g.D.Disk.state c.add_all.new.disk in
     let k = g.D.Disk.state c.commit.new.disk in
+    let count = (g.M.MessageSource.state c.args.messages.now).count in
     let adds = c.in_ok-add_all.ensures.kept.adds in
     let left = RepresentsNoneOr keyed path d in
     let error = c.in_err-commit.field-0.0 in
@@ -100,8 +84,9 @@ returns-in_err-commit-clause-any_moment g c = λ honest none front.
     let staged = λ (many : IsErrOf {T = Unit {0}} (Err error) store.TooMany). run_twice path (path_of c.add_all.new.folder) d e k (committed_by d c.args.folder.now) (committed_by e c.add_all.new.folder) adds.path adds.run
     (record { any_moment = λ honest. c.in_err-commit.ensures.refused honest many; outside = c.commit.ensures.run.outside }) adds.same in
     record {
-      base = base_left g after honest none front;
-      many = many_left g after honest none front;
+      base = λ source base holds. leaves g after (RepresentsBase keyed path base) honest none
+          (λ files is. record { bytes = held_by e c.add_all.new.folder; represented = is; holds = c.in_ok-add_all.ensures.added (c.commit.ensures.run.outside.honest honest) source base holds front });
+      many = leaves g after (RepresentsMany keyed path count) honest none (λ files is. record { bytes = held_by e c.add_all.new.folder; represented = is; holds = held g after honest front });
       refused = err_is (IsUncommitted keyed path left d k) why result is
           (uncommitted_stored keyed path left d k error (λ many. fills_before keyed path d k (committed_by d c.args.folder.now) (λ files. ⊥) none ((staged many).any_moment honest)));
       filled = on_ok_none _ why result is;
@@ -113,11 +98,13 @@ returns-clause-any_moment g c = λ honest none front.
     let keyed = g.H.Digest.keyed in
     let path = path_of c.args.folder.now in
     let count = (g.M.MessageSource.state c.args.messages.now).count in
+    let e = g.D.Disk.state c.add_all.new.disk in
     let k = g.D.Disk.state c.commit.new.disk in
     let says = c.in_ok-commit.ensures in
     record {
-      base = base_left g after honest none front;
-      many = many_left g after honest none front;
+      base = λ source base holds. leaves g after (RepresentsBase keyed path base) honest none
+          (λ files is. record { bytes = held_by e c.add_all.new.folder; represented = is; holds = c.in_ok-add_all.ensures.added (c.commit.ensures.run.outside.honest honest) source base holds front });
+      many = leaves g after (RepresentsMany keyed path count) honest none (λ files is. record { bytes = held_by e c.add_all.new.folder; represented = is; holds = held g after honest front });
       refused = tt;
       filled = filled_is_kept path k c.commit.new.self (RepresentsMany keyed path count) (says.stays.path ∙ c.in_ok-add_all.ensures.kept.adds.path) (says.done.settled honest)
           (λ files is. record { bytes = committed_by k c.commit.new.self; represented = is; holds = subst (λ (b : BaseBytes). HoldsMany keyed b count) (sym (says.done.committed honest)) (held g after honest front) });
