@@ -28,7 +28,8 @@ use Rattle.base_folder_store.specs.Held.{HoldsBase, RepresentsBase, RepresentsBa
 use Rattle.base_folder_store.specs.Opened.{IsOpen, committed_by, held_by, path_of}
 use Rattle.base_folder_store.specs.State.{IsUsable}
 use Rattle.base_folder_store.specs.declared.folder.Folder.{Folder}
-use Rattle.base_folder_store.proofs.Causes.{answers_give, failed_since, handed_on}
+use Rattle.base_store.proofs.Causes.{failed_since}
+use Rattle.base_folder_store.proofs.Causes.{answers_give, handed_on}
 use Rattle.base_folder_store.proofs.Legible.{keys_all, legible_open}
 use Rattle.base_folder_store.proofs.Runs.{run_none, run_twice}
 use Rattle.base_folder_store.proofs.Seen.{at_end, end_holds, end_open}
