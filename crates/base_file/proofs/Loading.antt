@@ -15,7 +15,7 @@ use Rattle.echo_filed.specs.Stored.{IsStored, Stored, long, long_at, message_in,
 use Rattle.echo_filed.proofs.Layouts.{long_front, long_value}
 use Rattle.echo_filed.proofs.Plain.{all_append}
 use Rattle.echo_filed.specs.Fields.{StopsIn}
-use Rattle.echo_filed.proofs.StoredFields.{Stands, stopped_unread, stored_again, stored_in, stored_represented, stored_stops}
+use Rattle.echo_filed.proofs.StoredFields.{Stands, stopped_unread, stored_again, stored_in, stored_stands, stored_stops}
 use Rattle.base_file.specs.declared.fault.BaseFault.{BaseFault}
 use Rattle.base_file.specs.declared.fault.BaseFault.TheVariants as fault
 use Rattle.base_file.specs.BaseFile.{AreSound, BaseOf, Begins, EndsInside, IsDamagedAt, IsNoBase, LoadOf, Loaded, head_bytes, is_damaged, is_front, magic}
@@ -378,7 +378,7 @@ some_left version cursor number more bytes rec all rest b count are None e =
       cut = stops.cut;
     })
 some_left version cursor number more bytes rec all rest b count are (Some found) e =
-    one_left version cursor number more bytes rec all rest b count are found (stored_represented version rest found are e)
+    one_left version cursor number more bytes rec all rest b count are found (stored_stands version rest found are e)
 
 rest_loads : (version : Version) (cursor number : ℕ) (bytes : List ℕ) (more : ℕ) → Rest version cursor number bytes more
 unfolding messages_in
