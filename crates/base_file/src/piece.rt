@@ -6,6 +6,7 @@ ghost use Rattle.base_file.specs.Pieces.{BeginsWith, IsHeadFault, IsNext, Judges
 use crate::base::{Head, version_of};
 use crate::fault::BaseFault;
 use crate::judging::judged;
+use crate::room::MessageRoom;
 use disk_io::{Broken, are_bytes};
 use echo_filed::{Key, StoredMessage, is_short, read_stored};
 use std::alloc::{AllocError, Global};
@@ -74,7 +75,8 @@ fn judge_one(
     requires { IsStored head.version stored }
     ensures { IfOk result (JudgesOne head.version head.cursor place stored size) }
 {
-    let found = judged(alloc, head.version, head.cursor as usize, place, stored)?;
+    let mut room = MessageRoom::new(alloc);
+    let found = judged(&mut room, head.version, head.cursor as usize, place, stored)?;
     let Some((key, message)) = found else {
         return Ok(Next::Damaged);
     };
