@@ -2,7 +2,7 @@ use Rattle.std.proofs.Common.{arith}
 use Rattle.std.proofs.lemmas.Bool.{eqb-true}
 use Rattle.std.proofs.lemmas.List.{append-nil}
 use Rattle.echo_text.proofs.TextLines.{no_lines}
-use Rattle.echo_text.proofs.listed.entries_of.Goals as goal
+use Rattle.echo_text.proofs.listed.entries_into.Goals as goal
 
 pub returns-clause-entries : goal.returns-clause-entries
 returns-clause-entries c = grind (arith, no_lines, eqb-true, append-nil)

@@ -1,13 +1,13 @@
 use Rattle.std.proofs.Common.{◌∙◌, ap, arith}
 use Rattle.echo_text.specs.Tail.{tail}
 use Rattle.echo_text.proofs.SaidAfter.{counts_fit, lists_after}
-use Rattle.echo_text.proofs.reading.lists_in.Goals as goal
+use Rattle.echo_text.proofs.reading.lists_into.Goals as goal
 
-pub entries_of-requires : goal.entries_of-requires
-entries_of-requires c = grind (arith, counts_fit)
+pub entries_into-requires : goal.entries_into-requires
+entries_into-requires c = grind (arith, counts_fit)
 
-pub entries_of-requires-2 : goal.entries_of-requires-2
-entries_of-requires-2 c = grind (arith, counts_fit)
+pub entries_into-requires-2 : goal.entries_into-requires-2
+entries_into-requires-2 c = grind (arith, counts_fit)
 
 pub overflow_add-result : goal.overflow_add-result
 overflow_add-result c = grind (arith, counts_fit)
