@@ -151,6 +151,8 @@ impl<D: Disk, H: Digest> Store for FolderStore<D, H> {
         if place >= self.folder.count() {
             return Err(StoreError::Damaged);
         }
+        let gone = self.message.take();
+        self.buffers.room.take_back(gone);
         let message = self
             .folder
             .read(self.alloc, &mut self.disk, &mut self.buffers, place)?;

@@ -13,6 +13,7 @@ ghost use Rattle.base_folder_store.specs.Vouched.{HasDigest, IsThere, IsVouched}
 use crate::alone::read_alone;
 use crate::folder::Folder;
 use crate::waiting::Waiting;
+use base_file::MessageRoom;
 use base_log::{Log, Names};
 use base_store::{Digest, StoreError, bytes_of_key};
 use disk_io::Disk;
@@ -44,6 +45,7 @@ impl Folder {
         &self,
         alloc: Global,
         disk: &mut D,
+        room: &mut MessageRoom,
         place: usize,
     ) -> Result<Filed, StoreError>
         requires legible { Honestly (D.state disk.old) (IsLegible (D.state disk.old) self.now) }
@@ -59,7 +61,7 @@ impl Folder {
         // Eight bytes count the messages, so `TooMany` never comes.
         let _counted = self.recorded.messages;
         let stored = self.stored(alloc, disk, None, place)?;
-        let message = read_alone(alloc, &stored.bytes)?;
+        let message = read_alone(room, &stored.bytes)?;
         if self.has_digest::<H>(alloc, &message, stored.digest)? {
             Ok(message)
         } else {

@@ -71,7 +71,7 @@ impl Entries {
         requires can { CanLookUp (D.state disk.old) path.now self.old }
         ensures fetched { Honestly (D.state disk.new) ((base : Base) → HoldEntries (bytes_in ((D.state disk.old).seen path.now)) self.old base
             → place < length base.messages → Answers (λ done. self.new.message ≡ slice_get base.messages place) result) }
-        ensures same { self.new ≡ record self.old { message = self.new.message; ahead = self.new.ahead } }
+        ensures same { self.new ≡ record self.old { message = self.new.message; ahead = self.new.ahead; room = self.new.room } }
         ensures ahead { Honestly (D.state disk.new) (IsPartOf (bytes_in ((D.state disk.old).seen path.now)) self.new.ahead) }
         ensures quiet { ChangesNothing (D.state disk.old) (D.state disk.new) }
         ensures cause { HasReadCause (D.failures disk.old) (D.failures disk.new) result }
@@ -81,7 +81,8 @@ impl Entries {
             return Err(StoreError::Damaged);
         }
         let message = self.read(alloc, disk, path, place)?;
-        self.message = Some(message);
+        let gone = self.message.replace(message);
+        self.room.take_back(gone);
         Ok(())
     }
 
