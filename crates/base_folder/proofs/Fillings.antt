@@ -79,13 +79,13 @@ front_all keyed bytes base n all was =
     subst (λ (l : List Filed). HoldsBase keyed bytes (record { messages = l; cursor = base.cursor })) (take_all n base.messages (omega arith)) was
 
 -- one message more, as it is stored
-pub many_more : (keyed : ℕ → ℕ → List ℕ → ℕ) (now held : BaseBytes) (k : ℕ) (m : Filed) (bytes taken : List ℕ) (number : ℕ) → now ≡ with_stored held bytes number → IsStoredAlone m bytes → taken ≡ digested_key (key_of m)
-    → number ≡ digest_by keyed held.mark taken → HoldsMany keyed held k → HoldsMany keyed now (k + 1)
-many_more keyed now held k m bytes taken number staged is key recorded was =
+pub many_more : (keyed : ℕ → ℕ → List ℕ → ℕ) (now held : BaseBytes) (k : ℕ) (m : Filed) (bytes : List ℕ) (number : ℕ) → now ≡ with_stored held bytes number → IsStoredAlone m bytes
+    → number ≡ digest_by keyed held.mark (digested_key (key_of m)) → HoldsMany keyed held k → HoldsMany keyed now (k + 1)
+many_more keyed now held k m bytes number staged is recorded was =
     let digest = digest_by keyed held.mark in
     let one : List Stored = is.s ∷ [] in
     let here : length held.messages ≡ 0 + length (bytes_of was.all) = omega (arith, ap (λ (l : List ℕ). length l) was.stored) in
-    let number_is : number ≡ digest (digested m) = recorded ∙ ap digest (key ∙ sym (of_key m)) in
+    let number_is : number ≡ digest (digested m) = recorded ∙ ap digest (sym (of_key m)) in
     let entered : entry (length held.messages) number ≡ keys_from digest (0 + length (bytes_of was.all)) one =
     (λ i. entry (here i) (number_is i))
     ∙ ap (λ (x : Filed). entry (0 + length (bytes_of was.all)) (digest (digested x))) (sym is.is)

@@ -22,7 +22,7 @@ use crate::source::MessageSource;
 use base_file::BaseFault;
 use base_folder_store::{Folder, bytes_alone};
 use base_log::FolderIdentity;
-use base_store::{Digest, StoreError, bytes_of_key};
+use base_store::{Digest, StoreError};
 use disk_io::Disk;
 use echo_filed::{Filed, Key};
 use std::alloc::Global;
@@ -43,8 +43,7 @@ fn add<D: Disk, H: Digest>(
 {
     let bytes = bytes_alone(alloc, message)?;
     let key = Key::of_message(alloc, message)?;
-    let digested = bytes_of_key(alloc, &key)?;
-    let number = folder.digest::<H>(&digested);
+    let number = folder.digest_of_key::<H>(alloc, &key)?;
     folder.stage(disk, &bytes, number)
 }
 
