@@ -24,13 +24,13 @@ no_messages : Base
 no_messages = record { messages = []; cursor = 0 }
 
 no_end : End
-no_end = record { gate = 0; recorded = nothing_recorded }
+no_end = record { records_len = 0; recorded = nothing_recorded }
 
 nothing_read : ReadsAll [] no_end
 unfolding no_end
 nothing_read = record {
   rest = [];
-  reads = record { bodies = []; parts = refl; sizes = tt; gate = refl; recorded = refl };
+  reads = record { bodies = []; parts = refl; sizes = tt; records_len = refl; recorded = refl };
   ends = inl (lit< tt);
 }
 

@@ -58,7 +58,7 @@ looked_at path d e log folder quiet read fresh same keys is represented =
       keys = keys ∙ ap (λ (t : CommitRecord). t.keys) (sym recorded);
       legible = λ honest some.
           let has = has_files log.bytes.items log.end read path d.seen (is (quiet.honest honest)) (base_at d path log.end.recorded) (represented honest)
-          (λ (none : log.end.gate ≡ 0). absurd (omega (arith, some, keys, ap (λ (t : CommitRecord). t.keys) (nothing_read log.bytes.items log.end read (omega (arith, none)))))) in
+          (λ (none : log.end.records_len ≡ 0). absurd (omega (arith, some, keys, ap (λ (t : CommitRecord). t.keys) (nothing_read log.bytes.items log.end read (omega (arith, none)))))) in
           let files : HasFiles path e.seen log.end.recorded = subst (λ (f : Files). HasFiles path f log.end.recorded) (λ i m. sym (quiet.seen m) i) has in
           let here : HasFiles (path_of folder) e.seen folder.recorded = subst (λ (p : List ℕ). HasFiles p e.seen folder.recorded) (sym fresh.path) (subst (λ (t : CommitRecord). HasFiles path e.seen t) (sym recorded) files) in
           record {

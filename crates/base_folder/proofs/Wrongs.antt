@@ -15,9 +15,9 @@ use Rattle.base_folder.specs.Wrong.{IsFolderLog, IsSound, is_foreign}
 pub one_end : (log : List ℕ) (one other : End) → ReadsAll log one → ReadsAll log other → one ≡ other
 one_end log one other first next =
     let same : first.reads.bodies ≡ next.reads.bodies = one_log first.reads.bodies next.reads.bodies log (read_log log one first) (read_log log other next) in
-    let gate : one.gate ≡ other.gate = first.reads.gate ∙ ap (λ (b : List (List ℕ)). length (opened b)) same ∙ sym next.reads.gate in
+    let gate : one.records_len ≡ other.records_len = first.reads.records_len ∙ ap (λ (b : List (List ℕ)). length (opened b)) same ∙ sym next.reads.records_len in
     let recorded : one.recorded ≡ other.recorded = sym first.reads.recorded ∙ ap last_recorded same ∙ next.reads.recorded in
-    λ i. record { gate = gate i; recorded = recorded i }
+    λ i. record { records_len = gate i; recorded = recorded i }
 
 -- a folder with this log has no fault if its files represent a base
 pub sound_by : (strange : Bool) (path : List ℕ) (files : Files) (end : End) (base : BaseBytes) → IsFolderLog strange (bytes_in (files (log_of path))) end → Represents path base files → IsSound strange path files

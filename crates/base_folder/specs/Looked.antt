@@ -18,7 +18,7 @@ use Rattle.base_folder.specs.declared.open_error.OpenError.TheVariants as unread
 -- The log was read to the end of its last record, and the bytes include that record.
 pub record IsReadWhole (log : Log) : Type 0 where
   pub read : IsRead log
-  pub within : log.end.gate ≤ length log.bytes.items
+  pub within : log.end.records_len ≤ length log.bytes.items
 
 -- Each message from this number on has the digest in its entry.
 abbrev pub AreVouched : (ℕ → ℕ → List ℕ → ℕ) → DiskState → ℕ → Folder → Type 0
@@ -47,5 +47,5 @@ pub record GoesOn (before after : List ℕ) : Type 0 where
   pub read : ReadsAll before first
   pub last : End
   pub reread : ReadsAll after last
-  pub order : first.gate ≤ last.gate
-  pub front : take first.gate after ≡ take first.gate before
+  pub order : first.records_len ≤ last.records_len
+  pub front : take first.records_len after ≡ take first.records_len before

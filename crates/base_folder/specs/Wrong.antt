@@ -12,11 +12,11 @@ use Rattle.base_store.specs.Keys.{place_behind}
 -- or its cursor is after the last one. Or more than a closed gate and a record follow.
 abbrev pub is_no_log : ℕ → End → Bool
 is_no_log size end =
-    nat_lt 9 end.recorded.number || (not (end.recorded.keys % 16 == 0) || (nat_lt (end.recorded.keys / 16) end.recorded.cursor || nat_lt (end.gate + 51) size))
+    nat_lt 9 end.recorded.number || (not (end.recorded.keys % 16 == 0) || (nat_lt (end.recorded.keys / 16) end.recorded.cursor || nat_lt (end.records_len + 51) size))
 
 -- It is such a log, or it has no record and the folder has files that no base folder has.
 abbrev pub is_foreign : Bool → ℕ → End → Bool
-is_foreign strange size end = is_no_log size end || (strange && (end.gate == 0))
+is_foreign strange size end = is_no_log size end || (strange && (end.records_len == 0))
 
 -- No base folder has this log.
 pub record IsNoLog (strange : Bool) (log : List ℕ) : Type 0 where

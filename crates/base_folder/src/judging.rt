@@ -49,22 +49,22 @@ pub(crate) fn part_of<D: Disk>(
 
 // Whether no base folder has a log of this size with this end of its records.
 fn is_no_log(size: usize, end: End) -> bool
-    requires { end.gate ≤ size }
+    requires { end.records_len ≤ size }
     ensures { result ≡ is_no_log size end }
 {
     let recorded = end.recorded;
     recorded.number > GREATEST
         || recorded.keys % ENTRY != 0
         || recorded.cursor > (recorded.keys / ENTRY) as u64
-        || size - end.gate > LEFT_BEHIND
+        || size - end.records_len > LEFT_BEHIND
 }
 
 // The same, or whether it has no record and the folder has foreign files.
 fn is_foreign(strange: bool, size: usize, end: End) -> bool
-    requires { end.gate ≤ size }
+    requires { end.records_len ≤ size }
     ensures { result ≡ is_foreign strange size end }
 {
-    is_no_log(size, end) || (strange && end.gate == 0)
+    is_no_log(size, end) || (strange && end.records_len == 0)
 }
 
 // How many messages, from the front, end within the existing bytes, of all that the log counts.
@@ -109,7 +109,7 @@ pub(crate) fn judge_by<D: Disk>(
 ) -> Result<(), OpenError>
     requires log { Honestly (D.state disk.old) (IsLogIn path.now (D.state disk.old).seen log.now) }
     requires read { IsRead log.now }
-    requires within { log.now.end.gate ≤ length log.now.bytes.items }
+    requires within { log.now.end.records_len ≤ length log.now.bytes.items }
     ensures digit { OnOk result (log.now.end.recorded.number < 10) }
     ensures folder { OnOk result (IsFolderLog strange log.now.bytes.items log.now.end) }
     ensures represented { Honestly (D.state disk.new) (OnOk result (Represents path.now (base_at (D.state disk.old) path.now log.now.end.recorded) (D.state disk.old).seen)) }

@@ -134,7 +134,7 @@ fn goes_on(before: &Log, after: &Log) -> bool
     ensures same { before.now.bytes.items ≡ after.now.bytes.items → result ≡ true }
     ensures goes_on { result ≡ true → GoesOn before.now.bytes.items after.now.bytes.items }
 {
-    let (first, last) = (before.end.gate, after.end.gate);
+    let (first, last) = (before.end.records_len, after.end.records_len);
     if first > last {
         return false;
     }

@@ -19,7 +19,7 @@ next_place folder = folder.recorded.messages + length folder.waiting.messages.it
 
 -- Eight bytes can't count its messages, its keys, or its log with one record more.
 abbrev pub IsFull : Folder → Type 0
-IsFull folder = ((2 ^ 64 ≤ next_place folder) ⊎ (2 ^ 64 ≤ folder.recorded.keys + length folder.waiting.keys.items)) ⊎ (2 ^ 64 ≤ folder.end.gate + 51)
+IsFull folder = ((2 ^ 64 ≤ next_place folder) ⊎ (2 ^ 64 ≤ folder.recorded.keys + length folder.waiting.keys.items)) ⊎ (2 ^ 64 ≤ folder.end.records_len + 51)
 
 -- Eight bytes can't count its messages with this many bytes more, or its keys with an entry more.
 abbrev pub LacksRoom : Folder → ℕ → Type 0

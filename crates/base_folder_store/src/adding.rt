@@ -150,10 +150,10 @@ impl Folder {
         ensures run { CommitsOnly (path_of self.old) (committed_by (D.state disk.old) self.old) (held_by (D.state disk.old) self.old) (D.state disk.old) (D.state disk.new) }
         ensures leaves { LeavesOutside (path_of self.old) (D.state disk.old) (D.state disk.new) }
         ensures cause { HasWriteCause (D.failures disk.old) (D.failures disk.new) result }
-        ensures many { IsErrOf result StoreError.TooMany → 2 ^ 64 ≤ self.old.end.gate + 51 }
+        ensures many { IsErrOf result StoreError.TooMany → 2 ^ 64 ≤ self.old.end.records_len + 51 }
         ensures refused { IsErrOf result StoreError.TooMany → disk.new ≡ disk.old }
     {
-        if self.end.gate >= usize::MAX - RECORD {
+        if self.end.records_len >= usize::MAX - RECORD {
             return Err(StoreError::TooMany);
         }
         let end = commit(disk, &self.names, self.end, self.recorded)?;

@@ -95,33 +95,33 @@ module _ (d0 : DiskState) (path : List ℕ) (end : End) (recorded : CommitRecord
 
   module _ (d e : DiskState) where
     -- while the record is written behind the closed gate
-    record_torn : (n : ℕ) → Ready d staged.log.rest → (c : Files) → OneStepOn (ChangesFile d (log_of path) (TornWrite (end.gate + 1) n)) d c → Represents path first c × SameOutside path d0 c
+    record_torn : (n : ℕ) → Ready d staged.log.rest → (c : Files) → OneStepOn (ChangesFile d (log_of path) (TornWrite (end.records_len + 1) n)) d c → Represents path first c × SameOutside path d0 c
     record_torn n r c from =
         let a = from.0 in
         let changed = from.2 in
         let same : (m : List ℕ) → m ≢ log_of path → c m ≡ a m = λ m ne. changed.others m ne (inl r.log_on.named) in
         let front = opened bodies in
         let torn : TornWrite (length front + 1) n (a (log_of path)) (c (log_of path)) =
-        subst (λ (g : ℕ). TornWrite (g + 1) n (a (log_of path)) (c (log_of path))) staged.log.gate (changed.within r.log_on.named) in
+        subst (λ (g : ℕ). TornWrite (g + 1) n (a (log_of path)) (c (log_of path))) staged.log.records_len (changed.within r.log_on.named) in
         let a_log : bytes_in (a (log_of path)) ≡ front ++ closed ∷ staged.log.rest = ap bytes_in (d.on_disk (log_of path) r.log_on.named r.log_on.flushed a from.1) ∙ r.log in
         let c_log = torn_record front closed staged.log.rest n (a (log_of path)) (c (log_of path)) torn a_log in (
           before_log a c closed (drop (length front + 1) (bytes_in (c (log_of path)))) (r.represented a from.1) same staged.log.rest a_log staged.log.shut c_log,
           λ m out named flushed. same m (outside_log path m out) ∙ r.outside a from.1 m out named flushed,
         )
 
-    pub run_record : (n : ℕ) → Ready d staged.log.rest → LeavesOnly d e (OneStepOn (ChangesFile d (log_of path) (TornWrite (end.gate + 1) n)) d) → LeavesOnly d0 e P
+    pub run_record : (n : ℕ) → Ready d staged.log.rest → LeavesOnly d e (OneStepOn (ChangesFile d (log_of path) (TornWrite (end.records_len + 1) n)) d) → LeavesOnly d0 e P
     run_record n r more =
-        then_run d0 d e P (OneStepOn (ChangesFile d (log_of path) (TornWrite (end.gate + 1) n)) d) r.run more
+        then_run d0 d e P (OneStepOn (ChangesFile d (log_of path) (TornWrite (end.records_len + 1) n)) d) r.run more
         (λ c from. let both = record_torn n r c from in record { outside = both.1; represented = inl both.0 })
 
-    pub done_record : (bytes : List ℕ) → Ready d staged.log.rest → LeavesOnly d e (OneStepOn (ChangesFile d (log_of path) (TornWrite (end.gate + 1) (length bytes))) d) → KeepsOthers d e (log_of path) → IsOnDisk e (log_of path)
-        → IsWrittenAt (bytes_in (d.seen (log_of path))) (end.gate + 1) bytes (bytes_in (e.seen (log_of path))) → Ready e (bytes ++ drop (length bytes) staged.log.rest)
+    pub done_record : (bytes : List ℕ) → Ready d staged.log.rest → LeavesOnly d e (OneStepOn (ChangesFile d (log_of path) (TornWrite (end.records_len + 1) (length bytes))) d) → KeepsOthers d e (log_of path) → IsOnDisk e (log_of path)
+        → IsWrittenAt (bytes_in (d.seen (log_of path))) (end.records_len + 1) bytes (bytes_in (e.seen (log_of path))) → Ready e (bytes ++ drop (length bytes) staged.log.rest)
     done_record bytes r more kept on written =
-        let Q = OneStepOn (ChangesFile d (log_of path) (TornWrite (end.gate + 1) (length bytes))) d in
+        let Q = OneStepOn (ChangesFile d (log_of path) (TornWrite (end.records_len + 1) (length bytes))) d in
         let front = opened bodies in
         let log = bytes_in (e.seen (log_of path)) in
         let is : IsWrittenAt (front ++ closed ∷ staged.log.rest) (length front + 1) bytes log =
-        subst (λ (l : List ℕ). IsWrittenAt l (length front + 1) bytes log) r.log (subst (λ (g : ℕ). IsWrittenAt (bytes_in (d.seen (log_of path))) (g + 1) bytes log) staged.log.gate written) in
+        subst (λ (l : List ℕ). IsWrittenAt l (length front + 1) bytes log) r.log (subst (λ (g : ℕ). IsWrittenAt (bytes_in (d.seen (log_of path))) (g + 1) bytes log) staged.log.records_len written) in
         record {
           run = run_record (length bytes) r more;
           represented = λ c left. (record_torn (length bytes) r c (left_now d e Q more c left)).0;
@@ -137,7 +137,7 @@ module _ (d0 : DiskState) (path : List ℕ) (end : End) (recorded : CommitRecord
         }
 
     -- while the gate is opened
-    gate_torn : (body left : List ℕ) → length body ≡ 49 → recorded_by body ≡ recorded → Ready d ((body ++ 0 ∷ []) ++ left) → (c : Files) → OneStepOn (ChangesFile d (log_of path) (TornWrite end.gate 1)) d c
+    gate_torn : (body left : List ℕ) → length body ≡ 49 → recorded_by body ≡ recorded → Ready d ((body ++ 0 ∷ []) ++ left) → (c : Files) → OneStepOn (ChangesFile d (log_of path) (TornWrite end.records_len 1)) d c
         → (Represents path first c ⊎ Represents path next c) × SameOutside path d0 c
     gate_torn body left size says r c from =
         let a = from.0 in
@@ -147,7 +147,7 @@ module _ (d0 : DiskState) (path : List ℕ) (end : End) (recorded : CommitRecord
         let tail = (body ++ 0 ∷ []) ++ left in
         let log = bytes_in (c (log_of path)) in
         let torn : TornWrite (length front) 1 (a (log_of path)) (c (log_of path)) =
-        subst (λ (g : ℕ). TornWrite g 1 (a (log_of path)) (c (log_of path))) staged.log.gate (changed.within r.log_on.named) in
+        subst (λ (g : ℕ). TornWrite g 1 (a (log_of path)) (c (log_of path))) staged.log.records_len (changed.within r.log_on.named) in
         let a_log : bytes_in (a (log_of path)) ≡ front ++ closed ∷ tail = ap bytes_in (d.on_disk (log_of path) r.log_on.named r.log_on.flushed a from.1) ∙ r.log in
         let gate = get_or log (length front) 0 in
         let whole : log ≡ front ++ gate ∷ tail = torn_gate front closed tail (a (log_of path)) (c (log_of path)) torn a_log in
@@ -180,9 +180,9 @@ module _ (d0 : DiskState) (path : List ℕ) (end : End) (recorded : CommitRecord
           )
         ]
 
-    pub run_gate : (body left : List ℕ) → length body ≡ 49 → recorded_by body ≡ recorded → Ready d ((body ++ 0 ∷ []) ++ left) → LeavesOnly d e (OneStepOn (ChangesFile d (log_of path) (TornWrite end.gate 1)) d) → LeavesOnly d0 e P
+    pub run_gate : (body left : List ℕ) → length body ≡ 49 → recorded_by body ≡ recorded → Ready d ((body ++ 0 ∷ []) ++ left) → LeavesOnly d e (OneStepOn (ChangesFile d (log_of path) (TornWrite end.records_len 1)) d) → LeavesOnly d0 e P
     run_gate body left size says r more =
-        then_run d0 d e P (OneStepOn (ChangesFile d (log_of path) (TornWrite end.gate 1)) d) r.run more
+        then_run d0 d e P (OneStepOn (ChangesFile d (log_of path) (TornWrite end.records_len 1)) d) r.run more
         (λ c from. let both = gate_torn body left size says r c from in record { outside = both.1; represented = both.0 })
 
     pub kept_gate : (body : List ℕ) → Ready d body → KeepsOthers d e (log_of path) → KeepsOutside path d0 e
@@ -190,13 +190,13 @@ module _ (d0 : DiskState) (path : List ℕ) (end : End) (recorded : CommitRecord
 
     -- at last the record counts
     pub done_gate : (body left : List ℕ) → length body ≡ 49 → recorded_by body ≡ recorded → Ready d ((body ++ 0 ∷ []) ++ left) → KeepsOthers d e (log_of path) → IsOnDisk e (log_of path)
-        → IsWrittenAt (bytes_in (d.seen (log_of path))) end.gate (1 ∷ []) (bytes_in (e.seen (log_of path))) → IsAtRest e path (record { gate = end.gate + 50; recorded = recorded })
+        → IsWrittenAt (bytes_in (d.seen (log_of path))) end.records_len (1 ∷ []) (bytes_in (e.seen (log_of path))) → IsAtRest e path (record { records_len = end.records_len + 50; recorded = recorded })
     done_gate body left size says r kept on written =
         let front = opened bodies in
         let tail = (body ++ 0 ∷ []) ++ left in
         let log = bytes_in (e.seen (log_of path)) in
         let is : IsWrittenAt (front ++ closed ∷ tail) (length front) (1 ∷ []) log =
-        subst (λ (l : List ℕ). IsWrittenAt l (length front) (1 ∷ []) log) r.log (subst (λ (g : ℕ). IsWrittenAt (bytes_in (d.seen (log_of path))) g (1 ∷ []) log) staged.log.gate written) in
+        subst (λ (l : List ℕ). IsWrittenAt l (length front) (1 ∷ []) log) r.log (subst (λ (g : ℕ). IsWrittenAt (bytes_in (d.seen (log_of path))) g (1 ∷ []) log) staged.log.records_len written) in
         let m_same = kept.seen (messages_of path recorded.number) (messages_not_log path recorded.number) ∙ r.messages_same in
         let k_same = kept.seen (keys_of path recorded.number) (keys_not_log path recorded.number) ∙ r.keys_same in
         record {
@@ -207,7 +207,7 @@ module _ (d0 : DiskState) (path : List ℕ) (end : End) (recorded : CommitRecord
             rest = left;
             log = whole_gate front closed tail log is ∙ record_behind bodies body left;
             shut = omega arith;
-            gate = omega (arith, staged.log.gate, size, ap length (opened-snoc bodies body []), length-append (opened (bodies ++ body ∷ [])) [], length-append front (1 ∷ body ++ []), length-append body []);
+            records_len = omega (arith, staged.log.records_len, size, ap length (opened-snoc bodies body []), length-append (opened (bodies ++ body ∷ [])) [], length-append front (1 ∷ body ++ []), length-append body []);
             recorded = last_recorded-snoc bodies body ∙ says;
             on_disk = on;
             named = λ m inside. kept.named m (r.named m inside);

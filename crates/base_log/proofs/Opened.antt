@@ -47,7 +47,7 @@ some_there None some = absurd (omega (arith, some))
 some_there (Some bytes) some = refl
 
 -- a log with its gate at the front has no record
-pub none_at : (d : DiskState) (path : List ℕ) (end : End) → IsLogAt d path end → end.gate ≡ 0 → IsLog [] (bytes_in (d.seen (log_of path))) × IsShutAt 0 (bytes_in (d.seen (log_of path)))
+pub none_at : (d : DiskState) (path : List ℕ) (end : End) → IsLogAt d path end → end.records_len ≡ 0 → IsLog [] (bytes_in (d.seen (log_of path))) × IsShutAt 0 (bytes_in (d.seen (log_of path)))
 none_at d path end at none = grind (arith, no_bodies, shut_log, shut_at)
 
 -- the two files of a folder without a record
@@ -75,19 +75,19 @@ module _ (bytes : List ℕ) (end : End) (reads : ReadsAll bytes end) where
   pub read_log : IsLog bodies bytes
   read_log = record { rest = reads.rest; parts = reads.reads.parts; sizes = reads.reads.sizes; ends = reads.ends }
 
-  within : end.gate ≤ length bytes
-  within = omega (arith, reads.reads.gate, ap length reads.reads.parts, length-append (opened bodies) reads.rest)
+  within : end.records_len ≤ length bytes
+  within = omega (arith, reads.reads.records_len, ap length reads.reads.parts, length-append (opened bodies) reads.rest)
 
-  pub none_read : end.gate < 50 → bodies ≡ []
-  none_read few = no_bodies bodies reads.reads.sizes (omega (arith, few, reads.reads.gate))
+  pub none_read : end.records_len < 50 → bodies ≡ []
+  none_read few = no_bodies bodies reads.reads.sizes (omega (arith, few, reads.reads.records_len))
 
-  pub nothing_read : end.gate < 50 → end.recorded ≡ nothing_recorded
+  pub nothing_read : end.records_len < 50 → end.recorded ≡ nothing_recorded
   nothing_read few = sym reads.reads.recorded ∙ ap last_recorded (none_read few)
 
   -- the log of a folder, which is on the disk
-  pub shut_read : (d : DiskState) (path : List ℕ) → bytes ≡ bytes_in (d.seen (log_of path)) → IsShutAt end.gate bytes → IsOnDisk d (log_of path) → AreNamed path d → IsLogAt d path end
+  pub shut_read : (d : DiskState) (path : List ℕ) → bytes ≡ bytes_in (d.seen (log_of path)) → IsShutAt end.records_len bytes → IsOnDisk d (log_of path) → AreNamed path d → IsLogAt d path end
   shut_read d path is shut on named =
-      let behind = shut_behind (opened bodies) reads.rest bytes reads.reads.parts (subst (λ (n : ℕ). IsShutAt n bytes) reads.reads.gate shut) in
+      let behind = shut_behind (opened bodies) reads.rest bytes reads.reads.parts (subst (λ (n : ℕ). IsShutAt n bytes) reads.reads.records_len shut) in
       record {
         bodies = bodies;
         sizes = reads.reads.sizes;
@@ -95,14 +95,14 @@ module _ (bytes : List ℕ) (end : End) (reads : ReadsAll bytes end) where
         rest = behind.more;
         log = sym is ∙ reads.reads.parts ∙ ap (λ (l : List ℕ). opened bodies ++ l) behind.is;
         shut = behind.shut;
-        gate = reads.reads.gate;
+        records_len = reads.reads.records_len;
         recorded = reads.reads.recorded;
         on_disk = on;
         named = named;
       }
 
   -- that of a new folder, which is made
-  pub made_read : (d : DiskState) (path : List ℕ) → end.gate < 50 → bytes_in (d.seen (log_of path)) ≡ 0 ∷ [] → IsOnDisk d (log_of path) → AreNamed path d → IsLogAt d path end
+  pub made_read : (d : DiskState) (path : List ℕ) → end.records_len < 50 → bytes_in (d.seen (log_of path)) ≡ 0 ∷ [] → IsOnDisk d (log_of path) → AreNamed path d → IsLogAt d path end
   made_read d path few is on named = grind (arith, none_read)
 
   -- files with this log, and the base that they represent
@@ -117,18 +117,18 @@ module _ (bytes : List ℕ) (end : End) (reads : ReadsAll bytes end) where
       pub end_recorded_base : RecordsBase end.recorded path base files
       end_recorded_base = subst (λ (t : CommitRecord). RecordsBase t path base files) reads.reads.recorded by.1
 
-      pub end_shut : IsShutAt end.gate bytes ⊎ IsNew path files
+      pub end_shut : IsShutAt end.records_len bytes ⊎ IsNew path files
       end_shut =
           ⊎_elim
-          (λ shut. inl (subst (λ (l : List ℕ). IsShutAt end.gate l) (sym is) (subst (λ (n : ℕ). IsShutAt n (bytes_in (files (log_of path)))) (sym reads.reads.gate) shut)))
+          (λ shut. inl (subst (λ (l : List ℕ). IsShutAt end.records_len l) (sym is) (subst (λ (n : ℕ). IsShutAt n (bytes_in (files (log_of path)))) (sym reads.reads.records_len) shut)))
           (λ new. inr new)
           (ended_by path base files bodies represented log_in_files)
 
-      pub has_files : end.gate ≢ 0 → HasFiles path files end.recorded
+      pub has_files : end.records_len ≢ 0 → HasFiles path files end.recorded
       has_files some =
           let there =
           subst (λ (t : CommitRecord). IsSome (files (messages_of path t.number)) × IsSome (files (keys_of path t.number))) reads.reads.recorded
-          (some_bodies bodies path files (λ none. some (reads.reads.gate ∙ none)) by.0) in
+          (some_bodies bodies path files (λ none. some (reads.reads.records_len ∙ none)) by.0) in
           record {
             messages = there.0;
             keys = there.1;
@@ -141,11 +141,11 @@ module _ (bytes : List ℕ) (end : End) (reads : ReadsAll bytes end) where
           → base_at d path end.recorded ≡ base
       base_found d m k = grind (arith, end_recorded_base)
 
-    pub none_log : end.gate < 50 → IsLog [] (bytes_in (files (log_of path)))
+    pub none_log : end.records_len < 50 → IsLog [] (bytes_in (files (log_of path)))
     none_log few = subst (λ b. IsLog b (bytes_in (files (log_of path)))) (none_read few) log_in_files
 
     -- new files are those of no record
-    pub new_few : IsNew path files → end.gate < 50
+    pub new_few : IsNew path files → end.records_len < 50
     new_few new = omega (arith, new.log, ap length is, within)
 
     -- why they represent no base
@@ -155,10 +155,10 @@ module _ (bytes : List ℕ) (end : End) (reads : ReadsAll bytes end) where
     pub no_digit : 10 ≤ end.recorded.number → IsBroken path files
     no_digit high = grind (arith, broken_by, nothing_read, within, end_recorded_base)
 
-    pub no_files : end.gate ≢ 0 → (HasFiles path files end.recorded → ⊥) → IsBroken path files
+    pub no_files : end.records_len ≢ 0 → (HasFiles path files end.recorded → ⊥) → IsBroken path files
     no_files some none = broken_by (λ empty. some (omega (arith, empty, within))) (λ base represented. none (has_files base represented some))
 
-    pub not_new : length bytes ≢ 0 → (IsShutAt end.gate bytes → ⊥) → (IsNew path files → ⊥) → IsBroken path files
+    pub not_new : length bytes ≢ 0 → (IsShutAt end.records_len bytes → ⊥) → (IsNew path files → ⊥) → IsBroken path files
     not_new some ajar old = broken_by some (λ base represented. ⊎_elim ajar old (end_shut base represented))
 
   -- the shown files, and the base that they represent
@@ -173,11 +173,11 @@ module _ (bytes : List ℕ) (end : End) (reads : ReadsAll bytes end) where
     pub new_represented : IsNew path d.seen → Represents path seen d.seen
     new_represented new = grind (arith, nothing_read, new_few, new_log, nothing_seen)
 
-    shut_represented : IsShutAt end.gate bytes → AreThere path bodies d.seen → RecordsBase end.recorded path seen d.seen → Represents path seen d.seen
+    shut_represented : IsShutAt end.records_len bytes → AreThere path bodies d.seen → RecordsBase end.recorded path seen d.seen → Represents path seen d.seen
     shut_represented shut there recorded_base = grind (arith, log_in_files)
 
-    pub first_represented : end.gate ≡ 0 → IsShutAt end.gate bytes → Represents path seen d.seen
+    pub first_represented : end.records_len ≡ 0 → IsShutAt end.records_len bytes → Represents path seen d.seen
     first_represented first shut = grind (arith, shut_represented, none_read, nothing_seen, nothing_read)
 
-    pub files_stand : end.recorded.number < 10 → HasFiles path d.seen end.recorded → IsShutAt end.gate bytes → Represents path seen d.seen
+    pub files_stand : end.recorded.number < 10 → HasFiles path d.seen end.recorded → IsShutAt end.records_len bytes → Represents path seen d.seen
     files_stand digit has shut = grind (arith, shut_represented, AreThere-both, RecordsBase-seen)

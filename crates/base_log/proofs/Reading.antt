@@ -56,18 +56,18 @@ record_in_front rest long is =
     ∙ ap (λ (l : List ℕ). 1 ∷ l) (sym (take-append-drop 49 (drop 1 rest)) ∙ ap (λ (l : List ℕ). take 49 (drop 1 rest) ++ l) (drop-drop 49 1 rest))
 
 -- one record more
-pub reads_more : (bytes : List ℕ) (end : End) (recorded : CommitRecord) → ReadsTo bytes end (drop end.gate bytes) → 50 ≤ length (drop end.gate bytes) → get_or bytes end.gate 0 ≡ 1
-    → recorded ≡ recorded_by (take 49 (drop (end.gate + 1) bytes)) → ReadsTo bytes (record { gate = end.gate + 50; recorded = recorded }) (drop (end.gate + 50) bytes)
+pub reads_more : (bytes : List ℕ) (end : End) (recorded : CommitRecord) → ReadsTo bytes end (drop end.records_len bytes) → 50 ≤ length (drop end.records_len bytes) → get_or bytes end.records_len 0 ≡ 1
+    → recorded ≡ recorded_by (take 49 (drop (end.records_len + 1) bytes)) → ReadsTo bytes (record { records_len = end.records_len + 50; recorded = recorded }) (drop (end.records_len + 50) bytes)
 reads_more bytes end recorded reads long is recorded_is =
-    let rest = drop end.gate bytes in
+    let rest = drop end.records_len bytes in
     let body = take 49 (drop 1 rest) in
     let size : length body ≡ 49 = omega (arith, length-take 49 (drop 1 rest), length-drop 1 rest) in
-    let gate : get_or rest 0 0 ≡ 1 = get_or-drop end.gate bytes 0 0 ∙ ap (λ (i : ℕ). get_or bytes i 0) (add-zero end.gate) ∙ is in
+    let gate : get_or rest 0 0 ≡ 1 = get_or-drop end.records_len bytes 0 0 ∙ ap (λ (i : ℕ). get_or bytes i 0) (add-zero end.records_len) ∙ is in
     let front = reads.parts ∙ ap (λ (l : List ℕ). opened reads.bodies ++ l) (record_in_front rest long gate) ∙ sym (opened-snoc reads.bodies body (drop 50 rest)) in
     record {
       bodies = reads.bodies ++ body ∷ [];
-      parts = front ∙ ap (λ (l : List ℕ). opened (reads.bodies ++ body ∷ []) ++ l) (drop-drop 50 end.gate bytes);
+      parts = front ∙ ap (λ (l : List ℕ). opened (reads.bodies ++ body ∷ []) ++ l) (drop-drop 50 end.records_len bytes);
       sizes = AreBodies-snoc reads.bodies body reads.sizes size;
-      gate = omega (arith, reads.gate, size, ap length (opened-snoc reads.bodies body []), length-append (opened (reads.bodies ++ body ∷ [])) [], length-append (opened reads.bodies) (1 ∷ body ++ []), length-append body []);
-      recorded = last_recorded-snoc reads.bodies body ∙ ap (λ (l : List ℕ). recorded_by (take 49 l)) (drop-drop 1 end.gate bytes) ∙ sym recorded_is;
+      records_len = omega (arith, reads.records_len, size, ap length (opened-snoc reads.bodies body []), length-append (opened (reads.bodies ++ body ∷ [])) [], length-append (opened reads.bodies) (1 ∷ body ++ []), length-append body []);
+      recorded = last_recorded-snoc reads.bodies body ∙ ap (λ (l : List ℕ). recorded_by (take 49 l)) (drop-drop 1 end.records_len bytes) ∙ sym recorded_is;
     }

@@ -17,7 +17,7 @@ pub record IsLogAt (disk : DiskState) (path : List ℕ) (end : End) : Type 0 whe
   pub rest : List ℕ
   pub log : bytes_in (disk.seen (log_of path)) ≡ opened bodies ++ closed ∷ rest
   pub shut : closed ≢ 1
-  pub gate : end.gate ≡ length (opened bodies)
+  pub records_len : end.records_len ≡ length (opened bodies)
   pub recorded : last_recorded bodies ≡ end.recorded
   pub on_disk : IsOnDisk disk (log_of path)
   pub named : (m : List ℕ) → IsIn path m → disk.is_named m

@@ -11,7 +11,7 @@ pub record ReadsTo (bytes : List ℕ) (end : End) (rest : List ℕ) : Type 0 whe
   pub bodies : List (List ℕ)
   pub parts : bytes ≡ opened bodies ++ rest
   pub sizes : AreBodies bodies
-  pub gate : end.gate ≡ length (opened bodies)
+  pub records_len : end.records_len ≡ length (opened bodies)
   pub recorded : last_recorded bodies ≡ end.recorded
 
 -- The reading includes all of its records.

@@ -37,7 +37,7 @@ pub fn commit<D: Disk>(
     recorded: CommitRecord,
 ) -> Result<End, DiskError>
     requires staged { IsStagedBy (D.state disk.old) names.now end recorded }
-    requires room { end.gate + 50 < 2 ^ 64 }
+    requires room { end.records_len + 50 < 2 ^ 64 }
 
     ensures settled { Honestly (D.state disk.new) (IfOk result (λ after. IsAtRest (D.state disk.new) (folder_of names.now) after)) }
     ensures recorded { IfOk result (λ after. after.recorded ≡ recorded) }
@@ -52,10 +52,10 @@ pub fn commit<D: Disk>(
 {
     disk.sync(&names.messages)?;
     disk.sync(&names.keys)?;
-    write_synced(disk, &names.log, end.gate + 1, &record_of(recorded))?;
-    write_synced(disk, &names.log, end.gate, &[1])?;
+    write_synced(disk, &names.log, end.records_len + 1, &record_of(recorded))?;
+    write_synced(disk, &names.log, end.records_len, &[1])?;
     Ok(End {
-        gate: end.gate + 50,
+        records_len: end.records_len + 50,
         recorded,
     })
 }

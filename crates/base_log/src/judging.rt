@@ -33,7 +33,7 @@ fn log_bytes<D: Disk>(alloc: Global, disk: &mut D, log: &[u8]) -> Result<Vec<u8>
 pub fn read_log<D: Disk>(alloc: Global, disk: &mut D, folder: &[u8]) -> Result<Log, DiskError>
     ensures log { Honestly (D.state disk.new) (IfOk result (IsLogIn folder.now (D.state disk.old).seen)) }
     ensures read { IfOk result IsRead }
-    ensures within { IfOk result (λ log. log.end.gate ≤ length log.bytes.items) }
+    ensures within { IfOk result (λ log. log.end.records_len ≤ length log.bytes.items) }
     ensures quiet { ChangesNothing (D.state disk.old) (D.state disk.new) }
     ensures cause { HasCause (D.failures disk.old) (D.failures disk.new) result }
 {
@@ -123,7 +123,7 @@ fn judge_new<D: Disk>(
 ) -> Result<(), FolderError>
     requires log { Honestly (D.state disk.old) (IsLogIn folder.now (D.state disk.old).seen log.now) }
     requires read { IsRead log.now }
-    requires ajar { IsShutAt log.now.end.gate log.now.bytes.items → ⊥ }
+    requires ajar { IsShutAt log.now.end.records_len log.now.bytes.items → ⊥ }
     ensures represented { Honestly (D.state disk.new) (OnOk result (Represents folder.now (base_at (D.state disk.old) folder.now log.now.end.recorded) (D.state disk.old).seen)) }
     ensures lost { Honestly (D.state disk.new) (IsErrOf result FolderError.Lost → IsLost folder.now (D.state disk.old).seen) }
     ensures corrupt { Honestly (D.state disk.new) (IsErrOf result FolderError.Corrupt → IsBroken folder.now (D.state disk.old).seen) }
@@ -167,7 +167,7 @@ pub fn judge<D: Disk>(
     if !log.is_shut() {
         return judge_new(alloc, disk, folder, log);
     }
-    if log.end.gate == 0 {
+    if log.end.records_len == 0 {
         return Ok(());
     }
     let names = Names::new(alloc, folder, recorded.number)?;

@@ -27,7 +27,7 @@ pub struct CommitRecord {
 /// The end of the log's records, and the contents of the last of them.
 #[derive(Clone, Copy, Debug, PartialEq, Eq)]
 pub struct End {
-    pub gate: usize,
+    pub records_len: usize,
     pub recorded: CommitRecord,
 }
 
@@ -41,9 +41,9 @@ pub struct Log {
 impl Log {
     /// Whether a closed gate follows the records.
     pub fn is_shut(&self) -> bool
-        ensures { IsTrue result ↔ IsShutAt self.now.end.gate self.now.bytes.items }
+        ensures { IsTrue result ↔ IsShutAt self.now.end.records_len self.now.bytes.items }
     {
-        self.end.gate < self.bytes.len() && self.bytes[self.end.gate] != 1
+        self.end.records_len < self.bytes.len() && self.bytes[self.end.records_len] != 1
     }
 }
 
@@ -101,10 +101,10 @@ fn recorded_at(bytes: &[u8], at: usize) -> CommitRecord
 /// Reads a log to the end of its records.
 pub(crate) fn last_record(bytes: &[u8]) -> End
     ensures reads { ReadsAll bytes.now result }
-    ensures within { result.gate ≤ length bytes.now }
+    ensures within { result.records_len ≤ length bytes.now }
 {
     let mut end = End {
-        gate: 0,
+        records_len: 0,
         recorded: CommitRecord {
             messages: 0,
             keys: 0,
@@ -117,10 +117,10 @@ pub(crate) fn last_record(bytes: &[u8]) -> End
             },
         },
     };
-    'records: while has_record(bytes, end.gate) {
+    'records: while has_record(bytes, end.records_len) {
         end = End {
-            gate: end.gate + 50,
-            recorded: recorded_at(bytes, end.gate + 1),
+            records_len: end.records_len + 50,
+            recorded: recorded_at(bytes, end.records_len + 1),
         };
     }
     end

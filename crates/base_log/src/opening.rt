@@ -27,7 +27,7 @@ fn settle_log<D: Disk>(
     requires name { names.now.log.items ≡ log_of (folder_of names.now) }
     requires alone { Honestly (D.state disk.old) (AreAlone (folder_of names.now) (D.state disk.old)) }
     requires log { IsLogRead (D.state disk.old) (folder_of names.now) log.now }
-    requires ended { Honestly (D.state disk.old) (IsShutAt log.now.end.gate log.now.bytes.items ⊎ IsNew (folder_of names.now) (D.state disk.old).seen) }
+    requires ended { Honestly (D.state disk.old) (IsShutAt log.now.end.records_len log.now.bytes.items ⊎ IsNew (folder_of names.now) (D.state disk.old).seen) }
     ensures log { Honestly (D.state disk.new) (OnOk result (IsLogAt (D.state disk.new) (folder_of names.now) log.now.end)) }
     ensures others { KeepsButOne (D.state disk.old) (D.state disk.new) (log_of (folder_of names.now)) }
     ensures any_moment { Honestly (D.state disk.new) ((base : BaseBytes) → Represents (folder_of names.now) base (D.state disk.old).seen
@@ -75,7 +75,7 @@ pub fn open<D: Disk>(alloc: Global, disk: &mut D, names: &Names, log: &Log) -> R
     ensures cause { HasCause (D.failures disk.old) (D.failures disk.new) result }
 {
     settle_log(alloc, disk, names, log)?;
-    if log.end.gate > 0 {
+    if log.end.records_len > 0 {
         settle_files(disk, names)?;
         return Ok(());
     }

@@ -49,3 +49,14 @@ pub fn bytes_of_key(alloc: Global, key: &Key) -> Result<Vec<u8>, AllocError>
         }
     }
 }
+
+/// The digest of a message with this key. Where the key has an id, no memory is taken for its bytes.
+pub fn digest_of_key<H: Digest>(alloc: Global, digest: &H, key: &Key) -> Result<u64, AllocError>
+    ensures { IfOk result (λ found. found ≡ H.digest digest.now (digested_key key.now)) }
+{
+    if let Key::ById { tag: _, msgid } = key {
+        return Ok(digest.of(msgid.as_slice()));
+    }
+    let bytes = bytes_of_key(alloc, key)?;
+    Ok(digest.of(&bytes))
+}

@@ -108,7 +108,7 @@ pub fn is_unused<'a>(rt: &HostRuntime, base: &'a str) -> Result<bool, Fault<'a>>
     let path = folder_path(rt, base)?;
     let mut disk = RealDisk::new(rt, Unknown);
     match log_end(rt.alloc(), &mut disk, path.as_str().as_bytes(), strange) {
-        Ok(end) => Ok(end.gate == 0),
+        Ok(end) => Ok(end.records_len == 0),
         Err(OpenError::Wrong(_)) => Ok(false),
         Err(why) => Err(why.fault(base)),
     }

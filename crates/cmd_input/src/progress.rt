@@ -153,18 +153,18 @@ pub fn share_of(some: u64, all: u64) -> u128 {
 
 /// Standard output or standard error, on which the progress line is erased before anything is written.
 #[derive(Drop)]
-pub struct Cleared<'p, 'r, W> {
+pub struct ErasingOutput<'p, 'r, W> {
     progress: &'p Progress<'r>,
     to: W,
 }
 
-impl<'p, 'r, W> Cleared<'p, 'r, W> {
-    pub fn new(progress: &'p Progress<'r>, to: W) -> Cleared<'p, 'r, W> {
-        Cleared { progress, to }
+impl<'p, 'r, W> ErasingOutput<'p, 'r, W> {
+    pub fn new(progress: &'p Progress<'r>, to: W) -> ErasingOutput<'p, 'r, W> {
+        ErasingOutput { progress, to }
     }
 }
 
-impl<W: Write> Write for Cleared<'_, '_, W> {
+impl<W: Write> Write for ErasingOutput<'_, '_, W> {
     fn write(&mut self, buf: &[u8]) -> io::Result<usize> {
         self.progress.clear();
         self.to.write(buf)

@@ -1,6 +1,6 @@
 //! Notes on files that cannot be used, and on link files.
 
-use crate::notes::{Met, tell};
+use crate::notes::{FaultLine, tell};
 use crate::reasons::{PathState, Reason, State, WrongLine};
 use crate::states::{Usage, state_at};
 use cmd_input::{MAX_TEXT_FILE, folder_path, lead_to_one, names_of, read_file};
@@ -15,7 +15,7 @@ use std::{fs, str};
 const MAX_PATH: usize = 4_096;
 
 /// A path that cannot be used.
-pub(crate) fn explain_path<E: Sink>(met: Met<'_>, path: &str, usage: Usage, errors: &mut E) {
+pub(crate) fn explain_path<E: Sink>(met: FaultLine<'_>, path: &str, usage: Usage, errors: &mut E) {
     if met.is(Fault::CannotUse(path)) {
         if let Some(found) = state_at(met.rt, path, usage) {
             tell(met.rt, Reason::Path(found), errors);
@@ -24,13 +24,13 @@ pub(crate) fn explain_path<E: Sink>(met: Met<'_>, path: &str, usage: Usage, erro
 }
 
 /// The link file and the base of a system.
-pub(crate) fn explain_files<E: Sink>(met: Met<'_>, links: &str, base: &str, errors: &mut E) {
+pub(crate) fn explain_files<E: Sink>(met: FaultLine<'_>, links: &str, base: &str, errors: &mut E) {
     let _ = explain_links(met, links, errors);
     explain_path(met, base, Usage::Changed, errors);
 }
 
 /// A link file. The answer is whether it has a line that is explained.
-pub(crate) fn explain_links<E: Sink>(met: Met<'_>, path: &str, errors: &mut E) -> bool {
+pub(crate) fn explain_links<E: Sink>(met: FaultLine<'_>, path: &str, errors: &mut E) -> bool {
     explain_path(met, path, Usage::File, errors);
     if !met.is_of_links() {
         return false;
@@ -50,7 +50,7 @@ pub(crate) fn explain_links<E: Sink>(met: Met<'_>, path: &str, errors: &mut E) -
 }
 
 // The first faulty line of a link file.
-fn explain_line<E: Sink>(met: Met<'_>, path: &str, line: &FaultyLine, errors: &mut E) {
+fn explain_line<E: Sink>(met: FaultLine<'_>, path: &str, line: &FaultyLine, errors: &mut E) {
     if !met.is(Fault::Link(line.fault)) {
         return;
     }
@@ -69,7 +69,7 @@ fn explain_line<E: Sink>(met: Met<'_>, path: &str, line: &FaultyLine, errors: &m
 }
 
 /// Files that are used one by one.
-pub(crate) fn explain_paths<E: Sink>(met: Met<'_>, paths: &Paths<'_>, errors: &mut E) {
+pub(crate) fn explain_paths<E: Sink>(met: FaultLine<'_>, paths: &Paths<'_>, errors: &mut E) {
     let found = names_of(met.rt, paths);
     for name in &found.names {
         if let Ok(path) = name.path() {
@@ -79,7 +79,7 @@ pub(crate) fn explain_paths<E: Sink>(met: Met<'_>, paths: &Paths<'_>, errors: &m
 }
 
 /// The link files of a net, up to the first faulty one.
-pub(crate) fn explain_net<E: Sink>(met: Met<'_>, links: &Paths<'_>, errors: &mut E) {
+pub(crate) fn explain_net<E: Sink>(met: FaultLine<'_>, links: &Paths<'_>, errors: &mut E) {
     let found = names_of(met.rt, links);
     for name in &found.names {
         if let Ok(path) = name.path() {
@@ -91,7 +91,12 @@ pub(crate) fn explain_net<E: Sink>(met: Met<'_>, links: &Paths<'_>, errors: &mut
 }
 
 /// A packet of a scan with a name in use, or another folder with unfinished ones.
-pub(crate) fn explain_outbound<E: Sink>(met: Met<'_>, base: &str, folder: &str, errors: &mut E) {
+pub(crate) fn explain_outbound<E: Sink>(
+    met: FaultLine<'_>,
+    base: &str,
+    folder: &str,
+    errors: &mut E,
+) {
     if met.is(Fault::CannotUse(folder)) {
         explain_noted(met, base, folder, errors);
     }
@@ -109,7 +114,7 @@ pub(crate) fn explain_outbound<E: Sink>(met: Met<'_>, base: &str, folder: &str, 
 }
 
 // The folder that the note of a base folder names, if a stopped scan left packets there.
-fn explain_noted<E: Sink>(met: Met<'_>, base: &str, folder: &str, errors: &mut E) {
+fn explain_noted<E: Sink>(met: FaultLine<'_>, base: &str, folder: &str, errors: &mut E) {
     let Ok(note) = format!(in met.rt.alloc(); "{base}/outbound") else {
         return;
     };
@@ -141,7 +146,7 @@ fn has_staging(rt: &HostRuntime, folder: &str) -> bool {
 }
 
 // A file in the folder of packets.
-fn explain_entry<E: Sink>(met: Met<'_>, slashed: &str, name: &str, errors: &mut E) {
+fn explain_entry<E: Sink>(met: FaultLine<'_>, slashed: &str, name: &str, errors: &mut E) {
     if !name.ends_with(".pkt") {
         return;
     }

@@ -6,14 +6,14 @@ use std::io::Write;
 
 /// Standard error, of which the fault lines are kept, since notes come after them.
 #[derive(Drop)]
-pub struct Heard<W> {
+pub struct KeptFaultLines<W> {
     to: W,
     kept: Vec<u8>,
 }
 
-impl<W> Heard<W> {
-    pub fn new(alloc: Global, to: W) -> Heard<W> {
-        Heard {
+impl<W> KeptFaultLines<W> {
+    pub fn new(alloc: Global, to: W) -> KeptFaultLines<W> {
+        KeptFaultLines {
             to,
             kept: Vec::new(alloc),
         }
@@ -28,7 +28,7 @@ impl<W> Heard<W> {
     }
 }
 
-impl<W: Write> Write for Heard<W> {
+impl<W: Write> Write for KeptFaultLines<W> {
     fn write(&mut self, buf: &[u8]) -> io::Result<usize> {
         let count = self.to.write(buf)?;
         let _ = self.kept.extend_from_slice(&buf[..count]);

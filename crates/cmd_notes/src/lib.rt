@@ -16,5 +16,5 @@ mod reasons;
 mod states;
 mod word_notes;
 
-pub use heard::Heard;
-pub use notes::Noted;
+pub use heard::KeptFaultLines;
+pub use notes::ExplainedCommand;

@@ -13,8 +13,8 @@ use crate::word_notes::{
 use cmd_input::{MAX_TEXT_FILE, names_of, read_file};
 use cmd_status::{Fault, print_rest};
 use cmd_words::{
-    Asked, CheckWords, ExportWords, PostStoredWords, PostWords, ReplyWords, ResendWords, TossWords,
-    Words,
+    CheckWords, ExportWords, ParsedLine, PostStoredWords, PostWords, ReplyWords, ResendWords,
+    TossWords, Words,
 };
 use disk_io::Sink;
 use echo_stored::read_stored;
@@ -23,7 +23,7 @@ use std::io::IsTerminal;
 
 /// A command to be explained, and the base that it makes, if there is none before it.
 #[derive(Clone, Copy)]
-pub struct Noted<'a> {
+pub struct ExplainedCommand<'a> {
     rt: &'a HostRuntime,
     words: &'a Words<'a>,
     new_base: Option<&'a str>,
@@ -31,12 +31,12 @@ pub struct Noted<'a> {
 
 /// A printed fault line without its end.
 #[derive(Clone, Copy)]
-pub(crate) struct Met<'a> {
+pub(crate) struct FaultLine<'a> {
     pub(crate) rt: &'a HostRuntime,
     line: &'a [u8],
 }
 
-impl Met<'_> {
+impl FaultLine<'_> {
     /// Whether it is the line of this fault.
     pub(crate) fn is(&self, fault: Fault<'_>) -> bool {
         match format!(in self.rt.alloc(); "echonet: {fault}") {
@@ -68,10 +68,10 @@ fn tell_state<E: Sink>(rt: &HostRuntime, path: &str, state: State, errors: &mut 
     tell(rt, Reason::Path(PathState { path, state }), errors);
 }
 
-impl<'a> Noted<'a> {
+impl<'a> ExplainedCommand<'a> {
     /// The command of these words, before it runs. None if notes are off: `--explain` is missing, and standard error is
     /// no terminal.
-    pub fn of(rt: &'a HostRuntime, asked: &'a Asked<'a>) -> Option<Noted<'a>> {
+    pub fn of(rt: &'a HostRuntime, asked: &'a ParsedLine<'a>) -> Option<ExplainedCommand<'a>> {
         if !asked.explain && !rt.stderr().is_terminal() {
             return None;
         }
@@ -80,7 +80,7 @@ impl<'a> Noted<'a> {
             Words::Scan { base, .. } => Some(*base),
             _ => None,
         };
-        Some(Noted {
+        Some(ExplainedCommand {
             rt,
             words: &asked.words,
             new_base: missing(rt, base),
@@ -91,7 +91,7 @@ impl<'a> Noted<'a> {
     pub fn tell<E: Sink>(&self, printed: &[u8], errors: &mut E) {
         for line in printed.split(|byte| *byte == b'\n') {
             if !line.is_empty() {
-                let met = Met { rt: self.rt, line };
+                let met = FaultLine { rt: self.rt, line };
                 explain(met, self.words, errors);
             }
         }
@@ -143,7 +143,7 @@ fn missing<'a>(rt: &HostRuntime, path: Option<&'a str>) -> Option<&'a str> {
     }
 }
 
-fn explain<E: Sink>(met: Met<'_>, words: &Words<'_>, errors: &mut E) {
+fn explain<E: Sink>(met: FaultLine<'_>, words: &Words<'_>, errors: &mut E) {
     match words {
         Words::Show { packet, .. } => explain_path(met, *packet, Usage::File, errors),
         Words::Nodelist { find, file } => {
@@ -171,7 +171,7 @@ fn explain<E: Sink>(met: Met<'_>, words: &Words<'_>, errors: &mut E) {
 }
 
 // The same of a command that changes a base.
-fn explain_station<E: Sink>(met: Met<'_>, words: &Words<'_>, errors: &mut E) {
+fn explain_station<E: Sink>(met: FaultLine<'_>, words: &Words<'_>, errors: &mut E) {
     match words {
         Words::Post(words) => explain_post(met, words, errors),
         Words::PostMail(words) => {
@@ -203,14 +203,14 @@ fn explain_station<E: Sink>(met: Met<'_>, words: &Words<'_>, errors: &mut E) {
     }
 }
 
-fn explain_check<E: Sink>(met: Met<'_>, words: &CheckWords<'_>, errors: &mut E) {
+fn explain_check<E: Sink>(met: FaultLine<'_>, words: &CheckWords<'_>, errors: &mut E) {
     if let Some(list) = words.nodelist {
         explain_path(met, list, Usage::File, errors);
     }
     explain_net(met, &words.links, errors);
 }
 
-fn explain_export<E: Sink>(met: Met<'_>, words: &ExportWords<'_>, errors: &mut E) {
+fn explain_export<E: Sink>(met: FaultLine<'_>, words: &ExportWords<'_>, errors: &mut E) {
     explain_word(met, Fault::BadNumber, WordForm::Number, words.from, errors);
     explain_path(met, words.base, Usage::Base, errors);
     if let Some(folder) = words.msg {
@@ -218,7 +218,7 @@ fn explain_export<E: Sink>(met: Met<'_>, words: &ExportWords<'_>, errors: &mut E
     }
 }
 
-fn explain_post<E: Sink>(met: Met<'_>, words: &PostWords<'_>, errors: &mut E) {
+fn explain_post<E: Sink>(met: FaultLine<'_>, words: &PostWords<'_>, errors: &mut E) {
     explain_moment(met, words.at, Some(words.serial), errors);
     explain_files(met, words.links, words.base, errors);
     explain_area(met, words.area, words.links, errors);
@@ -226,7 +226,7 @@ fn explain_post<E: Sink>(met: Met<'_>, words: &PostWords<'_>, errors: &mut E) {
     explain_fields(met, to, from, words.subject.len(), errors);
 }
 
-fn explain_stored<E: Sink>(met: Met<'_>, words: &PostStoredWords<'_>, errors: &mut E) {
+fn explain_stored<E: Sink>(met: FaultLine<'_>, words: &PostStoredWords<'_>, errors: &mut E) {
     explain_moment(met, words.at, Some(words.serial), errors);
     explain_path(met, words.message, Usage::File, errors);
     explain_files(met, words.links, words.base, errors);
@@ -240,14 +240,14 @@ fn explain_stored<E: Sink>(met: Met<'_>, words: &PostStoredWords<'_>, errors: &m
     }
 }
 
-fn explain_reply<E: Sink>(met: Met<'_>, words: &ReplyWords<'_>, errors: &mut E) {
+fn explain_reply<E: Sink>(met: FaultLine<'_>, words: &ReplyWords<'_>, errors: &mut E) {
     explain_moment(met, words.at, Some(words.serial), errors);
     explain_files(met, words.links, words.base, errors);
     explain_fields(met, 0, words.from.len(), 0, errors);
     explain_index(met, words, errors);
 }
 
-fn explain_resend<E: Sink>(met: Met<'_>, words: &ResendWords<'_>, errors: &mut E) {
+fn explain_resend<E: Sink>(met: FaultLine<'_>, words: &ResendWords<'_>, errors: &mut E) {
     let form = WordForm::NodeAddress;
     explain_word(met, Fault::BadAddress, form, Some(words.to), errors);
     explain_word(met, Fault::BadNumber, WordForm::Number, words.from, errors);
@@ -257,7 +257,7 @@ fn explain_resend<E: Sink>(met: Met<'_>, words: &ResendWords<'_>, errors: &mut E
     explain_path(met, words.folder, Usage::Folder, errors);
 }
 
-fn explain_toss<E: Sink>(met: Met<'_>, words: &TossWords<'_>, errors: &mut E) {
+fn explain_toss<E: Sink>(met: FaultLine<'_>, words: &TossWords<'_>, errors: &mut E) {
     explain_word(
         met,
         Fault::BadNumber,

@@ -1,6 +1,6 @@
 //! Which packet of a toss is refused, and why.
 
-use crate::notes::{Met, tell};
+use crate::notes::{FaultLine, tell};
 use crate::reasons::{FaultyPacket, Misdelivered, PacketPlace, Reason};
 use cmd_input::{MAX_TEXT_FILE, PathName, read_file};
 use cmd_status::{Fault, LIMITS, limits_for, number_of};
@@ -19,14 +19,14 @@ const MOST: u32 = u32::MAX;
 
 // The fault of a packet.
 #[derive(Clone, Copy)]
-enum Wrong {
+enum PacketFailure {
     NotForUs(Address),
     Faulty(PacketFault),
 }
 
 /// Explains the fault of the first packet that is refused.
 pub(crate) fn explain_packets<E: Sink>(
-    met: Met<'_>,
+    met: FaultLine<'_>,
     words: &TossWords<'_>,
     names: &[PathName],
     errors: &mut E,
@@ -65,7 +65,7 @@ fn limits_of(text_limit: Option<&str>) -> Limits {
 
 // Explains the fault of a packet. The answer is whether it has one.
 fn explain_packet<E: Sink>(
-    met: Met<'_>,
+    met: FaultLine<'_>,
     own: Address,
     limits: Limits,
     packet: PacketPlace<'_>,
@@ -75,11 +75,11 @@ fn explain_packet<E: Sink>(
         return false;
     };
     let (fault, why) = match wrong {
-        Wrong::NotForUs(to) => (
+        PacketFailure::NotForUs(to) => (
             Fault::NotForUs(to),
             Reason::NotForUs(Misdelivered { packet, to, own }),
         ),
-        Wrong::Faulty(fault) => (
+        PacketFailure::Faulty(fault) => (
             Fault::Packet(fault),
             Reason::Packet(FaultyPacket { packet, fault }),
         ),
@@ -91,22 +91,22 @@ fn explain_packet<E: Sink>(
 }
 
 // The fault of the packet at this path, if it can be read.
-fn wrong_in(rt: &HostRuntime, own: Address, limits: Limits, path: &str) -> Option<Wrong> {
+fn wrong_in(rt: &HostRuntime, own: Address, limits: Limits, path: &str) -> Option<PacketFailure> {
     let file = open_regular(rt, path).ok()?;
     let source = Buffered::new(rt.alloc(), Watched::new(file), BUFFER).ok()?;
     let mut reader = match PacketReader::open(rt.alloc(), source, limits) {
         Ok(reader) => reader,
-        Err(fault) => return Some(Wrong::Faulty(fault)),
+        Err(fault) => return Some(PacketFailure::Faulty(fault)),
     };
     let to = destination_in(own, reader.header());
     if to != own {
-        return Some(Wrong::NotForUs(to));
+        return Some(PacketFailure::NotForUs(to));
     }
     'messages: for _ in 0..MOST {
         match reader.next() {
             Ok(Some(_)) => {}
             Ok(None) => return None,
-            Err(fault) => return Some(Wrong::Faulty(fault)),
+            Err(fault) => return Some(PacketFailure::Faulty(fault)),
         }
     }
     None

@@ -1,6 +1,6 @@
 //! Notes on words of the command line, and on the fields of a message.
 
-use crate::notes::{Met, is_there, tell};
+use crate::notes::{FaultLine, is_there, tell};
 use crate::reasons::{LongField, Reason, WordForm, WrongWord};
 use base_folder::{BaseReader, MessageSource, fetch_message};
 use cmd_input::{is_folder, load_base, look_into, read_file};
@@ -16,7 +16,7 @@ use std::collections::hash_map::RandomState;
 
 /// A word of another form.
 pub(crate) fn explain_word<E: Sink>(
-    met: Met<'_>,
+    met: FaultLine<'_>,
     fault: Fault<'_>,
     form: WordForm,
     word: Option<&str>,
@@ -31,7 +31,7 @@ pub(crate) fn explain_word<E: Sink>(
 
 /// The words for the stamp and for the serial.
 pub(crate) fn explain_moment<E: Sink>(
-    met: Met<'_>,
+    met: FaultLine<'_>,
     at: &str,
     serial: Option<&str>,
     errors: &mut E,
@@ -41,7 +41,7 @@ pub(crate) fn explain_moment<E: Sink>(
 }
 
 /// An area that the link file lacks.
-pub(crate) fn explain_area<E: Sink>(met: Met<'_>, tag: &str, links: &str, errors: &mut E) {
+pub(crate) fn explain_area<E: Sink>(met: FaultLine<'_>, tag: &str, links: &str, errors: &mut E) {
     if met.is(Fault::Post(PostFault::NoArea)) {
         tell(met.rt, Reason::NoArea(tag, links), errors);
     }
@@ -49,7 +49,7 @@ pub(crate) fn explain_area<E: Sink>(met: Met<'_>, tag: &str, links: &str, errors
 
 /// Names and a subject of so many bytes, of which the first that is too long is named.
 pub(crate) fn explain_fields<E: Sink>(
-    met: Met<'_>,
+    met: FaultLine<'_>,
     to: usize,
     from: usize,
     subject: usize,
@@ -76,7 +76,7 @@ pub(crate) fn explain_fields<E: Sink>(
 }
 
 /// The number of a message that is answered.
-pub(crate) fn explain_index<E: Sink>(met: Met<'_>, words: &ReplyWords<'_>, errors: &mut E) {
+pub(crate) fn explain_index<E: Sink>(met: FaultLine<'_>, words: &ReplyWords<'_>, errors: &mut E) {
     if !met.is(Fault::BadNumber) {
         return;
     }

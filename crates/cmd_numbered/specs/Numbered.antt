@@ -1,5 +1,5 @@
 -- Messages of a base as numbered files of a folder: their choice, their bytes and their numbers.
-use Rattle.std.specs.Prelude.{◌≡◌, ◌<◌, ⊤, ℕ, zero, suc, ◌+◌, ◌&&◌, ◌||◌, not, nat_le, nat_lt, max, Bool, false, List, [], ◌∷◌, ◌++◌, length, take, drop, if◌then◌else◌, slice_get, bytes_eq, Option, Some, None, is_some, Result}
+use Rattle.std.specs.Prelude.{◌≡◌, ◌<◌, ⊤, ℕ, zero, suc, ◌+◌, ◌&&◌, ◌||◌, not, nat_le, nat_lt, max, Bool, false, List, [], ◌∷◌, ◌++◌, length, take, drop, if◌then◌else◌, slice_get, bytes_eq, Option, Some, None, is_some}
 use Rattle.echo_filed.specs.Filed.{Filed}
 use Rattle.echo_filed.specs.Stubs.{is_stub}
 use Rattle.echo_links.specs.Links.{upper}
@@ -15,7 +15,6 @@ use Rattle.cmd_numbered.specs.declared.numbering.Unexported.TheVariants.{File, M
 use Rattle.cmd_numbered.specs.declared.folder.MessageFile.{MessageFile}
 use Rattle.cmd_numbered.specs.Folders.{Gets}
 use Rattle.cmd_numbered.specs.Names.{name_of}
-use Rattle.cmd_numbered.specs.Reading.{AnswersFile}
 
 -- Whether only the id of a message's text is left.
 abbrev pub is_purged : Filed → Bool
@@ -103,7 +102,3 @@ pub record IsExport (area : List ℕ) (first greatest : ℕ) (last : Option (Lis
   pub from : ℕ
   pub from_is : from ≡ resumed (upper area) first base.cursor last base.messages (length base.messages)
   pub made : IsMadeFrom (upper area) from (first_number greatest) base path before now old new exported
-
--- The right answer if the messages of a base file are to become files.
-abbrev pub ExportAnswers : List ℕ → ℕ → ℕ → Option (List ℕ) → List ℕ → Option (List MessageFile) → Option (List MessageFile) → Result Exported Fault → Type 0
-ExportAnswers area first greatest last file old new answer = AnswersFile (λ base. IsExport area first greatest last base [] 0 0 old new) file answer

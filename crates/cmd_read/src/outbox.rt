@@ -34,13 +34,13 @@ pub struct Outbox<'a> {
 
 /// A message that is to be posted: where its header is, its number in the JAM base, and its text.
 #[derive(Debug, Drop)]
-pub struct Unsent {
+pub struct OutboxMessage {
     place: u32,
     number: u64,
     text: Vec<u8>,
 }
 
-impl Unsent {
+impl OutboxMessage {
     /// Its number in the JAM base.
     pub fn number(&self) -> u64 {
         self.number
@@ -80,7 +80,7 @@ impl<'a> Outbox<'a> {
     }
 
     /// The message of an entry, if it is to be posted.
-    pub fn unsent(&self, rt: &HostRuntime, i: usize) -> Result<Option<Unsent>, Fault<'a>> {
+    pub fn unsent(&self, rt: &HostRuntime, i: usize) -> Result<Option<OutboxMessage>, Fault<'a>> {
         let (headers, index) = (self.found.as_slice(), self.entries.as_slice());
         match unsent_at(headers, index, self.texts_end, i) {
             Some(last) => Ok(Some(self.with_text(rt, last, i)?)),
@@ -89,7 +89,12 @@ impl<'a> Outbox<'a> {
     }
 
     // A message with its text. A text of more bytes than the file has is that of a deleted message.
-    fn with_text(&self, rt: &HostRuntime, last: Last, i: usize) -> Result<Unsent, Fault<'a>> {
+    fn with_text(
+        &self,
+        rt: &HostRuntime,
+        last: Last,
+        i: usize,
+    ) -> Result<OutboxMessage, Fault<'a>> {
         if u64::from(last.text) + u64::from(last.size) > self.texts_end {
             return Err(Fault::CannotUse(self.path));
         }
@@ -100,7 +105,7 @@ impl<'a> Outbox<'a> {
         self.texts
             .read_exact_at(text.as_mut_slice(), u64::from(last.text))
             .map_err(|error| jam_fault(&error, self.path))?;
-        Ok(Unsent {
+        Ok(OutboxMessage {
             place: last.place,
             number: first.saturating_add(i as u64),
             text,
@@ -111,7 +116,7 @@ impl<'a> Outbox<'a> {
     pub fn draft<'b>(
         &'b self,
         rt: &HostRuntime,
-        unsent: &Unsent,
+        unsent: &OutboxMessage,
     ) -> Result<JamDraft<'b>, Fault<'a>> {
         if self.found.len() < unsent.place as usize + HEADER {
             return Err(Fault::CannotUse(self.path));
@@ -125,7 +130,7 @@ impl<'a> Outbox<'a> {
     }
 
     /// Marks the message as sent.
-    pub fn mark(&mut self, unsent: &Unsent) -> Result<(), Fault<'a>> {
+    pub fn mark(&mut self, unsent: &OutboxMessage) -> Result<(), Fault<'a>> {
         let at = u64::from(unsent.place) + ATTRIBUTE_AT as u64;
         match sent_attribute(self.found.as_slice(), unsent.place) {
             Some(byte) => {

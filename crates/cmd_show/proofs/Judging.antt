@@ -15,7 +15,7 @@ use Rattle.echo_links.specs.LinkReading.{name_refusal, system_refusal}
 use Rattle.echo_links.proofs.LinkBytes.{name_trimmed, no_feed, skipped_word, tokens_words}
 use Rattle.echo_links.proofs.LinkFiles.{other_word}
 use Rattle.echo_links.proofs.LinkTaking.{IsCut}
-use Rattle.cmd_show.specs.declared.words.Wrong.{Wrong}
+use Rattle.cmd_show.specs.declared.words.FaultyWord.{FaultyWord}
 use Rattle.cmd_show.specs.FaultyLines.{link_again, no_address, not_one_address, unknown_word, word_with_control, wrong_word}
 use Rattle.cmd_show.specs.Before.{HasTagAdded, IsBefore, JudgesLine, SaidBefore, Tells, area_refused, area_says, links_say, name_says, system_says}
 
@@ -125,7 +125,7 @@ module _ (earlier : List (List ℕ)) (number : ℕ) (line word rest : List ℕ) 
   of_kind = cond-false (is_skipped line) None _ cut.read ∙ cond-false (list_any is_control_byte line) _ _ cut.plain
 
   -- a line has the refusal of its parts
-  as_parts : {Good Bad : Type 0} (refusal : Option LinkFault) (say : LinkFault → List ℕ) (found : Option Wrong) → line_fault earlier number line ≡ refusal
+  as_parts : {Good Bad : Type 0} (refusal : Option LinkFault) (say : LinkFault → List ℕ) (found : Option FaultyWord) → line_fault earlier number line ≡ refusal
       → ((f : LinkFault) → refusal ≡ Some f → wrong_word f line ≡ say f) → (Good → IsBefore (line ∷ earlier) new) → (Bad → IsBefore earlier new)
       → Tells refusal say Good Bad found → JudgesLine earlier number line new found
   as_parts refusal say found h1 h2 h3 h4 h5 = grind arith
@@ -140,7 +140,7 @@ module _ (earlier : List (List ℕ)) (number : ℕ) (line word rest : List ℕ) 
         → wrong_word f line ≡ system_says word (tokens rest) f
     system_says_so b c f h1 = grind (arith, both, cond-true, kind_is, left_is)
 
-    pub system_judged : (found : Option Wrong) → Tells (system_refusal old.system number (tokens rest)) (system_says word (tokens rest)) (new ≡ record old { system = true }) (new ≡ old) found
+    pub system_judged : (found : Option FaultyWord) → Tells (system_refusal old.system number (tokens rest)) (system_says word (tokens rest)) (new ≡ record old { system = true }) (new ≡ old) found
         → JudgesLine earlier number line new found
     system_judged found reported =
         as_parts (system_refusal old.system number (tokens rest)) (system_says word (tokens rest)) found
@@ -168,7 +168,7 @@ module _ (earlier : List (List ℕ)) (number : ℕ) (line word rest : List ℕ) 
         → wrong_word f line ≡ name_says word (trimmed rest) f
     name_says_so b c f h1 = grind (arith, both, name_is)
 
-    pub name_judged : (found : Option Wrong) → Tells (name_refusal old.name number (trimmed rest)) (name_says word (trimmed rest)) (new ≡ record old { name = true }) (new ≡ old) found
+    pub name_judged : (found : Option FaultyWord) → Tells (name_refusal old.name number (trimmed rest)) (name_says word (trimmed rest)) (new ≡ record old { name = true }) (new ≡ old) found
         → JudgesLine earlier number line new found
     name_judged found reported =
         as_parts (name_refusal old.name number (trimmed rest)) (name_says word (trimmed rest)) found
@@ -207,7 +207,7 @@ module _ (earlier : List (List ℕ)) (number : ℕ) (line word rest : List ℕ) 
         (ap (λ ws. link_again [] (after_first_of ws)) left_is)
         [] (after_first_of (tokens rest)) f h
 
-    pub area_judged : (found : Option Wrong) → Tells (area_refused old.tags number (tokens rest)) (area_says (tokens rest))
+    pub area_judged : (found : Option FaultyWord) → Tells (area_refused old.tags number (tokens rest)) (area_says (tokens rest))
         ((new.system ≡ old.system) × (new.name ≡ old.name) × HasTagAdded old.tags (upper (first_of (tokens rest))) new.tags) (new ≡ old) found
         → JudgesLine earlier number line new found
     area_judged found reported =
@@ -229,7 +229,7 @@ module _ (earlier : List (List ℕ)) (number : ℕ) (line word rest : List ℕ) 
         stays reported
 
     -- the same for an answer, if memory sufficed
-    pub area_judged_so : {E : Type 0} (r : Result (Option Wrong) E)
+    pub area_judged_so : {E : Type 0} (r : Result (Option FaultyWord) E)
         → IfOk r (Tells (area_refused old.tags number (tokens rest)) (area_says (tokens rest))
         ((new.system ≡ old.system) × (new.name ≡ old.name) × HasTagAdded old.tags (upper (first_of (tokens rest))) new.tags) (new ≡ old))
         → IfOk r (JudgesLine earlier number line new)

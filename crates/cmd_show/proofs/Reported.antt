@@ -10,7 +10,7 @@ use Rattle.echo_links.specs.Links.{LinkFile}
 use Rattle.echo_links.specs.LinkLines.{LinksOf, file_fault, file_lines, first_fault, is_system_line, line_fault, read_lines}
 use Rattle.echo_links.proofs.LinkBytes.{no_lines_left}
 use Rattle.cmd_show.specs.declared.faulty.FaultyLine.{FaultyLine}
-use Rattle.cmd_show.specs.declared.words.Wrong.{Wrong}
+use Rattle.cmd_show.specs.declared.words.FaultyWord.{FaultyWord}
 use Rattle.cmd_show.specs.FaultyLines.{faults_of, faulty_among, faulty_lines, good_with, reported_lines, reported_with}
 use Rattle.cmd_show.specs.declared.judged.Judged.TheVariants.{Faulty}
 use Rattle.cmd_show.specs.Judging.{IsJudged, is_memory}
@@ -29,11 +29,11 @@ unfolding faulty_lines
 none_reported bytes b found begun none = grind arith
 
 -- the faulty lines among a line and those after it
-line_first : (earlier : List (List ℕ)) (number : ℕ) (line : List ℕ) (later : List (List ℕ)) (new : SaidBefore) (wrong : Option Wrong) → JudgesLine earlier number line new wrong
+line_first : (earlier : List (List ℕ)) (number : ℕ) (line : List ℕ) (later : List (List ℕ)) (new : SaidBefore) (wrong : Option FaultyWord) → JudgesLine earlier number line new wrong
     → (good : List (List ℕ)) × IsBefore good new × (faulty_among earlier number (line ∷ later) ≡ line_reported wrong ++ faulty_among good (number + 1) later)
 line_first earlier number line later new wrong h1 = grind arith
 
-pub one_reported : (bytes : List ℕ) (number : ℕ) (rest line after : List ℕ) (old new : SaidBefore) (found more : List FaultyLine) (wrong : Option Wrong)
+pub one_reported : (bytes : List ℕ) (number : ℕ) (rest line after : List ℕ) (old new : SaidBefore) (found more : List FaultyLine) (wrong : Option FaultyWord)
     (so : ReportedLines bytes number rest old found) → file_lines rest ≡ line ∷ file_lines after → JudgesLine so.earlier (number + 1) line new wrong
     → more ≡ found ++ line_reported wrong → ReportedLines bytes (number + 1) after new more
 one_reported bytes number rest line after old new found more wrong so next judged added = grind (arith, line_first, append_assoc)

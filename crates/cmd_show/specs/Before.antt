@@ -7,7 +7,7 @@ use Rattle.echo_links.specs.declared.fault.LinkFault.TheVariants as fault
 use Rattle.echo_links.specs.Links.{upper}
 use Rattle.echo_links.specs.LinkLines.{after_first_of, first_of, is_area_line, is_name_line, is_system_line, line_fault, links_fault, tag_in}
 use Rattle.cmd_show.specs.declared.faulty.FaultyLine.{FaultyLine}
-use Rattle.cmd_show.specs.declared.words.Wrong.{Wrong}
+use Rattle.cmd_show.specs.declared.words.FaultyWord.{FaultyWord}
 use Rattle.cmd_show.specs.FaultyLines.{link_again, no_address, not_one_address, wrong_word}
 
 -- The parts of earlier lines: whether one has the system's address, whether one has the name, and the tags of areas.
@@ -56,16 +56,16 @@ area_says words (fault.RepeatedLink number) = link_again [] (after_first_of word
 area_says words _ = first_of words
 
 -- A refusal gives a fault with this word; without a refusal `Good` holds.
-abbrev pub Tells : Option LinkFault → (LinkFault → List ℕ) → Type 0 → Type 0 → Option Wrong → Type 0
+abbrev pub Tells : Option LinkFault → (LinkFault → List ℕ) → Type 0 → Type 0 → Option FaultyWord → Type 0
 Tells refusal say Good Bad found =
     MatchOption found ((refusal ≡ None) × Good) (λ wrong. (refusal ≡ Some wrong.fault) × (wrong.word.now ≡ say wrong.fault) × Bad)
 
 -- The judgement on a line after these good lines, and the parts that are then known.
-abbrev pub JudgesLine : List (List ℕ) → ℕ → List ℕ → SaidBefore → Option Wrong → Type 0
+abbrev pub JudgesLine : List (List ℕ) → ℕ → List ℕ → SaidBefore → Option FaultyWord → Type 0
 JudgesLine earlier number line new found =
     Tells (line_fault earlier number line) (λ fault. wrong_word fault line) (IsBefore (line ∷ earlier) new) (IsBefore earlier new) found
 
 -- The faulty line that was found, if any.
-abbrev pub line_reported : Option Wrong → List FaultyLine
+abbrev pub line_reported : Option FaultyWord → List FaultyLine
 line_reported None = []
 line_reported (Some wrong) = record { fault = wrong.fault; word = wrong.word.now } ∷ []

@@ -10,7 +10,7 @@ ghost use Rattle.cmd_show.specs.Before.{HasTagAdded, IsBefore, JudgesLine, Tells
 
 use crate::faulty::FaultyLine;
 use crate::tags::Tags;
-use crate::words::{Wrong, word_with_control, wrong_link, wrong_system_word};
+use crate::words::{FaultyWord, word_with_control, wrong_link, wrong_system_word};
 use echo_addr::next_token;
 use echo_links::{LinkFault, has_control_byte, is_skipped, split_line};
 use echo_text::{is_tag, trimmed};
@@ -50,7 +50,7 @@ impl Before {
         alloc: Global,
         number: u64,
         line: &'a [u8],
-    ) -> Result<Option<Wrong<'a>>, AllocError>
+    ) -> Result<Option<FaultyWord<'a>>, AllocError>
         ensures { (earlier : List (List ℕ)) → IsBefore earlier self.old → IfOk result (JudgesLine earlier number line.now self.new) }
     {
         if is_skipped(line) {
@@ -59,10 +59,10 @@ impl Before {
         let fault = LinkFault::UnknownWord { line: number };
         if has_control_byte(line) {
             let word = word_with_control(line);
-            return Ok(Some(Wrong { fault, word }));
+            return Ok(Some(FaultyWord { fault, word }));
         }
         let Some((word, rest)) = next_token(line) else {
-            return Ok(Some(Wrong { fault, word: b"" }));
+            return Ok(Some(FaultyWord { fault, word: b"" }));
         };
         if word == SYSTEM {
             Ok(self.take_system(number, word, rest))
@@ -71,38 +71,48 @@ impl Before {
         } else if word == AREA {
             self.take_area(alloc, number, rest)
         } else {
-            Ok(Some(Wrong { fault, word }))
+            Ok(Some(FaultyWord { fault, word }))
         }
     }
 
     // Judges a SYSTEM line; `rest` comes after that word.
-    fn take_system<'a>(&mut self, number: u64, word: &'a [u8], rest: &'a [u8]) -> Option<Wrong<'a>>
+    fn take_system<'a>(
+        &mut self,
+        number: u64,
+        word: &'a [u8],
+        rest: &'a [u8],
+    ) -> Option<FaultyWord<'a>>
         ensures { let words = tokens rest.now in Tells (system_refusal self.old.system number words) (system_says word.now words) (self.new ≡ record self.old { system = true }) (self.new ≡ self.old) result }
     {
         if self.system {
             let fault = LinkFault::RepeatedSystem { line: number };
-            return Some(Wrong { fault, word });
+            return Some(FaultyWord { fault, word });
         }
         if let Some(word) = wrong_system_word(rest) {
             let fault = LinkFault::BadAddress { line: number };
-            return Some(Wrong { fault, word });
+            return Some(FaultyWord { fault, word });
         }
         self.system = true;
         None
     }
 
     // Judges a NAME line; `rest` comes after that word.
-    fn take_name<'a>(&mut self, number: u64, word: &'a [u8], rest: &'a [u8]) -> Option<Wrong<'a>>
+    fn take_name<'a>(
+        &mut self,
+        number: u64,
+        word: &'a [u8],
+        rest: &'a [u8],
+    ) -> Option<FaultyWord<'a>>
         ensures { let name = trimmed rest.now in Tells (name_refusal self.old.name number name) (name_says word.now name) (self.new ≡ record self.old { name = true }) (self.new ≡ self.old) result }
     {
         if self.name {
             let fault = LinkFault::RepeatedSystem { line: number };
-            return Some(Wrong { fault, word });
+            return Some(FaultyWord { fault, word });
         }
         let name = trimmed(rest);
         if name.len() > MOST {
             let fault = LinkFault::NameTooLong { line: number };
-            return Some(Wrong { fault, word: name });
+            return Some(FaultyWord { fault, word: name });
         }
         self.name = true;
         None
@@ -114,22 +124,22 @@ impl Before {
         alloc: Global,
         number: u64,
         rest: &'a [u8],
-    ) -> Result<Option<Wrong<'a>>, AllocError>
+    ) -> Result<Option<FaultyWord<'a>>, AllocError>
         ensures { let words = tokens rest.now in IfOk result (Tells (area_refused self.old.tags number words) (area_says words)
             ((self.new.system ≡ self.old.system) × (self.new.name ≡ self.old.name) × HasTagAdded self.old.tags (upper (first_of words)) self.new.tags)
             (self.new ≡ self.old)) }
     {
         let fault = LinkFault::BadTag { line: number };
         let Some((word, after)) = next_token(rest) else {
-            return Ok(Some(Wrong { fault, word: b"" }));
+            return Ok(Some(FaultyWord { fault, word: b"" }));
         };
         if !is_tag(word) {
-            return Ok(Some(Wrong { fault, word }));
+            return Ok(Some(FaultyWord { fault, word }));
         }
         let tag = word.to_ascii_uppercase(alloc)?;
         if self.tags.has(&tag) {
             let fault = LinkFault::RepeatedArea { line: number };
-            return Ok(Some(Wrong { fault, word }));
+            return Ok(Some(FaultyWord { fault, word }));
         }
         if let Some(wrong) = wrong_link(alloc, number, after)? {
             return Ok(Some(wrong));
@@ -165,7 +175,7 @@ pub(crate) fn faulty_lines(alloc: Global, bytes: &[u8]) -> Result<Vec<FaultyLine
 fn tell(
     alloc: Global,
     found: &mut Vec<FaultyLine>,
-    wrong: Option<Wrong<'_>>,
+    wrong: Option<FaultyWord<'_>>,
 ) -> Result<(), AllocError>
     ensures { OnOk result (found.new.items ≡ found.old.items ++ line_reported wrong.entry) }
 {

@@ -31,7 +31,7 @@ pub struct ExportQuery<'a> {
 
 // The same with the tag in capital letters.
 #[derive(Drop)]
-struct Sought {
+struct ExportFilter {
     form: Form,
     area: Option<Items<u8>>,
     first: u64,
@@ -69,7 +69,7 @@ pub fn export_messages<'a, M: MessageSource, W: Sink>(
         (output_of W.contents W.failures W.holds out.old) (output_of W.contents W.failures W.holds out.new) result }
 {
     let area = upper_tag(alloc, asked.area)?;
-    let sought = Sought {
+    let sought = ExportFilter {
         form: asked.form,
         area,
         first: asked.first,
@@ -105,7 +105,7 @@ fn push_lost(line: &mut Vec<u8>, count: u128) -> Result<(), AllocError>
 // `lines`.
 fn print_sought<'a, M: MessageSource, W: Sink>(
     alloc: Global,
-    sought: &Sought,
+    sought: &ExportFilter,
     path: &'a str,
     messages: &mut M,
     lines: &mut Vec<u8>,
@@ -136,7 +136,7 @@ fn print_sought<'a, M: MessageSource, W: Sink>(
 // Prints the message of this number, if it is asked for, and counts the U+FFFD in it.
 fn print_one<'a, W: Sink>(
     alloc: Global,
-    sought: &Sought,
+    sought: &ExportFilter,
     cursor: usize,
     i: usize,
     message: Option<&Filed>,
@@ -163,7 +163,7 @@ fn print_one<'a, W: Sink>(
 }
 
 // Whether the message of this number is asked for.
-fn is_sought(sought: &Sought, cursor: usize, i: usize, message: &Filed) -> bool
+fn is_sought(sought: &ExportFilter, cursor: usize, i: usize, message: &Filed) -> bool
     ensures { result ≡ is_sought sought.now.area sought.now.first sought.now.purged cursor i message.now }
 {
     let tag = message.echo.tag.as_slice();

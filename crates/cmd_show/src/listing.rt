@@ -28,7 +28,7 @@ pub struct ListQuery<'a> {
 
 // The same with the tag in capital letters.
 #[derive(Drop)]
-struct Asked {
+struct ListFilter {
     form: ListForm,
     area: Option<Items<u8>>,
     first: u64,
@@ -65,7 +65,7 @@ pub fn list_messages<'a, M: MessageSource, W: Sink>(
         (output_of W.contents W.failures W.holds out.old) (output_of W.contents W.failures W.holds out.new) result }
 {
     let area = upper_tag(alloc, asked.area)?;
-    let asked = Asked {
+    let asked = ListFilter {
         form: asked.form,
         area,
         first: asked.first,
@@ -91,7 +91,7 @@ pub(crate) fn upper_tag(alloc: Global, area: Option<&[u8]>) -> Result<Option<Ite
 
 // Prints the lines of the messages that are asked for; the last ones stay in `lines`.
 fn print_messages<'a, M: MessageSource, W: Sink>(
-    asked: &Asked,
+    asked: &ListFilter,
     path: &'a str,
     messages: &mut M,
     lines: &mut Vec<u8>,
@@ -117,7 +117,7 @@ fn print_messages<'a, M: MessageSource, W: Sink>(
 
 // Prints the lines of the message of this number, if it is asked for, behind those that were kept back.
 fn print_message<'a, W: Sink>(
-    asked: &Asked,
+    asked: &ListFilter,
     cursor: usize,
     i: usize,
     message: Option<&Filed>,
@@ -140,7 +140,7 @@ fn print_message<'a, W: Sink>(
 }
 
 // Whether the message of this number is asked for.
-fn is_asked(asked: &Asked, i: usize, message: &Filed) -> bool
+fn is_asked(asked: &ListFilter, i: usize, message: &Filed) -> bool
     ensures { result ≡ is_asked asked.now.area asked.now.first i message.now }
 {
     let tag = message.echo.tag.as_slice();

@@ -13,7 +13,7 @@ use std::collections::BTreeSet;
 
 /// A fault of a line, and the word that is wrong in the line.
 #[derive(Clone, Copy)]
-pub(crate) struct Wrong<'a> {
+pub(crate) struct FaultyWord<'a> {
     pub(crate) fault: LinkFault,
     pub(crate) word: &'a [u8],
 }
@@ -59,7 +59,7 @@ pub(crate) fn wrong_link<'a>(
     alloc: Global,
     number: u64,
     rest: &'a [u8],
-) -> Result<Option<Wrong<'a>>, AllocError>
+) -> Result<Option<FaultyWord<'a>>, AllocError>
     ensures { IfOk result (λ found. Tells (links_fault number [] (tokens rest.now)) (links_say (tokens rest.now)) (Unit {0}) (Unit {0}) found) }
 {
     let mut sorted = BTreeSet::new(alloc);
@@ -67,11 +67,11 @@ pub(crate) fn wrong_link<'a>(
     'links: while let Some((word, after)) = next_token(left) {
         let Some(address) = address(word) else {
             let fault = LinkFault::BadAddress { line: number };
-            return Ok(Some(Wrong { fault, word }));
+            return Ok(Some(FaultyWord { fault, word }));
         };
         if !sorted.insert(address)? {
             let fault = LinkFault::RepeatedLink { line: number };
-            return Ok(Some(Wrong { fault, word }));
+            return Ok(Some(FaultyWord { fault, word }));
         }
         left = after;
     }

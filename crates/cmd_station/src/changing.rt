@@ -19,7 +19,7 @@ use station::Locks;
 
 /// A command with its words and its body.
 #[derive(Drop)]
-pub(crate) enum Asked<'w> {
+pub(crate) enum BaseCommand<'w> {
     Post(Post<'w>),
     PostMail(PostMail<'w>),
     Reply(Reply<'w>),
@@ -30,7 +30,7 @@ pub(crate) enum Asked<'w> {
 pub(crate) fn change<W: Sink, E: Sink>(
     rt: &HostRuntime,
     place: Place<'_>,
-    asked: &mut Asked<'_>,
+    asked: &mut BaseCommand<'_>,
     unread: Option<Fault<'_>>,
     out: &mut W,
     errors: &mut E,
@@ -50,7 +50,7 @@ pub(crate) fn change<W: Sink, E: Sink>(
 fn change_at<'a, L: FileLock, K: FileLock, W: Sink>(
     at: Station<'a>,
     locks: &mut Locks<L, K>,
-    asked: &mut Asked<'_>,
+    asked: &mut BaseCommand<'_>,
     unread: Option<Fault<'a>>,
     out: &mut W,
 ) -> Result<(), Fault<'a>>
@@ -63,10 +63,10 @@ fn change_at<'a, L: FileLock, K: FileLock, W: Sink>(
         unread,
     };
     match asked {
-        Asked::Post(post) => run_on(at, locks, before, post, out),
-        Asked::PostMail(post) => run_on(at, locks, before, post, out),
-        Asked::Reply(reply) => run_on(at, locks, before, reply, out),
-        Asked::Purge(purge) => run_on(at, locks, before, purge, out),
+        BaseCommand::Post(post) => run_on(at, locks, before, post, out),
+        BaseCommand::PostMail(post) => run_on(at, locks, before, post, out),
+        BaseCommand::Reply(reply) => run_on(at, locks, before, reply, out),
+        BaseCommand::Purge(purge) => run_on(at, locks, before, purge, out),
     }
 }
 
@@ -82,7 +82,7 @@ pub enum PostEnd {
 pub(crate) fn post_at<'a, W: Sink, E: Sink>(
     rt: &'a HostRuntime,
     place: Place<'a>,
-    asked: &mut Asked<'_>,
+    asked: &mut BaseCommand<'_>,
     out: &mut W,
     errors: &mut E,
 ) -> PostEnd {
@@ -120,7 +120,7 @@ pub fn run_post<W: Sink, E: Sink>(
         free,
         body: &body,
     };
-    change(rt, place, &mut Asked::Post(post), unread, out, errors)
+    change(rt, place, &mut BaseCommand::Post(post), unread, out, errors)
 }
 
 // The body of a message, from standard input, and the fault that stopped its reading.
@@ -162,7 +162,14 @@ pub fn run_reply<W: Sink, E: Sink>(
         answer,
         body: &body,
     };
-    change(rt, place, &mut Asked::Reply(reply), unread, out, errors)
+    change(
+        rt,
+        place,
+        &mut BaseCommand::Reply(reply),
+        unread,
+        out,
+        errors,
+    )
 }
 
 // The words of an answer, and the number of the message that it answers.
@@ -213,7 +220,7 @@ pub fn run_post_stored<W: Sink, E: Sink>(
         free,
         body: draft.body.as_slice(),
     };
-    change(rt, place, &mut Asked::Post(post), None, out, errors)
+    change(rt, place, &mut BaseCommand::Post(post), None, out, errors)
 }
 
 // A stored message to post: its serial, whether it gets the first free one from that on, its stamp, and its bytes.
@@ -236,5 +243,5 @@ pub fn run_purge<W: Sink, E: Sink>(
     errors: &mut E,
 ) -> Status {
     let place = Place { links, base };
-    change(rt, place, &mut Asked::Purge(Purge), None, out, errors)
+    change(rt, place, &mut BaseCommand::Purge(Purge), None, out, errors)
 }

@@ -1,7 +1,7 @@
 //! A message that an editor wrote into a JAM base, posted.
 ghost use Rattle.std.specs.Prelude.{◌≡◌, None};
 
-use crate::changing::{Asked, PostEnd, post_at};
+use crate::changing::{BaseCommand, PostEnd, post_at};
 use crate::place::Place;
 use base_file::BaseFault;
 use cmd_input::{LinkLock, is_folder, look_into, moment_of, read_file, serial_from};
@@ -113,7 +113,13 @@ impl<'a> JamPoster<'a> {
             free,
             body: draft.body.as_slice(),
         };
-        post_at(self.rt, self.place, &mut Asked::Post(post), out, errors)
+        post_at(
+            self.rt,
+            self.place,
+            &mut BaseCommand::Post(post),
+            out,
+            errors,
+        )
     }
 
     // Whether the base has it, under its id.

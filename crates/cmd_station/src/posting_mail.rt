@@ -2,7 +2,7 @@
 //! words.
 ghost use Rattle.std.specs.Prelude.{◌≡◌, None};
 
-use crate::changing::{Asked, change};
+use crate::changing::{BaseCommand, change};
 use crate::place::Place;
 use base_file::BaseFault;
 use cmd_input::{
@@ -29,7 +29,7 @@ const SAME: &str = "same";
 
 // The words that are judged before the mail, and the mail. Without a charset that of the answered message is meant.
 #[derive(Drop)]
-struct Given {
+struct MailDraft {
     charset: Option<Charset>,
     serial: u32,
     free: bool,
@@ -77,10 +77,10 @@ fn mail_given<'a>(
     rt: &HostRuntime,
     words: &PostMailWords<'_>,
     charset: Option<Charset>,
-) -> Result<Given, Fault<'a>> {
+) -> Result<MailDraft, Fault<'a>> {
     let (serial, free) = serial_from(rt, words.serial)?;
     let stamp = moment_of(rt, words.at)?;
-    Ok(Given {
+    Ok(MailDraft {
         charset,
         serial,
         free,
@@ -93,7 +93,7 @@ fn mail_given<'a>(
 fn answered_message<'a>(
     rt: &HostRuntime,
     words: &PostMailWords<'a>,
-    given: &Given,
+    given: &MailDraft,
 ) -> Result<Option<Answered>, Fault<'a>> {
     let Some(id) = wanted_id(rt.alloc(), words, given)? else {
         return Ok(None);
@@ -116,7 +116,7 @@ fn answered_message<'a>(
 fn wanted_id(
     alloc: Global,
     words: &PostMailWords<'_>,
-    given: &Given,
+    given: &MailDraft,
 ) -> Result<Option<Items<u8>>, AllocError> {
     let mail = match read_mail(alloc, &given.mail) {
         Ok(mail) => mail,
@@ -137,7 +137,7 @@ fn wanted_id(
 fn post_given<W: Sink, E: Sink>(
     rt: &HostRuntime,
     words: &PostMailWords<'_>,
-    given: &Given,
+    given: &MailDraft,
     found: Option<&Answered>,
     out: &mut W,
     errors: &mut E,
@@ -157,13 +157,20 @@ fn post_given<W: Sink, E: Sink>(
         base: words.base,
     };
     match PostMail::read(rt.alloc(), &given.mail, asked) {
-        Ok(post) => change(rt, place, &mut Asked::PostMail(post), None, out, errors),
+        Ok(post) => change(
+            rt,
+            place,
+            &mut BaseCommand::PostMail(post),
+            None,
+            out,
+            errors,
+        ),
         Err(fault) => refuse_mail(rt, words.links, fault, errors),
     }
 }
 
 // The charset of the posting. If that of the answered message is asked for and there is none, it is CP437.
-fn charset_of(given: &Given, found: Option<&Answered>) -> Option<Charset> {
+fn charset_of(given: &MailDraft, found: Option<&Answered>) -> Option<Charset> {
     match (given.charset, found) {
         (Some(charset), _) => Some(charset),
         (None, Some(found)) => found.charset,

@@ -15,6 +15,6 @@ mod words;
 pub use parsing::parse;
 pub use refusing::{Ending, explain};
 pub use words::{
-    Asked, CheckWords, ExportWords, ListWords, Paths, PostJamWords, PostMailWords, PostStoredWords,
-    PostWords, ReplyWords, ResendWords, TossWords, Words,
+    CheckWords, ExportWords, ListWords, ParsedLine, Paths, PostJamWords, PostMailWords,
+    PostStoredWords, PostWords, ReplyWords, ResendWords, TossWords, Words,
 };

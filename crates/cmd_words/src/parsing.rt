@@ -2,8 +2,8 @@
 
 use crate::program::command;
 use crate::words::{
-    Asked, CheckWords, ExportWords, ListWords, Paths, PostJamWords, PostMailWords, PostStoredWords,
-    PostWords, ReplyWords, ResendWords, TossWords, Words,
+    CheckWords, ExportWords, ListWords, ParsedLine, Paths, PostJamWords, PostMailWords,
+    PostStoredWords, PostWords, ReplyWords, ResendWords, TossWords, Words,
 };
 use clap::error::ErrorKind;
 use clap::{ArgMatches, Command, Error};
@@ -351,7 +351,7 @@ fn base_words<'a>(
 
 /// Parses the command line. Refused words are an error, and so is a request for help. `None` is a command that the program
 /// does not have.
-pub fn parse<'a>(alloc: Global, words: &'a [String]) -> Result<Option<Asked<'a>>, Error> {
+pub fn parse<'a>(alloc: Global, words: &'a [String]) -> Result<Option<ParsedLine<'a>>, Error> {
     let mut program = command(alloc)?;
     parse_by(alloc, &mut program, words)
 }
@@ -361,10 +361,10 @@ fn parse_by<'a>(
     alloc: Global,
     program: &mut Command<'a>,
     words: &'a [String],
-) -> Result<Option<Asked<'a>>, Error> {
+) -> Result<Option<ParsedLine<'a>>, Error> {
     let matches = program.try_get_matches_from_mut(words)?;
     match matched(alloc, program, &matches)? {
-        Some(words) => Ok(Some(Asked {
+        Some(words) => Ok(Some(ParsedLine {
             words,
             explain: matches.get_flag("explain"),
         })),

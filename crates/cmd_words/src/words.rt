@@ -182,7 +182,7 @@ pub struct ResendWords<'a> {
 
 /// A parsed command line. With `explain`, notes explain its faults.
 #[derive(Drop)]
-pub struct Asked<'a> {
+pub struct ParsedLine<'a> {
     pub words: Words<'a>,
     pub explain: bool,
 }

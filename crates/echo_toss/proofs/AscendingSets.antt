@@ -1,10 +1,10 @@
 -- A list in ascending order, with each item once, is the set of the list.
-use Rattle.std.proofs.Common.{◌≡◌, ◌⊎◌, ⊎_elim, inl, inr, ℕ, ◌<◌, ◌==◌, ◌&&◌, ◌||◌, nat_lt, Bool, true, List, [], ◌∷◌, ◌++◌, refl, subst, sym}
+use Rattle.std.proofs.Common.{◌≡◌, ◌⊎◌, ⊎_elim, inl, inr, ℕ, ◌<◌, ◌==◌, ◌&&◌, ◌||◌, nat_lt, Bool, true, List, [], ◌∷◌, ◌++◌, subst, sym, arith}
 use Rattle.std.specs.declared.cmp.Ordering.{Ordering}
 use Rattle.std.specs.declared.cmp.Ordering.TheVariants.{Less, Equal, Greater}
 use Rattle.std.specs.Ordering.{MatchOrdering, eq_by_cmp, nat_cmp, ordering_then}
 use Rattle.std.specs.Prelude.{◌↔◌, Contains}
-use Rattle.std.specs.Cmp.{IsTotalOrder, both_tied, nat_cmp_total, on_total, then_total, unsigned_ties}
+use Rattle.std.specs.Cmp.{IsTotalOrder, nat_cmp_total, on_total, then_total}
 use Rattle.std.specs.List.Sorted.{IsStrictlySortedBy}
 use Rattle.std.proofs.lemmas.Bool.{and_from, eq-eqb, lt-ltb, or_left, or_right}
 use Rattle.std.proofs.lemmas.Cmp.{ranked}
@@ -35,9 +35,7 @@ total =
     (then_total (on_total (λ (a : Address). a.net) nat_cmp_total) (on_total (λ (a : Address). a.node) nat_cmp_total))
 
 pub ties : (a b : Address) → same_address a b ≡ eq_by_cmp address_cmp a b
-ties a b =
-    both_tied (a.zone == b.zone) ((a.net == b.net) && (a.node == b.node)) (nat_cmp a.zone b.zone) (later_parts a b) (unsigned_ties a.zone b.zone)
-    (both_tied (a.net == b.net) (a.node == b.node) (nat_cmp a.net b.net) (nat_cmp a.node b.node) (unsigned_ties a.net b.net) (unsigned_ties a.node b.node))
+ties a b = grind arith
 
 less_then : (p q : Ordering) (m n : ℕ) (rest : Bool) → MatchOrdering p (m < n) (m ≡ n) (n < m) → (q ≡ Less → rest ≡ true)
     → ordering_then p q ≡ Less → (nat_lt m n || ((m == n) && rest)) ≡ true
@@ -46,19 +44,10 @@ less_then Equal q m n rest h more less = or_right (nat_lt m n) ((m == n) && rest
 less_then Greater q m n rest h more less = absurd cc
 
 less_last : (m n : ℕ) → nat_cmp m n ≡ Less → nat_lt m n ≡ true
-less_last m n less = lt-ltb m n (below (nat_cmp m n) m n (ranked m n (nat_cmp m n) refl) less)
-  where
-    below : (p : Ordering) (m n : ℕ) → MatchOrdering p (m < n) (m ≡ n) (n < m) → p ≡ Less → m < n
-    below Less m n h less = h
-    below Equal m n h less = absurd cc
-    below Greater m n h less = absurd cc
+less_last m n less = grind (arith, lt-ltb, ranked)
 
 pub less_before : (a b : Address) → address_cmp a b ≡ Less → address_before a b ≡ true
-less_before a b less =
-    less_then (nat_cmp a.zone b.zone) (later_parts a b) a.zone b.zone (nat_lt a.net b.net || ((a.net == b.net) && nat_lt a.node b.node))
-    (ranked a.zone b.zone (nat_cmp a.zone b.zone) refl)
-    (less_then (nat_cmp a.net b.net) (nat_cmp a.node b.node) a.net b.net (nat_lt a.node b.node) (ranked a.net b.net (nat_cmp a.net b.net) refl) (less_last a.node b.node))
-    less
+less_before a b less = grind (arith, less_then, nat_lt, ranked, less_last)
 
 ascending : (es : List Address) → IsStrictlySortedBy address_cmp es → Ascending address_before es
 unfolding IsStrictlySortedBy
@@ -76,17 +65,12 @@ addresses_in_order all set sorted members =
 -- a set is the set of its members
 pub set_again : (all : List Address) → address_set (address_set all) ≡ address_set all
 unfolding address_set
-set_again all =
-    same_set address_before address_order (address_set (address_set all)) (address_set all) (set_ascending address_before address_order (address_set all))
-    (set_ascending address_before address_order all) (λ z i. set_only address_before z (address_set all) i) (λ z i. set_keeps address_before address_order z (address_set all) i)
+set_again all = grind (arith, same_set, address_order, set_ascending, set_only, set_keeps)
 
 -- lists with the same members have the same set
 same_members : (one other : List Address) → ((x : Address) → IsIn x one → IsIn x other) → ((x : Address) → IsIn x other → IsIn x one) → address_set one ≡ address_set other
 unfolding address_set
-same_members one other there back =
-    same_set address_before address_order (address_set one) (address_set other) (set_ascending address_before address_order one) (set_ascending address_before address_order other)
-    (λ z i. set_keeps address_before address_order z other (there z (set_only address_before z one i)))
-    (λ z i. set_keeps address_before address_order z one (back z (set_only address_before z other i)))
+same_members one other there back = grind (arith, same_set, address_order, set_ascending, set_keeps, set_only)
 
 pub in_front : {X : Type 0} (x : X) (xs ys : List X) → IsIn x xs → IsIn x (xs ++ ys)
 in_front x [] ys h = absurd h

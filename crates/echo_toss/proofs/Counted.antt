@@ -22,54 +22,12 @@ counted_no p all o not = let more = counted_more p all o ∙ ap (λ b. count_by 
 
 -- one more outcome
 pub tally_of-push : (all : List Outcome) (o : Outcome) → tally_of (all ++ o ∷ []) ≡ tally_with (tally_of all) o
-tally_of-push all Filed = λ i. record {
-  filed = counted_yes (same_outcome Filed) all Filed refl i;
-  known = counted_no (same_outcome Known) all Filed refl i;
-  not_echo = counted_no (same_outcome NotEcho) all Filed refl i;
-  bad_tag = counted_no (same_outcome BadTag) all Filed refl i;
-  no_area = counted_no (same_outcome NoArea) all Filed refl i;
-  not_linked = counted_no (same_outcome NotLinked) all Filed refl i;
-}
-tally_of-push all Known = λ i. record {
-  filed = counted_no (same_outcome Filed) all Known refl i;
-  known = counted_yes (same_outcome Known) all Known refl i;
-  not_echo = counted_no (same_outcome NotEcho) all Known refl i;
-  bad_tag = counted_no (same_outcome BadTag) all Known refl i;
-  no_area = counted_no (same_outcome NoArea) all Known refl i;
-  not_linked = counted_no (same_outcome NotLinked) all Known refl i;
-}
-tally_of-push all NotEcho = λ i. record {
-  filed = counted_no (same_outcome Filed) all NotEcho refl i;
-  known = counted_no (same_outcome Known) all NotEcho refl i;
-  not_echo = counted_yes (same_outcome NotEcho) all NotEcho refl i;
-  bad_tag = counted_no (same_outcome BadTag) all NotEcho refl i;
-  no_area = counted_no (same_outcome NoArea) all NotEcho refl i;
-  not_linked = counted_no (same_outcome NotLinked) all NotEcho refl i;
-}
-tally_of-push all BadTag = λ i. record {
-  filed = counted_no (same_outcome Filed) all BadTag refl i;
-  known = counted_no (same_outcome Known) all BadTag refl i;
-  not_echo = counted_no (same_outcome NotEcho) all BadTag refl i;
-  bad_tag = counted_yes (same_outcome BadTag) all BadTag refl i;
-  no_area = counted_no (same_outcome NoArea) all BadTag refl i;
-  not_linked = counted_no (same_outcome NotLinked) all BadTag refl i;
-}
-tally_of-push all NoArea = λ i. record {
-  filed = counted_no (same_outcome Filed) all NoArea refl i;
-  known = counted_no (same_outcome Known) all NoArea refl i;
-  not_echo = counted_no (same_outcome NotEcho) all NoArea refl i;
-  bad_tag = counted_no (same_outcome BadTag) all NoArea refl i;
-  no_area = counted_yes (same_outcome NoArea) all NoArea refl i;
-  not_linked = counted_no (same_outcome NotLinked) all NoArea refl i;
-}
-tally_of-push all NotLinked = λ i. record {
-  filed = counted_no (same_outcome Filed) all NotLinked refl i;
-  known = counted_no (same_outcome Known) all NotLinked refl i;
-  not_echo = counted_no (same_outcome NotEcho) all NotLinked refl i;
-  bad_tag = counted_no (same_outcome BadTag) all NotLinked refl i;
-  no_area = counted_no (same_outcome NoArea) all NotLinked refl i;
-  not_linked = counted_yes (same_outcome NotLinked) all NotLinked refl i;
-}
+tally_of-push all Filed = grind (arith, counted_yes, counted_no)
+tally_of-push all Known = grind (arith, counted_no, counted_yes)
+tally_of-push all NotEcho = grind (arith, counted_no, counted_yes)
+tally_of-push all BadTag = grind (arith, counted_no, counted_yes)
+tally_of-push all NoArea = grind (arith, counted_no, counted_yes)
+tally_of-push all NotLinked = grind (arith, counted_no, counted_yes)
 
 counted_front : (p : Outcome → Bool) (o : Outcome) (all : List Outcome) → count_by p (o ∷ all) ≡ cond (p o) 1 0 + count_by p all
 counted_front p o all = let sum = sum_by-append (λ x. cond (p x) 1 0) (o ∷ []) all in omega arith
@@ -81,11 +39,7 @@ counted_first : (o : Outcome) (all : List Outcome) → all_counted (tally_of (o 
 counted_first o all =
     let filed = counted_front (same_outcome Filed) o all in
     let known = counted_front (same_outcome Known) o all in
-    let not_echo = counted_front (same_outcome NotEcho) o all in
-    let bad_tag = counted_front (same_outcome BadTag) o all in
-    let no_area = counted_front (same_outcome NoArea) o all in
-    let not_linked = counted_front (same_outcome NotLinked) o all in
-    omega arith
+    grind (arith, counted_front (same_outcome NotEcho) o all, counted_front (same_outcome BadTag) o all, counted_front (same_outcome NoArea) o all, counted_front (same_outcome NotLinked) o all)
 
 one_outcome : (o : Outcome) → cond (same_outcome Filed o) 1 0 + (cond (same_outcome Known o) 1 0 + (cond (same_outcome NotEcho o) 1 0 + (cond (same_outcome BadTag o) 1 0
     + (cond (same_outcome NoArea o) 1 0 + cond (same_outcome NotLinked o) 1 0)))) ≡ 1

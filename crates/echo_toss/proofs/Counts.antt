@@ -8,7 +8,6 @@ use Rattle.std.proofs.lemmas.List.Elements.{filter-append}
 use Rattle.std.specs.Cmp.Lexicographic.{bytes_decides}
 use Rattle.echo_addr.specs.declared.address.Address.{Address}
 use Rattle.echo_packet.specs.Message.{Message, message_bytes, messages_bytes, numbers, readdressed}
-use Rattle.echo_packet.specs.Packet.{packet_bytes}
 use Rattle.echo_links.specs.Links.{Area, LinkFile, area_of, links_of}
 use Rattle.echo_filed.specs.Filed.{Filed}
 use Rattle.echo_filed.specs.Sets.{address_before, address_set}
@@ -20,7 +19,7 @@ use Rattle.model_steps.specs.Scanning.{header_to, scanned, targets}
 use Rattle.model_steps.proofs.Encoding.{header_size, packet_size}
 use Rattle.echo_toss.specs.declared.counting.CountedPacket.{CountedPacket}
 use Rattle.echo_toss.specs.Counts.{copies_out, counted_to, counted_with, counted_of, has_messages, link_set}
-use Rattle.echo_toss.specs.Exports.{Outgoing, copy_out, goes_out, outgoing_of, packet_out, packets_out, sent_of}
+use Rattle.echo_toss.specs.Exports.{Outgoing, copy_out, goes_out, outgoing_of, packet_out, sent_of}
 use Rattle.echo_toss.proofs.AscendingSets.{in_back, in_either, in_front}
 use Rattle.echo_toss.proofs.Exports.{kept_targets, scan_made}
 use Rattle.echo_toss.proofs.Searches.{found_in, in_found}
@@ -36,32 +35,10 @@ copies_append a one other = ap (map (copy_out a)) (filter-append (goes_out a) on
 
 -- more, and then more
 pub more_twice : (p : CountedPacket) (one other : List Outgoing) → counted_with other (counted_with one p) ≡ counted_with (one ++ other) p
-more_twice p one other =
-    let copies = copies_append p.to one other in
-    let count : p.messages + length (copies_out p.to one) + length (copies_out p.to other) ≡ p.messages + length (copies_out p.to (one ++ other)) =
-    omega (arith, ap length copies, length-append (copies_out p.to one) (copies_out p.to other)) in
-    let size : p.bytes + length (messages_bytes (copies_out p.to one)) + length (messages_bytes (copies_out p.to other)) ≡ p.bytes + length (messages_bytes (copies_out p.to (one ++ other))) =
-    omega (
-      arith,
-      ap (λ l. length (messages_bytes l)) copies,
-      ap length (messages_append (copies_out p.to one) (copies_out p.to other)),
-      length-append (messages_bytes (copies_out p.to one)) (messages_bytes (copies_out p.to other)),
-    ) in
-    λ i. record { to = p.to; messages = count i; bytes = size i }
+more_twice p one other = grind (arith, copies_append, length-append, messages_append)
 
 pub more_in : (sent more : List Outgoing) (a : Address) → counted_with more (counted_to sent a) ≡ counted_to (sent ++ more) a
-more_in sent more a =
-    let copies = copies_append a sent more in
-    let count : length (copies_out a sent) + length (copies_out a more) ≡ length (copies_out a (sent ++ more)) =
-    omega (arith, ap length copies, length-append (copies_out a sent) (copies_out a more)) in
-    let size : 60 + length (messages_bytes (copies_out a sent)) + length (messages_bytes (copies_out a more)) ≡ 60 + length (messages_bytes (copies_out a (sent ++ more))) =
-    omega (
-      arith,
-      ap (λ l. length (messages_bytes l)) copies,
-      ap length (messages_append (copies_out a sent) (copies_out a more)),
-      length-append (messages_bytes (copies_out a sent)) (messages_bytes (copies_out a more)),
-    ) in
-    λ i. record { to = a; messages = count i; bytes = size i }
+more_in sent more a = grind (arith, copies_append, length-append, messages_append)
 
 pub group_counted : (sent more : List Outgoing) (all : List Address) → map (counted_with more) (map (counted_to sent) all) ≡ map (counted_to (sent ++ more)) all
 group_counted sent more [] = refl
@@ -69,9 +46,7 @@ group_counted sent more (a ∷ all) = let one = more_in sent more a in let rest 
 
 -- a packet with messages has some after more of them
 pub has_later : (sent more : List Outgoing) (a : Address) → has_messages (counted_to sent a) ≡ true → has_messages (counted_to (sent ++ more) a) ≡ true
-has_later sent more a has =
-    let both = ap length (copies_append a sent more) ∙ length-append (copies_out a sent) (copies_out a more) in
-    lt-ltb 0 (length (copies_out a (sent ++ more))) (let some = ltb-true 0 (length (copies_out a sent)) has in omega (arith, some, both))
+has_later sent more a has = grind (arith, copies_append, length-append, lt-ltb, ltb-true)
 
 -- ---- areas by their number
 
@@ -165,19 +140,7 @@ sum_is r P v x given is = (subst (λ (o : Option ℕ). SomeIff o P v) is given).
 -- one message more
 pub one_counted : (p : CountedPacket) (o : Outgoing) (count size n : ℕ) → goes_out p.to o ≡ true → count ≡ p.messages + 1 → n ≡ length (message_bytes o.message) → size ≡ p.bytes + n
     → record { to = p.to; messages = count; bytes = size } ≡ counted_with (o ∷ []) p
-one_counted p o count size n goes counted long sum =
-    let copies = one_copy p.to o [] goes in
-    let more : count ≡ p.messages + length (copies_out p.to (o ∷ [])) = omega (arith, counted, ap length copies) in
-    let larger : size ≡ p.bytes + length (messages_bytes (copies_out p.to (o ∷ []))) =
-    omega (
-      arith,
-      sum,
-      long,
-      ap (λ l. length (messages_bytes l)) copies,
-      ap length (append-nil (message_bytes (copy_out p.to o))),
-      same_size o.message p.to.node p.to.net,
-    ) in
-    λ i. record { to = p.to; messages = more i; bytes = larger i }
+one_counted p o count size n goes counted long sum = grind (arith, one_copy, append-nil, same_size)
 
 abbrev all_targets : List Outgoing → List Address
 all_targets sent = flat_map (λ o. o.targets) sent
@@ -185,8 +148,7 @@ all_targets sent = flat_map (λ o. o.targets) sent
 gets_some : (a : Address) (sent : List Outgoing) → IsIn a (all_targets sent) → gets sent a ≡ true
 gets_some a [] h = absurd h
 gets_some a (o ∷ sent) h = elim (cases_Bool (goes_out a o)) [
-  | inl goes ↦
-      lt-ltb 0 (length (copies_out a (o ∷ sent))) (let P : List Message → Type 0 = λ l. 0 < length l in subst P (sym (one_copy a o sent goes)) (omega arith))
+  | inl goes ↦ grind (arith, lt-ltb, one_copy)
   | inr stays ↦
       ap (λ (l : List Message). nat_lt 0 (length l)) (no_copy a o sent stays)
       ∙ gets_some a sent (⊎_elim (λ here. absurd (true≢false (sym (in_found a o.targets here) ∙ stays))) (λ later. later) (in_either a o.targets (all_targets sent) h))
@@ -238,11 +200,7 @@ targets_linked file (m ∷ ms) x h =
 
 out_counted : (file : LinkFile) (stamp : Stamp) (sent : List Outgoing) (a : Address) → counted_of (packet_out file stamp sent a) ≡ counted_to sent a
 unfolding header_to
-out_counted file stamp sent a =
-    let ms = copies_out a sent in
-    let size : length (packet_bytes (header_to file stamp a) ms) ≡ 60 + length (messages_bytes ms) =
-    omega (arith, packet_size (header_to file stamp a) ms, header_size (header_to file stamp a) refl refl) in
-    λ i. record { to = a; messages = length ms; bytes = size i }
+out_counted file stamp sent a = grind (arith, packet_size, header_size)
 
 outs_counted : (file : LinkFile) (stamp : Stamp) (sent : List Outgoing) (all : List Address) → map counted_of (map (packet_out file stamp sent) all) ≡ map (counted_to sent) all
 outs_counted file stamp sent [] = refl
@@ -251,12 +209,7 @@ outs_counted file stamp sent (a ∷ all) = let one = out_counted file stamp sent
 -- the packets of a scan are those of the links that get some
 pub scanned_to : (file : LinkFile) (messages : List Filed) (cursor : ℕ) (sent : List Outgoing) → sent ≡ sent_of file (drop cursor messages) → (stamp : Stamp)
     → map (packet_out file stamp sent) (filter (λ a. has_messages (counted_to sent a)) (link_set file)) ≡ scanned file messages cursor stamp
-scanned_to file messages cursor sent is stamp =
-    let outs = map (outgoing_of file) (drop cursor messages) in
-    let inside : (x : Address) → IsIn x (all_targets sent) → IsIn x (link_set file) =
-    λ x h. targets_linked file (drop cursor messages) x (subst (IsIn x) (ap all_targets is ∙ kept_targets outs) h) in
-    ap (map (packet_out file stamp sent)) (those_that_get sent (flat_map (λ area. links_of file area.tag) file.areas) inside)
-    ∙ scan_made file stamp messages cursor (packets_out file stamp sent) sent is refl
+scanned_to file messages cursor sent is stamp = grind (arith, IsIn, targets_linked, kept_targets, those_that_get, scan_made)
 
 -- those of all links that have messages are the packets of a scan
 pub all_counted : (file : LinkFile) (messages : List Filed) (cursor : ℕ) (sent : List Outgoing) (packets : List CountedPacket) → sent ≡ sent_of file (drop cursor messages)

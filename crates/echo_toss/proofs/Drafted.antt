@@ -1,5 +1,5 @@
 -- The message of a draft, part by part.
-use Rattle.std.proofs.Common.{◌≡◌, ℕ, List, [], ◌∷◌, ◌++◌, codes, sym, ap, ◌∙◌, append-nil, append_assoc, None}
+use Rattle.std.proofs.Common.{◌≡◌, ℕ, List, [], ◌∷◌, ◌++◌, codes, ap, ◌∙◌, append-nil, append_assoc, None, arith}
 use Rattle.std.specs.List.{All, flat_map}
 use Rattle.std.proofs.lemmas.Grind.{flat_map-append}
 use Rattle.std.proofs.lemmas.List.Elements.{All-weaker, recursion_from_All}
@@ -34,15 +34,7 @@ regrouped a r b t o =
 text_is : (id tear origin : List ℕ) (reply body : List (List ℕ)) (none first second third fourth all : List ℕ) → none ≡ [] → first ≡ none ++ ended id
     → second ≡ first ++ flat_map ended reply → third ≡ second ++ flat_map ended body → fourth ≡ third ++ ended tear → all ≡ fourth ++ ended origin
     → all ≡ flat_map ended (id ∷ (reply ++ (body ++ tear ∷ (origin ∷ []))))
-text_is id tear origin reply body none first second third fourth all e0 e1 e2 e3 e4 e5 =
-    let r = flat_map ended reply in
-    let b = flat_map ended body in
-    e5
-    ∙ ap (λ s. s ++ ended origin) (e4 ∙ ap (λ s. s ++ ended tear) (e3 ∙ ap (λ s. s ++ b) (e2 ∙ ap (λ s. s ++ r) (e1 ∙ ap (λ s. s ++ ended id) e0))))
-    ∙ regrouped (ended id) r b (ended tear) (ended origin)
-    ∙ sym
-    (ap (λ s. ended id ++ s) (flat_map-append ended reply (body ++ tear ∷ (origin ∷ []))
-    ∙ ap (λ s. r ++ s) (flat_map-append ended body (tear ∷ (origin ∷ [])) ∙ ap (λ s. b ++ (ended tear ++ s)) (append-nil (ended origin)))))
+text_is id tear origin reply body none first second third fourth all e0 e1 e2 e3 e4 e5 = grind (arith, regrouped, flat_map-append, append-nil)
 
 -- the text of the lines of a draft
 pub posted_text : (file : LinkFile) (draft : Draft) (serial : ℕ) (id reply body none first second third fourth all : List ℕ) → id ≡ id_of file.system serial

@@ -1,7 +1,7 @@
 -- The outgoing messages, one by one, are those of the scan.
-use Rattle.std.proofs.Common.{◌≡◌, ℕ, ◌+◌, Bool, false, true≢false, List, [], ◌∷◌, ◌++◌, map, drop, refl, sym, ap, ◌∙◌, Some, append_assoc, inl, inr, Result, Ok, Err, IfOk, Vec}
+use Rattle.std.proofs.Common.{◌≡◌, ℕ, ◌+◌, Bool, false, true≢false, List, [], ◌∷◌, ◌++◌, map, drop, refl, sym, ap, ◌∙◌, Some, append_assoc, inl, inr, Result, Ok, Err, IfOk, Vec, arith}
 use Rattle.std.specs.Prelude.{filter, slice_get}
-use Rattle.std.specs.List.{flat_map, list_any}
+use Rattle.std.specs.List.{flat_map}
 use Rattle.std.proofs.lemmas.Bool.{cases_Bool, cond-false, cond-true}
 use Rattle.std.proofs.lemmas.List.{drop_more}
 use Rattle.std.proofs.lemmas.Option.{get_or_from_slice_get, slice_get_within}
@@ -16,7 +16,7 @@ use Rattle.echo_text.proofs.OneReading.{one_text}
 use Rattle.echo_text.proofs.NoZeros.{written_has_no_zero}
 use Rattle.echo_packet.specs.Message.{HasNoZero}
 use Rattle.model_steps.proofs.Copies.{exported_is_echo}
-use Rattle.echo_links.specs.Links.{IsFile, LinkFile, links_of, same_address}
+use Rattle.echo_links.specs.Links.{IsFile, LinkFile, links_of}
 use Rattle.echo_filed.specs.Filed.{Filed}
 use Rattle.echo_filed.specs.Sets.{address_set, entry_set}
 use Rattle.model_steps.specs.declared.stamp.Stamp.{Stamp}
@@ -46,41 +46,20 @@ next_waits p f xs i x old new all is so_far grown =
 
 same_targets : (file : LinkFile) (ms : List Filed) → address_set (flat_map (λ o. o.targets) (map (outgoing_of file) ms)) ≡ address_set (flat_map (targets file) ms)
 same_targets file [] = refl
-same_targets file (m ∷ ms) =
-    let rest = flat_map (λ o. o.targets) (map (outgoing_of file) ms) in
-    set_twice (targets file m) rest ∙ sets_together (targets file m) rest (flat_map (targets file) ms) (same_targets file ms)
+same_targets file (m ∷ ms) = grind (arith, set_twice, sets_together, same_targets file ms)
 
 pub same_copies : (file : LinkFile) (a : Address) (ms : List Filed) → map (copy_out a) (filter (goes_out a) (map (outgoing_of file) ms)) ≡ map (copy_to file a) (filter (goes_to file a) ms)
 unfolding copy_to
 same_copies file a [] = refl
-same_copies file a (m ∷ ms) =
-    let outs = map (outgoing_of file) ms in
-    let same = among_set a (targets file m) in
-    elim (cases_Bool (goes_to file a m)) [
-      | inl goes ↦
-          ap (map (copy_out a)) (cond-true (goes_out a (outgoing_of file m)) (outgoing_of file m ∷ filter (goes_out a) outs) (filter (goes_out a) outs) (same ∙ goes))
-          ∙ ap (λ l. copy_to file a m ∷ l) (same_copies file a ms)
-          ∙ ap (map (copy_to file a)) (sym (cond-true (goes_to file a m) (m ∷ filter (goes_to file a) ms) (filter (goes_to file a) ms) goes))
-      | inr stays ↦
-          ap (map (copy_out a)) (cond-false (goes_out a (outgoing_of file m)) (outgoing_of file m ∷ filter (goes_out a) outs) (filter (goes_out a) outs) (same ∙ stays))
-          ∙ same_copies file a ms
-          ∙ ap (map (copy_to file a)) (sym (cond-false (goes_to file a m) (m ∷ filter (goes_to file a) ms) (filter (goes_to file a) ms) stays))
-    ]
+same_copies file a (m ∷ ms) = grind (arith, among_set, cases_Bool, cond-true, cond-false, same_copies file a ms)
 
 same_packet : (file : LinkFile) (stamp : Stamp) (ms : List Filed) (a : Address) → packet_out file stamp (map (outgoing_of file) ms) a ≡ packet_to file stamp ms a
 unfolding packet_to
 same_packet file stamp ms a = let e = same_copies file a ms in λ i. record { header = header_to file stamp a; messages = e i }
 
-each_same : {X Y : Type 0} (f g : X → Y) → ((x : X) → f x ≡ g x) → (xs : List X) → map f xs ≡ map g xs
-each_same f g same [] = refl
-each_same f g same (x ∷ xs) = let e = same x in let es = each_same f g same xs in λ i. e i ∷ es i
-
 pub packets_are : (file : LinkFile) (stamp : Stamp) (base : List Filed) (cursor : ℕ) → packets_out file stamp (map (outgoing_of file) (drop cursor base)) ≡ scanned file base cursor stamp
 unfolding scanned packets_of recipients
-packets_are file stamp base cursor =
-    let ms = drop cursor base in
-    ap (map (packet_out file stamp (map (outgoing_of file) ms))) (same_targets file ms)
-    ∙ each_same (packet_out file stamp (map (outgoing_of file) ms)) (packet_to file stamp ms) (same_packet file stamp ms) (address_set (flat_map (targets file) ms))
+packets_are file stamp base cursor = grind (arith, same_targets, same_packet)
 
 -- messages without receivers are in no packet
 no_targets : (l : List Address) → has_some l ≡ false → l ≡ []
@@ -89,46 +68,21 @@ no_targets (a ∷ more) lacks = absurd (true≢false lacks)
 
 pub kept_targets : (all : List Outgoing) → flat_map (λ o. o.targets) (filter is_sent all) ≡ flat_map (λ o. o.targets) all
 kept_targets [] = refl
-kept_targets (o ∷ all) = elim (cases_Bool (is_sent o)) [
-  | inl sent ↦ ap (flat_map (λ o. o.targets)) (cond-true (is_sent o) (o ∷ filter is_sent all) (filter is_sent all) sent) ∙ ap (λ l. o.targets ++ l) (kept_targets all)
-  | inr lacks ↦
-      ap (flat_map (λ o. o.targets)) (cond-false (is_sent o) (o ∷ filter is_sent all) (filter is_sent all) lacks)
-      ∙ kept_targets all ∙ ap (λ l. l ++ flat_map (λ o. o.targets) all) (sym (no_targets o.targets lacks))
-]
+kept_targets (o ∷ all) = grind (arith, cases_Bool, cond-true, cond-false, no_targets, kept_targets all)
 
 one_more_copy : (a : Address) (o : Outgoing) (all fewer : List Outgoing) → map (copy_out a) (filter (goes_out a) fewer) ≡ map (copy_out a) (filter (goes_out a) all)
     → map (copy_out a) (filter (goes_out a) (o ∷ fewer)) ≡ map (copy_out a) (filter (goes_out a) (o ∷ all))
-one_more_copy a o all fewer same = elim (cases_Bool (goes_out a o)) [
-  | inl goes ↦
-      ap (map (copy_out a)) (cond-true (goes_out a o) (o ∷ filter (goes_out a) fewer) (filter (goes_out a) fewer) goes)
-      ∙ ap (λ l. copy_out a o ∷ l) same
-      ∙ ap (map (copy_out a)) (sym (cond-true (goes_out a o) (o ∷ filter (goes_out a) all) (filter (goes_out a) all) goes))
-  | inr stays ↦
-      ap (map (copy_out a)) (cond-false (goes_out a o) (o ∷ filter (goes_out a) fewer) (filter (goes_out a) fewer) stays)
-      ∙ same
-      ∙ ap (map (copy_out a)) (sym (cond-false (goes_out a o) (o ∷ filter (goes_out a) all) (filter (goes_out a) all) stays))
-]
+one_more_copy a o all fewer same = grind (arith, cases_Bool, cond-true, cond-false)
 
 kept_copies : (a : Address) (all : List Outgoing) → map (copy_out a) (filter (goes_out a) (filter is_sent all)) ≡ map (copy_out a) (filter (goes_out a) all)
 kept_copies a [] = refl
-kept_copies a (o ∷ all) = elim (cases_Bool (is_sent o)) [
-  | inl sent ↦
-      ap (λ l. map (copy_out a) (filter (goes_out a) l)) (cond-true (is_sent o) (o ∷ filter is_sent all) (filter is_sent all) sent)
-      ∙ one_more_copy a o all (filter is_sent all) (kept_copies a all)
-  | inr lacks ↦
-      let stays = ap (list_any (same_address a)) (no_targets o.targets lacks) in
-      ap (λ l. map (copy_out a) (filter (goes_out a) l)) (cond-false (is_sent o) (o ∷ filter is_sent all) (filter is_sent all) lacks)
-      ∙ kept_copies a all
-      ∙ ap (map (copy_out a)) (sym (cond-false (goes_out a o) (o ∷ filter (goes_out a) all) (filter (goes_out a) all) stays))
-]
+kept_copies a (o ∷ all) = grind (arith, cases_Bool, cond-true, one_more_copy, no_targets, cond-false, kept_copies a all)
 
 kept_packet : (file : LinkFile) (stamp : Stamp) (all : List Outgoing) (a : Address) → packet_out file stamp (filter is_sent all) a ≡ packet_out file stamp all a
 kept_packet file stamp all a = let e = kept_copies a all in λ i. record { header = header_to file stamp a; messages = e i }
 
 kept_packets : (file : LinkFile) (stamp : Stamp) (all : List Outgoing) → packets_out file stamp (filter is_sent all) ≡ packets_out file stamp all
-kept_packets file stamp all =
-    ap (λ l. map (packet_out file stamp (filter is_sent all)) (address_set l)) (kept_targets all)
-    ∙ each_same (packet_out file stamp (filter is_sent all)) (packet_out file stamp all) (kept_packet file stamp all) (address_set (flat_map (λ o. o.targets) all))
+kept_packets file stamp all = grind (arith, kept_targets, kept_packet)
 
 pub scan_made : (file : LinkFile) (stamp : Stamp) (base : List Filed) (cursor : ℕ) (packets : List Packet) (all : List Outgoing)
     → all ≡ sent_of file (drop cursor base) → packets ≡ packets_out file stamp all → packets ≡ scanned file base cursor stamp
@@ -147,10 +101,7 @@ pub exported_made : (file : LinkFile) (e : EchoText) (own : NetNode) (links : Li
     → own ≡ net_node_of file.system → links ≡ links_of file tag → tag ≡ e.tag → kept ≡ e.kept → before ≡ e.seen
     → seen ≡ entry_set (before ++ own ∷ map net_node_of links) → passed ≡ e.path → path ≡ passed ++ own ∷ []
     → record { tag = tag; kept = kept; seen = seen; path = path } ≡ exported file e
-exported_made file e own links tag kept before seen passed path o l t k b s q p =
-    exported_is file e tag kept seen path t k
-    (s ∙ (λ i. entry_set (b i ++ o i ∷ map net_node_of (l i))) ∙ ap (λ x. entry_set (e.seen ++ net_node_of file.system ∷ map net_node_of (links_of file x))) t)
-    (p ∙ (λ i. q i ++ o i ∷ []))
+exported_made file e own links tag kept before seen passed path o l t k b s q p = grind (arith, exported_is)
 
 -- a text that was written
 pub written_is : (e : EchoText) (bytes : List ℕ) → IsEcho e → TextOf e bytes → bytes ≡ text_of e

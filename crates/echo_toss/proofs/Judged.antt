@@ -1,12 +1,11 @@
 -- Why a posting is refused: the link file and the draft first, then the base.
-use Rattle.std.proofs.Common.{◌≡◌, ℕ, ◌==◌, ◌||◌, Bool, true, false, not, List, length, refl, sym, ap, subst, ◌∙◌, Option, Some, None, if◌then◌else◌, inl, inr}
+use Rattle.std.proofs.Common.{◌≡◌, ℕ, ◌==◌, ◌||◌, Bool, true, false, not, List, length, refl, Option, Some, None, if◌then◌else◌, arith}
 use Rattle.std.specs.List.{list_any}
 use Rattle.echo_text.specs.Ids.{id_of, is_id}
 use Rattle.std.proofs.lemmas.Bool.{cases_Bool}
 use Rattle.echo_links.specs.Links.{IsFile, LinkFile, has_area, upper}
 use Rattle.echo_filed.specs.declared.key.Key.{Key}
 use Rattle.echo_filed.specs.Filed.{Filed, key_of}
-use Rattle.base_file.specs.Base.{is_known}
 use Rattle.model_steps.specs.declared.draft.Draft.{Draft}
 use Rattle.model_steps.specs.declared.stamp.Stamp.{Stamp}
 use Rattle.model_steps.specs.declared.fault.PostFault.{PostFault}
@@ -73,15 +72,11 @@ pub draft_passes : (file : LinkFile) (base : List Filed) (tag : List ℕ) (draft
     → draft_refusal file tag draft stamp ≡ None → list_any (has_id (id_of file.system serial)) base ≡ known
     → post_refusal file base tag draft serial stamp ≡ (if known then Some fault.KnownSerial else None)
 unfolding post_refusal
-draft_passes file base tag draft serial stamp known h is =
-    five_past (has_area file (upper tag)) (holds_zero draft) (is_too_long draft) (is_stamp stamp) ((length draft.reply == 0) || is_id draft.reply) (known_serial file base serial) h
-    ∙ ap (λ (b : Bool). if b then Some fault.KnownSerial else None) is
+draft_passes file base tag draft serial stamp known h is = grind (arith, five_past)
 
 pub draft_allowed : (file : LinkFile) (base : List Filed) (tag : List ℕ) (draft : Draft) (serial : ℕ) (stamp : Stamp)
     → draft_refusal file tag draft stamp ≡ None → list_any (has_id (id_of file.system serial)) base ≡ false → IsAllowed file base tag draft serial stamp
-draft_allowed file base tag draft serial stamp h new =
-    let all = five_none (has_area file (upper tag)) (holds_zero draft) (is_too_long draft) (is_stamp stamp) ((length draft.reply == 0) || is_id draft.reply) h in
-    record { area = all.area_there; zero = all.no_zero; short = all.short; moment = all.in_range; reply = all.good_reply; new = new }
+draft_allowed file base tag draft serial stamp h new = grind (arith, five_none)
 
 -- a refusal may be answered
 pub is_fault : (file : LinkFile) (base : List Filed) (tag : List ℕ) (draft : Draft) (serial : ℕ) (stamp : Stamp) (f : PostFault)
@@ -97,20 +92,10 @@ is_fault file base tag draft serial stamp fault.Memory h = absurd ((refusal_firs
 -- out of memory may be answered once the draft is in order
 pub memory_fault : (file : LinkFile) (base : List Filed) (tag : List ℕ) (draft : Draft) (serial : ℕ) (stamp : Stamp)
     → draft_refusal file tag draft stamp ≡ None → IsPostFault file base tag draft serial stamp fault.Memory
-memory_fault file base tag draft serial stamp h = elim (cases_Bool (list_any (has_id (id_of file.system serial)) base)) [
-  | inl known ↦ inr (draft_passes file base tag draft serial stamp true h known)
-  | inr new ↦ inl (draft_passes file base tag draft serial stamp false h new)
-]
+memory_fault file base tag draft serial stamp h = grind (arith, cases_Bool, draft_passes)
 
 -- a message that is made for a draft
 pub prepared : (file : LinkFile) (base : List Filed) (tag : List ℕ) (draft : Draft) (serial : ℕ) (stamp : Stamp) (key : Key) (m : Filed) → IsFile file
     → draft_refusal file tag draft stamp ≡ None → list_any (has_id (id_of file.system serial)) base ≡ false → key ≡ key_of m → m ≡ posted file tag draft serial stamp
     → IsPrepared file base tag draft serial stamp key m
-prepared file base tag draft serial stamp key m is h new own made =
-    let P : Key → Type 0 = λ k. is_known base k ≡ false in
-    record {
-      allowed = draft_passes file base tag draft serial stamp false h new;
-      message = made;
-      own_key = own;
-      new = subst P (sym (own ∙ ap key_of made)) (posted_new file base tag draft serial stamp is (draft_allowed file base tag draft serial stamp h new));
-    }
+prepared file base tag draft serial stamp key m is h new own made = grind (arith, draft_passes, posted_new, draft_allowed)

@@ -14,9 +14,9 @@ use Rattle.echo_packet.specs.Reader.{FailsInFront, FrontFault}
 use Rattle.echo_links.specs.Links.{LinkFile}
 use Rattle.model_steps.specs.declared.outcome.Outcome.{Outcome}
 use Rattle.model_steps.specs.SystemState.{SystemState, state_with}
-use Rattle.model_steps.specs.Tossing.{outcomes, toss_outcome, tossed, tossing}
+use Rattle.model_steps.specs.Tossing.{outcomes, toss_outcome, tossing}
 use Rattle.echo_toss.specs.declared.tally.Tally.{Tally}
-use Rattle.echo_toss.specs.Tallies.{all_counted, tally_of, tally_with}
+use Rattle.echo_toss.specs.Tallies.{all_counted, tally_with}
 use Rattle.echo_toss.specs.PacketSteps.{HasTossed, cause_of}
 use Rattle.echo_toss.proofs.Counted.{all_counted-tally_of, length-outcomes, outcomes-push, tally_of-push, tossed-push}
 use Rattle.echo_toss.specs.Messages.{HasTaken, IsUnopened, StopsNext, TakesSome}
@@ -52,16 +52,7 @@ all_given limits sender old new before left ms given at tally h =
 pub one_more_tossed : (sender : Address) (old mid new : SystemState) (ms : List Message) (m : Message) (tally more : Tally) (answer : Outcome)
     → HasTossed sender ms old tally mid → (answer ≡ toss_outcome mid.file mid.base sender m) × (new ≡ state_with mid (tossing mid.file mid.base sender m))
     → more ≡ tally_with tally answer → HasTossed sender (ms ++ m ∷ []) old more new
-one_more_tossed sender old mid new ms m tally more answer h step counts =
-    let after : SystemState = record { file = old.file; base = tossed old.file old.base sender ms; cursor = old.cursor } in
-    let P : SystemState → Type 0 = λ s. (answer ≡ toss_outcome s.file s.base sender m) × (new ≡ state_with s (tossing s.file s.base sender m)) in
-    let did : P after = subst P h.state step in
-    record {
-      state = did.1 ∙ ap (λ base. record { file = old.file; base = base; cursor = old.cursor }) (sym (tossed-push old.file old.base sender ms m));
-      counts = counts ∙ ap (λ t. tally_with t answer) h.counts ∙ sym (tally_of-push (outcomes old.file old.base sender ms) answer)
-          ∙ ap (λ o. tally_of (outcomes old.file old.base sender ms ++ o ∷ [])) did.0
-          ∙ ap tally_of (sym (outcomes-push old.file old.base sender ms m));
-    }
+one_more_tossed sender old mid new ms m tally more answer h step counts = grind (arith, tossed-push, tally_of-push, outcomes-push)
 
 -- one more message was taken and tossed
 pub one_more_taken : (limits : Limits) (sender : Address) (old mid new : SystemState) (before left after : Option (List ℕ)) (ms : List Message) (m : Message) (given at next : ℕ) (tally more : Tally) (answer : Outcome)
@@ -99,11 +90,4 @@ next_stopped limits given at left after (fault.BadField n) wrong lost = (wrong, 
 pub some_taken : (limits : Limits) (sender : Address) (old new : SystemState) (before left after : Option (List ℕ)) (ms : List Message) (given at : ℕ) (tally : Tally) (f : PacketFault)
     → HasTaken limits sender old before left ms given at tally new → IfSome left (λ bs. NextFault limits given at bs f)
     → FailsInMessage limits given at [] left after f → TakesSome limits sender old before after tally (cause_of f) new
-some_taken limits sender old new before left after ms given at tally f h wrong lost = record {
-  messages = ms;
-  left = left;
-  given = given;
-  at = at;
-  taken = h;
-  stops = next_stopped limits given at left after f wrong lost;
-}
+some_taken limits sender old new before left after ms given at tally f h wrong lost = grind (arith, next_stopped)

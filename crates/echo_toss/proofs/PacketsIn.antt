@@ -1,5 +1,5 @@
 -- A packet is tossed into a store, message by message.
-use Rattle.std.proofs.Common.{◌≡◌, ◌≤◌, ℕ, ◌+◌, List, [], ◌++◌, inl, refl, sym, ap, ◌∙◌, subst, arith, Option, IfSome, Result, Ok, Err}
+use Rattle.std.proofs.Common.{◌≡◌, ◌≤◌, ℕ, ◌+◌, List, [], inl, refl, sym, ap, ◌∙◌, subst, arith, Option, IfSome, Result, Ok, Err}
 use Rattle.std.proofs.KnownBytes.{Consumes-nil, Consumes-trans}
 use Rattle.disk_io.specs.Disk.{Honestly}
 use Rattle.echo_addr.specs.declared.address.Address.{Address}
@@ -8,8 +8,7 @@ use Rattle.echo_packet.specs.declared.fault.PacketFault.{PacketFault}
 use Rattle.echo_packet.specs.declared.fault.PacketFault.TheVariants as fault
 use Rattle.echo_packet.specs.Next.{FailsInMessage, NextFault}
 use Rattle.std.specs.Io.KnownBytes.{Consumes}
-use Rattle.echo_packet.specs.Header.{header_bytes, word}
-use Rattle.echo_packet.specs.Message.{messages_bytes}
+use Rattle.echo_packet.specs.Header.{word}
 use Rattle.base_file.specs.Base.{Base}
 use Rattle.echo_links.specs.Links.{LinkFile}
 use Rattle.base_store.specs.Store.{CommitsNothing, GoesOn, StoreState}
@@ -21,12 +20,10 @@ use Rattle.echo_toss.specs.declared.tally.Tally.{Tally}
 use Rattle.echo_toss.specs.declared.fault.TossCause.{TossCause}
 use Rattle.echo_toss.specs.declared.fault.TossCause.TheVariants as stop
 use Rattle.echo_toss.specs.Tallies.{all_counted, tally_of, tally_with}
-use Rattle.echo_toss.specs.PacketSteps.{cause_of, HasTossed, PacketStep, TossesAll, TossesPart}
+use Rattle.echo_toss.specs.PacketSteps.{cause_of, PacketStep, TossesAll, TossesPart}
 use Rattle.echo_toss.specs.Messages.{IsOpened, IsUnopened, TossesToEnd}
-use Rattle.echo_toss.specs.declared.step_error.TossStepError.{TossStepError}
-use Rattle.echo_toss.specs.declared.step_error.TossStepError.TheVariants as toss
 use Rattle.echo_toss.specs.declared.step_error.StoppedToss.{StoppedToss}
-use Rattle.echo_toss.specs.PacketsIn.{HoldsUnlessFailed, ReadsMessages, TossesPacketIn, packet_answer, state_in, stop_in}
+use Rattle.echo_toss.specs.PacketsIn.{ReadsMessages, TossesPacketIn, packet_answer, state_in}
 use Rattle.echo_toss.proofs.PacketTosses.{HasGone, all_given, some_taken}
 
 -- the store took the tossed messages and goes on, and no read failed
@@ -43,17 +40,7 @@ pub record HasGoneIn (limits : Limits) (sender : Address) (file : LinkFile) (old
 
 -- before the first message
 none_gone : (limits : Limits) (sender : Address) (s : SystemState) (before : Option (List ℕ)) (failed : ℕ) → HasGone limits sender s before before 0 58 (tally_of []) s failed failed
-none_gone limits sender s before failed = record {
-  messages = [];
-  taken = record {
-    are_messages = record { each = tt; room = omega arith };
-    bytes = Consumes-nil before;
-    count = refl;
-    place = refl;
-    done = record { state = refl; counts = refl };
-  };
-  device = refl;
-}
+none_gone limits sender s before failed = grind (arith, Consumes-nil)
 
 -- before the first message
 pub begun : (limits : Limits) (sender : Address) (file : LinkFile) (old : StoreState) (first : ℕ) (before : Option (List ℕ)) (tally : Tally) (failed : ℕ) → old.is_ready → tally ≡ tally_of []
@@ -124,31 +111,12 @@ all_counted-tally_with t NotLinked = omega arith
 -- a packet that was opened was tossed to its end
 pub tossed_all : (limits : Limits) (sender : Address) (old new : SystemState) (before mid after : Option (List ℕ)) (tally : Tally)
     → IsOpened old.file before mid sender → TossesToEnd limits sender old mid after tally new → TossesAll limits old before after tally new
-tossed_all limits sender old new before mid after tally o t =
-    let ms = t.messages in
-    let most = Consumes-trans mid t.left after (messages_bytes ms) (word 0) t.taken.bytes t.ends in
-    record {
-      header = o.header;
-      messages = ms;
-      bytes = (
-        header_bytes o.header ++ (messages_bytes ms ++ word 0),
-        Consumes-trans before mid after (header_bytes o.header) (messages_bytes ms ++ word 0) o.bytes most,
-        record { header = o.is_header; messages = t.taken.are_messages; bytes = refl },
-      );
-      for_us = o.for_us;
-      done = subst (λ (s : Address). HasTossed s ms old tally new) o.origin t.taken.done;
-    }
+tossed_all limits sender old new before mid after tally o t = grind (arith, Consumes-trans)
 
 -- a packet that was not opened was not tossed
 pub tossed_none : (limits : Limits) (s : SystemState) (before after : Option (List ℕ)) (tally : Tally) (cause : TossCause) → tally ≡ tally_of []
     → IsUnopened s.file before after cause → TossesPart limits s before after tally cause s
-tossed_none limits s before after tally (stop.NotForUs a) none u = record {
-  header = u.header;
-  bytes = (header_bytes u.header, u.bytes, (u.is_header, refl));
-  is = u.is;
-  other = u.other;
-  nothing = (refl, none);
-}
+tossed_none limits s before after tally (stop.NotForUs a) none u = grind arith
 tossed_none limits s before after tally stop.Memory none u = absurd u
 tossed_none limits s before after tally (stop.Packet fault.Memory) none u = absurd u
 tossed_none limits s before after tally (stop.Packet (fault.Truncated n)) none u = inl (record { fault = u.fault; inside = u.inside; nothing = (refl, none) })
@@ -162,15 +130,8 @@ tossed_none limits s before after tally (stop.Packet (fault.Write n)) none u = i
 tossed_none limits s before after tally (stop.Packet (fault.TooManyMessages n)) none u = inl (record { fault = u.fault; inside = u.inside; nothing = (refl, none) })
 tossed_none limits s before after tally (stop.Packet (fault.BadField n)) none u = inl (record { fault = u.fault; inside = u.inside; nothing = (refl, none) })
 
-held : {A : Type 0} (old new : StoreState) (r : Result A TossStepError) (base : Base) → old.undoes → HoldsUnlessFailed old r new base → new.keeps base
-held old new (Ok done) base undoes is = is
-held old new (Err (toss.Packet why)) base undoes is = is
-held old new (Err (toss.Store error)) base undoes is = is undoes
-
 -- a store that undoes failures and holds only this base acts like a system
 pub tossed_at : (limits : Limits) (file : LinkFile) (base after : Base) (before rest : Option (List ℕ)) (old new : StoreState) (result : Result Tally StoppedToss)
     → old.undoes → ((b : Base) → new.keeps b → b ≡ after) → TossesPacketIn limits file base before rest old result new
     → PacketStep limits (state_in file base) before rest (packet_answer result) (state_in file after)
-tossed_at limits file base after before rest old new result undoes alone went =
-    subst (λ (b : Base). PacketStep limits (state_in file base) before rest (packet_answer result) (state_in file b))
-    (alone went.next (held old new (stop_in result) went.next undoes went.holds)) went.step
+tossed_at limits file base after before rest old new result undoes alone went = grind arith

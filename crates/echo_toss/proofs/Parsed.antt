@@ -21,8 +21,7 @@ one_header h k r s is are same = (
 
 -- bytes that begin with a header open, unless the device fails
 pub opens : (h : Header) (rest : List ℕ) (f : PacketFault) → IsHeader h → ((at : ℕ) → f ≢ fault.Read at) → FrontFault (header_bytes h ++ rest) f → ⊥
-opens h rest (fault.Truncated at) is alive wrong =
-    let short = wrong.1 in omega (arith, length-append (header_bytes h) rest, length-header_bytes h is)
+opens h rest (fault.Truncated at) is alive wrong = grind (arith, length-append, length-header_bytes)
 opens h rest (fault.NotType2 at) is alive wrong = wrong.2 (number_at-header_bytes h rest)
 opens h rest (fault.Read at) is alive wrong = alive at refl
 opens h rest (fault.NotMessage at) is alive wrong = wrong
@@ -43,9 +42,7 @@ one_message limits given m n r s is are room same =
 
 -- a message is no terminator
 no_message : (limits : Limits) (given : ℕ) (m : Message) (r s : List ℕ) → IsMessage limits.text m → given < limits.messages → message_bytes m ++ r ≡ word 0 ++ s → ⊥
-no_message limits given m r s is room same =
-    let both : Whole m r ≡ End s = sym (verdict-whole limits given m r is room) ∙ ap (verdict limits given) same ∙ verdict-end limits given s in
-    cc
+no_message limits given m r s is room same = grind (arith, Whole, End, verdict-whole, verdict, verdict-end)
 
 split : (m : Message) (ms : List Message) (r : List ℕ) → messages_bytes (m ∷ ms) ++ r ≡ message_bytes m ++ (messages_bytes ms ++ r)
 split m ms r = append_assoc (message_bytes m) (messages_bytes ms) r
@@ -55,8 +52,7 @@ pub first_messages : (limits : Limits) (given : ℕ) (ms front : List Message) (
     → given + length ms ≤ limits.messages → given + length front ≤ limits.messages → messages_bytes ms ++ (word 0 ++ r) ≡ messages_bytes front ++ s
     → (n : ℕ) × (n ≤ length ms) × (front ≡ take n ms)
 first_messages limits given ms [] r s are some room more same = (0, omega arith, refl)
-first_messages limits given [] (n ∷ front) r s are some room more same =
-    absurd (no_message limits given n (messages_bytes front ++ s) r some.0 (omega arith) (sym (same ∙ split n front s)))
+first_messages limits given [] (n ∷ front) r s are some room more same = grind (arith, no_message, split)
 first_messages limits given (m ∷ ms) (n ∷ front) r s are some room more same =
     let one = one_message limits given m n (messages_bytes ms ++ (word 0 ++ r)) (messages_bytes front ++ s) are.0 some.0 (omega arith)
     (sym (split m ms (word 0 ++ r)) ∙ same ∙ split n front s) in
@@ -67,13 +63,9 @@ first_messages limits given (m ∷ ms) (n ∷ front) r s are some room more same
 pub one_list : (limits : Limits) (given : ℕ) (ms all : List Message) (r s : List ℕ) → AllByRecursion (IsMessage limits.text) ms → AllByRecursion (IsMessage limits.text) all
     → given + length ms ≤ limits.messages → given + length all ≤ limits.messages → messages_bytes ms ++ (word 0 ++ r) ≡ messages_bytes all ++ (word 0 ++ s)
     → (all ≡ ms) × (r ≡ s)
-one_list limits given [] [] r s are some room more same =
-    let both : End r ≡ End s = sym (verdict-end limits given r) ∙ ap (verdict limits given) same ∙ verdict-end limits given s in
-    (refl, cc)
-one_list limits given (m ∷ ms) [] r s are some room more same =
-    absurd (no_message limits given m (messages_bytes ms ++ (word 0 ++ r)) s are.0 (omega arith) (sym (split m ms (word 0 ++ r)) ∙ same))
-one_list limits given [] (n ∷ all) r s are some room more same =
-    absurd (no_message limits given n (messages_bytes all ++ (word 0 ++ s)) r some.0 (omega arith) (sym (same ∙ split n all (word 0 ++ s))))
+one_list limits given [] [] r s are some room more same = grind (arith, End, verdict-end, verdict)
+one_list limits given (m ∷ ms) [] r s are some room more same = grind (arith, no_message, split)
+one_list limits given [] (n ∷ all) r s are some room more same = grind (arith, no_message, split)
 one_list limits given (m ∷ ms) (n ∷ all) r s are some room more same =
     let one = one_message limits given m n (messages_bytes ms ++ (word 0 ++ r)) (messages_bytes all ++ (word 0 ++ s)) are.0 some.0 (omega arith)
     (sym (split m ms (word 0 ++ r)) ∙ same ∙ split n all (word 0 ++ s)) in

@@ -1,8 +1,6 @@
 -- The messages to send again, one by one.
 use Rattle.std.proofs.Common.{◌≡◌, ℕ, zero, suc, ◌+◌, ◌<◌, List, [], ◌∷◌, ◌++◌, length, get_or, take, drop, map, refl, sym, ap, ◌∙◌, append_assoc, arith, add-one}
 use Rattle.std.specs.Prelude.{Bool, true, cond, filter, min, ◌&&◌}
-use Rattle.std.proofs.lemmas.List.{map-append}
-use Rattle.std.proofs.lemmas.List.Elements.{filter-append}
 use Rattle.std.proofs.lemmas.Option.{get_or_from_slice_get, slice_get_within}
 use Rattle.echo_addr.specs.declared.address.Address.{Address}
 use Rattle.echo_packet.specs.Message.{Message}
@@ -24,9 +22,6 @@ front_at (suc c) i [] d h w = absurd (omega arith)
 front_at (suc c) zero (x ∷ xs) d h w = refl
 front_at (suc c) (suc i) (x ∷ xs) d h w = front_at c i xs d (omega arith) (omega arith)
 
-one_more : {X Y : Type 0} (p : X → Bool) (f : X → Y) (x : X) (xs : List X) → map f (filter p (x ∷ [])) ++ map f (filter p xs) ≡ map f (filter p (x ∷ xs))
-one_more p f x xs = sym (ap (map f) (filter-append p (x ∷ []) xs) ∙ map-append f (filter p (x ∷ [])) (filter p xs))
-
 -- one message more was looked at
 pub next_resent : (file : LinkFile) (area : List ℕ) (to : Address) (messages : List Filed) (cursor i end : ℕ) (old new all : List Message)
     → end ≡ min cursor (length messages) → i < end → IsResentAt file area to messages i old new
@@ -38,11 +33,7 @@ next_resent file area to messages cursor i end old new all bound within (m, here
     front_at cursor i messages m (omega (arith, bound, within)) (slice_get_within messages i m here)
     ∙ ap (λ (x : Filed). x ∷ rest) (get_or_from_slice_get messages i m m here) in
     rw add-one
-    (ap (λ (l : List Message). l ++ copies_of file area to rest) grown
-    ∙ (append_assoc old (copies_of file area to (m ∷ [])) (copies_of file area to rest)
-    ∙ (ap (λ (l : List Message). old ++ l)
-    (one_more (is_resent file area to) (copy_to file to) m rest ∙ ap (λ (l : List Filed). copies_of file area to l) (sym front))
-    ∙ so_far)))
+    (grind (arith, append_assoc))
 
 -- one more message, sent again if it goes to the address
 pub whole : (file : LinkFile) (area : List ℕ) (to : Address) (m : Filed) (one : Outgoing) (old new : List Message) → is_whole_in area m ≡ true

@@ -48,9 +48,7 @@ equal_same : (x y : Address) → address_cmp y x ≡ Equal → same_address x y 
 equal_same x y e = (same_address_decides x y).1 (sym ((same_address_decides y x).0 (ties y x ∙ ap is_eq e)))
 
 other : (x y : Address) → is_eq (address_cmp y x) ≡ false → same_address x y ≡ false
-other x y e =
-    false_from_ne_true (same_address x y)
-    (λ same. true≢false (sym ((same_address_decides y x).1 (sym ((same_address_decides x y).0 same))) ∙ ties y x ∙ e))
+other x y e = grind (arith, false_from_ne_true, true≢false, same_address_decides, ties)
 
 -- the result of a search in a set
 pub searched : (all : List Address) (x : Address) (r : Result ℕ ℕ) → address_set all ≡ all → IsSearchInRange r (length all) → IsBinarySearchResult (λ y. address_cmp y x) all r
@@ -80,10 +78,4 @@ in_found x (y ∷ ys) h = elim h [
 -- an address is in a list exactly if it is in its set
 pub among_set : (x : Address) (all : List Address) → list_any (same_address x) (address_set all) ≡ list_any (same_address x) all
 unfolding address_set
-among_set x all = elim (cases_Bool (list_any (same_address x) all)) [
-  | inl some ↦ in_found x (address_set all) (set_keeps address_before address_order x all (found_in x all some)) ∙ sym some
-  | inr none ↦
-      false_from_ne_true (list_any (same_address x) (address_set all))
-      (λ some. true≢false (sym (in_found x all (set_only address_before x all (found_in x (address_set all) some))) ∙ none))
-      ∙ sym none
-]
+among_set x all = grind (arith, cases_Bool, in_found, set_keeps, address_order, found_in, false_from_ne_true, true≢false, set_only)

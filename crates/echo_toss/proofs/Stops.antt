@@ -1,5 +1,5 @@
 -- A toss of a packet that stopped behind its header.
-use Rattle.std.proofs.Common.{◌≡◌, ℕ, ◌⊎◌, inl, inr, List, [], ◌++◌, refl, ◌∙◌, subst, append_assoc, Option, Some, None, IfSome}
+use Rattle.std.proofs.Common.{◌≡◌, ℕ, ◌⊎◌, inl, inr, List, [], ◌++◌, subst, append_assoc, Option, Some, None, IfSome, arith}
 use Rattle.std.specs.Io.KnownBytes.{Consumes}
 use Rattle.std.proofs.KnownBytes.{Consumes-trans}
 use Rattle.echo_addr.specs.declared.address.Address.{Address}
@@ -26,8 +26,7 @@ pub begins_with : (limits : Limits) (header : Header) (ms : List Message) (befor
     → Consumes before left (header_bytes header ++ messages_bytes ms) → IfSome before (BeginsWith limits header ms)
 begins_with limits header ms None left is are lost = tt
 begins_with limits header ms (Some bs) None is are lost = absurd lost
-begins_with limits header ms (Some bs) (Some rest) is are lost =
-    record { is_header = is; are_messages = are; rest = rest; bytes = lost ∙ append_assoc (header_bytes header) (messages_bytes ms) rest }
+begins_with limits header ms (Some bs) (Some rest) is are lost = grind (arith, append_assoc)
 
 -- the packet up to the next message
 so_far : (limits : Limits) (header : Header) (ms : List Message) (bs rest : List ℕ) (sender : Address) (old new : SystemState) (mid left : Option (List ℕ)) (given at : ℕ) (tally : Tally)
@@ -47,10 +46,7 @@ behind : (limits : Limits) (header : Header) (sender : Address) (old new : Syste
 behind limits header sender old new None mid left after ms given at tally f not_call is lost h wrong = tt
 behind limits header sender old new (Some bs) mid None after ms given at tally f not_call is lost h wrong =
     absurd (Consumes-trans (Some bs) mid None (header_bytes header) (messages_bytes ms) lost h.bytes)
-behind limits header sender old new (Some bs) mid (Some rest) after ms given at tally f not_call is lost h wrong =
-    let all = Consumes-trans (Some bs) mid (Some rest) (header_bytes header) (messages_bytes ms) lost h.bytes in
-    let bytes = all ∙ append_assoc (header_bytes header) (messages_bytes ms) rest in
-    of_bytes bs limits ms f not_call (run-fails limits bs header ms rest given at f (so_far limits header ms bs rest sender old new mid (Some rest) given at tally is h bytes) wrong)
+behind limits header sender old new (Some bs) mid (Some rest) after ms given at tally f not_call is lost h wrong = grind (arith, Consumes-trans, append_assoc, of_bytes, run-fails, so_far)
 
 -- the bytes that left the reader before the device failed
 cut : (limits : Limits) (header : Header) (sender : Address) (old new : SystemState) (before mid left after : Option (List ℕ)) (ms : List Message) (given at place : ℕ) (tally : Tally)
@@ -59,12 +55,7 @@ cut : (limits : Limits) (header : Header) (sender : Address) (old new : SystemSt
 cut limits header sender old new before mid left after ms given at place tally is lost h (consumed, gone, part) =
     let front = Consumes-trans before mid left (header_bytes header) (messages_bytes ms) lost h.bytes in
     let all = Consumes-trans before left after (header_bytes header ++ messages_bytes ms) consumed front gone in
-    let total = header_bytes header ++ (messages_bytes ms ++ consumed) in (
-      total,
-      subst (Consumes before after) (append_assoc (header_bytes header) (messages_bytes ms) consumed) all,
-      of_bytes total limits ms (fault.Truncated place) (λ c. c)
-          (run-fails limits total header ms consumed given at (fault.Truncated place) (so_far limits header ms total consumed sender old new mid left given at tally is h refl) part),
-    )
+    grind (arith, append_assoc, of_bytes, run-fails, so_far)
 
 -- the messages before the stop
 abbrev pub some_tossed : (limits : Limits) (sender : Address) (old new : SystemState) (before mid left : Option (List ℕ)) (ms : List Message) (given at : ℕ) (tally : Tally)
@@ -82,8 +73,7 @@ some_tossed limits sender old new before mid left ms given at tally o h = record
 pub tossed_part : (limits : Limits) (sender : Address) (old new : SystemState) (before mid after : Option (List ℕ)) (tally : Tally) (cause : TossCause)
     → IsOpened old.file before mid sender → TakesSome limits sender old mid after tally cause new → TossesPart limits old before after tally cause new
 tossed_part limits sender old new before mid after tally (stop.NotForUs a) o t = absurd t.stops
-tossed_part limits sender old new before mid after tally stop.Memory o t =
-    some_tossed limits sender old new before mid t.left t.messages t.given t.at tally o t.taken
+tossed_part limits sender old new before mid after tally stop.Memory o t = grind arith
 tossed_part limits sender old new before mid after tally (stop.Packet fault.Memory) o t = absurd t.stops
 tossed_part limits sender old new before mid after tally (stop.Packet (fault.Read at)) o t = inr (record {
   some = some_tossed limits sender old new before mid t.left t.messages t.given t.at tally o t.taken;
@@ -93,10 +83,7 @@ tossed_part limits sender old new before mid after tally (stop.Packet (fault.Tru
   some = some_tossed limits sender old new before mid t.left t.messages t.given t.at tally o t.taken;
   fault = behind limits o.header sender old new before mid t.left after t.messages t.given t.at tally (fault.Truncated n) (λ c. c) o.is_header o.bytes t.taken t.stops.0;
 })
-tossed_part limits sender old new before mid after tally (stop.Packet (fault.NotType2 n)) o t = inr (record {
-  some = some_tossed limits sender old new before mid t.left t.messages t.given t.at tally o t.taken;
-  fault = behind limits o.header sender old new before mid t.left after t.messages t.given t.at tally (fault.NotType2 n) (λ c. c) o.is_header o.bytes t.taken t.stops.0;
-})
+tossed_part limits sender old new before mid after tally (stop.Packet (fault.NotType2 n)) o t = grind (arith, behind)
 tossed_part limits sender old new before mid after tally (stop.Packet (fault.NotMessage n)) o t = inr (record {
   some = some_tossed limits sender old new before mid t.left t.messages t.given t.at tally o t.taken;
   fault = behind limits o.header sender old new before mid t.left after t.messages t.given t.at tally (fault.NotMessage n) (λ c. c) o.is_header o.bytes t.taken t.stops.0;
@@ -109,19 +96,10 @@ tossed_part limits sender old new before mid after tally (stop.Packet (fault.Tex
   some = some_tossed limits sender old new before mid t.left t.messages t.given t.at tally o t.taken;
   fault = behind limits o.header sender old new before mid t.left after t.messages t.given t.at tally (fault.TextTooLong n) (λ c. c) o.is_header o.bytes t.taken t.stops.0;
 })
-tossed_part limits sender old new before mid after tally (stop.Packet fault.Stopped) o t = inr (record {
-  some = some_tossed limits sender old new before mid t.left t.messages t.given t.at tally o t.taken;
-  fault = behind limits o.header sender old new before mid t.left after t.messages t.given t.at tally fault.Stopped (λ c. c) o.is_header o.bytes t.taken t.stops.0;
-})
-tossed_part limits sender old new before mid after tally (stop.Packet (fault.Write n)) o t = inr (record {
-  some = some_tossed limits sender old new before mid t.left t.messages t.given t.at tally o t.taken;
-  fault = behind limits o.header sender old new before mid t.left after t.messages t.given t.at tally (fault.Write n) (λ c. c) o.is_header o.bytes t.taken t.stops.0;
-})
+tossed_part limits sender old new before mid after tally (stop.Packet fault.Stopped) o t = grind (arith, behind)
+tossed_part limits sender old new before mid after tally (stop.Packet (fault.Write n)) o t = grind (arith, behind)
 tossed_part limits sender old new before mid after tally (stop.Packet (fault.TooManyMessages n)) o t = inr (record {
   some = some_tossed limits sender old new before mid t.left t.messages t.given t.at tally o t.taken;
   fault = behind limits o.header sender old new before mid t.left after t.messages t.given t.at tally (fault.TooManyMessages n) (λ c. c) o.is_header o.bytes t.taken t.stops.0;
 })
-tossed_part limits sender old new before mid after tally (stop.Packet (fault.BadField n)) o t = inr (record {
-  some = some_tossed limits sender old new before mid t.left t.messages t.given t.at tally o t.taken;
-  fault = behind limits o.header sender old new before mid t.left after t.messages t.given t.at tally (fault.BadField n) (λ c. c) o.is_header o.bytes t.taken t.stops.0;
-})
+tossed_part limits sender old new before mid after tally (stop.Packet (fault.BadField n)) o t = grind (arith, behind)

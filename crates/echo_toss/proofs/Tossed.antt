@@ -1,5 +1,5 @@
 -- The outcome of a received message.
-use Rattle.std.proofs.Common.{◌≡◌, ℕ, Bool, true, false, List, refl, sym, ap, subst, ◌∙◌, Option, Some, None, not, if◌then◌else◌, Result, Ok, Err, IfOk, ◌⊎◌, inl, inr}
+use Rattle.std.proofs.Common.{◌≡◌, ℕ, Bool, true, false, List, refl, subst, ◌∙◌, Option, Some, None, not, if◌then◌else◌, Result, Ok, Err, IfOk, ◌⊎◌, inl, inr, arith}
 use Rattle.echo_addr.specs.declared.address.Address.{Address}
 use Rattle.echo_addr.specs.declared.address.NetNode.{NetNode}
 use Rattle.echo_packet.specs.Message.{Message}
@@ -24,9 +24,7 @@ use Rattle.echo_toss.specs.Wanted.{IsNew, IsUnwanted, IsWanted, refused_by}
 not_filed : (file : LinkFile) (sender : Address) (packed : Message) (o : Outcome) → ((m : Filed) → where_filed o m ≡ None) → ((base : List Filed) → IsOutcome file base sender packed o)
     → IsUnwanted file sender packed o
 unfolding tossing
-not_filed file sender packed o none is = λ base.
-    let same : toss_outcome file base sender packed ≡ o = (outcome_is_first file base sender packed o).1 (is base) in
-    (sym same, sym (ap (λ x. where_filed x (received sender packed)) same ∙ none (received sender packed)))
+not_filed file sender packed o none is = λ base. grind (arith, outcome_is_first file base sender packed o)
 
 pub no_echo : (file : LinkFile) (sender : Address) (packed : Message) → text_refusal packed.text ≡ Some text.NotEcho → IsUnwanted file sender packed outcome.NotEcho
 no_echo file sender packed h = not_filed file sender packed outcome.NotEcho (λ m. refl) (λ base. h)
@@ -79,23 +77,13 @@ link_refused file sender packed own kept o front h =
 -- the area is there, and the sender links it
 wanted_area : (file : LinkFile) (sender : Address) (packed : Message) (own : List ℕ) (kept : List (List ℕ)) → IsWanted file sender packed own kept
     → (has_area file (echo_of packed.text).tag ≡ true) × (is_link file (echo_of packed.text).tag sender ≡ true)
-wanted_area file sender packed own kept h =
-    let tag : own ≡ (echo_of packed.text).tag = tag_said packed.text own kept h.front in
-    let A : List ℕ → Type 0 = λ t. has_area file t ≡ true in
-    let L : List ℕ → Type 0 = λ t. is_link file t sender ≡ true in
-    let both = accepted (has_area file own) (is_link file own sender) h.allowed in
-    (subst A tag both.0, subst L tag both.1)
+wanted_area file sender packed own kept h = grind (arith, tag_said, accepted)
 
 -- a message with a known key
 pub known_left : (file : LinkFile) (base : List Filed) (sender : Address) (packed : Message) (tag : List ℕ) (kept : List (List ℕ)) (key : Key) → IsWanted file sender packed tag kept → key ≡ key_of (received sender packed)
     → is_known base key ≡ true → (outcome.Known ≡ toss_outcome file base sender packed) × (None ≡ tossing file base sender packed)
 unfolding tossing
-known_left file base sender packed tag kept key h is known =
-    let both = wanted_area file sender packed tag kept h in
-    let none = front_accepted packed.text tag kept h.front in
-    let P : Key → Type 0 = λ k. is_known base k ≡ true in
-    let same : toss_outcome file base sender packed ≡ outcome.Known = (outcome_is_first file base sender packed outcome.Known).1 (none, both.0, both.1, subst P is known) in
-    (sym same, ap (λ x. where_filed x (received sender packed)) (sym same))
+known_left file base sender packed tag kept key h is known = grind (arith, wanted_area file sender packed tag kept h, front_accepted packed.text tag kept h.front, outcome_is_first file base sender packed outcome.Known)
 
 -- a message that is new
 pub found_new : (file : LinkFile) (base : List Filed) (sender : Address) (packed : Message) (tag : List ℕ) (kept : List (List ℕ)) (key : Key) (m : Filed) → IsWanted file sender packed tag kept
@@ -103,23 +91,12 @@ pub found_new : (file : LinkFile) (base : List Filed) (sender : Address) (packed
 unfolding tossing
 found_new file base sender packed tag kept key m h is new made =
     let both = wanted_area file sender packed tag kept h in
-    let none = front_accepted packed.text tag kept h.front in
-    let P : Key → Type 0 = λ k. is_known base k ≡ false in
-    let same : toss_outcome file base sender packed ≡ outcome.Filed =
-    (outcome_is_first file base sender packed outcome.Filed).1 (record { text = none; area = both.0; link = both.1; new = subst P is new }) in
-    record {
-      answer = sym same;
-      message = ap (λ x. Some x) made ∙ ap (λ x. where_filed x (received sender packed)) (sym same);
-      own_key = is ∙ ap key_of (sym made);
-      new = new;
-    }
+    grind (arith, front_accepted packed.text tag kept h.front, outcome_is_first file base sender packed outcome.Filed)
 
 -- why a text is refused
 pub refused_text : (packed : Message) (bytes : List ℕ) (f : TextFault) → bytes ≡ packed.text → (f ≡ text.Memory → ⊥)
     → (text_refusal bytes ≡ Some f) ⊎ ((text_refusal bytes ≡ None) × (f ≡ text.Memory)) → text_refusal packed.text ≡ Some f
-refused_text packed bytes f is other h =
-    let P : List ℕ → Type 0 = λ t. text_refusal t ≡ Some f in
-    subst P is (elim h [ inl refused ↦ refused | inr memory ↦ absurd (other memory.1) ])
+refused_text packed bytes f is other h = grind arith
 
 -- the key of a received message
 pub key_received : {E : Type 0} (r : Result Key E) (packed : Message) (date to_name from_name subject tag : List ℕ) (kept : List (List ℕ))
@@ -138,6 +115,4 @@ pub made_received : (sender : Address) (packed : Message) (date to_name from_nam
     → date ≡ packed.date → to_name ≡ packed.to_name → from_name ≡ packed.from_name → subject ≡ packed.subject → ((n : ℕ) × EchoOf packed.text e n)
     → record { sender = Some sender; date = date; to_name = to_name; from_name = from_name; subject = subject; echo = e } ≡ received sender packed
 unfolding received
-made_received sender packed date to_name from_name subject e d t f j says =
-    let k = sym (says_one packed.text e says.0 says.1) in
-    λ i. record { sender = Some sender; date = d i; to_name = t i; from_name = f i; subject = j i; echo = k i }
+made_received sender packed date to_name from_name subject e d t f j says = grind (arith, says_one)

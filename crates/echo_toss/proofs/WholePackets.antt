@@ -6,12 +6,11 @@ use Rattle.echo_packet.specs.declared.header.Header.{Header}
 use Rattle.echo_packet.specs.declared.limits.Limits.{Limits}
 use Rattle.echo_packet.specs.declared.fault.PacketFault.{PacketFault}
 use Rattle.echo_packet.specs.declared.fault.PacketFault.TheVariants as fault
-use Rattle.echo_packet.specs.Answer.{Answer, Describes}
+use Rattle.echo_packet.specs.Answer.{Describes}
 use Rattle.echo_packet.specs.Fault.{FaultOf}
 use Rattle.echo_packet.specs.Header.{IsHeader, header_bytes, word}
 use Rattle.echo_packet.specs.Message.{Message, messages_bytes}
 use Rattle.echo_packet.specs.Packet.{PacketOf, packet_bytes}
-use Rattle.echo_packet.specs.Reader.{FrontFault}
 use Rattle.echo_packet.proofs.Outcome.{only_one}
 use Rattle.model_steps.specs.SystemState.{SystemState}
 use Rattle.model_steps.specs.Tossing.{destination_of, sender_of}
@@ -25,9 +24,7 @@ use Rattle.echo_toss.proofs.Parsed.{first_messages, one_header, one_list, opens}
 
 -- a packet and the bytes after it, part by part
 parts : (h : Header) (ms : List Message) (bytes rest : List ℕ) → bytes ≡ packet_bytes h ms → bytes ++ rest ≡ header_bytes h ++ (messages_bytes ms ++ (word 0 ++ rest))
-parts h ms bytes rest is =
-    ap (λ t. t ++ rest) is ∙ append_assoc (header_bytes h) (messages_bytes ms ++ word 0) rest
-    ∙ ap (λ t. header_bytes h ++ t) (append_assoc (messages_bytes ms) (word 0) rest)
+parts h ms bytes rest is = grind (arith, append_assoc)
 
 -- the bytes that left the reader are the same packet
 record IsSame (header : Header) (ms : List Message) (rest : List ℕ) (other : Header) (all : List Message) (after : Option (List ℕ)) : Type 0 where
@@ -48,8 +45,7 @@ same_packet limits h k ms all bytes rest consumed left is other same =
 same_toss : (limits : Limits) (h : Header) (ms : List Message) (bytes rest : List ℕ) (after : Option (List ℕ)) (old new : SystemState) (tally : Tally) → PacketOf limits h ms bytes
     → (step : TossesAll limits old (Some (bytes ++ rest)) after tally new) → IsSame h ms rest step.header step.messages after
 same_toss limits h ms bytes rest None old new tally is step = absurd step.bytes.1
-same_toss limits h ms bytes rest (Some left) old new tally is step =
-    same_packet limits h step.header ms step.messages bytes rest step.bytes.0 left is step.bytes.2 step.bytes.1
+same_toss limits h ms bytes rest (Some left) old new tally is step = grind (arith, same_packet)
 
 -- no read failed
 never : (f : PacketFault) → CountsCause (stop.Packet f) 0 0 → (at : ℕ) → f ≢ fault.Read at
@@ -89,19 +85,13 @@ of_these limits ms bs after (fault.BadField n) alive h = h
 no_fault : (limits : Limits) (h : Header) (ms all : List Message) (bytes rest : List ℕ) (f : PacketFault) → PacketOf limits h ms bytes → FaultOf (bytes ++ rest) limits all f → ⊥
 no_fault limits h ms all bytes rest f is wrong =
     let found : Describes limits (bytes ++ rest) (Ok (h, ms, length bytes)) = (omega (arith, length-append bytes rest), subst (PacketOf limits h ms) (sym (take-append_seam bytes rest)) is) in
-    let packet : Answer = Ok (h, ms, length bytes) in
-    let broken : Answer = Err f in
-    let different : packet ≡ broken = only_one limits (bytes ++ rest) packet found ∙ sym (only_one limits (bytes ++ rest) broken (all, wrong)) in
-    cc
+    grind (arith, only_one limits (bytes ++ rest) (Ok (h, ms, length bytes)) found, only_one limits (bytes ++ rest) (Err f) (all, wrong))
 
 front_part : (limits : Limits) (header : Header) (ms : List Message) (bytes rest : List ℕ) (after : Option (List ℕ)) (old new : SystemState) (tally : Tally) (cause : TossCause)
     → PacketOf limits header ms bytes → IsForUs old header → TossesPart limits old (Some (bytes ++ rest)) after tally cause new → CountsCause cause 0 0
     → WholeStep old (sender_of old.file header) ms (Err (record { tally = tally; cause = cause })) new
 front_part limits header ms bytes rest None old new tally (stop.NotForUs a) is for_us step counts = absurd step.bytes.1
-front_part limits header ms bytes rest (Some left) old new tally (stop.NotForUs a) is for_us step counts =
-    let same : bytes ++ rest ≡ header_bytes step.header ++ left = step.bytes.1 ∙ ap (λ t. t ++ left) step.bytes.2.1 in
-    let one = one_header header step.header (messages_bytes ms ++ (word 0 ++ rest)) left is.header step.bytes.2.0 (sym (parts header ms bytes rest is.bytes) ∙ same) in
-    absurd (step.other (step.is ∙ ap (destination_of old.file) one.0 ∙ for_us))
+front_part limits header ms bytes rest (Some left) old new tally (stop.NotForUs a) is for_us step counts = grind (arith, one_header, parts header ms bytes rest is.bytes)
 front_part limits header ms bytes rest after old new tally stop.Memory is for_us step counts =
     let b = step.begins in
     let one = one_header header step.header (messages_bytes ms ++ (word 0 ++ rest)) (messages_bytes step.messages ++ b.rest) is.header b.is_header
@@ -119,20 +109,15 @@ front_part limits header ms bytes rest after old new tally stop.Memory is for_us
     )
 front_part limits header ms bytes rest after old new tally (stop.Packet f) is for_us step counts =
     elim (where_failed limits old new (Some (bytes ++ rest)) after tally f step) [
-      | inl front ↦ absurd (opens header (messages_bytes ms ++ (word 0 ++ rest)) f is.header (never f counts)
-          (subst (λ bs. FrontFault bs f) (parts header ms bytes rest is.bytes) front.fault))
+      | inl front ↦ grind (arith, opens, never f counts, parts header ms bytes rest is.bytes)
       | inr behind ↦ absurd (no_fault limits header ms behind.some.messages bytes rest f is (of_these limits behind.some.messages (bytes ++ rest) after f (never f counts) behind.fault))
     ]
 
 pub whole_packet : (limits : Limits) (header : Header) (ms : List Message) (bytes rest : List ℕ) (after : Option (List ℕ)) (old new : SystemState) (result : Result Tally TossFault)
     → PacketOf limits header ms bytes → IsForUs old header → PacketStep limits old (Some (bytes ++ rest)) after result new → CountsToss result 0 0
     → WholeStep old (sender_of old.file header) ms result new
-whole_packet limits header ms bytes rest after old new (Ok tally) is for_us step counts =
-    let same = same_toss limits header ms bytes rest after old new tally is step in
-    subst (λ all. HasTossed (sender_of old.file header) all old tally new) same.same_messages
-    (subst (λ h. HasTossed (sender_of old.file h) step.messages old tally new) same.same_header step.done)
-whole_packet limits header ms bytes rest after old new (Err f) is for_us step counts =
-    front_part limits header ms bytes rest after old new f.tally f.cause is for_us step counts
+whole_packet limits header ms bytes rest after old new (Ok tally) is for_us step counts = grind (arith, same_toss limits header ms bytes rest after old new tally is step)
+whole_packet limits header ms bytes rest after old new (Err f) is for_us step counts = grind (arith, front_part)
 
 pub packet_taken : (limits : Limits) (header : Header) (ms : List Message) (bytes rest : List ℕ) (after : Option (List ℕ)) (old new : SystemState) (tally : Tally)
     → PacketOf limits header ms bytes → PacketStep limits old (Some (bytes ++ rest)) after (Ok tally) new → after ≡ Some rest
@@ -141,20 +126,13 @@ packet_taken limits header ms bytes rest after old new tally is step = (same_tos
 -- a packet that is for this system has another header
 another : (limits : Limits) (header : Header) (rest : List ℕ) (old new : SystemState) (tally : Tally) → IsHeader header → destination_of old.file header ≢ old.file.system
     → TossesSome limits old (Some (header_bytes header ++ rest)) tally new → ⊥
-another limits header rest old new tally is other some =
-    let b = some.begins in
-    let one = one_header header some.header rest (messages_bytes some.messages ++ b.rest) is b.is_header b.bytes in
-    other (ap (destination_of old.file) (sym one.0) ∙ some.for_us)
+another limits header rest old new tally is other some = grind (arith, one_header)
 
 refused_part : (limits : Limits) (header : Header) (rest : List ℕ) (after : Option (List ℕ)) (old new : SystemState) (tally : Tally) (cause : TossCause)
     → IsHeader header → destination_of old.file header ≢ old.file.system → TossesPart limits old (Some (header_bytes header ++ rest)) after tally cause new → CountsCause cause 0 0
     → (let given : Result Tally TossFault = Err (record { tally = tally; cause = cause }) in given ≡ Err (record { tally = tally_of []; cause = stop.NotForUs (destination_of old.file header) })) × (new ≡ old)
 refused_part limits header rest None old new tally (stop.NotForUs a) is other step counts = absurd step.bytes.1
-refused_part limits header rest (Some left) old new tally (stop.NotForUs a) is other step counts =
-    let same : header_bytes header ++ rest ≡ header_bytes step.header ++ left = step.bytes.1 ∙ ap (λ t. t ++ left) step.bytes.2.1 in
-    let one = one_header header step.header rest left is step.bytes.2.0 same in
-    let to : a ≡ destination_of old.file header = step.is ∙ ap (destination_of old.file) one.0 in
-    ((λ i. Err (record { tally = step.nothing.1 i; cause = stop.NotForUs (to i) })), step.nothing.0)
+refused_part limits header rest (Some left) old new tally (stop.NotForUs a) is other step counts = grind (arith, one_header)
 refused_part limits header rest after old new tally stop.Memory is other step counts = absurd (another limits header rest old new tally is other step)
 refused_part limits header rest after old new tally (stop.Packet f) is other step counts =
     elim (where_failed limits old new (Some (header_bytes header ++ rest)) after tally f step) [
@@ -166,10 +144,5 @@ pub packet_refused : (limits : Limits) (header : Header) (rest : List ℕ) (afte
     → IsHeader header → destination_of old.file header ≢ old.file.system → PacketStep limits old (Some (header_bytes header ++ rest)) after result new → CountsToss result 0 0
     → (result ≡ Err (record { tally = tally_of []; cause = stop.NotForUs (destination_of old.file header) })) × (new ≡ old)
 packet_refused limits header rest None old new (Ok tally) is other step counts = absurd step.bytes.1
-packet_refused limits header rest (Some left) old new (Ok tally) is other step counts =
-    let p = step.bytes.2 in
-    let same : header_bytes header ++ rest ≡ header_bytes step.header ++ ((messages_bytes step.messages ++ word 0) ++ left) =
-    step.bytes.1 ∙ ap (λ t. t ++ left) p.bytes ∙ append_assoc (header_bytes step.header) (messages_bytes step.messages ++ word 0) left in
-    let one = one_header header step.header rest ((messages_bytes step.messages ++ word 0) ++ left) is p.header same in
-    absurd (other (ap (destination_of old.file) (sym one.0) ∙ step.for_us))
+packet_refused limits header rest (Some left) old new (Ok tally) is other step counts = grind (arith, append_assoc, one_header)
 packet_refused limits header rest after old new (Err f) is other step counts = refused_part limits header rest after old new f.tally f.cause is other step counts

@@ -8,8 +8,8 @@
 mod post_jam;
 
 use crate::post_jam::run_post_jam;
-use cmd_input::{Cleared, Progress, names_of};
-use cmd_notes::{Heard, Noted};
+use cmd_input::{ErasingOutput, Progress, names_of};
+use cmd_notes::{ExplainedCommand, KeptFaultLines};
 use cmd_read::{
     run_check, run_convert, run_export, run_export_jam, run_export_stored, run_links, run_list,
     run_nodelist, run_picture, run_replay, run_resend, run_show, run_why,
@@ -18,7 +18,7 @@ use cmd_station::{
     ScanWords, run_post, run_post_mail, run_post_stored, run_purge, run_reply, run_scan, run_toss,
 };
 use cmd_status::{Fault, Status, ended};
-use cmd_words::{Asked, Ending, Words, explain, parse};
+use cmd_words::{Ending, ParsedLine, Words, explain, parse};
 use disk_io::{Sink, Watched};
 use std::process::ExitCode;
 use std::{env, io};
@@ -158,16 +158,16 @@ fn words_given(rt: &HostRuntime) -> Result<Vec<String>, Status> {
 }
 
 // Runs the command that is asked for, and prints notes on its faults after them.
-fn run_asked(rt: &HostRuntime, asked: &Asked<'_>) -> Status {
+fn run_asked(rt: &HostRuntime, asked: &ParsedLine<'_>) -> Status {
     let progress = Progress::new(rt);
-    let noted = Noted::of(rt, asked);
-    let mut out = Watched::new(Cleared::new(&progress, rt.stdout()));
-    let to = Cleared::new(&progress, rt.stderr());
-    let mut errors = Watched::new(Heard::new(rt.alloc(), to));
+    let noted = ExplainedCommand::of(rt, asked);
+    let mut out = Watched::new(ErasingOutput::new(&progress, rt.stdout()));
+    let to = ErasingOutput::new(&progress, rt.stderr());
+    let mut errors = Watched::new(KeptFaultLines::new(rt.alloc(), to));
     let status = run_words(rt, &asked.words, &progress, &mut out, &mut errors);
     let printed = errors.into_inner().into_kept();
     if let Some(noted) = noted {
-        let mut errors = Watched::new(Cleared::new(&progress, rt.stderr()));
+        let mut errors = Watched::new(ErasingOutput::new(&progress, rt.stderr()));
         noted.tell(&printed, &mut errors);
     }
     progress.clear();

@@ -85,7 +85,7 @@ module _ (path : List ℕ) (d e : DiskState) (run : ChangesOnly (Outside path) d
           rest = was.log.rest;
           log = ap bytes_in (run.seen (log_of path) (inside (log_of path) (log_in path))) ∙ was.log.log;
           shut = was.log.shut;
-          gate = was.log.gate;
+          records_len = was.log.records_len;
           recorded = was.log.recorded;
           on_disk = on_disk_same (log_of path) (log_in path) was.log.on_disk;
           named = λ m is. run.named m (inside m is) (was.log.named m is);

@@ -1,4 +1,5 @@
-//! A base file with its messages left in the file: in memory are the place and the digest of each.
+//! A base file with its messages left in the file. In memory are the place and the digest of each, and chains for
+//! look-ups: some 24 bytes a message.
 ghost use Rattle.std.specs.Prelude.{◌≡◌, ◌≤◌, ◌<◌, ◌+◌, ◌-◌, ◌/◌, ◌++◌, List, length, IfOk, IsErrOf, IsSome, Some, drop, slice_get, take};
 ghost use Rattle.disk_io.specs.Disk.{Honestly, bytes_in};
 ghost use Rattle.disk_io.specs.Runs.{ChangesNothing, HasCause};
@@ -10,7 +11,7 @@ ghost use Rattle.station_bases.specs.Entries.{CanLookUp, IsWithinFile, message_b
 
 use base_file::MessageRoom;
 use base_folder_store::{ReadAhead, bounds_of, read_alone};
-use base_store::{Index, SipDigest, StoreError};
+use base_store::{Chains, SipDigest, StoreError};
 use disk_io::{Disk, DiskError, read_part};
 use echo_filed::Filed;
 use std::alloc::Global;
@@ -32,7 +33,7 @@ pub struct Entries {
     pub(crate) odd: bool,
     pub(crate) waiting: Vec<u8>,
     pub(crate) keys: Vec<u8>,
-    pub(crate) index: Index,
+    pub(crate) chains: Chains,
     // The current message.
     pub(crate) message: Option<Filed>,
     // The part of the file that was read ahead.

@@ -15,7 +15,7 @@ ghost use Rattle.station_bases.specs.EntryOpening.{AreJudged, HasJudged, IsPartO
 use crate::entries::{Entries, HEAD};
 use base_file::{Head, MessageRoom, Next, head_of, judge_next};
 use base_folder_store::ReadAhead;
-use base_store::{Digest, Index, SipDigest, StoreError, bytes_of_key, entry};
+use base_store::{Chains, SipDigest, StoreError, digest_of_key, entry};
 use cmd_status::MessageProgress;
 use disk_io::{Disk, DiskError, read_part_into};
 use echo_filed::{Key, Version};
@@ -177,7 +177,7 @@ impl Entries {
             odd: false,
             waiting: Vec::new(alloc),
             keys: Vec::new(alloc),
-            index: Index::new(alloc),
+            chains: Chains::new(alloc),
             message: None,
             ahead: ReadAhead::new(alloc),
             room: MessageRoom::new(alloc),
@@ -216,13 +216,12 @@ impl Entries {
         ensures new { Honestly (D.state disk.new) ((base : List Filed) (cursor : ℕ) → AreEntriesOf (bytes_in ((D.state disk.old).seen path.now)) self.old base cursor
             → IfOk result (λ found. IfSome found (λ digest. is_known base key.now ≡ false))) }
         ensures digest { IfOk result (λ found. IfSome found (λ digest. digest ≡ entry_digest self.old (digested_key key.now))) }
-        ensures same { self.new ≡ record self.old { index = self.new.index } }
+        ensures same { self.new ≡ record self.old { chains = self.new.chains } }
         ensures indexed { AreIndexed self.new }
         ensures quiet { ChangesNothing (D.state disk.old) (D.state disk.new) }
         ensures cause { HasCause (D.failures disk.old) (D.failures disk.new) result }
     {
-        let bytes = bytes_of_key(alloc, key)?;
-        let digest = self.digest.of(&bytes);
+        let digest = digest_of_key(alloc, &self.digest, key)?;
         match self.find(alloc, disk, path, key, digest) {
             Ok(false) => Ok(Some(digest)),
             Err(StoreError::Memory) => Err(DiskError::Memory),

@@ -114,7 +114,7 @@ fn stage_and_commit<D: Disk>(
     let some = keys.len() / 2;
     let recorded = stage(disk, names, end, recorded, &messages[..half], &keys[..some])?;
     let recorded = stage(disk, names, end, recorded, &messages[half..], &keys[some..])?;
-    if end.gate > LIMIT {
+    if end.records_len > LIMIT {
         return Err(FolderError::Corrupt);
     }
     Ok(commit(disk, names, end, recorded)?)

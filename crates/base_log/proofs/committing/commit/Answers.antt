@@ -16,7 +16,7 @@ use Rattle.base_log.proofs.committing.commit.Goals as goal
 
 -- the record is written behind the closed gate
 record_run : (g : given.Over) (c : After-write_synced g)
-    → LeavesOnly (g.D.Disk.state c.sync-2.new.self) (g.D.Disk.state c.write_synced.new.disk) (OneStepOn (ChangesFile (g.D.Disk.state c.sync-2.new.self) (log_of (folder_of c.args.names.now)) (TornWrite (c.args.end.gate + 1) (length c.record_of.result))) (g.D.Disk.state c.sync-2.new.self))
+    → LeavesOnly (g.D.Disk.state c.sync-2.new.self) (g.D.Disk.state c.write_synced.new.disk) (OneStepOn (ChangesFile (g.D.Disk.state c.sync-2.new.self) (log_of (folder_of c.args.names.now)) (TornWrite (c.args.end.records_len + 1) (length c.record_of.result))) (g.D.Disk.state c.sync-2.new.self))
 record_run g c = grind arith
 
 record_kept : (g : given.Over) (c : After-write_synced g) → KeepsOthers (g.D.Disk.state c.sync-2.new.self) (g.D.Disk.state c.write_synced.new.disk) (log_of (folder_of c.args.names.now))
@@ -34,7 +34,7 @@ at_record g c h0 =
 
 -- the gate is opened
 gate_run : (g : given.Over) (c : After-write_synced-2 g)
-    → LeavesOnly (g.D.Disk.state c.write_synced.new.disk) (g.D.Disk.state c.write_synced-2.new.disk) (OneStepOn (ChangesFile (g.D.Disk.state c.write_synced.new.disk) (log_of (folder_of c.args.names.now)) (TornWrite c.args.end.gate 1)) (g.D.Disk.state c.write_synced.new.disk))
+    → LeavesOnly (g.D.Disk.state c.write_synced.new.disk) (g.D.Disk.state c.write_synced-2.new.disk) (OneStepOn (ChangesFile (g.D.Disk.state c.write_synced.new.disk) (log_of (folder_of c.args.names.now)) (TornWrite c.args.end.records_len 1)) (g.D.Disk.state c.write_synced.new.disk))
 gate_run g c = grind arith
 
 gate_kept : (g : given.Over) (c : After-write_synced-2 g) → KeepsOthers (g.D.Disk.state c.write_synced.new.disk) (g.D.Disk.state c.write_synced-2.new.disk) (log_of (folder_of c.args.names.now))
@@ -57,10 +57,10 @@ at_gate g c h0 h3 =
     let k_flushed = subst (λ (l : List ℕ). d2.is_flushed l) (c.deref-2.ensures.value ∙ c.requires.staged.names.keys) c.in_ok-sync-2.ensures.durable in
     let at = ready d0 path end recorded staged d1 d2 c.sync.ensures.quiet c.sync-2.ensures.quiet m_flushed k_flushed in
     let log : c.deref-3.result.now ≡ log_of path = c.deref-3.ensures.value ∙ c.requires.staged.names.log in
-    let more = subst (λ (l : List ℕ). LeavesOnly d2 d3 (OneStepOn (ChangesFile d2 l (TornWrite (end.gate + 1) (length bytes))) d2)) log c.write_synced.ensures.any_moment in
+    let more = subst (λ (l : List ℕ). LeavesOnly d2 d3 (OneStepOn (ChangesFile d2 l (TornWrite (end.records_len + 1) (length bytes))) d2)) log c.write_synced.ensures.any_moment in
     let kept = subst (λ (l : List ℕ). KeepsOthers d2 d3 l) log c.write_synced.ensures.others in
     let on = subst (λ (l : List ℕ). IsOnDisk d3 l) log (c.in_ok-write_synced.ensures.durable h3) in
-    let written = subst (λ (l : List ℕ). IsWrittenAt (bytes_in (d2.seen l)) (end.gate + 1) bytes (bytes_in (d3.seen l))) log c.in_ok-write_synced.ensures.written in
+    let written = subst (λ (l : List ℕ). IsWrittenAt (bytes_in (d2.seen l)) (end.records_len + 1) bytes (bytes_in (d3.seen l))) log c.in_ok-write_synced.ensures.written in
     subst (λ (l : List ℕ). Ready d0 path end recorded staged d3 (l ++ drop (length bytes) staged.log.rest)) c.record_of.ensures.bytes (done_record d0 path end recorded staged d2 d3 bytes at more kept on written)
 
 -- everything outside the folder, after both files are synced, after the record is written, and after the gate is opened
@@ -68,10 +68,10 @@ synced_around : (g : given.Over) (c : After-sync-2 g) → KeepsAround (folder_of
 synced_around g c = around_twice (around_quiet c.sync.ensures.quiet) (around_quiet c.sync-2.ensures.quiet)
 
 record_around : (g : given.Over) (c : After-write_synced g) → KeepsAround (folder_of c.args.names.now) (g.D.Disk.state c.sync-2.new.self) (g.D.Disk.state c.write_synced.new.disk)
-record_around g c = around_changed (TornWrite (c.args.end.gate + 1) (length c.record_of.result)) (log_in (folder_of c.args.names.now)) (record_kept g c) (record_run g c)
+record_around g c = around_changed (TornWrite (c.args.end.records_len + 1) (length c.record_of.result)) (log_in (folder_of c.args.names.now)) (record_kept g c) (record_run g c)
 
 gate_around : (g : given.Over) (c : After-write_synced-2 g) → KeepsAround (folder_of c.args.names.now) (g.D.Disk.state c.write_synced.new.disk) (g.D.Disk.state c.write_synced-2.new.disk)
-gate_around g c = around_changed (TornWrite c.args.end.gate 1) (log_in (folder_of c.args.names.now)) (gate_kept g c) (gate_run g c)
+gate_around g c = around_changed (TornWrite c.args.end.records_len 1) (log_in (folder_of c.args.names.now)) (gate_kept g c) (gate_run g c)
 
 pub returns-in_err-sync-clause-outside : goal.returns-in_err-sync-clause-outside
 returns-in_err-sync-clause-outside g c = outside_quiet (folder_of c.args.names.now) (g.D.Disk.state c.args.disk.now) (g.D.Disk.state c.sync.new.self) c.sync.ensures.quiet
@@ -137,7 +137,7 @@ returns-clause-settled g c h4 =
     let d4 = g.D.Disk.state c.write_synced-2.new.disk in
     let log : c.deref-4.result.now ≡ log_of (folder_of c.args.names.now) = c.deref-4.ensures.value ∙ c.requires.staged.names.log in
     let on = subst (λ (l : List ℕ). IsOnDisk d4 l) log (c.in_ok-write_synced-2.ensures.durable h4) in
-    let written = subst (λ (l : List ℕ). IsWrittenAt (bytes_in (d3.seen l)) c.args.end.gate (1 ∷ []) (bytes_in (d4.seen l))) log c.in_ok-write_synced-2.ensures.written in
+    let written = subst (λ (l : List ℕ). IsWrittenAt (bytes_in (d3.seen l)) c.args.end.records_len (1 ∷ []) (bytes_in (d4.seen l))) log c.in_ok-write_synced-2.ensures.written in
     done_gate (g.D.Disk.state c.args.disk.now) (folder_of c.args.names.now) c.args.end c.args.recorded (c.requires.staged.staged h0) d3 d4 (body_of c.args.recorded) (drop (length c.record_of.result) (c.requires.staged.staged h0).log.rest) refl
     (recorded_by-body_of c.args.recorded c.record_of.ensures.fits) (at_gate g at h0 h3) (gate_kept g at) on written
 

@@ -8,5 +8,5 @@ records-preserved c =
     let test = c.records-test.ensures in
     record {
       reads = reads_more c.args.bytes.now end c.recorded_at.result c.records.invariant.reads test.0 test.1 c.recorded_at.ensures;
-      within = omega (arith, test.0, length-drop end.gate c.args.bytes.now);
+      within = omega (arith, test.0, length-drop end.records_len c.args.bytes.now);
     }

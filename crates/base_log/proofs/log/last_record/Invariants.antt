@@ -4,9 +4,9 @@ use Rattle.base_log.proofs.log.last_record.Given as goal
 
 abbrev pub invariant-records : goal.invariant-records
 invariant-records l = record {
-  reads : ReadsTo l.bytes l.end (drop l.end.gate l.bytes);
-  within : l.end.gate ≤ length l.bytes;
+  reads : ReadsTo l.bytes l.end (drop l.end.records_len l.bytes);
+  within : l.end.records_len ≤ length l.bytes;
 }
 
 abbrev pub decreases-records : goal.decreases-records
-decreases-records l = length l.bytes - l.end.gate
+decreases-records l = length l.bytes - l.end.records_len

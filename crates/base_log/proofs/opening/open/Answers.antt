@@ -30,7 +30,7 @@ settle_files-requires g c =
     let log = c.args.log.now in
     let d0 = g.D.Disk.state c.args.disk.now in
     let d1 = g.D.Disk.state c.settle_log.new.disk in
-    let some : log.end.gate ≢ 0 = λ none. absurd (omega (arith, none, c.if-log-gt0.true)) in
+    let some : log.end.records_len ≢ 0 = λ none. absurd (omega (arith, none, c.if-log-gt0.true)) in
     let has : d1.is_honest → HasFiles path d1.seen log.end.recorded =
     λ h1.
     let h0 = c.settle_log.ensures.others.honest h1 in
@@ -97,7 +97,7 @@ made g c =
     let d2 = g.D.Disk.state c.make_files.new.disk in
     let others = c.settle_log.ensures.others in
     let base = base_at d0 path log.end.recorded in
-    let none : log.end.gate ≡ 0 = omega (arith, c.if-log-gt0.false) in
+    let none : log.end.records_len ≡ 0 = omega (arith, c.if-log-gt0.false) in
     record {
       any_moment = λ h2.
           let h1 = c.make_files.ensures.outside.honest h2 in
@@ -152,7 +152,7 @@ returns-then-log-gt0 g c =
           let h1 = quiet.honest h2 in
           let h0 = others.honest h1 in
           let base = base_at d0 path recorded in
-          let some : log.end.gate ≢ 0 = λ none. absurd (omega (arith, none, c.if-log-gt0.true)) in
+          let some : log.end.records_len ≢ 0 = λ none. absurd (omega (arith, none, c.if-log-gt0.true)) in
           let recorded_base = end_recorded_base log.bytes.items log.end c.requires.log.read path d0.seen (c.requires.log.same h0) base (c.requires.represented h0) in
           let has = has_files log.bytes.items log.end c.requires.log.read path d0.seen (c.requires.log.same h0) base (c.requires.represented h0) some in
           files_settled d1 d2 path log.end (c.in_ok-settle_log.ensures.log h1) quiet recorded_base.digit (files_others d0 d1 path recorded others has)

@@ -64,7 +64,7 @@ returns-then-is_shut-clause-log g c honest =
     let quiet2 = c.sync.ensures.quiet in
     let log = c.args.log.now in
     let at = log_of path in
-    let shut : IsShutAt log.end.gate log.bytes.items = c.is_shut.ensures.0 c.if-is_shut.true in
+    let shut : IsShutAt log.end.records_len log.bytes.items = c.is_shut.ensures.0 c.if-is_shut.true in
     let is : log.bytes.items ≡ bytes_in (d2.seen at) = c.requires.log.same h0 ∙ ap bytes_in (sym (quiet2.seen at ∙ quiet1.seen at)) in
     let named = subst (λ (p : List ℕ). AreNamed p d1) c.deref.ensures.value c.in_ok-sync_folder_of.ensures.durable in
     let some : 0 < length (bytes_in (d2.seen at)) = omega (arith, shut.0, ap length is) in
@@ -96,7 +96,7 @@ returns-clause-log g c honest =
     let h0 = c.sync_folder_of.ensures.quiet.honest h1 in
     let d0 = g.D.Disk.state c.args.disk.now in
     let log = c.args.log.now in
-    let new = ⊎_elim (λ (shut : IsShutAt log.end.gate log.bytes.items). absurd (cc (c.is_shut.ensures.1 shut, c.if-is_shut.false))) (λ (new : IsNew path d0.seen). new) (c.requires.ended h0) in
+    let new = ⊎_elim (λ (shut : IsShutAt log.end.records_len log.bytes.items). absurd (cc (c.is_shut.ensures.1 shut, c.if-is_shut.false))) (λ (new : IsNew path d0.seen). new) (c.requires.ended h0) in
     let made = c.in_ok-make_log.ensures in
     made_read log.bytes.items log.end c.requires.log.read (g.D.Disk.state c.make_log.new.disk) path (new_few log.bytes.items log.end c.requires.log.read path d0.seen (c.requires.log.same h0) new) (made.made honest) (made.on_disk honest) (made.named honest)
 

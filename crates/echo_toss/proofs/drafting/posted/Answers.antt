@@ -1,4 +1,4 @@
-use Rattle.std.proofs.Common.{◌≡◌, sym, subst, ◌∙◌, [], refl, None}
+use Rattle.std.proofs.Common.{◌≡◌, sym, subst, [], refl, None, arith}
 use Rattle.echo_filed.specs.Filed.{IsFiled}
 use Rattle.model_steps.specs.Posting.{posted}
 use Rattle.model_steps.proofs.Kept.{posted_filed}
@@ -17,10 +17,7 @@ made : (c : goal.After-date_of) → record {
   subject = c.in_ok-subject.subject;
   echo = record { tag = c.new-tag.result; kept = c.in_ok-kept.kept; seen = c.new-2.result; path = c.new-4.result };
 } ≡ posted c.args.links.now c.args.tag.now c.args.draft.now c.args.serial c.args.stamp
-made c =
-    posted_is c.args.links.now c.args.tag.now c.args.draft.now c.args.serial c.args.stamp _ _ _ _ _ _ _ _ c.date_of.ensures
-    (c.in_ok-to_name.ensures ∙ c.as_slice.ensures) (c.in_ok-from_name.ensures ∙ c.as_slice-2.ensures) (c.in_ok-subject.ensures ∙ c.as_slice-3.ensures)
-    (c.new-tag.ensures ∙ c.in_ok-to_ascii_uppercase.ensures.ok) c.in_ok-kept.ensures (c.new-2.ensures ∙ c.new.ensures.items) (c.new-4.ensures ∙ c.new-3.ensures.items)
+made c = grind (arith, posted_is)
 
 filed : (c : goal.After-date_of) → IsFiled (posted c.args.links.now c.args.tag.now c.args.draft.now c.args.serial c.args.stamp)
 filed c =

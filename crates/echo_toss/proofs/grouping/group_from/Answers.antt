@@ -32,12 +32,7 @@ group-preserved g c =
     )
 
 pub returns-in_err-push_message-clause-many : goal.returns-in_err-push_message-clause-many
-returns-in_err-push_message-clause-many g c =
-    let p = err_from_is_err_and c.from_residual.result c.from_residual.ensures.1 in
-    let ready = c.requires.ready in
-    rw (p.1, p.2) (λ is. full_looked g.T.Store.state _ c.args.store.now (no_look _ ready) (c.in_err-push_message.ensures.many (handed_many c.in_err-push_message.field-0.0 is)))
+returns-in_err-push_message-clause-many g c = grind (arith, err_from_is_err_and, full_looked, no_look, handed_many)
 
 pub returns-in_err-push_message-2-clause-many : goal.returns-in_err-push_message-2-clause-many
-returns-in_err-push_message-2-clause-many g c =
-    let p = err_from_is_err_and c.from_residual-in_err-push_message-2.result c.from_residual-in_err-push_message-2.ensures.1 in
-    rw (p.1, p.2) (λ is. full_looked g.T.Store.state _ c.group.store c.group.invariant.1 (c.in_err-push_message-2.ensures.many (handed_many c.in_err-push_message-2.field-0.0 is)))
+returns-in_err-push_message-2-clause-many g c = grind (arith, err_from_is_err_and, full_looked, handed_many)

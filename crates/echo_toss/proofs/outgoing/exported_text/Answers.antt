@@ -1,9 +1,8 @@
-use Rattle.std.proofs.Common.{◌++◌, ◌∷◌, [], List, AllPairs, ap, sym, subst, ◌∙◌}
+use Rattle.std.proofs.Common.{◌++◌, ◌∷◌, [], List, AllPairs, ap, sym, subst, ◌∙◌, arith}
 use Rattle.echo_addr.specs.declared.address.NetNode.{NetNode}
 use Rattle.echo_addr.specs.Address.{net_node_of}
 use Rattle.echo_addr.specs.ShortLines.{ComesBefore}
 use Rattle.echo_text.specs.Echo.{EchoText, IsEcho}
-use Rattle.echo_filed.specs.Written.{text_of}
 use Rattle.model_steps.proofs.Copies.{exported_is_echo}
 use Rattle.echo_packet.specs.Message.{HasNoZero}
 use Rattle.echo_toss.proofs.Exports.{exported_made, exported_no_zero, written_is}
@@ -33,9 +32,7 @@ returns-clause-text c =
     (ap (λ (x : EchoText). x.kept) view) (c.as_slice.ensures ∙ ap (λ (x : EchoText). x.seen) view) (c.as_slice-3.ensures ∙ c.in_ok-seen.ensures)
     (c.as_slice-2.ensures ∙ ap (λ (x : EchoText). x.path) view) (c.deref.ensures.value ∙ c.in_ok-push.ensures.items ∙ ap (λ (l : List NetNode). l ++ c.net_node-own.result ∷ []) c.in_ok-path.ensures.items)
     in
-    let made = subst IsEcho (sym is) (exported_is_echo c.args.links.now c.system.ensures.file c.args.echo.now (subst IsEcho view c.echo.invariant)) in
-    let said : EchoText = record { tag = c.as_slice-tag.result.now; kept = c.echo.inside.kept; seen = c.as_slice-3.result.now; path = c.deref.result.now } in
-    c.new.ensures ∙ c.in_ok-exact.ensures.items ∙ c.deref-2.ensures.value ∙ written_is said c.in_ok-text.text.items made c.in_ok-text.ensures ∙ ap text_of is
+    grind (arith, exported_is_echo c.args.links.now c.system.ensures.file c.args.echo.now (subst IsEcho view c.echo.invariant), written_is)
 
 pub returns-clause-no_zero : goal.returns-clause-no_zero
 returns-clause-no_zero c =

@@ -20,6 +20,4 @@ waiting-preserved g c =
     )
 
 pub returns-in_err-push_message-clause-many : goal.returns-in_err-push_message-clause-many
-returns-in_err-push_message-clause-many g c =
-    let p = err_from_is_err_and c.from_residual.result c.from_residual.ensures.1 in
-    rw (p.1, p.2) (λ is. full_looked g.T.Store.state _ c.waiting.store c.waiting.invariant.1 (c.in_err-push_message.ensures.many (handed_many c.in_err-push_message.field-0.0 is)))
+returns-in_err-push_message-clause-many g c = grind (arith, err_from_is_err_and, full_looked, handed_many)

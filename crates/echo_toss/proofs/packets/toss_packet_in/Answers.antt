@@ -1,4 +1,4 @@
-use Rattle.std.proofs.Common.{[], refl}
+use Rattle.std.proofs.Common.{[], refl, arith}
 use Rattle.echo_toss.specs.Tallies.{tally_of}
 use Rattle.echo_toss.specs.PacketsIn.{state_in}
 use Rattle.echo_toss.proofs.Stops.{tossed_part}
@@ -6,24 +6,10 @@ use Rattle.echo_toss.proofs.PacketsIn.{tossed_all, tossed_none}
 use Rattle.echo_toss.proofs.packets.toss_packet_in.Goals as goal
 
 pub returns-in-Ok-toss_messages-clause-tossed : goal.returns-in-Ok-toss_messages-clause-tossed
-returns-in-Ok-toss_messages-clause-tossed g c = λ honest base kept.
-    let went = c.in-Ok-toss_messages.ensures.tossed honest base kept in
-    let file = c.args.links.now in
-    record {
-      next = went.next;
-      step = tossed_all c.args.limits c.in-Ok.sender (state_in file base) (state_in file went.next) _ _ _ c.toss_messages.new.tally c.in-Ok.ensures.front went.step;
-      holds = went.holds;
-    }
+returns-in-Ok-toss_messages-clause-tossed g c = grind (arith, tossed_all)
 
 pub returns-in-Err-toss_messages-clause-tossed : goal.returns-in-Err-toss_messages-clause-tossed
-returns-in-Err-toss_messages-clause-tossed g c = λ honest base kept.
-    let went = c.in-Err-toss_messages.ensures.tossed honest base kept in
-    let file = c.args.links.now in
-    record {
-      next = went.next;
-      step = tossed_part c.args.limits c.in-Ok.sender (state_in file base) (state_in file went.next) _ _ _ c.toss_messages.new.tally _ c.in-Ok.ensures.front went.step;
-      holds = went.holds;
-    }
+returns-in-Err-toss_messages-clause-tossed g c = grind (arith, tossed_part)
 
 pub returns-in-Ok-toss_messages-clause-read : goal.returns-in-Ok-toss_messages-clause-read
 returns-in-Ok-toss_messages-clause-read g c = λ base.

@@ -1,3 +1,4 @@
+use Rattle.std.proofs.Common.{arith}
 use Rattle.std.proofs.lemmas.Result.{err_from_is_err_and}
 use Rattle.base_store.proofs.Runs.{looks_then_commits}
 use Rattle.echo_toss.proofs.Bounds.{full_now, no_room_now, past_looked}
@@ -11,9 +12,7 @@ returns-in_err-file-clause-commits g c =
     looks_then_commits (g.T.Store.state c.args.store.now) (g.T.Store.state c.prepared.new.store) (g.T.Store.state c.file.new.self) c.requires c.prepared.ensures.looks c.file.ensures.commits
 
 pub returns-in_err-new-clause-many : goal.returns-in_err-new-clause-many
-returns-in_err-new-clause-many g c =
-    let p = err_from_is_err_and c.from_residual.result c.from_residual.ensures.1 in
-    rw (p.1, p.2) (λ is. full_now g.T.Store.state _ c.args.store.now c.requires (c.in_err-new.ensures.many is))
+returns-in_err-new-clause-many g c = grind (arith, err_from_is_err_and, full_now)
 
 pub returns-in_err-file-clause-many : goal.returns-in_err-file-clause-many
 returns-in_err-file-clause-many g c =

@@ -1,4 +1,4 @@
-use Rattle.std.proofs.Common.{true, sym, ap, ◌∙◌}
+use Rattle.std.proofs.Common.{sym, ap, ◌∙◌, arith}
 use Rattle.std.specs.List.{list_any}
 use Rattle.std.proofs.lemmas.Result.{err_from_is_err_and}
 use Rattle.echo_text.specs.Ids.{id_of}
@@ -13,19 +13,13 @@ returns-in_err-judge-clause-prepared g c =
     (λ honest base kept. draft_refused c.args.links.now base.messages c.args.tag.now c.args.draft.now c.args.serial c.args.stamp c.in_err-judge.field-0.0 c.in_err-judge.ensures)
 
 pub returns-in_err-is_known-clause-prepared : goal.returns-in_err-is_known-clause-prepared
-returns-in_err-is_known-clause-prepared g c =
-    let p = err_from_is_err_and c.from_residual-in_err-is_known.result c.from_residual-in_err-is_known.ensures.1 in
-    rw (p.1, p.2) (λ honest base kept. memory_fault c.args.links.now base.messages c.args.tag.now c.args.draft.now c.args.serial c.args.stamp c.in_ok-judge.ensures)
+returns-in_err-is_known-clause-prepared g c = grind (arith, err_from_is_err_and, memory_fault)
 
 pub returns-then-branch-clause-prepared : goal.returns-then-branch-clause-prepared
-returns-then-branch-clause-prepared g c = λ honest base kept.
-    draft_passes c.args.links.now base.messages c.args.tag.now c.args.draft.now c.args.serial c.args.stamp true c.in_ok-judge.ensures
-    (ap (λ a. list_any (has_id (id_of a c.args.serial)) base.messages) (sym c.system.ensures.own) ∙ sym (c.in_ok-is_known.ensures.known honest base kept) ∙ c.if-branch.true)
+returns-then-branch-clause-prepared g c = grind (arith, draft_passes)
 
 pub returns-in_err-made-clause-prepared : goal.returns-in_err-made-clause-prepared
-returns-in_err-made-clause-prepared g c =
-    let p = err_from_is_err_and c.from_residual-in_err-made.result c.from_residual-in_err-made.ensures.1 in
-    rw (p.1, p.2) (λ honest base kept. memory_fault c.args.links.now base.messages c.args.tag.now c.args.draft.now c.args.serial c.args.stamp c.in_ok-judge.ensures)
+returns-in_err-made-clause-prepared g c = grind (arith, err_from_is_err_and, memory_fault)
 
 pub returns-clause-prepared : goal.returns-clause-prepared
 returns-clause-prepared g c = λ honest base kept.

@@ -1,4 +1,4 @@
-use Rattle.std.proofs.Common.{sym, subst, ap, ◌∙◌, List, ℕ}
+use Rattle.std.proofs.Common.{sym, subst, ap, ◌∙◌, List, ℕ, arith}
 use Rattle.echo_text.specs.Echo.{FrontOf}
 use Rattle.echo_toss.specs.Wanted.{refused_by}
 use Rattle.echo_toss.proofs.Tossed.{bad_tag, link_refused, no_echo, refused_text}
@@ -23,11 +23,4 @@ returns-in-Some c =
     (ap (λ t. refused_by file t c.args.sender) (sym c.as_slice.ensures) ∙ sym c.refused_by.ensures ∙ c.in-Some.is)
 
 pub returns : goal.returns
-returns c =
-    let file = c.args.links.now in
-    let front = c.in-Ok.front in
-    let P : List ℕ → Type 0 = λ t. FrontOf t front.tag front.kept in
-    record {
-      front = subst P c.text.ensures.text c.in-Ok.ensures;
-      allowed = ap (λ t. refused_by file t c.args.sender) (sym c.as_slice.ensures) ∙ sym c.refused_by.ensures ∙ c.in-None.is;
-    }
+returns c = grind arith

@@ -1,16 +1,13 @@
-use Rattle.std.proofs.Common.{◌≡◌, ℕ, List, sym, subst, ◌∙◌, Some, arith}
-use Rattle.echo_text.specs.Echo.{EchoOf, FrontOf}
+use Rattle.std.proofs.Common.{◌≡◌, ℕ, List, subst, ◌∙◌, Some, arith}
+use Rattle.echo_text.specs.Echo.{EchoOf}
 use Rattle.echo_text.proofs.SaidAfter.{front_accepted}
-use Rattle.echo_filed.specs.Filed.{IsFiled}
 use Rattle.model_steps.specs.Tossing.{received}
 use Rattle.model_steps.proofs.Kept.{received_filed}
 use Rattle.echo_toss.proofs.Tossed.{made_received}
 use Rattle.echo_toss.proofs.receiving.received.Goals as goal
 
 pub into_echo-requires-clause-front : goal.into_echo-requires-clause-front
-into_echo-requires-clause-front c =
-    let P : List ℕ → Type 0 = λ t. FrontOf t c.args.front.tag c.args.front.kept in
-    subst P (sym c.text-text.ensures.text) c.requires
+into_echo-requires-clause-front c = grind arith
 
 made : (c : goal.After-result-1) → record {
   sender = Some c.args.sender;
@@ -26,9 +23,7 @@ made c =
     (c.in_ok-subject.ensures ∙ c.subject.ensures) (_, subst P c.text-text.ensures.text c.in_ok-echo.ensures)
 
 pub invariant_of-result : goal.invariant_of-result
-invariant_of-result c =
-    subst IsFiled (sym (made c)) (received_filed _ c.args.sender c.args.packed.now (omega arith, omega arith, omega arith) c.text-text.ensures.message
-    (front_accepted c.args.packed.now.text c.args.front.tag c.args.front.kept c.requires))
+invariant_of-result c = grind (arith, made, received_filed, front_accepted)
 
 pub returns : goal.returns
 returns c = made c

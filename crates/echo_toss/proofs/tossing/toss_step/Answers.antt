@@ -1,15 +1,13 @@
+use Rattle.std.proofs.Common.{arith}
 use Rattle.std.proofs.lemmas.Result.{err_from_is_err_and}
 use Rattle.echo_toss.proofs.Bounds.{full_now, handed_many, no_room_now, past_looked}
 use Rattle.echo_toss.proofs.tossing.toss_step.Goals as goal
 
 pub file-requires-clause-new : goal.file-requires-clause-new
-file-requires-clause-new g c = λ honest base kept.
-    let h = rw c.in-New.is at c.in_ok-verdict.ensures.verdict honest base (c.judged.ensures.looks.keeps_no_other base kept) in h.new
+file-requires-clause-new g c = λ honest base kept. grind arith
 
 pub returns-in_err-verdict-clause-many : goal.returns-in_err-verdict-clause-many
-returns-in_err-verdict-clause-many g c =
-    let p = err_from_is_err_and c.from_residual.result c.from_residual.ensures.1 in
-    rw (p.1, p.2) (λ is. full_now g.T.Store.state _ c.args.store.now c.requires (c.in_err-verdict.ensures.many (handed_many c.in_err-verdict.field-0.0 is)))
+returns-in_err-verdict-clause-many g c = grind (arith, err_from_is_err_and, full_now, handed_many)
 
 pub returns-in_err-file-in-New-clause-many : goal.returns-in_err-file-in-New-clause-many
 returns-in_err-file-in-New-clause-many g c =

@@ -1,4 +1,4 @@
-use Rattle.std.proofs.Common.{IfSome, Ok, Result, subst}
+use Rattle.std.proofs.Common.{IfSome, Ok, Result, subst, arith}
 use Rattle.std.proofs.lemmas.Result.{err_from_is_err_and}
 use Rattle.echo_packet.specs.Header.{AreBytes}
 use Rattle.base_file.specs.declared.fault.BaseFault.{BaseFault as Fault}
@@ -8,9 +8,7 @@ use Rattle.base_file.specs.Loading.{AnswersLoad}
 use Rattle.echo_toss.proofs.tosser.Tosser.load.Goals as goal
 
 pub returns-in_err-base-clause-only : goal.returns-in_err-base-clause-only
-returns-in_err-base-clause-only g c =
-    let p = err_from_is_err_and c.from_residual.result c.from_residual.ensures.1 in
-    rw (p.1, p.2) c.in_err-base.ensures.only
+returns-in_err-base-clause-only g c = grind (arith, err_from_is_err_and)
 
 pub returns-clause-only : goal.returns-clause-only
 returns-clause-only g c =

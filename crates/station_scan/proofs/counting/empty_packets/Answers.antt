@@ -10,7 +10,7 @@ use Rattle.station_scan.specs.declared.counting.LinkPacket.{LinkPacket}
 use Rattle.station_scan.specs.declared.sending.Route.{Route}
 use Rattle.station_scan.proofs.Lists.{map_twice}
 use Rattle.station_scan.proofs.Routes.{routes_same}
-use Rattle.station_scan.proofs.counting.none_counted.Goals as goal
+use Rattle.station_scan.proofs.counting.empty_packets.Goals as goal
 
 pub routes-preserved : goal.routes-preserved
 routes-preserved c =

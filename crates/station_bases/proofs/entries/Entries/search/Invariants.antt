@@ -5,7 +5,7 @@ use Rattle.echo_filed.specs.Filed.{Filed}
 use Rattle.base_store.specs.Keys.{AreWhereRecorded}
 use Rattle.base_folder_store.specs.Answers.{HaveDigest}
 use Rattle.station_bases.specs.Entries.{message_bytes}
-use Rattle.station_bases.proofs.entries.Entries.find_covered.Given as goal
+use Rattle.station_bases.proofs.entries.Entries.search.Given as goal
 
 abbrev pub invariant-entries : goal.invariant-entries
 invariant-entries g l = record {

@@ -4,7 +4,7 @@ use Rattle.std.specs.Prelude.{All}
 use Rattle.station_scan.specs.Passing.{IsCounted}
 use Rattle.station_scan.specs.declared.counting.LinkPacket.{LinkPacket}
 use Rattle.station_scan.specs.declared.sending.Route.{Route}
-use Rattle.station_scan.proofs.counting.none_counted.Given as goal
+use Rattle.station_scan.proofs.counting.empty_packets.Given as goal
 
 abbrev pub invariant-routes : goal.invariant-routes
 invariant-routes l = record {
