@@ -16,6 +16,6 @@ returns-in-Sound-clause-sound c = λ file part.
     let l = c.deref.result.now in
     let bytes = take (length l - k) (drop k l) in
     let whole : bytes ≡ drop k l = take_all (length l - k) (drop k l) (omega (arith, length-drop k l)) in
-    let here = subst (λ (n : Next). IsNext c.args.head.version c.args.head.cursor c.args.place bytes n) c.in-Sound.is c.in_ok-judge_next.ensures in
+    let here = subst (λ (n : Next). IsNext c.args.head.version c.args.head.cursor c.args.place bytes n) c.in-Sound.is c.in_ok-key.ensures in
     sound_here file piece c.args.head.cursor c.args.place c.args.at bytes c.in-Sound.key c.in-Sound.size c.in-Sound.short part (omega (arith, past)) (omega (arith, inside, past, c.len.ensures))
     (whole ∙ ap (λ (l : List ℕ). drop k l) c.deref.ensures.value) (subst (λ (v : Version). IsNext v c.args.head.cursor c.args.place bytes (next.Sound c.in-Sound.key c.in-Sound.size c.in-Sound.short)) c.requires here)
