@@ -44,8 +44,8 @@ use Rattle.base_folder.specs.OpenError.{HasUnreadCause, IsWrong}
 use Rattle.base_folder.specs.Source.{LooksAt, SourceState}
 use Rattle.base_folder.specs.declared.open_error.OpenError.{OpenError}
 use Rattle.base_folder.specs.declared.open_error.OpenError.TheVariants as unread
-use Rattle.base_folder.specs.declared.unfilled.UnfilledFolder.{UnfilledFolder}
-use Rattle.base_folder.specs.declared.unfilled.UnfilledFolder.TheVariants as unfilled
+use Rattle.base_folder.specs.declared.fill_error.FillError.{FillError}
+use Rattle.base_folder.specs.declared.fill_error.FillError.TheVariants as unfilled
 use Rattle.base_folder.proofs.Files.{there}
 use Rattle.base_folder.proofs.Lookings.{err_is}
 use Rattle.base_folder.proofs.Readings.{looks_none, looks_on}
@@ -79,13 +79,13 @@ front_all keyed bytes base n all was =
     subst (λ (l : List Filed). HoldsBase keyed bytes (record { messages = l; cursor = base.cursor })) (take_all n base.messages (omega arith)) was
 
 -- one message more, as it is stored
-pub many_more : (keyed : ℕ → ℕ → List ℕ → ℕ) (now held : BaseBytes) (k : ℕ) (m : Filed) (bytes taken : List ℕ) (number : ℕ) → now ≡ with_stored held bytes number → IsStoredAlone m bytes → taken ≡ digested_key (key_of m)
-    → number ≡ digest_by keyed held.mark taken → HoldsMany keyed held k → HoldsMany keyed now (k + 1)
-many_more keyed now held k m bytes taken number staged is key recorded was =
+pub many_more : (keyed : ℕ → ℕ → List ℕ → ℕ) (now held : BaseBytes) (k : ℕ) (m : Filed) (bytes : List ℕ) (number : ℕ) → now ≡ with_stored held bytes number → IsStoredAlone m bytes
+    → number ≡ digest_by keyed held.mark (digested_key (key_of m)) → HoldsMany keyed held k → HoldsMany keyed now (k + 1)
+many_more keyed now held k m bytes number staged is recorded was =
     let digest = digest_by keyed held.mark in
     let one : List Stored = is.s ∷ [] in
     let here : length held.messages ≡ 0 + length (bytes_of was.all) = omega (arith, ap (λ (l : List ℕ). length l) was.stored) in
-    let number_is : number ≡ digest (digested m) = recorded ∙ ap digest (key ∙ sym (of_key m)) in
+    let number_is : number ≡ digest (digested m) = recorded ∙ ap digest (sym (of_key m)) in
     let entered : entry (length held.messages) number ≡ keys_from digest (0 + length (bytes_of was.all)) one =
     (λ i. entry (here i) (number_is i))
     ∙ ap (λ (x : Filed). entry (0 + length (bytes_of was.all)) (digest (digested x))) (sym is.is)
@@ -162,7 +162,7 @@ uncommitted_opened keyed path left d e (unread.Wrong fault) run = run
 uncommitted_opened keyed path left d e unread.Raced run = run
 uncommitted_opened keyed path left d e (unread.NotOwner address) run = run
 
-pub uncommitted_added : (keyed : ℕ → ℕ → List ℕ → ℕ) (left : (Files → Type 0) → Files → Type 0) (d e : DiskState) (f g : Folder) (why : UnfilledFolder) → HoldsBase keyed (committed_by d f) no_messages → path_of g ≡ path_of f
+pub uncommitted_added : (keyed : ℕ → ℕ → List ℕ → ℕ) (left : (Files → Type 0) → Files → Type 0) (d e : DiskState) (f g : Folder) (why : FillError) → HoldsBase keyed (committed_by d f) no_messages → path_of g ≡ path_of f
     → LeavesOnly d e (left (λ c. ⊥)) → IsOpenIfUnread f g d e why → IsUncommitted keyed (path_of f) left d e why
 uncommitted_added keyed left d e f g (unfilled.Messages fault) none at run still =
     (open_is_kept keyed (path_of f) e g at still.0 (subst (λ (b : BaseBytes). HoldsBase keyed b no_messages) (sym still.1) none), run)
@@ -187,7 +187,7 @@ fill_run keyed path d e f P opening kept filling =
     then_run d e f (RepresentsNoneOrWasLeft keyed path d P) (RepresentsNoneOr keyed path e P) (opened_run keyed path d e P opening) filling
     (λ c left. inl (record { outside = λ m out named flushed. left.outside m out (kept.named m out named) (kept.flushed m out flushed) ∙ kept.seen m out; represented = left.represented }))
 
-uncommitted_since : (keyed : ℕ → ℕ → List ℕ → ℕ) (path : List ℕ) (d e f : DiskState) (why : UnfilledFolder) → LeavesOnly d e (RepresentsBaseOrWasLeft keyed path d no_messages) → KeepsOutside path d e
+uncommitted_since : (keyed : ℕ → ℕ → List ℕ → ℕ) (path : List ℕ) (d e f : DiskState) (why : FillError) → LeavesOnly d e (RepresentsBaseOrWasLeft keyed path d no_messages) → KeepsOutside path d e
     → IsUncommitted keyed path (RepresentsNoneOr keyed path e) e f why → IsUncommitted keyed path (RepresentsNoneOrWasLeft keyed path d) d f why
 uncommitted_since keyed path d e f (unfilled.Messages fault) opening kept was = (was.0, fill_run keyed path d e f (λ c. ⊥) opening kept was.1)
 uncommitted_since keyed path d e f (unfilled.Folder unread.Memory) opening kept was = tt
@@ -196,7 +196,7 @@ uncommitted_since keyed path d e f (unfilled.Folder (unread.Wrong fault)) openin
 uncommitted_since keyed path d e f (unfilled.Folder unread.Raced) opening kept was = fill_run keyed path d e f (λ c. ⊥) opening kept was
 uncommitted_since keyed path d e f (unfilled.Folder (unread.NotOwner address)) opening kept was = fill_run keyed path d e f (λ c. ⊥) opening kept was
 
-pub fill_since : {T : Type 0} (keyed : ℕ → ℕ → List ℕ → ℕ) (path : List ℕ) (d e f : DiskState) (source later : SourceState) (r : Result T UnfilledFolder) → LeavesOnly d e (RepresentsBaseOrWasLeft keyed path d no_messages) → KeepsOutside path d e
+pub fill_since : {T : Type 0} (keyed : ℕ → ℕ → List ℕ → ℕ) (path : List ℕ) (d e f : DiskState) (source later : SourceState) (r : Result T FillError) → LeavesOnly d e (RepresentsBaseOrWasLeft keyed path d no_messages) → KeepsOutside path d e
     → FillsAllOrNothing keyed path (RepresentsNoneOr keyed path e) e f source later r → FillsAllOrNothing keyed path (RepresentsNoneOrWasLeft keyed path d) d f source later r
 fill_since keyed path d e f source later r opening kept fills = record {
   base = λ honest base holds. fill_run keyed path d e f (RepresentsBase keyed path base) opening kept (fills.base honest base holds);
@@ -210,12 +210,12 @@ pub adds_none : {T E : Type 0} (f : Folder) (d : DiskState) (r : Result T E) →
 adds_none f d (Ok x) usable = record { named = usable.named; opened = usable.opened; path = refl; same = λ honest. refl; run = run_none d f usable.opened }
 adds_none f d (Err e) usable = record { named = usable.named; opened = λ honest. tt; path = refl; same = λ honest. tt; run = run_none d f usable.opened }
 
-pub adds_end : (f g h : Folder) (d e : DiskState) → h ≡ at_end g → AddsOnly {T = Unit {0}} {E = UnfilledFolder} f g d e (Ok tt) → AddsOnly {T = Unit {0}} {E = UnfilledFolder} f h d e (Ok tt)
+pub adds_end : (f g h : Folder) (d e : DiskState) → h ≡ at_end g → AddsOnly {T = Unit {0}} {E = FillError} f g d e (Ok tt) → AddsOnly {T = Unit {0}} {E = FillError} f h d e (Ok tt)
 adds_end f g h d e is was =
-    subst (λ (x : Folder). AddsOnly {T = Unit {0}} {E = UnfilledFolder} f x d e (Ok tt)) (sym is)
+    subst (λ (x : Folder). AddsOnly {T = Unit {0}} {E = FillError} f x d e (Ok tt)) (sym is)
     (record { named = was.named; opened = λ honest. end_open e g (was.opened honest); path = was.path; same = was.same; run = was.run })
 
-pub adds_twice : {U : Type 0} (f g h : Folder) (d e k : DiskState) (two : Result U UnfilledFolder) → AddsOnly {T = Unit {0}} {E = UnfilledFolder} f g d e (Ok tt) → AddsOnly g h e k two → AddsOnly f h d k two
+pub adds_twice : {U : Type 0} (f g h : Folder) (d e k : DiskState) (two : Result U FillError) → AddsOnly {T = Unit {0}} {E = FillError} f g d e (Ok tt) → AddsOnly g h e k two → AddsOnly f h d k two
 adds_twice f g h d e k two was now = record {
   named = now.named;
   opened = now.opened;
@@ -225,7 +225,7 @@ adds_twice f g h d e k two was now = record {
 }
 
 -- The same with messages of a source: none, a fault, an error of the folder, the cursor at the end, and one call after another.
-still_open : (f : Folder) (d : DiskState) (why : UnfilledFolder) → IsOpen d f → IsOpenIfUnread f f d d why
+still_open : (f : Folder) (d : DiskState) (why : FillError) → IsOpen d f → IsOpenIfUnread f f d d why
 still_open f d (unfilled.Messages fault) opened = (opened, refl)
 still_open f d (unfilled.Folder why) opened = tt
 
@@ -236,19 +236,19 @@ fills_none keyed f d n none usable = record {
   unread = λ honest. tt;
 }
 
-pub fills_unread : (keyed : ℕ → ℕ → List ℕ → ℕ) (f : Folder) (d : DiskState) (n : ℕ) (why : UnfilledFolder) → IsUsable d f → FillsOnly {T = Unit {0}} keyed n f f d d (Err why)
+pub fills_unread : (keyed : ℕ → ℕ → List ℕ → ℕ) (f : Folder) (d : DiskState) (n : ℕ) (why : FillError) → IsUsable d f → FillsOnly {T = Unit {0}} keyed n f f d d (Err why)
 fills_unread keyed f d n why usable = record { adds = adds_none f d (Err why) usable; more = λ honest k holds. tt; unread = λ honest. still_open f d why (usable.opened honest) }
 
-pub fills_failed : (keyed : ℕ → ℕ → List ℕ → ℕ) (f g : Folder) (d e : DiskState) (n : ℕ) (why : OpenError) (error : StoreError) (r : Result (Unit {0}) UnfilledFolder) → IsErrAnd r (λ x. x ≡ unfilled.Folder why)
+pub fills_failed : (keyed : ℕ → ℕ → List ℕ → ℕ) (f g : Folder) (d e : DiskState) (n : ℕ) (why : OpenError) (error : StoreError) (r : Result (Unit {0}) FillError) → IsErrAnd r (λ x. x ≡ unfilled.Folder why)
     → AddsOnly {T = Unit {0}} f g d e (Err error) → FillsOnly keyed n f g d e r
 fills_failed keyed f g d e n why error r is was =
-    by_error (λ (x : Result (Unit {0}) UnfilledFolder). FillsOnly keyed n f g d e x) (unfilled.Folder why) r is
+    by_error (λ (x : Result (Unit {0}) FillError). FillsOnly keyed n f g d e x) (unfilled.Folder why) r is
     (record { adds = record { named = was.named; opened = λ honest. tt; path = was.path; same = λ honest. tt; run = was.run }; more = λ honest k holds. tt; unread = λ honest. tt })
 
-pub fills_fewer : (keyed : ℕ → ℕ → List ℕ → ℕ) (f g : Folder) (d e : DiskState) (m n : ℕ) (why : UnfilledFolder) (r : Result (Unit {0}) UnfilledFolder) → IsErrAnd r (λ x. x ≡ why) → FillsOnly {T = Unit {0}} keyed m f g d e (Err why)
+pub fills_fewer : (keyed : ℕ → ℕ → List ℕ → ℕ) (f g : Folder) (d e : DiskState) (m n : ℕ) (why : FillError) (r : Result (Unit {0}) FillError) → IsErrAnd r (λ x. x ≡ why) → FillsOnly {T = Unit {0}} keyed m f g d e (Err why)
     → FillsOnly keyed n f g d e r
 fills_fewer keyed f g d e m n why r is was =
-    by_error (λ (x : Result (Unit {0}) UnfilledFolder). FillsOnly keyed n f g d e x) why r is (record { adds = was.adds; more = λ honest k holds. tt; unread = was.unread })
+    by_error (λ (x : Result (Unit {0}) FillError). FillsOnly keyed n f g d e x) why r is (record { adds = was.adds; more = λ honest k holds. tt; unread = was.unread })
 
 pub fills_end : (keyed : ℕ → ℕ → List ℕ → ℕ) (f g h : Folder) (d e : DiskState) (n : ℕ) → h ≡ at_end g → FillsOnly {T = Unit {0}} keyed n f g d e (Ok tt) → FillsOnly {T = Unit {0}} keyed n f h d e (Ok tt)
 fills_end keyed f g h d e n is was = record {
@@ -257,11 +257,11 @@ fills_end keyed f g h d e n is was = record {
   unread = λ honest. tt;
 }
 
-still_twice : (f g h : Folder) (d e k : DiskState) (why : UnfilledFolder) → committed_by e g ≡ committed_by d f → IsOpenIfUnread g h e k why → IsOpenIfUnread f h d k why
+still_twice : (f g h : Folder) (d e k : DiskState) (why : FillError) → committed_by e g ≡ committed_by d f → IsOpenIfUnread g h e k why → IsOpenIfUnread f h d k why
 still_twice f g h d e k (unfilled.Messages fault) same still = (still.0, still.1 ∙ same)
 still_twice f g h d e k (unfilled.Folder why) same still = tt
 
-pub fills_twice : (keyed : ℕ → ℕ → List ℕ → ℕ) (f g h : Folder) (d e k : DiskState) (m n all : ℕ) (two : Result (Unit {0}) UnfilledFolder) → all ≡ m + n → FillsOnly {T = Unit {0}} keyed m f g d e (Ok tt) → FillsOnly keyed n g h e k two
+pub fills_twice : (keyed : ℕ → ℕ → List ℕ → ℕ) (f g h : Folder) (d e k : DiskState) (m n all : ℕ) (two : Result (Unit {0}) FillError) → all ≡ m + n → FillsOnly {T = Unit {0}} keyed m f g d e (Ok tt) → FillsOnly keyed n g h e k two
     → FillsOnly keyed all f h d k two
 fills_twice keyed f g h d e k m n all two sum was now = record {
   adds = adds_twice f g h d e k two was.adds now.adds;
@@ -279,17 +279,17 @@ pub shows_later : (a b c : SourceState) (base : Base) → LooksAt a b → ShowsB
 shows_later a b c base looks shows = record { honest = shows.honest; holds = looks.holds base shows.holds; is = shows.is }
 
 -- Reads of the messages: some, none, an error of the folder, and one read after another.
-pub reads_as : {T : Type 0} (a b : SourceState) (r : Result T UnfilledFolder) → (IsErrOf r (unfilled.Messages fault.Read) → ⊥) → IfErr r IsUndamaged → LooksAt a b → a.failures ≤ b.failures → ReadsFor a b r
+pub reads_as : {T : Type 0} (a b : SourceState) (r : Result T FillError) → (IsErrOf r (unfilled.Messages fault.Read) → ⊥) → IfErr r IsUndamaged → LooksAt a b → a.failures ≤ b.failures → ReadsFor a b r
 reads_as a b r none whole looks less = record { looks = looks; later = less; failed = λ is. absurd (none is); whole = λ honest base holds. whole }
 
 pub reads_none : (a : SourceState) → ReadsFor {T = Unit {0}} a a (Ok tt)
 reads_none a = reads_as {T = Unit {0}} a a (Ok tt) (λ read. cc (read)) tt (looks_none a) (omega arith)
 
-pub reads_folder : {T : Type 0} (a b : SourceState) (why : OpenError) (r : Result T UnfilledFolder) → IsErrAnd r (λ x. x ≡ unfilled.Folder why) → LooksAt a b → a.failures ≤ b.failures → ReadsFor a b r
+pub reads_folder : {T : Type 0} (a b : SourceState) (why : OpenError) (r : Result T FillError) → IsErrAnd r (λ x. x ≡ unfilled.Folder why) → LooksAt a b → a.failures ≤ b.failures → ReadsFor a b r
 reads_folder {T} a b why r is looks less =
-    by_error (λ (x : Result T UnfilledFolder). ReadsFor a b x) (unfilled.Folder why) r is (reads_as {T = T} a b (Err (unfilled.Folder why)) (λ read. cc (read)) tt looks less)
+    by_error (λ (x : Result T FillError). ReadsFor a b x) (unfilled.Folder why) r is (reads_as {T = T} a b (Err (unfilled.Folder why)) (λ read. cc (read)) tt looks less)
 
-pub reads_twice : {U : Type 0} (a b c : SourceState) (two : Result U UnfilledFolder) → ReadsFor {T = Unit {0}} a b (Ok tt) → ReadsFor b c two → ReadsFor a c two
+pub reads_twice : {U : Type 0} (a b c : SourceState) (two : Result U FillError) → ReadsFor {T = Unit {0}} a b (Ok tt) → ReadsFor b c two → ReadsFor a c two
 reads_twice a b c two was now = record {
   looks = looks_on a b c was.looks now.looks;
   later = omega (arith, was.later, now.later);
@@ -341,13 +341,13 @@ stored_device store.TooMany is = absurd (cc (is))
 stored_device store.Device is = refl
 stored_device store.Damaged is = absurd (cc (is))
 
-pub cause_stored : {T : Type 0} (a b : ℕ) (e : StoreError) (r : Result T UnfilledFolder) → IsErrAnd r (λ x. x ≡ unfilled.Folder (unfilled_cause e)) → HasReadCause {T = Unit {0}} a b (Err e) → HasFillCause a b r
+pub cause_stored : {T : Type 0} (a b : ℕ) (e : StoreError) (r : Result T FillError) → IsErrAnd r (λ x. x ≡ unfilled.Folder (unfilled_cause e)) → HasReadCause {T = Unit {0}} a b (Err e) → HasFillCause a b r
 cause_stored a b e r same cause = record {
   cause = record { later = cause.later; failed = λ is. cause.failed (stored_device e (handed_on (unfilled.Folder (unfilled_cause e)) (unfilled.Folder unread.Device) r same is)) };
   sound = λ strange path files. err_is (IsUnfilled strange path files) (unfilled.Folder (unfilled_cause e)) r same (sound_stored strange path files e);
 }
 
-pub cause_opened : {T U : Type 0} (a b : ℕ) (why : OpenError) (r : Result T UnfilledFolder) → IsErrAnd r (λ x. x ≡ unfilled.Folder why) → HasUnreadCause {T = U} a b (Err why) → HasUnfilledCause a b r
+pub cause_opened : {T U : Type 0} (a b : ℕ) (why : OpenError) (r : Result T FillError) → IsErrAnd r (λ x. x ≡ unfilled.Folder why) → HasUnreadCause {T = U} a b (Err why) → HasUnfilledCause a b r
 cause_opened a b why r same cause = record {
   later = cause.later;
   failed = λ is.
@@ -356,7 +356,7 @@ cause_opened a b why r same cause = record {
       cause.failed (ap (λ (w : OpenError). Err w) device);
 }
 
-pub cause_since : {U : Type 0} (a b c : ℕ) (two : Result U UnfilledFolder) → a ≤ b → HasFillCause b c two → HasFillCause a c two
+pub cause_since : {U : Type 0} (a b c : ℕ) (two : Result U FillError) → a ≤ b → HasFillCause b c two → HasFillCause a c two
 cause_since a b c two was now = record {
   cause = record { later = omega (arith, was, now.cause.later); failed = λ is. failed_since a b c was (now.cause.failed is) };
   sound = now.sound;
@@ -369,12 +369,12 @@ stored_many store.TooMany is = refl
 stored_many store.Device is = absurd (cc (is))
 stored_many store.Damaged is = absurd (cc (is))
 
-pub many_stored : {T : Type 0} (e : StoreError) (r : Result T UnfilledFolder) → IsErrAnd r (λ x. x ≡ unfilled.Folder (unfilled_cause e)) → IsErrOf r (unfilled.Folder (unread.Wrong fault.TooMany))
+pub many_stored : {T : Type 0} (e : StoreError) (r : Result T FillError) → IsErrAnd r (λ x. x ≡ unfilled.Folder (unfilled_cause e)) → IsErrOf r (unfilled.Folder (unread.Wrong fault.TooMany))
     → IsErrOf {T = Unit {0}} (Err e) store.TooMany
 many_stored e r same is = stored_many e (handed_on (unfilled.Folder (unfilled_cause e)) (unfilled.Folder (unread.Wrong fault.TooMany)) r same is)
 
 -- A folder that is not opened is not too much.
-pub never_many : {T : Type 0} (strange : Bool) (path : List ℕ) (files : Files) (why : OpenError) (r : Result T UnfilledFolder) → IsErrAnd r (λ x. x ≡ unfilled.Folder why) → IsWrong strange path files why
+pub never_many : {T : Type 0} (strange : Bool) (path : List ℕ) (files : Files) (why : OpenError) (r : Result T FillError) → IsErrAnd r (λ x. x ≡ unfilled.Folder why) → IsWrong strange path files why
     → IsErrOf r (unfilled.Folder (unread.Wrong fault.TooMany)) → ⊥
 never_many strange path files why r same was is =
     let err = handed_on {U = Unit {0}} (unfilled.Folder why) (unfilled.Folder (unread.Wrong fault.TooMany)) r same is in

@@ -25,8 +25,8 @@ use Rattle.base_folder.specs.OpenError.{IsWrong}
 use Rattle.base_folder.specs.Source.{LooksAt, SourceState}
 use Rattle.base_folder.specs.declared.open_error.OpenError.{OpenError}
 use Rattle.base_folder.specs.declared.open_error.OpenError.TheVariants as unread
-use Rattle.base_folder.specs.declared.unfilled.UnfilledFolder.{UnfilledFolder}
-use Rattle.base_folder.specs.declared.unfilled.UnfilledFolder.TheVariants as unfilled
+use Rattle.base_folder.specs.declared.fill_error.FillError.{FillError}
+use Rattle.base_folder.specs.declared.fill_error.FillError.TheVariants as unfilled
 
 -- If the old bytes hold a base without the message's key, the new bytes hold it with the message at its end.
 abbrev pub HoldsMore : (ℕ → ℕ → List ℕ → ℕ) → BaseBytes → BaseBytes → Filed → Type 0
@@ -55,12 +55,12 @@ pub record AddsOnly {T E : Type 0} (old new : Folder) (before after : DiskState)
   pub run : StagesOnly (path_of old) (committed_by before old) before after
 
 -- If the messages have a fault, the folder is still open, with the same last commit.
-abbrev pub IsOpenIfUnread : Folder → Folder → DiskState → DiskState → UnfilledFolder → Type 0
+abbrev pub IsOpenIfUnread : Folder → Folder → DiskState → DiskState → FillError → Type 0
 IsOpenIfUnread old new before after (unfilled.Messages why) = IsOpen after new × (committed_by after new ≡ committed_by before old)
 IsOpenIfUnread old new before after (unfilled.Folder why) = Unit {0}
 
 -- A call that adds so many messages of any source to an open folder.
-pub record FillsOnly {T : Type 0} (keyed : ℕ → ℕ → List ℕ → ℕ) (n : ℕ) (old new : Folder) (before after : DiskState) (result : Result T UnfilledFolder) : Type 0 where
+pub record FillsOnly {T : Type 0} (keyed : ℕ → ℕ → List ℕ → ℕ) (n : ℕ) (old new : Folder) (before after : DiskState) (result : Result T FillError) : Type 0 where
   pub adds : AddsOnly old new before after result
   pub more : Honestly after ((k : ℕ) → HoldsMany keyed (held_by before old) k → OnOk result (HoldsMany keyed (held_by after new) (k + n)))
   pub unread : Honestly after (IfErr result (IsOpenIfUnread old new before after))
@@ -72,21 +72,21 @@ pub record ShowsBase (old new : SourceState) (base : Base) : Type 0 where
   pub is : IsBase base.messages base.cursor
 
 -- It is no damage of the messages.
-abbrev pub IsUndamaged : UnfilledFolder → Type 0
+abbrev pub IsUndamaged : FillError → Type 0
 IsUndamaged (unfilled.Messages fault.Memory) = Unit {0}
 IsUndamaged (unfilled.Messages fault.Read) = Unit {0}
 IsUndamaged (unfilled.Messages _) = ⊥
 IsUndamaged (unfilled.Folder _) = Unit {0}
 
 -- The messages are only read. The error is a failed read only if the source counts one more failure. If the source was honest and has a base, no message is damaged.
-pub record ReadsFor {T : Type 0} (old new : SourceState) (result : Result T UnfilledFolder) : Type 0 where
+pub record ReadsFor {T : Type 0} (old new : SourceState) (result : Result T FillError) : Type 0 where
   pub looks : LooksAt old new
   pub later : old.failures ≤ new.failures
   pub failed : IsErrOf result (unfilled.Messages fault.Read) → Failed old.failures new.failures
   pub whole : new.is_honest → (base : Base) → old.holds base → IfErr result IsUndamaged
 
 -- The error is a failure of the folder's device only if that device counts one more failure.
-pub record HasUnfilledCause {T : Type 0} (before now : ℕ) (result : Result T UnfilledFolder) : Type 0 where
+pub record HasUnfilledCause {T : Type 0} (before now : ℕ) (result : Result T FillError) : Type 0 where
   pub later : before ≤ now
   pub failed : IsErrOf result (unfilled.Folder unread.Device) → Failed before now
 
@@ -116,7 +116,7 @@ pub record IsKept (disk : DiskState) (P : Files → Type 0) : Type 0 where
 
 -- After a fault of the messages the folder represents none, and no crash has left any. Nor has one after other errors,
 -- except a failure of the folder's device or a want of memory: these may come from the commit.
-abbrev pub IsUncommitted : (ℕ → ℕ → List ℕ → ℕ) → List ℕ → ((Files → Type 0) → Files → Type 0) → DiskState → DiskState → UnfilledFolder → Type 0
+abbrev pub IsUncommitted : (ℕ → ℕ → List ℕ → ℕ) → List ℕ → ((Files → Type 0) → Files → Type 0) → DiskState → DiskState → FillError → Type 0
 IsUncommitted keyed path left old new (unfilled.Messages why) = IsKept new (RepresentsBase keyed path no_messages) × LeavesOnly old new (left (λ c. ⊥))
 IsUncommitted keyed path left old new (unfilled.Folder unread.Memory) = Unit {0}
 IsUncommitted keyed path left old new (unfilled.Folder unread.Device) = Unit {0}
@@ -124,7 +124,7 @@ IsUncommitted keyed path left old new (unfilled.Folder why) = LeavesOnly old new
 
 -- A folder without messages gets all messages of a source, or none. A crash at any time leaves files that have `left P`,
 -- where P says what they are if they are no base without messages.
-pub record FillsAllOrNothing {T : Type 0} (keyed : ℕ → ℕ → List ℕ → ℕ) (path : List ℕ) (left : (Files → Type 0) → Files → Type 0) (old new : DiskState) (source later : SourceState) (result : Result T UnfilledFolder) : Type 0 where
+pub record FillsAllOrNothing {T : Type 0} (keyed : ℕ → ℕ → List ℕ → ℕ) (path : List ℕ) (left : (Files → Type 0) → Files → Type 0) (old new : DiskState) (source later : SourceState) (result : Result T FillError) : Type 0 where
   -- From an honest source with a base.
   pub base : later.is_honest → (base : Base) → source.holds base → LeavesOnly old new (left (RepresentsBase keyed path base))
   -- From any source: as many messages as it has.
@@ -156,11 +156,11 @@ unfilled_cause error.Damaged = unread.Memory
 unfilled_cause error.TooMany = unread.Wrong fault.TooMany
 
 -- Something is wrong with the messages or the folder, or four bytes do not count what the folder is to be filled with.
-abbrev pub IsUnfilled : Bool → List ℕ → Files → UnfilledFolder → Type 0
+abbrev pub IsUnfilled : Bool → List ℕ → Files → FillError → Type 0
 IsUnfilled strange path files (unfilled.Messages why) = Unit {0}
 IsUnfilled strange path files (unfilled.Folder why) = (why ≡ unread.Wrong fault.TooMany) ⊎ IsWrong strange path files why
 
 -- An error of a call on the open folder. The files of the folder are not wrong.
-pub record HasFillCause {T : Type 0} (before now : ℕ) (result : Result T UnfilledFolder) : Type 0 where
+pub record HasFillCause {T : Type 0} (before now : ℕ) (result : Result T FillError) : Type 0 where
   pub cause : HasUnfilledCause before now result
   pub sound : (strange : Bool) (path : List ℕ) (files : Files) → IfErr result (IsUnfilled strange path files)

@@ -15,14 +15,14 @@ ghost use Rattle.base_folder.specs.Filled.{AddsOnly, FillsAllOrNothing, FillsOnl
 ghost use Rattle.base_folder.specs.Ours.{SameKey};
 
 use crate::as_file::fault_of;
+use crate::fill_error::FillError;
 use crate::open_error::OpenError;
 use crate::opening::open_base;
 use crate::source::MessageSource;
-use crate::unfilled::UnfilledFolder;
 use base_file::BaseFault;
 use base_folder_store::{Folder, bytes_alone};
 use base_log::FolderIdentity;
-use base_store::{Digest, StoreError, bytes_of_key};
+use base_store::{Digest, StoreError};
 use disk_io::Disk;
 use echo_filed::{Filed, Key};
 use std::alloc::Global;
@@ -43,8 +43,7 @@ fn add<D: Disk, H: Digest>(
 {
     let bytes = bytes_alone(alloc, message)?;
     let key = Key::of_message(alloc, message)?;
-    let digested = bytes_of_key(alloc, &key)?;
-    let number = folder.digest::<H>(&digested);
+    let number = folder.digest_of_key::<H>(alloc, &key)?;
     folder.stage(disk, &bytes, number)
 }
 
@@ -55,7 +54,7 @@ fn add_next<D: Disk, H: Digest, M: MessageSource>(
     folder: &mut Folder,
     messages: &mut M,
     place: usize,
-) -> Result<(), UnfilledFolder>
+) -> Result<(), FillError>
     requires usable { IsUsable (D.state disk.old) folder.old }
     requires ready { (M.state messages.old).is_ready }
     requires within { place < (M.state messages.old).count }
@@ -65,17 +64,17 @@ fn add_next<D: Disk, H: Digest, M: MessageSource>(
         → OnOk result (HoldsFront H.keyed (held_by (D.state disk.new) folder.new) base.messages (place + 1) cursor)) }
     ensures reads { ReadsFor (M.state messages.old) (M.state messages.new) result }
     ensures cause { HasFillCause (D.failures disk.old) (D.failures disk.new) result }
-    ensures many { (base : Base) → ShowsBase (M.state messages.old) (M.state messages.new) base → IsErrOf result (UnfilledFolder.Folder (OpenError.Wrong BaseFault.TooMany))
+    ensures many { (base : Base) → ShowsBase (M.state messages.old) (M.state messages.new) base → IsErrOf result (FillError.Folder (OpenError.Wrong BaseFault.TooMany))
         → (m : TheMessage) × (slice_get base.messages place ≡ Some m) × (HasRoomFor folder.old m → ⊥) }
 {
     if let Err(error) = messages.fetch(place) {
-        return Err(UnfilledFolder::Messages(fault_of(error, place)));
+        return Err(FillError::Messages(fault_of(error, place)));
     }
     match messages.at_hand() {
         Some(message) => Ok(add::<D, H>(alloc, disk, folder, message)?),
         None => {
             let message = place as u64;
-            Err(UnfilledFolder::Messages(BaseFault::Damaged { message }))
+            Err(FillError::Messages(BaseFault::Damaged { message }))
         }
     }
 }
@@ -88,7 +87,7 @@ fn add_from<D: Disk, H: Digest, M: MessageSource>(
     messages: &mut M,
     from: usize,
     to: usize,
-) -> Result<(), UnfilledFolder>
+) -> Result<(), FillError>
     requires usable { IsUsable (D.state disk.old) folder.old }
     requires ready { (M.state messages.old).is_ready }
     requires order { from ≤ to }
@@ -101,7 +100,7 @@ fn add_from<D: Disk, H: Digest, M: MessageSource>(
     ensures cause { HasFillCause (D.failures disk.old) (D.failures disk.new) result }
     ensures many { Honestly (D.state disk.new) ((base : Base) (cursor : ℕ) → ShowsBase (M.state messages.old) (M.state messages.new) base
         → HoldsFront H.keyed (held_by (D.state disk.old) folder.old) base.messages from cursor
-        → IsErrOf result (UnfilledFolder.Folder (OpenError.Wrong BaseFault.TooMany)) → IsFilledFull D.state H.keyed (path_of folder.old) base) }
+        → IsErrOf result (FillError.Folder (OpenError.Wrong BaseFault.TooMany)) → IsFilledFull D.state H.keyed (path_of folder.old) base) }
 {
     'messages: for i in from..to {
         add_next::<D, H, M>(alloc, disk, folder, messages, i)?;
@@ -115,7 +114,7 @@ fn add_all<D: Disk, H: Digest, M: MessageSource>(
     disk: &mut D,
     folder: &mut Folder,
     messages: &mut M,
-) -> Result<(), UnfilledFolder>
+) -> Result<(), FillError>
     requires usable { IsUsable (D.state disk.old) folder.old }
     requires ready { (M.state messages.old).is_ready }
     ensures kept { FillsOnly H.keyed (M.state messages.old).count folder.old folder.new (D.state disk.old) (D.state disk.new) result }
@@ -126,7 +125,7 @@ fn add_all<D: Disk, H: Digest, M: MessageSource>(
     ensures cause { HasFillCause (D.failures disk.old) (D.failures disk.new) result }
     ensures many { Honestly (D.state disk.new) ((M.state messages.new).is_honest → (base : Base) → (M.state messages.old).holds base
         → HoldsFront H.keyed (held_by (D.state disk.old) folder.old) base.messages 0 0
-        → IsErrOf result (UnfilledFolder.Folder (OpenError.Wrong BaseFault.TooMany)) → IsFilledFull D.state H.keyed (path_of folder.old) base) }
+        → IsErrOf result (FillError.Folder (OpenError.Wrong BaseFault.TooMany)) → IsFilledFull D.state H.keyed (path_of folder.old) base) }
 {
     let count = messages.count();
     let scanned = messages.cursor().min(count);
@@ -141,7 +140,7 @@ fn fill_opened<D: Disk, H: Digest, M: MessageSource>(
     disk: &mut D,
     folder: &mut Folder,
     messages: &mut M,
-) -> Result<(), UnfilledFolder>
+) -> Result<(), FillError>
     requires usable { IsUsable (D.state disk.old) folder.old }
     requires ready { (M.state messages.old).is_ready }
     ensures filled { Honestly (D.state disk.new) ((M.state messages.new).is_honest → (base : Base) → (M.state messages.old).holds base
@@ -154,7 +153,7 @@ fn fill_opened<D: Disk, H: Digest, M: MessageSource>(
     ensures cause { HasFillCause (D.failures disk.old) (D.failures disk.new) result }
     ensures many { Honestly (D.state disk.new) ((M.state messages.new).is_honest → (base : Base) → (M.state messages.old).holds base
         → HoldsFront H.keyed (held_by (D.state disk.old) folder.old) base.messages 0 0
-        → IsErrOf result (UnfilledFolder.Folder (OpenError.Wrong BaseFault.TooMany)) → IsFilledFull D.state H.keyed (path_of folder.old) base) }
+        → IsErrOf result (FillError.Folder (OpenError.Wrong BaseFault.TooMany)) → IsFilledFull D.state H.keyed (path_of folder.old) base) }
 {
     add_all::<D, H, M>(alloc, disk, folder, messages)?;
     folder.commit(disk)?;
@@ -187,7 +186,7 @@ pub fn fill<D: Disk, H: Digest, M: MessageSource>(
     strange: bool,
     key: (u64, u64),
     messages: &mut M,
-) -> Result<(), UnfilledFolder>
+) -> Result<(), FillError>
     requires alone { Honestly (D.state disk.old) (AreAlone path.now (D.state disk.old)) }
     requires ready { (M.state messages.old).is_ready }
 
@@ -208,7 +207,7 @@ pub fn fill<D: Disk, H: Digest, M: MessageSource>(
     ensures cause { HasUnfilledCause (D.failures disk.old) (D.failures disk.new) result }
     ensures many { Honestly (D.state disk.new) ((M.state messages.new).is_honest → (base : Base) → (M.state messages.old).holds base
         → RepresentsBase H.keyed path.now no_messages (D.state disk.old).seen
-        → IsErrOf result (UnfilledFolder.Folder (OpenError.Wrong BaseFault.TooMany)) → IsFilledFull D.state H.keyed path.now base) }
+        → IsErrOf result (FillError.Folder (OpenError.Wrong BaseFault.TooMany)) → IsFilledFull D.state H.keyed path.now base) }
 {
     let mut folder = open_base(alloc, disk, path, strange)?;
     give_key(&mut folder, key.0, key.1);

@@ -15,7 +15,7 @@ use crate::folder::Folder;
 use crate::waiting::Waiting;
 use base_file::MessageRoom;
 use base_log::{Log, Names};
-use base_store::{Digest, StoreError, bytes_of_key};
+use base_store::{Digest, StoreError};
 use disk_io::Disk;
 use echo_filed::{Filed, Key};
 use std::alloc::{AllocError, Global};
@@ -79,7 +79,7 @@ impl Folder {
         ensures { IfOk result (λ has. IsTrue has ↔ (digest ≡ digest_by H.keyed self.now.recorded.mark (digested message.now))) }
     {
         let key = Key::of_message(alloc, message)?;
-        let digested = bytes_of_key(alloc, &key)?;
-        Ok(digest == self.digest::<H>(&digested))
+        let own = self.digest_of_key::<H>(alloc, &key)?;
+        Ok(digest == own)
     }
 }

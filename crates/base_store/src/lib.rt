@@ -23,7 +23,7 @@ mod store;
 mod store_error;
 
 pub use chains::Chains;
-pub use digest::{Digest, bytes_of_key, digest_of_key};
+pub use digest::{Digest, digest_of_key};
 pub use entries::{digest_of, end_of, entry, place_of};
 pub use index::Index;
 pub use laws::{

@@ -11,11 +11,11 @@ use Rattle.cmd_status.specs.Lines.{WritesFront}
 use Rattle.cmd_status.proofs.Lines.{begun_after}
 use Rattle.cmd_numbered.specs.JamAdded.{Added, IsUnadded, IsUnsent, added_at, added_of, is_added, with_message}
 use Rattle.cmd_numbered.specs.declared.adding.JamEnd.{JamEnd}
-use Rattle.cmd_numbered.specs.declared.unsent.UnsentTexts.{UnsentTexts}
-use Rattle.cmd_numbered.specs.declared.unsent.UnsentTexts.TheVariants.{Device, Messages}
+use Rattle.cmd_numbered.specs.declared.jam_export_error.JamExportError.{JamExportError}
+use Rattle.cmd_numbered.specs.declared.jam_export_error.JamExportError.TheVariants.{Device, Messages}
 
 -- one message was not added, and the sink did not fail before
-pub unadded_here : (path : List ℕ) (first now old before after : ℕ) (why : UnsentTexts) → before ≡ old → IsUnadded before after why → IsUnsent path first now old after why
+pub unadded_here : (path : List ℕ) (first now old before after : ℕ) (why : JamExportError) → before ≡ old → IsUnadded before after why → IsUnsent path first now old after why
 unadded_here path first now old before after (Messages fault) same is = (inl is.0, is.1 ∙ same)
 unadded_here path first now old before after Device same is = subst (λ (n : ℕ). Failed n after) same is
 

@@ -16,8 +16,8 @@ use Rattle.base_folder.specs.Source.{SourceState}
 use Rattle.cmd_numbered.specs.declared.adding.Adding.{Adding}
 use Rattle.cmd_numbered.specs.declared.adding.JamEnd.{JamEnd}
 use Rattle.cmd_numbered.specs.declared.adding.JamExport.{JamExport}
-use Rattle.cmd_numbered.specs.declared.unsent.UnsentTexts.{UnsentTexts}
-use Rattle.cmd_numbered.specs.declared.unsent.UnsentTexts.TheVariants.{Messages, Device}
+use Rattle.cmd_numbered.specs.declared.jam_export_error.JamExportError.{JamExportError}
+use Rattle.cmd_numbered.specs.declared.jam_export_error.JamExportError.TheVariants.{Messages, Device}
 use Rattle.cmd_numbered.specs.Numbered.{is_exported}
 
 -- The bytes added to headers, texts and index; the numbers of the messages in their base; the number of cut subfields.
@@ -116,11 +116,11 @@ pub record HasBegun (source later : SourceState) (texts : Base → List ℕ) (ol
   pub front : later.is_honest → (base : Base) → source.holds base → (rest : List ℕ) × (texts base ≡ went ++ rest)
 
 -- Memory ran out, and the sink did not fail, or it failed.
-abbrev pub IsUnadded : ℕ → ℕ → UnsentTexts → Type 0
+abbrev pub IsUnadded : ℕ → ℕ → JamExportError → Type 0
 IsUnadded old new (Messages fault) = IsOutOfMemory fault × (new ≡ old)
 IsUnadded old new Device = Failed old new
 
 -- Memory ran out or a message of the base with this path was not read, and the sink did not fail. Or it failed.
-abbrev pub IsUnsent : List ℕ → ℕ → ℕ → ℕ → ℕ → UnsentTexts → Type 0
+abbrev pub IsUnsent : List ℕ → ℕ → ℕ → ℕ → ℕ → JamExportError → Type 0
 IsUnsent path before now old new (Messages fault) = IsUnread path before now fault × (new ≡ old)
 IsUnsent path before now old new Device = Failed old new

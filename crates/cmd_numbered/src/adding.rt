@@ -7,8 +7,8 @@ ghost use Rattle.cmd_status.specs.Lines.{WritesFront};
 ghost use Rattle.cmd_numbered.specs.JamAdded.{Added, HasAdded, HasBegun, IsJamExport, IsUnadded, IsUnsent, added_at, added_in, added_of, is_added, is_last_jam, is_written_there, jam_texts, nothing_added, resumed_jam, with_message};
 ghost use Rattle.echo_jam.specs.Fields.{body_of};
 
+use crate::jam_export_error::JamExportError;
 use crate::numbering::is_exported;
-use crate::unsent::UnsentTexts;
 use base_folder::{MessageSource, fetch_message};
 use cmd_status::Fault;
 use disk_io::{Sink, send};
@@ -54,7 +54,7 @@ pub struct JamExport {
 /// `export --jam PATH --area TAG [--from I] BASE`: what the messages of the area add to a JAM base, from the number
 /// `first` on, or from behind the one that is its last: a run that was stopped goes on there. What the JAM base has from an
 /// editor is not added. Each text is sent before the next message is read. `path` is that of BASE.
-pub fn export_jam_of<'a, M: MessageSource, W: Sink>(
+pub fn export_jam<'a, M: MessageSource, W: Sink>(
     alloc: Global,
     area: &[u8],
     first: u64,
@@ -62,7 +62,7 @@ pub fn export_jam_of<'a, M: MessageSource, W: Sink>(
     path: &'a str,
     messages: &mut M,
     texts: &mut W,
-) -> Result<JamExport, UnsentTexts<'a>>
+) -> Result<JamExport, JamExportError<'a>>
     requires { (M.state messages.old).is_ready }
     ensures added { (M.state messages.new).is_honest → (base : Base) → (M.state messages.old).holds base
         → IfOk result (IsJamExport area.now first jam.entry.headers.now jam.entry.index.now jam.entry.last jam.entry.text.now jam.entry.end (W.contents texts.old) (W.contents texts.new) base) }
@@ -153,7 +153,7 @@ fn added_of<'a, M: MessageSource, W: Sink>(
     path: &'a str,
     messages: &mut M,
     texts: &mut W,
-) -> Result<Adding, UnsentTexts<'a>>
+) -> Result<Adding, JamExportError<'a>>
     requires { (M.state messages.old).is_ready }
     ensures added { (M.state messages.new).is_honest → (base : Base) → (M.state messages.old).holds base
         → IfOk result (λ adding. HasAdded adding (W.contents texts.old) (W.contents texts.new) (added_of area.now first base.cursor jam.entry.headers.now jam.entry.index.now jam.entry.end base.messages (length base.messages))) }
@@ -205,7 +205,7 @@ fn add_if_wanted<'a, W: Sink>(
     i: usize,
     message: Option<&Filed>,
     texts: &mut W,
-) -> Result<(), UnsentTexts<'a>>
+) -> Result<(), JamExportError<'a>>
     ensures added { (start : Option (List ℕ)) (added : Added) → HasAdded adding.old start (W.contents texts.old) added
         → OnOk result (HasAdded adding.new start (W.contents texts.new) (added_at wanted.entry.area.now wanted.entry.first wanted.entry.cursor wanted.entry.jam.headers.now wanted.entry.jam.index.now wanted.entry.jam.end i (option_copied message.entry) added)) }
     ensures begun { (start : Option (List ℕ)) (added : Added) → HasAdded adding.old start (W.contents texts.old) added
@@ -249,7 +249,7 @@ fn add_message<'a, W: Sink>(
     message: &Filed,
     scanned: bool,
     texts: &mut W,
-) -> Result<(), UnsentTexts<'a>>
+) -> Result<(), JamExportError<'a>>
     ensures added { (start : Option (List ℕ)) (added : Added) → HasAdded adding.old start (W.contents texts.old) added
         → OnOk result (HasAdded adding.new start (W.contents texts.new) (with_message scanned end i message.now added)) }
     ensures begun { (start : Option (List ℕ)) (added : Added) → HasAdded adding.old start (W.contents texts.old) added

@@ -19,7 +19,7 @@ use std::alloc::{AllocError, Global};
 
 /// Why a message has no file: the message was not read or there was no memory, or the folder did not get the file.
 #[derive(Debug, Drop)]
-pub enum Unexported<'a> {
+pub enum ExportError<'a> {
     Message(Fault<'a>),
     File(Status),
 }
@@ -30,13 +30,13 @@ pub enum Unexported<'a> {
 pub struct Exported<'a> {
     pub made: usize,
     pub next: u64,
-    pub stop: Option<Unexported<'a>>,
+    pub stop: Option<ExportError<'a>>,
 }
 
 /// `export --msg DIR --area TAG [--from I] BASE`: makes a file of each message of the area, from the number `first` on. If
 /// the last file of the folder is one of these messages, they start after it: so a stopped run continues. Each file is
 /// made before the next message is read. `path` is that of BASE.
-pub fn export_files_of<'a, M: MessageSource, F: MessageFolder>(
+pub fn export_files<'a, M: MessageSource, F: MessageFolder>(
     alloc: Global,
     area: &[u8],
     first: u64,
@@ -226,7 +226,7 @@ fn make_next<'a, M: MessageSource, F: MessageFolder>(
     path: &'a str,
     messages: &mut M,
     folder: &mut F,
-) -> Result<usize, Unexported<'a>>
+) -> Result<usize, ExportError<'a>>
     requires ready { (M.state messages.old).is_ready }
     requires within { i < (M.state messages.old).count }
     ensures made { (M.state messages.new).is_honest → (base : Base) → (M.state messages.old).holds base
@@ -239,7 +239,7 @@ fn make_next<'a, M: MessageSource, F: MessageFolder>(
     ensures later { (M.state messages.old).failures ≤ (M.state messages.new).failures }
 {
     if let Err(fault) = fetch_message(messages, path, i) {
-        return Err(Unexported::Message(fault));
+        return Err(ExportError::Message(fault));
     }
     let number = u128::from(wanted.number) + made as u128;
     match messages.at_hand() {
@@ -265,7 +265,7 @@ fn export_one<'a, F: MessageFolder>(
     i: usize,
     message: &Filed,
     folder: &mut F,
-) -> Result<usize, Unexported<'a>>
+) -> Result<usize, ExportError<'a>>
     ensures made { IfOk result (IsMade (file_of wanted.entry.cursor number i message.now ∷ []) (F.made folder.old) (F.made folder.new)) }
     ensures few { IfOk result (λ more. more ≤ 1) }
     ensures fault { IfErr result IsUnmade }
@@ -273,11 +273,11 @@ fn export_one<'a, F: MessageFolder>(
 {
     let file = match file_of(alloc, wanted.cursor, number, i, message) {
         Ok(file) => file,
-        Err(_) => return Err(Unexported::Message(Fault::OutOfMemory)),
+        Err(_) => return Err(ExportError::Message(Fault::OutOfMemory)),
     };
     match folder.make(&file) {
         Ok(()) => Ok(1),
-        Err(status) => Err(Unexported::File(status)),
+        Err(status) => Err(ExportError::File(status)),
     }
 }
 

@@ -2,7 +2,7 @@ use Rattle.std.proofs.Common.{◌≡◌, ◌+◌, ◌-◌, ℕ, Result, Ok, Err,
 use Rattle.base_folder_store.specs.Opened.{held_by}
 use Rattle.base_folder_store.proofs.Causes.{handed_on}
 use Rattle.base_folder.specs.Filled.{FillsOnly, HasFillCause, HoldsFront, ReadsFor}
-use Rattle.base_folder.specs.declared.unfilled.UnfilledFolder.{UnfilledFolder}
+use Rattle.base_folder.specs.declared.fill_error.FillError.{FillError}
 use Rattle.base_folder.proofs.Fillings.{by_error, cause_since, fills_fewer, fills_none, fills_twice, reads_none, reads_twice, shows_before, shows_later}
 use Rattle.base_folder.proofs.filling.add_from.Goals as goal
 
@@ -55,14 +55,14 @@ pub returns-in_err-add_next-clause-reads : goal.returns-in_err-add_next-clause-r
 returns-in_err-add_next-clause-reads g c =
     let a = g.M.MessageSource.state c.args.messages.now in
     let z = g.M.MessageSource.state c.add_next.new.messages in
-    by_error (λ (r : Result (Unit {0}) UnfilledFolder). ReadsFor a z r) c.in_err-add_next.field-0.0 c.from_residual.result c.from_residual.ensures.1
+    by_error (λ (r : Result (Unit {0}) FillError). ReadsFor a z r) c.in_err-add_next.field-0.0 c.from_residual.result c.from_residual.ensures.1
     (reads_twice a (g.M.MessageSource.state c.messages.messages) z (Err c.in_err-add_next.field-0.0) c.messages.invariant.reads c.in_err-add_next.ensures.reads)
 
 pub returns-in_err-add_next-clause-cause : goal.returns-in_err-add_next-clause-cause
 returns-in_err-add_next-clause-cause g c =
     let a = g.D.Disk.failures c.args.disk.now in
     let z = g.D.Disk.failures c.add_next.new.disk in
-    by_error (λ (r : Result (Unit {0}) UnfilledFolder). HasFillCause a z r) c.in_err-add_next.field-0.0 c.from_residual.result c.from_residual.ensures.1
+    by_error (λ (r : Result (Unit {0}) FillError). HasFillCause a z r) c.in_err-add_next.field-0.0 c.from_residual.result c.from_residual.ensures.1
     (cause_since a (g.D.Disk.failures c.messages.disk) z (Err c.in_err-add_next.field-0.0) c.messages.invariant.cause c.in_err-add_next.ensures.cause)
 
 pub returns-in_err-add_next-clause-many : goal.returns-in_err-add_next-clause-many

@@ -6,7 +6,7 @@ use Rattle.base_folder_store.specs.Held.{HoldsBase, RepresentsBase}
 use Rattle.base_folder_store.specs.Opened.{committed_by, held_by, path_of}
 use Rattle.base_folder_store.proofs.Causes.{on_ok_none}
 use Rattle.base_folder.specs.Filled.{FillsAllOrNothing, IsKept, IsUncommitted, IsUnfilled, RepresentsMany, RepresentsNoneOr, RepresentsNoneOrWasLeft, no_messages}
-use Rattle.base_folder.specs.declared.unfilled.UnfilledFolder.TheVariants as unfilled
+use Rattle.base_folder.specs.declared.fill_error.FillError.TheVariants as unfilled
 use Rattle.base_folder.proofs.Fillings.{cause_opened, cause_since, fill_since, full_at, never_many, opened_run, reads_folder, uncommitted_opened}
 use Rattle.base_folder.proofs.Lookings.{err_is}
 use Rattle.base_folder.proofs.Openings.{claimed_committed, claimed_named, claimed_opened, claimed_same}

@@ -10,7 +10,7 @@ use Rattle.base_folder_store.specs.Opened.{committed_by, held_by, path_of}
 use Rattle.base_folder_store.proofs.Causes.{handed_on, on_ok_none}
 use Rattle.base_folder_store.proofs.Runs.{run_to_commit, run_twice}
 use Rattle.base_folder.specs.Filled.{HoldsMany, IsUncommitted, RepresentsMany, RepresentsNoneOr, no_messages, unfilled_cause}
-use Rattle.base_folder.specs.declared.unfilled.UnfilledFolder.TheVariants as unfilled
+use Rattle.base_folder.specs.declared.fill_error.FillError.TheVariants as unfilled
 use Rattle.base_folder.proofs.Fillings.{cause_since, cause_stored, fills_before, fills_run, filled_is_kept, many_none, many_stored, reads_folder, uncommitted_added, uncommitted_stored}
 use Rattle.base_folder.proofs.Lookings.{err_is}
 use Rattle.base_folder.proofs.filling.fill_opened.Given as given

@@ -5,7 +5,7 @@ use Rattle.base_folder.proofs.Fetchings.{unread_since}
 use Rattle.base_folder.proofs.Lookings.{err_is}
 use Rattle.base_folder.proofs.Readings.{looks_on}
 use Rattle.cmd_numbered.specs.JamAdded.{Added, HasAdded, IsUnsent, added_at, added_of, nothing_added}
-use Rattle.cmd_numbered.specs.declared.unsent.UnsentTexts.TheVariants as unsent
+use Rattle.cmd_numbered.specs.declared.jam_export_error.JamExportError.TheVariants as unsent
 use Rattle.cmd_numbered.proofs.Addings.{at_error, front_of_all, one_added, unadded_here}
 use Rattle.cmd_numbered.proofs.adding.added_of.Goals as goal
 

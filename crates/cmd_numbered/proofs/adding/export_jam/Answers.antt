@@ -2,7 +2,7 @@ use Rattle.std.proofs.Common.{◌∙◌, ℕ, List, [], ap, length, refl, sym}
 use Rattle.std.proofs.KnownBytes.{Appends-nil}
 use Rattle.cmd_numbered.specs.JamAdded.{added_of, resumed_jam}
 use Rattle.cmd_numbered.proofs.Addings.{at_error}
-use Rattle.cmd_numbered.proofs.adding.export_jam_of.Goals as goal
+use Rattle.cmd_numbered.proofs.adding.export_jam.Goals as goal
 
 -- Nothing was sent.
 pub returns-in_err-area-clause-begun : goal.returns-in_err-area-clause-begun

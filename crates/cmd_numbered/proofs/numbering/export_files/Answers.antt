@@ -2,7 +2,7 @@ use Rattle.std.proofs.Common.{◌≡◌, ◌∙◌, List, ℕ, ap, length, optio
 use Rattle.echo_links.specs.Links.{upper}
 use Rattle.cmd_numbered.specs.Numbered.{resumed}
 use Rattle.cmd_numbered.proofs.Gettings.{made_since}
-use Rattle.cmd_numbered.proofs.numbering.export_files_of.Goals as goal
+use Rattle.cmd_numbered.proofs.numbering.export_files.Goals as goal
 
 pub returns-clause-files : goal.returns-clause-files
 returns-clause-files g c = λ honest base held.

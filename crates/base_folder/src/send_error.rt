@@ -6,7 +6,7 @@ use thiserror::Error;
 
 /// Why a base file was not sent whole.
 #[derive(Clone, Copy, Debug, PartialEq, Eq, Error)]
-pub enum UnsentFile {
+pub enum SendError {
     /// The messages have this fault, or it is want of memory.
     #[error("{0}")]
     Messages(BaseFault),
@@ -15,36 +15,36 @@ pub enum UnsentFile {
     Device,
 }
 
-impl From<BaseFault> for UnsentFile {
+impl From<BaseFault> for SendError {
     ghost use Rattle.std.specs.Prelude.{◌≡◌};
-    ghost use Rattle.base_folder.specs.declared.unsent.UnsentFile.TheVariants as unsent;
+    ghost use Rattle.base_folder.specs.declared.send_error.SendError.TheVariants as unsent;
 
     ghost from_gives = { λ fault e. e ≡ unsent.Messages fault };
 
-    fn from(fault: BaseFault) -> UnsentFile {
-        UnsentFile::Messages(fault)
+    fn from(fault: BaseFault) -> SendError {
+        SendError::Messages(fault)
     }
 }
 
-impl From<AllocError> for UnsentFile {
+impl From<AllocError> for SendError {
     ghost use Rattle.std.specs.Prelude.{◌≡◌};
     ghost use Rattle.base_file.specs.declared.fault.BaseFault.TheVariants.{Memory};
-    ghost use Rattle.base_folder.specs.declared.unsent.UnsentFile.TheVariants as unsent;
+    ghost use Rattle.base_folder.specs.declared.send_error.SendError.TheVariants as unsent;
 
     ghost from_gives = { λ _ e. e ≡ unsent.Messages Memory };
 
-    fn from(_refused: AllocError) -> UnsentFile {
-        UnsentFile::Messages(BaseFault::Memory)
+    fn from(_refused: AllocError) -> SendError {
+        SendError::Messages(BaseFault::Memory)
     }
 }
 
-impl From<Failure> for UnsentFile {
+impl From<Failure> for SendError {
     ghost use Rattle.std.specs.Prelude.{◌≡◌};
-    ghost use Rattle.base_folder.specs.declared.unsent.UnsentFile.TheVariants as unsent;
+    ghost use Rattle.base_folder.specs.declared.send_error.SendError.TheVariants as unsent;
 
     ghost from_gives = { λ _ e. e ≡ unsent.Device };
 
-    fn from(_failure: Failure) -> UnsentFile {
-        UnsentFile::Device
+    fn from(_failure: Failure) -> SendError {
+        SendError::Device
     }
 }

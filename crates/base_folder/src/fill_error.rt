@@ -6,7 +6,7 @@ use thiserror::Error;
 
 /// Why a base folder was not filled with messages.
 #[derive(Clone, Copy, Debug, PartialEq, Eq, Error)]
-pub enum UnfilledFolder {
+pub enum FillError {
     /// The messages have this fault.
     #[error("{0}")]
     Messages(BaseFault),
@@ -15,26 +15,26 @@ pub enum UnfilledFolder {
     Folder(OpenError),
 }
 
-impl From<OpenError> for UnfilledFolder {
+impl From<OpenError> for FillError {
     ghost use Rattle.std.specs.Prelude.{◌≡◌};
-    ghost use Rattle.base_folder.specs.declared.unfilled.UnfilledFolder.TheVariants as unfilled;
+    ghost use Rattle.base_folder.specs.declared.fill_error.FillError.TheVariants as unfilled;
 
     ghost from_gives = { λ why e. e ≡ unfilled.Folder why };
 
-    fn from(why: OpenError) -> UnfilledFolder {
-        UnfilledFolder::Folder(why)
+    fn from(why: OpenError) -> FillError {
+        FillError::Folder(why)
     }
 }
 
-impl From<StoreError> for UnfilledFolder {
+impl From<StoreError> for FillError {
     ghost use Rattle.std.specs.Prelude.{◌≡◌};
     ghost use Rattle.base_folder.specs.Filled.{unfilled_cause};
-    ghost use Rattle.base_folder.specs.declared.unfilled.UnfilledFolder.TheVariants as unfilled;
+    ghost use Rattle.base_folder.specs.declared.fill_error.FillError.TheVariants as unfilled;
 
     ghost from_gives = { λ cause e. e ≡ unfilled.Folder (unfilled_cause cause) };
 
-    fn from(cause: StoreError) -> UnfilledFolder {
-        UnfilledFolder::Folder(match cause {
+    fn from(cause: StoreError) -> FillError {
+        FillError::Folder(match cause {
             StoreError::Memory | StoreError::Damaged => OpenError::Memory,
             StoreError::Device => OpenError::Device,
             StoreError::TooMany => OpenError::Wrong(BaseFault::TooMany),
