@@ -5,9 +5,10 @@ ghost use Rattle.echo_filed.specs.declared.stored.Version.TheVariants.{Second};
 ghost use Rattle.base_file.specs.Alone.{IsReadAlone};
 
 use crate::judging::sound_message;
+use crate::room::MessageRoom;
 use disk_io::{Broken, are_bytes};
-use echo_filed::{Filed, Version, has_tag, read_stored};
-use std::alloc::{AllocError, Global};
+use echo_filed::{Filed, Version, has_tag, read_stored_into};
+use std::alloc::AllocError;
 
 // The cursor of a base file with only a message of this first byte.
 fn cursor_alone(kind: u8) -> usize
@@ -17,13 +18,14 @@ fn cursor_alone(kind: u8) -> usize
 }
 
 /// The message of these stored bytes, judged as `load` judges the only message of a base file. It counts as scanned if
-/// it has tag and id instead of the text. None if it is damaged, cut or followed by more bytes.
-pub fn read_message(alloc: Global, bytes: &[u8]) -> Result<Option<Filed>, AllocError>
+/// it has tag and id instead of the text. None if it is damaged, cut or followed by more bytes. The content of the room
+/// makes no difference.
+pub fn read_message(room: &mut MessageRoom, bytes: &[u8]) -> Result<Option<Filed>, AllocError>
     ensures { IfOk result (IsReadAlone bytes.now) }
 {
     are_bytes(bytes);
     let mut rest = bytes;
-    let stored = match read_stored(alloc, &mut rest, Version::Second) {
+    let stored = match read_stored_into(room.take_strings(), &mut rest, Version::Second) {
         Ok(stored) => stored,
         Err(Broken::Memory) => return Err(AllocError),
         Err(_) => return Ok(None),
@@ -32,8 +34,9 @@ pub fn read_message(alloc: Global, bytes: &[u8]) -> Result<Option<Filed>, AllocE
         return Ok(None);
     }
     let cursor = cursor_alone(stored.kind);
-    let Some((message, _)) = sound_message(alloc, Version::Second, cursor, 0, stored)? else {
+    let Some((message, last)) = sound_message(room, Version::Second, cursor, 0, stored)? else {
         return Ok(None);
     };
+    room.strings.last = last.into_vec();
     Ok(Some(message))
 }

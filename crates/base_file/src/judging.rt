@@ -12,11 +12,12 @@ ghost use Rattle.echo_filed.specs.Stored.{IsStored, is_posted, message_in};
 ghost use Rattle.base_file.specs.BaseFile.{has_wrong_last, has_wrong_sender, has_wrong_string, is_no_string, is_other_kind, is_wrong_id, is_wrong_text};
 ghost use Rattle.base_file.specs.Loading.{IsShortOnceScanned, Judges, UnlessWrong, has_wrong_field, has_wrong_front, is_wrong, said_last, wrong_form, wrong_last};
 
+use crate::room::MessageRoom;
 use echo_addr::{Address, Items};
-use echo_filed::{Filed, Key, StoredMessage, Version, has_tag, is_short, lines_of_id};
+use echo_filed::{Filed, Key, StoredMessage, Version, has_tag, is_short, lines_of_id_into};
 use echo_packet::{MAX_NAME, MAX_SUBJECT};
-use echo_text::{Echo, TextFault, is_kept_tag, read_text, trimmed, write_text};
-use std::alloc::{AllocError, Global};
+use echo_text::{Echo, TextFault, is_kept_tag, read_text_into, trimmed, write_text_into};
+use std::alloc::AllocError;
 
 // Whether the version does not have the first byte.
 fn is_other_kind(version: Version, kind: u8) -> bool
@@ -71,52 +72,56 @@ fn has_line_bytes(bytes: &[u8]) -> bool
     bytes.iter().all(|b| *b != 0 && *b != 13)
 }
 
-// Whether the text is the one that is written for the echo.
-fn is_written(alloc: Global, echo: &Echo, text: &[u8]) -> Result<bool, AllocError>
+// Whether the text is the one that is written for the echo, which is written into a vector.
+fn is_written(written: &mut Vec<u8>, echo: &Echo, text: &[u8]) -> Result<bool, AllocError>
     requires { IsEcho echo.now }
     ensures { IfOk result (λ same. same ≡ bytes_eq (text_of echo.now) text.now) }
 {
-    let written = write_text(alloc, echo)?;
+    write_text_into(written, echo)?;
     Ok(written.as_slice() == text)
 }
 
 // The echo of the text, unless it is written in another way.
-fn echo_of(alloc: Global, text: &[u8]) -> Result<Option<Echo>, AllocError>
+fn echo_of(room: &mut MessageRoom, text: &[u8]) -> Result<Option<Echo>, AllocError>
     ensures { IfOk result (UnlessWrong (is_wrong_text text.now) (echo_of text.now)) }
 {
     if text.contains(&0) {
         return Ok(None);
     }
-    let echo = match read_text(alloc, text) {
+    let echo = match read_text_into(room.take_echo(), text) {
         Ok((echo, _)) => echo,
         Err(TextFault::Memory) => return Err(AllocError),
         Err(_) => return Ok(None),
     };
-    if !is_written(alloc, &echo, text)? {
+    if !is_written(&mut room.written, &echo, text)? {
         return Ok(None);
     }
     Ok(Some(echo))
 }
 
 // The text of this tag and id, unless one of them is wrong.
-fn bare(alloc: Global, tag: Items<u8>, id: &[u8]) -> Result<Option<Echo>, AllocError>
+fn bare(room: &mut MessageRoom, tag: Items<u8>, id: &[u8]) -> Result<Option<Echo>, AllocError>
     ensures { IfOk result (UnlessWrong (not (is_tag tag) || is_wrong_id id.now) (bare tag id.now)) }
 {
     if !is_kept_tag(tag.as_slice()) || is_wrong_id(id) {
         return Ok(None);
     }
-    let kept = lines_of_id(alloc, id)?;
+    let mut parts = room.take_echo();
+    parts.seen.clear();
+    parts.path.clear();
+    room.strings.tag = parts.tag;
+    let kept = lines_of_id_into(parts.kept, id)?;
     Ok(Some(Echo {
         tag,
         kept,
-        seen: Items::new(Vec::new(alloc)),
-        path: Items::new(Vec::new(alloc)),
+        seen: Items::new(parts.seen),
+        path: Items::new(parts.path),
     }))
 }
 
 // The bytes after the subject as a text, unless they are wrong.
 fn echo_in(
-    alloc: Global,
+    room: &mut MessageRoom,
     with_tag: bool,
     tag: Items<u8>,
     last: &[u8],
@@ -124,9 +129,10 @@ fn echo_in(
     ensures { IfOk result (UnlessWrong (wrong_last with_tag tag last.now) (said_last with_tag tag last.now)) }
 {
     if with_tag {
-        bare(alloc, tag, last)
+        bare(room, tag, last)
     } else {
-        echo_of(alloc, last)
+        room.strings.tag = tag.into_vec();
+        echo_of(room, last)
     }
 }
 
@@ -138,7 +144,7 @@ fn sender_in(kind: u8, sender: Address) -> Option<Address>
 
 // The stored message with its `last`, unless the bytes after the subject are wrong.
 fn message_of(
-    alloc: Global,
+    room: &mut MessageRoom,
     version: Version,
     stored: StoredMessage,
 ) -> Result<Option<(Filed, Items<u8>)>, AllocError>
@@ -148,7 +154,7 @@ fn message_of(
 {
     let with_tag = has_tag(version, stored.kind);
     let sender = sender_in(stored.kind, stored.sender);
-    let Some(echo) = echo_in(alloc, with_tag, stored.tag, stored.last.as_slice())? else {
+    let Some(echo) = echo_in(room, with_tag, stored.tag, stored.last.as_slice())? else {
         return Ok(None);
     };
     let message = Filed {
@@ -171,7 +177,7 @@ fn has_wrong_front(version: Version, stored: &StoredMessage) -> bool
 
 // The stored message with its `last`, unless a field of it is wrong.
 fn right_message(
-    alloc: Global,
+    room: &mut MessageRoom,
     version: Version,
     stored: StoredMessage,
 ) -> Result<Option<(Filed, Items<u8>)>, AllocError>
@@ -181,7 +187,7 @@ fn right_message(
     if has_wrong_front(version, &stored) {
         return Ok(None);
     }
-    message_of(alloc, version, stored)
+    message_of(room, version, stored)
 }
 
 // Whether the message has the text where tag and id should be, or the other way round.
@@ -206,7 +212,7 @@ fn has_wrong_form(
 
 // The key of the message. If it has tag and id instead of the text, `last` is the id.
 fn key_of(
-    alloc: Global,
+    room: &mut MessageRoom,
     with_tag: bool,
     message: &Filed,
     last: Items<u8>,
@@ -214,7 +220,9 @@ fn key_of(
     requires { IsTrue with_tag → key_of message.now ≡ ById message.now.echo.tag last }
     ensures { IfOk result (λ key. key ≡ key_of message.now) }
 {
+    let alloc = room.alloc();
     if !with_tag {
+        room.strings.last = last.into_vec();
         return Key::of_message(alloc, message);
     }
     let tag = Vec::from_slice(alloc, message.echo.tag.as_slice())?;
@@ -227,7 +235,7 @@ fn key_of(
 /// The message with its `last`, unless a field is wrong or it has another form than a message at this
 /// place should have.
 pub(crate) fn sound_message(
-    alloc: Global,
+    room: &mut MessageRoom,
     version: Version,
     cursor: usize,
     place: usize,
@@ -237,7 +245,7 @@ pub(crate) fn sound_message(
     ensures { IfOk result (UnlessWrong (is_wrong version cursor place stored) (message_in version stored, stored.last)) }
 {
     let with_tag = has_tag(version, stored.kind);
-    let Some((message, last)) = right_message(alloc, version, stored)? else {
+    let Some((message, last)) = right_message(room, version, stored)? else {
         return Ok(None);
     };
     if has_wrong_form(version, cursor, place, with_tag, &message) {
@@ -248,7 +256,7 @@ pub(crate) fn sound_message(
 
 /// The message of `sound_message`, with its key.
 pub(crate) fn judged(
-    alloc: Global,
+    room: &mut MessageRoom,
     version: Version,
     cursor: usize,
     place: usize,
@@ -258,9 +266,9 @@ pub(crate) fn judged(
     ensures { IfOk result (Judges (is_wrong version cursor place stored) (message_in version stored)) }
 {
     let with_tag = has_tag(version, stored.kind);
-    let Some((message, last)) = sound_message(alloc, version, cursor, place, stored)? else {
+    let Some((message, last)) = sound_message(room, version, cursor, place, stored)? else {
         return Ok(None);
     };
-    let key = key_of(alloc, with_tag, &message, last)?;
+    let key = key_of(room, with_tag, &message, last)?;
     Ok(Some((key, message)))
 }

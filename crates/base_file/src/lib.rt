@@ -4,7 +4,8 @@
 //!
 //! Begin with `base`: the messages by their keys, saved and loaded. `purging` makes stubs,
 //! `judging` refuses stored messages that no base may have, `tags` has the tags of all messages.
-//! `piece` judges a base file in pieces, message by message, and `alone` reads one message by itself.
+//! `piece` judges a base file in pieces, message by message, and `alone` reads one message by itself. `room` has vectors
+//! that messages are read into.
 //! `fault` lists the refusals, `laws` states the promise.
 #![tactic(auto)]
 
@@ -15,6 +16,7 @@ mod judging;
 mod laws;
 mod piece;
 mod purging;
+mod room;
 mod tags;
 
 pub use alone::read_message;
@@ -22,3 +24,4 @@ pub use base::{Base, Head};
 pub use fault::BaseFault;
 pub use laws::{loaded_base_law, one_base_or_fault, saved_again_law, saved_base_law};
 pub use piece::{Next, head_of, judge_next};
+pub use room::MessageRoom;

@@ -6,9 +6,10 @@ ghost use Rattle.base_file.specs.Pieces.{BeginsWith, IsHeadFault, IsNext, Judges
 use crate::base::{Head, version_of};
 use crate::fault::BaseFault;
 use crate::judging::judged;
+use crate::room::MessageRoom;
 use disk_io::{Broken, are_bytes};
-use echo_filed::{Key, StoredMessage, is_short, read_stored};
-use std::alloc::{AllocError, Global};
+use echo_filed::{Key, StoredMessage, is_short, read_stored_into};
+use std::alloc::AllocError;
 
 /// The front of a piece of a base file.
 #[derive(Drop)]
@@ -65,7 +66,7 @@ pub fn head_of(bytes: &[u8]) -> Result<Head, BaseFault>
 
 // Judges a message of so many bytes.
 fn judge_one(
-    alloc: Global,
+    room: &mut MessageRoom,
     head: Head,
     place: usize,
     stored: StoredMessage,
@@ -74,22 +75,28 @@ fn judge_one(
     requires { IsStored head.version stored }
     ensures { IfOk result (JudgesOne head.version head.cursor place stored size) }
 {
-    let found = judged(alloc, head.version, head.cursor as usize, place, stored)?;
+    let found = judged(room, head.version, head.cursor as usize, place, stored)?;
     let Some((key, message)) = found else {
         return Ok(Next::Damaged);
     };
     let short = is_short(&message, 0, 1);
+    room.take_back(Some(message));
     Ok(Next::Sound { key, size, short })
 }
 
 /// Judges the message in front of these bytes of a base file with this head. It is the one at this place, counted from
-/// 0. Whether an earlier one has its key is not asked.
-pub fn judge_next(alloc: Global, head: Head, place: usize, bytes: &[u8]) -> Result<Next, AllocError>
+/// 0. Whether an earlier one has its key is not asked. The content of the room makes no difference.
+pub fn judge_next(
+    room: &mut MessageRoom,
+    head: Head,
+    place: usize,
+    bytes: &[u8],
+) -> Result<Next, AllocError>
     ensures { IfOk result (IsNext head.version head.cursor place bytes.now) }
 {
     let mut rest = bytes;
-    match read_stored(alloc, &mut rest, head.version) {
-        Ok(stored) => judge_one(alloc, head, place, stored, bytes.len() - rest.len()),
+    match read_stored_into(room.take_strings(), &mut rest, head.version) {
+        Ok(stored) => judge_one(room, head, place, stored, bytes.len() - rest.len()),
         Err(Broken::Memory) => Err(AllocError),
         Err(_) => Ok(Next::Cut),
     }

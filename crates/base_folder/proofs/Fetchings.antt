@@ -3,7 +3,7 @@ use Rattle.std.proofs.Common.{ℕ, ◌≤◌, List, arith, inl, inr}
 use Rattle.disk_io.specs.Device.{Failed}
 use Rattle.cmd_status.specs.declared.fault.Fault.{Fault}
 use Rattle.cmd_status.specs.declared.fault.Fault.TheVariants.{CannotUse}
-use Rattle.base_folder_store.proofs.Causes.{failed_since}
+use Rattle.base_store.proofs.Causes.{failed_since}
 use Rattle.base_folder.specs.Fetching.{CannotRead, IsUnread}
 
 pub read_since : (path : List ℕ) (first before now : ℕ) (fault : Fault) → first ≤ before → CannotRead path before now fault → CannotRead path first now fault

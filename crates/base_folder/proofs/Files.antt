@@ -19,7 +19,7 @@ use Rattle.cmd_status.specs.Lines.{WritesFront}
 use Rattle.cmd_status.proofs.Lines.{front_more, front_sent}
 use Rattle.disk_io.specs.Device.{Sends}
 use Rattle.std.specs.Result.{OnErr}
-use Rattle.base_folder_store.proofs.Causes.{failed_since}
+use Rattle.base_store.proofs.Causes.{failed_since}
 use Rattle.base_folder_store.proofs.Looked.{some_message}
 use Rattle.base_folder.specs.AsFile.{IsFileFault, IsMessageFault}
 

@@ -1,9 +1,10 @@
 -- A folder filled with the messages of a base, one after another.
-use Rattle.std.proofs.Common.{◌≡◌, ◌≤◌, ◌<◌, ◌+◌, ℕ, List, [], Some, None, length, take, false, inl, inr, ⊎_elim, Bool, Result, Ok, Err, refl, sym, ap, subst, ◌∙◌, arith}
-use Rattle.std.specs.Prelude.{IfErr, IsErrAnd, IsErrOf, slice_get}
-use Rattle.std.proofs.lemmas.List.{length-take-le, take_all}
+use Rattle.std.proofs.Common.{◌≡◌, ◌≤◌, ◌<◌, ◌+◌, ℕ, List, [], ◌∷◌, ◌++◌, Some, None, length, take, false, inl, inr, ⊎_elim, Bool, Result, Ok, Err, refl, sym, ap, subst, ◌∙◌, arith, length-append}
+use Rattle.std.specs.Prelude.{IfErr, IsErrAnd, IsErrOf, OnOk, slice_get}
+use Rattle.std.proofs.lemmas.Grind.{flat_map-append}
+use Rattle.std.proofs.lemmas.List.{append-nil, length-map, length-take-le, take_all}
 use Rattle.std.proofs.lemmas.Option.{get_or_from_slice_get, slice_get_within}
-use Rattle.std.proofs.lemmas.Result.{on_ok_weaker}
+use Rattle.std.proofs.lemmas.Result.{IfErr-weaker, on_ok_weaker}
 use Rattle.disk_io.specs.Disk.{DiskState, Files}
 use Rattle.disk_io.specs.Runs.{LeavesOnly}
 use Rattle.disk_io.proofs.Moments.{then_run, weaker_run}
@@ -11,15 +12,25 @@ use Rattle.base_log.specs.AtRest.{IsAtRest}
 use Rattle.base_log.specs.Moments.{IsBeforeOrAfter, KeepsOutside, RepresentsAlone}
 use Rattle.base_log.proofs.Rested.{rest_same, rest_represented}
 use Rattle.echo_filed.specs.Filed.{Filed, key_of}
+use Rattle.echo_filed.specs.Stored.{IsStored, Stored, message_in, stored_bytes}
+use Rattle.echo_filed.specs.declared.stored.Version.TheVariants.{Second}
+use Rattle.echo_filed.proofs.Plain.{all_append}
 use Rattle.base_log.specs.Standing.{BaseBytes, Represents}
+use Rattle.base_file.specs.Alone.{IsStoredAlone, MayStandAlone}
 use Rattle.base_file.specs.Base.{Base, IsBase, is_known}
 use Rattle.base_file.proofs.Purges.{front_more}
 use Rattle.base_folder_store.specs.Answers.{Answers, HasReadCause}
-use Rattle.base_folder_store.specs.Held.{HoldsBase, RepresentsBaseAlone, RepresentsBaseOrWasLeft}
+use Rattle.base_store.specs.Keys.{digested, digested_key, entry, keys_from}
+use Rattle.base_store.proofs.Digests.{of_key}
+use Rattle.base_store.proofs.Placed.{bytes_of, keys_append, keys_long}
+use Rattle.base_folder_store.specs.Added.{with_stored}
+use Rattle.base_folder_store.specs.Held.{HoldsBase, RepresentsBase, RepresentsBaseAlone, RepresentsBaseOrWasLeft, digest_by}
 use Rattle.base_folder_store.specs.Opened.{IsOpen, committed_by, held_by, path_of}
 use Rattle.base_folder_store.specs.State.{IsUsable}
 use Rattle.base_folder_store.specs.declared.folder.Folder.{Folder}
-use Rattle.base_folder_store.proofs.Causes.{answers_give, failed_since, handed_on}
+use Rattle.base_store.proofs.Causes.{failed_since}
+use Rattle.base_folder_store.proofs.Causes.{answers_give, handed_on}
+use Rattle.base_folder_store.proofs.Legible.{keys_all, legible_open}
 use Rattle.base_folder_store.proofs.Runs.{run_none, run_twice}
 use Rattle.base_folder_store.proofs.Seen.{at_end, end_holds, end_open}
 use Rattle.base_folder_store.proofs.Stubbed.{new_at}
@@ -28,16 +39,21 @@ use Rattle.base_file.specs.declared.fault.BaseFault.TheVariants as fault
 use Rattle.base_store.specs.declared.store_error.StoreError.{StoreError}
 use Rattle.base_store.specs.declared.store_error.StoreError.TheVariants as store
 use Rattle.base_folder.specs.AsFile.{file_cause}
-use Rattle.base_folder.specs.Filled.{AddsOnly, HasFillCause, HasUnfilledCause, HoldsFront, HoldsMore, IsFilledFull, IsKept, IsUndamaged, IsUnfilled, ReadsFor, ShowsBase, RepresentsOneOf, RepresentsOneOfOrWasLeft, unfilled_cause}
+use Rattle.base_folder.specs.Filled.{AddsOnly, FillsAllOrNothing, FillsOnly, HasFillCause, HasUnfilledCause, HoldsFront, HoldsMany, HoldsMore, IsFilledFull, IsKept, IsOpenIfUnread, IsUncommitted, IsUndamaged, IsUnfilled, ReadsFor, RepresentsMany, RepresentsNoneOr, RepresentsNoneOrWasLeft, ShowsBase, no_messages, unfilled_cause}
 use Rattle.base_folder.specs.OpenError.{HasUnreadCause, IsWrong}
 use Rattle.base_folder.specs.Source.{LooksAt, SourceState}
 use Rattle.base_folder.specs.declared.open_error.OpenError.{OpenError}
 use Rattle.base_folder.specs.declared.open_error.OpenError.TheVariants as unread
-use Rattle.base_folder.specs.declared.unfilled.UnfilledFolder.{UnfilledFolder}
-use Rattle.base_folder.specs.declared.unfilled.UnfilledFolder.TheVariants as unfilled
+use Rattle.base_folder.specs.declared.fill_error.FillError.{FillError}
+use Rattle.base_folder.specs.declared.fill_error.FillError.TheVariants as unfilled
 use Rattle.base_folder.proofs.Files.{there}
 use Rattle.base_folder.proofs.Lookings.{err_is}
 use Rattle.base_folder.proofs.Readings.{looks_none, looks_on}
+
+-- What holds at an error holds where it was handed on.
+pub by_error : {T E : Type 0} (P : Result T E → Type 0) (e : E) (r : Result T E) → IsErrAnd r (λ x. x ≡ e) → P (Err e) → P r
+by_error P e (Ok x) is was = absurd is
+by_error {E = E} P e (Err x) is was = subst (λ (y : E). P (Err y)) (sym is) was
 
 -- one message more
 pub front_one : (keyed : ℕ → ℕ → List ℕ → ℕ) (old now : BaseBytes) (base : Base) (i cursor : ℕ) (m : Filed) → IsBase base.messages base.cursor → slice_get base.messages i ≡ Some m
@@ -62,65 +78,144 @@ pub front_all : (keyed : ℕ → ℕ → List ℕ → ℕ) (bytes : BaseBytes) (
 front_all keyed bytes base n all was =
     subst (λ (l : List Filed). HoldsBase keyed bytes (record { messages = l; cursor = base.cursor })) (take_all n base.messages (omega arith)) was
 
--- until the commit a crash leaves the base from before
-pub fills_before : (keyed : ℕ → ℕ → List ℕ → ℕ) (path : List ℕ) (d e : DiskState) (bytes : BaseBytes) (first next : Base) → HoldsBase keyed bytes first → LeavesOnly d e (RepresentsAlone path d bytes)
-    → LeavesOnly d e (RepresentsOneOf keyed path d first next)
-fills_before keyed path d e bytes first next holds run =
-    weaker_run d e (RepresentsAlone path d bytes) (RepresentsOneOf keyed path d first next) run
-    (λ c left. inl (record { outside = left.outside; represented = record { bytes = bytes; represented = left.represented; holds = holds } }))
-
--- In the commit it leaves that or the other one.
-pub fills_run : (keyed : ℕ → ℕ → List ℕ → ℕ) (path : List ℕ) (d f : DiskState) (before now : BaseBytes) (first next : Base) → HoldsBase keyed before first → HoldsBase keyed now next
-    → LeavesOnly d f (IsBeforeOrAfter path d before now) → LeavesOnly d f (RepresentsOneOf keyed path d first next)
-fills_run keyed path d f before now first next was is run =
-    weaker_run d f (IsBeforeOrAfter path d before now) (RepresentsOneOf keyed path d first next) run
-    (λ c left. ⊎_elim
-    (λ (h : Represents path before c). inl (record { outside = left.outside; represented = record { bytes = before; represented = h; holds = was } }))
-    (λ (h : Represents path now c). inr (record { outside = left.outside; represented = record { bytes = now; represented = h; holds = is } })) left.represented)
-
--- a folder at rest keeps the committed base
-pub filled_is_kept : (keyed : ℕ → ℕ → List ℕ → ℕ) (path : List ℕ) (d : DiskState) (f : Folder) (base : Base) → path_of f ≡ path → IsAtRest d (path_of f) f.end → HoldsBase keyed (committed_by d f) base → IsKept keyed path d base
-filled_is_kept keyed path d f base at rest holds =
-    subst (λ (p : List ℕ). IsKept keyed p d base) at
+-- one message more, as it is stored
+pub many_more : (keyed : ℕ → ℕ → List ℕ → ℕ) (now held : BaseBytes) (k : ℕ) (m : Filed) (bytes : List ℕ) (number : ℕ) → now ≡ with_stored held bytes number → IsStoredAlone m bytes
+    → number ≡ digest_by keyed held.mark (digested_key (key_of m)) → HoldsMany keyed held k → HoldsMany keyed now (k + 1)
+many_more keyed now held k m bytes number staged is recorded was =
+    let digest = digest_by keyed held.mark in
+    let one : List Stored = is.s ∷ [] in
+    let here : length held.messages ≡ 0 + length (bytes_of was.all) = omega (arith, ap (λ (l : List ℕ). length l) was.stored) in
+    let number_is : number ≡ digest (digested m) = recorded ∙ ap digest (sym (of_key m)) in
+    let entered : entry (length held.messages) number ≡ keys_from digest (0 + length (bytes_of was.all)) one =
+    (λ i. entry (here i) (number_is i))
+    ∙ ap (λ (x : Filed). entry (0 + length (bytes_of was.all)) (digest (digested x))) (sym is.is)
+    ∙ sym (append-nil (entry (0 + length (bytes_of was.all)) (digest (digested (message_in Second is.s))))) in
+    subst (λ (b : BaseBytes). HoldsMany keyed b (k + 1)) (sym staged)
     (record {
-      seen = record { bytes = committed_by d f; represented = rest_same d (path_of f) f.end rest d.seen refl refl refl; holds = holds };
-      stays = λ c left. record { bytes = committed_by d f; represented = rest_represented d (path_of f) f.end rest c left; holds = holds };
+      all = was.all ++ one;
+      many = omega (arith, length-append was.all one, was.many);
+      sizes = all_append (IsStored Second) was.all one was.sizes (is.size, tt);
+      sound = all_append MayStandAlone was.all one was.sound (is.alone, tt);
+      stored = (λ i. was.stored i ++ (is.same ∙ sym (append-nil (stored_bytes Second is.s))) i) ∙ sym (flat_map-append (stored_bytes Second) was.all one);
+      entries = (λ i. was.entries i ++ entered i) ∙ sym (keys_append digest 0 was.all one);
+      within = omega (arith, was.within);
     })
 
+-- none at first, and with the cursor at the end
+pub many_none : (keyed : ℕ → ℕ → List ℕ → ℕ) (bytes : BaseBytes) → HoldsBase keyed bytes no_messages → HoldsMany keyed bytes 0
+many_none keyed bytes holds =
+    let files = holds.files in
+    record {
+      all = files.all;
+      many = omega (arith, ap (λ (l : List Filed). length l) files.filed, length-map files.all (message_in Second));
+      sizes = files.sizes;
+      sound = files.sound;
+      stored = files.stored;
+      entries = files.entries;
+      within = omega (arith, holds.cursor);
+    }
+
+many_end : (keyed : ℕ → ℕ → List ℕ → ℕ) (d : DiskState) (f g : Folder) (k : ℕ) → g ≡ at_end f → IsOpen d f → HoldsMany keyed (held_by d f) k → HoldsMany keyed (held_by d g) k
+many_end keyed d f g k end opened was =
+    let long = keys_all d f (legible_open d f opened) in
+    let entries = ap (λ (l : List ℕ). length l) was.entries in
+    let all = keys_long (digest_by keyed (held_by d f).mark) 0 was.all in
+    subst (λ (x : Folder). HoldsMany keyed (held_by d x) k) (sym end)
+    (record { all = was.all; many = was.many; sizes = was.sizes; sound = was.sound; stored = was.stored; entries = was.entries; within = omega (arith, long, entries, all, was.many) })
+
+-- until the commit a crash leaves no message
+pub fills_before : (keyed : ℕ → ℕ → List ℕ → ℕ) (path : List ℕ) (d e : DiskState) (bytes : BaseBytes) (P : Files → Type 0) → HoldsBase keyed bytes no_messages → LeavesOnly d e (RepresentsAlone path d bytes)
+    → LeavesOnly d e (RepresentsNoneOr keyed path d P)
+fills_before keyed path d e bytes P holds run =
+    weaker_run d e (RepresentsAlone path d bytes) (RepresentsNoneOr keyed path d P) run
+    (λ c left. record { outside = left.outside; represented = inl (record { bytes = bytes; represented = left.represented; holds = holds }) })
+
+-- In the commit it leaves none or all.
+pub fills_run : (keyed : ℕ → ℕ → List ℕ → ℕ) (path : List ℕ) (d f : DiskState) (before now : BaseBytes) (P : Files → Type 0) → HoldsBase keyed before no_messages → ((c : Files) → Represents path now c → P c)
+    → LeavesOnly d f (IsBeforeOrAfter path d before now) → LeavesOnly d f (RepresentsNoneOr keyed path d P)
+fills_run keyed path d f before now P was gives run =
+    weaker_run d f (IsBeforeOrAfter path d before now) (RepresentsNoneOr keyed path d P) run
+    (λ c left. record {
+      outside = left.outside;
+      represented = ⊎_elim (λ (h : Represents path before c). inl (record { bytes = before; represented = h; holds = was })) (λ (h : Represents path now c). inr (gives c h)) left.represented;
+    })
+
+-- what a folder at rest, or one that is open, represents is kept
+pub filled_is_kept : (path : List ℕ) (d : DiskState) (f : Folder) (P : Files → Type 0) → path_of f ≡ path → IsAtRest d (path_of f) f.end → ((c : Files) → Represents path (committed_by d f) c → P c) → IsKept d P
+filled_is_kept path d f P at rest gives =
+    let there = λ (c : Files) (is : Represents (path_of f) (committed_by d f) c). gives c (subst (λ (p : List ℕ). Represents p (committed_by d f) c) at is) in
+    record { seen = there d.seen (rest_same d (path_of f) f.end rest d.seen refl refl refl); stays = λ c left. there c (rest_represented d (path_of f) f.end rest c left) }
+
+open_is_kept : (keyed : ℕ → ℕ → List ℕ → ℕ) (path : List ℕ) (d : DiskState) (f : Folder) → path_of f ≡ path → IsOpen d f → HoldsBase keyed (committed_by d f) no_messages → IsKept d (RepresentsBase keyed path no_messages)
+open_is_kept keyed path d f at opened holds =
+    subst (λ (p : List ℕ). IsKept d (RepresentsBase keyed p no_messages)) at
+    (record {
+      seen = record { bytes = committed_by d f; represented = opened.staged.shown; holds = holds };
+      stays = λ c left. record { bytes = committed_by d f; represented = opened.staged.represented c left; holds = holds };
+    })
+
+-- No message is committed after an error of adding, of the store, or of opening.
+pub uncommitted_opened : (keyed : ℕ → ℕ → List ℕ → ℕ) (path : List ℕ) (left : (Files → Type 0) → Files → Type 0) (d e : DiskState) (why : OpenError) → LeavesOnly d e (left (λ c. ⊥)) → IsUncommitted keyed path left d e (unfilled.Folder why)
+uncommitted_opened keyed path left d e unread.Memory run = tt
+uncommitted_opened keyed path left d e unread.Device run = tt
+uncommitted_opened keyed path left d e (unread.Wrong fault) run = run
+uncommitted_opened keyed path left d e unread.Raced run = run
+uncommitted_opened keyed path left d e (unread.NotOwner address) run = run
+
+pub uncommitted_added : (keyed : ℕ → ℕ → List ℕ → ℕ) (left : (Files → Type 0) → Files → Type 0) (d e : DiskState) (f g : Folder) (why : FillError) → HoldsBase keyed (committed_by d f) no_messages → path_of g ≡ path_of f
+    → LeavesOnly d e (left (λ c. ⊥)) → IsOpenIfUnread f g d e why → IsUncommitted keyed (path_of f) left d e why
+uncommitted_added keyed left d e f g (unfilled.Messages fault) none at run still =
+    (open_is_kept keyed (path_of f) e g at still.0 (subst (λ (b : BaseBytes). HoldsBase keyed b no_messages) (sym still.1) none), run)
+uncommitted_added keyed left d e f g (unfilled.Folder why) none at run still = uncommitted_opened keyed (path_of f) left d e why run
+
+pub uncommitted_stored : (keyed : ℕ → ℕ → List ℕ → ℕ) (path : List ℕ) (left : (Files → Type 0) → Files → Type 0) (d e : DiskState) (error : StoreError) → (IsErrOf {T = Unit {0}} (Err error) store.TooMany → LeavesOnly d e (left (λ c. ⊥)))
+    → IsUncommitted keyed path left d e (unfilled.Folder (unfilled_cause error))
+uncommitted_stored keyed path left d e store.Memory run = tt
+uncommitted_stored keyed path left d e store.TooMany run = run refl
+uncommitted_stored keyed path left d e store.Device run = tt
+uncommitted_stored keyed path left d e store.Damaged run = tt
+
 -- the files that a crash leaves while a folder is opened and then filled
-pub opened_run : (keyed : ℕ → ℕ → List ℕ → ℕ) (path : List ℕ) (d e : DiskState) (first next : Base) → LeavesOnly d e (RepresentsBaseOrWasLeft keyed path d first) → LeavesOnly d e (RepresentsOneOfOrWasLeft keyed path d first next)
-opened_run keyed path d e first next run =
-    weaker_run d e (RepresentsBaseOrWasLeft keyed path d first) (RepresentsOneOfOrWasLeft keyed path d first next) run
-    (λ c or. ⊎_elim (λ (alone : RepresentsBaseAlone keyed path d first c). inl (inl alone)) (λ (left : d.may_leave c). inr left) or)
+pub opened_run : (keyed : ℕ → ℕ → List ℕ → ℕ) (path : List ℕ) (d e : DiskState) (P : Files → Type 0) → LeavesOnly d e (RepresentsBaseOrWasLeft keyed path d no_messages) → LeavesOnly d e (RepresentsNoneOrWasLeft keyed path d P)
+opened_run keyed path d e P run =
+    weaker_run d e (RepresentsBaseOrWasLeft keyed path d no_messages) (RepresentsNoneOrWasLeft keyed path d P) run
+    (λ c or. ⊎_elim (λ (alone : RepresentsBaseAlone keyed path d no_messages c). inl (record { outside = alone.outside; represented = inl alone.represented })) (λ (left : d.may_leave c). inr left) or)
 
-alone_since : (keyed : ℕ → ℕ → List ℕ → ℕ) (path : List ℕ) (d e : DiskState) (base : Base) → KeepsOutside path d e → (c : Files) → RepresentsBaseAlone keyed path e base c → RepresentsBaseAlone keyed path d base c
-alone_since keyed path d e base kept c left = record { outside = λ m out named flushed. left.outside m out (kept.named m out named) (kept.flushed m out flushed) ∙ kept.seen m out; represented = left.represented }
+fill_run : (keyed : ℕ → ℕ → List ℕ → ℕ) (path : List ℕ) (d e f : DiskState) (P : Files → Type 0) → LeavesOnly d e (RepresentsBaseOrWasLeft keyed path d no_messages) → KeepsOutside path d e
+    → LeavesOnly e f (RepresentsNoneOr keyed path e P) → LeavesOnly d f (RepresentsNoneOrWasLeft keyed path d P)
+fill_run keyed path d e f P opening kept filling =
+    then_run d e f (RepresentsNoneOrWasLeft keyed path d P) (RepresentsNoneOr keyed path e P) (opened_run keyed path d e P opening) filling
+    (λ c left. inl (record { outside = λ m out named flushed. left.outside m out (kept.named m out named) (kept.flushed m out flushed) ∙ kept.seen m out; represented = left.represented }))
 
-pub fill_run : (keyed : ℕ → ℕ → List ℕ → ℕ) (path here : List ℕ) (d e f : DiskState) (first next : Base) → here ≡ path → LeavesOnly d e (RepresentsBaseOrWasLeft keyed path d first) → KeepsOutside path d e
-    → LeavesOnly e f (RepresentsOneOf keyed here e first next) → LeavesOnly d f (RepresentsOneOfOrWasLeft keyed path d first next)
-fill_run keyed path here d e f first next at opening kept filling =
-    then_run d e f (RepresentsOneOfOrWasLeft keyed path d first next) (RepresentsOneOf keyed path e first next) (opened_run keyed path d e first next opening)
-    (subst (λ (p : List ℕ). LeavesOnly e f (RepresentsOneOf keyed p e first next)) at filling)
-    (λ c or. inl
-    (⊎_elim
-    (λ (one : RepresentsBaseAlone keyed path e first c). inl (alone_since keyed path d e first kept c one))
-    (λ (one : RepresentsBaseAlone keyed path e next c). inr (alone_since keyed path d e next kept c one)) or))
+uncommitted_since : (keyed : ℕ → ℕ → List ℕ → ℕ) (path : List ℕ) (d e f : DiskState) (why : FillError) → LeavesOnly d e (RepresentsBaseOrWasLeft keyed path d no_messages) → KeepsOutside path d e
+    → IsUncommitted keyed path (RepresentsNoneOr keyed path e) e f why → IsUncommitted keyed path (RepresentsNoneOrWasLeft keyed path d) d f why
+uncommitted_since keyed path d e f (unfilled.Messages fault) opening kept was = (was.0, fill_run keyed path d e f (λ c. ⊥) opening kept was.1)
+uncommitted_since keyed path d e f (unfilled.Folder unread.Memory) opening kept was = tt
+uncommitted_since keyed path d e f (unfilled.Folder unread.Device) opening kept was = tt
+uncommitted_since keyed path d e f (unfilled.Folder (unread.Wrong fault)) opening kept was = fill_run keyed path d e f (λ c. ⊥) opening kept was
+uncommitted_since keyed path d e f (unfilled.Folder unread.Raced) opening kept was = fill_run keyed path d e f (λ c. ⊥) opening kept was
+uncommitted_since keyed path d e f (unfilled.Folder (unread.NotOwner address)) opening kept was = fill_run keyed path d e f (λ c. ⊥) opening kept was
+
+pub fill_since : {T : Type 0} (keyed : ℕ → ℕ → List ℕ → ℕ) (path : List ℕ) (d e f : DiskState) (source later : SourceState) (r : Result T FillError) → LeavesOnly d e (RepresentsBaseOrWasLeft keyed path d no_messages) → KeepsOutside path d e
+    → FillsAllOrNothing keyed path (RepresentsNoneOr keyed path e) e f source later r → FillsAllOrNothing keyed path (RepresentsNoneOrWasLeft keyed path d) d f source later r
+fill_since keyed path d e f source later r opening kept fills = record {
+  base = λ honest base holds. fill_run keyed path d e f (RepresentsBase keyed path base) opening kept (fills.base honest base holds);
+  many = fill_run keyed path d e f (RepresentsMany keyed path source.count) opening kept fills.many;
+  refused = IfErr-weaker r (IsUncommitted keyed path (RepresentsNoneOr keyed path e) e f) (IsUncommitted keyed path (RepresentsNoneOrWasLeft keyed path d) d f) (λ why. uncommitted_since keyed path d e f why opening kept) fills.refused;
+  filled = fills.filled;
+}
 
 -- Calls that add: none, one that failed, the cursor at the end, and one call after another.
 pub adds_none : {T E : Type 0} (f : Folder) (d : DiskState) (r : Result T E) → IsUsable d f → AddsOnly f f d d r
 adds_none f d (Ok x) usable = record { named = usable.named; opened = usable.opened; path = refl; same = λ honest. refl; run = run_none d f usable.opened }
 adds_none f d (Err e) usable = record { named = usable.named; opened = λ honest. tt; path = refl; same = λ honest. tt; run = run_none d f usable.opened }
 
-pub adds_failed : {T U E F : Type 0} (f g : Folder) (d e : DiskState) (P : F → Type 0) (one : Result T E) (two : Result U F) → IsErrAnd two P → AddsOnly f g d e one → AddsOnly f g d e two
-adds_failed f g d e P one (Ok x) is was = absurd is
-adds_failed f g d e P one (Err x) is was = record { named = was.named; opened = λ honest. tt; path = was.path; same = λ honest. tt; run = was.run }
-
-pub adds_end : (f g h : Folder) (d e : DiskState) → h ≡ at_end g → AddsOnly {T = Unit {0}} {E = UnfilledFolder} f g d e (Ok tt) → AddsOnly {T = Unit {0}} {E = UnfilledFolder} f h d e (Ok tt)
+pub adds_end : (f g h : Folder) (d e : DiskState) → h ≡ at_end g → AddsOnly {T = Unit {0}} {E = FillError} f g d e (Ok tt) → AddsOnly {T = Unit {0}} {E = FillError} f h d e (Ok tt)
 adds_end f g h d e is was =
-    subst (λ (x : Folder). AddsOnly {T = Unit {0}} {E = UnfilledFolder} f x d e (Ok tt)) (sym is)
+    subst (λ (x : Folder). AddsOnly {T = Unit {0}} {E = FillError} f x d e (Ok tt)) (sym is)
     (record { named = was.named; opened = λ honest. end_open e g (was.opened honest); path = was.path; same = was.same; run = was.run })
 
-pub adds_twice : {U : Type 0} (f g h : Folder) (d e k : DiskState) (two : Result U UnfilledFolder) → AddsOnly {T = Unit {0}} {E = UnfilledFolder} f g d e (Ok tt) → AddsOnly g h e k two → AddsOnly f h d k two
+pub adds_twice : {U : Type 0} (f g h : Folder) (d e k : DiskState) (two : Result U FillError) → AddsOnly {T = Unit {0}} {E = FillError} f g d e (Ok tt) → AddsOnly g h e k two → AddsOnly f h d k two
 adds_twice f g h d e k two was now = record {
   named = now.named;
   opened = now.opened;
@@ -129,10 +224,52 @@ adds_twice f g h d e k two was now = record {
   run = run_twice (path_of f) (path_of g) d e k (committed_by d f) (committed_by e g) was.path was.run now.run was.same;
 }
 
--- What holds at an error holds where it was handed on.
-pub by_error : {T E : Type 0} (P : Result T E → Type 0) (e : E) (r : Result T E) → IsErrAnd r (λ x. x ≡ e) → P (Err e) → P r
-by_error P e (Ok x) is was = absurd is
-by_error {E = E} P e (Err x) is was = subst (λ (y : E). P (Err y)) (sym is) was
+-- The same with messages of a source: none, a fault, an error of the folder, the cursor at the end, and one call after another.
+still_open : (f : Folder) (d : DiskState) (why : FillError) → IsOpen d f → IsOpenIfUnread f f d d why
+still_open f d (unfilled.Messages fault) opened = (opened, refl)
+still_open f d (unfilled.Folder why) opened = tt
+
+pub fills_none : (keyed : ℕ → ℕ → List ℕ → ℕ) (f : Folder) (d : DiskState) (n : ℕ) → n ≡ 0 → IsUsable d f → FillsOnly {T = Unit {0}} keyed n f f d d (Ok tt)
+fills_none keyed f d n none usable = record {
+  adds = adds_none f d (Ok tt) usable;
+  more = λ honest k holds. let same : k ≡ k + n = omega (arith, none) in subst (λ (m : ℕ). HoldsMany keyed (held_by d f) m) same holds;
+  unread = λ honest. tt;
+}
+
+pub fills_unread : (keyed : ℕ → ℕ → List ℕ → ℕ) (f : Folder) (d : DiskState) (n : ℕ) (why : FillError) → IsUsable d f → FillsOnly {T = Unit {0}} keyed n f f d d (Err why)
+fills_unread keyed f d n why usable = record { adds = adds_none f d (Err why) usable; more = λ honest k holds. tt; unread = λ honest. still_open f d why (usable.opened honest) }
+
+pub fills_failed : (keyed : ℕ → ℕ → List ℕ → ℕ) (f g : Folder) (d e : DiskState) (n : ℕ) (why : OpenError) (error : StoreError) (r : Result (Unit {0}) FillError) → IsErrAnd r (λ x. x ≡ unfilled.Folder why)
+    → AddsOnly {T = Unit {0}} f g d e (Err error) → FillsOnly keyed n f g d e r
+fills_failed keyed f g d e n why error r is was =
+    by_error (λ (x : Result (Unit {0}) FillError). FillsOnly keyed n f g d e x) (unfilled.Folder why) r is
+    (record { adds = record { named = was.named; opened = λ honest. tt; path = was.path; same = λ honest. tt; run = was.run }; more = λ honest k holds. tt; unread = λ honest. tt })
+
+pub fills_fewer : (keyed : ℕ → ℕ → List ℕ → ℕ) (f g : Folder) (d e : DiskState) (m n : ℕ) (why : FillError) (r : Result (Unit {0}) FillError) → IsErrAnd r (λ x. x ≡ why) → FillsOnly {T = Unit {0}} keyed m f g d e (Err why)
+    → FillsOnly keyed n f g d e r
+fills_fewer keyed f g d e m n why r is was =
+    by_error (λ (x : Result (Unit {0}) FillError). FillsOnly keyed n f g d e x) why r is (record { adds = was.adds; more = λ honest k holds. tt; unread = was.unread })
+
+pub fills_end : (keyed : ℕ → ℕ → List ℕ → ℕ) (f g h : Folder) (d e : DiskState) (n : ℕ) → h ≡ at_end g → FillsOnly {T = Unit {0}} keyed n f g d e (Ok tt) → FillsOnly {T = Unit {0}} keyed n f h d e (Ok tt)
+fills_end keyed f g h d e n is was = record {
+  adds = adds_end f g h d e is was.adds;
+  more = λ honest k holds. many_end keyed e g h (k + n) is (was.adds.opened honest) (was.more honest k holds);
+  unread = λ honest. tt;
+}
+
+still_twice : (f g h : Folder) (d e k : DiskState) (why : FillError) → committed_by e g ≡ committed_by d f → IsOpenIfUnread g h e k why → IsOpenIfUnread f h d k why
+still_twice f g h d e k (unfilled.Messages fault) same still = (still.0, still.1 ∙ same)
+still_twice f g h d e k (unfilled.Folder why) same still = tt
+
+pub fills_twice : (keyed : ℕ → ℕ → List ℕ → ℕ) (f g h : Folder) (d e k : DiskState) (m n all : ℕ) (two : Result (Unit {0}) FillError) → all ≡ m + n → FillsOnly {T = Unit {0}} keyed m f g d e (Ok tt) → FillsOnly keyed n g h e k two
+    → FillsOnly keyed all f h d k two
+fills_twice keyed f g h d e k m n all two sum was now = record {
+  adds = adds_twice f g h d e k two was.adds now.adds;
+  more = λ honest j holds.
+      let same : (j + m) + n ≡ j + all = omega (arith, sum) in
+      subst (λ (i : ℕ). OnOk two (HoldsMany keyed (held_by k h) i)) same (now.more honest (j + m) (was.more (now.adds.run.outside.honest honest) j holds));
+  unread = λ honest. IfErr-weaker two (IsOpenIfUnread g h e k) (IsOpenIfUnread f h d k) (λ why. still_twice f g h d e k why (was.adds.same (now.adds.run.outside.honest honest))) (now.unread honest);
+}
 
 -- A base that is shown in two reads is shown in each.
 pub shows_before : (a b c : SourceState) (base : Base) → LooksAt b c → ShowsBase a c base → ShowsBase a b base
@@ -142,17 +279,17 @@ pub shows_later : (a b c : SourceState) (base : Base) → LooksAt a b → ShowsB
 shows_later a b c base looks shows = record { honest = shows.honest; holds = looks.holds base shows.holds; is = shows.is }
 
 -- Reads of the messages: some, none, an error of the folder, and one read after another.
-pub reads_as : {T : Type 0} (a b : SourceState) (r : Result T UnfilledFolder) → (IsErrOf r (unfilled.Messages fault.Read) → ⊥) → IfErr r IsUndamaged → LooksAt a b → a.failures ≤ b.failures → ReadsFor a b r
+pub reads_as : {T : Type 0} (a b : SourceState) (r : Result T FillError) → (IsErrOf r (unfilled.Messages fault.Read) → ⊥) → IfErr r IsUndamaged → LooksAt a b → a.failures ≤ b.failures → ReadsFor a b r
 reads_as a b r none whole looks less = record { looks = looks; later = less; failed = λ is. absurd (none is); whole = λ honest base holds. whole }
 
 pub reads_none : (a : SourceState) → ReadsFor {T = Unit {0}} a a (Ok tt)
 reads_none a = reads_as {T = Unit {0}} a a (Ok tt) (λ read. cc (read)) tt (looks_none a) (omega arith)
 
-pub reads_folder : {T : Type 0} (a b : SourceState) (why : OpenError) (r : Result T UnfilledFolder) → IsErrAnd r (λ x. x ≡ unfilled.Folder why) → LooksAt a b → a.failures ≤ b.failures → ReadsFor a b r
+pub reads_folder : {T : Type 0} (a b : SourceState) (why : OpenError) (r : Result T FillError) → IsErrAnd r (λ x. x ≡ unfilled.Folder why) → LooksAt a b → a.failures ≤ b.failures → ReadsFor a b r
 reads_folder {T} a b why r is looks less =
-    by_error (λ (x : Result T UnfilledFolder). ReadsFor a b x) (unfilled.Folder why) r is (reads_as {T = T} a b (Err (unfilled.Folder why)) (λ read. cc (read)) tt looks less)
+    by_error (λ (x : Result T FillError). ReadsFor a b x) (unfilled.Folder why) r is (reads_as {T = T} a b (Err (unfilled.Folder why)) (λ read. cc (read)) tt looks less)
 
-pub reads_twice : {U : Type 0} (a b c : SourceState) (two : Result U UnfilledFolder) → ReadsFor {T = Unit {0}} a b (Ok tt) → ReadsFor b c two → ReadsFor a c two
+pub reads_twice : {U : Type 0} (a b c : SourceState) (two : Result U FillError) → ReadsFor {T = Unit {0}} a b (Ok tt) → ReadsFor b c two → ReadsFor a c two
 reads_twice a b c two was now = record {
   looks = looks_on a b c was.looks now.looks;
   later = omega (arith, was.later, now.later);
@@ -204,13 +341,13 @@ stored_device store.TooMany is = absurd (cc (is))
 stored_device store.Device is = refl
 stored_device store.Damaged is = absurd (cc (is))
 
-pub cause_stored : {T : Type 0} (a b : ℕ) (e : StoreError) (r : Result T UnfilledFolder) → IsErrAnd r (λ x. x ≡ unfilled.Folder (unfilled_cause e)) → HasReadCause {T = Unit {0}} a b (Err e) → HasFillCause a b r
+pub cause_stored : {T : Type 0} (a b : ℕ) (e : StoreError) (r : Result T FillError) → IsErrAnd r (λ x. x ≡ unfilled.Folder (unfilled_cause e)) → HasReadCause {T = Unit {0}} a b (Err e) → HasFillCause a b r
 cause_stored a b e r same cause = record {
   cause = record { later = cause.later; failed = λ is. cause.failed (stored_device e (handed_on (unfilled.Folder (unfilled_cause e)) (unfilled.Folder unread.Device) r same is)) };
   sound = λ strange path files. err_is (IsUnfilled strange path files) (unfilled.Folder (unfilled_cause e)) r same (sound_stored strange path files e);
 }
 
-pub cause_opened : {T U : Type 0} (a b : ℕ) (why : OpenError) (r : Result T UnfilledFolder) → IsErrAnd r (λ x. x ≡ unfilled.Folder why) → HasUnreadCause {T = U} a b (Err why) → HasUnfilledCause a b r
+pub cause_opened : {T U : Type 0} (a b : ℕ) (why : OpenError) (r : Result T FillError) → IsErrAnd r (λ x. x ≡ unfilled.Folder why) → HasUnreadCause {T = U} a b (Err why) → HasUnfilledCause a b r
 cause_opened a b why r same cause = record {
   later = cause.later;
   failed = λ is.
@@ -219,7 +356,7 @@ cause_opened a b why r same cause = record {
       cause.failed (ap (λ (w : OpenError). Err w) device);
 }
 
-pub cause_since : {U : Type 0} (a b c : ℕ) (two : Result U UnfilledFolder) → a ≤ b → HasFillCause b c two → HasFillCause a c two
+pub cause_since : {U : Type 0} (a b c : ℕ) (two : Result U FillError) → a ≤ b → HasFillCause b c two → HasFillCause a c two
 cause_since a b c two was now = record {
   cause = record { later = omega (arith, was, now.cause.later); failed = λ is. failed_since a b c was (now.cause.failed is) };
   sound = now.sound;
@@ -232,12 +369,12 @@ stored_many store.TooMany is = refl
 stored_many store.Device is = absurd (cc (is))
 stored_many store.Damaged is = absurd (cc (is))
 
-pub many_stored : {T : Type 0} (e : StoreError) (r : Result T UnfilledFolder) → IsErrAnd r (λ x. x ≡ unfilled.Folder (unfilled_cause e)) → IsErrOf r (unfilled.Folder (unread.Wrong fault.TooMany))
+pub many_stored : {T : Type 0} (e : StoreError) (r : Result T FillError) → IsErrAnd r (λ x. x ≡ unfilled.Folder (unfilled_cause e)) → IsErrOf r (unfilled.Folder (unread.Wrong fault.TooMany))
     → IsErrOf {T = Unit {0}} (Err e) store.TooMany
 many_stored e r same is = stored_many e (handed_on (unfilled.Folder (unfilled_cause e)) (unfilled.Folder (unread.Wrong fault.TooMany)) r same is)
 
 -- A folder that is not opened is not too much.
-pub never_many : {T : Type 0} (strange : Bool) (path : List ℕ) (files : Files) (why : OpenError) (r : Result T UnfilledFolder) → IsErrAnd r (λ x. x ≡ unfilled.Folder why) → IsWrong strange path files why
+pub never_many : {T : Type 0} (strange : Bool) (path : List ℕ) (files : Files) (why : OpenError) (r : Result T FillError) → IsErrAnd r (λ x. x ≡ unfilled.Folder why) → IsWrong strange path files why
     → IsErrOf r (unfilled.Folder (unread.Wrong fault.TooMany)) → ⊥
 never_many strange path files why r same was is =
     let err = handed_on {U = Unit {0}} (unfilled.Folder why) (unfilled.Folder (unread.Wrong fault.TooMany)) r same is in

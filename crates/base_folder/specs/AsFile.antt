@@ -8,8 +8,8 @@ use Rattle.base_file.specs.declared.fault.BaseFault.TheVariants as fault
 use Rattle.base_store.specs.declared.store_error.StoreError.{StoreError}
 use Rattle.base_store.specs.declared.store_error.StoreError.TheVariants as error
 use Rattle.echo_filed.specs.Stored.{Stored, is_short_enough}
-use Rattle.base_folder.specs.declared.unsent.UnsentFile.{UnsentFile}
-use Rattle.base_folder.specs.declared.unsent.UnsentFile.TheVariants as unsent
+use Rattle.base_folder.specs.declared.send_error.SendError.{SendError}
+use Rattle.base_folder.specs.declared.send_error.SendError.TheVariants as unsent
 
 -- Memory ran out, four bytes can't count the parts of the base, or a read failed.
 abbrev pub IsFileFault : Base → ℕ → ℕ → BaseFault → Type 0
@@ -19,7 +19,7 @@ IsFileFault base before now fault.Read = Failed before now
 IsFileFault base before now _ = ⊥
 
 -- Such a fault, and the device that takes the file did not fail, or that device failed.
-abbrev pub IsSendFault : Base → ℕ → ℕ → ℕ → ℕ → UnsentFile → Type 0
+abbrev pub IsSendFault : Base → ℕ → ℕ → ℕ → ℕ → SendError → Type 0
 IsSendFault base before now old new (unsent.Messages why) = IsFileFault base before now why × (new ≡ old)
 IsSendFault base before now old new unsent.Device = Failed old new
 

@@ -1,16 +1,23 @@
 -- Filling a base folder with messages.
-use Rattle.std.specs.Prelude.{◌≡◌, ◌≤◌, ◌⊎◌, ℕ, Bool, List, [], false, take, Some, slice_get, Result, IfErr, IsErrOf, OnOk}
+use Rattle.std.specs.Prelude.{◌≡◌, ◌≤◌, ◌⊎◌, ℕ, ◌+◌, Bool, List, [], false, length, take, Some, slice_get, Result, IfErr, IsErrOf, OnOk}
+use Rattle.std.specs.List.{AllByRecursion, flat_map}
 use Rattle.base_file.specs.Base.{Base, IsBase, is_known}
+use Rattle.base_file.specs.Alone.{MayStandAlone}
 use Rattle.echo_filed.specs.Filed.{Filed, key_of}
-use Rattle.base_log.specs.Standing.{BaseBytes}
+use Rattle.echo_filed.specs.Stored.{IsStored, Stored, stored_bytes}
+use Rattle.echo_filed.specs.declared.stored.Version.TheVariants.{Second}
+use Rattle.base_log.specs.Moments.{SameOutside}
+use Rattle.base_log.specs.Standing.{BaseBytes, Represents}
 use Rattle.disk_io.specs.Device.{Failed}
 use Rattle.disk_io.specs.Disk.{DiskState, Files, Honestly}
+use Rattle.disk_io.specs.Runs.{LeavesOnly}
 use Rattle.base_folder_store.specs.Added.{HasRoomFor, IsFull}
 use Rattle.base_folder_store.specs.Calls.{StagesOnly}
-use Rattle.base_folder_store.specs.Held.{HoldsBase, RepresentsBase, RepresentsBaseAlone}
+use Rattle.base_folder_store.specs.Held.{HoldsBase, RepresentsBase, digest_by}
 use Rattle.base_folder_store.specs.Opened.{IsNamed, IsOpen, committed_by, held_by, path_of}
 use Rattle.base_folder_store.specs.declared.folder.Folder.{Folder}
 use Rattle.base_file.specs.declared.fault.BaseFault.TheVariants as fault
+use Rattle.base_store.specs.Keys.{keys_from}
 use Rattle.base_store.specs.Store.{with_message}
 use Rattle.base_store.specs.declared.store_error.StoreError.{StoreError}
 use Rattle.base_store.specs.declared.store_error.StoreError.TheVariants as error
@@ -18,8 +25,8 @@ use Rattle.base_folder.specs.OpenError.{IsWrong}
 use Rattle.base_folder.specs.Source.{LooksAt, SourceState}
 use Rattle.base_folder.specs.declared.open_error.OpenError.{OpenError}
 use Rattle.base_folder.specs.declared.open_error.OpenError.TheVariants as unread
-use Rattle.base_folder.specs.declared.unfilled.UnfilledFolder.{UnfilledFolder}
-use Rattle.base_folder.specs.declared.unfilled.UnfilledFolder.TheVariants as unfilled
+use Rattle.base_folder.specs.declared.fill_error.FillError.{FillError}
+use Rattle.base_folder.specs.declared.fill_error.FillError.TheVariants as unfilled
 
 -- If the old bytes hold a base without the message's key, the new bytes hold it with the message at its end.
 abbrev pub HoldsMore : (ℕ → ℕ → List ℕ → ℕ) → BaseBytes → BaseBytes → Filed → Type 0
@@ -29,6 +36,16 @@ HoldsMore keyed old new m = (base : Base) → HoldsBase keyed old base → is_kn
 abbrev pub HoldsFront : (ℕ → ℕ → List ℕ → ℕ) → BaseBytes → List Filed → ℕ → ℕ → Type 0
 HoldsFront keyed bytes messages n cursor = HoldsBase keyed bytes (record { messages = take n messages; cursor = cursor })
 
+-- The bytes are those of so many stored messages, and of their keys. Two messages may have the same key.
+pub record HoldsMany (keyed : ℕ → ℕ → List ℕ → ℕ) (bytes : BaseBytes) (n : ℕ) : Type 0 where
+  pub all : List Stored
+  pub many : length all ≡ n
+  pub sizes : AllByRecursion (IsStored Second) all
+  pub sound : AllByRecursion MayStandAlone all
+  pub stored : bytes.messages ≡ flat_map (stored_bytes Second) all
+  pub entries : bytes.keys ≡ keys_from (digest_by keyed bytes.mark) 0 all
+  pub within : bytes.cursor ≤ n
+
 -- A call that adds messages to an open folder commits nothing and keeps its path. If it is no error, the folder is open, and its last commit is the same.
 pub record AddsOnly {T E : Type 0} (old new : Folder) (before after : DiskState) (result : Result T E) : Type 0 where
   pub named : IsNamed new
@@ -37,6 +54,17 @@ pub record AddsOnly {T E : Type 0} (old new : Folder) (before after : DiskState)
   pub same : Honestly after (OnOk result (committed_by after new ≡ committed_by before old))
   pub run : StagesOnly (path_of old) (committed_by before old) before after
 
+-- If the messages have a fault, the folder is still open, with the same last commit.
+abbrev pub IsOpenIfUnread : Folder → Folder → DiskState → DiskState → FillError → Type 0
+IsOpenIfUnread old new before after (unfilled.Messages why) = IsOpen after new × (committed_by after new ≡ committed_by before old)
+IsOpenIfUnread old new before after (unfilled.Folder why) = Unit {0}
+
+-- A call that adds so many messages of any source to an open folder.
+pub record FillsOnly {T : Type 0} (keyed : ℕ → ℕ → List ℕ → ℕ) (n : ℕ) (old new : Folder) (before after : DiskState) (result : Result T FillError) : Type 0 where
+  pub adds : AddsOnly old new before after result
+  pub more : Honestly after ((k : ℕ) → HoldsMany keyed (held_by before old) k → OnOk result (HoldsMany keyed (held_by after new) (k + n)))
+  pub unread : Honestly after (IfErr result (IsOpenIfUnread old new before after))
+
 -- The source of messages was honest, and its messages are those of this base.
 pub record ShowsBase (old new : SourceState) (base : Base) : Type 0 where
   pub honest : new.is_honest
@@ -44,40 +72,65 @@ pub record ShowsBase (old new : SourceState) (base : Base) : Type 0 where
   pub is : IsBase base.messages base.cursor
 
 -- It is no damage of the messages.
-abbrev pub IsUndamaged : UnfilledFolder → Type 0
+abbrev pub IsUndamaged : FillError → Type 0
 IsUndamaged (unfilled.Messages fault.Memory) = Unit {0}
 IsUndamaged (unfilled.Messages fault.Read) = Unit {0}
 IsUndamaged (unfilled.Messages _) = ⊥
 IsUndamaged (unfilled.Folder _) = Unit {0}
 
 -- The messages are only read. The error is a failed read only if the source counts one more failure. If the source was honest and has a base, no message is damaged.
-pub record ReadsFor {T : Type 0} (old new : SourceState) (result : Result T UnfilledFolder) : Type 0 where
+pub record ReadsFor {T : Type 0} (old new : SourceState) (result : Result T FillError) : Type 0 where
   pub looks : LooksAt old new
   pub later : old.failures ≤ new.failures
   pub failed : IsErrOf result (unfilled.Messages fault.Read) → Failed old.failures new.failures
   pub whole : new.is_honest → (base : Base) → old.holds base → IfErr result IsUndamaged
 
 -- The error is a failure of the folder's device only if that device counts one more failure.
-pub record HasUnfilledCause {T : Type 0} (before now : ℕ) (result : Result T UnfilledFolder) : Type 0 where
+pub record HasUnfilledCause {T : Type 0} (before now : ℕ) (result : Result T FillError) : Type 0 where
   pub later : before ≤ now
   pub failed : IsErrOf result (unfilled.Folder unread.Device) → Failed before now
-
--- The files represent the base before or the other one, and everything outside the folder is unchanged.
-abbrev pub RepresentsOneOf : (ℕ → ℕ → List ℕ → ℕ) → List ℕ → DiskState → Base → Base → Files → Type 0
-RepresentsOneOf keyed path old first next c = RepresentsBaseAlone keyed path old first c ⊎ RepresentsBaseAlone keyed path old next c
-
--- The same, or files that a crash might have left before.
-abbrev pub RepresentsOneOfOrWasLeft : (ℕ → ℕ → List ℕ → ℕ) → List ℕ → DiskState → Base → Base → Files → Type 0
-RepresentsOneOfOrWasLeft keyed path old first next c = RepresentsOneOf keyed path old first next c ⊎ old.may_leave c
 
 -- A base without messages.
 abbrev pub no_messages : Base
 no_messages = record { messages = []; cursor = 0 }
 
--- The files represent this base, and after any crash they still do.
-pub record IsKept (keyed : ℕ → ℕ → List ℕ → ℕ) (path : List ℕ) (disk : DiskState) (base : Base) : Type 0 where
-  pub seen : RepresentsBase keyed path base disk.seen
-  pub stays : (c : Files) → disk.may_leave c → RepresentsBase keyed path base c
+-- The files represent so many messages of a folder. Two may have the same key.
+pub record RepresentsMany (keyed : ℕ → ℕ → List ℕ → ℕ) (path : List ℕ) (n : ℕ) (c : Files) : Type 0 where
+  pub bytes : BaseBytes
+  pub represented : Represents path bytes c
+  pub holds : HoldsMany keyed bytes n
+
+-- The folder represents no message, or its files have P. Everything outside the folder is unchanged.
+pub record RepresentsNoneOr (keyed : ℕ → ℕ → List ℕ → ℕ) (path : List ℕ) (old : DiskState) (P : Files → Type 0) (c : Files) : Type 0 where
+  pub outside : SameOutside path old c
+  pub represented : RepresentsBase keyed path no_messages c ⊎ P c
+
+-- The same, or files that a crash might have left before.
+abbrev pub RepresentsNoneOrWasLeft : (ℕ → ℕ → List ℕ → ℕ) → List ℕ → DiskState → (Files → Type 0) → Files → Type 0
+RepresentsNoneOrWasLeft keyed path old P c = RepresentsNoneOr keyed path old P c ⊎ old.may_leave c
+
+-- The shown files have P, and so do those that a crash may leave.
+pub record IsKept (disk : DiskState) (P : Files → Type 0) : Type 0 where
+  pub seen : P disk.seen
+  pub stays : (c : Files) → disk.may_leave c → P c
+
+-- After a fault of the messages the folder represents none, and no crash has left any. Nor has one after other errors,
+-- except a failure of the folder's device or a want of memory: these may come from the commit.
+abbrev pub IsUncommitted : (ℕ → ℕ → List ℕ → ℕ) → List ℕ → ((Files → Type 0) → Files → Type 0) → DiskState → DiskState → FillError → Type 0
+IsUncommitted keyed path left old new (unfilled.Messages why) = IsKept new (RepresentsBase keyed path no_messages) × LeavesOnly old new (left (λ c. ⊥))
+IsUncommitted keyed path left old new (unfilled.Folder unread.Memory) = Unit {0}
+IsUncommitted keyed path left old new (unfilled.Folder unread.Device) = Unit {0}
+IsUncommitted keyed path left old new (unfilled.Folder why) = LeavesOnly old new (left (λ c. ⊥))
+
+-- A folder without messages gets all messages of a source, or none. A crash at any time leaves files that have `left P`,
+-- where P says what they are if they are no base without messages.
+pub record FillsAllOrNothing {T : Type 0} (keyed : ℕ → ℕ → List ℕ → ℕ) (path : List ℕ) (left : (Files → Type 0) → Files → Type 0) (old new : DiskState) (source later : SourceState) (result : Result T FillError) : Type 0 where
+  -- From an honest source with a base.
+  pub base : later.is_honest → (base : Base) → source.holds base → LeavesOnly old new (left (RepresentsBase keyed path base))
+  -- From any source: as many messages as it has.
+  pub many : LeavesOnly old new (left (RepresentsMany keyed path source.count))
+  pub refused : IfErr result (IsUncommitted keyed path left old new)
+  pub filled : OnOk result (IsKept new (RepresentsMany keyed path source.count))
 
 -- The folder holds the first messages of a base, and has no room for the next one.
 pub record LacksNext (keyed : ℕ → ℕ → List ℕ → ℕ) (disk : DiskState) (folder : Folder) (messages : List Filed) : Type 0 where
@@ -103,11 +156,11 @@ unfilled_cause error.Damaged = unread.Memory
 unfilled_cause error.TooMany = unread.Wrong fault.TooMany
 
 -- Something is wrong with the messages or the folder, or four bytes do not count what the folder is to be filled with.
-abbrev pub IsUnfilled : Bool → List ℕ → Files → UnfilledFolder → Type 0
+abbrev pub IsUnfilled : Bool → List ℕ → Files → FillError → Type 0
 IsUnfilled strange path files (unfilled.Messages why) = Unit {0}
 IsUnfilled strange path files (unfilled.Folder why) = (why ≡ unread.Wrong fault.TooMany) ⊎ IsWrong strange path files why
 
 -- An error of a call on the open folder. The files of the folder are not wrong.
-pub record HasFillCause {T : Type 0} (before now : ℕ) (result : Result T UnfilledFolder) : Type 0 where
+pub record HasFillCause {T : Type 0} (before now : ℕ) (result : Result T FillError) : Type 0 where
   pub cause : HasUnfilledCause before now result
   pub sound : (strange : Bool) (path : List ℕ) (files : Files) → IfErr result (IsUnfilled strange path files)

@@ -11,8 +11,8 @@ ghost use Rattle.cmd_status.specs.Lines.{WritesFront};
 ghost use Rattle.base_folder.specs.AsFile.{IsFileFault, IsMessageFault, IsSendFault, IsTooLong, file_cause};
 ghost use Rattle.base_folder.specs.Source.{LooksAt};
 
+use crate::send_error::SendError;
 use crate::source::MessageSource;
-use crate::unsent::UnsentFile;
 use base_file::BaseFault;
 use base_store::StoreError;
 use disk_io::{Failure, Sink, Watched, send};
@@ -112,7 +112,7 @@ pub fn send_file<M: MessageSource, W: Sink>(
     alloc: Global,
     messages: &mut M,
     file: &mut W,
-) -> Result<(), UnsentFile>
+) -> Result<(), SendError>
     requires { (M.state messages.old).is_ready }
     ensures file { (M.state messages.new).is_honest → (base : Base) → (M.state messages.old).holds base
         → OnOk result (Appends (W.contents file.old) (W.contents file.new) (saved_bytes base.messages base.cursor)) }
@@ -126,7 +126,7 @@ pub fn send_file<M: MessageSource, W: Sink>(
     let count = messages.count();
     let cursor = messages.cursor();
     if count > MOST || cursor > MOST {
-        return Err(UnsentFile::Messages(BaseFault::TooMany));
+        return Err(SendError::Messages(BaseFault::TooMany));
     }
     let head = head_of(alloc, cursor as u32, count as u32)?;
     send_bytes(file, &head)?;
@@ -147,7 +147,7 @@ pub fn file_of<M: MessageSource>(alloc: Global, messages: &mut M) -> Result<Vec<
     let mut file = Watched::new(Vec::new(alloc));
     match send_file(alloc, messages, &mut file) {
         Ok(()) => Ok(file.into_inner()),
-        Err(UnsentFile::Messages(fault)) => Err(fault),
-        Err(UnsentFile::Device) => Err(BaseFault::Memory),
+        Err(SendError::Messages(fault)) => Err(fault),
+        Err(SendError::Device) => Err(BaseFault::Memory),
     }
 }

@@ -1,8 +1,7 @@
 //! A base folder filled with messages that are read one by one.
-ghost use Rattle.std.specs.Prelude.{◌≡◌, ◌≢◌, ◌≤◌, ◌<◌, ◌+◌, ℕ, IfErr, IsErrOf, OnOk, Some, slice_get};
+ghost use Rattle.std.specs.Prelude.{◌≡◌, ◌≢◌, ◌≤◌, ◌<◌, ◌+◌, ◌-◌, ℕ, IfErr, IsErrOf, OnOk, Some, slice_get};
 ghost use Rattle.base_file.specs.Base.{Base};
 ghost use Rattle.disk_io.specs.Disk.{Honestly};
-ghost use Rattle.disk_io.specs.Runs.{LeavesOnly};
 ghost use Rattle.base_log.specs.Moments.{KeepsOutside};
 ghost use Rattle.base_log.specs.Opening.{AreAlone};
 ghost use Rattle.echo_filed.specs.Filed.{Filed as TheMessage};
@@ -12,18 +11,18 @@ ghost use Rattle.base_folder_store.specs.Held.{HoldsBase, RepresentsBase};
 ghost use Rattle.base_folder_store.specs.Opened.{committed_by, held_by, path_of};
 ghost use Rattle.base_folder_store.specs.Owned.{with_mark};
 ghost use Rattle.base_folder_store.specs.State.{IsUsable};
-ghost use Rattle.base_folder.specs.Filled.{AddsOnly, HasFillCause, HasUnfilledCause, HoldsFront, HoldsMore, IsFilledFull, IsKept, IsUnfilled, ReadsFor, ShowsBase, RepresentsOneOf, RepresentsOneOfOrWasLeft, no_messages};
+ghost use Rattle.base_folder.specs.Filled.{AddsOnly, FillsAllOrNothing, FillsOnly, HasFillCause, HasUnfilledCause, HoldsFront, HoldsMany, HoldsMore, IsFilledFull, IsKept, IsUnfilled, ReadsFor, ShowsBase, RepresentsNoneOr, RepresentsNoneOrWasLeft, no_messages};
 ghost use Rattle.base_folder.specs.Ours.{SameKey};
 
 use crate::as_file::fault_of;
+use crate::fill_error::FillError;
 use crate::open_error::OpenError;
 use crate::opening::open_base;
 use crate::source::MessageSource;
-use crate::unfilled::UnfilledFolder;
 use base_file::BaseFault;
 use base_folder_store::{Folder, bytes_alone};
 use base_log::FolderIdentity;
-use base_store::{Digest, StoreError, bytes_of_key};
+use base_store::{Digest, StoreError};
 use disk_io::Disk;
 use echo_filed::{Filed, Key};
 use std::alloc::Global;
@@ -37,14 +36,14 @@ fn add<D: Disk, H: Digest>(
 ) -> Result<(), StoreError>
     requires { IsUsable (D.state disk.old) folder.old }
     ensures kept { AddsOnly folder.old folder.new (D.state disk.old) (D.state disk.new) result }
+    ensures more { Honestly (D.state disk.new) ((k : ℕ) → HoldsMany H.keyed (held_by (D.state disk.old) folder.old) k → OnOk result (HoldsMany H.keyed (held_by (D.state disk.new) folder.new) (k + 1))) }
     ensures added { Honestly (D.state disk.new) (OnOk result (HoldsMore H.keyed (held_by (D.state disk.old) folder.old) (held_by (D.state disk.new) folder.new) message.now)) }
     ensures cause { HasReadCause (D.failures disk.old) (D.failures disk.new) result }
     ensures many { IsErrOf result StoreError.TooMany → HasRoomFor folder.old message.now → ⊥ }
 {
     let bytes = bytes_alone(alloc, message)?;
     let key = Key::of_message(alloc, message)?;
-    let digested = bytes_of_key(alloc, &key)?;
-    let number = folder.digest::<H>(&digested);
+    let number = folder.digest_of_key::<H>(alloc, &key)?;
     folder.stage(disk, &bytes, number)
 }
 
@@ -55,27 +54,27 @@ fn add_next<D: Disk, H: Digest, M: MessageSource>(
     folder: &mut Folder,
     messages: &mut M,
     place: usize,
-) -> Result<(), UnfilledFolder>
+) -> Result<(), FillError>
     requires usable { IsUsable (D.state disk.old) folder.old }
     requires ready { (M.state messages.old).is_ready }
     requires within { place < (M.state messages.old).count }
-    ensures kept { AddsOnly folder.old folder.new (D.state disk.old) (D.state disk.new) result }
+    ensures kept { FillsOnly H.keyed 1 folder.old folder.new (D.state disk.old) (D.state disk.new) result }
     ensures added { Honestly (D.state disk.new) ((base : Base) (cursor : ℕ) → ShowsBase (M.state messages.old) (M.state messages.new) base
         → HoldsFront H.keyed (held_by (D.state disk.old) folder.old) base.messages place cursor
         → OnOk result (HoldsFront H.keyed (held_by (D.state disk.new) folder.new) base.messages (place + 1) cursor)) }
     ensures reads { ReadsFor (M.state messages.old) (M.state messages.new) result }
     ensures cause { HasFillCause (D.failures disk.old) (D.failures disk.new) result }
-    ensures many { (base : Base) → ShowsBase (M.state messages.old) (M.state messages.new) base → IsErrOf result (UnfilledFolder.Folder (OpenError.Wrong BaseFault.TooMany))
+    ensures many { (base : Base) → ShowsBase (M.state messages.old) (M.state messages.new) base → IsErrOf result (FillError.Folder (OpenError.Wrong BaseFault.TooMany))
         → (m : TheMessage) × (slice_get base.messages place ≡ Some m) × (HasRoomFor folder.old m → ⊥) }
 {
     if let Err(error) = messages.fetch(place) {
-        return Err(UnfilledFolder::Messages(fault_of(error, place)));
+        return Err(FillError::Messages(fault_of(error, place)));
     }
     match messages.at_hand() {
         Some(message) => Ok(add::<D, H>(alloc, disk, folder, message)?),
         None => {
             let message = place as u64;
-            Err(UnfilledFolder::Messages(BaseFault::Damaged { message }))
+            Err(FillError::Messages(BaseFault::Damaged { message }))
         }
     }
 }
@@ -88,12 +87,12 @@ fn add_from<D: Disk, H: Digest, M: MessageSource>(
     messages: &mut M,
     from: usize,
     to: usize,
-) -> Result<(), UnfilledFolder>
+) -> Result<(), FillError>
     requires usable { IsUsable (D.state disk.old) folder.old }
     requires ready { (M.state messages.old).is_ready }
     requires order { from ≤ to }
     requires within { to ≤ (M.state messages.old).count }
-    ensures kept { AddsOnly folder.old folder.new (D.state disk.old) (D.state disk.new) result }
+    ensures kept { FillsOnly H.keyed (to - from) folder.old folder.new (D.state disk.old) (D.state disk.new) result }
     ensures added { Honestly (D.state disk.new) ((base : Base) (cursor : ℕ) → ShowsBase (M.state messages.old) (M.state messages.new) base
         → HoldsFront H.keyed (held_by (D.state disk.old) folder.old) base.messages from cursor
         → OnOk result (HoldsFront H.keyed (held_by (D.state disk.new) folder.new) base.messages to cursor)) }
@@ -101,7 +100,7 @@ fn add_from<D: Disk, H: Digest, M: MessageSource>(
     ensures cause { HasFillCause (D.failures disk.old) (D.failures disk.new) result }
     ensures many { Honestly (D.state disk.new) ((base : Base) (cursor : ℕ) → ShowsBase (M.state messages.old) (M.state messages.new) base
         → HoldsFront H.keyed (held_by (D.state disk.old) folder.old) base.messages from cursor
-        → IsErrOf result (UnfilledFolder.Folder (OpenError.Wrong BaseFault.TooMany)) → IsFilledFull D.state H.keyed (path_of folder.old) base) }
+        → IsErrOf result (FillError.Folder (OpenError.Wrong BaseFault.TooMany)) → IsFilledFull D.state H.keyed (path_of folder.old) base) }
 {
     'messages: for i in from..to {
         add_next::<D, H, M>(alloc, disk, folder, messages, i)?;
@@ -115,10 +114,10 @@ fn add_all<D: Disk, H: Digest, M: MessageSource>(
     disk: &mut D,
     folder: &mut Folder,
     messages: &mut M,
-) -> Result<(), UnfilledFolder>
+) -> Result<(), FillError>
     requires usable { IsUsable (D.state disk.old) folder.old }
     requires ready { (M.state messages.old).is_ready }
-    ensures kept { AddsOnly folder.old folder.new (D.state disk.old) (D.state disk.new) result }
+    ensures kept { FillsOnly H.keyed (M.state messages.old).count folder.old folder.new (D.state disk.old) (D.state disk.new) result }
     ensures added { Honestly (D.state disk.new) ((M.state messages.new).is_honest → (base : Base) → (M.state messages.old).holds base
         → HoldsFront H.keyed (held_by (D.state disk.old) folder.old) base.messages 0 0
         → OnOk result (HoldsBase H.keyed (held_by (D.state disk.new) folder.new) base)) }
@@ -126,7 +125,7 @@ fn add_all<D: Disk, H: Digest, M: MessageSource>(
     ensures cause { HasFillCause (D.failures disk.old) (D.failures disk.new) result }
     ensures many { Honestly (D.state disk.new) ((M.state messages.new).is_honest → (base : Base) → (M.state messages.old).holds base
         → HoldsFront H.keyed (held_by (D.state disk.old) folder.old) base.messages 0 0
-        → IsErrOf result (UnfilledFolder.Folder (OpenError.Wrong BaseFault.TooMany)) → IsFilledFull D.state H.keyed (path_of folder.old) base) }
+        → IsErrOf result (FillError.Folder (OpenError.Wrong BaseFault.TooMany)) → IsFilledFull D.state H.keyed (path_of folder.old) base) }
 {
     let count = messages.count();
     let scanned = messages.cursor().min(count);
@@ -141,24 +140,20 @@ fn fill_opened<D: Disk, H: Digest, M: MessageSource>(
     disk: &mut D,
     folder: &mut Folder,
     messages: &mut M,
-) -> Result<(), UnfilledFolder>
+) -> Result<(), FillError>
     requires usable { IsUsable (D.state disk.old) folder.old }
     requires ready { (M.state messages.old).is_ready }
     ensures filled { Honestly (D.state disk.new) ((M.state messages.new).is_honest → (base : Base) → (M.state messages.old).holds base
         → HoldsFront H.keyed (held_by (D.state disk.old) folder.old) base.messages 0 0
-        → OnOk result (IsKept H.keyed (path_of folder.old) (D.state disk.new) base)) }
-
-    // A crash at any time leaves the base that was committed before, or all of the new one.
-    ensures any_moment { Honestly (D.state disk.new) ((M.state messages.new).is_honest → (first base : Base) → (M.state messages.old).holds base
-        → HoldsBase H.keyed (committed_by (D.state disk.old) folder.old) first
-        → HoldsFront H.keyed (held_by (D.state disk.old) folder.old) base.messages 0 0
-        → LeavesOnly (D.state disk.old) (D.state disk.new) (RepresentsOneOf H.keyed (path_of folder.old) (D.state disk.old) first base)) }
+        → OnOk result (IsKept (D.state disk.new) (RepresentsBase H.keyed (path_of folder.old) base))) }
+    ensures any_moment { Honestly (D.state disk.new) (HoldsBase H.keyed (committed_by (D.state disk.old) folder.old) no_messages → HoldsBase H.keyed (held_by (D.state disk.old) folder.old) no_messages
+        → FillsAllOrNothing H.keyed (path_of folder.old) (RepresentsNoneOr H.keyed (path_of folder.old) (D.state disk.old)) (D.state disk.old) (D.state disk.new) (M.state messages.old) (M.state messages.new) result) }
     ensures outside { KeepsOutside (path_of folder.old) (D.state disk.old) (D.state disk.new) }
     ensures reads { ReadsFor (M.state messages.old) (M.state messages.new) result }
     ensures cause { HasFillCause (D.failures disk.old) (D.failures disk.new) result }
     ensures many { Honestly (D.state disk.new) ((M.state messages.new).is_honest → (base : Base) → (M.state messages.old).holds base
         → HoldsFront H.keyed (held_by (D.state disk.old) folder.old) base.messages 0 0
-        → IsErrOf result (UnfilledFolder.Folder (OpenError.Wrong BaseFault.TooMany)) → IsFilledFull D.state H.keyed (path_of folder.old) base) }
+        → IsErrOf result (FillError.Folder (OpenError.Wrong BaseFault.TooMany)) → IsFilledFull D.state H.keyed (path_of folder.old) base) }
 {
     add_all::<D, H, M>(alloc, disk, folder, messages)?;
     folder.commit(disk)?;
@@ -191,19 +186,19 @@ pub fn fill<D: Disk, H: Digest, M: MessageSource>(
     strange: bool,
     key: (u64, u64),
     messages: &mut M,
-) -> Result<(), UnfilledFolder>
+) -> Result<(), FillError>
     requires alone { Honestly (D.state disk.old) (AreAlone path.now (D.state disk.old)) }
     requires ready { (M.state messages.old).is_ready }
 
     // The folder's disk was honest, and so was the source of the messages, which may be another disk.
     ensures filled { Honestly (D.state disk.new) ((M.state messages.new).is_honest → (base : Base) → (M.state messages.old).holds base
         → RepresentsBase H.keyed path.now no_messages (D.state disk.old).seen
-        → OnOk result (IsKept H.keyed path.now (D.state disk.new) base)) }
+        → OnOk result (IsKept (D.state disk.new) (RepresentsBase H.keyed path.now base))) }
 
-    // A crash at any time leaves no message or all of the base, or what a crash might have left before.
-    ensures any_moment { Honestly (D.state disk.new) ((M.state messages.new).is_honest → (base : Base) → (M.state messages.old).holds base
-        → RepresentsBase H.keyed path.now no_messages (D.state disk.old).seen
-        → LeavesOnly (D.state disk.old) (D.state disk.new) (RepresentsOneOfOrWasLeft H.keyed path.now (D.state disk.old) no_messages base)) }
+    // A crash at any time leaves no message or all, whatever the source is, or what a crash might have left before. If a
+    // message is not read, there is none.
+    ensures any_moment { Honestly (D.state disk.new) (RepresentsBase H.keyed path.now no_messages (D.state disk.old).seen
+        → FillsAllOrNothing H.keyed path.now (RepresentsNoneOrWasLeft H.keyed path.now (D.state disk.old)) (D.state disk.old) (D.state disk.new) (M.state messages.old) (M.state messages.new) result) }
     ensures outside { KeepsOutside path.now (D.state disk.old) (D.state disk.new) }
     ensures wrong { Honestly (D.state disk.new) (IfErr result (IsUnfilled strange path.now (D.state disk.old).seen)) }
 
@@ -212,7 +207,7 @@ pub fn fill<D: Disk, H: Digest, M: MessageSource>(
     ensures cause { HasUnfilledCause (D.failures disk.old) (D.failures disk.new) result }
     ensures many { Honestly (D.state disk.new) ((M.state messages.new).is_honest → (base : Base) → (M.state messages.old).holds base
         → RepresentsBase H.keyed path.now no_messages (D.state disk.old).seen
-        → IsErrOf result (UnfilledFolder.Folder (OpenError.Wrong BaseFault.TooMany)) → IsFilledFull D.state H.keyed path.now base) }
+        → IsErrOf result (FillError.Folder (OpenError.Wrong BaseFault.TooMany)) → IsFilledFull D.state H.keyed path.now base) }
 {
     let mut folder = open_base(alloc, disk, path, strange)?;
     give_key(&mut folder, key.0, key.1);

@@ -12,7 +12,7 @@ use crate::looking::look;
 use crate::open_error::OpenError;
 use crate::reading::ReadingProgress;
 use crate::source::MessageSource;
-use base_file::Base;
+use base_file::{Base, MessageRoom};
 use base_folder_store::Folder;
 use base_store::{Digest, StoreError};
 use cmd_status::Fault;
@@ -83,6 +83,7 @@ pub struct FolderReader<D: Disk, H: Digest> {
     folder: Folder,
     // The current message.
     message: Option<Filed>,
+    room: MessageRoom,
     digests: PhantomData<H>,
 }
 
@@ -101,6 +102,7 @@ impl<D: Disk, H: Digest> FolderReader<D, H> {
             disk,
             folder,
             message: None,
+            room: MessageRoom::new(alloc),
             digests: PhantomData,
         }
     }
@@ -145,9 +147,11 @@ impl<D: Disk, H: Digest> MessageSource for FolderReader<D, H> {
     }
 
     fn fetch(&mut self, place: usize) -> Result<(), StoreError> {
+        let gone = self.message.take();
+        self.room.take_back(gone);
         let message = self
             .folder
-            .read_vouched::<D, H>(self.alloc, &mut self.disk, place)?;
+            .read_vouched::<D, H>(self.alloc, &mut self.disk, &mut self.room, place)?;
         self.message = Some(message);
         Ok(())
     }

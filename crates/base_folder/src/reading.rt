@@ -8,7 +8,7 @@ ghost use Rattle.base_folder.specs.Looked.{AreVouched, IsUnvouched};
 ghost use Rattle.base_folder.specs.OpenError.{HasUnreadCause, unread_message};
 
 use crate::open_error::OpenError;
-use base_file::BaseFault;
+use base_file::{BaseFault, MessageRoom};
 use base_folder_store::Folder;
 use base_store::{Digest, StoreError};
 use disk_io::Disk;
@@ -51,9 +51,10 @@ pub(crate) fn judge_messages<D: Disk, H: Digest, P: ReadingProgress>(
     ensures quiet { ChangesNothing (D.state disk.old) (D.state disk.new) }
     ensures cause { HasUnreadCause (D.failures disk.old) (D.failures disk.new) result }
 {
+    let mut room = MessageRoom::new(alloc);
     let count = folder.count();
     'messages: for i in begin_at(first, count)..count {
-        judge_message::<D, H>(alloc, disk, folder, i)?;
+        judge_message::<D, H>(alloc, disk, folder, &mut room, i)?;
         progress.tell(i, count);
     }
     Ok(())
@@ -64,6 +65,7 @@ fn judge_message<D: Disk, H: Digest>(
     alloc: Global,
     disk: &mut D,
     folder: &Folder,
+    room: &mut MessageRoom,
     i: usize,
 ) -> Result<(), OpenError>
     requires looked { IsLookedAt (D.state disk.old) folder.now }
@@ -73,10 +75,13 @@ fn judge_message<D: Disk, H: Digest>(
     ensures quiet { ChangesNothing (D.state disk.old) (D.state disk.new) }
     ensures cause { HasUnreadCause (D.failures disk.old) (D.failures disk.new) result }
 {
-    if let Err(error) = folder.read_vouched::<D, H>(alloc, disk, i) {
-        return Err(unread_by(error, i));
+    match folder.read_vouched::<D, H>(alloc, disk, room, i) {
+        Ok(message) => {
+            room.take_back(Some(message));
+            Ok(())
+        }
+        Err(error) => Err(unread_by(error, i)),
     }
-    Ok(())
 }
 
 // Why the message of this number is not read.

@@ -52,12 +52,17 @@ part_is file ahead begins ends is has order =
     ∙ ap (λ (n : ℕ). drop begins (take n file)) all
 
 -- An empty buffer is a part of all bytes.
-pub part_empty : (file : List ℕ) (ahead : ReadAhead) → ahead.from ≡ 0 → ahead.bytes.items ≡ [] → IsPartOf file ahead
-part_empty file ahead front none = record {
-  rest = file;
-  within = omega (arith, front);
-  behind = ap (λ (n : ℕ). drop n file) front ∙ ap (λ (l : List ℕ). l ++ file) (sym none);
+pub part_empty : (file : List ℕ) (ahead : ReadAhead) → ahead.from ≤ length file → ahead.bytes.items ≡ [] → IsPartOf file ahead
+part_empty file ahead within none = record {
+  rest = drop ahead.from file;
+  within = within;
+  behind = ap (λ (l : List ℕ). l ++ drop ahead.from file) (sym none);
 }
+
+-- So it is of the first bytes of a file and of some behind them.
+pub part_lost : (file more : List ℕ) (ahead : ReadAhead) (first : ℕ) → ahead.from ≤ first → first ≤ length file → ahead.bytes.items ≡ [] → IsPartOf (take first file ++ more) ahead
+part_lost file more ahead first order long none =
+    part_empty (take first file ++ more) ahead (omega (arith, order, length-take-le first file long, length-append (take first file) more)) none
 
 -- A buffer that was a part of the first bytes of a file and of some behind them is so after more is read.
 pub part_kept : (d : DiskState) (path real : List ℕ) (first : ℕ) (behind : List ℕ) (old new : ReadAhead) → path ≡ real

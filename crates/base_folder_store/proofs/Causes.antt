@@ -1,7 +1,5 @@
 -- The answers of reads, carried from one to the next.
-use Rattle.std.proofs.Common.{◌≡◌, ◌<◌, ◌≤◌, ◌-◌, ◌^◌, ℕ, List, inl, inr, Result, Ok, Err, ap, sym, subst, ◌∙◌, arith, ⊎_elim}
-use Rattle.std.proofs.lemmas.Bool.{cases_lt}
-use Rattle.disk_io.specs.Device.{Failed}
+use Rattle.std.proofs.Common.{◌≡◌, ℕ, List, Result, Ok, Err, ap, sym, subst, ◌∙◌}
 use Rattle.disk_io.specs.Disk.{DiskState, Honestly}
 use Rattle.std.specs.Result.{IfOk, IsErrAnd, IsErrOf, OnErr, OnOk}
 use Rattle.base_file.specs.Base.{Base}
@@ -52,20 +50,6 @@ purge_cause disk bytes before now e r same cause damaged = record {
   failed = λ is. cause.failed (handed_on _ _ r same is);
   damaged = λ honest is. damaged honest (handed_on _ _ r same is);
 }
-
--- a device that failed in a later call failed since the first
-pub failed_since : (first before now : ℕ) → first ≤ before → Failed before now → Failed first now
-failed_since first before now order failed =
-    ⊎_elim
-    (λ (more : before < now). let x : first < now = omega (arith, order, more) in inl x)
-    (λ (top : (2 ^ 64 - 1 ≤ before) × (now ≡ before)).
-    let high = top.0 in
-    let same = top.1 in
-    ⊎_elim
-    (λ (h : first < before). let x : first < now = omega (arith, h, same) in inl x)
-    (λ (h : before ≤ first). let x : 2 ^ 64 - 1 ≤ first = omega (arith, high, h) in let y : now ≡ first = omega (arith, same, h, order) in inr (x, y))
-    (cases_lt first before))
-    failed
 
 -- two clauses about one value
 pub ok_both : {T E : Type 0} (P Q R : T → Type 0) → ((x : T) → P x → Q x → R x) → (r : Result T E) → IfOk r P → IfOk r Q → IfOk r R

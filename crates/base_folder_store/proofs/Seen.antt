@@ -105,10 +105,10 @@ end_holds keyed d f base opened holds =
     }
 
 -- a message that was filed, with its digest
-pub filed_more : (keyed : ℕ → ℕ → List ℕ → ℕ) (now held : BaseBytes) (base : Base) (m : Filed) (key : Key) (bytes taken : List ℕ) (number : ℕ) → now ≡ with_stored held bytes number → length now.messages < 2 ^ 64
-    → HoldsBase keyed held base → IsStoredAlone m bytes → IsFiled m → key ≡ key_of m → is_known base.messages key ≡ false → taken ≡ digested_key key → number ≡ digest_by keyed held.mark taken → HoldsBase keyed now (with_message base m)
-filed_more keyed now held base m key bytes taken number staged fits holds stored filed own new is recorded =
-    let number_is : number ≡ digest_by keyed held.mark (digested m) = recorded ∙ ap (digest_by keyed held.mark) (is ∙ ap digested_key own ∙ sym (of_key m)) in
+pub filed_more : (keyed : ℕ → ℕ → List ℕ → ℕ) (now held : BaseBytes) (base : Base) (m : Filed) (key : Key) (bytes : List ℕ) (number : ℕ) → now ≡ with_stored held bytes number → length now.messages < 2 ^ 64
+    → HoldsBase keyed held base → IsStoredAlone m bytes → IsFiled m → key ≡ key_of m → is_known base.messages key ≡ false → number ≡ digest_by keyed held.mark (digested_key key) → HoldsBase keyed now (with_message base m)
+filed_more keyed now held base m key bytes number staged fits holds stored filed own new recorded =
+    let number_is : number ≡ digest_by keyed held.mark (digested m) = recorded ∙ ap (digest_by keyed held.mark) (ap digested_key own ∙ sym (of_key m)) in
     let unknown : is_known base.messages (key_of m) ≡ false = subst (λ (k : Key). is_known base.messages k ≡ false) own new in
     let room : length (held.messages ++ bytes) < 2 ^ 64 = subst (λ (b : BaseBytes). length b.messages < 2 ^ 64) staged fits in
     subst (λ (b : BaseBytes). HoldsBase keyed b (with_message base m)) (sym staged) (holds_more keyed held base m bytes number holds stored filed unknown number_is room)

@@ -7,20 +7,21 @@ ghost use Rattle.base_file.specs.Alone.{IsStoredAlone};
 ghost use Rattle.base_file.specs.BaseFile.{stored_at};
 ghost use Rattle.base_folder_store.specs.Answers.{Answers};
 
-use base_file::read_message;
+use base_file::{MessageRoom, read_message};
 use base_store::StoreError;
 use disk_io::Watched;
 use echo_filed::{Filed, is_short, is_short_enough, send_message};
 use std::alloc::Global;
 
-/// The message of these stored bytes. They are `Damaged` if they are not one message, judged as `read_message` says.
-pub fn read_alone(alloc: Global, bytes: &[u8]) -> Result<Filed, StoreError>
+/// The message of these stored bytes. They are `Damaged` if they are not one message, judged as `read_message` says. The
+/// content of the room makes no difference.
+pub fn read_alone(room: &mut MessageRoom, bytes: &[u8]) -> Result<Filed, StoreError>
     ensures read { (m : Filed) → IsStoredAlone m bytes.now → Answers (λ message. message ≡ m) result }
     ensures stored { IfOk result (λ message. IsStoredAlone message bytes.now) }
     ensures device { IsErrOf result StoreError.Device → ⊥ }
     ensures few { IsErrOf result StoreError.TooMany → ⊥ }
 {
-    match read_message(alloc, bytes)? {
+    match read_message(room, bytes)? {
         Some(message) => Ok(message),
         None => Err(StoreError::Damaged),
     }

@@ -13,7 +13,7 @@ use crate::folder::Folder;
 use crate::read_ahead::Buffers;
 use crate::sought::Id;
 use base_log::FolderIdentity;
-use base_store::{Digest, Index, PurgedStore, Store, StoreError, bytes_of_key};
+use base_store::{Digest, Index, PurgedStore, Store, StoreError};
 use disk_io::Disk;
 use echo_filed::{Filed, Key};
 use std::alloc::Global;
@@ -108,11 +108,9 @@ impl<D: Disk, H: Digest> FolderStore<D, H> {
         ensures disk { self.new.disk ≡ self.old.disk }
         ensures folder { self.new.folder ≡ self.old.folder }
     {
-        let Ok(bytes) = bytes_of_key(self.alloc, key) else {
-            return;
-        };
-        let digest = self.folder.digest::<H>(&bytes);
-        self.index.expect(self.alloc, digest);
+        if let Ok(digest) = self.folder.digest_of_key::<H>(self.alloc, key) {
+            self.index.expect(self.alloc, digest);
+        }
     }
 }
 
@@ -130,8 +128,7 @@ impl<D: Disk, H: Digest> Store for FolderStore<D, H> {
     }
 
     fn knows(&mut self, key: &Key) -> Result<bool, StoreError> {
-        let bytes = bytes_of_key(self.alloc, key)?;
-        let digest = self.folder.digest::<H>(&bytes);
+        let digest = self.folder.digest_of_key::<H>(self.alloc, key)?;
         self.folder
             .find(self.alloc, &mut self.disk, &mut self.index, key, digest)
     }
@@ -151,6 +148,8 @@ impl<D: Disk, H: Digest> Store for FolderStore<D, H> {
         if place >= self.folder.count() {
             return Err(StoreError::Damaged);
         }
+        let gone = self.message.take();
+        self.buffers.room.take_back(gone);
         let message = self
             .folder
             .read(self.alloc, &mut self.disk, &mut self.buffers, place)?;
@@ -164,8 +163,7 @@ impl<D: Disk, H: Digest> Store for FolderStore<D, H> {
 
     fn file(&mut self, key: Key, message: Filed) -> Result<(), StoreError> {
         let bytes = bytes_alone(self.alloc, &message)?;
-        let digested = bytes_of_key(self.alloc, &key)?;
-        let digest = self.folder.digest::<H>(&digested);
+        let digest = self.folder.digest_of_key::<H>(self.alloc, &key)?;
         self.folder.stage(&mut self.disk, &bytes, digest)
     }
 

@@ -8,6 +8,7 @@ ghost use Rattle.base_folder_store.specs.Answers.{Answers};
 ghost use Rattle.base_folder_store.specs.Left.{IsLeftOf};
 
 use crate::alone::{bytes_scanned, read_alone};
+use base_file::MessageRoom;
 use base_store::StoreError;
 use echo_filed::{Filed, is_stub, leave, stub_lines};
 use std::alloc::{AllocError, Global};
@@ -39,7 +40,7 @@ fn stub_in(alloc: Global, bytes: &[u8]) -> Result<Left, StoreError>
     ensures device { IsErrOf result StoreError.Device → ⊥ }
     ensures few { IsErrOf result StoreError.TooMany → ⊥ }
 {
-    let mut message = read_alone(alloc, bytes)?;
+    let mut message = read_alone(&mut MessageRoom::new(alloc), bytes)?;
     let changed = make_stub(alloc, &mut message)?;
     let bytes = bytes_scanned(alloc, &message)?;
     Ok(Left { bytes, changed })

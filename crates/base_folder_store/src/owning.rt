@@ -1,11 +1,14 @@
 //! The owner of a base folder, and the digests by its key.
-ghost use Rattle.std.specs.Prelude.{◌≡◌, true, false};
+ghost use Rattle.std.specs.Prelude.{◌≡◌, true, false, IfOk};
+ghost use Rattle.base_store.specs.Keys.{digested_key};
 ghost use Rattle.base_folder_store.specs.Held.{digest_by};
 ghost use Rattle.base_folder_store.specs.Owned.{IsUnclaimed, owner_of, with_mark, with_owner};
 
 use crate::folder::Folder;
 use base_log::FolderIdentity;
-use base_store::Digest;
+use base_store::{Digest, digest_of_key};
+use echo_filed::Key;
+use std::alloc::{AllocError, Global};
 
 impl Folder {
     /// Its owner; none if it has no owner.
@@ -43,8 +46,16 @@ impl Folder {
         true
     }
 
-    /// The digest by its key.
-    pub fn digest<H: Digest>(&self, bytes: &[u8]) -> u64
+    /// The digest of a message with this key, by the folder's key.
+    pub fn digest_of_key<H: Digest>(&self, alloc: Global, key: &Key) -> Result<u64, AllocError>
+        ensures { IfOk result (λ digest. digest ≡ digest_by H.keyed self.now.recorded.mark (digested_key key.now)) }
+    {
+        let mark = self.recorded.mark;
+        digest_of_key(alloc, &H::keyed(mark.first, mark.second), key)
+    }
+
+    /// The digest of these bytes, by the folder's key.
+    pub(crate) fn digest<H: Digest>(&self, bytes: &[u8]) -> u64
         ensures { result ≡ digest_by H.keyed self.now.recorded.mark bytes.now }
     {
         H::keyed(self.recorded.mark.first, self.recorded.mark.second).of(bytes)

@@ -4,7 +4,8 @@ ghost use Rattle.disk_io.specs.Disk.{Honestly, bytes_in};
 ghost use Rattle.disk_io.specs.Runs.{ChangesNothing, HasCause};
 ghost use Rattle.base_folder_store.specs.Ahead.{AreParts, Covers, IsPartOf};
 
-use disk_io::{Disk, DiskError, read_part};
+use base_file::MessageRoom;
+use disk_io::{Disk, DiskError, read_part_into};
 use std::alloc::Global;
 
 /// How many bytes are read at once, if the file has so many.
@@ -38,10 +39,9 @@ impl ReadAhead {
     }
 
     /// Reads the bytes between two places of a file, and more behind them, if it lacks them. Only the first bytes of the
-    /// file count.
+    /// file count. After a fault it has no bytes.
     pub fn read<D: Disk>(
         &mut self,
-        alloc: Global,
         disk: &mut D,
         path: &[u8],
         first: usize,
@@ -62,10 +62,14 @@ impl ReadAhead {
             return Ok(());
         }
         let to = ends.max(begins.saturating_add(PIECE)).min(first);
-        let bytes = read_part(alloc, disk, path, begins, to)?;
-        self.bytes = bytes;
         self.from = begins;
-        Ok(())
+        match read_part_into(disk, path, begins, to, &mut self.bytes) {
+            Ok(()) => Ok(()),
+            Err(fault) => {
+                self.bytes.clear();
+                Err(fault)
+            }
+        }
     }
 
     /// The bytes between two places; none if it lacks some.
@@ -84,11 +88,12 @@ impl ReadAhead {
     }
 }
 
-/// The parts of a folder's keys and messages that were read ahead.
+/// The parts of a folder's keys and messages that were read ahead, and room for a message.
 #[derive(Drop)]
 pub struct Buffers {
     pub(crate) keys: ReadAhead,
     pub(crate) messages: ReadAhead,
+    pub(crate) room: MessageRoom,
 }
 
 impl Buffers {
@@ -99,6 +104,7 @@ impl Buffers {
         Buffers {
             keys: ReadAhead::new(alloc),
             messages: ReadAhead::new(alloc),
+            room: MessageRoom::new(alloc),
         }
     }
 }

@@ -16,6 +16,7 @@ ghost use Rattle.base_folder_store.specs.Opened.{IsLegible, held_by};
 use crate::alone::read_alone;
 use crate::folder::{ENTRY, Folder};
 use crate::read_ahead::{Buffers, ReadAhead};
+use base_file::MessageRoom;
 use base_store::{Index, StoreError, digest_of, end_of, place_of};
 use disk_io::{Disk, DiskError, read_part};
 use echo_filed::Filed;
@@ -238,6 +239,7 @@ impl Folder {
         alloc: Global,
         disk: &mut D,
         ahead: &mut ReadAhead,
+        room: &mut MessageRoom,
         entry: &[u8],
     ) -> Result<Filed, StoreError>
         requires legible { Honestly (D.state disk.old) (IsLegible (D.state disk.old) self.now) }
@@ -259,18 +261,11 @@ impl Folder {
         };
         if at.ends > written {
             let bytes = self.stored_by(alloc, disk, entry)?;
-            return read_alone(alloc, &bytes);
+            return read_alone(room, &bytes);
         }
-        ahead.read(
-            alloc,
-            disk,
-            &self.names.messages,
-            written,
-            at.begins,
-            at.ends,
-        )?;
+        ahead.read(disk, &self.names.messages, written, at.begins, at.ends)?;
         match ahead.part(at.begins, at.ends) {
-            Some(bytes) => read_alone(alloc, bytes),
+            Some(bytes) => read_alone(room, bytes),
             None => Err(StoreError::Damaged),
         }
     }
@@ -298,13 +293,19 @@ impl Folder {
         let written = self.recorded.keys;
         if ends > written {
             let stored = self.stored(alloc, disk, None, place)?;
-            return read_alone(alloc, &stored.bytes);
+            return read_alone(&mut buffers.room, &stored.bytes);
         }
         buffers
             .keys
-            .read(alloc, disk, &self.names.keys, written, begins, ends)?;
+            .read(disk, &self.names.keys, written, begins, ends)?;
         match buffers.keys.part(begins, ends) {
-            Some(entry) => self.read_by(alloc, disk, &mut buffers.messages, entry),
+            Some(entry) => self.read_by(
+                alloc,
+                disk,
+                &mut buffers.messages,
+                &mut buffers.room,
+                entry,
+            ),
             None => Err(StoreError::Damaged),
         }
     }

@@ -6,6 +6,7 @@ ghost use Rattle.base_folder_store.specs.Answers.{Answers};
 
 use crate::alone::read_alone;
 use crate::front::{has_plain_id, has_plain_tag, text_in};
+use base_file::MessageRoom;
 use base_store::StoreError;
 use echo_filed::{Filed, Key};
 use std::alloc::{AllocError, Global};
@@ -75,6 +76,6 @@ pub fn is_stored<W: Sought>(alloc: Global, sought: &W, bytes: &[u8]) -> Result<b
     if sought.matches_by_header(bytes) {
         return Ok(true);
     }
-    let message = read_alone(alloc, bytes)?;
+    let message = read_alone(&mut MessageRoom::new(alloc), bytes)?;
     Ok(sought.matches(alloc, &message)?)
 }

@@ -13,8 +13,9 @@ ghost use Rattle.base_folder_store.specs.Vouched.{HasDigest, IsThere, IsVouched}
 use crate::alone::read_alone;
 use crate::folder::Folder;
 use crate::waiting::Waiting;
+use base_file::MessageRoom;
 use base_log::{Log, Names};
-use base_store::{Digest, StoreError, bytes_of_key};
+use base_store::{Digest, StoreError};
 use disk_io::Disk;
 use echo_filed::{Filed, Key};
 use std::alloc::{AllocError, Global};
@@ -44,6 +45,7 @@ impl Folder {
         &self,
         alloc: Global,
         disk: &mut D,
+        room: &mut MessageRoom,
         place: usize,
     ) -> Result<Filed, StoreError>
         requires legible { Honestly (D.state disk.old) (IsLegible (D.state disk.old) self.now) }
@@ -59,7 +61,7 @@ impl Folder {
         // Eight bytes count the messages, so `TooMany` never comes.
         let _counted = self.recorded.messages;
         let stored = self.stored(alloc, disk, None, place)?;
-        let message = read_alone(alloc, &stored.bytes)?;
+        let message = read_alone(room, &stored.bytes)?;
         if self.has_digest::<H>(alloc, &message, stored.digest)? {
             Ok(message)
         } else {
@@ -77,7 +79,7 @@ impl Folder {
         ensures { IfOk result (λ has. IsTrue has ↔ (digest ≡ digest_by H.keyed self.now.recorded.mark (digested message.now))) }
     {
         let key = Key::of_message(alloc, message)?;
-        let digested = bytes_of_key(alloc, &key)?;
-        Ok(digest == self.digest::<H>(&digested))
+        let own = self.digest_of_key::<H>(alloc, &key)?;
+        Ok(digest == own)
     }
 }

@@ -11,7 +11,8 @@ use Rattle.base_store.specs.declared.store_error.StoreError.{StoreError}
 pub no_cause : {T : Type 0} (old new : StoreState) (before now : ℕ) (value : T) → before ≤ now → HasStoreCause old new before now (Ok value)
 no_cause old new before now value later = record { later = later; failed = λ e. absurd (cc); damaged = λ honest e base h. cc }
 
-failed_since : (before mid now : ℕ) → before ≤ mid → Failed mid now → Failed before now
+-- a device that failed in a later call failed since the first
+pub failed_since : (before mid now : ℕ) → before ≤ mid → Failed mid now → Failed before now
 failed_since before mid now h1 h2 = grind (arith, eq-or-lt_of_le)
 
 -- one answer has one error

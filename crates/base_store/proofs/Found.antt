@@ -6,8 +6,10 @@ use Rattle.std.proofs.lemmas.Bool.{cases_lt}
 use Rattle.std.proofs.lemmas.List.{drop-drop, drop_at, get_or_default}
 use Rattle.std.proofs.lemmas.List.Elements.{Contains-append_left, Contains-push, Contains-push_cases}
 use Rattle.base_store.specs.Expected.{AreFound, IsLastSeen, IsPlaceIn, are_set, is_expected, place_in}
-use Rattle.base_store.specs.Index.{AreChains, IsIndexOf}
+use Rattle.base_store.specs.Chains.{AreChains}
+use Rattle.base_store.specs.Index.{IsIndexOf}
 use Rattle.base_store.specs.Keys.{IsPieceOf, digest_at}
+use Rattle.base_store.specs.declared.chains.Chains.{Chains}
 use Rattle.base_store.specs.declared.expected.Expected.{Expected}
 use Rattle.base_store.specs.declared.expected.Place.{Place}
 use Rattle.base_store.specs.declared.index.Index.{Index}
@@ -158,20 +160,21 @@ pub found_none : (keys : List ℕ) (expected : Expected) → expected.passed ≡
 found_none keys expected passed none = grind arith
 
 -- the keys begin with these, and chains are made of them
-pub record IsFrontOf (keys own heads before : List ℕ) : Type 0 where
+pub record IsFrontOf (keys own : List ℕ) (made : Chains) : Type 0 where
   pub rest : List ℕ
   pub front : keys ≡ own ++ rest
   pub even : 16 * (length own / 16) ≡ length own
-  pub chains : AreChains own heads before
+  pub chains : AreChains own made
 
 -- an index that took a piece into its keys, or failed to
 pub kept_more : {T E : Type 0} (r : Result T E) (keys piece more : List ℕ) (from : ℕ) (index : Index) → more ≡ (if is_ok r then index.keys.items ++ piece else index.keys.items) → length index.keys.items / 16 ≡ from → IsPieceOf keys from piece
-    → IsIndexOf keys index → IsFrontOf keys more index.heads.items index.before.items
-kept_more r keys piece more from index h1 h2 h3 h4 = grind (arith, drop_at, length-append, append_assoc, chains_stay)
+    → IsIndexOf keys index → IsFrontOf keys more index.chains
+kept_more (Ok done) keys piece more from index items at is was = grind (arith, drop_at, length-append, append_assoc, chains_stay)
+kept_more (Err failed) keys piece more from index items at is was = grind arith
 
 -- a digest in its own keys is that of all keys
-pub own_digest : (keys : List ℕ) (index : Index) (i : ℕ) → IsIndexOf keys index → i < length index.keys.items / 16 → digest_at keys i ≡ digest_at index.keys.items i
-own_digest keys index i is within = ap (λ (l : List ℕ). digest_at l i) is.front ∙ entry_stays index.keys.items is.rest i (omega (arith, within))
+pub own_digest : (keys own : List ℕ) (index : Index) (i : ℕ) → IsIndexOf keys index → own ≡ index.keys.items → i < length own / 16 → digest_at keys i ≡ digest_at own i
+own_digest keys own index i is same within = grind (arith, entry_stays)
 
 pub some_map : {A : Type 0} (P Q : A → Type 0) (r : Option A) → ((x : A) → P x → Q x) → IfSome r P → IfSome r Q
 some_map P Q (Some x) gives was = gives x was

@@ -1,10 +1,11 @@
--- Extending an index of keys, and following its chains.
-use Rattle.std.proofs.Common.{◌≡◌, ◌≢◌, ℕ, ◌+◌, ◌*◌, ◌<◌, ◌≤◌, List, [], ◌++◌, length, min, take, drop, get_or, ap, ◌∙◌, arith, ⊎_elim, length-append, length-drop}
+-- Extending keys, and following their chains.
+use Rattle.std.proofs.Common.{◌≡◌, ◌≢◌, ℕ, ◌+◌, ◌*◌, ◌<◌, ◌≤◌, List, ◌++◌, length, min, take, drop, get_or, ap, ◌∙◌, arith, ⊎_elim, length-append, length-drop}
 use Rattle.std.proofs.lemmas.Bool.{cases_lt}
 use Rattle.std.proofs.lemmas.List.{drop-append-le, take-append-le}
 use Rattle.std.specs.Int.{w64, from_le_bytes}
-use Rattle.base_store.specs.Index.{AreChains, IsLastUnder, head_of}
+use Rattle.base_store.specs.Chains.{AreChains, IsLastUnder, count_of, head_of}
 use Rattle.base_store.specs.Keys.{digest_at}
+use Rattle.base_store.specs.declared.chains.Chains.{Chains}
 
 -- more keys behind them change no entry
 pub entry_stays : (keys more : List ℕ) (i : ℕ) → 16 * i + 16 ≤ length keys → digest_at (keys ++ more) i ≡ digest_at keys i
@@ -18,24 +19,20 @@ entry_stays keys more i within =
 last_stays : (keys more : List ℕ) (heads head n last : ℕ) → 16 * n ≤ length keys → IsLastUnder keys heads head n last → IsLastUnder (keys ++ more) heads head n last
 last_stays keys more heads head n last within is = grind (arith, entry_stays)
 
-pub chains_stay : (keys more heads before : List ℕ) → AreChains keys heads before → AreChains (keys ++ more) heads before
-chains_stay keys more heads before are = grind (arith, length-append, last_stays, get_or, entry_stays)
+pub chains_stay : (keys more : List ℕ) (chains : Chains) → AreChains keys chains → AreChains (keys ++ more) chains
+chains_stay keys more chains are = grind (arith, length-append, last_stays, get_or, entry_stays)
 
 -- how far a walk along a chain is: all messages from there on were seen
-pub record IsReached (keys heads before : List ℕ) (digest below next : ℕ) : Type 0 where
-  pub within : next ≤ length before
-  pub has : (i : ℕ) → next ≡ i + 1 → head_of (length heads) (digest_at keys i) ≡ head_of (length heads) digest
-  pub passed : (j : ℕ) → next ≤ j → j < length before → j < below → digest_at keys j ≢ digest
+pub record IsReached (keys : List ℕ) (chains : Chains) (digest below next : ℕ) : Type 0 where
+  pub within : next ≤ count_of chains
+  pub has : (i : ℕ) → next ≡ i + 1 → head_of (length chains.heads.items) (digest_at keys i) ≡ head_of (length chains.heads.items) digest
+  pub passed : (j : ℕ) → next ≤ j → j < count_of chains → j < below → digest_at keys j ≢ digest
 
 -- if this message has another digest, the search goes to the one before it in the chain
-reached_before : (keys heads before : List ℕ) (digest below next place : ℕ) → next ≡ place + 1 → ((place < below) × (digest_at keys place ≡ digest) → ⊥) → AreChains keys heads before
-    → IsReached keys heads before digest below next → IsReached keys heads before digest below (get_or before place 0)
-reached_before keys heads before digest below next place at other are was = grind (arith, ⊎_elim, cases_lt)
+reached_before : (keys : List ℕ) (chains : Chains) (digest below next place : ℕ) → next ≡ place + 1 → ((place < below) × (digest_at keys place ≡ digest) → ⊥) → AreChains keys chains
+    → IsReached keys chains digest below next → IsReached keys chains digest below (get_or chains.before.items place 0)
+reached_before keys chains digest below next place at other are was = grind (arith, ⊎_elim, cases_lt)
 
-pub reached_next : (keys heads before : List ℕ) (digest below next place earlier : ℕ) → next ≡ place + 1 → earlier ≡ min (get_or before place 0) place → ((place < below) × (digest_at keys place ≡ digest) → ⊥)
-    → AreChains keys heads before → IsReached keys heads before digest below next → IsReached keys heads before digest below earlier
-reached_next keys heads before digest below next place earlier at earlier_is other are was = grind (arith, get_or, reached_before)
-
--- without keys there are no chains
-pub no_chains : (keys heads before : List ℕ) → heads ≡ [] → before ≡ [] → AreChains keys heads before
-no_chains keys heads before no_heads none = grind arith
+pub reached_next : (keys : List ℕ) (chains : Chains) (digest below next place earlier : ℕ) → next ≡ place + 1 → earlier ≡ min (get_or chains.before.items place 0) place → ((place < below) × (digest_at keys place ≡ digest) → ⊥)
+    → AreChains keys chains → IsReached keys chains digest below next → IsReached keys chains digest below earlier
+reached_next keys chains digest below next place earlier at earlier_is other are was = grind (arith, get_or, reached_before)

@@ -1,4 +1,5 @@
 pub mod Store
+pub mod Chains
 pub mod Expected
 pub mod Index
 pub mod Keys

@@ -24,13 +24,13 @@ pub trait Digest: Drop {
     ghost fits: { (first second : ℕ) (bytes : List ℕ) → keyed first second bytes < 2 ^ 64 };
 }
 
-/// The digested bytes of a message with this key: the id, whatever the area, or else the parts of
-/// the whole key.
-pub fn bytes_of_key(alloc: Global, key: &Key) -> Result<Vec<u8>, AllocError>
-    ensures { IfOk result (λ bytes. bytes.items ≡ digested_key key.now) }
+/// The digest of a message with this key: of its id, whatever the area, or else of the parts of the
+/// whole key.
+pub fn digest_of_key<H: Digest>(alloc: Global, digest: &H, key: &Key) -> Result<u64, AllocError>
+    ensures { IfOk result (λ found. found ≡ H.digest digest.now (digested_key key.now)) }
 {
     match key {
-        Key::ById { tag: _, msgid } => Vec::from_slice(alloc, msgid.as_slice()),
+        Key::ById { tag: _, msgid } => Ok(digest.of(msgid.as_slice())),
         Key::ByContent {
             tag,
             date,
@@ -45,7 +45,7 @@ pub fn bytes_of_key(alloc: Global, key: &Key) -> Result<Vec<u8>, AllocError>
             bytes.extend_from_slice(from_name.as_slice())?;
             bytes.extend_from_slice(subject.as_slice())?;
             bytes.extend_from_slice(kept.lines().as_text())?;
-            Ok(bytes)
+            Ok(digest.of(&bytes))
         }
     }
 }

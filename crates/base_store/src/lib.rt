@@ -6,11 +6,12 @@
 //! never a wrong answer.
 //!
 //! Begin with `store` (the traits). `memory_store` is a base in memory, `store_error` says why a call failed.
-//! For keys, begin with `entries` (the entry of a message, and look-ups by digest). `index` is for many look-ups,
-//! `expected` for digests that are known in advance. `digest` says which bytes are digested, `sip` is SipHash as a
-//! digest, `laws` states the promise about keys.
+//! For keys, begin with `entries` (the entry of a message, and look-ups by digest). `chains` is for many look-ups,
+//! `expected` for digests that are known in advance, `index` has both. `digest` says which bytes are digested, `sip`
+//! is SipHash as a digest, `laws` states the promise about keys.
 #![tactic(auto)]
 
+mod chains;
 mod digest;
 mod entries;
 mod expected;
@@ -21,7 +22,8 @@ mod sip;
 mod store;
 mod store_error;
 
-pub use digest::{Digest, bytes_of_key};
+pub use chains::Chains;
+pub use digest::{Digest, digest_of_key};
 pub use entries::{digest_of, end_of, entry, place_of};
 pub use index::Index;
 pub use laws::{

@@ -73,7 +73,7 @@ fn spare_in(rt: &HostRuntime, path: &str, strange: bool) -> Option<u8>
 {
     let mut disk = RealDisk::new(rt, Unknown);
     match log_end(rt.alloc(), &mut disk, path.as_bytes(), strange) {
-        Ok(end) => Some(spare_number(end.reported.number)),
+        Ok(end) => Some(spare_number(end.recorded.number)),
         Err(_) => None,
     }
 }

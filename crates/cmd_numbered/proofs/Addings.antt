@@ -1,29 +1,62 @@
 -- Messages added to a JAM base, and why they were not.
-use Rattle.std.proofs.Common.{◌≡◌, ◌≤◌, ◌∙◌, ℕ, List, Result, Ok, Err, Some, inl, inr, subst}
-use Rattle.std.specs.Result.{IfErr, IfOk}
+use Rattle.std.proofs.Common.{◌≡◌, ◌≤◌, ◌+◌, ◌-◌, ◌∙◌, ℕ, zero, suc, nat_lt, Bool, true, false, List, [], ◌++◌, length, Option, Some, None, OnErr, Result, Ok, Err, inl, refl, sym, ap, subst, arith, add-one, append_assoc, suc-add, zero-add}
+use Rattle.std.proofs.lemmas.List.{append-nil}
+use Rattle.std.specs.Prelude.{if◌then◌else◌, slice_get}
+use Rattle.std.specs.Io.KnownBytes.{Appends}
 use Rattle.disk_io.specs.Device.{Failed}
+use Rattle.echo_filed.specs.Filed.{Filed}
+use Rattle.echo_jam.specs.Fields.{body_of}
 use Rattle.base_file.specs.Base.{Base}
-use Rattle.base_folder.proofs.Fetchings.{never_read, unread_since}
-use Rattle.cmd_status.specs.Inputs.{IsBaseGiven}
-use Rattle.cmd_numbered.specs.JamAdded.{IsUnadded, IsUnsent, JamAnswers}
-use Rattle.cmd_numbered.specs.declared.adding.JamExport.{JamExport}
-use Rattle.cmd_numbered.specs.declared.unsent.UnsentTexts.{UnsentTexts}
-use Rattle.cmd_numbered.specs.declared.unsent.UnsentTexts.TheVariants.{Device, Messages}
+use Rattle.cmd_status.specs.Lines.{WritesFront}
+use Rattle.cmd_status.proofs.Lines.{begun_after}
+use Rattle.cmd_numbered.specs.JamAdded.{Added, IsUnadded, IsUnsent, added_at, added_of, is_added, with_message}
+use Rattle.cmd_numbered.specs.declared.adding.JamEnd.{JamEnd}
+use Rattle.cmd_numbered.specs.declared.jam_export_error.JamExportError.{JamExportError}
+use Rattle.cmd_numbered.specs.declared.jam_export_error.JamExportError.TheVariants.{Device, Messages}
 
 -- one message was not added, and the sink did not fail before
-pub unadded_here : (path : List ℕ) (first now old before after : ℕ) (why : UnsentTexts) → before ≡ old → IsUnadded before after why → IsUnsent path first now old after why
+pub unadded_here : (path : List ℕ) (first now old before after : ℕ) (why : JamExportError) → before ≡ old → IsUnadded before after why → IsUnsent path first now old after why
 unadded_here path first now old before after (Messages fault) same is = (inl is.0, is.1 ∙ same)
 unadded_here path first now old before after Device same is = subst (λ (n : ℕ). Failed n after) same is
 
--- reads that failed later in a call
-pub unsent_since : (path : List ℕ) (first before now old new : ℕ) (why : UnsentTexts) → first ≤ before → IsUnsent path before now old new why → IsUnsent path first now old new why
-unsent_since path first before now old new (Messages fault) less is = (unread_since path first before now fault less is.0, is.1)
-unsent_since path first before now old new Device less is = is
+-- what holds anyway holds at an error
+pub at_error : {T E P : Type 0} (r : Result T E) → P → OnErr r P
+at_error (Ok x) p = tt
+at_error (Err e) p = p
 
--- no read of a base in memory fails
-pub jam_of_file : (IsRight : Base → JamExport → Type 0) (path file : List ℕ) (base : Base) (old new : ℕ) (result : Result JamExport UnsentTexts) → IsBaseGiven (Some file) base.messages base.cursor
-    → IfOk result (IsRight base) → IfErr result (IsUnsent path 0 0 old new) → JamAnswers IsRight file old new result
-jam_of_file IsRight path file base old new (Ok exported) given right why = record { base = base; given = given; right = right }
-jam_of_file IsRight path file base old new (Err (Messages fault)) given right (inl memory, same) = (inl memory, same)
-jam_of_file IsRight path file base old new (Err (Messages fault)) given right (inr read, same) = absurd (never_read path fault read)
-jam_of_file IsRight path file base old new (Err Device) given right why = why
+-- the texts of some messages and a front of those of one more
+pub begun_since : (a b c : Option (List ℕ)) (went more : List ℕ) → Appends a b went → WritesFront more b c → WritesFront (went ++ more) a c
+begun_since a b c went more out begun = begun_after a b c (went ++ more) more (record { went = went; whole = refl; written = out }) begun
+
+-- The texts of the first messages are a front of those of more.
+by_choice : (chosen : Bool) (a b : Added) (more : List ℕ) → a.texts ≡ b.texts ++ more → (rest : List ℕ) × ((if chosen then a else b).texts ≡ b.texts ++ rest)
+by_choice true a b more is = (more, is)
+by_choice false a b more is = ([], sym (append-nil b.texts))
+
+one_text : (area headers index : List ℕ) (first cursor i : ℕ) (end : JamEnd) (m : Option Filed) (a : Added) → (rest : List ℕ) × ((added_at area first cursor headers index end i m a).texts ≡ a.texts ++ rest)
+one_text area headers index first cursor i end None a = ([], sym (append-nil a.texts))
+one_text area headers index first cursor i end (Some m) a = by_choice (is_added area first cursor headers index i m) (with_message (nat_lt i cursor) end i m a) a (body_of m) refl
+
+pub texts_more : (area headers index : List ℕ) (first cursor i k : ℕ) (end : JamEnd) (base : List Filed)
+    → (rest : List ℕ) × ((added_of area first cursor headers index end base (k + i)).texts ≡ (added_of area first cursor headers index end base i).texts ++ rest)
+texts_more area headers index first cursor i zero end base = rw zero-add ([], sym (append-nil (added_of area first cursor headers index end base i).texts))
+texts_more area headers index first cursor i (suc k) end base =
+    let before = (added_of area first cursor headers index end base i).texts in
+    let mid = texts_more area headers index first cursor i k end base in
+    let last = one_text area headers index first cursor (k + i) end (slice_get base (k + i)) (added_of area first cursor headers index end base (k + i)) in
+    rw suc-add (mid.0 ++ last.0, last.1 ∙ ap (λ (l : List ℕ). l ++ last.0) mid.1 ∙ append_assoc before mid.0 last.0)
+
+-- A front of the texts of some messages is a front of all.
+pub front_of_all : (area headers index : List ℕ) (first i : ℕ) (end : JamEnd) (base : Base) (went rest : List ℕ) → i ≤ length base.messages → (added_of area first base.cursor headers index end base.messages i).texts ≡ went ++ rest
+    → (more : List ℕ) × ((added_of area first base.cursor headers index end base.messages (length base.messages)).texts ≡ went ++ more)
+front_of_all area headers index first i end base went rest within is =
+    let k = length base.messages - i in
+    let sum : k + i ≡ length base.messages = omega (arith, within) in
+    let all = texts_more area headers index first base.cursor i k end base.messages in
+    let whole = subst (λ (n : ℕ). (added_of area first base.cursor headers index end base.messages n).texts ≡ (added_of area first base.cursor headers index end base.messages i).texts ++ all.0) sum all.1 in
+    (rest ++ all.0, whole ∙ ap (λ (l : List ℕ). l ++ all.0) is ∙ append_assoc went rest all.0)
+
+-- the additions with one message more
+pub one_added : (area headers index : List ℕ) (first i cursor : ℕ) (end : JamEnd) (base : Base) (m : Option Filed) (a : Added) → cursor ≡ base.cursor → m ≡ slice_get base.messages i
+    → a ≡ added_of area first base.cursor headers index end base.messages i → added_at area first cursor headers index end i m a ≡ added_of area first base.cursor headers index end base.messages (i + 1)
+one_added area headers index first i cursor end base m a at here so_far = rw add-one (λ k. added_at area first (at k) headers index end i (here k) (so_far k))

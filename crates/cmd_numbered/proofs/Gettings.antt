@@ -8,8 +8,8 @@ use Rattle.base_folder.proofs.Fetchings.{unread_since}
 use Rattle.cmd_numbered.specs.Numbered.{EndsAt, IsMadeFrom, IsUnexported, IsUnmade, file_at, file_of, is_exported}
 use Rattle.cmd_numbered.specs.declared.folder.MessageFile.{MessageFile}
 use Rattle.cmd_numbered.specs.declared.numbering.Exported.{Exported}
-use Rattle.cmd_numbered.specs.declared.numbering.Unexported.{Unexported}
-use Rattle.cmd_numbered.specs.declared.numbering.Unexported.TheVariants.{File, Message}
+use Rattle.cmd_numbered.specs.declared.numbering.ExportError.{ExportError}
+use Rattle.cmd_numbered.specs.declared.numbering.ExportError.TheVariants.{File, Message}
 
 -- the one file of a message that is exported
 pub one_file : (area : List ℕ) (first cursor number i : ℕ) (m : Filed) (found : Option Filed) (is : Bool) → Some m ≡ found → is ≡ is_exported area first cursor i m → is ≡ true
@@ -18,13 +18,13 @@ one_file area first cursor number i m found is here exported so =
     ap (file_at area first cursor number i) (sym here) ∙ ap (λ (b : Bool). if b then file_of cursor number i m ∷ [] else []) (sym exported ∙ so)
 
 -- that file was not made
-pub unmade : (files : List MessageFile) (file : MessageFile) (path : List ℕ) (before now : ℕ) (result : Result ℕ Unexported) → files ≡ file ∷ [] → IfErr result IsUnmade → IfErr result (IsUnexported files path before now)
+pub unmade : (files : List MessageFile) (file : MessageFile) (path : List ℕ) (before now : ℕ) (result : Result ℕ ExportError) → files ≡ file ∷ [] → IfErr result IsUnmade → IfErr result (IsUnexported files path before now)
 unmade files file path before now (Ok count) are why = tt
 unmade files file path before now (Err (Message fault)) are why = inl why
 unmade files file path before now (Err (File status)) are why = (file, are)
 
 -- reads that failed later in a call
-ends_since : (area : List ℕ) (from number : ℕ) (base : Base) (path : List ℕ) (first before now seen next : ℕ) (stop : Option Unexported) → first ≤ before
+ends_since : (area : List ℕ) (from number : ℕ) (base : Base) (path : List ℕ) (first before now seen next : ℕ) (stop : Option ExportError) → first ≤ before
     → EndsAt area from number base path before now seen next stop → EndsAt area from number base path first now seen next stop
 ends_since area from number base path first before now seen next None less ends = ends
 ends_since area from number base path first before now seen next (Some (Message fault)) less ends = (ends.0, ends.1, unread_since path first before now fault less ends.2)

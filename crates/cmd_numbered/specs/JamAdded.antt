@@ -1,5 +1,5 @@
 -- Messages of a base that are added to a JAM base: their choice, their numbers, and their bytes in its files.
-use Rattle.std.specs.Prelude.{◌≡◌, ℕ, zero, suc, ◌+◌, ◌&&◌, not, nat_lt, max, Bool, false, is_some, List, [], ◌∷◌, ◌++◌, length, if◌then◌else◌, slice_get, Option, Some, None, Result, Ok, Err, ◌⊎◌}
+use Rattle.std.specs.Prelude.{◌≡◌, ℕ, zero, suc, ◌+◌, ◌&&◌, not, nat_lt, max, Bool, false, is_some, List, [], ◌∷◌, ◌++◌, length, if◌then◌else◌, slice_get, Option, Some, None}
 use Rattle.std.specs.Io.KnownBytes.{Appends}
 use Rattle.echo_filed.specs.Filed.{Filed}
 use Rattle.echo_links.specs.Links.{upper}
@@ -9,17 +9,16 @@ use Rattle.echo_jam.specs.Same.{is_same}
 use Rattle.echo_jam.specs.Unsent.{has_id}
 use Rattle.echo_text.specs.Echo.{msgid_of}
 use Rattle.cmd_status.specs.Ended.{IsOutOfMemory}
-use Rattle.cmd_status.specs.Inputs.{IsBaseFault}
 use Rattle.disk_io.specs.Device.{Failed}
 use Rattle.base_file.specs.Base.{Base}
 use Rattle.base_folder.specs.Fetching.{IsUnread}
+use Rattle.base_folder.specs.Source.{SourceState}
 use Rattle.cmd_numbered.specs.declared.adding.Adding.{Adding}
 use Rattle.cmd_numbered.specs.declared.adding.JamEnd.{JamEnd}
 use Rattle.cmd_numbered.specs.declared.adding.JamExport.{JamExport}
-use Rattle.cmd_numbered.specs.declared.unsent.UnsentTexts.{UnsentTexts}
-use Rattle.cmd_numbered.specs.declared.unsent.UnsentTexts.TheVariants.{Messages, Device}
+use Rattle.cmd_numbered.specs.declared.jam_export_error.JamExportError.{JamExportError}
+use Rattle.cmd_numbered.specs.declared.jam_export_error.JamExportError.TheVariants.{Messages, Device}
 use Rattle.cmd_numbered.specs.Numbered.{is_exported}
-use Rattle.cmd_numbered.specs.Reading.{IsOfFile}
 
 -- The bytes added to headers, texts and index; the numbers of the messages in their base; the number of cut subfields.
 pub record Added : Type 0 where
@@ -105,22 +104,23 @@ pub record IsJamExport (area : List ℕ) (first : ℕ) (headers index : List ℕ
   pub added : HasAdded exported.adding old new (added_of (upper area) from base.cursor headers index end base.messages (length base.messages))
   pub end_is : exported.end ≡ max from (length base.messages)
 
+-- The texts of these additions.
+abbrev pub jam_texts : List ℕ → ℕ → List ℕ → List ℕ → Option ℕ → List ℕ → JamEnd → Base → List ℕ
+jam_texts area first headers index last text end base =
+    (added_of (upper area) (resumed_jam (upper area) first base.cursor headers last text base.messages (length base.messages)) base.cursor headers index end base.messages (length base.messages)).texts
+
+-- A sink got some bytes behind those that it had. If the source was honest and has a base, they are a front of these texts.
+pub record HasBegun (source later : SourceState) (texts : Base → List ℕ) (old new : Option (List ℕ)) : Type 0 where
+  pub went : List ℕ
+  pub written : Appends old new went
+  pub front : later.is_honest → (base : Base) → source.holds base → (rest : List ℕ) × (texts base ≡ went ++ rest)
+
 -- Memory ran out, and the sink did not fail, or it failed.
-abbrev pub IsUnadded : ℕ → ℕ → UnsentTexts → Type 0
+abbrev pub IsUnadded : ℕ → ℕ → JamExportError → Type 0
 IsUnadded old new (Messages fault) = IsOutOfMemory fault × (new ≡ old)
 IsUnadded old new Device = Failed old new
 
 -- Memory ran out or a message of the base with this path was not read, and the sink did not fail. Or it failed.
-abbrev pub IsUnsent : List ℕ → ℕ → ℕ → ℕ → ℕ → UnsentTexts → Type 0
+abbrev pub IsUnsent : List ℕ → ℕ → ℕ → ℕ → ℕ → JamExportError → Type 0
 IsUnsent path before now old new (Messages fault) = IsUnread path before now fault × (new ≡ old)
 IsUnsent path before now old new Device = Failed old new
-
--- Why the messages of a base file were not added: memory ran out, the file has this fault, or the sink failed.
-abbrev pub IsUnsentFile : List ℕ → ℕ → ℕ → UnsentTexts → Type 0
-IsUnsentFile file old new (Messages fault) = (IsOutOfMemory fault ⊎ IsBaseFault (Some file) fault) × (new ≡ old)
-IsUnsentFile file old new Device = Failed old new
-
--- The right answer if the messages of a base file are to be added to a JAM base.
-abbrev pub JamAnswers : (Base → JamExport → Type 0) → List ℕ → ℕ → ℕ → Result JamExport UnsentTexts → Type 0
-JamAnswers IsRight file old new (Ok exported) = IsOfFile IsRight file exported
-JamAnswers IsRight file old new (Err why) = IsUnsentFile file old new why

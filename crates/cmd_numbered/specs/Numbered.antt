@@ -1,5 +1,5 @@
 -- Messages of a base as numbered files of a folder: their choice, their bytes and their numbers.
-use Rattle.std.specs.Prelude.{◌≡◌, ◌<◌, ⊤, ℕ, zero, suc, ◌+◌, ◌&&◌, ◌||◌, not, nat_le, nat_lt, max, Bool, false, List, [], ◌∷◌, ◌++◌, length, take, drop, if◌then◌else◌, slice_get, bytes_eq, Option, Some, None, is_some, Result}
+use Rattle.std.specs.Prelude.{◌≡◌, ◌<◌, ⊤, ℕ, zero, suc, ◌+◌, ◌&&◌, ◌||◌, not, nat_le, nat_lt, max, Bool, false, List, [], ◌∷◌, ◌++◌, length, take, drop, if◌then◌else◌, slice_get, bytes_eq, Option, Some, None, is_some}
 use Rattle.echo_filed.specs.Filed.{Filed}
 use Rattle.echo_filed.specs.Stubs.{is_stub}
 use Rattle.echo_links.specs.Links.{upper}
@@ -10,12 +10,11 @@ use Rattle.base_file.specs.Base.{Base}
 use Rattle.base_folder.specs.Fetching.{IsUnread}
 use Rattle.echo_stored.specs.StoredMessage.{stored_bytes}
 use Rattle.cmd_numbered.specs.declared.numbering.Exported.{Exported}
-use Rattle.cmd_numbered.specs.declared.numbering.Unexported.{Unexported}
-use Rattle.cmd_numbered.specs.declared.numbering.Unexported.TheVariants.{File, Message}
+use Rattle.cmd_numbered.specs.declared.numbering.ExportError.{ExportError}
+use Rattle.cmd_numbered.specs.declared.numbering.ExportError.TheVariants.{File, Message}
 use Rattle.cmd_numbered.specs.declared.folder.MessageFile.{MessageFile}
 use Rattle.cmd_numbered.specs.Folders.{Gets}
 use Rattle.cmd_numbered.specs.Names.{name_of}
-use Rattle.cmd_numbered.specs.Reading.{AnswersFile}
 
 -- Whether only the id of a message's text is left.
 abbrev pub is_purged : Filed → Bool
@@ -73,18 +72,18 @@ pub record IsMade (files : List MessageFile) (old new : Option (List MessageFile
   pub got : Gets old new files
 
 -- Why the file of a message was not made: no memory, or the folder did not get it.
-abbrev pub IsUnmade : Unexported → Type 0
+abbrev pub IsUnmade : ExportError → Type 0
 IsUnmade (Message fault) = IsOutOfMemory fault
 IsUnmade (File status) = ⊤
 
 -- Why the files of a message, one or none, were not made: it was not read, or there was no memory.
 -- Or the folder did not get the one file.
-abbrev pub IsUnexported : List MessageFile → List ℕ → ℕ → ℕ → Unexported → Type 0
+abbrev pub IsUnexported : List MessageFile → List ℕ → ℕ → ℕ → ExportError → Type 0
 IsUnexported files path before now (Message fault) = IsUnread path before now fault
 IsUnexported files path before now (File status) = (file : MessageFile) × (files ≡ file ∷ [])
 
 -- After a whole run the next message is the one after all. Else the file of the next one was not made, for this reason.
-abbrev pub EndsAt : List ℕ → ℕ → ℕ → Base → List ℕ → ℕ → ℕ → ℕ → ℕ → Option Unexported → Type 0
+abbrev pub EndsAt : List ℕ → ℕ → ℕ → Base → List ℕ → ℕ → ℕ → ℕ → ℕ → Option ExportError → Type 0
 EndsAt area from number base path before now seen next None = (seen ≡ length base.messages) × (next ≡ max from (length base.messages))
 EndsAt area from number base path before now seen next (Some why) =
     (next ≡ seen) × (seen < length base.messages)
@@ -103,7 +102,3 @@ pub record IsExport (area : List ℕ) (first greatest : ℕ) (last : Option (Lis
   pub from : ℕ
   pub from_is : from ≡ resumed (upper area) first base.cursor last base.messages (length base.messages)
   pub made : IsMadeFrom (upper area) from (first_number greatest) base path before now old new exported
-
--- The right answer if the messages of a base file are to become files.
-abbrev pub ExportAnswers : List ℕ → ℕ → ℕ → Option (List ℕ) → List ℕ → Option (List MessageFile) → Option (List MessageFile) → Result Exported Fault → Type 0
-ExportAnswers area first greatest last file old new answer = AnswersFile (λ base. IsExport area first greatest last base [] 0 0 old new) file answer

@@ -1,20 +1,20 @@
 //! Which messages are added to a JAM base, and what that adds.
-ghost use Rattle.std.specs.Prelude.{◌≡◌, ◌≤◌, ◌+◌, ◌++◌, ◌&&◌, ℕ, List, Option, [], IfErr, IfOk, OnOk, length, option_copied};
+ghost use Rattle.std.specs.Prelude.{◌≡◌, ◌≤◌, ◌+◌, ◌++◌, ◌&&◌, ℕ, List, Option, [], IfErr, IfOk, OnErr, OnOk, length, option_copied};
 ghost use Rattle.base_file.specs.Base.{Base};
 ghost use Rattle.base_folder.specs.Fetching.{IsUnread};
 ghost use Rattle.base_folder.specs.Source.{LooksAt};
-ghost use Rattle.cmd_numbered.specs.JamAdded.{Added, HasAdded, IsJamExport, IsUnadded, IsUnsent, JamAnswers, added_at, added_in, added_of, is_added, is_last_jam, is_written_there, nothing_added, resumed_jam, with_message};
+ghost use Rattle.cmd_status.specs.Lines.{WritesFront};
+ghost use Rattle.cmd_numbered.specs.JamAdded.{Added, HasAdded, HasBegun, IsJamExport, IsUnadded, IsUnsent, added_at, added_in, added_of, is_added, is_last_jam, is_written_there, jam_texts, nothing_added, resumed_jam, with_message};
 ghost use Rattle.echo_jam.specs.Fields.{body_of};
 
+use crate::jam_export_error::JamExportError;
 use crate::numbering::is_exported;
-use crate::unsent::UnsentTexts;
-use base_folder::{BaseReader, MessageSource, fetch_message};
+use base_folder::{MessageSource, fetch_message};
 use cmd_status::Fault;
 use disk_io::{Sink, send};
 use echo_filed::Filed;
 use echo_jam::{Jam, has_id, is_same, push_jam};
 use std::alloc::{AllocError, Global};
-use std::hash::BuildHasher;
 
 /// The end of a JAM base: the number of its next message, and the length of its headers and texts.
 #[derive(Clone, Copy, Debug)]
@@ -53,24 +53,8 @@ pub struct JamExport {
 
 /// `export --jam PATH --area TAG [--from I] BASE`: what the messages of the area add to a JAM base, from the number
 /// `first` on, or from behind the one that is its last: a run that was stopped goes on there. What the JAM base has from an
-/// editor is not added. Each text is sent before the next message is read.
-pub fn export_jam<'a, S: BuildHasher + Drop, W: Sink>(
-    alloc: Global,
-    area: &[u8],
-    first: u64,
-    jam: JamBase<'_>,
-    base: &[u8],
-    hasher: S,
-    texts: &mut W,
-) -> Result<JamExport, UnsentTexts<'a>>
-    ensures { JamAnswers (IsJamExport area.now first jam.entry.headers.now jam.entry.index.now jam.entry.last jam.entry.text.now jam.entry.end (W.contents texts.old) (W.contents texts.new)) base.now (W.failures texts.old) (W.failures texts.new) result }
-{
-    let mut messages = BaseReader::read(alloc, base, hasher)?;
-    export_jam_of(alloc, area, first, jam, "", &mut messages, texts)
-}
-
-/// The same of messages that are read one by one, of the base with this path.
-pub fn export_jam_of<'a, M: MessageSource, W: Sink>(
+/// editor is not added. Each text is sent before the next message is read. `path` is that of BASE.
+pub fn export_jam<'a, M: MessageSource, W: Sink>(
     alloc: Global,
     area: &[u8],
     first: u64,
@@ -78,12 +62,13 @@ pub fn export_jam_of<'a, M: MessageSource, W: Sink>(
     path: &'a str,
     messages: &mut M,
     texts: &mut W,
-) -> Result<JamExport, UnsentTexts<'a>>
+) -> Result<JamExport, JamExportError<'a>>
     requires { (M.state messages.old).is_ready }
     ensures added { (M.state messages.new).is_honest → (base : Base) → (M.state messages.old).holds base
         → IfOk result (IsJamExport area.now first jam.entry.headers.now jam.entry.index.now jam.entry.last jam.entry.text.now jam.entry.end (W.contents texts.old) (W.contents texts.new) base) }
     ensures fault { (M.state messages.new).is_honest → (base : Base) → (M.state messages.old).holds base
         → IfErr result (IsUnsent path.now (M.state messages.old).failures (M.state messages.new).failures (W.failures texts.old) (W.failures texts.new)) }
+    ensures begun { OnErr result (HasBegun (M.state messages.old) (M.state messages.new) (jam_texts area.now first jam.entry.headers.now jam.entry.index.now jam.entry.last jam.entry.text.now jam.entry.end) (W.contents texts.old) (W.contents texts.new)) }
     ensures ok { OnOk result (W.failures texts.new ≡ W.failures texts.old) }
     ensures looks { LooksAt (M.state messages.old) (M.state messages.new) }
     ensures later { (M.state messages.old).failures ≤ (M.state messages.new).failures }
@@ -168,12 +153,14 @@ fn added_of<'a, M: MessageSource, W: Sink>(
     path: &'a str,
     messages: &mut M,
     texts: &mut W,
-) -> Result<Adding, UnsentTexts<'a>>
+) -> Result<Adding, JamExportError<'a>>
     requires { (M.state messages.old).is_ready }
     ensures added { (M.state messages.new).is_honest → (base : Base) → (M.state messages.old).holds base
         → IfOk result (λ adding. HasAdded adding (W.contents texts.old) (W.contents texts.new) (added_of area.now first base.cursor jam.entry.headers.now jam.entry.index.now jam.entry.end base.messages (length base.messages))) }
     ensures fault { (M.state messages.new).is_honest → (base : Base) → (M.state messages.old).holds base
         → IfErr result (IsUnsent path.now (M.state messages.old).failures (M.state messages.new).failures (W.failures texts.old) (W.failures texts.new)) }
+    ensures begun { OnErr result (HasBegun (M.state messages.old) (M.state messages.new)
+        (λ base. (added_of area.now first base.cursor jam.entry.headers.now jam.entry.index.now jam.entry.end base.messages (length base.messages)).texts) (W.contents texts.old) (W.contents texts.new)) }
     ensures ok { OnOk result (W.failures texts.new ≡ W.failures texts.old) }
     ensures looks { LooksAt (M.state messages.old) (M.state messages.new) }
     ensures later { (M.state messages.old).failures ≤ (M.state messages.new).failures }
@@ -218,9 +205,11 @@ fn add_if_wanted<'a, W: Sink>(
     i: usize,
     message: Option<&Filed>,
     texts: &mut W,
-) -> Result<(), UnsentTexts<'a>>
+) -> Result<(), JamExportError<'a>>
     ensures added { (start : Option (List ℕ)) (added : Added) → HasAdded adding.old start (W.contents texts.old) added
         → OnOk result (HasAdded adding.new start (W.contents texts.new) (added_at wanted.entry.area.now wanted.entry.first wanted.entry.cursor wanted.entry.jam.headers.now wanted.entry.jam.index.now wanted.entry.jam.end i (option_copied message.entry) added)) }
+    ensures begun { (start : Option (List ℕ)) (added : Added) → HasAdded adding.old start (W.contents texts.old) added
+        → OnErr result (WritesFront (added_at wanted.entry.area.now wanted.entry.first wanted.entry.cursor wanted.entry.jam.headers.now wanted.entry.jam.index.now wanted.entry.jam.end i (option_copied message.entry) added).texts start (W.contents texts.new)) }
     ensures fault { IfErr result (IsUnadded (W.failures texts.old) (W.failures texts.new)) }
     ensures ok { OnOk result (W.failures texts.new ≡ W.failures texts.old) }
 {
@@ -260,9 +249,11 @@ fn add_message<'a, W: Sink>(
     message: &Filed,
     scanned: bool,
     texts: &mut W,
-) -> Result<(), UnsentTexts<'a>>
+) -> Result<(), JamExportError<'a>>
     ensures added { (start : Option (List ℕ)) (added : Added) → HasAdded adding.old start (W.contents texts.old) added
         → OnOk result (HasAdded adding.new start (W.contents texts.new) (with_message scanned end i message.now added)) }
+    ensures begun { (start : Option (List ℕ)) (added : Added) → HasAdded adding.old start (W.contents texts.old) added
+        → OnErr result (WritesFront (with_message scanned end i message.now added).texts start (W.contents texts.new)) }
     ensures fault { IfErr result (IsUnadded (W.failures texts.old) (W.failures texts.new)) }
     ensures ok { OnOk result (W.failures texts.new ≡ W.failures texts.old) }
 {

@@ -13,19 +13,19 @@
 mod adding;
 mod finding;
 mod folder;
+mod jam_export_error;
 mod names;
 mod numbering;
 mod resending;
 mod telling;
-mod unsent;
 
-pub use adding::{Adding, JamBase, JamEnd, JamExport, export_jam, export_jam_of};
+pub use adding::{Adding, JamBase, JamEnd, JamExport, export_jam};
 pub use finding::{
     Answered, PostedWords, find_answered, find_answered_of, is_posted, is_posted_of, own_serial,
 };
 pub use folder::{LastFile, MessageFile, MessageFolder};
+pub use jam_export_error::JamExportError;
 pub use names::{is_left, number_in};
-pub use numbering::{Exported, Unexported, export_files, export_files_of};
+pub use numbering::{ExportError, Exported, export_files};
 pub use resending::{resend, resend_of};
 pub use telling::{refuse_message, tell_added, tell_cuts, tell_exported, tell_refused};
-pub use unsent::UnsentTexts;

@@ -5,22 +5,21 @@ ghost use Rattle.base_folder.specs.Fetching.{IsUnread};
 ghost use Rattle.base_folder.specs.Source.{LooksAt};
 ghost use Rattle.echo_stored.specs.StoredMessage.{stored_bytes};
 ghost use Rattle.cmd_numbered.specs.Folders.{Gets};
-ghost use Rattle.cmd_numbered.specs.Numbered.{ExportAnswers, IsExport, IsMade, IsMadeFrom, IsUnexported, IsUnmade, before_numbers, behind_numbers, file_at, file_of, first_number, is_exported, is_last, is_purged, is_same_stored, resumed};
+ghost use Rattle.cmd_numbered.specs.Numbered.{IsExport, IsMade, IsMadeFrom, IsUnexported, IsUnmade, before_numbers, behind_numbers, file_at, file_of, first_number, is_exported, is_last, is_purged, is_same_stored, resumed};
 ghost use Rattle.cmd_numbered.specs.Reading.{AnswersReading};
 
 use crate::folder::{LastFile, MessageFile, MessageFolder};
 use crate::names::file_name;
-use base_folder::{BaseReader, MessageSource, fetch_message};
+use base_folder::{MessageSource, fetch_message};
 use cmd_status::{Fault, Status};
 use echo_addr::Items;
 use echo_filed::{Filed, is_stub};
 use echo_stored::push_stored;
 use std::alloc::{AllocError, Global};
-use std::hash::BuildHasher;
 
 /// Why a message has no file: the message was not read or there was no memory, or the folder did not get the file.
 #[derive(Debug, Drop)]
-pub enum Unexported<'a> {
+pub enum ExportError<'a> {
     Message(Fault<'a>),
     File(Status),
 }
@@ -31,30 +30,13 @@ pub enum Unexported<'a> {
 pub struct Exported<'a> {
     pub made: usize,
     pub next: u64,
-    pub stop: Option<Unexported<'a>>,
+    pub stop: Option<ExportError<'a>>,
 }
 
 /// `export --msg DIR --area TAG [--from I] BASE`: makes a file of each message of the area, from the number `first` on. If
-/// the last file of the folder is one of these messages, they start after it: so a stopped run continues.
-pub fn export_files<'a, F: MessageFolder, S: BuildHasher + Drop>(
-    alloc: Global,
-    area: &[u8],
-    first: u64,
-    last: LastFile<'_>,
-    base: &[u8],
-    hasher: S,
-    folder: &mut F,
-) -> Result<Exported<'a>, Fault<'a>>
-    ensures files { ExportAnswers area.now first last.entry.number (option_copied last.entry.bytes) base.now (F.made folder.old) (F.made folder.new) result }
-    ensures none { OnErr result (Gets (F.made folder.old) (F.made folder.new) []) }
-{
-    let mut messages = BaseReader::read(alloc, base, hasher)?;
-    export_files_of(alloc, area, first, last, "", &mut messages, folder)
-}
-
-/// The same of messages that are read one by one, of the base with this path. Each file is made before the next message
-/// is read.
-pub fn export_files_of<'a, M: MessageSource, F: MessageFolder>(
+/// the last file of the folder is one of these messages, they start after it: so a stopped run continues. Each file is
+/// made before the next message is read. `path` is that of BASE.
+pub fn export_files<'a, M: MessageSource, F: MessageFolder>(
     alloc: Global,
     area: &[u8],
     first: u64,
@@ -244,7 +226,7 @@ fn make_next<'a, M: MessageSource, F: MessageFolder>(
     path: &'a str,
     messages: &mut M,
     folder: &mut F,
-) -> Result<usize, Unexported<'a>>
+) -> Result<usize, ExportError<'a>>
     requires ready { (M.state messages.old).is_ready }
     requires within { i < (M.state messages.old).count }
     ensures made { (M.state messages.new).is_honest → (base : Base) → (M.state messages.old).holds base
@@ -257,7 +239,7 @@ fn make_next<'a, M: MessageSource, F: MessageFolder>(
     ensures later { (M.state messages.old).failures ≤ (M.state messages.new).failures }
 {
     if let Err(fault) = fetch_message(messages, path, i) {
-        return Err(Unexported::Message(fault));
+        return Err(ExportError::Message(fault));
     }
     let number = u128::from(wanted.number) + made as u128;
     match messages.at_hand() {
@@ -283,7 +265,7 @@ fn export_one<'a, F: MessageFolder>(
     i: usize,
     message: &Filed,
     folder: &mut F,
-) -> Result<usize, Unexported<'a>>
+) -> Result<usize, ExportError<'a>>
     ensures made { IfOk result (IsMade (file_of wanted.entry.cursor number i message.now ∷ []) (F.made folder.old) (F.made folder.new)) }
     ensures few { IfOk result (λ more. more ≤ 1) }
     ensures fault { IfErr result IsUnmade }
@@ -291,11 +273,11 @@ fn export_one<'a, F: MessageFolder>(
 {
     let file = match file_of(alloc, wanted.cursor, number, i, message) {
         Ok(file) => file,
-        Err(_) => return Err(Unexported::Message(Fault::OutOfMemory)),
+        Err(_) => return Err(ExportError::Message(Fault::OutOfMemory)),
     };
     match folder.make(&file) {
         Ok(()) => Ok(1),
-        Err(status) => Err(Unexported::File(status)),
+        Err(status) => Err(ExportError::File(status)),
     }
 }
 

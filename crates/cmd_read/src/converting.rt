@@ -2,9 +2,7 @@
 ghost use Rattle.base_folder.specs.Source.{LooksAt};
 
 use base_file::BaseFault;
-use base_folder::{
-    BaseReader, Distinct, MessageSource, UnfilledFolder, UnsentFile, fill, send_file,
-};
+use base_folder::{BaseReader, Distinct, FillError, MessageSource, SendError, fill, send_file};
 use base_store::SipDigest;
 use cmd_input::{
     BASE_START, drawn_key, flush_name, folder_of, folder_path, is_folder, is_strange, is_unused,
@@ -83,7 +81,7 @@ fn judge_messages<'a, M: MessageSource>(
     ensures { LooksAt (M.state messages.old) (M.state messages.new) }
 {
     match send_file(rt.alloc(), messages, &mut Watched::new(io::sink())) {
-        Err(UnsentFile::Messages(fault)) => Err(messages_fault(fault, from)),
+        Err(SendError::Messages(fault)) => Err(messages_fault(fault, from)),
         _ => Ok(()),
     }
 }
@@ -129,8 +127,8 @@ fn fill_if_empty<'a, M: MessageSource>(
     flush_name(rt, to, 0)?;
     match fill_folder(rt, messages, to)? {
         Ok(()) => Ok(()),
-        Err(UnfilledFolder::Messages(fault)) => Err(messages_fault(fault, from)),
-        Err(UnfilledFolder::Folder(why)) => Err(why.fault(to)),
+        Err(FillError::Messages(fault)) => Err(messages_fault(fault, from)),
+        Err(FillError::Folder(why)) => Err(why.fault(to)),
     }
 }
 
@@ -139,7 +137,7 @@ fn fill_folder<'a, M: MessageSource>(
     rt: &HostRuntime,
     messages: &mut M,
     to: &'a str,
-) -> Result<Result<(), UnfilledFolder>, Fault<'a>>
+) -> Result<Result<(), FillError>, Fault<'a>>
     requires { (M.state messages.old).is_ready }
 {
     let strange = is_strange(rt, to)?;
@@ -187,7 +185,7 @@ fn write_file<'a, M: MessageSource>(
     }
     drop_file(rt, staged);
     match sent {
-        Err(UnsentFile::Messages(fault)) => Err(messages_fault(fault, from)),
+        Err(SendError::Messages(fault)) => Err(messages_fault(fault, from)),
         _ => Ok(Err(OutputFault::Device)),
     }
 }

@@ -14,7 +14,7 @@ use crate::named::{bytes_of, jam_fault, open_file, open_or_make, write_at};
 use crate::texts::{ROOM, Texts};
 use base_folder::MessageSource;
 use cmd_input::{is_folder, load_base, look_into};
-use cmd_numbered::{JamBase, JamEnd, JamExport, UnsentTexts, export_jam_of, tell_added, tell_cuts};
+use cmd_numbered::{JamBase, JamEnd, JamExport, JamExportError, export_jam, tell_added, tell_cuts};
 use cmd_status::{Fault, Status, ended, number_of};
 use cmd_words::ExportWords;
 use disk_io::{Sink, Watched};
@@ -129,7 +129,7 @@ fn jam_under<'a, M: MessageSource>(
         held: Vec::with_capacity(rt.alloc(), ROOM)?,
         failed: None,
     });
-    let exported = export_jam_of(
+    let exported = export_jam(
         rt.alloc(),
         area,
         first,
@@ -144,8 +144,8 @@ fn jam_under<'a, M: MessageSource>(
     };
     let fault = match exported {
         Ok(exported) => return Ok((exported, sent)),
-        Err(UnsentTexts::Messages(fault)) => fault,
-        Err(UnsentTexts::Device) => Fault::CannotUse(path),
+        Err(JamExportError::Messages(fault)) => fault,
+        Err(JamExportError::Device) => Fault::CannotUse(path),
     };
     cut_back(&files.texts, files.end.texts);
     Err(fault)

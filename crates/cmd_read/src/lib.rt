@@ -33,7 +33,7 @@ pub use converting::run_convert;
 pub use jam::run_export_jam;
 pub use judging::run_links;
 pub use nets::{run_check, run_picture, run_replay, run_why};
-pub use outbox::{Outbox, Unsent};
+pub use outbox::{Outbox, OutboxMessage};
 pub use printing::{run_nodelist, run_show};
 pub use resending::run_resend;
 pub use stored::run_export_stored;

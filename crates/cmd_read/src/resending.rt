@@ -94,7 +94,7 @@ fn check_owner<'a, D: Disk>(
     let strange = is_strange(rt, base)?;
     let path = folder_path(rt, base)?;
     match log_end(rt.alloc(), disk, path.as_bytes(), strange) {
-        Ok(end) => judge_owner(end.reported.mark, own).map_err(|why| why.fault(base)),
+        Ok(end) => judge_owner(end.recorded.mark, own).map_err(|why| why.fault(base)),
         Err(why) => Err(why.fault(base)),
     }
 }

@@ -7,8 +7,8 @@ use cmd_input::{
     folder_fault, is_folder, load_base, locked_folder, look_into, output_fault, read_file,
 };
 use cmd_numbered::{
-    Exported, LastFile, MessageFile, MessageFolder, Unexported, export_files_of, is_left,
-    number_in, tell_exported,
+    ExportError, Exported, LastFile, MessageFile, MessageFolder, export_files, is_left, number_in,
+    tell_exported,
 };
 use cmd_status::{Fault, Status, ended, number_of};
 use cmd_words::ExportWords;
@@ -88,8 +88,8 @@ pub fn run_export_stored<W: Sink, E: Sink>(
     let _ = locked.unlock();
     match exported.stop {
         None => ended(line, errors),
-        Some(Unexported::Message(fault)) => fault.report(errors),
-        Some(Unexported::File(status)) => status,
+        Some(ExportError::Message(fault)) => fault.report(errors),
+        Some(ExportError::File(status)) => status,
     }
 }
 
@@ -133,7 +133,7 @@ fn export_messages<'a, M: MessageSource, E: Sink>(
         bytes: bytes.as_ref().map(|bytes| bytes.as_slice()),
     };
     let area = words.area.unwrap_or("").as_bytes();
-    export_files_of(
+    export_files(
         files.rt.alloc(),
         area,
         first,

@@ -1,7 +1,7 @@
 -- Faults of the machine: standard output failed, or memory ran out.
 use Rattle.std.proofs.Common.{ℕ, ◌≤◌, Bool, List, Result, arith}
 use Rattle.disk_io.proofs.Devices.{Failed-le}
-use Rattle.base_folder_store.proofs.Causes.{failed_since}
+use Rattle.base_store.proofs.Causes.{failed_since}
 use Rattle.cmd_status.specs.declared.fault.Fault.{Fault}
 use Rattle.cmd_status.specs.declared.fault.Fault.TheVariants.{CannotUse}
 use Rattle.cmd_status.specs.declared.status.Status.{Status}

@@ -33,7 +33,7 @@ pub use disk_error::DiskError;
 pub use failure::Failure;
 pub use fixed::{Broken, are_bytes, read_fixed};
 pub use folder::{folder_of, sync_folder_of};
-pub use part::read_part;
+pub use part::{read_part, read_part_into};
 pub use sink::{Sink, send};
 pub use source::{Source, fill, fill_from};
 pub use synced::write_synced;

@@ -68,8 +68,28 @@ pub fn read_part<D: Disk>(
     ensures quiet { ChangesNothing (D.state disk.old) (D.state disk.new) }
     ensures cause { HasCause (D.failures disk.old) (D.failures disk.new) result }
 {
-    let mut part = Vec::with_capacity(alloc, to - from)?;
-    part.resize(to - from, 0)?;
-    fill_part(disk, path, from, &mut part)?;
+    let mut part = Vec::new(alloc);
+    read_part_into(disk, path, from, to, &mut part)?;
     Ok(part)
+}
+
+/// Makes these bytes the content of a vector. After a fault it may hold anything.
+pub fn read_part_into<D: Disk>(
+    disk: &mut D,
+    path: &[u8],
+    from: usize,
+    to: usize,
+    part: &mut Vec<u8>,
+) -> Result<(), DiskError>
+    requires there { Honestly (D.state disk.old) (IsSome ((D.state disk.old).seen path.now)) }
+    requires order { from ≤ to }
+    requires within { Honestly (D.state disk.old) (to ≤ length (bytes_in ((D.state disk.old).seen path.now))) }
+    ensures bytes { Honestly (D.state disk.new) (OnOk result (part.new.items ≡ drop from (take to (bytes_in ((D.state disk.old).seen path.now))))) }
+    ensures quiet { ChangesNothing (D.state disk.old) (D.state disk.new) }
+    ensures cause { HasCause (D.failures disk.old) (D.failures disk.new) result }
+{
+    part.clear();
+    part.reserve_exact(to - from)?;
+    part.resize(to - from, 0)?;
+    fill_part(disk, path, from, part)
 }

@@ -4,7 +4,7 @@ use Rattle.std.specs.List.{flat_map}
 use Rattle.std.proofs.lemmas.List.{append_assoc, length-append, take-append-drop, take-append-le, take_at, drop_at, take_more, drop_more, drop_all, length-take-le, append-nil, nil_from_length}
 use Rattle.std.proofs.lemmas.Bool.{cases_lt}
 use Rattle.echo_addr.specs.declared.address.NetNode.{NetNode}
-use Rattle.echo_addr.specs.ShortLines.{line_room, entry_text, entries_text, line_front, line_of, IsFull, AreRuns, ShortLines}
+use Rattle.echo_addr.specs.ShortLines.{line_room, entry_text, entries_text, line_front, line_of, IsFull, AddsLines, AreRuns, ShortLines}
 
 -- an entry to read past the end of a list
 abbrev nowhere : NetNode
@@ -97,21 +97,24 @@ one_spelling prefix list b c hb hc = grind (arith, one_cut)
 pub nothing_written : (prefix b : List ℕ) → ShortLines prefix [] b → b ≡ []
 nothing_written prefix b h = one_spelling prefix [] b [] h (ShortLines-nil prefix)
 
--- finished lines, which the lines of the other entries complete
-abbrev pub Completes : List ℕ → List NetNode → List NetNode → List ℕ → Type 0
-Completes prefix xs rest lines = (tail : List ℕ) → ShortLines prefix rest tail → ShortLines prefix xs (lines ++ tail)
+-- finished lines behind a text, which the lines of the other entries complete
+abbrev pub Completes : List ℕ → List NetNode → List NetNode → List ℕ → List ℕ → Type 0
+Completes prefix xs rest before text = (tail : List ℕ) → ShortLines prefix rest tail → AddsLines prefix xs before (text ++ tail)
 
-pub Completes-more : (prefix : List ℕ) (xs rest run after : List NetNode) (lines more : List ℕ) (k : ℕ)
+pub Completes-none : (prefix : List ℕ) (xs : List NetNode) (before : List ℕ) → Completes prefix xs xs before before
+Completes-none prefix xs before tail lines = record { added = tail; lines = lines; whole = refl }
+
+pub Completes-more : (prefix : List ℕ) (xs rest run after : List NetNode) (before text more : List ℕ) (k : ℕ)
     → length prefix ≤ line_room → run ≡ take k rest → after ≡ drop k rest → 0 < k → k ≤ length rest
     → length (entries_text None (take k rest)) ≤ line_room - length prefix
     → (k < length rest → line_room - length prefix < length (entries_text None (take (k + 1) rest)))
-    → more ≡ lines ++ line_of prefix (entries_text None run)
-    → Completes prefix xs rest lines → Completes prefix xs after more
-Completes-more prefix xs rest run after lines more k short run-is after-is some within room full more-is completes = grind (arith, ShortLines-cons, length-append, append_assoc)
+    → more ≡ text ++ line_of prefix (entries_text None run)
+    → Completes prefix xs rest before text → Completes prefix xs after before more
+Completes-more prefix xs rest run after before text more k short run-is after-is some within room full more-is completes = grind (arith, ShortLines-cons, length-append, append_assoc)
 
-pub Completes-all : (prefix : List ℕ) (xs rest : List NetNode) (lines : List ℕ) → length rest ≡ 0 → Completes prefix xs rest lines
-    → ShortLines prefix xs lines
-Completes-all prefix xs rest lines empty completes =
+pub Completes-all : (prefix : List ℕ) (xs rest : List NetNode) (before text : List ℕ) → length rest ≡ 0 → Completes prefix xs rest before text
+    → AddsLines prefix xs before text
+Completes-all prefix xs rest before text empty completes =
     let P : List NetNode → Type 0 = λ l. ShortLines prefix l [] in
-    let Q : List ℕ → Type 0 = λ b. ShortLines prefix xs b in
-    subst Q (append-nil lines) (completes [] (subst P (sym (nil_from_length rest empty)) (ShortLines-nil prefix)))
+    let Q : List ℕ → Type 0 = λ b. AddsLines prefix xs before b in
+    subst Q (append-nil text) (completes [] (subst P (sym (nil_from_length rest empty)) (ShortLines-nil prefix)))

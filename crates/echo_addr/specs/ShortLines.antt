@@ -66,6 +66,12 @@ pub record ShortLines (prefix : List ℕ) (list : List NetNode) (b : List ℕ) :
   pub lines : b ≡ flat_map (λ run. line_of prefix (entries_text None run)) runs
   pub each : AreRuns prefix runs
 
+-- Lines of the list were added to a text.
+pub record AddsLines (prefix : List ℕ) (list : List NetNode) (old new : List ℕ) : Type 0 where
+  pub added : List ℕ
+  pub lines : ShortLines prefix list added
+  pub whole : new ≡ old ++ added
+
 -- One entry is before the other, by net and then by node.
 abbrev pub ComesBefore : NetNode → NetNode → Type 0
 ComesBefore x y = (x.net < y.net) ⊎ ((x.net ≡ y.net) × (x.node < y.node))

@@ -37,4 +37,4 @@ pub use fault::AddrFault;
 pub use items::Items;
 pub use laws::{address_order, address_read_back, one_spelling, written_lines_read_back};
 pub use listing::{add_list, next_token, read_list};
-pub use shortening::{write_path, write_seen};
+pub use shortening::{push_path, push_seen};

@@ -1,44 +1,40 @@
-ghost use Rattle.std.specs.Prelude.{◌≡◌, ◌+◌, ◌%◌, ◌<◌, ◌≤◌, ◌++◌, length, take, decimal, AllPairs, IfOk, OnOk};
-ghost use Rattle.echo_addr.specs.ShortLines.{ComesBefore, ShortLines, entries_text, entry_text, line_of, path_prefix, seen_prefix, shows_net};
+ghost use Rattle.std.specs.Prelude.{◌≡◌, ◌+◌, ◌%◌, ◌<◌, ◌≤◌, ◌++◌, length, take, decimal, AllPairs, OnOk};
+ghost use Rattle.echo_addr.specs.ShortLines.{AddsLines, ComesBefore, entries_text, entry_text, line_of, path_prefix, seen_prefix, shows_net};
 
 use crate::address::NetNode;
-use std::alloc::{AllocError, Global};
+use std::alloc::AllocError;
 
 /// The most bytes of a line before its 0D.
 const LINE_ROOM: usize = 79;
 
-/// The bytes of an entry in most lists, with its share of the line's beginning.
-const ENTRY_ROOM: usize = 6;
-
-/// The SEEN-BY lines of the entries (FTS-0004), each with its 0D. The entries ascend by net and node,
+/// Adds the SEEN-BY lines of the entries to a text (FTS-0004), each with its 0D. The entries ascend by net and node,
 /// without repeats.
-pub fn write_seen(alloc: Global, entries: &[NetNode]) -> Result<Vec<u8>, AllocError>
+pub fn push_seen(text: &mut Vec<u8>, entries: &[NetNode]) -> Result<(), AllocError>
     requires { AllPairs ComesBefore entries.now }
-    ensures { IfOk result (λ v. ShortLines seen_prefix entries.now v.items) }
+    ensures { OnOk result (AddsLines seen_prefix entries.now text.old.items text.new.items) }
 {
-    write_lines(alloc, b"SEEN-BY:", entries)
+    push_lines(text, b"SEEN-BY:", entries)
 }
 
-/// The PATH lines of the entries (FTS-0004), each with its 01 and 0D.
-pub fn write_path(alloc: Global, entries: &[NetNode]) -> Result<Vec<u8>, AllocError>
-    ensures { IfOk result (λ v. ShortLines path_prefix entries.now v.items) }
+/// Adds the PATH lines of the entries to a text (FTS-0004), each with its 01 and 0D.
+pub fn push_path(text: &mut Vec<u8>, entries: &[NetNode]) -> Result<(), AllocError>
+    ensures { OnOk result (AddsLines path_prefix entries.now text.old.items text.new.items) }
 {
-    write_lines(alloc, b"\x01PATH:", entries)
+    push_lines(text, b"\x01PATH:", entries)
 }
 
 /// A line for each run of entries that one line has room for.
-fn write_lines(alloc: Global, prefix: &[u8], entries: &[NetNode]) -> Result<Vec<u8>, AllocError>
+fn push_lines(text: &mut Vec<u8>, prefix: &[u8], entries: &[NetNode]) -> Result<(), AllocError>
     requires { length prefix.now ≤ 8 }
-    ensures { IfOk result (λ v. ShortLines prefix.now entries.now v.items) }
+    ensures { OnOk result (AddsLines prefix.now entries.now text.old.items text.new.items) }
 {
-    let mut lines = Vec::with_capacity(alloc, entries.len().saturating_mul(ENTRY_ROOM))?;
     let mut rest = entries;
     'runs: while !rest.is_empty() {
         let (run, after) = rest.split_at(run_len(LINE_ROOM - prefix.len(), rest));
-        push_line(&mut lines, prefix, run)?;
+        push_line(text, prefix, run)?;
         rest = after;
     }
-    Ok(lines)
+    Ok(())
 }
 
 /// How many entries from the front have room together.

@@ -8,7 +8,7 @@ ghost use Rattle.echo_filed.specs.Fields.{HasLength, IsByte, IsLong, IsLongStrin
 use crate::numbers::{long_of, word_of};
 use disk_io::{Broken, Source, fill_from, read_fixed};
 use echo_addr::{Address, Items};
-use std::alloc::{AllocError, Global};
+use std::alloc::AllocError;
 
 // How many bytes more than those that came room is made for.
 const STEP: usize = 4096;
@@ -74,23 +74,28 @@ fn take_piece<R: Source>(reader: &mut R, string: &mut Vec<u8>, size: usize) -> R
     Ok(())
 }
 
-// `size` bytes. Room grows with the bytes that come.
-fn read_part<R: Source>(alloc: Global, reader: &mut R, size: usize) -> Result<Items<u8>, Broken>
+// `size` bytes, in a vector. Room grows with the bytes that come.
+fn read_part<R: Source>(
+    mut string: Vec<u8>,
+    reader: &mut R,
+    size: usize,
+) -> Result<Items<u8>, Broken>
     ensures read { Reads (HasLength size) itself (R.remaining reader.old) (R.remaining reader.new) result }
     ensures device { CountsBreak result (R.failures reader.old) (R.failures reader.new) }
 {
-    let mut string = Vec::new(alloc);
+    string.clear();
     'pieces: while string.len() < size {
         take_piece(reader, &mut string, size)?;
     }
     Ok(Items::new(string))
 }
 
-// The parts in a row, `size` bytes together.
-fn joined(alloc: Global, parts: &[Items<u8>], size: usize) -> Result<Items<u8>, AllocError>
+// The parts in a row, `size` bytes together, in a vector.
+fn joined(mut string: Vec<u8>, parts: &[Items<u8>], size: usize) -> Result<Items<u8>, AllocError>
     ensures { IfOk result (λ string. string ≡ flat_map itself parts.now) }
 {
-    let mut string = Vec::with_capacity(alloc, size)?;
+    string.clear();
+    string.reserve_exact(size)?;
     'parts: for part in parts {
         string.extend_from_slice(part.as_slice())?;
     }
@@ -100,55 +105,57 @@ fn joined(alloc: Global, parts: &[Items<u8>], size: usize) -> Result<Items<u8>, 
 // `size` bytes, in parts that are joined when all have come: growing a long string would move it at
 // each step.
 fn read_long_string<R: Source>(
-    alloc: Global,
+    string: Vec<u8>,
     reader: &mut R,
     size: usize,
 ) -> Result<Items<u8>, Broken>
     ensures read { Reads (HasLength size) itself (R.remaining reader.old) (R.remaining reader.new) result }
     ensures device { CountsBreak result (R.failures reader.old) (R.failures reader.new) }
 {
+    let alloc = *string.allocator();
     let mut parts = Vec::new(alloc);
     let mut left = size;
     'parts: while left > 0 {
         let next = left.min(PART);
-        let part = read_part(alloc, reader, next)?;
+        let part = read_part(Vec::new(alloc), reader, next)?;
         parts.push(part)?;
         left -= next;
     }
-    Ok(joined(alloc, parts.as_slice(), size)?)
+    Ok(joined(string, parts.as_slice(), size)?)
 }
 
-fn read_string<R: Source>(alloc: Global, reader: &mut R, size: usize) -> Result<Items<u8>, Broken>
+fn read_string<R: Source>(string: Vec<u8>, reader: &mut R, size: usize) -> Result<Items<u8>, Broken>
     ensures read { Reads (HasLength size) itself (R.remaining reader.old) (R.remaining reader.new) result }
     ensures device { CountsBreak result (R.failures reader.old) (R.failures reader.new) }
 {
     if size <= PART {
-        return read_part(alloc, reader, size);
+        return read_part(string, reader, size);
     }
-    read_long_string(alloc, reader, size)
+    read_long_string(string, reader, size)
 }
 
-/// Bytes after their length, of one byte.
-pub(crate) fn read_short<R: Source>(alloc: Global, reader: &mut R) -> Result<Items<u8>, Broken>
+/// Bytes after their length, of one byte, in a vector.
+pub(crate) fn read_short<R: Source>(string: Vec<u8>, reader: &mut R) -> Result<Items<u8>, Broken>
     ensures read { Reads IsShortString after_length (R.remaining reader.old) (R.remaining reader.new) result }
     ensures device { CountsBreak result (R.failures reader.old) (R.failures reader.new) }
 {
     let size = read_byte(reader)?;
-    read_string(alloc, reader, size as usize)
+    read_string(string, reader, size as usize)
 }
 
-/// Bytes after their length, of four bytes.
-fn read_text<R: Source>(alloc: Global, reader: &mut R) -> Result<Items<u8>, Broken>
+/// Bytes after their length, of four bytes, in a vector.
+fn read_text<R: Source>(text: Vec<u8>, reader: &mut R) -> Result<Items<u8>, Broken>
     ensures read { Reads IsLongString after_long_length (R.remaining reader.old) (R.remaining reader.new) result }
     ensures device { CountsBreak result (R.failures reader.old) (R.failures reader.new) }
 {
     let size = read_long(reader)?;
-    read_string(alloc, reader, size as usize)
+    read_string(text, reader, size as usize)
 }
 
-/// The fields after the subject: the tag and the id, or no tag and the text.
+/// The fields after the subject, in two vectors: the tag and the id, or no tag and the text.
 pub(crate) fn read_last<R: Source>(
-    alloc: Global,
+    mut tag: Vec<u8>,
+    last: Vec<u8>,
     reader: &mut R,
     with_tag: bool,
 ) -> Result<(Items<u8>, Items<u8>), Broken>
@@ -156,10 +163,11 @@ pub(crate) fn read_last<R: Source>(
     ensures device { CountsBreak result (R.failures reader.old) (R.failures reader.new) }
 {
     if with_tag {
-        let tag = read_short(alloc, reader)?;
-        let last = read_text(alloc, reader)?;
+        let tag = read_short(tag, reader)?;
+        let last = read_text(last, reader)?;
         return Ok((tag, last));
     }
-    let last = read_text(alloc, reader)?;
-    Ok((Items::new(Vec::new(alloc)), last))
+    tag.clear();
+    let last = read_text(last, reader)?;
+    Ok((Items::new(tag), last))
 }

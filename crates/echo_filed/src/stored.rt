@@ -49,6 +49,29 @@ impl Model for StoredMessage {
     } };
 }
 
+/// Vectors that the strings of a stored message are read into. They may hold anything.
+#[derive(Drop)]
+pub struct StoredRoom {
+    pub to_name: Vec<u8>,
+    pub from_name: Vec<u8>,
+    pub subject: Vec<u8>,
+    pub tag: Vec<u8>,
+    pub last: Vec<u8>,
+}
+
+impl StoredRoom {
+    /// Empty vectors. Takes no memory.
+    pub fn new(alloc: Global) -> StoredRoom {
+        StoredRoom {
+            to_name: Vec::new(alloc),
+            from_name: Vec::new(alloc),
+            subject: Vec::new(alloc),
+            tag: Vec::new(alloc),
+            last: Vec::new(alloc),
+        }
+    }
+}
+
 /// Whether messages of this first byte have tag and id instead of the text.
 pub fn has_tag(version: Version, kind: u8) -> bool
     ensures { result ≡ has_tag version kind }
@@ -68,13 +91,25 @@ pub fn read_stored<R: Source>(
     ensures read { Reads (IsStored version) (stored_bytes version) (R.remaining reader.old) (R.remaining reader.new) result }
     ensures device { CountsBreak result (R.failures reader.old) (R.failures reader.new) }
 {
+    read_stored_into(StoredRoom::new(alloc), reader, version)
+}
+
+/// The next message, with its strings in the vectors of the room. Their content makes no difference.
+pub fn read_stored_into<R: Source>(
+    room: StoredRoom,
+    reader: &mut R,
+    version: Version,
+) -> Result<StoredMessage, Broken>
+    ensures read { Reads (IsStored version) (stored_bytes version) (R.remaining reader.old) (R.remaining reader.new) result }
+    ensures device { CountsBreak result (R.failures reader.old) (R.failures reader.new) }
+{
     let kind = read_byte(reader)?;
     let sender = read_address(reader)?;
     let date = read_date(reader)?;
-    let to_name = read_short(alloc, reader)?;
-    let from_name = read_short(alloc, reader)?;
-    let subject = read_short(alloc, reader)?;
-    let (tag, last) = read_last(alloc, reader, has_tag(version, kind))?;
+    let to_name = read_short(room.to_name, reader)?;
+    let from_name = read_short(room.from_name, reader)?;
+    let subject = read_short(room.subject, reader)?;
+    let (tag, last) = read_last(room.tag, room.last, reader, has_tag(version, kind))?;
     Ok(StoredMessage {
         kind,
         sender,

@@ -60,7 +60,16 @@ pub fn lines_of_id(alloc: Global, id: &[u8]) -> Result<Lines, AllocError>
     requires { IsLine (id_line msgid_word id.now) }
     ensures { IfOk result (λ lines. lines ≡ id_line msgid_word id.now ∷ []) }
 {
-    let mut text = Vec::with_capacity(alloc, ID_LINE.len() + id.len() + 1)?;
+    lines_of_id_into(Vec::new(alloc), id)
+}
+
+/// The same in a vector, which may hold anything.
+pub fn lines_of_id_into(mut text: Vec<u8>, id: &[u8]) -> Result<Lines, AllocError>
+    requires { IsLine (id_line msgid_word id.now) }
+    ensures { IfOk result (λ lines. lines ≡ id_line msgid_word id.now ∷ []) }
+{
+    text.clear();
+    text.reserve_exact(ID_LINE.len() + id.len() + 1)?;
     text.extend_from_slice(ID_LINE)?;
     push_line(&mut text, id)?;
     Ok(Lines::of_text(text))

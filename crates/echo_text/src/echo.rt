@@ -1,6 +1,7 @@
 use crate::found;
 use crate::kept::{KeptView, Lines};
 use echo_addr::{Items, NetNode};
+use std::alloc::Global;
 use std::marker::Model;
 
 /// A parsed echomail text (FTS-0004). The tag has 1 to 60 bytes from `!` to `~` without small
@@ -25,6 +26,27 @@ impl Model for Echo {
     ghost invariant = { λ e. IsEcho (record { tag = e.tag; kept = e.kept; seen = e.seen; path = e.path }) };
 
     ghost inverse = { λ e. record { tag = e.tag; kept = e.kept; seen = e.seen; path = e.path } };
+}
+
+/// Vectors that a text is read into. They may hold anything.
+#[derive(Drop)]
+pub struct EchoRoom {
+    pub tag: Vec<u8>,
+    pub kept: Vec<u8>,
+    pub seen: Vec<NetNode>,
+    pub path: Vec<NetNode>,
+}
+
+impl EchoRoom {
+    /// Empty vectors. Takes no memory.
+    pub fn new(alloc: Global) -> EchoRoom {
+        EchoRoom {
+            tag: Vec::new(alloc),
+            kept: Vec::new(alloc),
+            seen: Vec::new(alloc),
+            path: Vec::new(alloc),
+        }
+    }
 }
 
 /// The tag and the kept lines over a text: each kept line is a slice of it.
@@ -84,6 +106,16 @@ impl Echo {
         ensures { option_copied result ≡ origin_of self.now.kept }
     {
         found::origin(self.kept.as_text())
+    }
+
+    /// The vectors of an echo that is needed no more.
+    pub fn into_room(self) -> EchoRoom {
+        EchoRoom {
+            tag: self.tag.into_vec(),
+            kept: self.kept.into_text(),
+            seen: self.seen.into_vec(),
+            path: self.path.into_vec(),
+        }
     }
 }
 

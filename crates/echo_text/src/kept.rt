@@ -50,6 +50,13 @@ impl Lines {
         self.text.as_slice()
     }
 
+    /// The text of the lines.
+    pub fn into_text(self) -> Vec<u8>
+        ensures { result.items ≡ flat_map ended self }
+    {
+        self.text.into_vec()
+    }
+
     /// A copy of the lines.
     pub fn copy(&self, alloc: Global) -> Result<Lines, AllocError>
         ensures { IfOk result (λ lines. lines ≡ self.now) }
@@ -132,8 +139,16 @@ impl<'a> KeptView<'a> {
     pub fn to_lines(&self, alloc: Global) -> Result<Lines, AllocError>
         ensures { IfOk result (λ lines. lines ≡ self.now) }
     {
+        self.lines_into(Vec::new(alloc))
+    }
+
+    /// A copy of the lines in a vector.
+    pub(crate) fn lines_into(&self, mut text: Vec<u8>) -> Result<Lines, AllocError>
+        ensures { IfOk result (λ lines. lines ≡ self.now) }
+    {
         let room = self.body.len().saturating_add(1);
-        let mut text = Vec::with_capacity(alloc, room.saturating_add(kept_len(self.tail)))?;
+        text.clear();
+        text.reserve_exact(room.saturating_add(kept_len(self.tail)))?;
         push_lines(&mut text, self.body)?;
         push_kept(&mut text, self.tail)?;
         Ok(Lines::of_text(text))

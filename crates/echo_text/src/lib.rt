@@ -33,7 +33,7 @@ mod words;
 mod writing;
 
 pub use area::{MAX_TAG, is_kept_tag, is_tag};
-pub use echo::{Echo, EchoView, FrontView};
+pub use echo::{Echo, EchoRoom, EchoView, FrontView};
 pub use fault::TextFault;
 pub use id_laws::{
     doubled_quotes_undone, ids_differ, one_id_is_spelled, test_of_ids, written_id_read_back,
@@ -45,6 +45,6 @@ pub use laws::{
 };
 pub use lines::{push_line, push_lines, split_line};
 pub use msgid::{MsgId, serial_of};
-pub use reading::{read_text, view_front, view_text};
+pub use reading::{read_text, read_text_into, view_front, view_text};
 pub use words::{after_feeds, after_word, begins, is_control, is_tear, trimmed};
-pub use writing::{write_parts, write_text};
+pub use writing::{write_parts, write_text, write_text_into};

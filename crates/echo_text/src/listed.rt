@@ -6,11 +6,11 @@ ghost use Rattle.echo_text.specs.Tail.{all_dropped, all_entries, lists_of};
 use crate::lines::split_line;
 use crate::words::after_word;
 use echo_addr::{NetNode, add_list, put_in_order};
-use std::alloc::{AllocError, Global};
+use std::alloc::AllocError;
 
-/// The entries of the lines that begin with the word, in order, and how many tokens were dropped.
-pub(crate) fn entries_of(
-    alloc: Global,
+/// The entries of the lines that begin with the word, in order and in a vector, and how many tokens were dropped.
+pub(crate) fn entries_into(
+    mut found: Vec<NetNode>,
     word: &[u8],
     tail: &[u8],
 ) -> Result<(Vec<NetNode>, usize), AllocError>
@@ -18,7 +18,7 @@ pub(crate) fn entries_of(
     ensures entries { IfOk result (λ r. r.0.items ≡ all_entries (lists_of word.now (lines tail.now))) }
     ensures dropped { IfOk result (λ r. r.1 ≡ all_dropped (lists_of word.now (lines tail.now))) }
 {
-    let mut found = Vec::new(alloc);
+    found.clear();
     let mut dropped = 0;
     let mut rest = tail;
     'lines: while !rest.is_empty() {

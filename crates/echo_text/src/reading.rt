@@ -1,14 +1,15 @@
-ghost use Rattle.std.specs.Prelude.{IfOk, MatchResult};
+ghost use Rattle.std.specs.Prelude.{◌≡◌, map, IfOk, MatchResult};
+ghost use Rattle.std.specs.Char.{to_ascii_uppercase};
 ghost use Rattle.echo_text.specs.Echo.{EchoOf, FrontOf, HasNoZero, ListsOf};
 ghost use Rattle.echo_text.specs.Lines.{later_lines, lines};
 ghost use Rattle.echo_text.specs.Refusal.{IsTextFault, TextAnswers};
 
 use crate::area::tag_of;
-use crate::echo::{Echo, EchoView, FrontView};
+use crate::echo::{Echo, EchoRoom, EchoView, FrontView};
 use crate::fault::TextFault;
 use crate::kept::KeptView;
 use crate::lines::split_line;
-use crate::listed::{entries_of, set_of};
+use crate::listed::{entries_into, set_of};
 use crate::tail::split_tail;
 use crate::words::{PATH, SEEN_BY};
 use echo_addr::{Items, NetNode};
@@ -21,7 +22,7 @@ pub fn view_text<'a>(alloc: Global, text: &'a [u8]) -> Result<(EchoView<'a>, usi
     ensures { TextAnswers text.now result }
 {
     let front = view_front(alloc, text)?;
-    let lists = lists_in(alloc, text)?;
+    let lists = lists_into(Vec::new(alloc), Vec::new(alloc), text)?;
     let view = EchoView {
         tag: front.tag,
         kept: front.kept,
@@ -36,8 +37,16 @@ pub fn read_text(alloc: Global, text: &[u8]) -> Result<(Echo, usize), TextFault>
     requires { HasNoZero text.now }
     ensures { TextAnswers text.now result }
 {
-    let front = view_front(alloc, text)?;
-    let read = front.into_echo(alloc, text)?;
+    read_text_into(EchoRoom::new(alloc), text)
+}
+
+/// The same in the vectors of the room. Their content makes no difference.
+pub fn read_text_into(room: EchoRoom, text: &[u8]) -> Result<(Echo, usize), TextFault>
+    requires { HasNoZero text.now }
+    ensures { TextAnswers text.now result }
+{
+    let front = front_into(room.tag, text)?;
+    let read = front.echo_into(room.kept, room.seen, room.path, text)?;
     Ok(read)
 }
 
@@ -45,14 +54,31 @@ pub fn read_text(alloc: Global, text: &[u8]) -> Result<(Echo, usize), TextFault>
 pub fn view_front<'a>(alloc: Global, text: &'a [u8]) -> Result<FrontView<'a>, TextFault>
     ensures { MatchResult result (λ front. FrontOf text.now front.tag front.kept) (IsTextFault text.now) }
 {
+    front_into(Vec::new(alloc), text)
+}
+
+/// The same with the tag in a vector.
+fn front_into<'a>(tag: Vec<u8>, text: &'a [u8]) -> Result<FrontView<'a>, TextFault>
+    ensures { MatchResult result (λ front. FrontOf text.now front.tag front.kept) (IsTextFault text.now) }
+{
     let (first, rest) = split_line(text);
     let raw = tag_of(first)?;
-    let tag = raw.to_ascii_uppercase(alloc)?;
+    let tag = upper_case_into(tag, raw)?;
     let (body, tail) = split_tail(rest);
     Ok(FrontView {
         tag: Items::new(tag),
         kept: KeptView::new(body, tail),
     })
+}
+
+/// The bytes in upper case, in a vector.
+fn upper_case_into(mut upper: Vec<u8>, bytes: &[u8]) -> Result<Vec<u8>, AllocError>
+    ensures { IfOk result (λ upper. upper.items ≡ map to_ascii_uppercase bytes.now) }
+{
+    upper.clear();
+    upper.extend_from_slice(bytes)?;
+    upper.make_ascii_uppercase();
+    Ok(upper)
 }
 
 impl<'a> FrontView<'a> {
@@ -62,8 +88,23 @@ impl<'a> FrontView<'a> {
         requires front { FrontOf text.now self.tag self.kept }
         ensures { IfOk result (λ read. EchoOf text.now read.0 read.1) }
     {
-        let lists = lists_in(alloc, text)?;
-        let kept = self.kept.to_lines(alloc)?;
+        self.echo_into(Vec::new(alloc), Vec::new(alloc), Vec::new(alloc), text)
+    }
+
+    /// The same in these vectors.
+    fn echo_into(
+        self,
+        kept: Vec<u8>,
+        seen: Vec<NetNode>,
+        path: Vec<NetNode>,
+        text: &[u8],
+    ) -> Result<(Echo, usize), AllocError>
+        requires zero { HasNoZero text.now }
+        requires front { FrontOf text.now self.tag self.kept }
+        ensures { IfOk result (λ read. EchoOf text.now read.0 read.1) }
+    {
+        let lists = lists_into(seen, path, text)?;
+        let kept = self.kept.lines_into(kept)?;
         let echo = Echo {
             tag: self.tag,
             kept,
@@ -82,14 +123,14 @@ struct Lists {
     dropped: usize,
 }
 
-/// The lists of the text's control tail.
-fn lists_in(alloc: Global, text: &[u8]) -> Result<Lists, AllocError>
+/// The lists of the text's control tail, in these vectors.
+fn lists_into(seen: Vec<NetNode>, path: Vec<NetNode>, text: &[u8]) -> Result<Lists, AllocError>
     ensures { IfOk result (λ l. ListsOf (later_lines (lines text.now)) l.seen.items l.path.items l.dropped) }
 {
     let (_, rest) = split_line(text);
     let (_, tail) = split_tail(rest);
-    let (seen, seen_dropped) = entries_of(alloc, SEEN_BY, tail)?;
-    let (path, path_dropped) = entries_of(alloc, PATH, tail)?;
+    let (seen, seen_dropped) = entries_into(seen, SEEN_BY, tail)?;
+    let (path, path_dropped) = entries_into(path, PATH, tail)?;
     Ok(Lists {
         seen: set_of(seen),
         path,

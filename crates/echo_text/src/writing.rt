@@ -1,4 +1,4 @@
-ghost use Rattle.std.specs.Prelude.{AllPairs, IfOk};
+ghost use Rattle.std.specs.Prelude.{AllPairs, IfOk, OnOk};
 ghost use Rattle.echo_addr.specs.ShortLines.{ComesBefore};
 ghost use Rattle.echo_text.specs.Echo.{TextOf};
 
@@ -6,7 +6,7 @@ use crate::echo::Echo;
 use crate::kept::Lines;
 use crate::lines::push_line;
 use crate::words::AREA;
-use echo_addr::{NetNode, write_path, write_seen};
+use echo_addr::{NetNode, push_path, push_seen};
 use std::alloc::{AllocError, Global};
 
 /// The text of an echo (FTS-0004): the AREA line, the kept lines, the SEEN-BY lines and the PATH
@@ -14,10 +14,19 @@ use std::alloc::{AllocError, Global};
 pub fn write_text(alloc: Global, echo: &Echo) -> Result<Vec<u8>, AllocError>
     ensures { IfOk result (λ text. TextOf echo.now text.items) }
 {
+    let mut text = Vec::new(alloc);
+    write_text_into(&mut text, echo)?;
+    Ok(text)
+}
+
+/// The same in a vector, in place of what it held.
+pub fn write_text_into(text: &mut Vec<u8>, echo: &Echo) -> Result<(), AllocError>
+    ensures { OnOk result (TextOf echo.now text.new.items) }
+{
     let tag = echo.tag.as_slice();
     let seen = echo.seen.as_slice();
     let path = echo.path.as_slice();
-    write_parts(alloc, tag, &echo.kept, seen, path)
+    write_parts_into(text, tag, &echo.kept, seen, path)
 }
 
 /// The text of an echo with these parts, as `write_text` has it. The entries of SEEN-BY ascend without
@@ -32,15 +41,32 @@ pub fn write_parts(
     requires { AllPairs ComesBefore seen.now }
     ensures { IfOk result (λ text. TextOf (record { tag = tag.now; kept = kept.now; seen = seen.now; path = path.now }) text.items) }
 {
+    let mut text = Vec::new(alloc);
+    write_parts_into(&mut text, tag, kept, seen, path)?;
+    Ok(text)
+}
+
+/// The same in a vector, in place of what it held.
+fn write_parts_into(
+    text: &mut Vec<u8>,
+    tag: &[u8],
+    kept: &Lines,
+    seen: &[NetNode],
+    path: &[NetNode],
+) -> Result<(), AllocError>
+    requires { AllPairs ComesBefore seen.now }
+    ensures { OnOk result (TextOf (record { tag = tag.now; kept = kept.now; seen = seen.now; path = path.now }) text.new.items) }
+{
     let kept = kept.as_text();
     let entries = seen.len().saturating_add(path.len());
-    let mut text = Vec::with_capacity(alloc, room_of(kept, entries))?;
+    text.clear();
+    text.reserve_exact(room_of(kept, entries))?;
     text.extend_from_slice(AREA)?;
-    push_line(&mut text, tag)?;
+    push_line(text, tag)?;
     text.extend_from_slice(kept)?;
-    text.extend_from_slice(&write_seen(alloc, seen)?)?;
-    text.extend_from_slice(&write_path(alloc, path)?)?;
-    Ok(text)
+    push_seen(text, seen)?;
+    push_path(text, path)?;
+    Ok(())
 }
 
 /// How many bytes most lines of SEEN-BY and PATH have at most, and how many an entry has there.

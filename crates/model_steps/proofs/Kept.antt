@@ -28,11 +28,6 @@ use Rattle.model_steps.proofs.Dates.{month_within as month_right}
 month_long : (month : ℕ) → 1 ≤ month → month ≤ 12 → length (month_name month) ≡ 3
 month_long month low high = grind (arith, length-take, length-drop)
 
-abbrev after_month : Stamp → List ℕ
-after_month s =
-    codes " " ++ (two_digits s.year ++ (codes "  " ++ (two_digits s.hour ++ (codes ":" ++ (two_digits s.minute
-    ++ (codes ":" ++ (two_digits s.second ++ 0 ∷ [])))))))
-
 date_long : (s : Stamp) → is_stamp s ≡ true → length (date_of s) ≡ 20
 unfolding date_of
 date_long s h = grind (arith, month_right, month_long, length-append)

@@ -1,5 +1,5 @@
 -- One more message after a base file, and all messages scanned.
-use Rattle.std.proofs.Common.{◌≡◌, ℕ, ◌+◌, ◌-◌, ◌*◌, ◌/◌, ◌<◌, ◌≤◌, ◌^◌, ◌&&◌, nat_lt, Bool, false, true, List, [], ◌∷◌, ◌++◌, length, take, drop, refl, sym, ap, subst, ◌∙◌, Some, Ok, ◌⊎◌, arith, append_assoc, length-append, length-drop, ⊎_elim}
+use Rattle.std.proofs.Common.{◌≡◌, ℕ, ◌+◌, ◌-◌, ◌/◌, ◌<◌, ◌≤◌, ◌^◌, ◌&&◌, nat_lt, Bool, false, true, List, [], ◌∷◌, ◌++◌, length, take, drop, refl, sym, ap, subst, ◌∙◌, Some, Ok, ◌⊎◌, arith, append_assoc, length-append, length-drop, ⊎_elim}
 use Rattle.std.specs.Prelude.{slice_get}
 use Rattle.std.specs.List.{flat_map, list_all}
 use Rattle.std.proofs.lemmas.Bool.{cases_lt, le-ltb, lt-ltb, ltb-true, ltb-false}
@@ -12,7 +12,7 @@ use Rattle.base_file.specs.Base.{Base, IsBase, is_known}
 use Rattle.base_file.specs.BaseFile.{LoadOf, head_bytes, is_countable, saved_bytes, stored_at, stored_from}
 use Rattle.base_file.proofs.Saved.{saved_loads}
 use Rattle.base_file.proofs.SavedMessages.{all_more, countable_if, countable_parts, enough_more, saved_parts, stored_here}
-use Rattle.base_store.specs.Keys.{FolderRepresents, IsPieceOf, digested, entry}
+use Rattle.base_store.specs.Keys.{FolderRepresents, digested, entry}
 use Rattle.base_store.specs.Store.{all_scanned, with_message}
 use Rattle.base_store.specs.Sip.{sip_digest}
 use Rattle.base_store.specs.declared.sip.SipDigest.{SipDigest}
@@ -228,18 +228,3 @@ module _ (file later : List ℕ) (e f : Entries) (inside : e.end ≤ length file
       let all : take f.end later ≡ later = take_all f.end later (omega (arith, put_long)) in
       sym ((λ i. drop 16 (all i) ++ none i) ∙ append-nil (drop 16 later) ∙ ap (λ (l : List ℕ). drop 16 l) is
       ∙ drop_at (head_bytes Second e.cursor (length e.keys.items / 16)) (message_bytes file e) 16 (head_long e.cursor (length e.keys.items / 16)))
-
--- the entries from an index on
-pub piece_behind : (keys : List ℕ) (from : ℕ) → 16 * (length keys / 16) ≡ length keys → from < length keys / 16 → IsPieceOf keys from (take (length keys - 16 * from) (drop (16 * from) keys))
-piece_behind keys from even less =
-    let long = length-drop (16 * from) keys in
-    let all : take (length keys - 16 * from) (drop (16 * from) keys) ≡ drop (16 * from) keys = take_all (length keys - 16 * from) (drop (16 * from) keys) (omega (arith, long)) in
-    record {
-      rest = [];
-      within = omega (arith, even, less);
-      behind = sym (append-nil _ ∙ all);
-      even = omega (arith, ap (λ (l : List ℕ). length l) all, long, even, less);
-    }
-
-pub piece_long : (keys : List ℕ) (from : ℕ) → length (take (length keys - 16 * from) (drop (16 * from) keys)) ≡ length keys - 16 * from
-piece_long keys from = let long = length-drop (16 * from) keys in length-take-le (length keys - 16 * from) (drop (16 * from) keys) (omega (arith, long))

@@ -8,7 +8,7 @@ use Rattle.echo_filed.specs.declared.stored.Version.TheVariants.{Second}
 use Rattle.base_file.specs.Base.{Base}
 use Rattle.base_file.specs.BaseFile.{head_bytes, is_countable, stored_from}
 use Rattle.base_folder_store.specs.Ahead.{IsPartOf}
-use Rattle.base_store.specs.Index.{IsIndexOf}
+use Rattle.base_store.specs.Chains.{AreChains}
 use Rattle.base_store.specs.Keys.{FolderRepresents}
 use Rattle.base_store.specs.Sip.{sip_digest}
 use Rattle.base_store.specs.declared.store_error.StoreError.{StoreError}
@@ -33,10 +33,10 @@ pub record IsWithinFile (disk : DiskState) (path : List ℕ) (e : Entries) : Typ
   pub long : e.end ≤ length (bytes_in (disk.seen path))
   pub ahead : IsPartOf (bytes_in (disk.seen path)) e.ahead
 
--- The entries are whole, the index is one of them, and the messages end after the head of the file.
+-- The entries are whole, the chains are made of the first of them, and the messages end after the head of the file.
 pub record AreIndexed (e : Entries) : Type 0 where
   pub even : 16 * (length e.keys.items / 16) ≡ length e.keys.items
-  pub index : IsIndexOf e.keys.items e.index
+  pub chains : AreChains e.keys.items e.chains
   pub head : 16 ≤ e.end
   pub fits : e.end < 2 ^ 64
 

@@ -1,4 +1,5 @@
-//! A base file with its messages left in the file: in memory are the place and the digest of each.
+//! A base file with its messages left in the file. In memory are the place and the digest of each, and chains for
+//! look-ups: some 24 bytes a message.
 ghost use Rattle.std.specs.Prelude.{◌≡◌, ◌≤◌, ◌<◌, ◌+◌, ◌-◌, ◌/◌, ◌++◌, List, length, IfOk, IsErrOf, IsSome, Some, drop, slice_get, take};
 ghost use Rattle.disk_io.specs.Disk.{Honestly, bytes_in};
 ghost use Rattle.disk_io.specs.Runs.{ChangesNothing, HasCause};
@@ -8,8 +9,9 @@ ghost use Rattle.base_folder_store.specs.Answers.{Answers, HasReadCause, IsStore
 ghost use Rattle.base_folder_store.specs.Ahead.{IsPartOf};
 ghost use Rattle.station_bases.specs.Entries.{CanLookUp, IsWithinFile, message_bytes};
 
+use base_file::MessageRoom;
 use base_folder_store::{ReadAhead, bounds_of, read_alone};
-use base_store::{Index, SipDigest, StoreError};
+use base_store::{Chains, SipDigest, StoreError};
 use disk_io::{Disk, DiskError, read_part};
 use echo_filed::Filed;
 use std::alloc::Global;
@@ -31,11 +33,12 @@ pub struct Entries {
     pub(crate) odd: bool,
     pub(crate) waiting: Vec<u8>,
     pub(crate) keys: Vec<u8>,
-    pub(crate) index: Index,
+    pub(crate) chains: Chains,
     // The current message.
     pub(crate) message: Option<Filed>,
     // The part of the file that was read ahead.
     pub(crate) ahead: ReadAhead,
+    pub(crate) room: MessageRoom,
 }
 
 // The bytes between two places behind the head of a file. The last ones wait to be written.
@@ -131,7 +134,7 @@ impl Entries {
         ensures read { Honestly (D.state disk.new) ((base : List Filed) → AreWhereRecorded base (message_bytes (bytes_in ((D.state disk.old).seen path.now)) self.old) self.old.keys.items
             → place < length base → Answers (λ message. slice_get base place ≡ Some message) result) }
         ensures ahead { Honestly (D.state disk.new) (IsPartOf (bytes_in ((D.state disk.old).seen path.now)) self.new.ahead) }
-        ensures same { self.new ≡ record self.old { ahead = self.new.ahead } }
+        ensures same { self.new ≡ record self.old { ahead = self.new.ahead; room = self.new.room } }
         ensures quiet { ChangesNothing (D.state disk.old) (D.state disk.new) }
         ensures cause { HasReadCause (D.failures disk.old) (D.failures disk.new) result }
         ensures few { IsErrOf result StoreError.TooMany → ⊥ }
@@ -145,12 +148,12 @@ impl Entries {
         };
         if at.ends > written {
             let bytes = self.stored(alloc, disk, path, place)?;
-            return read_alone(alloc, &bytes);
+            return read_alone(&mut self.room, &bytes);
         }
         let (begins, ends) = (HEAD + at.begins, HEAD + at.ends);
-        self.ahead.read(alloc, disk, path, self.end, begins, ends)?;
+        self.ahead.read(disk, path, self.end, begins, ends)?;
         match self.ahead.part(begins, ends) {
-            Some(bytes) => read_alone(alloc, bytes),
+            Some(bytes) => read_alone(&mut self.room, bytes),
             None => Err(StoreError::Damaged),
         }
     }

@@ -12,7 +12,7 @@ ghost use Rattle.station_bases.specs.Entries.{AreIndexed, CanLookUp, HasRoomFor,
 
 use crate::entries::Entries;
 use base_folder_store::Id;
-use base_store::{Digest, StoreError, bytes_of_key};
+use base_store::{Digest, StoreError, digest_of_key};
 use disk_io::Disk;
 use echo_filed::{Filed, Key};
 use std::alloc::Global;
@@ -29,14 +29,13 @@ impl Entries {
         requires can { CanLookUp (D.state disk.old) path.now self.old }
         ensures found { Honestly (D.state disk.new) ((base : Base) → HoldEntries (bytes_in ((D.state disk.old).seen path.now)) self.old base
             → Answers (λ found. found ≡ is_known base.messages key.now) result) }
-        ensures same { self.new ≡ record self.old { index = self.new.index } }
+        ensures same { self.new ≡ record self.old { chains = self.new.chains } }
         ensures indexed { AreIndexed self.new }
         ensures quiet { ChangesNothing (D.state disk.old) (D.state disk.new) }
         ensures cause { HasReadCause (D.failures disk.old) (D.failures disk.new) result }
         ensures few { IsErrOf result StoreError.TooMany → ⊥ }
     {
-        let bytes = bytes_of_key(alloc, key)?;
-        let digest = self.digest.of(&bytes);
+        let digest = digest_of_key(alloc, &self.digest, key)?;
         self.find(alloc, disk, path, key, digest)
     }
 
@@ -51,7 +50,7 @@ impl Entries {
         requires can { CanLookUp (D.state disk.old) path.now self.old }
         ensures found { Honestly (D.state disk.new) ((base : Base) → HoldEntries (bytes_in ((D.state disk.old).seen path.now)) self.old base
             → Answers (λ found. found ≡ list_any (has_id msgid.now) base.messages) result) }
-        ensures same { self.new ≡ record self.old { index = self.new.index } }
+        ensures same { self.new ≡ record self.old { chains = self.new.chains } }
         ensures indexed { AreIndexed self.new }
         ensures quiet { ChangesNothing (D.state disk.old) (D.state disk.new) }
         ensures cause { HasReadCause (D.failures disk.old) (D.failures disk.new) result }
@@ -72,7 +71,7 @@ impl Entries {
         requires can { CanLookUp (D.state disk.old) path.now self.old }
         ensures fetched { Honestly (D.state disk.new) ((base : Base) → HoldEntries (bytes_in ((D.state disk.old).seen path.now)) self.old base
             → place < length base.messages → Answers (λ done. self.new.message ≡ slice_get base.messages place) result) }
-        ensures same { self.new ≡ record self.old { message = self.new.message; ahead = self.new.ahead } }
+        ensures same { self.new ≡ record self.old { message = self.new.message; ahead = self.new.ahead; room = self.new.room } }
         ensures ahead { Honestly (D.state disk.new) (IsPartOf (bytes_in ((D.state disk.old).seen path.now)) self.new.ahead) }
         ensures quiet { ChangesNothing (D.state disk.old) (D.state disk.new) }
         ensures cause { HasReadCause (D.failures disk.old) (D.failures disk.new) result }
@@ -82,7 +81,8 @@ impl Entries {
             return Err(StoreError::Damaged);
         }
         let message = self.read(alloc, disk, path, place)?;
-        self.message = Some(message);
+        let gone = self.message.replace(message);
+        self.room.take_back(gone);
         Ok(())
     }
 
@@ -111,8 +111,7 @@ impl Entries {
         ensures whole { IsErrOf result StoreError.Damaged → ⊥ }
         ensures device { IsErrOf result StoreError.Device → ⊥ }
     {
-        let bytes = bytes_of_key(alloc, key)?;
-        let digest = self.digest.of(&bytes);
+        let digest = digest_of_key(alloc, &self.digest, key)?;
         self.add(alloc, message, digest)
     }
 

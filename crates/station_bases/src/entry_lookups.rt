@@ -1,49 +1,22 @@
 //! A message of a base file looked up by its digest. Only messages that have it are read, and keys are compared whole.
-ghost use Rattle.std.specs.Prelude.{◌≡◌, ◌≤◌, ◌*◌, ◌/◌, List, length, IsErrOf, OnOk};
+ghost use Rattle.std.specs.Prelude.{◌≡◌, List, IsErrOf};
 ghost use Rattle.std.specs.List.{list_any};
 ghost use Rattle.disk_io.specs.Disk.{Honestly, bytes_in};
 ghost use Rattle.disk_io.specs.Runs.{ChangesNothing};
 ghost use Rattle.echo_filed.specs.Filed.{Filed};
-ghost use Rattle.base_store.specs.Index.{IsIndexOf, covered};
 ghost use Rattle.base_store.specs.Keys.{AreWhereRecorded};
 ghost use Rattle.base_folder_store.specs.Answers.{Answers, HasReadCause, HaveDigest};
 ghost use Rattle.station_bases.specs.Entries.{AreIndexed, CanLookUp, message_bytes};
 
-use crate::entries::{ENTRY, Entries};
+use crate::entries::Entries;
 use base_folder_store::{Sought, is_stored};
-use base_store::{Index, StoreError};
+use base_store::StoreError;
 use disk_io::Disk;
-use std::alloc::{AllocError, Global};
-
-// Takes the entries into the index that it lacks for a look-up of the digest.
-fn take_rest(keys: &[u8], index: &mut Index, digest: u64) -> Result<(), AllocError>
-    requires even { 16 * (length keys.now / 16) ≡ length keys.now }
-    requires indexed { IsIndexOf keys.now index.old }
-    ensures indexed { IsIndexOf keys.now index.new }
-    ensures covered { OnOk result (length keys.now / 16 ≤ covered index.new digest) }
-{
-    let from = index.covered(digest);
-    if from < keys.len() / ENTRY {
-        return index.take_in(digest, from, &keys[ENTRY * from..]);
-    }
-    Ok(())
-}
-
-// The index then covers all entries for a look-up of the digest.
-fn cover(alloc: Global, keys: &[u8], index: &mut Index, digest: u64) -> Result<(), AllocError>
-    requires even { 16 * (length keys.now / 16) ≡ length keys.now }
-    requires indexed { IsIndexOf keys.now index.old }
-    ensures indexed { IsIndexOf keys.now index.new }
-    ensures covered { OnOk result (length keys.now / 16 ≤ covered index.new digest) }
-{
-    take_rest(keys, index, digest)?;
-    index.chain(alloc, digest);
-    Ok(())
-}
+use std::alloc::Global;
 
 impl Entries {
-    // Whether a message is the sought one. The index covers all entries for the digest.
-    fn find_covered<D: Disk, W: Sought>(
+    // Whether a message is the sought one, if each such message has the digest.
+    fn search<D: Disk, W: Sought>(
         &self,
         alloc: Global,
         disk: &mut D,
@@ -52,7 +25,6 @@ impl Entries {
         digest: u64,
     ) -> Result<bool, StoreError>
         requires can { CanLookUp (D.state disk.old) path.now self.now }
-        requires covered { length self.now.keys.items / 16 ≤ covered self.now.index digest }
         ensures found { Honestly (D.state disk.new) ((base : List Filed) → AreWhereRecorded base (message_bytes (bytes_in ((D.state disk.old).seen path.now)) self.now) self.now.keys.items
             → HaveDigest (W.test sought.now) digest base self.now.keys.items
             → Answers (λ found. found ≡ list_any (W.test sought.now) base) result) }
@@ -61,7 +33,7 @@ impl Entries {
         ensures few { IsErrOf result StoreError.TooMany → ⊥ }
     {
         let mut below = self.count();
-        'entries: while let Some(place) = self.index.find_below(digest, below) {
+        'entries: while let Some(place) = self.chains.find_below(&self.keys, digest, below) {
             let bytes = self.stored(alloc, disk, path, place)?;
             if is_stored(alloc, sought, &bytes)? {
                 return Ok(true);
@@ -71,7 +43,8 @@ impl Entries {
         Ok(false)
     }
 
-    /// Whether a message is the sought one, if each such message has the digest.
+    /// Whether a message is the sought one, if each such message has the digest. Chains are made of all entries first.
+    /// If memory is refused, it goes over the entries that are not chained.
     pub(crate) fn find<D: Disk, W: Sought>(
         &mut self,
         alloc: Global,
@@ -84,13 +57,13 @@ impl Entries {
         ensures found { Honestly (D.state disk.new) ((base : List Filed) → AreWhereRecorded base (message_bytes (bytes_in ((D.state disk.old).seen path.now)) self.old) self.old.keys.items
             → HaveDigest (W.test sought.now) digest base self.old.keys.items
             → Answers (λ found. found ≡ list_any (W.test sought.now) base) result) }
-        ensures same { self.new ≡ record self.old { index = self.new.index } }
+        ensures same { self.new ≡ record self.old { chains = self.new.chains } }
         ensures indexed { AreIndexed self.new }
         ensures quiet { ChangesNothing (D.state disk.old) (D.state disk.new) }
         ensures cause { HasReadCause (D.failures disk.old) (D.failures disk.new) result }
         ensures few { IsErrOf result StoreError.TooMany → ⊥ }
     {
-        cover(alloc, &self.keys, &mut self.index, digest)?;
-        self.find_covered(alloc, disk, path, sought, digest)
+        let _followed = self.chains.follow(alloc, &self.keys);
+        self.search(alloc, disk, path, sought, digest)
     }
 }

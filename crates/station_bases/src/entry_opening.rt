@@ -13,11 +13,11 @@ ghost use Rattle.station_bases.specs.Entries.{AreEntriesOf, AreIndexed, CanLookU
 ghost use Rattle.station_bases.specs.EntryOpening.{AreJudged, HasJudged, IsPartOf, IsSoundIn, StaysIndexed};
 
 use crate::entries::{Entries, HEAD};
-use base_file::{Head, Next, head_of, judge_next};
+use base_file::{Head, MessageRoom, Next, head_of, judge_next};
 use base_folder_store::ReadAhead;
-use base_store::{Digest, Index, SipDigest, StoreError, bytes_of_key, entry};
+use base_store::{Chains, SipDigest, StoreError, digest_of_key, entry};
 use cmd_status::MessageProgress;
-use disk_io::{Disk, DiskError, read_part};
+use disk_io::{Disk, DiskError, read_part_into};
 use echo_filed::{Key, Version};
 use std::alloc::{AllocError, Global};
 
@@ -26,11 +26,50 @@ const PIECE: usize = 262_144;
 
 const LARGE: usize = 33_554_432;
 
-/// Some bytes of a file, from a place on.
+/// Some bytes of a file, from a place on, and room for a message.
 #[derive(Drop)]
 pub struct Piece {
     begins: usize,
     bytes: Vec<u8>,
+    room: MessageRoom,
+}
+
+impl Piece {
+    // No bytes.
+    fn new(alloc: Global) -> Piece {
+        Piece {
+            begins: 0,
+            bytes: Vec::new(alloc),
+            room: MessageRoom::new(alloc),
+        }
+    }
+
+    // Takes so many bytes from a place on, or those up to the end of the file. After a fault it has no bytes.
+    fn fill<D: Disk>(
+        &mut self,
+        disk: &mut D,
+        path: &[u8],
+        at: usize,
+        most: usize,
+        len: usize,
+    ) -> Result<(), DiskError>
+        requires there { Honestly (D.state disk.old) (IsSome ((D.state disk.old).seen path.now)) }
+        requires long { Honestly (D.state disk.old) (len ≤ length (bytes_in ((D.state disk.old).seen path.now))) }
+        ensures part { Honestly (D.state disk.new) (IsPartOf (bytes_in ((D.state disk.old).seen path.now)) self.new) }
+        ensures begins { self.new.begins ≡ min at len }
+        ensures quiet { ChangesNothing (D.state disk.old) (D.state disk.new) }
+        ensures cause { HasCause (D.failures disk.old) (D.failures disk.new) result }
+    {
+        self.begins = at.min(len);
+        let end = self.begins + most.min(len - self.begins);
+        match read_part_into(disk, path, self.begins, end, &mut self.bytes) {
+            Ok(()) => Ok(()),
+            Err(fault) => {
+                self.bytes.clear();
+                Err(fault)
+            }
+        }
+    }
 }
 
 /// A message that no rule refuses by itself: its key, how many bytes it has, and whether a scan changes its form.
@@ -43,50 +82,28 @@ pub struct Sound {
 
 // The message at this place of the file, if it is sound and whole in the piece.
 fn sound_in(
-    alloc: Global,
+    piece: &mut Piece,
     head: Head,
     place: usize,
-    piece: &Piece,
     at: usize,
 ) -> Result<Option<Sound>, AllocError>
     requires { head.version ≡ Second }
-    ensures { (file : List ℕ) → IsPartOf file piece.now
+    ensures part { (file : List ℕ) → IsPartOf file piece.old → IsPartOf file piece.new }
+    ensures sound { (file : List ℕ) → IsPartOf file piece.old
         → IfOk result (λ found. IfSome found (λ sound. IsSoundIn head.cursor place (drop at file) sound.key sound.size sound.short)) }
 {
     if at < piece.begins || at - piece.begins > piece.bytes.len() {
         return Ok(None);
     }
-    match judge_next(alloc, head, place, &piece.bytes[at - piece.begins..])? {
+    let bytes = &piece.bytes[at - piece.begins..];
+    match judge_next(&mut piece.room, head, place, bytes)? {
         Next::Sound { key, size, short } => Ok(Some(Sound { key, size, short })),
         _ => Ok(None),
     }
 }
 
-// So many bytes from a place on, or those up to the end of the file.
-fn read_piece<D: Disk>(
-    alloc: Global,
-    disk: &mut D,
-    path: &[u8],
-    at: usize,
-    most: usize,
-    len: usize,
-) -> Result<Piece, DiskError>
-    requires there { Honestly (D.state disk.old) (IsSome ((D.state disk.old).seen path.now)) }
-    requires long { Honestly (D.state disk.old) (len ≤ length (bytes_in ((D.state disk.old).seen path.now))) }
-    ensures part { Honestly (D.state disk.new) (IfOk result (IsPartOf (bytes_in ((D.state disk.old).seen path.now)))) }
-    ensures begins { IfOk result (λ piece. piece.begins ≡ min at len) }
-    ensures quiet { ChangesNothing (D.state disk.old) (D.state disk.new) }
-    ensures cause { HasCause (D.failures disk.old) (D.failures disk.new) result }
-{
-    let begins = at.min(len);
-    let end = begins + most.min(len - begins);
-    let bytes = read_part(alloc, disk, path, begins, end)?;
-    Ok(Piece { begins, bytes })
-}
-
 // Reads so many bytes from the message on, which is at this place of the file, and judges it.
 fn read_sound<D: Disk>(
-    alloc: Global,
     disk: &mut D,
     path: &[u8],
     head: Head,
@@ -104,14 +121,13 @@ fn read_sound<D: Disk>(
     ensures cause { HasCause (D.failures disk.old) (D.failures disk.new) result }
 {
     let len = disk.len(path)?;
-    *piece = read_piece(alloc, disk, path, at.1, most, len)?;
-    let sound = sound_in(alloc, head, at.0, piece, at.1)?;
+    piece.fill(disk, path, at.1, most, len)?;
+    let sound = sound_in(piece, head, at.0, at.1)?;
     Ok(sound)
 }
 
 // The message at this place of the file, if it is sound. If the piece ends before it, another one is read.
 fn next_sound<D: Disk>(
-    alloc: Global,
     disk: &mut D,
     path: &[u8],
     head: Head,
@@ -128,13 +144,13 @@ fn next_sound<D: Disk>(
     ensures quiet { ChangesNothing (D.state disk.old) (D.state disk.new) }
     ensures cause { HasCause (D.failures disk.old) (D.failures disk.new) result }
 {
-    if let Some(sound) = sound_in(alloc, head, place, piece, at)? {
+    if let Some(sound) = sound_in(piece, head, place, at)? {
         return Ok(Some(sound));
     }
-    if let Some(sound) = read_sound(alloc, disk, path, head, (place, at), PIECE, piece)? {
+    if let Some(sound) = read_sound(disk, path, head, (place, at), PIECE, piece)? {
         return Ok(Some(sound));
     }
-    read_sound(alloc, disk, path, head, (place, at), LARGE, piece)
+    read_sound(disk, path, head, (place, at), LARGE, piece)
 }
 
 // Whether a message at this place waits for a scan that changes its form.
@@ -161,9 +177,10 @@ impl Entries {
             odd: false,
             waiting: Vec::new(alloc),
             keys: Vec::new(alloc),
-            index: Index::new(alloc),
+            chains: Chains::new(alloc),
             message: None,
             ahead: ReadAhead::new(alloc),
+            room: MessageRoom::new(alloc),
         }
     }
 
@@ -199,13 +216,12 @@ impl Entries {
         ensures new { Honestly (D.state disk.new) ((base : List Filed) (cursor : ℕ) → AreEntriesOf (bytes_in ((D.state disk.old).seen path.now)) self.old base cursor
             → IfOk result (λ found. IfSome found (λ digest. is_known base key.now ≡ false))) }
         ensures digest { IfOk result (λ found. IfSome found (λ digest. digest ≡ entry_digest self.old (digested_key key.now))) }
-        ensures same { self.new ≡ record self.old { index = self.new.index } }
+        ensures same { self.new ≡ record self.old { chains = self.new.chains } }
         ensures indexed { AreIndexed self.new }
         ensures quiet { ChangesNothing (D.state disk.old) (D.state disk.new) }
         ensures cause { HasCause (D.failures disk.old) (D.failures disk.new) result }
     {
-        let bytes = bytes_of_key(alloc, key)?;
-        let digest = self.digest.of(&bytes);
+        let digest = digest_of_key(alloc, &self.digest, key)?;
         match self.find(alloc, disk, path, key, digest) {
             Ok(false) => Ok(Some(digest)),
             Err(StoreError::Memory) => Err(DiskError::Memory),
@@ -234,7 +250,7 @@ impl Entries {
         ensures cause { HasCause (D.failures disk.old) (D.failures disk.new) result }
     {
         let place = self.count();
-        let Some(sound) = next_sound(alloc, disk, path, head, place, self.end, piece)? else {
+        let Some(sound) = next_sound(disk, path, head, place, self.end, piece)? else {
             return Ok(false);
         };
         let Some(digest) = self.digest_if_new(alloc, disk, path, &sound.key)? else {
@@ -307,7 +323,8 @@ pub(crate) fn open_entries<D: Disk, T: MessageProgress>(
     ensures cause { HasCause (D.failures disk.old) (D.failures disk.new) result }
 {
     let len = disk.len(path)?;
-    let mut piece = read_piece(alloc, disk, path, 0, PIECE, len)?;
+    let mut piece = Piece::new(alloc);
+    piece.fill(disk, path, 0, PIECE, len)?;
     let Some(head) = second_head(&piece.bytes) else {
         return Ok(None);
     };

@@ -1,5 +1,5 @@
 -- What a filter keeps, and a map changes.
-use Rattle.std.proofs.Common.{◌≡◌, ◌≢◌, ◌⊎◌, inl, inr, ◌∙◌, ◌<◌, ℕ, Bool, true, false, true≢false, List, [], ◌∷◌, get_or, length, map, filter, refl, sym, subst, ap, arith}
+use Rattle.std.proofs.Common.{◌≡◌, ◌≢◌, ◌⊎◌, inl, inr, ◌∙◌, ◌<◌, ℕ, Bool, true, true≢false, List, [], ◌∷◌, get_or, length, map, filter, refl, sym, subst, ap, arith}
 use Rattle.std.specs.Prelude.{All, AllPairs, Contains, bytes_eq}
 use Rattle.std.specs.Cmp.Lexicographic.{bytes_decides}
 use Rattle.std.proofs.lemmas.Bool.{cases_Bool, cond-false, cond-true}

@@ -1,5 +1,5 @@
 -- Names of packets, and paths that are not the same.
-use Rattle.std.proofs.Common.{◌≡◌, ◌≢◌, ◌∙◌, ◌+◌, ◌<◌, ◌^◌, ◌==◌, ℕ, true, false, true≢false, List, [], ◌∷◌, ◌++◌, ap, arith, append_assoc, codes, decimal, get_or, length, length-append, refl, sym}
+use Rattle.std.proofs.Common.{◌≡◌, ◌≢◌, ◌∙◌, ◌+◌, ◌<◌, ◌^◌, ◌==◌, ℕ, false, true≢false, List, [], ◌∷◌, ◌++◌, ap, arith, append_assoc, codes, decimal, get_or, length, length-append, refl, sym}
 use Rattle.std.specs.Prelude.{All, AllPairs}
 use Rattle.std.specs.List.{AllByRecursion, flat_map}
 use Rattle.std.proofs.lemmas.Bool.{eqb-false}

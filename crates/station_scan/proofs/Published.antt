@@ -1,5 +1,5 @@
 -- Packets and the commit of a store.
-use Rattle.std.proofs.Common.{◌≡◌, ◌⊎◌, inl, inr, ⊎_elim, ◌∙◌, ◌<◌, ℕ, List, ap, get_or, length, subst, sym, arith}
+use Rattle.std.proofs.Common.{◌≡◌, inl, inr, ⊎_elim, ◌∙◌, ◌<◌, ℕ, List, ap, get_or, length, subst, sym, arith}
 use Rattle.std.specs.Prelude.{All, Bool, Err, IfErr, IfOk, Ok, OnOk, Result, true}
 use Rattle.std.proofs.lemmas.List.Elements.{All-contains}
 use Rattle.base_file.specs.Base.{Base}

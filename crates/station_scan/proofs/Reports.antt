@@ -38,7 +38,7 @@ use Rattle.station_scan.specs.Publishing.{KeepsStoreBut}
 use Rattle.station_scan.specs.Scanning.{IsTouched, packets_in}
 use Rattle.station_scan.specs.Sending.{IsStagingOfPacket}
 use Rattle.station_scan.specs.Sends.{WritesStaging}
-use Rattle.station_scan.specs.Stops.{IsOfPlacing, most}
+use Rattle.station_scan.specs.Stops.{IsOfPlacing, IsUnplanned, most}
 use Rattle.station_scan.specs.declared.pieces.Source.{Source}
 use Rattle.station_scan.specs.declared.publish_error.PublishError.{PublishError}
 use Rattle.station_scan.specs.declared.counting.LinkPacket.{LinkPacket}
@@ -178,12 +178,17 @@ pub placing_err_of : (done : Result (Unit {0}) PlacingError) (why what : Placing
 placing_err_of (Ok value) why what is same = absurd (cc is)
 placing_err_of (Err other) why what is same = cc (is, same)
 
--- errors that name no fault of the store
-pub far_other : (e : CommandError) → TooFar ≡ Command e → ⊥
-far_other e is = cc is
+-- no planned packets: no fault of the store, and its reason
+pub unplanned_other : (from : ℕ) (why : ScanError) → IsUnplanned from why → (e : CommandError) → why ≡ Command e → ⊥
+unplanned_other from why is e same = subst (λ (w : ScanError). IsUnplanned from w) same is
 
-pub placing_other : (cause : PlacingError) (e : CommandError) → Placing cause ≡ Command e → ⊥
-placing_other cause e is = cc is
+pub unplanned_why : (failed taken : Type 0) (from n : ℕ) (why : ScanError) → from ≡ n → IsUnplanned from why → IsOfPlacing failed taken (most < n) why
+unplanned_why failed taken from n (Placing placing.Memory) same is = tt
+unplanned_why failed taken from n TooFar same is = omega (arith, same, is)
+unplanned_why failed taken from n (Placing placing.Device) same is = absurd is
+unplanned_why failed taken from n (Placing placing.Taken) same is = absurd is
+unplanned_why failed taken from n (Command e) same is = absurd is
+unplanned_why failed taken from n (Staying left) same is = absurd is
 
 -- ---- the lines are reported
 

@@ -4,6 +4,11 @@ use Rattle.disk_atomic.specs.Changes.{ChangesOnly}
 use Rattle.base_store.specs.Store.{IsSameStore, StoreState}
 use Rattle.station.specs.Beneath.{AreSettledByOwn, HoldsAsBefore}
 
+-- The store may be called, and only its own files decide whether files hold a base.
+pub record CanLend (s : StoreState) : Type 0 where
+  pub ready : s.is_ready
+  pub settled : AreSettledByOwn s
+
 -- The disk was used at these paths. The store owns no such path, and holds what it held.
 pub record IsUsedAt (paths : List ℕ → Type 0) (old new : StoreState) : Type 0 where
   pub settled : AreSettledByOwn old

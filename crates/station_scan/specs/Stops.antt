@@ -1,5 +1,5 @@
 -- Why a scan stopped.
-use Rattle.std.specs.Prelude.{ℕ, Result, Ok, Err}
+use Rattle.std.specs.Prelude.{◌<◌, ℕ, Result, Ok, Err}
 use Rattle.disk_io.specs.declared.disk_error.DiskError.TheVariants as disk
 use Rattle.disk_atomic.specs.declared.placing_error.PlacingError.TheVariants as placing
 use Rattle.base_store.specs.declared.store_error.StoreError.TheVariants as store
@@ -39,6 +39,12 @@ IsOfPlacing failed taken far (Placing placing.Memory) = Unit {0}
 IsOfPlacing failed taken far (Staying disk.Device) = failed
 IsOfPlacing failed taken far (Staying disk.Memory) = Unit {0}
 IsOfPlacing failed taken far TooFar = far
+
+-- The packets have no paths: there was no memory, or too many messages were scanned before.
+abbrev pub IsUnplanned : ℕ → ScanError → Type 0
+IsUnplanned from (Placing placing.Memory) = Unit {0}
+IsUnplanned from TooFar = most < from
+IsUnplanned from _ = ⊥
 
 -- the result of publishing as the result of a scan
 abbrev pub scan_done : Result (Unit {0}) PublishError → Result (Unit {0}) ScanError

@@ -22,7 +22,13 @@ IsBatchOff s batch = AreGoing s.is_own batch.outbound.now batch.trial.now batch.
 abbrev pub IsOpen : Batch → DiskState → Type 0
 IsOpen batch disk = AreOpen batch.outbound.now batch.packets.now disk
 
--- and have no bytes yet
+-- The store may be called. It owns no path of the batch, and on its disk the staging files can grow.
+pub record CanStage (s : StoreState) (batch : Batch) : Type 0 where
+  pub ready : s.is_ready
+  pub off : IsBatchOff s batch
+  pub opened : IsOpen batch s.disk
+
+-- The staging files were made, and have no bytes yet.
 pub record IsBegun (batch : Batch) (disk : DiskState) : Type 0 where
   pub opened : IsOpen batch disk
   pub none : All (IsWritten (λ p. []) disk.seen) batch.packets.now

@@ -24,7 +24,7 @@ pub(crate) struct LinkPacket<'p> {
 }
 
 /// The packets for all links, without messages.
-pub(crate) fn none_counted<'p>(
+pub(crate) fn empty_packets<'p>(
     alloc: Global,
     sending: Sending<'p>,
 ) -> Result<Vec<LinkPacket<'p>>, AllocError>
@@ -50,7 +50,7 @@ pub(crate) fn none_counted<'p>(
 }
 
 /// The packets with the copies of the group too.
-pub(crate) fn count_group<'p>(
+pub(crate) fn packets_with<'p>(
     alloc: Global,
     packets: &[LinkPacket<'p>],
     group: &Group,

@@ -5,7 +5,7 @@ ghost use Rattle.disk_io.specs.Runs.{HasCause};
 ghost use Rattle.disk_atomic.specs.Outgoing.{IsAtStaging};
 ghost use Rattle.station_scan.specs.Beneath.{IsUsedAt};
 ghost use Rattle.station_scan.specs.Publishing.{AreStaged, HasStageCause, IsTriedWith, IsWritten, NoneStays, ended_in};
-ghost use Rattle.station_scan.specs.Writing.{IsBatchOff, IsOpen};
+ghost use Rattle.station_scan.specs.Writing.{CanStage};
 
 use crate::beneath::Used;
 use crate::pieces::Ends;
@@ -23,9 +23,7 @@ fn end_packets<'a, D: Disk, P: LendStation<'a, D>>(
     store: P::Kept,
     batch: Batch<'_>,
 ) -> Used<P::Kept, Result<bool, DiskError>>
-    requires ready { (P.Kept.state store).is_ready }
-    requires off { IsBatchOff (P.Kept.state store) batch }
-    requires opened { IsOpen batch (P.Kept.state store).disk }
+    requires { CanStage (P.Kept.state store) batch }
     ensures used { IsUsedAt (IsAtStaging batch.entry.packets.now batch.entry.trial.now) (P.Kept.state store) (P.Kept.state result.store) }
     ensures staged { IfOk result.done (λ free. free ≡ true → AreStaged batch.entry.packets.now (P.Kept.state result.store).disk) }
     ensures ended { Honestly (P.Kept.state result.store).disk (OnOk result.done (All (IsWritten (ended_in (P.Kept.state store).disk.seen) (P.Kept.state result.store).disk.seen) batch.entry.packets.now)) }
@@ -49,8 +47,7 @@ pub(crate) fn stage_on<'a, D: Disk, P: LendStation<'a, D>>(
     store: P::Kept,
     batch: Batch<'_>,
 ) -> Used<P::Kept, Result<bool, PublishError>>
-    requires ready { (P.Kept.state store).is_ready × IsOpen batch (P.Kept.state store).disk }
-    requires off { IsBatchOff (P.Kept.state store) batch }
+    requires { CanStage (P.Kept.state store) batch }
     ensures used { IsUsedAt (IsAtStaging batch.entry.packets.now batch.entry.trial.now) (P.Kept.state store) (P.Kept.state result.store) }
     ensures staged { IfOk result.done (λ free. free ≡ true → AreStaged batch.entry.packets.now (P.Kept.state result.store).disk) }
     ensures ended { Honestly (P.Kept.state result.store).disk (OnOk result.done (All (IsWritten (ended_in (P.Kept.state store).disk.seen) (P.Kept.state result.store).disk.seen) batch.entry.packets.now)) }

@@ -4,8 +4,7 @@ ghost use Rattle.disk_io.specs.Disk.{Honestly, IsIn};
 ghost use Rattle.disk_atomic.specs.Outgoing.{IsAtStaging, IsFree};
 ghost use Rattle.disk_atomic.specs.Publishing.{HasPlacingCause};
 ghost use Rattle.echo_toss.specs.Exports.{Outgoing as Sent};
-ghost use Rattle.station.specs.Beneath.{AreSettledByOwn};
-ghost use Rattle.station_scan.specs.Beneath.{IsUsedAt};
+ghost use Rattle.station_scan.specs.Beneath.{CanLend, IsUsedAt};
 ghost use Rattle.station_scan.specs.Passing.{AreGrowing, IsAppending, header_for};
 ghost use Rattle.station_scan.specs.Publishing.{AreGoing, IsWritten};
 ghost use Rattle.station_scan.specs.Writing.{IsBatchOff, IsBegun, IsOpen};
@@ -58,8 +57,7 @@ fn begin_first<'a, D: Disk, P: LendStation<'a, D>>(
     sending: Sending<'_>,
     batch: Batch<'_>,
 ) -> Used<P::Kept, Result<(), PlacingError>>
-    requires ready { (P.Kept.state store).is_ready }
-    requires settled { AreSettledByOwn (P.Kept.state store) }
+    requires ready { CanLend (P.Kept.state store) }
     requires off { IsBatchOff (P.Kept.state store) batch }
     ensures used { IsUsedAt (IsAtStaging batch.entry.packets.now batch.entry.trial.now) (P.Kept.state store) (P.Kept.state result.store) }
     ensures named { OnOk result.done ((m : List ℕ) → IsIn batch.entry.outbound.now m → (P.Kept.state store).disk.is_named m → (P.Kept.state result.store).disk.is_named m) }
@@ -97,7 +95,7 @@ pub(crate) fn append_group<'a, D: Disk, P: LendStation<'a, D>>(
     begun: &[Outgoing<'_>],
     group: &Group,
 ) -> Used<P::Kept, Result<(), PlacingError>>
-    requires ready { (P.Kept.state store).is_ready × AreSettledByOwn (P.Kept.state store) }
+    requires ready { CanLend (P.Kept.state store) }
     requires some { 0 < length copied.now }
     requires copied { AreGoing (P.Kept.state store).is_own sending.outbound.now sending.trial.now copied.now }
     requires begun { AreGoing (P.Kept.state store).is_own sending.outbound.now sending.trial.now begun.now }

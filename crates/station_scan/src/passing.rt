@@ -13,7 +13,7 @@ ghost use Rattle.station_scan.specs.Passing.{AreTakenTo, CanSend, HasPassed, Has
 ghost use Rattle.station_scan.specs.Writing.{HasStopCause};
 
 use crate::beneath::Used;
-use crate::counting::{LinkPacket, begun_of, copied_of, count_group};
+use crate::counting::{LinkPacket, begun_of, copied_of, packets_with};
 use crate::fitting::are_off_own;
 use crate::growing::append_group;
 use crate::reported::ReportedStore;
@@ -80,7 +80,7 @@ fn going_of<'p, O: OwnPaths>(
     ensures off { IfOk result (λ going. All (IsOff (O.is_own own.now) trial.now) going.begun.items) }
     ensures err { IfErr result (λ why. (why ≡ placing.Memory) ⊎ ((why ≡ placing.Taken) × (All (IsOff (O.is_own own.now) trial.now) (begun_in (map (with_group group.now.sent) packets.now)) → ⊥))) }
 {
-    let counted = count_group(alloc, packets, group)?;
+    let counted = packets_with(alloc, packets, group)?;
     let begun = begun_of(alloc, &counted)?;
     if !are_off_own(own, trial, &begun) {
         return Err(PlacingError::Taken);

@@ -5,7 +5,7 @@ ghost use Rattle.disk_atomic.specs.Outgoing.{ArePlaced, IsFree, IsOfOne};
 ghost use Rattle.disk_atomic.specs.Publishing.{IsApartFrom};
 ghost use Rattle.station.specs.Beneath.{HoldsAsBefore};
 ghost use Rattle.station_scan.specs.Publishing.{ArePublished, AreStaged, HasCommitCause, HasPublishCause, IsGoingAt, IsNamedAs, IsPublishedAt, IsTriedWith, KeepsStoreBut, MayCommitWith, MayPublish, StopsCommitting, StopsPublishing, ended_before, staged_before};
-ghost use Rattle.station_scan.specs.Writing.{IsBatchOff, IsOpen};
+ghost use Rattle.station_scan.specs.Writing.{CanStage};
 
 use crate::beneath::{Used, name_on};
 use crate::ending::stage_on;
@@ -25,8 +25,7 @@ pub(crate) fn publish<'a, D: Disk, P: LendStation<'a, D>>(
     store: P::Kept,
     batch: Batch<'_>,
 ) -> Used<P::Kept, Result<(), PublishError>>
-    requires ready { (P.Kept.state store).is_ready × IsOpen batch (P.Kept.state store).disk }
-    requires off { IsBatchOff (P.Kept.state store) batch }
+    requires { CanStage (P.Kept.state store) batch }
     ensures published { OnOk result.done (ArePublished (ended_before (P.Kept.state store)) batch.entry.packets.now (P.Kept.state store) (P.Kept.state result.store)) }
     ensures left { Honestly (P.Kept.state result.store).disk (IfErr result.done (StopsPublishing (ended_before (P.Kept.state store)) batch.entry.packets.now batch.entry.trial.now (P.Kept.state store) (P.Kept.state result.store))) }
     ensures taken { Honestly (P.Kept.state result.store).disk (IsErrOf result.done (PublishError.Packets PlacingError.Taken) → All (IsFree (P.Kept.state store).disk) batch.entry.packets.now → ⊥) }

@@ -24,9 +24,6 @@ use echo_links::LinkFile;
 use station::{LendStation, OwnPaths};
 use std::alloc::Global;
 
-/// The most scanned messages that the number in a packet's name can count: it is read back as four bytes.
-const MOST: usize = 4_294_967_295;
-
 /// Names or removes what earlier scans left, by the cursor of the committed base. Then it makes the packets of the
 /// messages from that number on, and commits the store.
 pub(crate) fn put_moved<
@@ -65,16 +62,11 @@ pub(crate) fn put_moved<
         stamp: scan.stamp,
         from,
     };
-    if from > MOST {
-        let Used { store, done } = report(alloc, source, store, &scan.watch, out);
-        let done = reported_as(ScanError::TooFar, done);
-        return Used { store, done };
-    }
     let plan = match plan_of(alloc, links, scan.outbound, from) {
         Ok(plan) => plan,
-        Err(refused) => {
+        Err(why) => {
             let Used { store, done } = report(alloc, source, store, &scan.watch, out);
-            let done = reported_as(ScanError::from(refused), done);
+            let done = reported_as(why, done);
             return Used { store, done };
         }
     };

@@ -1,10 +1,12 @@
 //! Where the packets of a scan go.
-ghost use Rattle.std.specs.Prelude.{◌≡◌, All, IfOk, map};
+ghost use Rattle.std.specs.Prelude.{◌≡◌, ◌≤◌, All, IfErr, IfOk, OnOk, map};
 ghost use Rattle.disk_atomic.specs.StagingPaths.{staging_path};
 ghost use Rattle.echo_toss.specs.Counts.{link_set};
 ghost use Rattle.station_scan.specs.Sending.{IsPlanned, IsSized, route_to, two_paths};
+ghost use Rattle.station_scan.specs.Stops.{IsUnplanned, most};
 
 use crate::pieces::Source;
+use crate::scan_error::ScanError;
 use cmd_report::packet_name;
 use disk_atomic::staging_path;
 use echo_addr::{Address, Items};
@@ -12,6 +14,9 @@ use echo_links::LinkFile;
 use echo_toss::link_set;
 use station::system_name;
 use std::alloc::{AllocError, Global};
+
+/// The most scanned messages that the number in a packet's name can count: it is read back as four bytes.
+const MOST: usize = 4_294_967_295;
 
 /// The path of a packet, and its staging path before that.
 #[derive(Drop)]
@@ -98,15 +103,20 @@ fn routes_to(
     Ok(all)
 }
 
-/// Where the packets for all links go.
-pub(crate) fn plan_of(
+/// Where the packets for all links go. It is `TooFar` if a packet's name does not count so many scanned messages.
+pub(crate) fn plan_of<'a>(
     alloc: Global,
     links: &LinkFile,
     outbound: &[u8],
     from: usize,
-) -> Result<Plan, AllocError>
-    ensures { IfOk result (λ plan. IsPlanned links.now outbound.now from plan.own plan.trial plan.routes) }
+) -> Result<Plan, ScanError<'a>>
+    ensures plan { IfOk result (λ plan. IsPlanned links.now outbound.now from plan.own plan.trial plan.routes) }
+    ensures within { OnOk result (from ≤ most) }
+    ensures stop { IfErr result (IsUnplanned from) }
 {
+    if from > MOST {
+        return Err(ScanError::TooFar);
+    }
     let own = system_name(alloc, links)?;
     let trial = staging_path(alloc, outbound, &own)?;
     let addresses = link_set(alloc, links)?;

@@ -10,7 +10,7 @@ ghost use Rattle.station_scan.specs.Publishing.{HasPublishCause};
 ghost use Rattle.station_scan.specs.Writing.{publish_stop};
 
 use crate::beneath::Used;
-use crate::counting::{LinkPacket, made_of, none_counted};
+use crate::counting::{LinkPacket, empty_packets, made_of};
 use crate::passing::{PassStop, pass_on};
 use crate::publish_error::PublishError;
 use crate::sending::Sending;
@@ -77,7 +77,7 @@ pub(crate) fn pass_waiting<'a, 'p, D: Disk, P: LendStation<'a, D>, T: MessagePro
         → IsTakenFor (P.Paths.is_own paths.now) sending.entry base (P.Kept.state store).disk.seen) }
     ensures cause { HasPublishCause P.Kept.state (P.Kept.state store) (P.Kept.state result.store) (P.Kept.failures store) (P.Kept.failures result.store) result.done }
 {
-    let mut packets = match none_counted(alloc, sending) {
+    let mut packets = match empty_packets(alloc, sending) {
         Ok(packets) => packets,
         Err(refused) => {
             return Used {

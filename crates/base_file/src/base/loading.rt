@@ -8,8 +8,9 @@ ghost use Rattle.base_file.specs.Loading.{AnswersLoad, CountsLoad, FailsToLoad, 
 use crate::base::Base;
 use crate::fault::BaseFault;
 use crate::judging::judged;
+use crate::room::MessageRoom;
 use disk_io::{Broken, Source, fill};
-use echo_filed::{Version, read_long, read_stored};
+use echo_filed::{Version, read_long, read_stored_into};
 use std::alloc::Global;
 use std::hash::BuildHasher;
 
@@ -91,6 +92,7 @@ fn read_head<R: Source>(reader: &mut R) -> Result<Head, BaseFault>
 
 // Takes the next message, and appends it to the base.
 fn take_message<R: Source, S: BuildHasher>(
+    room: &mut MessageRoom,
     reader: &mut R,
     base: &mut Base<S>,
     version: Version,
@@ -100,13 +102,12 @@ fn take_message<R: Source, S: BuildHasher>(
     ensures cursor { base.new.cursor ≡ base.old.cursor }
     ensures device { CountsLoad result (R.failures reader.old) (R.failures reader.new) }
 {
-    let alloc = *base.entries.allocator();
     let place = base.len();
-    let stored = match read_stored(alloc, reader, version) {
+    let stored = match read_stored_into(room.take_strings(), reader, version) {
         Ok(stored) => stored,
         Err(broken) => return Err(broken_fault(broken, place as u64)),
     };
-    if let Some((key, message)) = judged(alloc, version, cursor, place, stored)? {
+    if let Some((key, message)) = judged(room, version, cursor, place, stored)? {
         if base.add(key, message)? {
             return Ok(());
         }
@@ -126,9 +127,10 @@ fn take_messages<R: Source, S: BuildHasher>(
     ensures taken { TakesMessages head base.new (R.remaining reader.old) (R.remaining reader.new) result }
     ensures device { CountsLoad result (R.failures reader.old) (R.failures reader.new) }
 {
+    let mut room = MessageRoom::new(*base.entries.allocator());
     let number = head.number as usize;
     'messages: while base.len() < number {
-        take_message(reader, base, head.version, head.cursor as usize)?;
+        take_message(&mut room, reader, base, head.version, head.cursor as usize)?;
     }
     Ok(())
 }

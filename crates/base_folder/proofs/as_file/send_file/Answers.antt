@@ -8,7 +8,7 @@ use Rattle.base_folder_store.proofs.Causes.{at_error}
 use Rattle.base_folder.proofs.Files.{file_fault, file_sent, head_begun, head_sent, message_begun, message_sent, message_there, messages_begun, there, too_great}
 use Rattle.base_folder.proofs.Lookings.{err_is}
 use Rattle.base_folder.proofs.Readings.{looks_none, looks_on}
-use Rattle.base_folder.specs.declared.unsent.UnsentFile.TheVariants as unsent
+use Rattle.base_folder.specs.declared.send_error.SendError.TheVariants as unsent
 use Rattle.base_folder.proofs.as_file.send_file.Goals as goal
 use Rattle.base_folder.proofs.as_file.send_file.Goals.{then-count-gt-MOST-via-then-count-gt-MOST, then-count-gt-MOST-via-else-count-gt-MOST+then-cursor-gt-MOST}
 

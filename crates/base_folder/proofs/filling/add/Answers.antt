@@ -1,12 +1,16 @@
-use Rattle.std.proofs.Common.{List, ℕ, length, refl, sym, ap, subst, ◌∙◌}
+use Rattle.std.proofs.Common.{◌+◌, List, ℕ, length, refl, sym, ap, subst, ◌∙◌}
 use Rattle.base_store.specs.Keys.{digested_key}
 use Rattle.echo_filed.specs.Filed.{key_of}
 use Rattle.base_file.specs.Alone.{IsStoredAlone}
+use Rattle.echo_filed.specs.declared.key.Key.{Key}
 use Rattle.base_folder_store.specs.Added.{LacksRoom}
+use Rattle.base_folder_store.specs.Held.{digest_by}
 use Rattle.base_folder_store.specs.Opened.{held_by}
+use Rattle.std.proofs.lemmas.Result.{on_ok_weaker}
 use Rattle.base_folder_store.proofs.Causes.{done_both, handed_on}
 use Rattle.base_folder_store.proofs.Seen.{filed_more}
-use Rattle.base_folder.proofs.Fillings.{adds_none}
+use Rattle.base_folder.specs.Filled.{HoldsMany}
+use Rattle.base_folder.proofs.Fillings.{adds_none, many_more}
 use Rattle.base_folder.proofs.filling.add.Goals as goal
 
 pub returns-in_err-bytes-clause-kept : goal.returns-in_err-bytes-clause-kept
@@ -15,13 +19,24 @@ returns-in_err-bytes-clause-kept g c = adds_none c.args.folder.now (g.D.Disk.sta
 pub returns-in_err-key-clause-kept : goal.returns-in_err-key-clause-kept
 returns-in_err-key-clause-kept g c = adds_none c.args.folder.now (g.D.Disk.state c.args.disk.now) c.from_residual-in_err-key.result c.requires
 
-pub returns-in_err-digested-clause-kept : goal.returns-in_err-digested-clause-kept
-returns-in_err-digested-clause-kept g c = adds_none c.args.folder.now (g.D.Disk.state c.args.disk.now) c.from_residual-in_err-digested.result c.requires
+pub returns-in_err-number-clause-kept : goal.returns-in_err-number-clause-kept
+returns-in_err-number-clause-kept g c = adds_none c.args.folder.now (g.D.Disk.state c.args.disk.now) c.from_residual-in_err-number.result c.requires
 
 pub returns-clause-kept : goal.returns-clause-kept
 returns-clause-kept g c =
     let says = c.stage.ensures in
     record { named = says.stays.named; opened = says.stays.opened; path = says.stays.path; same = says.same; run = says.run }
+
+pub returns-clause-more : goal.returns-clause-more
+returns-clause-more g c = λ honest k holds.
+    let m = c.args.message.now in
+    let keyed = g.H.Digest.keyed in
+    let before = held_by (g.D.Disk.state c.args.disk.now) c.args.folder.now in
+    let after = held_by (g.D.Disk.state c.stage.new.disk) c.stage.new.self in
+    let stored = subst (λ (l : List ℕ). IsStoredAlone m l) (sym c.deref.ensures.value) c.in_ok-bytes.ensures.stored in
+    on_ok_weaker {Q = HoldsMany keyed after (k + 1)} c.stage.result
+    (λ staged. many_more keyed after before k m c.deref.result.now c.in_ok-number.number staged stored (c.in_ok-number.ensures ∙ ap (λ (key : Key). digest_by keyed before.mark (digested_key key)) c.in_ok-key.ensures) holds)
+    (c.stage.ensures.staged honest)
 
 pub returns-clause-added : goal.returns-clause-added
 returns-clause-added g c = λ honest.
@@ -29,9 +44,9 @@ returns-clause-added g c = λ honest.
     let keyed = g.H.Digest.keyed in
     let before = held_by (g.D.Disk.state c.args.disk.now) c.args.folder.now in
     let after = held_by (g.D.Disk.state c.stage.new.disk) c.stage.new.self in
-    let stored = subst (λ (l : List ℕ). IsStoredAlone m l) (sym c.deref-2.ensures.value) c.in_ok-bytes.ensures.stored in
-    done_both (λ staged fits base holds unknown. filed_more keyed after before base m (key_of m) c.deref-2.result.now c.deref.result.now c.digest-number.result staged fits holds stored c.in_ok-bytes.ensures.filed refl unknown
-    (c.deref.ensures.value ∙ c.in_ok-digested.ensures ∙ ap digested_key c.in_ok-key.ensures) c.digest-number.ensures)
+    let stored = subst (λ (l : List ℕ). IsStoredAlone m l) (sym c.deref.ensures.value) c.in_ok-bytes.ensures.stored in
+    done_both (λ staged fits base holds unknown. filed_more keyed after before base m (key_of m) c.deref.result.now c.in_ok-number.number staged fits holds stored c.in_ok-bytes.ensures.filed refl unknown
+    (c.in_ok-number.ensures ∙ ap (λ (key : Key). digest_by keyed before.mark (digested_key key)) c.in_ok-key.ensures))
     c.stage.result (c.stage.ensures.staged honest) (c.stage.ensures.fits honest)
 
 pub returns-in_err-bytes-clause-many : goal.returns-in_err-bytes-clause-many
@@ -42,5 +57,5 @@ returns-in_err-bytes-clause-many g c is room =
 
 pub returns-clause-many : goal.returns-clause-many
 returns-clause-many g c is room =
-    let size = ap (λ (l : List ℕ). length l) (c.deref-2.ensures.value ∙ c.in_ok-bytes.ensures.bytes) in
+    let size = ap (λ (l : List ℕ). length l) (c.deref.ensures.value ∙ c.in_ok-bytes.ensures.bytes) in
     room.room (subst (λ (n : ℕ). LacksRoom c.args.folder.now n) size (c.stage.ensures.many is))

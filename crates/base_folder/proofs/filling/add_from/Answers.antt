@@ -1,23 +1,23 @@
-use Rattle.std.proofs.Common.{◌≡◌, ℕ, Result, Ok, Err, inl, subst, arith}
+use Rattle.std.proofs.Common.{◌≡◌, ◌+◌, ◌-◌, ℕ, Result, Ok, Err, inl, refl, subst, arith}
 use Rattle.base_folder_store.specs.Opened.{held_by}
 use Rattle.base_folder_store.proofs.Causes.{handed_on}
-use Rattle.base_folder.specs.Filled.{AddsOnly, HasFillCause, HoldsFront, ReadsFor}
-use Rattle.base_folder.specs.declared.unfilled.UnfilledFolder.{UnfilledFolder}
-use Rattle.base_folder.proofs.Fillings.{adds_none, adds_twice, by_error, cause_since, reads_none, reads_twice, shows_before, shows_later}
+use Rattle.base_folder.specs.Filled.{FillsOnly, HasFillCause, HoldsFront, ReadsFor}
+use Rattle.base_folder.specs.declared.fill_error.FillError.{FillError}
+use Rattle.base_folder.proofs.Fillings.{by_error, cause_since, fills_fewer, fills_none, fills_twice, reads_none, reads_twice, shows_before, shows_later}
 use Rattle.base_folder.proofs.filling.add_from.Goals as goal
 
 pub add_next-requires : goal.add_next-requires
 add_next-requires g c =
     let was = c.messages.invariant in
     record {
-      usable = record { named = was.kept.named; opened = was.kept.opened };
+      usable = record { named = was.kept.adds.named; opened = was.kept.adds.opened };
       ready = was.reads.looks.ready c.requires.ready;
       within = omega (arith, c.messages-test.true, c.requires.within, was.reads.looks.count);
     }
 
 pub messages-init : goal.messages-init
 messages-init g c = record {
-  kept = adds_none c.args.folder.now (g.D.Disk.state c.args.disk.now) (Ok tt) c.requires.usable;
+  kept = fills_none g.H.Digest.keyed c.args.folder.now (g.D.Disk.state c.args.disk.now) (c.args.from - c.args.from) (omega arith) c.requires.usable;
   held = λ honest base cursor shows front. front;
   reads = reads_none (g.M.MessageSource.state c.args.messages.now);
   cause = omega arith;
@@ -34,9 +34,9 @@ messages-preserved g c =
     let was = c.messages.invariant in
     let says = c.in_ok-add_next.ensures in
     record {
-      kept = adds_twice c.args.folder.now c.messages.folder c.add_next.new.folder d e k (Ok tt) was.kept says.kept;
+      kept = fills_twice g.H.Digest.keyed c.args.folder.now c.messages.folder c.add_next.new.folder d e k (c.messages.i - c.args.from) 1 (c.messages.i + 1 - c.args.from) (Ok tt) (omega (arith, c.messages.auto.i)) was.kept says.kept;
       held = λ honest base cursor shows front. says.added honest base cursor (shows_later a b z base was.reads.looks shows)
-          (was.held (says.kept.run.outside.honest honest) base cursor (shows_before a b z base says.reads.looks shows) front);
+          (was.held (says.kept.adds.run.outside.honest honest) base cursor (shows_before a b z base says.reads.looks shows) front);
       reads = reads_twice a b z (Ok tt) was.reads says.reads;
       cause = omega (arith, was.cause, says.cause.cause.later);
     }
@@ -45,21 +45,24 @@ pub returns-in_err-add_next-clause-kept : goal.returns-in_err-add_next-clause-ke
 returns-in_err-add_next-clause-kept g c =
     let d = g.D.Disk.state c.args.disk.now in
     let k = g.D.Disk.state c.add_next.new.disk in
-    by_error (λ (r : Result (Unit {0}) UnfilledFolder). AddsOnly c.args.folder.now c.add_next.new.folder d k r) c.in_err-add_next.field-0.0 c.from_residual.result c.from_residual.ensures.1
-    (adds_twice c.args.folder.now c.messages.folder c.add_next.new.folder d (g.D.Disk.state c.messages.disk) k (Err c.in_err-add_next.field-0.0) c.messages.invariant.kept c.in_err-add_next.ensures.kept)
+    let keyed = g.H.Digest.keyed in
+    let why = c.in_err-add_next.field-0.0 in
+    let so_far = c.messages.i - c.args.from in
+    fills_fewer keyed c.args.folder.now c.add_next.new.folder d k (so_far + 1) (c.args.to - c.args.from) why c.from_residual.result c.from_residual.ensures.1
+    (fills_twice keyed c.args.folder.now c.messages.folder c.add_next.new.folder d (g.D.Disk.state c.messages.disk) k so_far 1 (so_far + 1) (Err why) refl c.messages.invariant.kept c.in_err-add_next.ensures.kept)
 
 pub returns-in_err-add_next-clause-reads : goal.returns-in_err-add_next-clause-reads
 returns-in_err-add_next-clause-reads g c =
     let a = g.M.MessageSource.state c.args.messages.now in
     let z = g.M.MessageSource.state c.add_next.new.messages in
-    by_error (λ (r : Result (Unit {0}) UnfilledFolder). ReadsFor a z r) c.in_err-add_next.field-0.0 c.from_residual.result c.from_residual.ensures.1
+    by_error (λ (r : Result (Unit {0}) FillError). ReadsFor a z r) c.in_err-add_next.field-0.0 c.from_residual.result c.from_residual.ensures.1
     (reads_twice a (g.M.MessageSource.state c.messages.messages) z (Err c.in_err-add_next.field-0.0) c.messages.invariant.reads c.in_err-add_next.ensures.reads)
 
 pub returns-in_err-add_next-clause-cause : goal.returns-in_err-add_next-clause-cause
 returns-in_err-add_next-clause-cause g c =
     let a = g.D.Disk.failures c.args.disk.now in
     let z = g.D.Disk.failures c.add_next.new.disk in
-    by_error (λ (r : Result (Unit {0}) UnfilledFolder). HasFillCause a z r) c.in_err-add_next.field-0.0 c.from_residual.result c.from_residual.ensures.1
+    by_error (λ (r : Result (Unit {0}) FillError). HasFillCause a z r) c.in_err-add_next.field-0.0 c.from_residual.result c.from_residual.ensures.1
     (cause_since a (g.D.Disk.failures c.messages.disk) z (Err c.in_err-add_next.field-0.0) c.messages.invariant.cause c.in_err-add_next.ensures.cause)
 
 pub returns-in_err-add_next-clause-many : goal.returns-in_err-add_next-clause-many
@@ -72,16 +75,21 @@ returns-in_err-add_next-clause-many g c = λ honest base cursor shows front is.
     record {
       disk = c.messages.disk;
       folder = c.messages.folder;
-      at = was.kept.path;
+      at = was.kept.adds.path;
       full = inl (record {
         place = c.messages.i;
         cursor = cursor;
         message = next.0;
-        holds = was.held (c.add_next.ensures.kept.run.outside.honest honest) base cursor (shows_before a b z base c.add_next.ensures.reads.looks shows) front;
+        holds = was.held (c.add_next.ensures.kept.adds.run.outside.honest honest) base cursor (shows_before a b z base c.add_next.ensures.reads.looks shows) front;
         is = next.1;
         lacks = next.2;
       });
     }
+
+pub returns-clause-kept : goal.returns-clause-kept
+returns-clause-kept g c =
+    let end : c.messages.i ≡ c.args.to = omega (arith, c.requires.order) in
+    subst (λ (n : ℕ). FillsOnly {T = Unit {0}} g.H.Digest.keyed (n - c.args.from) c.args.folder.now c.messages.folder (g.D.Disk.state c.args.disk.now) (g.D.Disk.state c.messages.disk) (Ok tt)) end c.messages.invariant.kept
 
 pub returns-clause-added : goal.returns-clause-added
 returns-clause-added g c = λ honest base cursor shows front.

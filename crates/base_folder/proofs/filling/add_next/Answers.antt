@@ -2,11 +2,11 @@ use Rattle.std.proofs.Common.{◌≡◌, ◌∙◌, Some, sym}
 use Rattle.std.specs.Prelude.{slice_get}
 use Rattle.base_folder_store.specs.Opened.{held_by}
 use Rattle.base_folder.specs.Filled.{unfilled_cause}
-use Rattle.base_folder.proofs.Fillings.{adds_failed, adds_none, cause_stored, front_one, many_stored, none_missing, reads_fault, reads_folder}
+use Rattle.base_folder.proofs.Fillings.{cause_stored, fills_failed, fills_unread, front_one, many_stored, none_missing, reads_fault, reads_folder}
 use Rattle.base_folder.proofs.filling.add_next.Goals as goal
 
 pub returns-in-Err-clause-kept : goal.returns-in-Err-clause-kept
-returns-in-Err-clause-kept g c = adds_none c.args.folder.now (g.D.Disk.state c.args.disk.now) _ c.requires.usable
+returns-in-Err-clause-kept g c = fills_unread g.H.Digest.keyed c.args.folder.now (g.D.Disk.state c.args.disk.now) 1 _ c.requires.usable
 
 pub returns-in-Err-clause-reads : goal.returns-in-Err-clause-reads
 returns-in-Err-clause-reads g c =
@@ -16,7 +16,12 @@ returns-in-Err-clause-reads g c =
 
 pub returns-in_err-add-in-Some-clause-kept : goal.returns-in_err-add-in-Some-clause-kept
 returns-in_err-add-in-Some-clause-kept g c =
-    adds_failed c.args.folder.now c.add.new.folder (g.D.Disk.state c.args.disk.now) (g.D.Disk.state c.add.new.disk) _ _ c.from_residual.result c.from_residual.ensures.1 c.in_err-add-in-Some.ensures.kept
+    fills_failed g.H.Digest.keyed c.args.folder.now c.add.new.folder (g.D.Disk.state c.args.disk.now) (g.D.Disk.state c.add.new.disk) 1 _ c.in_err-add-in-Some.field-0.0 c.from_residual.result c.from_residual.ensures.1 c.in_err-add-in-Some.ensures.kept
+
+pub returns-in_ok-add-in-Some-clause-kept : goal.returns-in_ok-add-in-Some-clause-kept
+returns-in_ok-add-in-Some-clause-kept g c =
+    let was = c.in_ok-add-in-Some.ensures in
+    record { adds = record { named = was.kept.named; opened = was.kept.opened; path = was.kept.path; same = was.kept.same; run = was.kept.run }; more = was.more; unread = λ honest. tt }
 
 pub returns-in_err-add-in-Some-clause-reads : goal.returns-in_err-add-in-Some-clause-reads
 returns-in_err-add-in-Some-clause-reads g c =
@@ -42,7 +47,7 @@ returns-in_ok-add-in-Some-clause-added g c = λ honest base cursor shows was.
     front_one keyed old now base c.args.place cursor m shows.is at (c.in_ok-add-in-Some.ensures.added honest) was
 
 pub returns-in-None-clause-kept : goal.returns-in-None-clause-kept
-returns-in-None-clause-kept g c = adds_none c.args.folder.now (g.D.Disk.state c.args.disk.now) _ c.requires.usable
+returns-in-None-clause-kept g c = fills_unread g.H.Digest.keyed c.args.folder.now (g.D.Disk.state c.args.disk.now) 1 _ c.requires.usable
 
 pub returns-in-None-clause-reads : goal.returns-in-None-clause-reads
 returns-in-None-clause-reads g c =

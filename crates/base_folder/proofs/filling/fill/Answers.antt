@@ -1,11 +1,13 @@
 use Rattle.std.proofs.Common.{◌≡◌, ◌∙◌, List, ℕ, OnOk, ap, arith, inr, subst}
+use Rattle.disk_io.specs.Disk.{Files}
 use Rattle.base_log.specs.Moments.{KeepsOutside}
 use Rattle.base_log.proofs.Keeping.{outside_twice}
 use Rattle.base_folder_store.specs.Held.{HoldsBase, RepresentsBase}
 use Rattle.base_folder_store.specs.Opened.{committed_by, held_by, path_of}
-use Rattle.base_folder.specs.Filled.{IsKept, IsUnfilled, no_messages}
-use Rattle.base_folder.specs.declared.unfilled.UnfilledFolder.TheVariants as unfilled
-use Rattle.base_folder.proofs.Fillings.{cause_opened, cause_since, fill_run, full_at, never_many, opened_run, reads_folder}
+use Rattle.base_folder_store.proofs.Causes.{on_ok_none}
+use Rattle.base_folder.specs.Filled.{FillsAllOrNothing, IsKept, IsUncommitted, IsUnfilled, RepresentsMany, RepresentsNoneOr, RepresentsNoneOrWasLeft, no_messages}
+use Rattle.base_folder.specs.declared.fill_error.FillError.TheVariants as unfilled
+use Rattle.base_folder.proofs.Fillings.{cause_opened, cause_since, fill_since, full_at, never_many, opened_run, reads_folder, uncommitted_opened}
 use Rattle.base_folder.proofs.Lookings.{err_is}
 use Rattle.base_folder.proofs.Openings.{claimed_committed, claimed_named, claimed_opened, claimed_same}
 use Rattle.base_folder.proofs.Readings.{looks_none}
@@ -41,8 +43,20 @@ fill_opened-requires-clause-usable g c =
     }
 
 pub returns-in_err-folder-clause-any_moment : goal.returns-in_err-folder-clause-any_moment
-returns-in_err-folder-clause-any_moment g c = λ honest source base holds represented.
-    opened_run g.H.Digest.keyed c.args.path.now (g.D.Disk.state c.args.disk.now) (g.D.Disk.state c.open_base.new.disk) no_messages base (c.open_base.ensures.run.any_moment honest g.H.Digest.keyed no_messages represented)
+returns-in_err-folder-clause-any_moment g c = λ honest represented.
+    let keyed = g.H.Digest.keyed in
+    let path = c.args.path.now in
+    let d = g.D.Disk.state c.args.disk.now in
+    let e = g.D.Disk.state c.open_base.new.disk in
+    let left = RepresentsNoneOrWasLeft keyed path d in
+    let why = c.in_err-folder.field-0.0 in
+    let run = λ (P : Files → Type 0). opened_run keyed path d e P (c.open_base.ensures.run.any_moment honest keyed no_messages represented) in
+    record {
+      base = λ source base holds. run (RepresentsBase keyed path base);
+      many = run (RepresentsMany keyed path (g.M.MessageSource.state c.args.messages.now).count);
+      refused = err_is (IsUncommitted keyed path left d e) (unfilled.Folder why) c.from_residual.result c.from_residual.ensures.1 (uncommitted_opened keyed path left d e why (run (λ files. ⊥)));
+      filled = on_ok_none _ (unfilled.Folder why) c.from_residual.result c.from_residual.ensures.1;
+    }
 
 pub returns-in_err-folder-clause-reads : goal.returns-in_err-folder-clause-reads
 returns-in_err-folder-clause-reads g c =
@@ -64,16 +78,21 @@ pub returns-clause-filled : goal.returns-clause-filled
 returns-clause-filled g c = λ honest source base holds represented.
     let after = (goal.at.returns-clause-filled g c).After-fill_opened in
     let keyed = g.H.Digest.keyed in
-    subst (λ (p : List ℕ). OnOk c.fill_opened.result (IsKept keyed p (g.D.Disk.state c.fill_opened.new.disk) base)) (at g after)
+    subst (λ (p : List ℕ). OnOk c.fill_opened.result (IsKept (g.D.Disk.state c.fill_opened.new.disk) (RepresentsBase keyed p base))) (at g after)
     (c.fill_opened.ensures.filled honest source base holds (front g after (c.fill_opened.ensures.outside.honest honest) represented))
 
 pub returns-clause-any_moment : goal.returns-clause-any_moment
-returns-clause-any_moment g c = λ honest source base holds represented.
+returns-clause-any_moment g c = λ honest represented.
     let after = (goal.at.returns-clause-any_moment g c).After-fill_opened in
     let keyed = g.H.Digest.keyed in
+    let d = g.D.Disk.state c.args.disk.now in
+    let e = g.D.Disk.state c.open_base.new.disk in
+    let f = g.D.Disk.state c.fill_opened.new.disk in
+    let a = g.M.MessageSource.state c.args.messages.now in
+    let z = g.M.MessageSource.state c.fill_opened.new.messages in
     let before = c.fill_opened.ensures.outside.honest honest in
-    fill_run keyed c.args.path.now (path_of c.give_key.new.folder) (g.D.Disk.state c.args.disk.now) (g.D.Disk.state c.open_base.new.disk) (g.D.Disk.state c.fill_opened.new.disk) no_messages base (at g after)
-    (c.open_base.ensures.run.any_moment before keyed no_messages represented) c.open_base.ensures.run.outside (c.fill_opened.ensures.any_moment honest source no_messages base holds (first g after before represented) (front g after before represented))
+    fill_since keyed c.args.path.now d e f a z c.fill_opened.result (c.open_base.ensures.run.any_moment before keyed no_messages represented) c.open_base.ensures.run.outside
+    (subst (λ (p : List ℕ). FillsAllOrNothing keyed p (RepresentsNoneOr keyed p e) e f a z c.fill_opened.result) (at g after) (c.fill_opened.ensures.any_moment honest (first g after before represented) (front g after before represented)))
 
 pub returns-clause-outside : goal.returns-clause-outside
 returns-clause-outside g c =

@@ -1,7 +1,7 @@
 -- The additions of the messages so far.
 use Rattle.std.proofs.Common.{◌≡◌, ◌≤◌}
 use Rattle.base_file.specs.Base.{Base}
-use Rattle.cmd_numbered.specs.JamAdded.{HasAdded, added_of}
+use Rattle.cmd_numbered.specs.JamAdded.{Added, HasAdded, added_of}
 use Rattle.cmd_numbered.proofs.adding.added_of.Given as goal
 
 abbrev pub invariant-messages : goal.invariant-messages
@@ -11,7 +11,8 @@ invariant-messages g l = record {
   honest : (g.M.MessageSource.state l.messages).is_honest → (g.M.MessageSource.state l.fn.messages).is_honest;
   held : (base : Base) → (g.M.MessageSource.state l.fn.messages).holds base → (g.M.MessageSource.state l.messages).holds base;
   later : (g.M.MessageSource.state l.fn.messages).failures ≤ (g.M.MessageSource.state l.messages).failures;
-  so_far : (g.M.MessageSource.state l.messages).is_honest → (base : Base) → (g.M.MessageSource.state l.fn.messages).holds base
-      → HasAdded l.adding (g.W.Write.contents l.fn.texts) (g.W.Write.contents l.texts) (added_of l.area l.first base.cursor l.jam.headers.now l.jam.index.now l.jam.end base.messages l.i);
+  so_far : (added : Added) × HasAdded l.adding (g.W.Write.contents l.fn.texts) (g.W.Write.contents l.texts) added
+      × ((g.M.MessageSource.state l.messages).is_honest → (base : Base) → (g.M.MessageSource.state l.fn.messages).holds base
+      → added ≡ added_of l.area l.first base.cursor l.jam.headers.now l.jam.index.now l.jam.end base.messages l.i);
   failed : g.W.Sink.failures l.texts ≡ g.W.Sink.failures l.fn.texts;
 }

@@ -1,4 +1,4 @@
-use Rattle.std.proofs.Common.{◌≢◌, ◌-◌, length, get_or, sym, ◌∙◌, arith}
+use Rattle.std.proofs.Common.{◌≢◌, length, get_or, sym, ◌∙◌, arith}
 use Rattle.std.proofs.lemmas.Bool.{both_ways, eqb-false, true≢false}
 use Rattle.echo_addr.proofs.CappedNumbers.{Digested-more, Digested-all, no_number}
 use Rattle.echo_addr.proofs.digits.number.Goals as goal

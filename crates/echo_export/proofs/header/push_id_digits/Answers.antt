@@ -1,10 +1,11 @@
 use Rattle.std.proofs.Common.{codes}
-use Rattle.echo_export.proofs.Joins.{joined, on_ok}
+use Rattle.std.proofs.lemmas.Result.{on_ok_weaker}
+use Rattle.echo_export.proofs.Joins.{joined}
 use Rattle.echo_export.proofs.header.push_id_digits.Goals as goal
 
 pub returns : goal.returns
 returns c =
-    on_ok c.push_bytes-4.result
+    on_ok_weaker c.push_bytes-4.result
     (λ last.
     joined _ c.args.field.now _ _ _ c.in_ok-push_bytes.ensures
     (joined _ (codes ": <") _ _ _ c.in_ok-push_bytes-2.ensures

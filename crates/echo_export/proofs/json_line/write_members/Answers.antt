@@ -1,7 +1,8 @@
 use Rattle.std.proofs.Common.{◌≡◌, subst, ◌++◌, Option, option_copied}
+use Rattle.std.proofs.lemmas.Result.{on_ok_weaker}
 use Rattle.echo_charset.specs.declared.charset.Charset.{Charset}
 use Rattle.echo_export.specs.JsonLine.{charset_members, echo_members, name_members, place_members}
-use Rattle.echo_export.proofs.Joins.{joined, on_ok}
+use Rattle.echo_export.proofs.Joins.{joined}
 use Rattle.echo_export.proofs.json_line.write_members.Goals as goal
 
 pub returns-clause-tokens : goal.returns-clause-tokens
@@ -11,7 +12,7 @@ returns-clause-tokens c =
     let place = place_members c.args.i c.args.state m in
     let named = charset_members label in
     let charset = c.charset_for-charset.result in
-    on_ok c.write_echo.result
+    on_ok_weaker c.write_echo.result
     (λ last.
     subst (λ (read : Option Charset). c.write_echo.new.writer.tokens ≡ c.args.writer.now.tokens ++ (place ++ (name_members read m ++ (named ++ echo_members read m.echo)))) c.charset_for-charset.ensures
     (joined _ place _ _ _ c.in_ok-write_place.ensures.tokens

@@ -1,7 +1,8 @@
 use Rattle.std.proofs.Common.{◌≡◌, ap, subst, ◌∙◌, ◌++◌, codes}
+use Rattle.std.proofs.lemmas.Result.{on_ok_weaker}
 use Rattle.echo_filed.specs.Filed.{Filed}
 use Rattle.echo_export.specs.JsonLine.{name_members, text_member}
-use Rattle.echo_export.proofs.Joins.{joined, on_ok}
+use Rattle.echo_export.proofs.Joins.{joined}
 use Rattle.echo_export.proofs.json_line.write_names.Goals as goal
 
 pub returns-clause-tokens : goal.returns-clause-tokens
@@ -11,7 +12,7 @@ returns-clause-tokens c =
     let from = text_member charset (codes "from") i.from_name in
     let to = text_member charset (codes "to") i.to_name in
     let subject = text_member charset (codes "subject") i.subject in
-    on_ok c.write_text-4.result
+    on_ok_weaker c.write_text-4.result
     (λ last.
     subst (λ (m : Filed). c.write_text-4.new.writer.tokens ≡ c.args.writer.now.tokens ++ name_members charset m) c.message.view_is
     (joined _ from _ _ _ (c.in_ok-write_text.ensures.tokens ∙ ap (λ t. c.args.writer.now.tokens ++ text_member charset (codes "from") t) c.as_slice.ensures)

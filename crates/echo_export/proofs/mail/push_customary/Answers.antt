@@ -1,13 +1,14 @@
 use Rattle.std.proofs.Common.{ap, ◌++◌, ◌∙◌, codes, take}
 use Rattle.std.specs.Prelude.{slice_range}
+use Rattle.std.proofs.lemmas.Result.{on_ok_weaker}
 use Rattle.echo_export.specs.MailText.{century}
-use Rattle.echo_export.proofs.Joins.{joined, on_ok}
+use Rattle.echo_export.proofs.Joins.{joined}
 use Rattle.echo_export.proofs.mail.push_customary.Goals as goal
 
 pub returns : goal.returns
 returns c =
     let date = c.args.date.now in
-    on_ok c.push_bytes-7.result
+    on_ok_weaker c.push_bytes-7.result
     (λ last.
     joined _ (codes "Date: ") _ _ _ c.in_ok-push_bytes.ensures
     (joined _ (take 7 date) _ _ _ c.in_ok-push_bytes-2.ensures

@@ -1,8 +1,9 @@
 use Rattle.std.proofs.Common.{◌≡◌, subst, ◌++◌, codes, Option, None, option_copied}
+use Rattle.std.proofs.lemmas.Result.{on_ok_weaker}
 use Rattle.echo_charset.specs.declared.charset.Charset.{Charset}
 use Rattle.echo_export.specs.HeaderText.{found_line}
 use Rattle.echo_export.specs.MailText.{echo_head, form_lines, mailbox_line, name_lines}
-use Rattle.echo_export.proofs.Joins.{joined, on_ok}
+use Rattle.echo_export.proofs.Joins.{joined}
 use Rattle.echo_export.proofs.mail.push_head.Goals as goal
 
 pub returns : goal.returns
@@ -10,7 +11,7 @@ returns c =
     let m = c.args.message.now in
     let label = option_copied c.args.label in
     let charset = c.charset_for-charset.result in
-    on_ok c.push_form.result
+    on_ok_weaker c.push_form.result
     (λ last.
     subst (λ (read : Option Charset). c.push_form.new.mail.items ≡ c.args.mail.now.items ++ (mailbox_line ++ (name_lines read m ++ (echo_head read m.echo ++ (found_line (codes "X-FTN-CHRS") None label ++ form_lines read))))) c.charset_for-charset.ensures
     (joined _ mailbox_line _ _ _ c.in_ok-push_bytes.ensures

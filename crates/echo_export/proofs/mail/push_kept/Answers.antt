@@ -1,14 +1,15 @@
 use Rattle.std.proofs.Common.{ap, ◌++◌, ◌∙◌, codes}
+use Rattle.std.proofs.lemmas.Result.{on_ok_weaker}
 use Rattle.echo_text.specs.Echo.{msgid_of, reply_of, tear_of}
 use Rattle.echo_export.specs.HeaderText.{found_line}
-use Rattle.echo_export.proofs.Joins.{joined, on_ok}
+use Rattle.echo_export.proofs.Joins.{joined}
 use Rattle.echo_export.proofs.mail.push_kept.Goals as goal
 
 pub returns : goal.returns
 returns c =
     let kept = c.args.echo.now.kept in
     let charset = c.args.charset in
-    on_ok c.push_found-4.result
+    on_ok_weaker c.push_found-4.result
     (λ last.
     joined _ (found_line (codes "X-FTN-MSGID") charset (msgid_of kept)) _ _ _ (c.in_ok-push_found.ensures ∙ ap (λ t. c.args.mail.now.items ++ found_line (codes "X-FTN-MSGID") charset t) c.msgid.ensures)
     (joined _ (found_line (codes "X-FTN-REPLY") charset (reply_of kept)) _ _ _ (c.in_ok-push_found-2.ensures ∙ ap (λ t. c.push_found.new.mail.items ++ found_line (codes "X-FTN-REPLY") charset t) c.reply.ensures)

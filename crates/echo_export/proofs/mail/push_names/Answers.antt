@@ -1,15 +1,16 @@
 use Rattle.std.proofs.Common.{◌≡◌, ap, subst, ◌++◌, ◌∙◌, codes}
+use Rattle.std.proofs.lemmas.Result.{on_ok_weaker}
 use Rattle.echo_filed.specs.Filed.{Filed}
 use Rattle.echo_export.specs.HeaderText.{field_line, name_line}
 use Rattle.echo_export.specs.MailText.{name_lines}
-use Rattle.echo_export.proofs.Joins.{joined, on_ok}
+use Rattle.echo_export.proofs.Joins.{joined}
 use Rattle.echo_export.proofs.mail.push_names.Goals as goal
 
 pub returns : goal.returns
 returns c =
     let i = c.message.inside in
     let charset = c.args.charset in
-    on_ok c.push_date.result
+    on_ok_weaker c.push_date.result
     (λ last.
     subst (λ (m : Filed). c.push_date.new.mail.items ≡ c.args.mail.now.items ++ name_lines charset m) c.message.view_is
     (joined _ (name_line (codes "From") charset i.from_name) _ _ _ (c.in_ok-push_name.ensures ∙ ap (λ t. c.args.mail.now.items ++ name_line (codes "From") charset t) c.as_slice.ensures)

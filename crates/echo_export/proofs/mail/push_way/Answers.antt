@@ -1,13 +1,14 @@
 use Rattle.std.proofs.Common.{◌≡◌, ap, subst, ◌++◌, ◌∙◌, codes, length}
+use Rattle.std.proofs.lemmas.Result.{on_ok_weaker}
 use Rattle.echo_text.specs.Echo.{EchoText}
 use Rattle.echo_export.specs.MailText.{area_text, seen_line, way_lines, written_path}
-use Rattle.echo_export.proofs.Joins.{joined, on_ok}
+use Rattle.echo_export.proofs.Joins.{joined}
 use Rattle.echo_export.proofs.mail.push_way.Goals as goal
 
 pub returns : goal.returns
 returns c =
     let i = c.echo.inside in
-    on_ok c.push_bytes-2.result
+    on_ok_weaker c.push_bytes-2.result
     (λ last.
     subst (λ (e : EchoText). c.push_bytes-2.new.mail.items ≡ c.args.mail.now.items ++ way_lines e) c.echo.view_is
     (joined _ (codes "Newsgroups: ") _ _ _ c.in_ok-push_bytes.ensures

@@ -1,9 +1,10 @@
 use Rattle.std.proofs.Common.{ℕ, ◌++◌, ◌∙◌, ap}
+use Rattle.std.proofs.lemmas.Result.{on_ok_weaker}
 use Rattle.echo_filed.specs.Filed.{Filed}
 use Rattle.echo_filed.specs.Stored.{long}
 use Rattle.echo_jam.specs.JamMessage.{jam_attribute}
 use Rattle.echo_jam.specs.Moment.{seconds_of}
-use Rattle.echo_stored.proofs.Joins.{joined, on_ok}
+use Rattle.echo_stored.proofs.Joins.{joined}
 use Rattle.echo_jam.proofs.message.push_back.Goals as goal
 
 pub returns : goal.returns
@@ -11,7 +12,7 @@ returns c =
     let m = c.args.message.now in
     let written = c.seconds_of.ensures ∙ ap (λ (f : Filed). seconds_of f.date) c.message.view_is in
     let kind = c.jam_attribute.ensures ∙ ap (λ (f : Filed). jam_attribute c.args.scanned f.sender) c.message.view_is in
-    on_ok c.push_place.result
+    on_ok_weaker c.push_place.result
     (λ last.
     joined _ (long (seconds_of m.date) ++ (long 0 ++ long 0)) _ _ _ (c.in_ok-push_moments.ensures ∙ ap (λ (n : ℕ). c.args.header.now.items ++ (long n ++ (long 0 ++ long 0))) written)
     (joined _ (long c.args.number ++ (long (jam_attribute c.args.scanned m.sender) ++ long 0)) _ _ _ (c.in_ok-push_number.ensures ∙ ap (λ (n : ℕ). c.push_moments.new.header.items ++ (long c.args.number ++ (long n ++ long 0))) kind)

@@ -1,6 +1,6 @@
 use Rattle.std.proofs.Common.{◌+◌, ◌++◌, ◌∙◌, ap, arith, drop, length}
+use Rattle.std.proofs.lemmas.Result.{on_ok_weaker}
 use Rattle.echo_stored.proofs.Behind.{behind, longer}
-use Rattle.echo_stored.proofs.Joins.{on_ok}
 use Rattle.echo_stored.proofs.stored.push_text.Goals as goal
 
 pub push_behind-requires : goal.push_behind-requires
@@ -10,7 +10,7 @@ pub returns : goal.returns
 returns c =
     let e = c.args.message.now.echo in
     let old = c.args.stored.now.items in
-    on_ok c.push_behind.result
+    on_ok_weaker c.push_behind.result
     (λ last.
     last ∙ ap (λ n. old ++ drop n c.deref.result.now) c.area_len.ensures ∙ ap (λ t. old ++ drop (length e.tag + 6) t) (c.deref.ensures.value ∙ c.in_ok-text.ensures)
     ∙ ap (λ t. old ++ t) (behind e))

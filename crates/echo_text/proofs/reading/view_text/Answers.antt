@@ -12,7 +12,7 @@ returns-in_err-lists c = grind (arith, answers_memory, front_accepted)
 pub invariant_of-view : goal.invariant_of-view
 invariant_of-view c =
     read_is_echo c.args.text.now _ _ c.requires
-    (parts_are c.args.text.now _ _ _ _ _ _ _ c.in_ok-front.ensures c.in_ok-lists.ensures c.new.ensures c.new-2.ensures)
+    (parts_are c.args.text.now _ _ _ _ _ _ _ c.in_ok-front.ensures c.in_ok-lists.ensures c.new-3.ensures c.new-4.ensures)
 
 pub returns : goal.returns
-returns c = parts_are c.args.text.now _ _ _ _ _ _ _ c.in_ok-front.ensures c.in_ok-lists.ensures c.new.ensures c.new-2.ensures
+returns c = parts_are c.args.text.now _ _ _ _ _ _ _ c.in_ok-front.ensures c.in_ok-lists.ensures c.new-3.ensures c.new-4.ensures

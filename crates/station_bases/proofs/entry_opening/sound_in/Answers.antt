@@ -7,8 +7,8 @@ use Rattle.base_file.specs.declared.piece.Next.TheVariants as next
 use Rattle.station_bases.proofs.EntryJudged.{sound_here}
 use Rattle.station_bases.proofs.entry_opening.sound_in.Goals as goal
 
-pub returns-in-Sound : goal.returns-in-Sound
-returns-in-Sound c = λ file part.
+pub returns-in-Sound-clause-sound : goal.returns-in-Sound-clause-sound
+returns-in-Sound-clause-sound c = λ file part.
     let piece = c.args.piece.now in
     let k = c.args.at - piece.begins in
     let past = c.if-at-piece.false in

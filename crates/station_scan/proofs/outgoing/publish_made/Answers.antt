@@ -37,10 +37,11 @@ publish-requires g c κs =
     let making = c.requires.making in
     let for = for_made to c.requires.ready.routes making.0 c.args.packets.now making.1.counted made made_are in (
       (refl, tt),
-      (
-        (c.requires.ready.ready, open_growing to making.0 (is_made making.0) made for s1.disk some making.1.grows),
-        made_going to c.requires.ready.routes making.0 c.args.packets.now making.1.counted made made_are Own s1 c.requires.ready making.1.fit some,
-      ),
+      record {
+        ready = c.requires.ready.ready;
+        off = made_going to c.requires.ready.routes making.0 c.args.packets.now making.1.counted made made_are Own s1 c.requires.ready making.1.fit some;
+        opened = open_growing to making.0 (is_made making.0) made for s1.disk some making.1.grows;
+      },
     )
 
 pub returns-clause-sends : goal.returns-clause-sends

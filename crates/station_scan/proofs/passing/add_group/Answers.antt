@@ -54,7 +54,7 @@ append_group-requires g c κs =
     let making = c.requires.making.1 in (
       (refl, tt),
       (
-        (c.requires.ready.ready, c.requires.ready.settled),
+        record { ready = c.requires.ready.ready; settled = c.requires.ready.settled },
         (
           some,
           (

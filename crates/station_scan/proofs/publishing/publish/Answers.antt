@@ -33,7 +33,7 @@ returns-in-Ok-true-clause-any_moment g c = λ honest first next was is.
     let used = c.stage_on-store.ensures.used in
     let did = c.commit_staged.ensures in
     let honest1 = did.keeps.keeps.honest honest in
-    publishing batch.outbound.now batch.trial.now (ended_before s0 next) batch.packets.now s0 c.requires.off c.requires.ready.0 s1 used (g.P.Kept.Store.state c.commit_staged.result.store) honest1 first next was
+    publishing batch.outbound.now batch.trial.now (ended_before s0 next) batch.packets.now s0 c.requires.off c.requires.ready s1 used (g.P.Kept.Store.state c.commit_staged.result.store) honest1 first next was
     (subst (λ (r : Result Bool PublishError). OnOk r (All (IsWritten (ended_in s0.disk.seen) s1.disk.seen) batch.packets.now)) c.in-Ok-true.is (c.stage_on-store.ensures.ended honest1))
     (did.any_moment honest first next (used.holds.committed first was) (used.holds.keeps next is))
 
@@ -43,7 +43,7 @@ returns-in-Ok-true-clause-keeps = grind (arith, publish_keeps)
 pub returns-in-Ok-false-clause-any_moment : goal.returns-in-Ok-false-clause-any_moment
 returns-in-Ok-false-clause-any_moment g c = λ honest first next was is.
     let batch = c.args.batch in
-    stopping batch.outbound.now batch.trial.now (ended_before (g.P.Kept.Store.state c.args.store) next) batch.packets.now (g.P.Kept.Store.state c.args.store) c.requires.off c.requires.ready.0 (g.P.Kept.Store.state c.stage_on-store.result.store) c.stage_on-store.ensures.used honest first next was
+    stopping batch.outbound.now batch.trial.now (ended_before (g.P.Kept.Store.state c.args.store) next) batch.packets.now (g.P.Kept.Store.state c.args.store) c.requires.off c.requires.ready (g.P.Kept.Store.state c.stage_on-store.result.store) c.stage_on-store.ensures.used honest first next was
 
 pub returns-in-Ok-false-clause-keeps : goal.returns-in-Ok-false-clause-keeps
 returns-in-Ok-false-clause-keeps = grind (arith, staging_keeps)
@@ -54,7 +54,7 @@ returns-in-Err-clause-left g c honest = grind (arith, stops_before)
 pub returns-in-Err-clause-any_moment : goal.returns-in-Err-clause-any_moment
 returns-in-Err-clause-any_moment g c = λ honest first next was is.
     let batch = c.args.batch in
-    stopping batch.outbound.now batch.trial.now (ended_before (g.P.Kept.Store.state c.args.store) next) batch.packets.now (g.P.Kept.Store.state c.args.store) c.requires.off c.requires.ready.0 (g.P.Kept.Store.state c.stage_on-store.result.store) c.stage_on-store.ensures.used honest first next was
+    stopping batch.outbound.now batch.trial.now (ended_before (g.P.Kept.Store.state c.args.store) next) batch.packets.now (g.P.Kept.Store.state c.args.store) c.requires.off c.requires.ready (g.P.Kept.Store.state c.stage_on-store.result.store) c.stage_on-store.ensures.used honest first next was
 
 pub returns-in-Err-clause-keeps : goal.returns-in-Err-clause-keeps
 returns-in-Err-clause-keeps g c = grind (arith, staging_keeps)

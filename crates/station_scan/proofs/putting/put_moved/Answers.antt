@@ -1,26 +1,23 @@
-use Rattle.std.proofs.Common.{◌≡◌, ◌≤◌, ◌<◌, ◌⊎◌, ◌∙◌, ⊎_elim, ℕ, Result, ap, arith, inl, inr, refl, subst, sym}
+use Rattle.std.proofs.Common.{◌≡◌, ◌≤◌, ◌⊎◌, ◌∙◌, ⊎_elim, Result, arith, inl, inr, refl, subst, sym}
 use Rattle.disk_io.specs.Device.{Failed}
 use Rattle.disk_atomic.specs.declared.placing_error.PlacingError.{PlacingError}
-use Rattle.disk_atomic.specs.declared.placing_error.PlacingError.TheVariants.{Device, Memory, Taken}
+use Rattle.disk_atomic.specs.declared.placing_error.PlacingError.TheVariants.{Device, Taken}
 use Rattle.base_store.specs.Store.{all_scanned}
 use Rattle.cmd_status.specs.Devices.{output_of}
 use Rattle.station.proofs.Failures.{failed_wider}
-use Rattle.station_scan.specs.Moved.{reported_as}
 use Rattle.station_scan.specs.Left.{EndsLeft}
 use Rattle.station_scan.specs.Scanning.{ScansOnStore}
-use Rattle.station_scan.specs.Stops.{most}
 use Rattle.station_scan.specs.declared.pieces.Source.{Source}
 use Rattle.station_scan.specs.declared.scan_error.ScanError.{ScanError}
-use Rattle.station_scan.specs.declared.scan_error.ScanError.TheVariants.{Placing, TooFar}
 use Rattle.station_scan.specs.declared.sending.Sending.{Sending}
 use Rattle.station_scan.proofs.Outs.{out_keeps}
 use Rattle.station_scan.proofs.Puts.{moved_still, scans_early, scans_left, scans_put, tries_put}
-use Rattle.station_scan.proofs.Reports.{far_other, placing_err_of, placing_other}
+use Rattle.station_scan.proofs.Reports.{placing_err_of, unplanned_other, unplanned_why}
 use Rattle.station_scan.proofs.Written.{used_settled}
 use Rattle.station_scan.proofs.putting.put_moved.Goals as goal
 
-pub returns-then-from-gt-MOST-clause-scans : goal.returns-then-from-gt-MOST-clause-scans
-returns-then-from-gt-MOST-clause-scans g c = λ honest base moved.
+pub returns-in-Err-clause-scans : goal.returns-in-Err-clause-scans
+returns-in-Err-clause-scans g c = λ honest base moved.
     let Own = g.P.Paths.OwnPaths.is_own c.args.paths.now in
     let source : Source = record { links = c.args.links; stamp = c.args.scan.now.stamp; from = c.args.from } in
     let outbound = c.args.scan.now.outbound.now in
@@ -34,27 +31,10 @@ returns-then-from-gt-MOST-clause-scans g c = λ honest base moved.
     let now = output_of g.W.Write.contents g.W.Sink.failures g.W.Sink.holds c.report-store.new.out in
     let failed = Failed f0 f2 ⊎ Failed (g.G.ListStaged.failures c.args.scan.now.listing) (g.G.ListStaged.failures c.args.scan.now.listing) in
     let IsTrue = g.G.ListStaged.is_true c.args.scan.now.listing in
+    let why = c.in-Err.why in
+    let stop = c.in-Err.ensures.stop in
     subst (λ (r : Result (Unit {0}) ScanError). ScansOnStore source.stamp Own outbound IsTrue failed s0 s2 out now source.links.now base r) (sym c.reported_as-done.ensures)
-    (scans_early Own outbound source IsTrue failed s0 s2 base out now TooFar reported moved (report.looks.quiet.honest honest) report.looks.quiet far_other (subst (λ (n : ℕ). most < n) moved.at c.if-from-gt-MOST.true)
-    (report.answers honest (all_scanned base) moved.keeps) (λ e. report.cause.damaged honest e (all_scanned base) moved.keeps))
-
-pub returns-in-Err-clause-scans : goal.returns-in-Err-clause-scans
-returns-in-Err-clause-scans g c = λ honest base moved.
-    let Own = g.P.Paths.OwnPaths.is_own c.args.paths.now in
-    let source : Source = record { links = c.args.links; stamp = c.args.scan.now.stamp; from = c.args.from } in
-    let outbound = c.args.scan.now.outbound.now in
-    let s0 = g.P.Kept.Store.state c.args.store in
-    let f0 = g.P.Kept.Store.failures c.args.store in
-    let out = output_of g.W.Write.contents g.W.Sink.failures g.W.Sink.holds c.args.out.now in
-    let s2 = g.P.Kept.Store.state c.report-store-in-Err.result.store in
-    let f2 = g.P.Kept.Store.failures c.report-store-in-Err.result.store in
-    let report = c.report-store-in-Err.ensures in
-    let reported = c.report-store-in-Err.result.done in
-    let now = output_of g.W.Write.contents g.W.Sink.failures g.W.Sink.holds c.report-store-in-Err.new.out in
-    let failed = Failed f0 f2 ⊎ Failed (g.G.ListStaged.failures c.args.scan.now.listing) (g.G.ListStaged.failures c.args.scan.now.listing) in
-    let IsTrue = g.G.ListStaged.is_true c.args.scan.now.listing in
-    subst (λ (r : Result (Unit {0}) ScanError). ScansOnStore source.stamp Own outbound IsTrue failed s0 s2 out now source.links.now base r) (sym (c.reported_as-done-in-Err.ensures ∙ ap (λ (w : ScanError). reported_as w reported) c.from.ensures))
-    (scans_early Own outbound source IsTrue failed s0 s2 base out now (Placing Memory) reported moved (report.looks.quiet.honest honest) report.looks.quiet (placing_other Memory) tt
+    (scans_early Own outbound source IsTrue failed s0 s2 base out now why reported moved (report.looks.quiet.honest honest) report.looks.quiet (unplanned_other c.args.from why stop) (unplanned_why failed _ c.args.from base.cursor why moved.at stop)
     (report.answers honest (all_scanned base) moved.keeps) (λ e. report.cause.damaged honest e (all_scanned base) moved.keeps))
 
 pub returns-in-Ok-done-clause-scans : goal.returns-in-Ok-done-clause-scans
@@ -66,7 +46,7 @@ returns-in-Ok-done-clause-scans g c = λ honest base moved.
     let f0 = g.P.Kept.Store.failures c.args.store in
     let out = output_of g.W.Write.contents g.W.Sink.failures g.W.Sink.holds c.args.out.now in
     let to : Sending = record { outbound = c.args.scan.now.outbound; own = c.as_slice.result; trial = c.as_slice-2.result; routes = c.as_slice-3.result; source = source } in
-    let own_is = c.as_slice.ensures ∙ c.in-Ok.ensures.system in
+    let own_is = c.as_slice.ensures ∙ c.in-Ok.ensures.plan.system in
     let IsTrue = g.G.ListStaged.is_true c.finish_on-store.new.listing in
     let finish = c.finish_on-store.ensures in
     let s1 = g.P.Kept.Store.state c.finish_on-store.result.store in
@@ -97,7 +77,7 @@ returns-in-Ok-done-clause-tried g c = λ honest base moved.
     let f0 = g.P.Kept.Store.failures c.args.store in
     let out = output_of g.W.Write.contents g.W.Sink.failures g.W.Sink.holds c.args.out.now in
     let to : Sending = record { outbound = c.args.scan.now.outbound; own = c.as_slice.result; trial = c.as_slice-2.result; routes = c.as_slice-3.result; source = source } in
-    let own_is = c.as_slice.ensures ∙ c.in-Ok.ensures.system in
+    let own_is = c.as_slice.ensures ∙ c.in-Ok.ensures.plan.system in
     let IsTrue = g.G.ListStaged.is_true c.finish_on-store.new.listing in
     let finish = c.finish_on-store.ensures in
     let s1 = g.P.Kept.Store.state c.finish_on-store.result.store in
@@ -130,7 +110,7 @@ returns-clause-scans g c = λ honest base moved.
     let f0 = g.P.Kept.Store.failures c.args.store in
     let out = output_of g.W.Write.contents g.W.Sink.failures g.W.Sink.holds c.args.out.now in
     let to : Sending = record { outbound = c.args.scan.now.outbound; own = c.as_slice.result; trial = c.as_slice-2.result; routes = c.as_slice-3.result; source = source } in
-    let own_is = c.as_slice.ensures ∙ c.in-Ok.ensures.system in
+    let own_is = c.as_slice.ensures ∙ c.in-Ok.ensures.plan.system in
     let IsTrue = g.G.ListStaged.is_true c.finish_on-store.new.listing in
     let finish = c.finish_on-store.ensures in
     let s1 = g.P.Kept.Store.state c.finish_on-store.result.store in

@@ -18,7 +18,7 @@ returns-in_err-message-clause-fetched g c honest = λ base sees.
     let d = g.D.Disk.state r.disk in
     let within : c.args.place < length base.messages = omega (arith, c.requires.within, sees.count) in
     let read = read_at g.H.Digest.keyed (held_by d r.folder) base sees.holds c.args.place within in
-    answers_error {T = Filed} (λ (m : Filed). m ≡ message_in Second read.s) (λ _. r.message ≡ slice_get base.messages c.args.place) _ c.from_residual.result c.from_residual.ensures.1
+    answers_error {T = Filed} (λ (m : Filed). m ≡ message_in Second read.s) (λ _. c.take-gone.new.self ≡ slice_get base.messages c.args.place) _ c.from_residual.result c.from_residual.ensures.1
     (c.in_err-message.ensures.message honest read.s read.there read.digest)
 
 pub returns-clause-fetched : goal.returns-clause-fetched

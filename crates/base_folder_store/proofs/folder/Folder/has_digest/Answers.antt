@@ -1,4 +1,4 @@
-use Rattle.std.proofs.Common.{◌≡◌, ◌∙◌, List, ℕ, refl, sym, ap}
+use Rattle.std.proofs.Common.{◌∙◌, refl, sym, ap}
 use Rattle.base_store.specs.Keys.{digested, digested_key}
 use Rattle.base_store.proofs.Digests.{of_key}
 use Rattle.base_folder_store.specs.Held.{digest_by}
@@ -9,6 +9,5 @@ pub returns : goal.returns
 returns g c =
     let m = c.args.message.now in
     let mark = c.args.self.now.recorded.mark in
-    let bytes : c.deref.result.now ≡ digested m = c.deref.ensures.value ∙ c.in_ok-digested.ensures ∙ ap digested_key c.in_ok-key.ensures ∙ sym (of_key m) in
-    let is_digest = c.digest.ensures ∙ ap (λ (l : List ℕ). digest_by g.H.Digest.keyed mark l) bytes in
-    same_number c.args.digest c.digest.result c.args.digest (digest_by g.H.Digest.keyed mark (digested m)) refl is_digest
+    let is_digest = c.in_ok-own.ensures ∙ ap (digest_by g.H.Digest.keyed mark) (ap digested_key c.in_ok-key.ensures ∙ sym (of_key m)) in
+    same_number c.args.digest c.in_ok-own.own c.args.digest (digest_by g.H.Digest.keyed mark (digested m)) refl is_digest

@@ -5,7 +5,8 @@ use Rattle.base_folder_store.specs.Held.{HoldsBase}
 use Rattle.base_folder_store.specs.Left.{IsPurgedTo, changed_in}
 use Rattle.base_folder_store.specs.Opened.{committed_by, path_of}
 use Rattle.base_folder_store.proofs.Beside.{committed_others, many_readable}
-use Rattle.base_folder_store.proofs.Causes.{failed_since, handed_on}
+use Rattle.base_store.proofs.Causes.{failed_since}
+use Rattle.base_folder_store.proofs.Causes.{handed_on}
 use Rattle.base_folder_store.proofs.Runs.{run_none, run_twice}
 use Rattle.base_folder_store.proofs.Stubbed.{at_most_one}
 use Rattle.base_folder_store.proofs.folder.Folder.leave_all.Given as given

@@ -19,7 +19,8 @@ use Rattle.base_folder_store.specs.declared.leaving.Left.{Left}
 use Rattle.base_folder_store.specs.declared.reading.StoredMessage.{StoredMessage}
 use Rattle.base_folder_store.proofs.Bases.{open_quiet, recorded_where}
 use Rattle.base_folder_store.proofs.Beside.{committed_others, many_readable, readable_others, readable_held, readable_quiet, recorded_readable}
-use Rattle.base_folder_store.proofs.Causes.{failed_since, handed_on, purge_cause}
+use Rattle.base_store.proofs.Causes.{failed_since}
+use Rattle.base_folder_store.proofs.Causes.{handed_on, purge_cause}
 use Rattle.base_folder_store.proofs.Fits.{room_left, shorter_more}
 use Rattle.base_folder_store.proofs.Legible.{held_quiet, keys_all, legible_open, messages_all}
 use Rattle.base_folder_store.proofs.Looked.{some_message}

@@ -9,7 +9,8 @@ use Rattle.base_folder_store.specs.Left.{first_left}
 use Rattle.base_folder_store.specs.Opened.{committed_by, held_by, path_of}
 use Rattle.base_folder_store.specs.declared.folder.Folder.{Folder}
 use Rattle.base_folder_store.proofs.Beside.{cursor_open, many_readable, rest_readable}
-use Rattle.base_folder_store.proofs.Causes.{failed_since, handed_on, on_ok_none}
+use Rattle.base_store.proofs.Causes.{failed_since}
+use Rattle.base_folder_store.proofs.Causes.{handed_on, on_ok_none}
 use Rattle.base_folder_store.proofs.Runs.{run_from_commit}
 use Rattle.base_folder_store.proofs.Stubbed.{changed_whole, left_none, left_whole}
 use Rattle.base_folder_store.proofs.folder.Folder.purge.Given as given

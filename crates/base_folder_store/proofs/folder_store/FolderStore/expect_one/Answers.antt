@@ -5,8 +5,8 @@ use Rattle.base_folder_store.proofs.Stated.{looks}
 use Rattle.base_folder_store.proofs.WhereSo.{looks_where}
 use Rattle.base_folder_store.proofs.folder_store.FolderStore.expect_one.Goals as goal
 
-pub returns-clause-looks : goal.returns-clause-looks
-returns-clause-looks g c =
+pub returns-in-Ok-clause-looks : goal.returns-in-Ok-clause-looks
+returns-in-Ok-clause-looks g c =
     let s = c.args.self.now in
     let d = g.D.Disk.state s.disk in
     let keyed = g.H.Digest.keyed in

@@ -26,7 +26,7 @@ pub returns-clause-ready : goal.returns-clause-ready
 returns-clause-ready g c =
     let e = g.D.Disk.state c.purge.new.disk in
     let now = c.purge.new.self in
-    on_ok_weaker {P = IsUsable e now} c.purge.result (λ usable. (usable, λ honest. (c.new-index.ensures.index (held_by e now).keys, c.new-buffers.ensures (held_by e now).messages (held_by e now).keys)))
+    on_ok_weaker {P = IsUsable e now} c.purge.result (λ usable. (usable, λ honest. (c.new-index.ensures (held_by e now).keys, c.new-buffers.ensures (held_by e now).messages (held_by e now).keys)))
     (usable_after e now c.purge.result c.purge.ensures.stays.named c.purge.ensures.stays.opened)
 
 pub returns-clause-undone : goal.returns-clause-undone

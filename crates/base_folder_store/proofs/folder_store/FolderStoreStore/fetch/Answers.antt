@@ -32,7 +32,7 @@ returns-in_err-message-clause-cause g c =
     let p = err_from_is_err_and c.from_residual.result c.from_residual.ensures.1 in
     rw (p.1, p.2)
     (handed_cause (where_so (state_of d keyed s.folder s.message) (IsCached d s.folder s.index s.buffers))
-    (where_so (state_of (g.D.Disk.state c.read.new.disk) keyed s.folder s.message) (IsCached (g.D.Disk.state c.read.new.disk) s.folder s.index c.read.new.buffers)) (λ (base : Base) (m : Filed). slice_get base.messages c.args.place ≡ Some m) (g.D.Disk.failures s.disk) (g.D.Disk.failures c.read.new.disk) c.in_err-message.field-0.0
+    (where_so (state_of (g.D.Disk.state c.read.new.disk) keyed s.folder c.take-gone.new.self) (IsCached (g.D.Disk.state c.read.new.disk) s.folder s.index c.read.new.buffers)) (λ (base : Base) (m : Filed). slice_get base.messages c.args.place ≡ Some m) (g.D.Disk.failures s.disk) (g.D.Disk.failures c.read.new.disk) c.in_err-message.field-0.0
     c.in_err-message.ensures.cause (λ honest base holds.
     let was = c.in_err-message.ensures.quiet.honest honest in
     c.in_err-message.ensures.read honest base.messages (recorded_where keyed (held_by d s.folder) base holds) (c.requires.within was base holds)))
@@ -51,8 +51,8 @@ returns-in_err-message-clause-looks g c =
     let d = g.D.Disk.state s.disk in
     let e = g.D.Disk.state c.read.new.disk in
     let keyed = g.H.Digest.keyed in
-    looks_where (state_of d keyed s.folder s.message) (state_of e keyed s.folder s.message) (IsCached d s.folder s.index s.buffers) (IsCached e s.folder s.index c.read.new.buffers)
-    (looks d e keyed s.folder s.message s.message c.requires.ready.0 c.read.ensures.quiet) (λ honest.
+    looks_where (state_of d keyed s.folder s.message) (state_of e keyed s.folder c.take-gone.new.self) (IsCached d s.folder s.index s.buffers) (IsCached e s.folder s.index c.read.new.buffers)
+    (looks d e keyed s.folder s.message c.take-gone.new.self c.requires.ready.0 c.read.ensures.quiet) (λ honest.
     let same = held_quiet d e s.folder c.read.ensures.quiet in (
       indexed_held d e s.folder s.folder s.index same (c.requires.ready.1 (c.read.ensures.quiet.honest honest)).0,
       parts_held d e s.folder s.folder c.read.new.buffers same (c.read.ensures.parts honest),

@@ -17,8 +17,8 @@ returns-in_err-bytes-clause-commits g c =
     let old = where_so (state_of (g.D.Disk.state s.disk) g.H.Digest.keyed s.folder s.message) (IsCached (g.D.Disk.state s.disk) s.folder s.index s.buffers) in
     looks_commit old old c.requires.ready (no_look old c.requires.ready)
 
-pub returns-in_err-digested-clause-commits : goal.returns-in_err-digested-clause-commits
-returns-in_err-digested-clause-commits g c =
+pub returns-in_err-digest-clause-commits : goal.returns-in_err-digest-clause-commits
+returns-in_err-digest-clause-commits g c =
     let s = c.args.self.now in
     let old = where_so (state_of (g.D.Disk.state s.disk) g.H.Digest.keyed s.folder s.message) (IsCached (g.D.Disk.state s.disk) s.folder s.index s.buffers) in
     looks_commit old old c.requires.ready (no_look old c.requires.ready)
@@ -28,9 +28,9 @@ returns-clause-filed g c = λ honest base holds.
     let s = c.args.self.now in
     let keyed = g.H.Digest.keyed in
     let before = held_by (g.D.Disk.state s.disk) s.folder in
-    let stored = subst (λ (l : List ℕ). IsStoredAlone c.args.message l) (sym c.deref-2.ensures.value) c.in_ok-bytes.ensures.stored in
+    let stored = subst (λ (l : List ℕ). IsStoredAlone c.args.message l) (sym c.deref.ensures.value) c.in_ok-bytes.ensures.stored in
     let after = held_by (g.D.Disk.state c.stage.new.disk) c.stage.new.self in
-    done_both (λ staged fits. filed_more keyed after before base c.args.message c.args.key c.deref-2.result.now c.deref.result.now c.digest-digest.result staged fits holds stored c.in_ok-bytes.ensures.filed c.requires.own (c.requires.new (c.stage.ensures.run.outside.honest honest) base holds) (c.deref.ensures.value ∙ c.in_ok-digested.ensures) c.digest-digest.ensures)
+    done_both (λ staged fits. filed_more keyed after before base c.args.message c.args.key c.deref.result.now c.in_ok-digest.digest staged fits holds stored c.in_ok-bytes.ensures.filed c.requires.own (c.requires.new (c.stage.ensures.run.outside.honest honest) base holds) c.in_ok-digest.ensures)
     c.stage.result (c.stage.ensures.staged honest) (c.stage.ensures.fits honest)
 
 pub returns-clause-goes_on : goal.returns-clause-goes_on
@@ -43,7 +43,7 @@ returns-clause-goes_on g c =
     let says = c.stage.ensures in
     goes_on_where (state_of d keyed s.folder s.message) (state_of e keyed now s.message) (IsCached d s.folder s.index s.buffers) (IsCached e now s.index s.buffers) c.stage.result
     (went_on d e keyed s.folder now s.message s.message c.stage.result says.stays says.same says.run.outside)
-    (cached_more d e s.folder now s.index s.buffers c.stage.result c.deref-2.result.now c.digest-digest.result says.staged says.run.outside.honest c.requires.ready.1)
+    (cached_more d e s.folder now s.index s.buffers c.stage.result c.deref.result.now c.in_ok-digest.digest says.staged says.run.outside.honest c.requires.ready.1)
 
 pub returns-clause-undone : goal.returns-clause-undone
 returns-clause-undone g c = at_error c.stage.result (λ honest undoes base holds. absurd undoes)
@@ -66,5 +66,5 @@ returns-in_err-bytes-clause-many g c is room =
 
 pub returns-clause-many : goal.returns-clause-many
 returns-clause-many g c is room =
-    let size = ap (λ (l : List ℕ). length l) (c.deref-2.ensures.value ∙ c.in_ok-bytes.ensures.bytes) in
+    let size = ap (λ (l : List ℕ). length l) (c.deref.ensures.value ∙ c.in_ok-bytes.ensures.bytes) in
     room.room (subst (λ (n : ℕ). LacksRoom c.args.self.now.folder n) size (c.stage.ensures.many is))

@@ -1,6 +1,5 @@
-use Rattle.std.proofs.Common.{◌≡◌, inl, Bool, ap, ◌∙◌}
+use Rattle.std.proofs.Common.{◌≡◌, inl, Bool}
 use Rattle.base_file.specs.Base.{Base, is_known}
-use Rattle.base_folder_store.specs.Held.{digest_by}
 use Rattle.base_folder_store.specs.Opened.{held_by}
 use Rattle.base_folder_store.specs.State.{IsCached, state_of, where_so}
 use Rattle.base_folder_store.proofs.Bases.{recorded_where}
@@ -18,7 +17,7 @@ returns-clause-found g c = λ honest base holds.
     let keyed = g.H.Digest.keyed in
     answered (λ (found : Bool). found ≡ is_known base.messages c.args.key.now) c.find.result
     (c.find.ensures.found honest base.messages (recorded_where keyed (held_by d s.folder) base holds)
-    (key_digest keyed (held_by d s.folder) base c.args.key.now c.digest-digest.result holds (c.digest-digest.ensures ∙ ap (digest_by keyed s.folder.recorded.mark) (c.deref.ensures.value ∙ c.in_ok-bytes.ensures))))
+    (key_digest keyed (held_by d s.folder) base c.args.key.now c.in_ok-digest.digest holds c.in_ok-digest.ensures))
 
 pub returns-clause-cause : goal.returns-clause-cause
 returns-clause-cause g c =
@@ -28,7 +27,7 @@ returns-clause-cause g c =
     let e = g.D.Disk.state c.find.new.disk in
     read_cause (where_so (state_of d keyed s.folder s.message) (IsCached d s.folder s.index s.buffers)) (where_so (state_of e keyed s.folder s.message) (IsCached e s.folder c.find.new.index s.buffers)) (λ (base : Base) (found : Bool). found ≡ is_known base.messages c.args.key.now) (g.D.Disk.failures s.disk) (g.D.Disk.failures c.find.new.disk) c.find.result c.find.ensures.cause
     (λ honest base holds. c.find.ensures.found honest base.messages (recorded_where keyed (held_by d s.folder) base holds)
-    (key_digest keyed (held_by d s.folder) base c.args.key.now c.digest-digest.result holds (c.digest-digest.ensures ∙ ap (digest_by keyed s.folder.recorded.mark) (c.deref.ensures.value ∙ c.in_ok-bytes.ensures))))
+    (key_digest keyed (held_by d s.folder) base c.args.key.now c.in_ok-digest.digest holds c.in_ok-digest.ensures))
 
 pub find-requires-clause-legible : goal.find-requires-clause-legible
 find-requires-clause-legible g c honest = legible_open (g.D.Disk.state c.args.self.now.disk) c.args.self.now.folder (c.requires.0.opened honest)

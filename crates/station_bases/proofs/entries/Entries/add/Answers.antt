@@ -1,8 +1,8 @@
 use Rattle.std.proofs.Common.{◌≡◌, ◌++◌, ℕ, List, length, ◌||◌, refl, sym, ap, subst, ◌∙◌, arith, length-append}
 use Rattle.std.proofs.lemmas.Bool.{or_parts}
-use Rattle.base_store.specs.Index.{IsIndexOf}
+use Rattle.base_store.specs.Chains.{AreChains}
 use Rattle.base_store.specs.Keys.{entry}
-use Rattle.base_store.proofs.Found.{index_stays}
+use Rattle.base_store.proofs.Indexed.{chains_stay}
 use Rattle.echo_filed.specs.Stored.{is_short}
 use Rattle.echo_filed.specs.declared.stored.Version.TheVariants.{Second}
 use Rattle.station_bases.proofs.EntryMore.{added}
@@ -39,7 +39,7 @@ returns-clause-indexed c =
     let end : c.push.new.self.end ≡ e.end = ap (λ x. x.end) same in
     record {
       even = omega (arith, long, size, even);
-      index = subst (λ i. IsIndexOf c.push.new.self.keys.items i) (sym (ap (λ x. x.index) same)) (subst (λ (l : List ℕ). IsIndexOf l e.index) (sym keys) (index_stays e.keys.items more e.index c.requires.index));
+      chains = subst (λ x. AreChains c.push.new.self.keys.items x) (sym (ap (λ x. x.chains) same)) (subst (λ (l : List ℕ). AreChains l e.chains) (sym keys) (chains_stay e.keys.items more e.chains c.requires.chains));
       head = omega (arith, end, head);
       fits = omega (arith, end, fits);
     }

@@ -1,7 +1,7 @@
 use Rattle.std.proofs.Common.{◌≡◌, ◌-◌, ◌++◌, ℕ, List, length, refl, sym, ap, subst, ◌∙◌, arith, length-append}
-use Rattle.base_store.specs.Index.{IsIndexOf}
+use Rattle.base_store.specs.Chains.{AreChains}
 use Rattle.base_store.specs.Keys.{entry}
-use Rattle.base_store.proofs.Found.{index_stays}
+use Rattle.base_store.proofs.Indexed.{chains_stay}
 use Rattle.station_bases.proofs.entries.Entries.append.Goals as goal
 
 pub returns-clause-keys : goal.returns-clause-keys
@@ -18,7 +18,7 @@ returns-clause-indexed c =
     let head = c.requires.head in
     record {
       even = omega (arith, long, size, even);
-      index = subst (λ (l : List ℕ). IsIndexOf l c.args.self.now.index) (sym same) (index_stays keys more c.args.self.now.index c.requires.index);
+      chains = subst (λ (l : List ℕ). AreChains l c.args.self.now.chains) (sym same) (chains_stay keys more c.args.self.now.chains c.requires.chains);
       head = omega (arith, c.in-Some.ensures, head);
       fits = omega (arith, c.in-Some.ensures);
     }

@@ -32,7 +32,7 @@ returns-clause-can g c =
     let head = was.head in
     let end : c.in-Some.end ≡ e.end + length e.waiting.items = omega (arith, c.in-Some.ensures, c.len.ensures) in
     record {
-      indexed = record { even = was.even; index = was.index; head = omega (arith, end, head); fits = omega (arith, c.in-Some.ensures) };
+      indexed = record { even = was.even; chains = was.chains; head = omega (arith, end, head); fits = omega (arith, c.in-Some.ensures) };
       legible = λ honest.
           let file = bytes_in (d0.seen path) in
           let on = c.in_ok-put_around.ensures.replaced honest in

@@ -1,6 +1,5 @@
-use Rattle.std.proofs.Common.{ap, sym, ◌∙◌}
+use Rattle.std.proofs.Common.{sym, ◌∙◌}
 use Rattle.disk_io.specs.Disk.{bytes_in}
-use Rattle.station_bases.specs.Entries.{entry_digest}
 use Rattle.station_bases.proofs.EntryKeys.{key_recorded, where_recorded}
 use Rattle.station_bases.proofs.entries.Entries.digest_if_new.Goals as goal
 
@@ -9,4 +8,4 @@ returns-in-Ok-false-clause-new g c honest = λ base cursor are.
     let e = c.args.self.now in
     let file = bytes_in ((g.D.Disk.state c.args.disk.now).seen c.args.path.now) in
     sym (c.in-Ok-false.ensures.found honest base (where_recorded file e base cursor are)
-    (key_recorded file e base cursor are c.args.key.now c.of-digest.result (c.of-digest.ensures ∙ ap (entry_digest e) (c.deref.ensures.value ∙ c.in_ok-bytes.ensures)))) ∙ c.in-Ok-false.field-0-test
+    (key_recorded file e base cursor are c.args.key.now c.in_ok-digest.digest c.in_ok-digest.ensures)) ∙ c.in-Ok-false.field-0-test

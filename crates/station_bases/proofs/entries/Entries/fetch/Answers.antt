@@ -1,4 +1,4 @@
-use Rattle.std.proofs.Common.{◌≡◌, Some, arith, sym}
+use Rattle.std.proofs.Common.{◌≡◌, ◌∙◌, Some, arith, sym}
 use Rattle.std.specs.Prelude.{slice_get}
 use Rattle.disk_io.specs.Disk.{bytes_in}
 use Rattle.echo_filed.specs.Filed.{Filed}
@@ -22,4 +22,4 @@ returns-in_err-message-clause-fetched g c honest = λ base held less.
 pub returns-clause-fetched : goal.returns-clause-fetched
 returns-clause-fetched g c honest = λ base held less.
     let file = bytes_in ((g.D.Disk.state c.args.disk.now).seen c.args.path.now) in
-    sym (c.in_ok-message.ensures.read honest base.messages (where_recorded file c.args.self.now base.messages base.cursor held.files) less)
+    c.replace-gone.ensures.after ∙ sym (c.in_ok-message.ensures.read honest base.messages (where_recorded file c.args.self.now base.messages base.cursor held.files) less)

@@ -10,4 +10,4 @@ use Rattle.std.proofs.Common.{◌≡◌, false}
 pub returns-clause-held : goal.returns-clause-held
 returns-clause-held c = λ file base inside held new.
     c.add.ensures.held file base inside held (subst (λ (k : Key). is_known base.messages k ≡ false) c.requires.own new)
-    (c.of-digest.ensures ∙ ap (entry_digest c.args.self.now) (c.deref.ensures.value ∙ c.in_ok-bytes.ensures ∙ ap digested_key c.requires.own ∙ sym (of_key c.args.message.now)))
+    (c.in_ok-digest.ensures ∙ ap (entry_digest c.args.self.now) (ap digested_key c.requires.own ∙ sym (of_key c.args.message.now)))

@@ -1,6 +1,4 @@
-use Rattle.std.proofs.Common.{ap, ◌∙◌}
 use Rattle.disk_io.specs.Disk.{bytes_in}
-use Rattle.station_bases.specs.Entries.{entry_digest}
 use Rattle.station_bases.proofs.EntryKeys.{key_recorded, where_recorded}
 use Rattle.station_bases.proofs.entries.Entries.knows.Goals as goal
 
@@ -9,4 +7,4 @@ returns-clause-found g c honest = λ base held.
     let e = c.args.self.now in
     let file = bytes_in ((g.D.Disk.state c.args.disk.now).seen c.args.path.now) in
     c.find.ensures.found honest base.messages (where_recorded file e base.messages base.cursor held.files)
-    (key_recorded file e base.messages base.cursor held.files c.args.key.now c.of-digest.result (c.of-digest.ensures ∙ ap (entry_digest e) (c.deref.ensures.value ∙ c.in_ok-bytes.ensures)))
+    (key_recorded file e base.messages base.cursor held.files c.args.key.now c.in_ok-digest.digest c.in_ok-digest.ensures)

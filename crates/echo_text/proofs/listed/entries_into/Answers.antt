@@ -1,0 +1,11 @@
+use Rattle.std.proofs.Common.{arith}
+use Rattle.std.proofs.lemmas.Bool.{eqb-true}
+use Rattle.std.proofs.lemmas.List.{append-nil}
+use Rattle.echo_text.proofs.TextLines.{no_lines}
+use Rattle.echo_text.proofs.listed.entries_into.Goals as goal
+
+pub returns-clause-entries : goal.returns-clause-entries
+returns-clause-entries c = grind (arith, no_lines, eqb-true, append-nil)
+
+pub returns-clause-dropped : goal.returns-clause-dropped
+returns-clause-dropped c = grind (arith, no_lines, eqb-true)
