@@ -82,20 +82,8 @@ pub fn has_tag(version: Version, kind: u8) -> bool
     }
 }
 
-/// The next message.
-pub fn read_stored<R: Source>(
-    alloc: Global,
-    reader: &mut R,
-    version: Version,
-) -> Result<StoredMessage, Broken>
-    ensures read { Reads (IsStored version) (stored_bytes version) (R.remaining reader.old) (R.remaining reader.new) result }
-    ensures device { CountsBreak result (R.failures reader.old) (R.failures reader.new) }
-{
-    read_stored_into(StoredRoom::new(alloc), reader, version)
-}
-
 /// The next message, with its strings in the vectors of the room. Their content makes no difference.
-pub fn read_stored_into<R: Source>(
+pub fn read_stored<R: Source>(
     room: StoredRoom,
     reader: &mut R,
     version: Version,
