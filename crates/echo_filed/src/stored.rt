@@ -7,7 +7,6 @@ ghost use Rattle.echo_filed.specs.Fields.{Reads};
 use crate::field::{read_address, read_byte, read_date, read_last, read_short};
 use disk_io::{Broken, Source};
 use echo_addr::{Address, Items};
-use std::alloc::Global;
 use std::marker::Model;
 
 /// The two layouts of a base file. Both are read, the second is written.
@@ -57,19 +56,6 @@ pub struct StoredRoom {
     pub subject: Vec<u8>,
     pub tag: Vec<u8>,
     pub last: Vec<u8>,
-}
-
-impl StoredRoom {
-    /// Empty vectors. Takes no memory.
-    pub fn new(alloc: Global) -> StoredRoom {
-        StoredRoom {
-            to_name: Vec::new(alloc),
-            from_name: Vec::new(alloc),
-            subject: Vec::new(alloc),
-            tag: Vec::new(alloc),
-            last: Vec::new(alloc),
-        }
-    }
 }
 
 /// Whether messages of this first byte have tag and id instead of the text.
