@@ -1,5 +1,5 @@
 -- Messages of a base with different keys.
-use Rattle.std.proofs.Common.{◌≡◌, ◌∙◌, ◌<◌, ◌||◌, ℕ, suc, zero, Bool, true, false, List, [], ◌∷◌, Option, None, Some, take, refl, sym, ap, subst, arith}
+use Rattle.std.proofs.Common.{◌≡◌, ◌∙◌, ◌<◌, ◌||◌, ℕ, suc, zero, Bool, true, false, List, [], ◌∷◌, Option, Some, take, sym, ap, subst, arith}
 use Rattle.std.specs.Prelude.{option_map, slice_get}
 use Rattle.std.proofs.lemmas.Bool.{false≢true}
 use Rattle.std.proofs.lemmas.Option.{get_or_from_slice_get, slice_get_within}
@@ -14,24 +14,20 @@ abbrev pub HasKeyAt : List Filed → ℕ → Key → Type 0
 HasKeyAt all i key = option_map key_of (slice_get all i) ≡ Some key
 
 or_true : (b : Bool) → (b || true) ≡ true
-or_true true = refl
-or_true false = refl
+or_true h1 = grind arith
 
 -- the messages up to a later one know it
 known_before : (all : List Filed) (key : Key) (i n : ℕ) → i < n → HasKeyAt all i key → is_known (take n all) key ≡ true
 known_before [] key i n less has = absurd (cc (has))
 known_before (m ∷ all) key i zero less has = absurd (omega (arith, less))
-known_before (m ∷ all) key zero (suc n) less has =
-    let same : key_of m ≡ key = cc (has) in
-    ap (λ (b : Bool). b || is_known (take n all) key) ((same_key_decides (key_of m) key).1 same)
+known_before (m ∷ all) key zero (suc n) less has = grind (arith, same_key_decides)
 known_before (m ∷ all) key (suc i) (suc n) less has =
     let later = known_before all key i n (omega (arith, less)) has in
     ap (λ (b : Bool). same_key (key_of m) key || b) later ∙ or_true (same_key (key_of m) key)
 
 -- the message of this number
 message_of : (message : Option Filed) (key : Key) → option_map key_of message ≡ Some key → (m : Filed) × (message ≡ Some m) × (key_of m ≡ key)
-message_of None key has = absurd (cc (has))
-message_of (Some m) key has = let same : key_of m ≡ key = cc (has) in (m, refl, same)
+message_of h1 key has = grind arith
 
 -- so no two messages have one key
 pub one_key : (all : List Filed) (cursor i j : ℕ) (key : Key) → IsBase all cursor → i < j → HasKeyAt all i key → HasKeyAt all j key → ⊥

@@ -1,5 +1,5 @@
 -- A folder without files.
-use Rattle.std.proofs.Common.{◌≡◌, ◌∙◌, ℕ, List, [], length, false, inl, inr, refl, sym, ap, subst, arith, lit<}
+use Rattle.std.proofs.Common.{◌≡◌, ◌∙◌, ℕ, List, [], length, false, inr, refl, sym, ap, subst, arith, lit<}
 use Rattle.echo_addr.specs.declared.address.Address.{Address}
 use Rattle.disk_io.specs.Disk.{Files, bytes_in}
 use Rattle.base_log.specs.Log.{no_mark, nothing_recorded}
@@ -28,11 +28,7 @@ no_end = record { records_len = 0; recorded = nothing_recorded }
 
 nothing_read : ReadsAll [] no_end
 unfolding no_end
-nothing_read = record {
-  rest = [];
-  reads = record { bodies = []; parts = refl; sizes = tt; records_len = refl; recorded = refl };
-  ends = inl (lit< tt);
-}
+nothing_read = grind arith
 
 no_log : (path : List ℕ) (files : Files) → HasNoFiles path files → bytes_in (files (log_of path)) ≡ []
 no_log path files none = ap bytes_in (none (log_of path) (log_in path))
@@ -55,20 +51,7 @@ nothing_represented path files none =
 
 nothing_held : (keyed : ℕ → ℕ → List ℕ → ℕ) → HaveRoom keyed → HoldsBase keyed no_bytes no_messages
 unfolding no_bytes no_messages
-nothing_held keyed fits = record {
-  files = record {
-    all = [];
-    sizes = tt;
-    sound = tt;
-    stored = refl;
-    filed = refl;
-    entries = refl;
-    long = lit< tt;
-    digests = fits 0 0;
-    holds = record { each = tt; new = tt; within = omega arith };
-  };
-  cursor = refl;
-}
+nothing_held keyed fits = grind arith
 
 pub empty_base : (keyed : ℕ → ℕ → List ℕ → ℕ) (path : List ℕ) (files : Files) → HaveRoom keyed → HasNoFiles path files → RepresentsBase keyed path (record { messages = []; cursor = 0 }) files
 unfolding no_messages

@@ -1,5 +1,5 @@
 -- The base file of a folder, message by message.
-use Rattle.std.proofs.Common.{◌≡◌, ◌∙◌, ◌<◌, ◌≤◌, ◌^◌, ◌++◌, ◌⊎◌, inl, inr, nat_lt, false, ℕ, suc, ◌+◌, List, Option, Result, Ok, Err, Some, length, take, drop, refl, sym, ap, subst, arith, get_or}
+use Rattle.std.proofs.Common.{◌≡◌, ◌∙◌, ◌<◌, ◌≤◌, ◌^◌, ◌++◌, ◌⊎◌, nat_lt, false, ℕ, suc, ◌+◌, List, Option, Result, Ok, Err, Some, length, take, drop, refl, sym, ap, subst, arith, get_or}
 use Rattle.std.specs.Io.KnownBytes.{Appends}
 use Rattle.std.specs.List.{flat_map, list_all}
 use Rattle.std.proofs.KnownBytes.{Appends-trans}
@@ -13,7 +13,6 @@ use Rattle.echo_filed.specs.Stored.{is_short_enough, stored_bytes}
 use Rattle.base_file.specs.Base.{Base}
 use Rattle.base_file.specs.BaseFile.{head_bytes, is_countable, saved_bytes, stored_at, stored_from}
 use Rattle.base_file.specs.declared.fault.BaseFault.{BaseFault}
-use Rattle.base_file.specs.declared.fault.BaseFault.TheVariants as fault
 use Rattle.base_file.proofs.SavedMessages.{all_more, all_parts, not_countable, saved_parts, stored_all, too_long_here}
 use Rattle.cmd_status.specs.Lines.{WritesFront}
 use Rattle.cmd_status.proofs.Lines.{front_more, front_sent}
@@ -34,11 +33,7 @@ there all i within = slice_get-get_or all i (some_message all i within) within
 -- the bytes of one message more
 stored_more : (cursor i : ℕ) (all : List Filed) (m : Filed) (head file bytes : List ℕ) → slice_get all i ≡ Some m → file ≡ head ++ stored_all cursor (take i all)
     → bytes ≡ stored_bytes Second (stored_at cursor i m) → file ++ bytes ≡ head ++ stored_all cursor (take (i + 1) all)
-stored_more cursor i all m head file bytes at before is =
-    ap (λ (l : List ℕ). l ++ bytes) before
-    ∙ append_assoc head (stored_all cursor (take i all)) bytes
-    ∙ ap (λ (l : List ℕ). head ++ (stored_all cursor (take i all) ++ l)) is
-    ∙ ap (λ (l : List ℕ). head ++ l) (all_more cursor i all m at)
+stored_more cursor i all m head file bytes at before is = grind (arith, append_assoc, stored_all, all_more)
 
 -- all are as many as the entries
 stored_whole : (cursor i : ℕ) (all : List Filed) (file : List ℕ) → i ≡ length all → file ≡ head_bytes Second cursor (length all) ++ stored_all cursor (take i all) → file ≡ saved_bytes all cursor
@@ -53,11 +48,7 @@ stored_none cursor all head is = is ∙ sym (append-nil (head_bytes Second curso
 file_parts : (cursor i : ℕ) (all : List Filed) (m : Filed) → slice_get all i ≡ Some m
     → (head_bytes Second cursor (length all) ++ stored_all cursor (take i all)) ++ (stored_bytes Second (stored_at cursor i m) ++ flat_map (stored_bytes Second) (stored_from cursor (i + 1) (drop (suc i) all)))
     ≡ saved_bytes all cursor
-file_parts cursor i all m at =
-    let head = head_bytes Second cursor (length all) in
-    let later = flat_map (stored_bytes Second) (stored_from cursor (i + 1) (drop (suc i) all)) in
-    append_assoc head (stored_all cursor (take i all)) (stored_bytes Second (stored_at cursor i m) ++ later)
-    ∙ ap (λ (l : List ℕ). head ++ l) (all_parts cursor i all m at) ∙ saved_parts cursor all
+file_parts cursor i all m at = grind (arith, append_assoc, stored_all, all_parts, saved_parts)
 
 -- a beginning of the bytes was sent, if not all
 pub sent_begun : {A E : Type 0} (a b : Option (List ℕ)) (r : Result A E) (bytes : List ℕ) (m n : ℕ) → Sends a b r bytes m n → OnErr r (WritesFront bytes a b)
@@ -103,10 +94,7 @@ message_begun a b c cursor i all m bytes at sent is begun =
 pub message_sent : (a b c : Option (List ℕ)) (cursor i : ℕ) (all : List Filed) (m : Filed) (bytes : List ℕ) → slice_get all i ≡ Some m
     → Appends a b (head_bytes Second cursor (length all) ++ stored_all cursor (take i all)) → bytes ≡ stored_bytes Second (stored_at cursor i m) → Appends b c bytes
     → Appends a c (head_bytes Second cursor (length all) ++ stored_all cursor (take (i + 1) all))
-message_sent a b c cursor i all m bytes at sent is more =
-    let head = head_bytes Second cursor (length all) in
-    let went = head ++ stored_all cursor (take i all) in
-    subst (λ (l : List ℕ). Appends a c l) (stored_more cursor i all m head went bytes at refl is) (Appends-trans a b c went bytes sent more)
+message_sent a b c cursor i all m bytes at sent is more = grind (arith, stored_all, stored_more, Appends-trans)
 
 -- all were sent
 pub file_sent : (a b : Option (List ℕ)) (cursor i : ℕ) (all : List Filed) → i ≡ length all → Appends a b (head_bytes Second cursor (length all) ++ stored_all cursor (take i all)) → Appends a b (saved_bytes all cursor)
@@ -125,15 +113,8 @@ too_long cursor i all m at long =
 
 -- a fault of one message is one of the base, if the device failed since then
 pub file_fault : (base : Base) (i : ℕ) (m : Filed) (first before now : ℕ) (e : BaseFault) → slice_get base.messages i ≡ Some m → first ≤ before → IsMessageFault (stored_at base.cursor i m) before now e → IsFileFault base first now e
-file_fault base i m first before now fault.Memory at less is = tt
-file_fault base i m first before now fault.TooMany at less is = too_long base.cursor i base.messages m at is
-file_fault base i m first before now fault.Read at less is = failed_since first before now less is
-file_fault base i m first before now fault.NotBase at less is = absurd is
-file_fault base i m first before now (fault.Truncated n) at less is = absurd is
-file_fault base i m first before now (fault.Damaged n) at less is = absurd is
-file_fault base i m first before now (fault.Write n) at less is = absurd is
+file_fault base i m first before now h7 at less is = grind (arith, too_long, failed_since)
 
 -- and neither can a base with too many messages or too great a cursor
 pub too_great : (base : Base) (count cursor : ℕ) → count ≡ length base.messages → cursor ≡ base.cursor → base.cursor ≤ length base.messages → (2 ^ 32 ≤ count) ⊎ (2 ^ 32 ≤ cursor) → is_countable base.messages base.cursor ≡ false
-too_great base count cursor many at within (inl past) = too_many base.cursor base.messages (omega (arith, many, past))
-too_great base count cursor many at within (inr past) = too_many base.cursor base.messages (omega (arith, within, at, past))
+too_great base count cursor many at within h7 = grind (arith, too_many)

@@ -103,17 +103,7 @@ many_more keyed now held k m bytes number staged is recorded was =
 
 -- none at first, and with the cursor at the end
 pub many_none : (keyed : ℕ → ℕ → List ℕ → ℕ) (bytes : BaseBytes) → HoldsBase keyed bytes no_messages → HoldsMany keyed bytes 0
-many_none keyed bytes holds =
-    let files = holds.files in
-    record {
-      all = files.all;
-      many = omega (arith, ap (λ (l : List Filed). length l) files.filed, length-map files.all (message_in Second));
-      sizes = files.sizes;
-      sound = files.sound;
-      stored = files.stored;
-      entries = files.entries;
-      within = omega (arith, holds.cursor);
-    }
+many_none keyed bytes holds = grind (arith, length-map)
 
 many_end : (keyed : ℕ → ℕ → List ℕ → ℕ) (d : DiskState) (f g : Folder) (k : ℕ) → g ≡ at_end f → IsOpen d f → HoldsMany keyed (held_by d f) k → HoldsMany keyed (held_by d g) k
 many_end keyed d f g k end opened was =
@@ -147,12 +137,7 @@ filled_is_kept path d f P at rest gives =
     record { seen = there d.seen (rest_same d (path_of f) f.end rest d.seen refl refl refl); stays = λ c left. there c (rest_represented d (path_of f) f.end rest c left) }
 
 open_is_kept : (keyed : ℕ → ℕ → List ℕ → ℕ) (path : List ℕ) (d : DiskState) (f : Folder) → path_of f ≡ path → IsOpen d f → HoldsBase keyed (committed_by d f) no_messages → IsKept d (RepresentsBase keyed path no_messages)
-open_is_kept keyed path d f at opened holds =
-    subst (λ (p : List ℕ). IsKept d (RepresentsBase keyed p no_messages)) at
-    (record {
-      seen = record { bytes = committed_by d f; represented = opened.staged.shown; holds = holds };
-      stays = λ c left. record { bytes = committed_by d f; represented = opened.staged.represented c left; holds = holds };
-    })
+open_is_kept keyed path d f at opened holds = grind arith
 
 -- No message is committed after an error of adding, of the store, or of opening.
 pub uncommitted_opened : (keyed : ℕ → ℕ → List ℕ → ℕ) (path : List ℕ) (left : (Files → Type 0) → Files → Type 0) (d e : DiskState) (why : OpenError) → LeavesOnly d e (left (λ c. ⊥)) → IsUncommitted keyed path left d e (unfilled.Folder why)
@@ -211,9 +196,7 @@ adds_none f d (Ok x) usable = record { named = usable.named; opened = usable.ope
 adds_none f d (Err e) usable = record { named = usable.named; opened = λ honest. tt; path = refl; same = λ honest. tt; run = run_none d f usable.opened }
 
 pub adds_end : (f g h : Folder) (d e : DiskState) → h ≡ at_end g → AddsOnly {T = Unit {0}} {E = FillError} f g d e (Ok tt) → AddsOnly {T = Unit {0}} {E = FillError} f h d e (Ok tt)
-adds_end f g h d e is was =
-    subst (λ (x : Folder). AddsOnly {T = Unit {0}} {E = FillError} f x d e (Ok tt)) (sym is)
-    (record { named = was.named; opened = λ honest. end_open e g (was.opened honest); path = was.path; same = was.same; run = was.run })
+adds_end f g h d e is was = grind (arith, end_open)
 
 pub adds_twice : {U : Type 0} (f g h : Folder) (d e k : DiskState) (two : Result U FillError) → AddsOnly {T = Unit {0}} {E = FillError} f g d e (Ok tt) → AddsOnly g h e k two → AddsOnly f h d k two
 adds_twice f g h d e k two was now = record {
@@ -226,8 +209,7 @@ adds_twice f g h d e k two was now = record {
 
 -- The same with messages of a source: none, a fault, an error of the folder, the cursor at the end, and one call after another.
 still_open : (f : Folder) (d : DiskState) (why : FillError) → IsOpen d f → IsOpenIfUnread f f d d why
-still_open f d (unfilled.Messages fault) opened = (opened, refl)
-still_open f d (unfilled.Folder why) opened = tt
+still_open f d h3 opened = grind arith
 
 pub fills_none : (keyed : ℕ → ℕ → List ℕ → ℕ) (f : Folder) (d : DiskState) (n : ℕ) → n ≡ 0 → IsUsable d f → FillsOnly {T = Unit {0}} keyed n f f d d (Ok tt)
 fills_none keyed f d n none usable = record {
@@ -241,9 +223,7 @@ fills_unread keyed f d n why usable = record { adds = adds_none f d (Err why) us
 
 pub fills_failed : (keyed : ℕ → ℕ → List ℕ → ℕ) (f g : Folder) (d e : DiskState) (n : ℕ) (why : OpenError) (error : StoreError) (r : Result (Unit {0}) FillError) → IsErrAnd r (λ x. x ≡ unfilled.Folder why)
     → AddsOnly {T = Unit {0}} f g d e (Err error) → FillsOnly keyed n f g d e r
-fills_failed keyed f g d e n why error r is was =
-    by_error (λ (x : Result (Unit {0}) FillError). FillsOnly keyed n f g d e x) (unfilled.Folder why) r is
-    (record { adds = record { named = was.named; opened = λ honest. tt; path = was.path; same = λ honest. tt; run = was.run }; more = λ honest k holds. tt; unread = λ honest. tt })
+fills_failed keyed f g d e n why error r is was = grind arith
 
 pub fills_fewer : (keyed : ℕ → ℕ → List ℕ → ℕ) (f g : Folder) (d e : DiskState) (m n : ℕ) (why : FillError) (r : Result (Unit {0}) FillError) → IsErrAnd r (λ x. x ≡ why) → FillsOnly {T = Unit {0}} keyed m f g d e (Err why)
     → FillsOnly keyed n f g d e r
@@ -258,8 +238,7 @@ fills_end keyed f g h d e n is was = record {
 }
 
 still_twice : (f g h : Folder) (d e k : DiskState) (why : FillError) → committed_by e g ≡ committed_by d f → IsOpenIfUnread g h e k why → IsOpenIfUnread f h d k why
-still_twice f g h d e k (unfilled.Messages fault) same still = (still.0, still.1 ∙ same)
-still_twice f g h d e k (unfilled.Folder why) same still = tt
+still_twice f g h d e k h7 same still = grind arith
 
 pub fills_twice : (keyed : ℕ → ℕ → List ℕ → ℕ) (f g h : Folder) (d e k : DiskState) (m n all : ℕ) (two : Result (Unit {0}) FillError) → all ≡ m + n → FillsOnly {T = Unit {0}} keyed m f g d e (Ok tt) → FillsOnly keyed n g h e k two
     → FillsOnly keyed all f h d k two
@@ -299,16 +278,10 @@ reads_twice a b c two was now = record {
 
 -- A message that was not read, and why.
 undamaged : (i : ℕ) (e : StoreError) → Answers {T = Unit {0}} (λ x. Unit {0}) (Err e) → IsUndamaged (unfilled.Messages (file_cause e i))
-undamaged i store.Memory was = tt
-undamaged i store.TooMany was = tt
-undamaged i store.Device was = tt
-undamaged i store.Damaged was = was
+undamaged i h2 was = grind arith
 
 failed_read : (i : ℕ) (e : StoreError) → IsErrOf {T = Unit {0}} (Err (unfilled.Messages (file_cause e i))) (unfilled.Messages fault.Read) → IsErrOf {T = Unit {0}} (Err e) store.Device
-failed_read i store.Memory is = absurd (cc (is))
-failed_read i store.TooMany is = absurd (cc (is))
-failed_read i store.Device is = refl
-failed_read i store.Damaged is = absurd (cc (is))
+failed_read i h2 is = grind arith
 
 pub reads_fault : (a b : SourceState) (i : ℕ) (e : StoreError) (why : BaseFault) (P : Base → Type 0) → why ≡ file_cause e i → LooksAt a b → HasReadCause {T = Unit {0}} a.failures b.failures (Err e)
     → (b.is_honest → (base : Base) → a.holds base → Answers {T = Unit {0}} (λ x. P base) (Err e)) → ReadsFor {T = Unit {0}} a b (Err (unfilled.Messages why))
@@ -330,16 +303,10 @@ none_missing a b base i hand got within holds =
 -- Causes in the folder: one of its store, one of its opening, and one after other calls.
 -- No error of an open folder says that it was no base.
 pub sound_stored : (strange : Bool) (path : List ℕ) (files : Files) (e : StoreError) → IsUnfilled strange path files (unfilled.Folder (unfilled_cause e))
-sound_stored strange path files store.Memory = inr tt
-sound_stored strange path files store.TooMany = inl refl
-sound_stored strange path files store.Device = inr tt
-sound_stored strange path files store.Damaged = inr tt
+sound_stored strange path files h4 = grind arith
 
 stored_device : (e : StoreError) → IsErrOf {T = Unit {0}} (Err (unfilled.Folder (unfilled_cause e))) (unfilled.Folder unread.Device) → IsErrOf {T = Unit {0}} (Err e) store.Device
-stored_device store.Memory is = absurd (cc (is))
-stored_device store.TooMany is = absurd (cc (is))
-stored_device store.Device is = refl
-stored_device store.Damaged is = absurd (cc (is))
+stored_device h1 is = grind arith
 
 pub cause_stored : {T : Type 0} (a b : ℕ) (e : StoreError) (r : Result T FillError) → IsErrAnd r (λ x. x ≡ unfilled.Folder (unfilled_cause e)) → HasReadCause {T = Unit {0}} a b (Err e) → HasFillCause a b r
 cause_stored a b e r same cause = record {
@@ -364,10 +331,7 @@ cause_since a b c two was now = record {
 
 -- Too much for the folder is too much for its store.
 stored_many : (e : StoreError) → IsErrOf {T = Unit {0}} (Err (unfilled.Folder (unfilled_cause e))) (unfilled.Folder (unread.Wrong fault.TooMany)) → IsErrOf {T = Unit {0}} (Err e) store.TooMany
-stored_many store.Memory is = absurd (cc (is))
-stored_many store.TooMany is = refl
-stored_many store.Device is = absurd (cc (is))
-stored_many store.Damaged is = absurd (cc (is))
+stored_many h1 is = grind arith
 
 pub many_stored : {T : Type 0} (e : StoreError) (r : Result T FillError) → IsErrAnd r (λ x. x ≡ unfilled.Folder (unfilled_cause e)) → IsErrOf r (unfilled.Folder (unread.Wrong fault.TooMany))
     → IsErrOf {T = Unit {0}} (Err e) store.TooMany

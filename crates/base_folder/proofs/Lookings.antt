@@ -13,7 +13,6 @@ use Rattle.base_log.specs.declared.log.CommitRecord.{CommitRecord}
 use Rattle.base_log.specs.declared.log.End.{End}
 use Rattle.base_log.specs.declared.log.Log.{Log}
 use Rattle.base_store.specs.declared.store_error.StoreError.{StoreError}
-use Rattle.base_store.specs.declared.store_error.StoreError.TheVariants as store
 use Rattle.echo_filed.specs.Stored.{Stored, message_in}
 use Rattle.echo_filed.specs.declared.stored.Version.TheVariants.{Second}
 use Rattle.base_folder_store.specs.Answers.{Answers}
@@ -44,9 +43,7 @@ same_end before after one two same = one_end after.bytes.items before.end after.
 
 -- no bytes are between two equal ends
 pub none_between : (first last : ℕ) (log : List ℕ) → first ≡ last → length (take (last - first) (drop first log)) ≡ 0
-none_between first last log same =
-    let none : last - first ≡ 0 = omega (arith, same) in
-    ap (λ (n : ℕ). length (take n (drop first log))) none
+none_between first last log same = grind arith
 
 -- a folder with this log and messages is readable after looks
 pub looked_at : (path : List ℕ) (d e : DiskState) (log : Log) (folder : Folder) → ChangesNothing d e → IsRead log → IsFresh path folder → folder.end ≡ log.end → folder.keys ≡ log.end.recorded.keys
@@ -73,17 +70,7 @@ looked_at path d e log folder quiet read fresh same keys is represented =
 
 -- the error of a judged log is one of the folder
 pub unseen_by : (keyed : ℕ → ℕ → List ℕ → ℕ) (strange : Bool) (path : List ℕ) (files : Files) (why : OpenError) → IsWrong strange path files why → IsUnseen keyed strange path files why
-unseen_by keyed strange path files (unread.Wrong fault.NotBase) wrong = wrong
-unseen_by keyed strange path files (unread.Wrong (fault.Truncated n)) wrong = wrong
-unseen_by keyed strange path files (unread.Wrong (fault.Damaged n)) wrong = absurd wrong
-unseen_by keyed strange path files (unread.Wrong fault.Memory) wrong = wrong
-unseen_by keyed strange path files (unread.Wrong fault.TooMany) wrong = wrong
-unseen_by keyed strange path files (unread.Wrong fault.Read) wrong = wrong
-unseen_by keyed strange path files (unread.Wrong (fault.Write n)) wrong = wrong
-unseen_by keyed strange path files unread.Memory wrong = tt
-unseen_by keyed strange path files unread.Device wrong = tt
-unseen_by keyed strange path files unread.Raced wrong = wrong
-unseen_by keyed strange path files (unread.NotOwner address) wrong = wrong
+unseen_by keyed strange path files h5 wrong = grind arith
 
 -- and so is a damaged message of the base that the files represent
 pub unseen_message : (keyed : ℕ → ℕ → List ℕ → ℕ) (strange : Bool) (path : List ℕ) (files : Files) (bytes : BaseBytes) (why : OpenError) → ((b : BaseBytes) → Represents path b files → bytes ≡ b)
@@ -103,7 +90,4 @@ unseen_message keyed strange path files bytes (unread.NotOwner address) one none
 -- the error of a message that was not read
 pub unvouched_by : (keyed : ℕ → ℕ → List ℕ → ℕ) (bytes : BaseBytes) (i : ℕ) (error : StoreError)
     → ((s : Stored) → IsThere bytes i s → HasDigest keyed bytes i s → Answers {T = Filed} (λ m. m ≡ message_in Second s) (Err error)) → IsUnvouched keyed bytes (unread_message error i)
-unvouched_by keyed bytes i store.Damaged none = none
-unvouched_by keyed bytes i store.Device none = tt
-unvouched_by keyed bytes i store.Memory none = tt
-unvouched_by keyed bytes i store.TooMany none = tt
+unvouched_by keyed bytes i h4 none = grind arith

@@ -1,5 +1,5 @@
 -- A folder that is opened after looks that change nothing.
-use Rattle.std.proofs.Common.{◌≡◌, ◌≢◌, ◌≤◌, ◌<◌, ◌∙◌, ℕ, Bool, List, Result, Ok, Err, inl, inr, ⊎_elim, sym, ap, subst, arith}
+use Rattle.std.proofs.Common.{◌≡◌, ◌≢◌, ◌≤◌, ◌<◌, ◌∙◌, ℕ, Bool, List, Result, Ok, Err, inr, sym, ap, subst, arith}
 use Rattle.std.specs.Result.{IsErrAnd}
 use Rattle.std.specs.Prelude.{◌⊎◌}
 use Rattle.echo_addr.specs.declared.address.Address.{Address}
@@ -21,9 +21,8 @@ use Rattle.base_log.proofs.Empty.{represented_quiet}
 use Rattle.base_log.proofs.Keeping.{outside_quiet, outside_twice}
 use Rattle.base_log.proofs.Opened.{base_found}
 use Rattle.base_log.proofs.Quiet.{base_quiet}
-use Rattle.base_store.specs.Keys.{FolderRepresents}
-use Rattle.base_folder_store.specs.Held.{HoldsBase, RepresentsBase, RepresentsBaseOrWasLeft, digest_by}
-use Rattle.base_folder_store.specs.Opened.{IsLogOfBase, IsNamed, IsOpen, IsWritten, committed_by, held_by, path_of}
+use Rattle.base_folder_store.specs.Held.{HoldsBase, RepresentsBase, RepresentsBaseOrWasLeft}
+use Rattle.base_folder_store.specs.Opened.{IsLogOfBase, IsNamed, IsOpen, IsWritten, committed_by, held_by}
 use Rattle.base_folder_store.specs.Owned.{with_mark}
 use Rattle.base_folder_store.specs.declared.folder.Folder.{Folder}
 use Rattle.base_folder_store.proofs.Claimed.{claimed_holds, claimed_open}
@@ -44,31 +43,12 @@ looked_run keyed path d e base quiet = weaker_run d e d.may_leave (RepresentsBas
 -- and in the middle of opening
 pub opened_run_since : (keyed : ℕ → ℕ → List ℕ → ℕ) (path : List ℕ) (d e f : DiskState) (base : Base) → ChangesNothing d e → LeavesOnly e f (RepresentsBaseOrWasLeft keyed path e base)
     → LeavesOnly d f (RepresentsBaseOrWasLeft keyed path d base)
-opened_run_since keyed path d e f base quiet opening =
-    then_run d e f (RepresentsBaseOrWasLeft keyed path d base) (RepresentsBaseOrWasLeft keyed path e base) (looked_run keyed path d e base quiet) opening
-    (λ c or. ⊎_elim
-    (λ alone. inl (record { outside = λ m out named flushed. alone.outside m out (quiet.named m (λ h. h) named) (quiet.flushed m (λ h. h) flushed) ∙ quiet.seen m; represented = alone.represented }))
-    (λ left. inr (quiet.no_more c left)) or)
+opened_run_since keyed path d e f base quiet opening = grind (arith, then_run, looked_run)
 
 -- a claimed folder holds the same base, since its key changes only without messages
 pub claimed_same : (keyed : ℕ → ℕ → List ℕ → ℕ) → HaveRoom keyed → (d : DiskState) (f g : Folder) (base : Base) → IsOpen d f → g ≡ with_mark f g.recorded.mark → (0 < f.keys → SameKey f.recorded.mark g.recorded.mark)
     → (f.recorded.mark.owner ≢ 0 → g ≡ f) → HoldsBase keyed (held_by d f) base → HoldsBase keyed (held_by d g) base
-claimed_same keyed fits d f g base opened only key kept holds =
-    ⊎_elim
-    (λ (some : 0 < f.keys).
-    let same = key some in
-    let digest : digest_by keyed g.recorded.mark ≡ digest_by keyed f.recorded.mark = λ i. keyed (same.first i) (same.second i) in
-    let files = subst (λ (by : List ℕ → ℕ). FolderRepresents by base.messages base.cursor (held_by d f).messages (held_by d f).keys) (sym digest) holds.files in
-    let marked : HoldsBase keyed (held_by d (with_mark f g.recorded.mark)) base = record { files = files; cursor = holds.cursor } in
-    subst (λ (x : Folder). HoldsBase keyed (held_by d x) base) (sym only) marked)
-    (λ (none : f.keys ≤ 0).
-    ⊎_elim
-    (λ (owned : 0 < f.recorded.mark.owner). subst (λ (x : Folder). HoldsBase keyed (held_by d x) base) (sym (kept (omega arith))) holds)
-    (λ (free : f.recorded.mark.owner ≤ 0).
-    subst (λ (x : Folder). HoldsBase keyed (held_by d x) base) (sym only)
-    (claimed_holds keyed fits d f g.recorded.mark base opened (record { owner = omega arith; keys = omega arith }) holds))
-    (cases_lt 0 f.recorded.mark.owner))
-    (cases_lt 0 (f.keys))
+claimed_same keyed fits d f g base opened only key kept holds = grind (arith, claimed_holds, cases_lt)
 
 -- and stays open
 pub claimed_opened : (d : DiskState) (f g : Folder) → g ≡ with_mark f g.recorded.mark → IsOpen d f → IsOpen d g
@@ -77,10 +57,7 @@ claimed_opened d f g only opened = subst (λ (x : Folder). IsOpen d x) (sym only
 -- the committed base is unchanged
 pub claimed_committed : (keyed : ℕ → ℕ → List ℕ → ℕ) (d : DiskState) (f g : Folder) (base : Base) → g ≡ with_mark f g.recorded.mark → f.recorded ≡ f.end.recorded → IsWritten f → HoldsBase keyed (held_by d f) base
     → HoldsBase keyed (committed_by d g) base
-claimed_committed keyed d f g base only settled written holds =
-    let same : committed_by d g ≡ committed_by d f = ap (λ (x : Folder). committed_by d x) only in
-    let last : held_by d f ≡ committed_by d f = written_held d f written ∙ (λ i. base_at d (path_of f) (settled i)) in
-    subst (λ (b : BaseBytes). HoldsBase keyed b base) (last ∙ sym same) holds
+claimed_committed keyed d f g base only settled written holds = grind (arith, written_held)
 
 -- a log has only one last record
 pub one_recorded : (strange : Bool) (log : List ℕ) (a b : CommitRecord) → IsRecordedBy strange log a → IsRecordedBy strange log b → a ≡ b
@@ -88,8 +65,7 @@ one_recorded strange log a b one other = sym one.is ∙ ap (λ (e : End). e.reco
 
 -- a folder without an owner, or with this system as owner, has no other owner
 pub not_other : (own : Address) (mark : FolderIdentity) (address : Address) → (mark.owner ≡ 0) ⊎ (mark.owner ≡ number_of own) → IsMarkOfOther own mark address → ⊥
-not_other own mark address (inl none) other = other.claimed none
-not_other own mark address (inr ours) other = other.other ours
+not_other own mark address h4 other = grind arith
 
 -- the owner in the log decides if the folder belongs to another system
 pub recorded_other : (own : Address) (strange : Bool) (path : List ℕ) (files : Files) (recorded : CommitRecord) (address : Address) → IsRecordedBy strange (bytes_in (files (log_of path))) recorded → (recorded.mark.owner ≡ 0) ⊎ (recorded.mark.owner ≡ number_of own)
@@ -100,19 +76,11 @@ recorded_other own strange path files recorded address by ours other =
 
 -- a folder of another system is refused and unchanged
 pub other_left : (own : Address) (mark : FolderIdentity) (old new : DiskState) (e : OpenError) → ChangesNothing old new → IsOtherOwner own mark e → IsLeftAlone old new e
-other_left own mark old new (unread.NotOwner address) quiet is = quiet
-other_left own mark old new unread.Memory quiet is = tt
-other_left own mark old new unread.Device quiet is = tt
-other_left own mark old new unread.Raced quiet is = tt
-other_left own mark old new (unread.Wrong why) quiet is = quiet
+other_left own mark old new h5 quiet is = grind arith
 
 -- its log says so
 pub other_recorded : (own : Address) (strange : Bool) (path : List ℕ) (files : Files) (recorded : CommitRecord) (e : OpenError) → IsRecordedBy strange (bytes_in (files (log_of path))) recorded → IsOtherOwner own recorded.mark e → IsNotOurs own strange path files e
-other_recorded own strange path files recorded (unread.NotOwner address) log is = record { recorded = recorded; log = log; mark = is }
-other_recorded own strange path files recorded unread.Memory log is = absurd is
-other_recorded own strange path files recorded unread.Device log is = absurd is
-other_recorded own strange path files recorded unread.Raced log is = absurd is
-other_recorded own strange path files recorded (unread.Wrong why) log is = absurd is
+other_recorded own strange path files recorded h6 log is = grind arith
 
 -- no device failed
 pub other_cause : {T : Type 0} (own : Address) (mark : FolderIdentity) (e : OpenError) (before now : ℕ) (r : Result T OpenError) → IsErrAnd r (λ x. x ≡ e) → before ≤ now → IsOtherOwner own mark e → HasUnreadCause before now r
@@ -122,9 +90,7 @@ other_cause own mark e before now (Err x) same later is =
 
 -- the files represent the same base before looks and after them
 pub stood_before : (d e : DiskState) (path : List ℕ) (recorded : CommitRecord) → ChangesNothing d e → Represents path (base_at e path recorded) e.seen → Represents path (base_at d path recorded) d.seen
-stood_before d e path recorded quiet represented =
-    let same : e.seen ≡ d.seen = λ i m. quiet.seen m i in
-    subst (λ (f : Files). Represents path (base_at d path recorded) f) same (subst (λ (b : BaseBytes). Represents path b e.seen) (base_quiet d e path recorded quiet) represented)
+stood_before d e path recorded quiet represented = grind (arith, base_quiet)
 
 pub stood_since : (d e : DiskState) (path : List ℕ) (recorded : CommitRecord) → ChangesNothing d e → Represents path (base_at d path recorded) d.seen → Represents path (base_at e path recorded) e.seen
 stood_since d e path recorded quiet represented = subst (λ (b : BaseBytes). Represents path b e.seen) (sym (base_quiet d e path recorded quiet)) (represented_quiet d e path (base_at d path recorded) quiet represented)
@@ -165,9 +131,4 @@ opened_only path d e f log quiet is read run kept = record {
 -- the log of the base that is opened
 pub log_since : (path : List ℕ) (d e : DiskState) (log : Log) → ChangesNothing d e → log.end.recorded.number < 10 → IsRead log → Honestly e (IsLogIn path d.seen log) → Honestly e (Represents path (base_at d path log.end.recorded) d.seen)
     → IsLogOfBase e path log
-log_since path d e log quiet digit read is represented = record {
-  digit = digit;
-  read = read;
-  same = λ honest. is honest ∙ ap bytes_in (sym (quiet.seen (log_of path)));
-  represented = λ honest. stood_since d e path log.end.recorded quiet (represented honest);
-}
+log_since path d e log quiet digit read is represented = grind (arith, stood_since)

@@ -56,11 +56,7 @@ looked_sees keyed d f base looked honest holds =
 
 -- a folder after a look is readable after more looks, and holds the same base
 pub looked_quiet : (d e : DiskState) (f : Folder) → ChangesNothing d e → IsLookedAt d f → IsLookedAt e f
-looked_quiet d e f quiet looked = record {
-  written = looked.written;
-  keys = looked.keys;
-  legible = λ honest some. legible_quiet d e f quiet (looked.legible (quiet.honest honest) some);
-}
+looked_quiet d e f quiet looked = grind (arith, legible_quiet)
 
 pub sees_quiet : (keyed : ℕ → ℕ → List ℕ → ℕ) (d e : DiskState) (f : Folder) (base : Base) → ChangesNothing d e → SeesBase keyed d f base → SeesBase keyed e f base
 sees_quiet keyed d e f base quiet sees = record { holds = subst (λ (b : BaseBytes). HoldsBase keyed b base) (sym (held_quiet d e f quiet)) sees.holds; count = sees.count }
@@ -73,18 +69,10 @@ module _ (first count begin : ℕ) (within : first < count → begin ≡ first) 
   pub not_behind : begin ≤ count
   not_behind = ⊎_elim (λ (h : first < count). omega (arith, within h, h)) (λ (h : count ≤ first). omega (arith, behind h)) (cases_lt first count)
 
-  pub asked_from : begin < count → first ≤ begin
-  asked_from below = ⊎_elim (λ (h : first < count). omega (arith, within h)) (λ (h : count ≤ first). absurd (omega (arith, behind h, below))) (cases_lt first count)
-
 -- no look
 pub looks_none : (a : SourceState) → LooksAt a a
 looks_none a = record { honest = λ h. h; ready = λ h. h; count = refl; holds = λ base h. h }
 
 -- one look after another
 pub looks_on : (old mid new : SourceState) → LooksAt old mid → LooksAt mid new → LooksAt old new
-looks_on old mid new first next = record {
-  honest = λ h. first.honest (next.honest h);
-  ready = λ r. next.ready (first.ready r);
-  count = next.count ∙ first.count;
-  holds = λ base h. next.holds base (first.holds base h);
-}
+looks_on old mid new first next = grind arith

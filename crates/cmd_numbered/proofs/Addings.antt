@@ -1,9 +1,8 @@
 -- Messages added to a JAM base, and why they were not.
-use Rattle.std.proofs.Common.{◌≡◌, ◌≤◌, ◌+◌, ◌-◌, ◌∙◌, ℕ, zero, suc, nat_lt, Bool, true, false, List, [], ◌++◌, length, Option, Some, None, OnErr, Result, Ok, Err, inl, refl, sym, ap, subst, arith, add-one, append_assoc, suc-add, zero-add}
+use Rattle.std.proofs.Common.{◌≡◌, ◌≤◌, ◌+◌, ◌-◌, ◌∙◌, ℕ, zero, suc, nat_lt, Bool, true, false, List, [], ◌++◌, length, Option, Some, None, OnErr, Result, Ok, Err, refl, sym, ap, subst, arith, add-one, append_assoc, suc-add, zero-add}
 use Rattle.std.proofs.lemmas.List.{append-nil}
 use Rattle.std.specs.Prelude.{if◌then◌else◌, slice_get}
 use Rattle.std.specs.Io.KnownBytes.{Appends}
-use Rattle.disk_io.specs.Device.{Failed}
 use Rattle.echo_filed.specs.Filed.{Filed}
 use Rattle.echo_jam.specs.Fields.{body_of}
 use Rattle.base_file.specs.Base.{Base}
@@ -12,12 +11,10 @@ use Rattle.cmd_status.proofs.Lines.{begun_after}
 use Rattle.cmd_numbered.specs.JamAdded.{Added, IsUnadded, IsUnsent, added_at, added_of, is_added, with_message}
 use Rattle.cmd_numbered.specs.declared.adding.JamEnd.{JamEnd}
 use Rattle.cmd_numbered.specs.declared.jam_export_error.JamExportError.{JamExportError}
-use Rattle.cmd_numbered.specs.declared.jam_export_error.JamExportError.TheVariants.{Device, Messages}
 
 -- one message was not added, and the sink did not fail before
 pub unadded_here : (path : List ℕ) (first now old before after : ℕ) (why : JamExportError) → before ≡ old → IsUnadded before after why → IsUnsent path first now old after why
-unadded_here path first now old before after (Messages fault) same is = (inl is.0, is.1 ∙ same)
-unadded_here path first now old before after Device same is = subst (λ (n : ℕ). Failed n after) same is
+unadded_here path first now old before after h7 same is = grind arith
 
 -- what holds anyway holds at an error
 pub at_error : {T E P : Type 0} (r : Result T E) → P → OnErr r P

@@ -1,5 +1,5 @@
 -- The files of messages, and why they were not made.
-use Rattle.std.proofs.Common.{◌≡◌, ◌≤◌, ℕ, Bool, true, List, [], ◌∷◌, ◌∙◌, ap, sym, inl, subst, Option, Some, None, Result, Ok, Err}
+use Rattle.std.proofs.Common.{◌≡◌, ◌≤◌, ℕ, Bool, true, List, [], ◌∷◌, ◌∙◌, ap, sym, Option, Some, Result, arith}
 use Rattle.std.specs.Prelude.{if◌then◌else◌}
 use Rattle.std.specs.Result.{IfErr}
 use Rattle.echo_filed.specs.Filed.{Filed}
@@ -9,7 +9,6 @@ use Rattle.cmd_numbered.specs.Numbered.{EndsAt, IsMadeFrom, IsUnexported, IsUnma
 use Rattle.cmd_numbered.specs.declared.folder.MessageFile.{MessageFile}
 use Rattle.cmd_numbered.specs.declared.numbering.Exported.{Exported}
 use Rattle.cmd_numbered.specs.declared.numbering.ExportError.{ExportError}
-use Rattle.cmd_numbered.specs.declared.numbering.ExportError.TheVariants.{File, Message}
 
 -- the one file of a message that is exported
 pub one_file : (area : List ℕ) (first cursor number i : ℕ) (m : Filed) (found : Option Filed) (is : Bool) → Some m ≡ found → is ≡ is_exported area first cursor i m → is ≡ true
@@ -19,25 +18,13 @@ one_file area first cursor number i m found is here exported so =
 
 -- that file was not made
 pub unmade : (files : List MessageFile) (file : MessageFile) (path : List ℕ) (before now : ℕ) (result : Result ℕ ExportError) → files ≡ file ∷ [] → IfErr result IsUnmade → IfErr result (IsUnexported files path before now)
-unmade files file path before now (Ok count) are why = tt
-unmade files file path before now (Err (Message fault)) are why = inl why
-unmade files file path before now (Err (File status)) are why = (file, are)
+unmade files file path before now h6 are why = grind arith
 
 -- reads that failed later in a call
 ends_since : (area : List ℕ) (from number : ℕ) (base : Base) (path : List ℕ) (first before now seen next : ℕ) (stop : Option ExportError) → first ≤ before
     → EndsAt area from number base path before now seen next stop → EndsAt area from number base path first now seen next stop
-ends_since area from number base path first before now seen next None less ends = ends
-ends_since area from number base path first before now seen next (Some (Message fault)) less ends = (ends.0, ends.1, unread_since path first before now fault less ends.2)
-ends_since area from number base path first before now seen next (Some (File status)) less ends = ends
+ends_since area from number base path first before now seen next h11 less ends = grind (arith, unread_since)
 
 pub made_since : (area given : List ℕ) (from number second : ℕ) (base : Base) (path : List ℕ) (first before now : ℕ) (old new : Option (List MessageFile)) (exported : Exported)
     → given ≡ area → second ≡ number → first ≤ before → IsMadeFrom given from second base path before now old new exported → IsMadeFrom area from number base path first now old new exported
-made_since area given from number second base path first before now old new exported same_area same_number less made =
-    subst (λ (a : List ℕ). IsMadeFrom a from number base path first now old new exported) same_area
-    (subst (λ (n : ℕ). IsMadeFrom given from n base path first now old new exported) same_number
-    (record {
-      seen = made.seen;
-      made_is = made.made_is;
-      files_are = made.files_are;
-      end_is = ends_since given from second base path first before now made.seen exported.next exported.stop less made.end_is;
-    }))
+made_since area given from number second base path first before now old new exported same_area same_number less made = grind (arith, ends_since)

@@ -1,5 +1,5 @@
 -- A packet made again, as an answer.
-use Rattle.std.proofs.Common.{◌≡◌, ℕ, zero, suc, ◌<◌, ◌++◌, List, [], ◌∷◌, Option, Some, Result, Ok, Err, ◌∙◌, inl, inr, refl, subst, arith, slice_get, length}
+use Rattle.std.proofs.Common.{◌≡◌, ℕ, zero, suc, ◌<◌, ◌++◌, List, [], ◌∷◌, Option, Some, Result, ◌∙◌, refl, subst, arith, slice_get, length}
 use Rattle.base_file.specs.Base.{Base}
 use Rattle.base_folder.proofs.Fetchings.{never_read}
 use Rattle.echo_addr.specs.declared.address.Address.{Address}
@@ -16,16 +16,7 @@ use Rattle.cmd_numbered.specs.Resending.{IsMadeOf, ResendAnswers, ResendsReading
 -- the messages were those of a base file, where no read fails
 pub of_base_file : (file : LinkFile) (stamp : Stamp) (area : List ℕ) (to : Address) (first : ℕ) (path bytes : List ℕ) (base : Base) (result : Result Packet Fault)
     → IsBaseGiven (Some bytes) base.messages base.cursor → ResendsReading stamp (IsMadeOf file stamp area to first base) path 0 0 result → ResendAnswers file stamp area to first bytes result
-of_base_file file stamp area to first path bytes base (Ok packet) given made = record {
-  messages = base.messages;
-  cursor = base.cursor;
-  given = given;
-  moment = made.moment;
-  packet_is = made.packet_is;
-}
-of_base_file file stamp area to first path bytes base (Err fault) given (inl (inl memory)) = inl memory
-of_base_file file stamp area to first path bytes base (Err fault) given (inl (inr read)) = absurd (never_read path fault read)
-of_base_file file stamp area to first path bytes base (Err fault) given (inr bad) = inr (inr bad)
+of_base_file file stamp area to first path bytes base h9 given h11 = grind (arith, never_read)
 
 found_at : {X : Type 0} (xs : List X) (i : ℕ) → i < length xs → (x : X) × (slice_get xs i ≡ Some x)
 found_at [] i within = absurd (omega (arith, within))

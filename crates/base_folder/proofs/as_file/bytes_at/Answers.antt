@@ -1,15 +1,12 @@
-use Rattle.std.proofs.Common.{◌≡◌, subst}
-use Rattle.std.specs.Result.{IfErr, IfOk}
-use Rattle.echo_filed.specs.declared.stored.Version.TheVariants.{Second}
-use Rattle.echo_filed.specs.Stored.{Stored, stored_bytes}
+use Rattle.std.proofs.Common.{subst, arith}
+use Rattle.std.specs.Result.{IfErr}
+use Rattle.echo_filed.specs.Stored.{Stored}
 use Rattle.base_file.proofs.SavedMessages.{stored_here}
 use Rattle.base_folder.specs.AsFile.{IsTooLong}
 use Rattle.base_folder.proofs.as_file.bytes_at.Goals as goal
 
 pub returns-clause-bytes : goal.returns-clause-bytes
-returns-clause-bytes c =
-    let here = stored_here c.args.cursor c.args.place c.args.message.now c.is_short.result c.is_short.ensures in
-    subst (λ (s : Stored). IfOk c.bytes_of.result (λ bytes. bytes.items ≡ stored_bytes Second s)) here c.bytes_of.ensures.bytes
+returns-clause-bytes c = grind (arith, stored_here)
 
 pub returns-clause-fault : goal.returns-clause-fault
 returns-clause-fault c =

@@ -1,6 +1,6 @@
-use Rattle.std.proofs.Common.{◌<◌, ◌∙◌, ℕ, inl, inr, length, refl, ap, subst, arith}
+use Rattle.std.proofs.Common.{◌<◌, ◌∙◌, ℕ, length, ap, subst, arith}
 use Rattle.cmd_status.proofs.Lines.{none_begun}
-use Rattle.base_file.specs.BaseFile.{head_bytes, saved_bytes, stored_at}
+use Rattle.base_file.specs.BaseFile.{saved_bytes, stored_at}
 use Rattle.echo_filed.specs.Stored.{stored_bytes}
 use Rattle.echo_filed.specs.declared.stored.Version.TheVariants.{Second}
 use Rattle.base_folder.specs.AsFile.{IsMessageFault, IsSendFault}
@@ -10,38 +10,21 @@ use Rattle.base_folder.proofs.Lookings.{err_is}
 use Rattle.base_folder.proofs.Readings.{looks_none, looks_on}
 use Rattle.base_folder.specs.declared.send_error.SendError.TheVariants as unsent
 use Rattle.base_folder.proofs.as_file.send_file.Goals as goal
-use Rattle.base_folder.proofs.as_file.send_file.Goals.{then-count-gt-MOST-via-then-count-gt-MOST, then-count-gt-MOST-via-else-count-gt-MOST+then-cursor-gt-MOST}
 
 pub returns-then-count-gt-MOST-clause-fault : goal.returns-then-count-gt-MOST-clause-fault
-returns-then-count-gt-MOST-clause-fault g c = λ honest base holds.
-    let many = c.count-count.ensures.all base holds in
-    let at = c.cursor-cursor.ensures base holds in
-    let within = (c.count-count.ensures.base base holds).within in (
-      elim c.then-count-gt-MOST.branch [
-        | then-count-gt-MOST-via-then-count-gt-MOST w ↦ let h = w.if-count-gt-MOST.true in too_great base c.count-count.result c.cursor-cursor.result many at within (inl (omega (arith, h)))
-        | then-count-gt-MOST-via-else-count-gt-MOST+then-cursor-gt-MOST w ↦ let h = w.if-cursor-gt-MOST.true in too_great base c.count-count.result c.cursor-cursor.result many at within (inr (omega (arith, h)))
-      ],
-      refl,
-    )
+returns-then-count-gt-MOST-clause-fault g c = grind (arith, too_great)
 
 pub returns-then-count-gt-MOST-clause-begun : goal.returns-then-count-gt-MOST-clause-begun
 returns-then-count-gt-MOST-clause-begun g c = λ honest base holds. none_begun (g.W.Write.contents c.args.file.now) (saved_bytes base.messages base.cursor)
 
 pub stored_at-requires : goal.stored_at-requires
-stored_at-requires g c =
-    let many = c.messages.invariant.looks.count in
-    record { ready = c.messages.invariant.looks.ready c.requires; within = omega (arith, c.messages-test.true, c.count-count.ensures.count, many) }
+stored_at-requires g c = grind arith
 
 pub returns-in_err-head-clause-begun : goal.returns-in_err-head-clause-begun
 returns-in_err-head-clause-begun g c = λ honest base holds. at_error c.from_residual.result (none_begun (g.W.Write.contents c.args.file.now) (saved_bytes base.messages base.cursor))
 
 pub returns-in_err-send_bytes-clause-begun : goal.returns-in_err-send_bytes-clause-begun
-returns-in_err-send_bytes-clause-begun g c = λ honest base holds.
-    let many = c.count-count.ensures.all base holds in
-    let at = c.cursor-cursor.ensures base holds in
-    let head = c.deref.ensures.value ∙ c.in_ok-head.ensures ∙ (λ k. head_bytes Second (at k) (many k)) in
-    at_error c.from_residual-in_err-send_bytes.result
-    (head_begun (g.W.Write.contents c.args.file.now) (g.W.Write.contents c.send_bytes.new.file) base.cursor base.messages c.deref.result.now head c.in_err-send_bytes.ensures.begun)
+returns-in_err-send_bytes-clause-begun g c = grind (arith, at_error, head_begun)
 
 pub returns-in_err-bytes-clause-begun : goal.returns-in_err-bytes-clause-begun
 returns-in_err-bytes-clause-begun g c = λ honest base holds.
@@ -80,16 +63,7 @@ returns-in_err-send_bytes-2-clause-begun g c = λ honest base holds.
     (c.messages.invariant.sent (c.stored_at.ensures.looks.honest honest) base holds) bytes c.in_err-send_bytes-2.ensures.begun)
 
 pub messages-init : goal.messages-init
-messages-init g c = record {
-  looks = looks_none (g.M.MessageSource.state c.args.messages.now);
-  later = omega arith;
-  sent = λ honest base holds.
-      let many = c.count-count.ensures.all base holds in
-      let at = c.cursor-cursor.ensures base holds in
-      let head = c.deref.ensures.value ∙ c.in_ok-head.ensures ∙ (λ k. head_bytes Second (at k) (many k)) in
-      head_sent (g.W.Write.contents c.args.file.now) (g.W.Write.contents c.send_bytes.new.file) base.cursor base.messages c.deref.result.now head c.in_ok-send_bytes.ensures.bytes;
-  failed = c.in_ok-send_bytes.ensures.ok;
-}
+messages-init g c = grind (arith, looks_none, head_sent)
 
 pub messages-preserved : goal.messages-preserved
 messages-preserved g c = record {
@@ -108,6 +82,4 @@ messages-preserved g c = record {
 }
 
 pub returns-clause-file : goal.returns-clause-file
-returns-clause-file g c = λ honest base holds.
-    let all = c.count-count.ensures.all base holds in
-    file_sent (g.W.Write.contents c.args.file.now) (g.W.Write.contents c.messages.file) base.cursor c.messages.i base.messages (omega (arith, all, c.messages-test.false, c.messages.auto.i-end)) (c.messages.invariant.sent honest base holds)
+returns-clause-file g c = grind (arith, file_sent)

@@ -1,9 +1,8 @@
-use Rattle.std.proofs.Common.{◌+◌, List, ℕ, length, refl, sym, ap, subst, ◌∙◌}
+use Rattle.std.proofs.Common.{◌+◌, List, ℕ, refl, sym, ap, subst, ◌∙◌, arith}
 use Rattle.base_store.specs.Keys.{digested_key}
 use Rattle.echo_filed.specs.Filed.{key_of}
 use Rattle.base_file.specs.Alone.{IsStoredAlone}
 use Rattle.echo_filed.specs.declared.key.Key.{Key}
-use Rattle.base_folder_store.specs.Added.{LacksRoom}
 use Rattle.base_folder_store.specs.Held.{digest_by}
 use Rattle.base_folder_store.specs.Opened.{held_by}
 use Rattle.std.proofs.lemmas.Result.{on_ok_weaker}
@@ -23,9 +22,7 @@ pub returns-in_err-number-clause-kept : goal.returns-in_err-number-clause-kept
 returns-in_err-number-clause-kept g c = adds_none c.args.folder.now (g.D.Disk.state c.args.disk.now) c.from_residual-in_err-number.result c.requires
 
 pub returns-clause-kept : goal.returns-clause-kept
-returns-clause-kept g c =
-    let says = c.stage.ensures in
-    record { named = says.stays.named; opened = says.stays.opened; path = says.stays.path; same = says.same; run = says.run }
+returns-clause-kept g c = grind arith
 
 pub returns-clause-more : goal.returns-clause-more
 returns-clause-more g c = λ honest k holds.
@@ -50,12 +47,7 @@ returns-clause-added g c = λ honest.
     c.stage.result (c.stage.ensures.staged honest) (c.stage.ensures.fits honest)
 
 pub returns-in_err-bytes-clause-many : goal.returns-in_err-bytes-clause-many
-returns-in_err-bytes-clause-many g c is room =
-    let long = c.in_err-bytes.ensures.many (handed_on _ _ c.from_residual.result c.from_residual.ensures.1 is) in
-    let short = room.text in
-    cc
+returns-in_err-bytes-clause-many g c is room = grind (arith, handed_on)
 
 pub returns-clause-many : goal.returns-clause-many
-returns-clause-many g c is room =
-    let size = ap (λ (l : List ℕ). length l) (c.deref.ensures.value ∙ c.in_ok-bytes.ensures.bytes) in
-    room.room (subst (λ (n : ℕ). LacksRoom c.args.folder.now n) size (c.stage.ensures.many is))
+returns-clause-many g c is room = grind arith

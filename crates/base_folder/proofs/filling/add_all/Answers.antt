@@ -33,9 +33,7 @@ returns-clause-kept g c =
     (c.min-scanned.result - 0) (c.count-count.result - c.min-scanned.result) count c.add_from-2.result (omega (arith, c.min-scanned.ensures, c.count-count.ensures.count)) (scanned g (goal.at.returns-clause-kept g c).After-add_from-2) c.add_from-2.ensures.kept
 
 pub returns-in_err-add_from-clause-kept : goal.returns-in_err-add_from-clause-kept
-returns-in_err-add_from-clause-kept g c =
-    fills_fewer g.H.Digest.keyed c.args.folder.now c.add_from.new.folder (g.D.Disk.state c.args.disk.now) (g.D.Disk.state c.add_from.new.disk) (c.min-scanned.result - 0) (g.M.MessageSource.state c.args.messages.now).count c.in_err-add_from.field-0.0
-    c.from_residual.result c.from_residual.ensures.1 c.in_err-add_from.ensures.kept
+returns-in_err-add_from-clause-kept g c = grind (arith, fills_fewer)
 
 pub returns-clause-added : goal.returns-clause-added
 returns-clause-added g c = λ honest source base holds was.

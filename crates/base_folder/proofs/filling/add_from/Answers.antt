@@ -1,27 +1,16 @@
 use Rattle.std.proofs.Common.{◌≡◌, ◌+◌, ◌-◌, ℕ, Result, Ok, Err, inl, refl, subst, arith}
 use Rattle.base_folder_store.specs.Opened.{held_by}
 use Rattle.base_folder_store.proofs.Causes.{handed_on}
-use Rattle.base_folder.specs.Filled.{FillsOnly, HasFillCause, HoldsFront, ReadsFor}
+use Rattle.base_folder.specs.Filled.{FillsOnly, HasFillCause, HoldsFront}
 use Rattle.base_folder.specs.declared.fill_error.FillError.{FillError}
 use Rattle.base_folder.proofs.Fillings.{by_error, cause_since, fills_fewer, fills_none, fills_twice, reads_none, reads_twice, shows_before, shows_later}
 use Rattle.base_folder.proofs.filling.add_from.Goals as goal
 
 pub add_next-requires : goal.add_next-requires
-add_next-requires g c =
-    let was = c.messages.invariant in
-    record {
-      usable = record { named = was.kept.adds.named; opened = was.kept.adds.opened };
-      ready = was.reads.looks.ready c.requires.ready;
-      within = omega (arith, c.messages-test.true, c.requires.within, was.reads.looks.count);
-    }
+add_next-requires g c = grind arith
 
 pub messages-init : goal.messages-init
-messages-init g c = record {
-  kept = fills_none g.H.Digest.keyed c.args.folder.now (g.D.Disk.state c.args.disk.now) (c.args.from - c.args.from) (omega arith) c.requires.usable;
-  held = λ honest base cursor shows front. front;
-  reads = reads_none (g.M.MessageSource.state c.args.messages.now);
-  cause = omega arith;
-}
+messages-init g c = grind (arith, fills_none, reads_none)
 
 pub messages-preserved : goal.messages-preserved
 messages-preserved g c =
@@ -52,11 +41,7 @@ returns-in_err-add_next-clause-kept g c =
     (fills_twice keyed c.args.folder.now c.messages.folder c.add_next.new.folder d (g.D.Disk.state c.messages.disk) k so_far 1 (so_far + 1) (Err why) refl c.messages.invariant.kept c.in_err-add_next.ensures.kept)
 
 pub returns-in_err-add_next-clause-reads : goal.returns-in_err-add_next-clause-reads
-returns-in_err-add_next-clause-reads g c =
-    let a = g.M.MessageSource.state c.args.messages.now in
-    let z = g.M.MessageSource.state c.add_next.new.messages in
-    by_error (λ (r : Result (Unit {0}) FillError). ReadsFor a z r) c.in_err-add_next.field-0.0 c.from_residual.result c.from_residual.ensures.1
-    (reads_twice a (g.M.MessageSource.state c.messages.messages) z (Err c.in_err-add_next.field-0.0) c.messages.invariant.reads c.in_err-add_next.ensures.reads)
+returns-in_err-add_next-clause-reads g c = grind (arith, by_error, reads_twice)
 
 pub returns-in_err-add_next-clause-cause : goal.returns-in_err-add_next-clause-cause
 returns-in_err-add_next-clause-cause g c =

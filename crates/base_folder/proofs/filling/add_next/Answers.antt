@@ -1,4 +1,4 @@
-use Rattle.std.proofs.Common.{◌≡◌, ◌∙◌, Some, sym}
+use Rattle.std.proofs.Common.{◌≡◌, ◌∙◌, Some, sym, arith}
 use Rattle.std.specs.Prelude.{slice_get}
 use Rattle.base_folder_store.specs.Opened.{held_by}
 use Rattle.base_folder.specs.Filled.{unfilled_cause}
@@ -9,10 +9,7 @@ pub returns-in-Err-clause-kept : goal.returns-in-Err-clause-kept
 returns-in-Err-clause-kept g c = fills_unread g.H.Digest.keyed c.args.folder.now (g.D.Disk.state c.args.disk.now) 1 _ c.requires.usable
 
 pub returns-in-Err-clause-reads : goal.returns-in-Err-clause-reads
-returns-in-Err-clause-reads g c =
-    let old = g.M.MessageSource.state c.args.messages.now in
-    let new = g.M.MessageSource.state c.fetch.new.self in
-    reads_fault old new c.args.place c.in-Err.error c.fault_of.result (λ base. new.at_hand ≡ slice_get base.messages c.args.place) c.fault_of.ensures c.fetch.ensures.looks c.in-Err.ensures.cause c.in-Err.ensures.fetched
+returns-in-Err-clause-reads g c = grind (arith, reads_fault)
 
 pub returns-in_err-add-in-Some-clause-kept : goal.returns-in_err-add-in-Some-clause-kept
 returns-in_err-add-in-Some-clause-kept g c =
@@ -32,10 +29,7 @@ returns-in_err-add-in-Some-clause-cause g c =
     cause_stored (g.D.Disk.failures c.args.disk.now) (g.D.Disk.failures c.add.new.disk) c.in_err-add-in-Some.field-0.0 c.from_residual.result c.from_residual.ensures.1 c.in_err-add-in-Some.ensures.cause
 
 pub returns-in_err-add-in-Some-clause-many : goal.returns-in_err-add-in-Some-clause-many
-returns-in_err-add-in-Some-clause-many g c = λ base shows is.
-    let m = c.in-Some.message.now in
-    let at : slice_get base.messages c.args.place ≡ Some m = sym (c.in-Some.ensures ∙ c.in_default.ensures.fetched shows.honest base shows.holds) in
-    (m, at, c.in_err-add-in-Some.ensures.many (many_stored c.in_err-add-in-Some.field-0.0 c.from_residual.result c.from_residual.ensures.1 is))
+returns-in_err-add-in-Some-clause-many g c = grind (arith, many_stored)
 
 pub returns-in_ok-add-in-Some-clause-added : goal.returns-in_ok-add-in-Some-clause-added
 returns-in_ok-add-in-Some-clause-added g c = λ honest base cursor shows was.
@@ -50,12 +44,4 @@ pub returns-in-None-clause-kept : goal.returns-in-None-clause-kept
 returns-in-None-clause-kept g c = fills_unread g.H.Digest.keyed c.args.folder.now (g.D.Disk.state c.args.disk.now) 1 _ c.requires.usable
 
 pub returns-in-None-clause-reads : goal.returns-in-None-clause-reads
-returns-in-None-clause-reads g c =
-    let old = g.M.MessageSource.state c.args.messages.now in
-    let new = g.M.MessageSource.state c.fetch.new.self in
-    record {
-      looks = c.fetch.ensures.looks;
-      later = c.fetch.ensures.cause.later;
-      failed = λ is. absurd (cc (is));
-      whole = λ honest base holds. absurd (none_missing old new base c.args.place c.in-None.ensures (c.in_default.ensures.fetched honest base holds) c.requires.within holds);
-    }
+returns-in-None-clause-reads g c = grind (arith, none_missing)

@@ -1,6 +1,5 @@
 use Rattle.std.proofs.Common.{◌≡◌, ◌∙◌, List, ℕ, OnOk, ap, arith, inr, subst}
 use Rattle.disk_io.specs.Disk.{Files}
-use Rattle.base_log.specs.Moments.{KeepsOutside}
 use Rattle.base_log.proofs.Keeping.{outside_twice}
 use Rattle.base_folder_store.specs.Held.{HoldsBase, RepresentsBase}
 use Rattle.base_folder_store.specs.Opened.{committed_by, held_by, path_of}
@@ -34,13 +33,7 @@ first g c honest represented =
     claimed_committed keyed (g.D.Disk.state c.open_base.new.disk) c.in_ok-folder.folder c.give_key.new.folder no_messages c.give_key.ensures.only says.fresh.settled says.fresh.written (says.same honest keyed no_messages represented)
 
 pub fill_opened-requires-clause-usable : goal.fill_opened-requires-clause-usable
-fill_opened-requires-clause-usable g c =
-    let f = c.in_ok-folder.folder in
-    let only = c.give_key.ensures.only in
-    record {
-      named = claimed_named f c.give_key.new.folder only c.in_ok-folder.ensures.fresh.named;
-      opened = λ honest. claimed_opened (g.D.Disk.state c.open_base.new.disk) f c.give_key.new.folder only (c.in_ok-folder.ensures.opened honest);
-    }
+fill_opened-requires-clause-usable g c = grind (arith, claimed_named, claimed_opened)
 
 pub returns-in_err-folder-clause-any_moment : goal.returns-in_err-folder-clause-any_moment
 returns-in_err-folder-clause-any_moment g c = λ honest represented.
@@ -59,9 +52,7 @@ returns-in_err-folder-clause-any_moment g c = λ honest represented.
     }
 
 pub returns-in_err-folder-clause-reads : goal.returns-in_err-folder-clause-reads
-returns-in_err-folder-clause-reads g c =
-    let a = g.M.MessageSource.state c.args.messages.now in
-    reads_folder a a c.in_err-folder.field-0.0 c.from_residual.result c.from_residual.ensures.1 (looks_none a) (omega arith)
+returns-in_err-folder-clause-reads g c = grind (arith, reads_folder, looks_none)
 
 pub returns-in_err-folder-clause-cause : goal.returns-in_err-folder-clause-cause
 returns-in_err-folder-clause-cause g c = cause_opened (g.D.Disk.failures c.args.disk.now) (g.D.Disk.failures c.open_base.new.disk) c.in_err-folder.field-0.0 c.from_residual.result c.from_residual.ensures.1 c.in_err-folder.ensures.cause
@@ -95,11 +86,7 @@ returns-clause-any_moment g c = λ honest represented.
     (subst (λ (p : List ℕ). FillsAllOrNothing keyed p (RepresentsNoneOr keyed p e) e f a z c.fill_opened.result) (at g after) (c.fill_opened.ensures.any_moment honest (first g after before represented) (front g after before represented)))
 
 pub returns-clause-outside : goal.returns-clause-outside
-returns-clause-outside g c =
-    let after = (goal.at.returns-clause-outside g c).After-fill_opened in
-    let e = g.D.Disk.state c.open_base.new.disk in
-    let k = g.D.Disk.state c.fill_opened.new.disk in
-    outside_twice c.args.path.now (g.D.Disk.state c.args.disk.now) e k c.open_base.ensures.run.outside (subst (λ (p : List ℕ). KeepsOutside p e k) (at g after) c.fill_opened.ensures.outside)
+returns-clause-outside g c = grind (arith, outside_twice, at)
 
 pub returns-clause-cause : goal.returns-clause-cause
 returns-clause-cause g c =

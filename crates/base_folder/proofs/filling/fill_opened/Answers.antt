@@ -117,15 +117,10 @@ pub returns-clause-outside : goal.returns-clause-outside
 returns-clause-outside g c = (run g (goal.at.returns-clause-outside g c).After-commit).outside
 
 pub returns-in_err-commit-clause-reads : goal.returns-in_err-commit-clause-reads
-returns-in_err-commit-clause-reads g c =
-    let reads = c.in_ok-add_all.ensures.reads in
-    reads_folder (g.M.MessageSource.state c.args.messages.now) (g.M.MessageSource.state c.add_all.new.messages) (unfilled_cause c.in_err-commit.field-0.0) c.from_residual-in_err-commit.result c.from_residual-in_err-commit.ensures.1 reads.looks reads.later
+returns-in_err-commit-clause-reads g c = grind (arith, reads_folder)
 
 pub returns-in_err-commit-clause-cause : goal.returns-in_err-commit-clause-cause
-returns-in_err-commit-clause-cause g c =
-    let says = c.in_err-commit.ensures.cause in
-    cause_since (g.D.Disk.failures c.args.disk.now) (g.D.Disk.failures c.add_all.new.disk) (g.D.Disk.failures c.commit.new.disk) c.from_residual-in_err-commit.result c.in_ok-add_all.ensures.cause.cause.later
-    (cause_stored (g.D.Disk.failures c.add_all.new.disk) (g.D.Disk.failures c.commit.new.disk) c.in_err-commit.field-0.0 c.from_residual-in_err-commit.result c.from_residual-in_err-commit.ensures.1 (record { later = says.later; failed = says.failed }))
+returns-in_err-commit-clause-cause g c = grind (arith, cause_since, cause_stored)
 
 pub returns-in_err-commit-clause-many : goal.returns-in_err-commit-clause-many
 returns-in_err-commit-clause-many g c = λ honest source base holds front is.

@@ -1,8 +1,7 @@
-use Rattle.std.proofs.Common.{◌≡◌, ◌∙◌, List, ℕ, ap, sym, subst}
+use Rattle.std.proofs.Common.{◌≡◌, ◌∙◌, ap, sym, subst, arith}
 use Rattle.disk_io.specs.Disk.{Files, bytes_in}
 use Rattle.base_log.specs.Names.{log_of}
 use Rattle.base_folder.specs.OpenError.{IsWrong}
-use Rattle.base_folder.specs.Wrong.{IsFolderLog}
 use Rattle.base_folder.proofs.Lookings.{err_is}
 use Rattle.base_folder.proofs.Openings.{stood_before}
 use Rattle.base_folder.proofs.judging.judged.Goals as goal
@@ -11,9 +10,7 @@ pub judge_by-requires-clause-log : goal.judge_by-requires-clause-log
 judge_by-requires-clause-log g c honest = c.in_ok-log.ensures.log honest ∙ ap bytes_in (sym (c.read_log.ensures.quiet.seen (log_of c.args.path.now)))
 
 pub returns-clause-folder : goal.returns-clause-folder
-returns-clause-folder g c honest =
-    let log = c.in_ok-log.log in
-    subst (λ (l : List ℕ). IsFolderLog c.args.strange l log.end) (c.in_ok-log.ensures.log (c.judge_by.ensures.quiet.honest honest)) c.in_ok-judge_by.ensures.folder
+returns-clause-folder g c honest = grind arith
 
 pub returns-clause-represented : goal.returns-clause-represented
 returns-clause-represented g c honest =

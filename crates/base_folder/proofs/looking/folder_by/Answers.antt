@@ -1,17 +1,15 @@
-use Rattle.std.proofs.Common.{◌≡◌, ◌∙◌, List, ℕ, ap, refl, sym, subst}
+use Rattle.std.proofs.Common.{◌≡◌, ◌∙◌, List, ℕ, ap, refl, arith}
 use Rattle.disk_io.specs.Disk.{DiskState}
 use Rattle.disk_io.specs.Runs.{ChangesNothing}
-use Rattle.base_log.specs.Standing.{BaseBytes, base_at}
+use Rattle.base_log.specs.Standing.{base_at}
 use Rattle.base_log.specs.declared.log.End.{End}
 use Rattle.base_log.specs.declared.log.Log.{Log}
 use Rattle.base_store.proofs.Runs.{quiet_disk}
 use Rattle.base_folder_store.specs.Opened.{IsFresh, held_by}
-use Rattle.base_folder_store.specs.Vouched.{IsVouched}
 use Rattle.base_folder_store.specs.declared.folder.Folder.{Folder}
 use Rattle.base_folder_store.proofs.Bases.{opened_bytes}
 use Rattle.base_folder_store.proofs.Legible.{held_quiet}
 use Rattle.base_folder.specs.Looked.{IsUnseen}
-use Rattle.base_folder.specs.Wrong.{IsFolderLog}
 use Rattle.base_folder.proofs.Lookings.{err_is, looked_at, unseen_by, unseen_message}
 use Rattle.base_folder.proofs.Openings.{base_is}
 use Rattle.base_folder.proofs.Readings.{looked_quiet}
@@ -24,11 +22,7 @@ by_log path d e log f quiet fresh same =
     opened_bytes d e path f log.end.recorded (base_at d path log.end.recorded) quiet fresh.path (fresh.settled ∙ ap (λ (x : End). x.recorded) same) refl fresh.written
 
 pub returns-in_err-judge_by-clause-wrong : goal.returns-in_err-judge_by-clause-wrong
-returns-in_err-judge_by-clause-wrong g c honest =
-    let d = g.D.Disk.state c.args.disk.now in
-    let e = c.in_err-judge_by.field-0.0 in
-    err_is (IsUnseen g.H.Digest.keyed c.args.strange c.args.path.now d.seen) e c.from_residual.result c.from_residual.ensures.1
-    (unseen_by g.H.Digest.keyed c.args.strange c.args.path.now d.seen e (c.in_err-judge_by.ensures.wrong honest))
+returns-in_err-judge_by-clause-wrong g c honest = grind (arith, err_is, unseen_by)
 
 pub judge_messages-requires : goal.judge_messages-requires
 judge_messages-requires g c =
@@ -53,12 +47,7 @@ returns-in_err-judge_messages-clause-wrong g c honest =
     (unseen_message keyed c.args.strange path d.seen (held_by e f) why (λ b represented. bytes ∙ base_is path b d d log (quiet_disk d) (c.requires.log (quiet.honest h1)) c.requires.read.read represented) (c.in_err-judge_messages.ensures.damaged honest))
 
 pub returns-clause-bytes : goal.returns-clause-bytes
-returns-clause-bytes g c =
-    let d = g.D.Disk.state c.args.disk.now in
-    let e = g.D.Disk.state c.judge_by.new.disk in
-    let n = g.D.Disk.state c.judge_messages.new.disk in
-    let f = c.in_ok-folder.folder in
-    held_quiet e n f c.judge_messages.ensures.quiet ∙ by_log c.args.path.now d e c.args.log.now f c.judge_by.ensures.quiet c.in_ok-folder.ensures.fresh c.in_ok-folder.ensures.end
+returns-clause-bytes g c = grind (arith, held_quiet, by_log)
 
 pub returns-clause-ready : goal.returns-clause-ready
 returns-clause-ready g c =
@@ -69,16 +58,7 @@ returns-clause-ready g c =
     (looked_at c.args.path.now d e c.args.log.now c.in_ok-folder.folder c.judge_by.ensures.quiet c.requires.read.read c.in_ok-folder.ensures.fresh c.in_ok-folder.ensures.end c.in_ok-folder.ensures.keys c.requires.log c.in_ok-judge_by.ensures.represented)
 
 pub returns-clause-vouched : goal.returns-clause-vouched
-returns-clause-vouched g c honest =
-    let e = g.D.Disk.state c.judge_by.new.disk in
-    let n = g.D.Disk.state c.judge_messages.new.disk in
-    let f = c.in_ok-folder.folder in
-    λ i from below. subst (λ (b : BaseBytes). IsVouched g.H.Digest.keyed b i) (sym (held_quiet e n f c.judge_messages.ensures.quiet)) (c.in_ok-judge_messages.ensures.vouched honest i from below)
+returns-clause-vouched g c honest = grind (arith, held_quiet)
 
 pub returns-clause-sound : goal.returns-clause-sound
-returns-clause-sound g c honest =
-    let h1 = c.judge_messages.ensures.quiet.honest honest in
-    let d = g.D.Disk.state c.args.disk.now in
-    let log = c.args.log.now in
-    sound_by c.args.strange c.args.path.now d.seen log.end (base_at d c.args.path.now log.end.recorded)
-    (subst (λ (l : List ℕ). IsFolderLog c.args.strange l log.end) (c.requires.log (c.judge_by.ensures.quiet.honest h1)) c.in_ok-judge_by.ensures.folder) (c.in_ok-judge_by.ensures.represented h1)
+returns-clause-sound g c honest = grind (arith, sound_by)

@@ -1,10 +1,9 @@
-use Rattle.std.proofs.Common.{◌≡◌, Option, sym, subst}
+use Rattle.std.proofs.Common.{◌≡◌, Option, sym, subst, arith}
 use Rattle.std.specs.Prelude.{IfSome}
-use Rattle.disk_io.specs.Disk.{Files, Honestly}
+use Rattle.disk_io.specs.Disk.{Files}
 use Rattle.base_log.specs.Standing.{Represents}
 use Rattle.base_folder_store.specs.Opened.{held_by}
-use Rattle.base_folder_store.specs.Vouched.{IsLookedAt}
-use Rattle.base_folder.specs.Looked.{AreVouched, HasLogs, IsUnseen}
+use Rattle.base_folder.specs.Looked.{IsUnseen}
 use Rattle.base_folder.specs.Wrong.{IsSound}
 use Rattle.base_folder.specs.declared.looking.LookedFolder.{LookedFolder}
 use Rattle.base_folder.proofs.Lookings.{err_is}
@@ -31,18 +30,10 @@ returns-in-Some-clause-found g c honest base represented =
     (c.in_ok-looked.ensures.found honest base (subst (λ (f : Files). Represents c.args.path.now base f) (sym same) represented))
 
 pub returns-in-Some-clause-ready : goal.returns-in-Some-clause-ready
-returns-in-Some-clause-ready g c =
-    let keyed = g.H.Digest.keyed in
-    let d2 = g.D.Disk.state c.look_once.new.disk in
-    let seen = subst (λ (o : Option LookedFolder). IfSome o (λ l. IsLookedAt d2 l.folder × Honestly d2 (AreVouched keyed d2 c.args.first l.folder))) c.in-Some.is c.in_ok-looked.ensures.seen in
-    seen.0
+returns-in-Some-clause-ready g c = grind arith
 
 pub returns-in-Some-clause-vouched : goal.returns-in-Some-clause-vouched
-returns-in-Some-clause-vouched g c honest =
-    let keyed = g.H.Digest.keyed in
-    let d2 = g.D.Disk.state c.look_once.new.disk in
-    let seen = subst (λ (o : Option LookedFolder). IfSome o (λ l. IsLookedAt d2 l.folder × Honestly d2 (AreVouched keyed d2 c.args.first l.folder))) c.in-Some.is c.in_ok-looked.ensures.seen in
-    seen.1 honest
+returns-in-Some-clause-vouched g c honest = grind arith
 
 pub returns-in-Some-clause-sound : goal.returns-in-Some-clause-sound
 returns-in-Some-clause-sound g c honest =
@@ -52,10 +43,4 @@ returns-in-Some-clause-sound g c honest =
     subst (λ (f : Files). IsSound c.args.strange c.args.path.now f) same (c.in_ok-looked.ensures.sound honest)
 
 pub returns-in-Some-clause-logs : goal.returns-in-Some-clause-logs
-returns-in-Some-clause-logs g c honest =
-    let path = c.args.path.now in
-    let d0 = g.D.Disk.state c.args.disk.now in
-    let d1 = g.D.Disk.state c.tries.disk in
-    let same : d1.seen ≡ d0.seen = λ i m. c.tries.invariant.quiet.seen m i in
-    subst (λ (f : Files). HasLogs path f c.in-Some.looked) same
-    (subst (λ (o : Option LookedFolder). IfSome o (HasLogs path d1.seen)) c.in-Some.is (c.in_ok-looked.ensures.logs honest))
+returns-in-Some-clause-logs g c honest = grind arith

@@ -1,11 +1,9 @@
-use Rattle.std.proofs.Common.{◌≡◌, ◌∙◌, ap, sym, subst}
-use Rattle.disk_io.specs.Disk.{Files, bytes_in}
-use Rattle.base_log.specs.Names.{log_of}
-use Rattle.base_log.specs.Standing.{BaseBytes, base_at}
+use Rattle.std.proofs.Common.{◌≡◌, ◌∙◌, subst, arith}
+use Rattle.disk_io.specs.Disk.{Files}
+use Rattle.base_log.specs.Standing.{base_at}
 use Rattle.base_folder_store.specs.Opened.{held_by}
-use Rattle.base_folder_store.specs.Vouched.{IsLookedAt, IsVouched}
 use Rattle.base_folder_store.proofs.Legible.{held_quiet}
-use Rattle.base_folder.specs.Looked.{AreVouched, IsUnseen}
+use Rattle.base_folder.specs.Looked.{IsUnseen}
 use Rattle.base_folder.specs.Wrong.{IsSound}
 use Rattle.base_folder.proofs.Lookings.{at_err, at_ok, err_is}
 use Rattle.base_folder.proofs.Openings.{base_is}
@@ -41,16 +39,7 @@ returns-clause-found g c honest base represented =
     ∙ is
 
 pub returns-clause-seen : goal.returns-clause-seen
-returns-clause-seen g c =
-    let keyed = g.H.Digest.keyed in
-    let d2 = g.D.Disk.state c.folder_by-read.new.disk in
-    let d3 = g.D.Disk.state c.read_log-2.new.disk in
-    let folder = c.in_ok-folder.folder in
-    let quiet = c.read_log-2.ensures.quiet in (
-      looked_quiet d2 d3 folder quiet (at_ok (λ f. IsLookedAt d2 f) c.folder_by-read.result folder c.in_ok-folder.was c.folder_by-read.ensures.ready),
-      λ honest i from below. subst (λ (b : BaseBytes). IsVouched keyed b i) (sym (held_quiet d2 d3 folder quiet))
-          (at_ok (λ f. AreVouched keyed d2 c.args.first f) c.folder_by-read.result folder c.in_ok-folder.was (c.folder_by-read.ensures.vouched (quiet.honest honest)) i from below),
-    )
+returns-clause-seen g c = grind (arith, looked_quiet, at_ok, held_quiet)
 
 pub returns-clause-sound : goal.returns-clause-sound
 returns-clause-sound g c honest =
@@ -62,11 +51,4 @@ returns-clause-sound g c honest =
     (at_ok (λ s. IsSound c.args.strange path d1.seen) c.folder_by-read.result c.in_ok-folder.folder c.in_ok-folder.was (c.folder_by-read.ensures.sound (c.read_log-2.ensures.quiet.honest honest)))
 
 pub returns-clause-logs : goal.returns-clause-logs
-returns-clause-logs g c honest =
-    let name = log_of c.args.path.now in
-    let h2 = c.read_log-2.ensures.quiet.honest honest in
-    let same = c.folder_by-read.ensures.quiet.seen name ∙ c.read_log.ensures.quiet.seen name in
-    record {
-      log = c.in_ok-before.ensures.log (c.folder_by-read.ensures.quiet.honest h2);
-      reread = c.in_ok-after.ensures.log honest ∙ ap bytes_in same;
-    }
+returns-clause-logs g c honest = grind arith

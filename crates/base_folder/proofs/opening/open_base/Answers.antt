@@ -1,4 +1,4 @@
-use Rattle.base_log.specs.Standing.{base_at}
+use Rattle.std.proofs.Common.{arith}
 use Rattle.base_folder.proofs.Openings.{log_since, looked_only, opened_holds, opened_only}
 use Rattle.base_folder.proofs.Wrongs.{sound_by}
 use Rattle.base_folder.proofs.opening.open_base.Goals as goal
@@ -31,8 +31,4 @@ returns-clause-run g c =
     opened_only c.args.path.now (g.D.Disk.state c.args.disk.now) (g.D.Disk.state c.judged.new.disk) (g.D.Disk.state c.open.new.disk) c.in_ok-log.log c.judged.ensures.quiet says.log says.read c.open.ensures.any_moment c.open.ensures.outside
 
 pub returns-clause-sound : goal.returns-clause-sound
-returns-clause-sound g c honest =
-    let h1 = c.open.ensures.outside.honest honest in
-    let d0 = g.D.Disk.state c.args.disk.now in
-    let end = c.in_ok-log.log.end in
-    sound_by c.args.strange c.args.path.now d0.seen end (base_at d0 c.args.path.now end.recorded) (c.in_ok-log.ensures.folder h1) (c.in_ok-log.ensures.represented h1)
+returns-clause-sound g c honest = grind (arith, sound_by)

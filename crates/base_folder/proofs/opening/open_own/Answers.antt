@@ -1,10 +1,4 @@
-use Rattle.std.proofs.Common.{◌≡◌, ◌∙◌, ◌⊎◌, ⊎_elim, inl, inr, ap, refl, sym, subst}
-use Rattle.base_log.specs.Standing.{base_at}
-use Rattle.base_log.specs.declared.log.End.{End}
-use Rattle.base_log.specs.declared.log.CommitRecord.{CommitRecord}
-use Rattle.base_folder_store.specs.Opened.{path_of}
-use Rattle.base_folder_store.specs.declared.folder.Folder.{Folder}
-use Rattle.base_folder.specs.Ours.{IsLeftAlone, IsNotOurs, number_of}
+use Rattle.std.proofs.Common.{refl, arith}
 use Rattle.base_folder.proofs.Lookings.{err_is}
 use Rattle.base_folder.proofs.Openings.{claimed_committed, claimed_named, claimed_opened, claimed_same, log_since, looked_only, opened_holds, opened_only, other_cause, other_left, other_recorded, recorded_other}
 use Rattle.base_folder.proofs.Wrongs.{sound_by}
@@ -22,30 +16,16 @@ pub returns-in_err-log-clause-run : goal.returns-in_err-log-clause-run
 returns-in_err-log-clause-run g c = looked_only c.args.path.now (g.D.Disk.state c.args.disk.now) (g.D.Disk.state c.judged.new.disk) c.judged.ensures.quiet
 
 pub claim_for-requires : goal.claim_for-requires
-claim_for-requires g c =
-    let own = c.args.own in
-    subst (λ (t : CommitRecord). (t.mark.owner ≡ 0) ⊎ (t.mark.owner ≡ number_of own)) (sym (c.in_ok-folder.ensures.fresh.settled ∙ ap (λ (e : End). e.recorded) c.in_ok-folder.ensures.end))
-    c.in_ok-judge_owner.ensures.ours
+claim_for-requires g c = grind arith
 
 pub returns-in_err-judge_owner-clause-run : goal.returns-in_err-judge_owner-clause-run
 returns-in_err-judge_owner-clause-run g c = looked_only c.args.path.now (g.D.Disk.state c.args.disk.now) (g.D.Disk.state c.judged.new.disk) c.judged.ensures.quiet
 
 pub returns-in_err-judge_owner-clause-refused : goal.returns-in_err-judge_owner-clause-refused
-returns-in_err-judge_owner-clause-refused g c = λ honest.
-    let old = g.D.Disk.state c.args.disk.now in
-    let new = g.D.Disk.state c.judged.new.disk in
-    let e = c.in_err-judge_owner.field-0.0 in
-    err_is (IsLeftAlone old new) e c.from_residual-in_err-judge_owner.result c.from_residual-in_err-judge_owner.ensures.1 (other_left c.args.own c.in_ok-log.log.end.recorded.mark old new e c.judged.ensures.quiet c.in_err-judge_owner.ensures.other)
+returns-in_err-judge_owner-clause-refused g c = grind (arith, err_is, other_left)
 
 pub returns-in_err-judge_owner-clause-wrong : goal.returns-in_err-judge_owner-clause-wrong
-returns-in_err-judge_owner-clause-wrong g c = λ honest.
-    let own = c.args.own in
-    let path = c.args.path.now in
-    let files = (g.D.Disk.state c.args.disk.now).seen in
-    let recorded = c.in_ok-log.log.end.recorded in
-    let e = c.in_err-judge_owner.field-0.0 in
-    err_is (IsNotOurs own c.args.strange path files) e c.from_residual-in_err-judge_owner.result c.from_residual-in_err-judge_owner.ensures.1
-    (other_recorded own c.args.strange path files recorded e (record { end = c.in_ok-log.log.end; log = c.in_ok-log.ensures.folder honest; is = refl }) c.in_err-judge_owner.ensures.other)
+returns-in_err-judge_owner-clause-wrong g c = grind (arith, err_is, other_recorded)
 
 pub returns-in_err-judge_owner-clause-cause : goal.returns-in_err-judge_owner-clause-cause
 returns-in_err-judge_owner-clause-cause g c =
@@ -77,11 +57,7 @@ returns-clause-run g c =
     opened_only c.args.path.now (g.D.Disk.state c.args.disk.now) (g.D.Disk.state c.judged.new.disk) (g.D.Disk.state c.open.new.disk) c.in_ok-log.log c.judged.ensures.quiet says.log says.read c.open.ensures.any_moment c.open.ensures.outside
 
 pub returns-clause-sound : goal.returns-clause-sound
-returns-clause-sound g c honest =
-    let h1 = c.open.ensures.outside.honest honest in
-    let d0 = g.D.Disk.state c.args.disk.now in
-    let end = c.in_ok-log.log.end in
-    sound_by c.args.strange c.args.path.now d0.seen end (base_at d0 c.args.path.now end.recorded) (c.in_ok-log.ensures.folder h1) (c.in_ok-log.ensures.represented h1)
+returns-clause-sound g c honest = grind (arith, sound_by)
 
 pub returns-clause-other : goal.returns-clause-other
 returns-clause-other g c honest address other =
@@ -92,25 +68,4 @@ returns-clause-other g c honest address other =
     c.in_ok-judge_owner.ensures.ours other
 
 pub returns-clause-own : goal.returns-clause-own
-returns-clause-own g c =
-    let f = c.in_ok-folder.folder in
-    let only = c.claim_for.ensures.only in
-    let fresh = c.in_ok-folder.ensures.fresh in
-    let end = c.in_ok-folder.ensures.end in
-    record {
-      usable = record {
-        named = claimed_named f c.claim_for.new.folder only fresh.named;
-        opened = λ honest. claimed_opened (g.D.Disk.state c.open.new.disk) f c.claim_for.new.folder only (c.in_ok-folder.ensures.opened honest);
-      };
-      path = ap (λ (x : Folder). path_of x) only ∙ fresh.path;
-      ours = c.claim_for.ensures.ours.owner;
-      drawn = λ none.
-          ⊎_elim
-          (λ (free : c.in_ok-log.log.end.recorded.mark.owner ≡ 0). inl (c.claim_for.ensures.drawn (record {
-            owner = ap (λ (t : CommitRecord). t.mark.owner) fresh.settled ∙ ap (λ (e : End). e.recorded.mark.owner) end ∙ free;
-            keys = sym (ap (λ (x : Folder). x.keys) only) ∙ none;
-          })))
-          (λ (ours : c.in_ok-log.log.end.recorded.mark.owner ≡ number_of c.args.own).
-          inr (ap (λ (x : Folder). x.end.recorded.mark.owner) only ∙ ap (λ (e : End). e.recorded.mark.owner) end ∙ ours))
-          c.in_ok-judge_owner.ensures.ours;
-    }
+returns-clause-own g c = grind (arith, claimed_named, claimed_opened)

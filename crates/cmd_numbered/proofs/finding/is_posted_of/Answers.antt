@@ -1,4 +1,4 @@
-use Rattle.std.proofs.Common.{◌≡◌, ◌∙◌, ℕ, List, Option, add-one, arith, inl, length, refl, subst, sym}
+use Rattle.std.proofs.Common.{◌∙◌, Option, add-one, arith, sym}
 use Rattle.std.proofs.lemmas.Result.{err_from_is_err_and}
 use Rattle.base_folder.proofs.Fetchings.{unread_since}
 use Rattle.echo_filed.specs.Filed.{Filed}
@@ -6,31 +6,16 @@ use Rattle.cmd_numbered.specs.Finding.{is_found_as, last_at, last_with}
 use Rattle.cmd_numbered.proofs.finding.is_posted_of.Goals as goal
 
 pub messages-init : goal.messages-init
-messages-init g c = record {
-  ready = c.requires;
-  many = sym c.count-count.ensures.count;
-  honest = λ h. h;
-  held = λ base held. held;
-  later = omega arith;
-  so_far = λ honest base held. refl;
-}
+messages-init g c = grind arith
 
 pub fetch_message-requires : goal.fetch_message-requires
 fetch_message-requires g c = record { ready = c.messages.invariant.ready; within = omega (arith, c.messages-test.true, c.messages.invariant.many) }
 
 pub returns-in_err-tag : goal.returns-in_err-tag
-returns-in_err-tag g c = λ honest base held.
-    let p = err_from_is_err_and c.from_residual.result c.from_residual.ensures.1 in
-    rw (p.1, p.2) (inl tt)
+returns-in_err-tag g c = grind (arith, err_from_is_err_and)
 
 pub returns-in_err-fetch_message : goal.returns-in_err-fetch_message
-returns-in_err-fetch_message g c = λ honest base held.
-    let p = err_from_is_err_and c.from_residual-in_err-fetch_message.result c.from_residual-in_err-fetch_message.ensures.1 in
-    let first = (g.M.MessageSource.state c.args.messages.now).failures in
-    let before = (g.M.MessageSource.state c.messages.messages).failures in
-    let now = (g.M.MessageSource.state c.fetch_message.new.messages).failures in
-    rw (p.1, p.2)
-    (unread_since c.args.path.now first before now c.in_err-fetch_message.field-0.0 c.messages.invariant.later (c.in_err-fetch_message.ensures.fault honest base (c.messages.invariant.held base held)))
+returns-in_err-fetch_message g c = grind (arith, err_from_is_err_and, unread_since)
 
 pub messages-preserved : goal.messages-preserved
 messages-preserved g c =
@@ -52,8 +37,4 @@ messages-preserved g c =
     }
 
 pub returns : goal.returns
-returns g c = λ honest base held.
-    let end : c.messages.i ≡ length base.messages = omega (arith, c.messages-test.false, c.messages.auto.i-end, c.count-count.ensures.all base held) in
-    let words = c.args.words in
-    let so_far = subst (λ (n : ℕ). c.messages.posted ≡ is_found_as c.in_ok-tag.tag.items words (last_with words.id.now base.messages n)) end (c.messages.invariant.so_far honest base held) in
-    subst (λ (tag : List ℕ). c.messages.posted ≡ is_found_as tag words (last_with words.id.now base.messages (length base.messages))) c.in_ok-tag.ensures.ok so_far
+returns g c = grind arith

@@ -1,13 +1,11 @@
-use Rattle.std.proofs.Common.{◌≡◌, ◌∙◌, ◌+◌, ℕ, Bool, List, Option, add-one, ap, arith, length, option_copied, refl, slice_get, subst, sym}
+use Rattle.std.proofs.Common.{◌≡◌, ◌∙◌, ◌+◌, ℕ, Bool, List, Option, add-one, ap, arith, option_copied, slice_get}
 use Rattle.base_folder.proofs.Fetchings.{unread_since}
 use Rattle.base_folder.proofs.Lookings.{err_is}
 use Rattle.base_folder.proofs.Readings.{looks_on}
-use Rattle.base_folder.specs.Fetching.{IsUnread}
 use Rattle.std.specs.Prelude.{if◌then◌else◌}
 use Rattle.echo_filed.specs.Filed.{Filed}
 use Rattle.cmd_numbered.specs.Numbered.{is_last, resumed}
 use Rattle.cmd_numbered.proofs.numbering.resumed.Goals as goal
-use Rattle.cmd_numbered.proofs.numbering.resumed.Goals.{then-branch, else-branch}
 
 -- the number to go on from after one more message
 one_more : (area : List ℕ) (first cursor i new before : ℕ) (last : Option (List ℕ)) (base : List Filed) (found : Bool)
@@ -19,27 +17,13 @@ one_more area first cursor i new before last base found found_is so_far new_is =
     ∙ ap (λ (b : Bool). if b then i + 1 else resumed area first cursor last base i) found_is)
 
 pub messages-init : goal.messages-init
-messages-init g c = record {
-  ready = c.requires;
-  many = sym c.count-count.ensures.count;
-  honest = λ h. h;
-  held = λ base held. held;
-  later = omega arith;
-  so_far = λ honest base held. refl;
-}
+messages-init g c = grind arith
 
 pub fetch_message-requires : goal.fetch_message-requires
 fetch_message-requires g c = record { ready = c.messages.invariant.ready; within = omega (arith, c.messages-test.true, c.messages.invariant.many) }
 
 pub returns-in_err-fetch_message-clause-fault : goal.returns-in_err-fetch_message-clause-fault
-returns-in_err-fetch_message-clause-fault g c = λ honest base held.
-    let fault = c.in_err-fetch_message.field-0.0 in
-    let path = c.args.path.now in
-    let first = (g.M.MessageSource.state c.args.messages.now).failures in
-    let before = (g.M.MessageSource.state c.messages.messages).failures in
-    let now = (g.M.MessageSource.state c.fetch_message.new.messages).failures in
-    err_is (IsUnread path first now) fault c.from_residual.result c.from_residual.ensures.1
-    (unread_since path first before now fault c.messages.invariant.later (c.in_err-fetch_message.ensures.fault honest base (c.messages.invariant.held base held)))
+returns-in_err-fetch_message-clause-fault g c = grind (arith, err_is, unread_since)
 
 pub returns-in_err-fetch_message-clause-looks : goal.returns-in_err-fetch_message-clause-looks
 returns-in_err-fetch_message-clause-looks g c = looks_on _ _ _ (record { honest = c.messages.invariant.honest; ready = λ ready. c.messages.invariant.ready; count = c.messages.invariant.many ∙ c.count-count.ensures.count; holds = c.messages.invariant.held }) c.fetch_message.ensures.looks
@@ -51,30 +35,7 @@ pub returns-clause-looks : goal.returns-clause-looks
 returns-clause-looks g c = record { honest = c.messages.invariant.honest; ready = λ ready. c.messages.invariant.ready; count = c.messages.invariant.many ∙ c.count-count.ensures.count; holds = c.messages.invariant.held }
 
 pub messages-preserved : goal.messages-preserved
-messages-preserved g c =
-    let looks = c.fetch_message.ensures.looks in
-    let i = c.messages.i in
-    record {
-      ready = looks.ready c.messages.invariant.ready;
-      many = looks.count ∙ c.messages.invariant.many;
-      honest = λ honest. c.messages.invariant.honest (looks.honest honest);
-      held = λ base held. looks.holds base (c.messages.invariant.held base held);
-      later = omega (arith, c.messages.invariant.later, c.fetch_message.ensures.later);
-      so_far = λ honest base held.
-          let before = c.messages.invariant.so_far (looks.honest honest) base held in
-          let here = c.at_hand.ensures ∙ c.in_ok-fetch_message.ensures.fetched honest base (c.messages.invariant.held base held) in
-          let at = c.cursor-cursor.ensures base held in
-          let found = c.in_ok-is_last.field-0 in
-          let from = c.messages.from in
-          one_more c.args.area.now c.args.first base.cursor i c.if-branch.from from (option_copied c.args.last) base.messages found
-          (c.in_ok-is_last.ensures ∙ (λ k. is_last c.args.area.now c.args.first (at k) (option_copied c.args.last) i (here k))) before
-          (elim c.if-branch.branch [
-            | then-branch w ↦ w.from-is ∙ ap (λ (b : Bool). if b then i + 1 else from) (sym w.if-branch.true)
-            | else-branch w ↦ w.from-is ∙ ap (λ (b : Bool). if b then i + 1 else from) (sym w.if-branch.false)
-          ]);
-    }
+messages-preserved g c = grind (arith, one_more, option_copied)
 
 pub returns-clause-from : goal.returns-clause-from
-returns-clause-from g c = λ honest base held.
-    let end : c.messages.i ≡ length base.messages = omega (arith, c.messages-test.false, c.messages.auto.i-end, c.count-count.ensures.all base held) in
-    subst (λ (n : ℕ). c.messages.from ≡ resumed c.args.area.now c.args.first base.cursor (option_copied c.args.last) base.messages n) end (c.messages.invariant.so_far honest base held)
+returns-clause-from g c = grind (arith, option_copied)

@@ -1,4 +1,4 @@
-use Rattle.std.proofs.Common.{◌≡◌, ◌∙◌, ◌<◌, length, refl, sym, arith}
+use Rattle.std.proofs.Common.{◌≡◌, ◌∙◌, ◌<◌, length, sym, arith}
 use Rattle.std.specs.Prelude.{slice_get}
 use Rattle.echo_filed.specs.Filed.{Filed}
 use Rattle.echo_filed.specs.Stored.{message_in}
@@ -31,27 +31,7 @@ returns-clause-fetched g c honest = λ base sees.
     sym (message_at base.messages c.args.place c.in_ok-message.message within (λ e. read.is e ∙ sym is))
 
 pub returns-in_err-message-clause-looks : goal.returns-in_err-message-clause-looks
-returns-in_err-message-clause-looks g c =
-    let r = c.args.self.now in
-    let d = g.D.Disk.state r.disk in
-    let e = g.D.Disk.state c.read_vouched.new.disk in
-    let quiet = c.read_vouched.ensures.quiet in
-    record {
-      honest = quiet.honest;
-      ready = λ looked. looked_quiet d e r.folder quiet looked;
-      count = refl;
-      holds = λ base sees. sees_quiet g.H.Digest.keyed d e r.folder base quiet sees;
-    }
+returns-in_err-message-clause-looks g c = grind (arith, looked_quiet, sees_quiet)
 
 pub returns-clause-looks : goal.returns-clause-looks
-returns-clause-looks g c =
-    let r = c.args.self.now in
-    let d = g.D.Disk.state r.disk in
-    let e = g.D.Disk.state c.read_vouched.new.disk in
-    let quiet = c.read_vouched.ensures.quiet in
-    record {
-      honest = quiet.honest;
-      ready = λ looked. looked_quiet d e r.folder quiet looked;
-      count = refl;
-      holds = λ base sees. sees_quiet g.H.Digest.keyed d e r.folder base quiet sees;
-    }
+returns-clause-looks g c = grind (arith, looked_quiet, sees_quiet)
