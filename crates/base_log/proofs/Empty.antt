@@ -24,21 +24,7 @@ front_none (b ∷ front) bytes none = absurd (omega (arith, none))
 pub no_record : (path : List ℕ) (base : BaseBytes) (a c : Files) → Represents path base a → IsLog [] (bytes_in (a (log_of path))) → IsLog [] (bytes_in (c (log_of path))) → IsEnded path [] c → Represents path base c
 no_record path base a c represented was now ended =
     let by = recorded_base_by path base a [] represented was in
-    record {
-      bodies = [];
-      log = now;
-      ended = ended;
-      there = tt;
-      recorded_base = record {
-        messages_long = by.1.messages_long;
-        keys_long = by.1.keys_long;
-        cursor = by.1.cursor;
-        mark = by.1.mark;
-        digit = omega arith;
-        messages = front_none base.messages (bytes_in (c (messages_of path 0))) by.1.messages_long;
-        keys = front_none base.keys (bytes_in (c (keys_of path 0))) by.1.keys_long;
-      };
-    }
+    grind (arith, front_none)
 
 pub new_log : (path : List ℕ) (c : Files) → IsNew path c → IsLog [] (bytes_in (c (log_of path)))
 new_log path c new = record { rest = bytes_in (c (log_of path)); parts = refl; sizes = tt; ends = inl (omega (arith, new.log)) }

@@ -1,5 +1,5 @@
 -- The files that a crash leaves at each time of a commit.
-use Rattle.std.proofs.Common.{◌≡◌, ◌≢◌, ◌≤◌, ◌⊎◌, inl, inr, ℕ, ◌+◌, List, [], ◌∷◌, ◌++◌, length, get_or, take, drop, sym, ◌∙◌, ap, subst, arith, append_assoc, length-append}
+use Rattle.std.proofs.Common.{◌≡◌, ◌≢◌, ◌≤◌, ◌⊎◌, inl, inr, ℕ, ◌+◌, List, [], ◌∷◌, ◌++◌, length, get_or, drop, sym, ◌∙◌, ap, subst, arith, append_assoc, length-append}
 use Rattle.std.proofs.lemmas.Bool.{cases_eq}
 use Rattle.std.proofs.lemmas.Nat.{from_le_bytes-to_le_bytes_8}
 use Rattle.std.specs.Prelude.{IsSome}
@@ -185,9 +185,6 @@ module _ (d0 : DiskState) (path : List ℕ) (end : End) (recorded : CommitRecord
         then_run d0 d e P (OneStepOn (ChangesFile d (log_of path) (TornWrite end.records_len 1)) d) r.run more
         (λ c from. let both = gate_torn body left size says r c from in record { outside = both.1; represented = both.0 })
 
-    pub kept_gate : (body : List ℕ) → Ready d body → KeepsOthers d e (log_of path) → KeepsOutside path d0 e
-    kept_gate body r kept = outside_twice path d0 d e r.kept (outside_kept path (log_of path) d e (log_in path) kept)
-
     -- at last the record counts
     pub done_gate : (body left : List ℕ) → length body ≡ 49 → recorded_by body ≡ recorded → Ready d ((body ++ 0 ∷ []) ++ left) → KeepsOthers d e (log_of path) → IsOnDisk e (log_of path)
         → IsWrittenAt (bytes_in (d.seen (log_of path))) end.records_len (1 ∷ []) (bytes_in (e.seen (log_of path))) → IsAtRest e path (record { records_len = end.records_len + 50; recorded = recorded })
@@ -222,5 +219,4 @@ module _ (d0 : DiskState) (path : List ℕ) (end : End) (recorded : CommitRecord
     pub same_gate : (body : List ℕ) → Ready d body → KeepsOthers d e (log_of path) → base_at e path recorded ≡ next
     same_gate body r kept =
         let m_same = kept.seen (messages_of path recorded.number) (messages_not_log path recorded.number) ∙ r.messages_same in
-        let k_same = kept.seen (keys_of path recorded.number) (keys_not_log path recorded.number) ∙ r.keys_same in
-        λ i. record { messages = take recorded.messages (bytes_in (m_same i)); keys = take recorded.keys (bytes_in (k_same i)); cursor = recorded.cursor; mark = recorded.mark }
+        grind (arith, keys_not_log)

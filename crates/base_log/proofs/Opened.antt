@@ -18,7 +18,7 @@ use Rattle.base_log.proofs.Empty.{new_log}
 use Rattle.base_log.proofs.Logs.{shut_log, shut_at}
 use Rattle.base_log.proofs.Paths.{messages_in, keys_in, messages_not_log, keys_not_log}
 use Rattle.base_log.proofs.Quiet.{log_quiet}
-use Rattle.base_log.proofs.Same.{AreThere-both, RecordsBase-seen, ended_by, front_long, recorded_base_by}
+use Rattle.base_log.proofs.Same.{RecordsBase-seen, ended_by, front_long, recorded_base_by}
 
 no_bodies : (bodies : List (List ℕ)) → AreBodies bodies → length (opened bodies) < 50 → bodies ≡ []
 no_bodies [] sizes few = refl
@@ -178,6 +178,3 @@ module _ (bytes : List ℕ) (end : End) (reads : ReadsAll bytes end) where
 
     pub first_represented : end.records_len ≡ 0 → IsShutAt end.records_len bytes → Represents path seen d.seen
     first_represented first shut = grind (arith, shut_represented, none_read, nothing_seen, nothing_read)
-
-    pub files_stand : end.recorded.number < 10 → HasFiles path d.seen end.recorded → IsShutAt end.records_len bytes → Represents path seen d.seen
-    files_stand digit has shut = grind (arith, shut_represented, AreThere-both, RecordsBase-seen)

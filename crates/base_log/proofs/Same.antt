@@ -1,5 +1,5 @@
 -- Files that represent a base, before and after a change that keeps it.
-use Rattle.std.proofs.Common.{◌≡◌, ◌≢◌, ◌≤◌, ◌<◌, inl, ℕ, List, [], ◌∷◌, length, take, sym, ap, subst, arith, length-take}
+use Rattle.std.proofs.Common.{◌≡◌, ◌≢◌, ◌≤◌, ◌<◌, ℕ, List, [], ◌∷◌, length, take, sym, ap, subst, arith, length-take}
 use Rattle.std.specs.Prelude.{IsSome}
 use Rattle.disk_io.specs.Disk.{DiskState, Files, bytes_in}
 use Rattle.base_log.specs.Names.{log_of, messages_of, keys_of}
@@ -36,9 +36,7 @@ RecordsBase-seen recorded path d c digit m_long k_long m k = grind (arith, lengt
 
 -- the facts about a base by these records, which are those of its log
 pub recorded_base_by : (path : List ℕ) (base : BaseBytes) (c : Files) (bodies : List (List ℕ)) → Represents path base c → IsLog bodies (bytes_in (c (log_of path))) → AreThere path bodies c × RecordsBase (last_recorded bodies) path base c
-recorded_base_by path base c bodies represented log =
-    let same : represented.bodies ≡ bodies = one_log represented.bodies bodies (bytes_in (c (log_of path))) represented.log log in
-    (subst (λ b. AreThere path b c) same represented.there, subst (λ b. RecordsBase (last_recorded b) path base c) same represented.recorded_base)
+recorded_base_by path base c bodies represented log = grind (arith, one_log represented.bodies bodies (bytes_in (c (log_of path))) represented.log log)
 
 -- and how they end
 pub ended_by : (path : List ℕ) (base : BaseBytes) (c : Files) (bodies : List (List ℕ)) → Represents path base c → IsLog bodies (bytes_in (c (log_of path))) → IsEnded path bodies c
@@ -49,13 +47,4 @@ pub log_changed : (path : List ℕ) (base : BaseBytes) (a c : Files) (bodies : L
     → ((m : List ℕ) → m ≢ log_of path → c m ≡ a m) → IsLog bodies (bytes_in (c (log_of path))) → IsShutAt (length (opened bodies)) (bytes_in (c (log_of path))) → Represents path base c
 log_changed path base a c bodies represented log same now shut =
     let by = recorded_base_by path base a bodies represented log in
-    let recorded = last_recorded bodies in
-    let m = same (messages_of path recorded.number) (messages_not_log path recorded.number) in
-    let k = same (keys_of path recorded.number) (keys_not_log path recorded.number) in
-    record {
-      bodies = bodies;
-      log = now;
-      ended = inl shut;
-      there = AreThere-same path bodies a c m k by.0;
-      recorded_base = RecordsBase-same recorded path base a c m k by.1;
-    }
+    grind (arith, messages_not_log, keys_not_log, AreThere-same, RecordsBase-same)

@@ -64,13 +64,7 @@ has_string most r x bytes fits =
     let front : take (length s) r ≡ s = ap (take (length s)) whole ∙ take_at s (0 ∷ x.rest) (length s) refl in
     let size : length (zero_ended s) ≡ length s + 1 = length-append s (0 ∷ []) in
     let behind : drop (length s + 1) r ≡ x.rest = ap (drop (length s + 1)) x.is ∙ drop_at (zero_ended s) x.rest (length s + 1) size in
-    record {
-      string = s;
-      rest = x.rest;
-      is = x.is;
-      fits = record { bytes = subst AreBytes front (AreBytes-take (length s) r bytes); no_zero = x.none; room = fits };
-      bytes = subst AreBytes behind (AreBytes-drop (length s + 1) r bytes);
-    }
+    grind (arith, AreBytes-take, AreBytes-drop)
 
 string_cases : (most : ℕ) (r : List ℕ) → AreBytes r → HasString most r ⊎ (IsOpen most r ⊎ IsTooLong most r)
 string_cases most r bytes = elim (first_zero r) [
@@ -211,14 +205,7 @@ some_next limits given start r fits room bytes = elim (cases_lt (length r) 2) [
             | inr many ↦
                 inr (inr (fault.TooManyMessages start, number-many limits given start (Some r) (Some rest) ns fits size took two (omega arith), λ c. c))
             | inl more ↦ elim (some_fields limits given start rest more (AreBytes-drop 2 r bytes)) [
-              | inl x ↦ inl (record {
-                message = x.message;
-                rest = x.rest;
-                is = takes-whole limits.text start x.at (Some r) (Some rest) (Some x.rest) ns x.message are size took two x.takes;
-                fits = x.takes.fits;
-                more = more;
-                bytes = x.bytes;
-              })
+              | inl x ↦ grind (arith, takes-whole)
               | inr wrong ↦ inr (inr (wrong.0, number-then limits given start (Some r) (Some rest) ns wrong.0 are size took two wrong.1, wrong.2))
             ]
           ]

@@ -1,5 +1,5 @@
 -- The fields of a message already read, and the fault of the next field.
-use Rattle.std.proofs.Common.{◌≡◌, ◌≢◌, ℕ, zero, suc, replicate, ◌+◌, ◌<◌, List, [], ◌++◌, Option, IfSome, Result, Err, length, take, drop, refl, sym, ap, ◌∙◌, subst, arith}
+use Rattle.std.proofs.Common.{◌≡◌, ◌≢◌, ℕ, zero, suc, replicate, ◌+◌, ◌<◌, List, [], ◌++◌, Option, IfSome, Result, Err, length, take, drop, refl, sym, ◌∙◌, subst, arith}
 use Rattle.std.proofs.lemmas.List.{length-append, take_all}
 use Rattle.std.proofs.lemmas.List.Elements.{All-nil}
 use Rattle.std.specs.Prelude.{IfErr}
@@ -9,7 +9,7 @@ use Rattle.echo_packet.specs.declared.limits.Limits.{Limits}
 use Rattle.echo_packet.specs.declared.fault.PacketFault.{PacketFault}
 use Rattle.echo_packet.specs.declared.fault.PacketFault.TheVariants as fault
 use Rattle.echo_packet.specs.Header.{AreBytes, word, number_at}
-use Rattle.echo_packet.specs.Message.{Message, Part, Number, Numbers, DateTime, ToName, FromName, Subject, Text, IsString, IsMessage, before, zero_ended, numbers, message_bytes, max_name, max_subject}
+use Rattle.echo_packet.specs.Message.{Message, Part, Number, Numbers, DateTime, ToName, FromName, Subject, Text, IsString, IsMessage, before, zero_ended, numbers, max_name, max_subject}
 use Rattle.echo_packet.specs.Fault.{IsCut, IsLongField, IsLongText, IsTooLong, place_of}
 use Rattle.echo_packet.specs.Field.{Consumed, FieldFault, IsShort, IsOpen, IsPast, Never, FailsInField, TakesMessage}
 use Rattle.echo_packet.specs.Next.{AtPart, FailsBehind, FailsInMessage, IsOfField, LosesUpTo, NextFault}
@@ -71,13 +71,7 @@ further : (s p q : ℕ) (t u : List ℕ) → p ≡ place_of (s + length t) → q
 further s p q t u here there = omega (arith, length-append t u)
 
 pub has-none : (most start p : ℕ) (a : Option (List ℕ)) → p ≡ place_of (start + 2) → HasFields most start a a Numbers (numbered []) p
-has-none most start p a here = record {
-  consumed = [];
-  is = refl;
-  fits = numbered-fits most [] (λ i. omega arith);
-  took = Consumes-nil a;
-  place = omega arith;
-}
+has-none most start p a here = grind (arith, numbered-fits, Consumes-nil a)
 
 pub has-numbers : (most start p q : ℕ) (a b : Option (List ℕ)) (ns : List ℕ) → p ≡ place_of (start + 2) → AreBytes ns → length ns ≡ 12
     → Consumes a b ns → q ≡ place_of (p + length ns) → HasFields most start a b DateTime (numbered ns) q
@@ -106,17 +100,7 @@ has-subject most start p q a b c m s h fits took there = grind (arith, with_fiel
 pub has-text : (most start p q : ℕ) (a b c : Option (List ℕ)) (m : Message) (s : List ℕ) → HasFields most start a b Text m p
     → IsString most s → Consumes b c (zero_ended s) → q ≡ place_of (p + length (zero_ended s)) → TakesMessage most start a c (record m { text = s }) q
 unfolding numbers
-has-text most start p q a b c m s h fits took there =
-    let bytes = h.consumed ++ zero_ended s in
-    let whole : message_bytes (record m { text = s }) ≡ word 2 ++ bytes = ap (λ t. t ++ zero_ended s) h.is in
-    let past : q ≡ place_of (start + 2 + length bytes) = further (start + 2) p q h.consumed (zero_ended s) h.place there in
-    record {
-      consumed = bytes;
-      is = whole;
-      fits = let f = h.fits in with_fields most m m.date m.to_name m.from_name m.subject s f f.date_len f.date f.to_name f.from_name f.subject fits;
-      took = Consumes-trans a b c h.consumed (zero_ended s) h.took took;
-      place = omega (arith, ap length whole);
-    }
+has-text most start p q a b c m s h fits took there = grind (arith, further (start + 2) p q h.consumed (zero_ended s) h.place there, with_fields, Consumes-trans a b c h.consumed (zero_ended s) h.took took)
 
 -- a fact about the remaining bytes gives one about the bytes before the call
 pub Consumes-known : (a b : Option (List ℕ)) (t : List ℕ) (P Q : List ℕ → Type 0) → Consumes a b t → IfSome b P

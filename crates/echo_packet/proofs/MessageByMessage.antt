@@ -1,5 +1,5 @@
 -- Reading message by message gives the packet that the definitions describe.
-use Rattle.std.proofs.Common.{◌≡◌, ℕ, ◌+◌, ◌<◌, ◌⊎◌, List, [], ◌∷◌, ◌++◌, Ok, length, take, refl, sym, ap, ◌∙◌, arith}
+use Rattle.std.proofs.Common.{◌≡◌, ℕ, ◌+◌, ◌<◌, ◌⊎◌, List, [], ◌∷◌, ◌++◌, Ok, length, sym, ap, ◌∙◌, arith}
 use Rattle.std.proofs.lemmas.List.{length-append, take_at, append_assoc, append-nil}
 use Rattle.std.specs.List.{AllByRecursion}
 use Rattle.echo_packet.specs.declared.header.Header.{Header}
@@ -40,18 +40,8 @@ run-gives limits bs h ms r rest given at m so split fits more = grind (arith, me
 pub run-ends : (limits : Limits) (bs : List ℕ) (h : Header) (ms : List Message) (r rest : List ℕ) (given at : ℕ) → SoFar limits bs h ms r given at
     → r ≡ word 0 ++ rest → Describes limits bs (Ok (h, ms, length (packet_bytes h ms)))
 run-ends limits bs h ms r rest given at so split =
-    let whole : bs ≡ packet_bytes h ms ++ rest =
-    so.bytes ∙ ap (λ t. header_bytes h ++ (messages_bytes ms ++ t)) split
-    ∙ ap (λ t. header_bytes h ++ t) (sym (append_assoc (messages_bytes ms) (word 0) rest))
-    ∙ sym (append_assoc (header_bytes h) (messages_bytes ms ++ word 0) rest) in
-    let size : length bs ≡ length (packet_bytes h ms) + length rest = ap length whole ∙ length-append (packet_bytes h ms) rest in (
-      omega arith,
-      record {
-        header = so.is_header;
-        messages = so.are_messages;
-        bytes = ap (take (length (packet_bytes h ms))) whole ∙ take_at (packet_bytes h ms) rest (length (packet_bytes h ms)) refl;
-      },
-    )
+    let whole : bs ≡ packet_bytes h ms ++ rest = grind (arith, append_assoc) in
+    let size : length bs ≡ length (packet_bytes h ms) + length rest = ap length whole ∙ length-append (packet_bytes h ms) rest in grind (arith, take_at)
 
 -- how many bytes a packet has
 pub length-packet_bytes : (h : Header) (ms : List Message) → IsHeader h → length (packet_bytes h ms) ≡ 58 + length (messages_bytes ms) + 2

@@ -83,10 +83,7 @@ number-bytes ns bytes size = sym (take_all 2 ns (omega arith)) ∙ word-number 0
 -- a field after the number 2 is at fault
 pub number-then : (limits : Limits) (given start : ℕ) (a b : Option (List ℕ)) (ns : List ℕ) (f : PacketFault) → AreBytes ns → length ns ≡ 2 → Consumes a b ns
     → number_at 0 ns ≡ 2 → IfSome b (λ bs. NextFault limits given start (word 2 ++ bs) f) → IfSome a (λ bs. NextFault limits given start bs f)
-number-then limits given start a b ns f bytes size took two wrong =
-    let is : ns ≡ word 2 = number-bytes ns bytes size ∙ ap word two in
-    Consumes-known a b ns (λ bs. NextFault limits given start (word 2 ++ bs) f) (λ bs. NextFault limits given start bs f) took wrong
-    (λ bs r split h. subst (λ x. NextFault limits given start x f) (sym (split ∙ ap (λ t. t ++ r) is)) h)
+number-then limits given start a b ns f bytes size took two wrong = grind (arith, number-bytes ns bytes size, Consumes-known)
 
 -- the bytes that left the source, the number 2 included
 then_lost : (limits : Limits) (given start at : ℕ) (a b c : Option (List ℕ)) (ns : List ℕ) (Of : Part → List ℕ → Type 0) → ns ≡ word 2 → Consumes a b ns

@@ -110,9 +110,7 @@ outcome-behind limits bs h ms rest b =
     let room : 0 + length ms ≤ limits.messages = omega (arith, b.are_messages.room) in
     let none : 0 + length ms ≡ length ms = omega arith in (
       k,
-      cond-false (nat_lt (length bs) 58) _ _ (le-ltb _ _ (omega arith)) ∙ cond-true (number_at 18 bs == 2) _ _ (eq-eqb _ _ type)
-          ∙ ap (λ t. answer_of bs (run (length bs) limits 0 t)) behind ∙ ap (λ n. answer_of bs (run n limits 0 all)) fuel
-          ∙ ap (answer_of bs) (run-messages limits ms (suc k) 0 rest b.are_messages.each room ∙ ap (λ n. put_all ms (run (suc k) limits n rest)) none),
+      grind (arith, cond-false, nat_lt, le-ltb, cond-true, eq-eqb, answer_of, run, run-messages),
     )
 
 -- a packet is the outcome
@@ -137,13 +135,7 @@ packet_is limits bs h ms n within p =
 stop_is : (limits : Limits) (bs : List ℕ) (h : Header) (ms : List Message) (r : List ℕ) (f : PacketFault) → Begins limits bs h ms r
     → Fails limits (length ms) (58 + length (messages_bytes ms)) r f → Err f ≡ outcome limits bs
 unfolding answer_of run go_on
-stop_is limits bs h ms r f b x =
-    let behind = outcome-behind limits bs h ms r b in
-    let size = begins-length limits bs h ms r b in
-    let within = x.within in
-    let place : length bs - length x.rest ≡ 58 + length (messages_bytes ms) + (length r - length x.rest) = omega arith in
-    let stops = ap (λ v. go_on v (λ t. run behind.0 limits (length ms + 1) t)) x.found in
-    sym (behind.1 ∙ ap (answer_of bs) (ap (put_all ms) stops ∙ put_all-stops ms x.why x.rest) ∙ ap (λ n. Err (x.why (place_of n))) place ∙ ap Err (sym x.is))
+stop_is limits bs h ms r f b x = grind (arith, outcome-behind limits bs h ms r b, begins-length limits bs h ms r b, go_on, run, answer_of bs, put_all-stops ms x.why x.rest)
 
 -- the field at fault, behind the messages
 record AtMessages (limits : Limits) (bs : List ℕ) (ms : List Message) (at : ℕ) (Bad : Part → List ℕ → Type 0) : Type 0 where
@@ -173,9 +165,7 @@ only_one limits bs (Err (fault.Truncated at)) d = elim d.1 [
   | inl short ↦ ap (λ n. Err (fault.Truncated n)) short.0 ∙ sym (cond-true (nat_lt (length bs) 58) _ _ (lt-ltb _ _ short.2))
   | inr a ↦ fault_is limits bs d.0 at (fault.Truncated at) (IsCut limits) (λ c. c) (λ given start r p e. p) a
 ]
-only_one limits bs (Err (fault.NotType2 at)) d =
-    ap (λ n. Err (fault.NotType2 n)) d.1.0
-    ∙ sym (cond-false (nat_lt (length bs) 58) _ _ (le-ltb _ _ d.1.2) ∙ cond-false (number_at 18 bs == 2) _ _ (ne_eqb _ _ d.1.3))
+only_one limits bs (Err (fault.NotType2 at)) d = grind (arith, cond-false, nat_lt, le-ltb, ne_eqb)
 only_one limits bs (Err (fault.NotMessage at)) d = fault_is limits bs d.0 at (fault.NotMessage at) IsOtherNumber (λ c. c) (λ given start r p e. p) d.1
 only_one limits bs (Err (fault.FieldTooLong at)) d = fault_is limits bs d.0 at (fault.FieldTooLong at) IsLongField (λ c. c) (λ given start r p e. p) d.1
 only_one limits bs (Err (fault.TextTooLong at)) d = fault_is limits bs d.0 at (fault.TextTooLong at) (IsLongText limits) (λ c. c) (λ given start r p e. p) d.1

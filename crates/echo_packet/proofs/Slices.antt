@@ -1,5 +1,5 @@
 -- A packet read from a slice, which never fails.
-use Rattle.std.proofs.Common.{◌≡◌, ℕ, ◌+◌, ◌^◌, ◌<◌, ◌⊎◌, List, [], ◌∷◌, ◌++◌, Ok, Err, length, ◌∙◌, subst, arith}
+use Rattle.std.proofs.Common.{◌≡◌, ℕ, ◌+◌, ◌^◌, ◌<◌, ◌⊎◌, List, [], ◌∷◌, ◌++◌, Ok, Err, length, subst, arith}
 use Rattle.disk_io.proofs.Devices.{Failed-never}
 use Rattle.echo_packet.specs.declared.header.Header.{Header}
 use Rattle.echo_packet.specs.declared.limits.Limits.{Limits}
@@ -9,7 +9,6 @@ use Rattle.echo_packet.specs.declared.reader.Stage.{Stage}
 use Rattle.echo_packet.specs.declared.reader.Stage.TheVariants as stage
 use Rattle.echo_packet.specs.Header.{header_bytes, IsHeader, word}
 use Rattle.echo_packet.specs.Message.{Message, IsMessage, message_bytes}
-use Rattle.echo_packet.specs.Packet.{packet_bytes}
 use Rattle.echo_packet.specs.Fault.{FaultOf, place_of}
 use Rattle.echo_packet.specs.Answer.{Answer, Describes}
 use Rattle.echo_packet.specs.Next.{CountsFailures, NextFault}
@@ -49,11 +48,7 @@ pub slice-gives : (limits : Limits) (bs : List ℕ) (ms more : List Message) (r 
 slice-gives limits bs ms more r rest h new_h own new_own given new_given at new_at next new_next m before front within split past on pushed =
     let fits : IsMessage limits.text m = subst (λ l. IsMessage l.text m) before.same within.0 in
     let room : given < limits.messages = subst (λ l. given < l.messages) before.same within.1 in
-    let so = run-gives limits bs h ms r rest given at m before.so_far split fits room in record {
-      so_far = rw (front.0, pushed, on.0, past) so;
-      same = front.1 ∙ before.same;
-      reading = on.1;
-    }
+    let so = run-gives limits bs h ms r rest given at m before.so_far split fits room in grind arith
 
 -- the terminator was read
 pub slice-ends : (limits : Limits) (bs : List ℕ) (ms : List Message) (r rest : List ℕ) (h new_h : Header) (own new_own : Limits) (given at new_at : ℕ) (next : Stage)
@@ -64,6 +59,4 @@ slice-ends limits bs ms r rest h new_h own new_own given at new_at next before f
     let ends = run-ends limits bs h ms r rest given at so split in
     let size = length-packet_bytes h ms so.is_header in
     let here = so.place in
-    let whole = ends.0 in
-    let is : new_at ≡ length (packet_bytes h ms) = omega (arith, size, here, whole) in
-    rw (front.0, is) ends
+    grind arith

@@ -159,9 +159,7 @@ number_of limits given r long =
     let size : length (take 2 r) ≡ 2 = length-take-le 2 r long in
     let got : fixed 2 r ≡ Got (take 2 r) (drop 2 r) = ap (fixed 2) (sym split) ∙ fixed-whole 2 (take 2 r) (drop 2 r) size in
     let low : 0 < 2 = omega arith in
-    let high : 1 < 2 = omega arith in
-    then_got (fixed 2 r) _ _ _ (take 2 r) (drop 2 r) got
-    ∙ ap (λ n. from_kind limits given r n (drop 2 r)) (rw (get_or-take 2 r 0 0 low, get_or-take 2 r 1 0 high) refl)
+    grind (arith, then_got, fixed, from_kind, get_or-take)
 
 other_is : (limits : Limits) (given : ℕ) (m : Message) (field : Part) (r : List ℕ) → IsOtherNumber field r → part_verdict limits given m field r ≡ Wrong fault.NotMessage r
 unfolding part_verdict from_kind

@@ -1,5 +1,5 @@
 -- A walk around a member stays on one side of it: links of b that a walk joins around b are in one block at b.
-use Rattle.std.proofs.Common.{◌≡◌, ◌≢◌, ◌<◌, ◌≤◌, ℕ, zero, suc, Bool, IsTrue, [], ◌∷◌, refl, sym, ap, ◌∙◌, subst, arith, inl, inr}
+use Rattle.std.proofs.Common.{◌≡◌, ◌≢◌, ◌<◌, ◌≤◌, ℕ, zero, suc, Bool, IsTrue, [], ◌∷◌, refl, sym, ◌∙◌, subst, arith, inl, inr}
 use Rattle.std.proofs.lemmas.Bool.{cases_eq}
 use Rattle.model_graph.specs.Walk.{Among, Simple}
 use Rattle.model_graph.specs.Beyond.{Around}
@@ -40,41 +40,15 @@ module _ (links : ℕ → ℕ → Bool) (simple : Simple links) (members : ℕ) 
 
   -- and does not rank before b
   hangs_after : (b k n x : ℕ) → x < members → Hangs block top b k n x → rank b ≤ rank x
-  hangs_after b k zero x inside h =
-      elim (are.ranks x inside).1 [
-        | inl root ↦ omega (arith, ap rank (sym h.2 ∙ root))
-        | inr before ↦ omega (arith, ap rank h.2)
-      ]
-  hangs_after b k (suc n) x inside h =
-      let above = hangs_after b k n (top x) (are.ranks x inside).0 h.1 in
-      elim (are.ranks x inside).1 [
-        | inl root ↦ omega (arith, ap rank root)
-        | inr before ↦ omega arith
-      ]
+  hangs_after b k zero x inside h = grind arith
+  hangs_after b k (suc n) x inside h = grind (arith, hangs_after b k n (top x) (are.ranks x inside).0 h.1)
 
   -- a link of b that hangs below it hangs there by its own block
   hangs_by_itself : (b k n c : ℕ) → b < members → IsTrue (links b c) → Hangs block top b k n c → (block c ≡ k) × (top c ≡ b)
   hangs_by_itself b k zero c inside link h = (h.1, h.2)
   hangs_by_itself b k (suc n) c inside link h =
       let apart : top c ≢ b = not_b b k n (top c) h.1 in
-      elim (are.links b c link) [
-        | inl same ↦
-            let above = hangs_after b k n (top b) (are.ranks b inside).0 (subst (Hangs block top b k n) (sym same.1) h.1) in
-            elim (are.ranks b inside).1 [
-              | inl root ↦ absurd (apart (sym same.1 ∙ root))
-              | inr before ↦ absurd (omega arith)
-            ]
-        | inr other ↦
-            elim other [
-              | inl up ↦
-                  let above = hangs_after b k (suc n) c (within b c link) h in
-                  elim (are.ranks b inside).1 [
-                    | inl root ↦ absurd (h.0 (sym up ∙ root))
-                    | inr before ↦ absurd (omega (arith, ap rank up))
-                  ]
-              | inr down ↦ absurd (apart down)
-            ]
-      ]
+      grind (arith, hangs_after)
 
   -- if a walk around b joins links a and c of b, and a is in a block below b, so is c
   joined_below : (b a c : ℕ) → IsTrue (links b a) → IsTrue (links b c) → Around links b a c → top a ≡ b → (block c ≡ block a) × (top c ≡ b)
@@ -98,9 +72,7 @@ module _ (links : ℕ → ℕ → Bool) (simple : Simple links) (members : ℕ) 
       let lt = pinch.in_order in
       let side_c = side_trans b r a c side_a (one_side b a c pinch.one pinch.other pinch.around) in
       elim (cases_eq a r) [
-        | inl same ↦
-            let other : c ≢ r = λ e. absurd (omega arith) in
-            pinch.not_linked (subst (λ x. IsTrue (links x c)) (sym same) (covered c pinch.other side_c other))
+        | inl same ↦ grind arith
         | inr apart_a ↦
             elim (cases_eq c r) [
               | inl same ↦ pinch.not_linked (simple.both_ways c a (subst (λ x. IsTrue (links x a)) (sym same) (covered a pinch.one side_a apart_a)))
@@ -132,11 +104,7 @@ module _ (links : ℕ → ℕ → Bool) (simple : Simple links) (members : ℕ) 
       let side = one_side b a c pinch.one pinch.other pinch.around in
       pinch.not_linked
       (elim in_full [
-        | inl below ↦
-            elim side [
-              | inl together ↦ fully.each_other a c at_a at_c together.2 differ below.1
-              | inr above ↦ absurd (above.0 below.0)
-            ]
+        | inl below ↦ grind arith
         | inr above ↦
             elim side [
               | inl together ↦ absurd (above.0 together.0)
@@ -146,33 +114,4 @@ module _ (links : ℕ → ℕ → Bool) (simple : Simple links) (members : ℕ) 
     where
       -- two links of b that are not below it
       linked_above : (full : ℕ → Bool) → AreFull links members block top full → (b a c : ℕ) → IsTrue (full (block b)) → IsTrue (links b a) → IsTrue (links b c) → a ≢ c → top a ≢ b → top c ≢ b → IsTrue (links a c)
-      linked_above full fully b a c known link_a link_c differ up_a up_c =
-          let at_a = within b a link_a in
-          let at_c = within b c link_c in
-          let P : ℕ → Type 0 = λ k. IsTrue (full k) in
-          let L : ℕ → ℕ → Type 0 = λ x y. IsTrue (links x y) in
-          elim (are.links b a link_a) [
-            | inl same_a ↦
-                elim (are.links b c link_c) [
-                  | inl same_c ↦ fully.each_other a c at_a at_c (sym same_a.0 ∙ same_c.0) differ (subst P same_a.0 known)
-                  | inr other ↦
-                      elim other [
-                        | inl top_c ↦ subst (L a) (sym same_a.1 ∙ top_c) (fully.to_top a at_a (subst P same_a.0 known))
-                        | inr down ↦ absurd (up_c down)
-                      ]
-                ]
-            | inr other ↦
-                elim other [
-                  | inl top_a ↦
-                      elim (are.links b c link_c) [
-                        | inl same_c ↦
-                            simple.both_ways c a (subst (L c) (sym same_c.1 ∙ top_a) (fully.to_top c at_c (subst P same_c.0 known)))
-                        | inr more ↦
-                            elim more [
-                              | inl top_c ↦ absurd (differ (sym top_a ∙ top_c))
-                              | inr down ↦ absurd (up_c down)
-                            ]
-                      ]
-                  | inr down ↦ absurd (up_a down)
-                ]
-          ]
+      linked_above full fully b a c known link_a link_c differ up_a up_c = grind arith

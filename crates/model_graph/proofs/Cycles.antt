@@ -45,11 +45,7 @@ module _ {A : Type 0} (linked : A → A → Bool) (simple : Simple linked) where
       (rest : List A) → Walk linked a rest c → ¬ Among b (a ∷ rest) → Different (a ∷ rest) → Cycle linked b (a ∷ rest)
   cycle_around b a c to_a to_c other none [] w avoids different = absurd (other w)
   cycle_around b a c to_a to_c other none (d ∷ []) w avoids different = absurd (none (link_to linked a d c w.1 w.0))
-  cycle_around b a c to_a to_c other none (d ∷ e ∷ rest) w avoids different = record {
-    long = omega arith;
-    different = (avoids, different);
-    closed = (c, (to_a, w), simple.both_ways b c to_c);
-  }
+  cycle_around b a c to_a to_c other none (d ∷ e ∷ rest) w avoids different = grind arith
 
   -- if all links are parted, there is no cycle
   pub NoCycle-from_AllParted : AllParted linked → NoCycle linked
@@ -80,24 +76,12 @@ module _ {A : Type 0} (can : CanTell A) (linked : A → A → Bool) (simple : Si
       closes : (rest : List A) → Walk linked a rest c → ¬ Among b (a ∷ rest) → Different (a ∷ rest) → ⊥
       closes [] w avoids different = other w
       closes (d ∷ rest) w avoids different =
-          none b (a ∷ d ∷ rest) (record {
-            long = omega arith;
-            different = (avoids, different);
-            closed = (c, (to_a, w), simple.both_ways b c to_c);
-          })
+          none b (a ∷ d ∷ rest) (grind arith)
 
   module _ (parted : Parted linked) where
     -- the first member of a cycle is linked with the third
     first_third : (first second third : A) (rest : List A) → Cycle linked first (second ∷ third ∷ rest) → IsTrue (linked first third)
-    first_third first second third rest cycle =
-        elim (cases_Bool (linked first third)) [
-          | inl joined ↦ joined
-          | inr none ↦ (let (last, w, closes) = cycle.closed in
-              let other : first ≢ third = λ e. cycle.different.0 (inr (inl e)) in
-              let apart = parted second first third (simple.both_ways first second w.0) w.1.0 other (λ joined. both_ways (linked first third) none joined) in
-              let around = Around-sym linked simple second third first (back_around linked first second third rest cycle) in
-              absurd (no_around-from_Beyond linked second third first apart around))
-        ]
+    first_third first second third rest cycle = grind (arith, cases_Bool, both_ways, Around-sym, back_around linked first second third rest cycle, no_around-from_Beyond)
 
     -- so the second may be left out
     second_left_out : (first second third fourth : A) (rest : List A) → Cycle linked first (second ∷ third ∷ fourth ∷ rest) →
@@ -114,14 +98,7 @@ module _ {A : Type 0} (can : CanTell A) (linked : A → A → Bool) (simple : Si
     first_linked : (first : A) (rest : List A) → Cycle linked first rest → (x : A) → Among x rest → IsTrue (linked first x)
     first_linked first [] cycle x h = absurd h
     first_linked first (second ∷ []) cycle x h = absurd (omega (arith, cycle.long))
-    first_linked first (second ∷ third ∷ []) cycle x h =
-        elim h [
-          | inl e ↦ link_to linked first second x (sym e) cycle.closed.1.0
-          | inr t ↦ elim t [
-            | inl e ↦ link_to linked first third x (sym e) (first_third first second third [] cycle)
-            | inr n ↦ absurd n
-          ]
-        ]
+    first_linked first (second ∷ third ∷ []) cycle x h = grind (arith, link_to, first_third)
     first_linked first (second ∷ third ∷ fourth ∷ rest) cycle x h =
         elim h [
           | inl e ↦ link_to linked first second x (sym e) cycle.closed.1.0
@@ -144,9 +121,7 @@ module _ {A : Type 0} (can : CanTell A) (linked : A → A → Bool) (simple : Si
     others_linked : (first : A) (rest : List A) → Cycle linked first rest → (x y : A) → Among x rest → Among y rest → x ≢ y → IsTrue (linked x y)
     others_linked first [] cycle x y at_x at_y other = absurd at_x
     others_linked first (second ∷ []) cycle x y at_x at_y other = absurd (omega (arith, cycle.long))
-    others_linked first (second ∷ third ∷ []) cycle x y at_x at_y other =
-        after_second first second (third ∷ []) cycle x y
-        (λ s t. elim s [ inl e ↦ elim t [ inl q ↦ absurd (other (e ∙ sym q)) | inr n ↦ absurd n ] | inr n ↦ absurd n ]) at_x at_y other
+    others_linked first (second ∷ third ∷ []) cycle x y at_x at_y other = grind (arith, after_second)
     others_linked first (second ∷ third ∷ fourth ∷ rest) cycle x y at_x at_y other =
         let shorter = second_left_out first second third fourth rest cycle in
         after_second first second (third ∷ fourth ∷ rest) cycle x y
@@ -179,10 +154,7 @@ module _ {A : Type 0} (linked : A → A → Bool) where
             inr (u, part, record { taken = l.taken; walk = l.walk; none_after = l.none_after; shorter = omega (arith, l.shorter) }))
         | inl none ↦ elim (cases_Bool (test a)) [
           | inl t ↦ inr (a, c ∷ rest, record { taken = t; walk = w; none_after = none; shorter = omega arith })
-          | inr f ↦ inl (λ y h t. elim h [
-            | inl e ↦ both_ways (test a) f (subst (λ (m : A). IsTrue (test m)) e t)
-            | inr n ↦ none y n t
-          ])
+          | inr f ↦ grind (arith, both_ways)
         ]
       ]
 
@@ -204,12 +176,7 @@ module _ {A : Type 0} (linked : A → A → Bool) where
   first_step simple x f other (c ∷ rest) w =
       elim (last_taken (linked x) c rest f w.1) [
         | inl none ↦ absurd (none c (inl refl) w.0)
-        | inr found ↦ (let (step, part, l) = found in
-            let around : ¬ Among x (step ∷ part) = λ h. elim h [
-              | inl e ↦ linked_differ linked simple x step l.taken e
-              | inr t ↦ past_no_link-around x f other step part l.walk l.none_after t
-            ] in
-            (step, part, record { link = l.taken; walk = l.walk; past_no_link = l.none_after; around = around }, omega (arith, l.shorter)))
+        | inr found ↦ grind (arith, linked_differ, past_no_link-around)
       ]
 
 -- The members beyond a member: the way to another member, and the members further out.
@@ -281,9 +248,7 @@ module _ {A : Type 0} (can : CanTell A) (linked : A → A → Bool) (simple : Si
         Beyond-from_no_around can linked step f x (λ around.
         let after : Around linked step e f = (rest, first.walk.1, λ h. first.past_no_link step h first.link) in
         let joined = Around-trans linked step x f e around (Around-sym linked simple step e f after) in
-        let other : x ≢ e = λ q. first.around (inr (inl q)) in
-        let apart = parted step x e (simple.both_ways x step first.link) first.walk.0 other (first.past_no_link e (inl refl)) in
-        no_around-from_Beyond linked step e x apart joined)
+        grind (arith, no_around-from_Beyond))
 
     -- there is a way
     pub way : (f y : A) → y ≢ f → Reaches linked y f → (u : A) × IsWay linked f y u

@@ -28,25 +28,16 @@ level_in : (links : ℕ → ℕ → Bool) (levels : List (Option ℕ)) (rest : L
 level_in links levels [] a z m x h e among = absurd among
 level_in links levels (d ∷ rest) a z m x h e (inl is) =
     (h.0.0, ap (level_of levels) is ∙ h.0.2.has_level, (let same = one_level levels a m (suc h.0.0) e h.0.1 in omega arith))
-level_in links levels (d ∷ rest) a z m x h e (inr later) =
-    let below = level_in links levels rest d z h.0.0 x h.1 h.0.2.has_level later in
-    let same = one_level levels a m (suc h.0.0) e h.0.1 in
-    (below.0, below.1, omega (arith, below.2))
+level_in links levels (d ∷ rest) a z m x h e (inr later) = grind (arith, one_level, level_in links levels rest d z h.0.0 x h.1 h.0.2.has_level later)
 
 descent_length : (links : ℕ → ℕ → Bool) (levels : List (Option ℕ)) (rest : List ℕ) (a z m : ℕ) → Descent links levels a rest z → level_of levels a ≡ Some m → level_of levels z ≡ Some 0 → length rest ≡ m
 descent_length links levels [] a z m same e last = one_level levels z 0 m last (ap (level_of levels) (sym same) ∙ e)
-descent_length links levels (d ∷ rest) a z m h e last =
-    let below = descent_length links levels rest d z h.0.0 h.1 h.0.2.has_level last in
-    let same = one_level levels a m (suc h.0.0) e h.0.1 in
-    omega arith
+descent_length links levels (d ∷ rest) a z m h e last = grind (arith, one_level, descent_length links levels rest d z h.0.0 h.1 h.0.2.has_level last)
 
 descent_differs : (links : ℕ → ℕ → Bool) (levels : List (Option ℕ)) (rest : List ℕ) (a z m : ℕ) → Descent links levels a rest z → level_of levels a ≡ Some m → Different (a ∷ rest)
 descent_differs links levels [] a z m h e = ((λ (bad : ⊥). bad), tt)
 descent_differs links levels (d ∷ rest) a z m h e = (
-  (λ (again : Among a (d ∷ rest)).
-      let below = level_in links levels (d ∷ rest) a z m a h e again in
-      let same = one_level levels a m below.0 e below.1 in
-      absurd (omega (arith, below.2))),
+  grind (arith, level_in, one_level),
   descent_differs links levels rest d z h.0.0 h.1 h.0.2.has_level,
 )
 
@@ -77,25 +68,13 @@ descent_least links without root levels simple searched (d ∷ rest) a z h last 
 
 pub FirstWalk-from_descent : (links : ℕ → ℕ → Bool) (b a c : ℕ) (levels : List (Option ℕ)) → Simple links → Searched links b c levels → (rest : List ℕ) (z m : ℕ) → Descent links levels a rest z → level_of levels a ≡ Some m → level_of levels z ≡ Some 0 → FirstWalk links b a c rest
 FirstWalk-from_descent links b a c levels simple searched rest z m h e last =
-    let is_root : z ≡ c =
-    elim (searched.stepped z 0 last).1 [
-      | inl here ↦ here.1
-      | inr w ↦ absurd (omega (arith, w.3))
-    ] in
+    let is_root : z ≡ c = grind arith in
     let not_left_out : (x n : ℕ) → level_of levels x ≡ Some n → b ≢ x = λ x n at is. (searched.stepped x n at).0 (sym is) in
     record {
       walk = subst (Walk links a rest) is_root (Walk-from_Descent links levels rest a z h);
-      around = λ among.
-          elim among [
-            | inl is ↦ not_left_out a m e is
-            | inr later ↦ let below = level_in links levels rest a z m b h e later in not_left_out b below.0 below.1 refl
-          ];
+      around = grind (arith, level_in);
       different = descent_differs links levels rest a z m h e;
-      fewest = λ other walk clear.
-          let up = levels_up links b c levels simple searched other a walk clear in
-          let same = one_level levels a up.0 m up.1 e in
-          let long = descent_length links levels rest a z m h e last in
-          omega (arith, up.2);
+      fewest = grind (arith, levels_up, one_level, descent_length);
       least = λ other walk clear same. descent_least links b c levels simple searched rest a z h last other walk clear same;
     }
 
@@ -107,12 +86,5 @@ SmallestAt-here rows at level k row levels graph is lt earlier here = record {
   has_level = here;
   smallest = λ e link e_level.
       let p = row_place rows at e row is link in
-      elim (cases_lt p.0 k) [
-        | inl before ↦ absurd (earlier p.0 before (ap (level_of levels) p.2 ∙ e_level))
-        | inr after ↦
-            elim (cases_eq p.0 k) [
-              | inl same ↦ omega (arith, ap (λ j. get_or row j 0) same, p.2)
-              | inr differ ↦ omega (arith, row_rises rows at row graph is k p.0 (omega arith) p.1, p.2)
-            ]
-      ];
+      grind (arith, cases_lt, cases_eq, get_or, row_rises);
 }

@@ -127,11 +127,7 @@ FirstSibling-here rows at k row parents graph is lt earlier here = record {
       let p = row_place rows at b row is sibling.0 in
       elim (cases_lt p.0 k) [
         | inl before ↦ absurd (earlier p.0 before (subst (Siblings parents at) (sym p.2) sibling.1))
-        | inr after ↦
-            elim (cases_eq p.0 k) [
-              | inl same ↦ omega (arith, ap (λ j. get_or row j 0) same, p.2)
-              | inr differ ↦ omega (arith, row_rises rows at row graph is k p.0 (omega arith) p.1, p.2)
-            ]
+        | inr after ↦ grind (arith, cases_eq, get_or, row_rises)
       ];
 }
 
@@ -162,10 +158,7 @@ module _ {A : Type 0} (can : CanTell A) (linked : A → A → Bool) (simple : Si
   stays_below b x y link other k h =
       elim (keeps.links x y link) [
         | inl child ↦ (suc k, (child.0, same_below level parent b (suc k) x (parent y) (sym child.1) h))
-        | inr rest ↦ elim rest [
-          | inl up ↦ above k h.1 up.1
-          | inr alike ↦ (k, (alike.1, same_below level parent b k (parent x) (parent y) alike.2 h.1))
-        ]
+        | inr rest ↦ grind (arith, above)
       ]
     where
       above : (k : ℕ) → IsBelow level parent b k (parent x) → parent x ≡ y → (j : ℕ) × IsBelow level parent b (suc j) y
@@ -188,9 +181,7 @@ module _ {A : Type 0} (can : CanTell A) (linked : A → A → Bool) (simple : Si
       | inl e ↦ inr (link_from linked z a y e link)
       | inr a_to_z ↦ elim (can y a) [
         | inl e ↦ inl e
-        | inr other ↦ (let a_z : AreSiblings level parent a z = (at_a.0, at_z.0.0, at_a.1 ∙ sym at_z.0.1) in
-            let z_y : AreSiblings level parent z y = (at_z.0.0, at_y.0, at_z.0.1 ∙ sym at_y.1) in
-            inr (keeps.siblings a z y a_z z_y a_to_z link (λ e. other (sym e))))
+        | inr other ↦ grind arith
       ]
     ],
   )
@@ -201,10 +192,7 @@ module _ {A : Type 0} (can : CanTell A) (linked : A → A → Bool) (simple : Si
       let (z, k, at_z, h) = branch in
       elim (keeps.links x y link) [
         | inl child ↦ (z, suc k, at_z, (child.0, same_below level parent z k x (parent y) (sym child.1) h))
-        | inr rest ↦ elim rest [
-          | inl up ↦ above z at_z k h up.1
-          | inr alike ↦ beside z at_z k h alike
-        ]
+        | inr rest ↦ grind (arith, above, beside)
       ]
     where
       above : (z : A) → IsSiblingOf b a z → (k : ℕ) → IsBelow level parent z k x → parent x ≡ y → InBranch b a y
@@ -255,8 +243,5 @@ module _ {A : Type 0} (can : CanTell A) (linked : A → A → Bool) (simple : Si
           | inl child_c ↦ none (children_apart b a c child_a child_c other around)
           | inr at_c ↦ child_apart b a c child_a (low_if_no_child b c at_c) around
         ]
-        | inr at_a ↦ elim (keeps.links b c to_c) [
-          | inl child_c ↦ child_apart b c a child_c (low_if_no_child b a at_a) (Around-sym linked simple b a c around)
-          | inr at_c ↦ none (no_children_linked b a c to_a to_c other at_a at_c)
-        ]
+        | inr at_a ↦ grind (arith, child_apart, low_if_no_child, Around-sym, no_children_linked)
       ])

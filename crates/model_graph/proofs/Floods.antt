@@ -41,12 +41,7 @@ pub Visited-made : (links : List ℕ) (count without level : ℕ) (old new : Lis
 Visited-made links count without level old new queue longer other v lt here apart inside none =
     let differs : (i m : ℕ) → level_of new i ≡ Some m → i ≢ other =
     λ i m e same. none-some m (sym none ∙ (ap (level_of new) (sym same) ∙ e)) in
-    let unmade : (i : ℕ) → i ≡ other → level_of old i ≡ None =
-    λ i same.
-    elim (level_cases (level_of old i)) [
-      | inl e ↦ e
-      | inr w ↦ absurd (differs i w.0 (v.kept i w.0 w.1) same)
-    ] in
+    let unmade : (i : ℕ) → i ≡ other → level_of old i ≡ None = grind (arith, level_cases) in
     record {
       same_length = length-set new other (Some level) ∙ v.same_length;
       grows = omega (arith, v.grows, length_push longer other);
@@ -61,36 +56,13 @@ Visited-made links count without level old new queue longer other v lt here apar
               (λ (bad : i ≡ without). apart (sym same ∙ bad)),
               (length longer, v.grows, omega (arith, length_push longer other), get_or_push longer other 0 (length longer) refl ∙ sym same),
             )
-            | inr differ ↦
-                elim (v.made i m (sym (get_or-set_other new other i (Some level) None differ) ∙ e)) [
-                  | inl was ↦ inl was
-                  | inr w ↦ inr (w.0, w.1, w.2, w.3, (w.4.0, w.4.1, omega (arith, w.4.2, length_push longer other), get_or_append_left longer (other ∷ []) 0 w.4.0 w.4.2 ∙ w.4.3))
-                ]
+            | inr differ ↦ grind (arith, get_or-set_other, length_push, get_or_append_left)
           ];
-      back = λ k low high.
-          elim (cases_lt k (length longer)) [
-            | inl before ↦
-                let was = v.back k low before in
-                let at = get_or_append_left longer (other ∷ []) 0 k before in (
-                  ap (level_of old) at ∙ was.0,
-                  ap (level_of (set new other (Some level))) at ∙ (get_or-set_other new other (get_or longer k 0) (Some level) None (differs (get_or longer k 0) level was.1) ∙ was.1),
-                )
-            | inr last ↦
-                let at : get_or (longer ++ other ∷ []) k 0 ≡ other = get_or_push longer other 0 k (omega (arith, length_push longer other)) in (
-                  ap (level_of old) at ∙ unmade other refl,
-                  ap (level_of (set new other (Some level))) at ∙ get_or-set_same new other (Some level) None inside,
-                )
-          ];
+      back = grind (arith, cases_lt, get_or_append_left, get_or-set_other, get_or, get_or_push, length_push, get_or-set_same);
       reached = λ k low apart_k.
           elim (cases_eq (get_or links k 0) other) [
             | inl same ↦ (level, ap (level_of (set new other (Some level))) same ∙ get_or-set_same new other (Some level) None inside)
-            | inr differ ↦
-                elim (cases_eq k count) [
-                  | inl e ↦ absurd (differ (ap (λ j. get_or links j 0) e ∙ here))
-                  | inr earlier ↦
-                      let was = v.reached k (omega arith) apart_k in
-                      (was.0, get_or-set_other new other (get_or links k 0) (Some level) None differ ∙ was.1)
-                ]
+            | inr differ ↦ grind (arith, cases_eq, get_or, get_or-set_other)
           ];
       spent = omega (arith, v.spent, unlevelled-set new other level inside none, length_push longer other);
     }
@@ -108,29 +80,16 @@ no_level levels i m a b = none-some m (sym a ∙ b)
 pub Flooding-step : (rows : List (List ℕ)) (without root : ℕ) (old levels new : List (Option ℕ)) (queue longer : List ℕ) (head member level : ℕ) → IsGraph rows → IsSettledFlood (linked rows) without old → Flooding (linked rows) without root old levels queue head → head < length queue → get_or queue head 0 ≡ member → level_of levels member ≡ Some level → Visited (links_at rows member) (length (links_at rows member)) without (level + 1) levels new queue longer → Flooding (linked rows) without root old new longer (head + 1)
 Flooding-step rows without root old levels new queue longer head member level graph was f lt at has v =
     let there : level_of levels (get_or queue head 0) ≡ Some level = ap (level_of levels) at ∙ has in
-    let unmade : (i : ℕ) → level_of levels i ≡ None → level_of old i ≡ None = λ i none.
-    elim (level_cases (level_of old i)) [
-      | inl e ↦ e
-      | inr w ↦ absurd (no_level levels i w.0 none (f.kept i w.0 w.1))
-    ] in
+    let unmade : (i : ℕ) → level_of levels i ≡ None → level_of old i ≡ None = grind (arith, level_cases, no_level) in
     -- a level in the longer queue: an old one, or one more than the member's
     let level_at : (k n : ℕ) → k < length longer → level_of new (get_or longer k 0) ≡ Some n →
     ((k < length queue) × (level_of levels (get_or queue k 0) ≡ Some n)) ⊎ ((length queue ≤ k) × (n ≡ level + 1)) = λ k n low e.
     elim (cases_lt k (length queue)) [
-      | inl before ↦
-          let q = f.queued k before in
-          inl (before, q.1.1 ∙ ap Some (one_level new (get_or queue k 0) q.1.0 n (v.kept (get_or queue k 0) q.1.0 q.1.1) (sym (ap (level_of new) (v.front k before)) ∙ e)))
+      | inl before ↦ grind (arith, one_level)
       | inr after ↦ inr (after, one_level new (get_or longer k 0) n (level + 1) e (v.back k after low).1)
     ] in
-    let bound : level ≤ head =
-    let q = f.queued head lt in
-    let same : q.1.0 ≡ level = one_level levels (get_or queue head 0) q.1.0 level q.1.1 there in
-    omega (arith, q.1.2) in
-    let not_left_out : member ≢ without =
-    elim (f.made member level has) [
-      | inl e ↦ absurd (no_level old (get_or queue head 0) level (f.queued head lt).0 (ap (level_of old) at ∙ e))
-      | inr w ↦ w.0.0
-    ] in
+    let bound : level ≤ head = grind (arith, one_level) in
+    let not_left_out : member ≢ without = grind (arith, no_level) in
     record {
       same_length = v.same_length ∙ f.same_length;
       in_queue = omega (arith, v.grows);
@@ -147,24 +106,7 @@ Flooding-step rows without root old levels new queue longer head member level gr
                 let b = v.back k after low in
                 (unmade (get_or longer k 0) b.0, (level + 1, b.1, omega arith))
           ];
-      made = λ i m e.
-          elim (v.made i m e) [
-            | inl before ↦
-                elim (f.made i m before) [
-                  | inl oldest ↦ inl oldest
-                  | inr w ↦ inr (
-                    (
-                      w.0.0,
-                      elim w.0.1 [
-                        | inl z ↦ inl z
-                        | inr s ↦ inr (s.0, s.1, s.2, s.3, v.kept s.0 s.1 s.4)
-                      ],
-                    ),
-                    (w.1.0, omega (arith, w.1.1, v.grows), v.front w.1.0 w.1.1 ∙ w.1.2),
-                  )
-                ]
-            | inr w ↦ inr ((w.3, inr (member, level, w.2, (let z : m ≡ suc level = omega (arith, w.0) in z), v.kept member level has)), (w.4.0, w.4.2, w.4.3))
-          ];
+      made = grind arith;
       settled = λ k b m low e link apart.
           elim (cases_lt k head) [
             | inl before ↦
@@ -188,9 +130,7 @@ Flooding-step rows without root old levels new queue longer head member level gr
                   elim (v.made b r.0 at_b) [
                     | inl before ↦
                         elim (f.made b r.0 before) [
-                          | inl oldest ↦
-                              let back = was b member r.0 oldest (graph.both_ways member b link_b) not_left_out in
-                              absurd (no_level old (get_or queue head 0) back.0 (f.queued head lt).0 (ap (level_of old) at ∙ back.1))
+                          | inl oldest ↦ grind (arith, no_level)
                           | inr w ↦
                               let high = f.near w.1.0 level r.0 lt w.1.1 there (ap (level_of levels) w.1.2 ∙ before) in
                               omega arith
@@ -206,18 +146,10 @@ Flooding-step rows without root old levels new queue longer head member level gr
                   | inl b ↦ f.sorted j k m n le b.0 a.1 b.1
                   | inr b ↦ omega (arith, f.near j level m lt a.0 there a.1, b.1)
                 ]
-            | inr a ↦
-                elim (level_at k n low ek) [
-                  | inl b ↦ absurd (omega (arith, a.0, b.0))
-                  | inr b ↦ omega (arith, a.1, b.1)
-                ]
+            | inr a ↦ grind arith
           ];
       near = λ k m n low lt_k eh ek.
-          let least : level ≤ m =
-          elim (level_at (head + 1) m low eh) [
-            | inl a ↦ f.sorted head (head + 1) level m (omega arith) a.0 there a.1
-            | inr a ↦ omega (arith, a.1)
-          ] in
+          let least : level ≤ m = grind arith in
           elim (level_at k n lt_k ek) [
             | inl a ↦ omega (arith, f.near k level n lt a.0 there a.1)
             | inr a ↦ omega (arith, a.1)
@@ -241,20 +173,9 @@ Among-push_cases x y (z ∷ xs) (inr later) =
       | inr e ↦ inr e
     ]
 
-pub not_alone : {A : Type 0} (x a : A) → x ≢ a → ¬ Among x (a ∷ [])
-not_alone x a h1 = grind arith
-
 -- a member with a level is reached by a walk of that many links
 reached_by : (links : ℕ → ℕ → Bool) (without root : ℕ) (old levels : List (Option ℕ)) → ((i : ℕ) → level_of old i ≡ None) → root ≢ without → Flooded links without root old levels → (m b : ℕ) → level_of levels b ≡ Some m → (rest : List ℕ) × Walk links root rest b × ¬ Among without (root ∷ rest) × (length rest ≡ m)
-reached_by links without root old levels fresh apart f zero b e =
-    elim (f.made b 0 e) [
-      | inl oldest ↦ absurd (none-some 0 (sym (fresh b) ∙ oldest))
-      | inr s ↦
-          elim s.1 [
-            | inl here ↦ ([], sym here.1, not_alone without root (λ is. apart (sym is)), refl)
-            | inr w ↦ absurd (omega (arith, w.3))
-          ]
-    ]
+reached_by links without root old levels fresh apart f zero b e = grind (arith, none-some)
 reached_by links without root old levels fresh apart f (suc m) b e =
     elim (f.made b (suc m) e) [
       | inl oldest ↦ absurd (none-some (suc m) (sym (fresh b) ∙ oldest))
@@ -294,13 +215,8 @@ pub AreLevels-from_flooded : (links : ℕ → ℕ → Bool) (without root : ℕ)
 AreLevels-from_flooded links without root old levels fresh apart f b =
     let along = levels_along links without levels f.settled in
     MatchOption-from (level_of levels b) (¬ Around links without root b) (Distance links without root b)
-    (λ none (w : Around links without root b).
-    let found = along w.0 root b 0 f.rooted w.1 (λ h. w.2 (inr h)) in
-    none-some found.0 (sym none ∙ found.1))
+    (grind (arith, none-some))
     (λ m e. record {
       reached = reached_by links without root old levels fresh apart f m b e;
-      fewest = λ rest walk clear.
-          let found = along rest root b 0 f.rooted walk (λ h. clear (inr h)) in
-          let same = one_level levels b found.0 m found.1 e in
-          omega (arith, found.2);
+      fewest = grind (arith, one_level);
     })

@@ -155,37 +155,13 @@ module _ {A : Type 0} (can : CanTell A) (linked : A → A → Bool) where
   -- a walk that passes u has a part from u on
   pub part_from : (u a : A) (rest : List A) (b : A) → Walk linked a rest b → Among u (a ∷ rest) →
       (part : List A) × PartFrom linked u b rest part
-  part_from u a [] b w h = (
-    [],
-    record {
-      walk = elim h [ inl e ↦ e ∙ w | inr t ↦ absurd t ];
-      once = λ t. t;
-      within = λ x t. t;
-      different = λ d. d;
-      shorter = omega arith;
-    },
-  )
+  part_from u a [] b w h = grind arith
   part_from u a (c ∷ rest) b w h =
       elim (Among-cases can u (c ∷ rest)) [
-        | inl later ↦ (let (part, p) = part_from u c rest b w.1 later in (
-          part,
-          record {
-            walk = p.walk;
-            once = p.once;
-            within = λ x t. inr (p.within x t);
-            different = λ d. p.different d.1;
-            shorter = omega (arith, p.shorter);
-          },
-        ))
+        | inl later ↦ grind (arith, part_from u c rest b w.1 later)
         | inr none ↦ (
           c ∷ rest,
-          record {
-            walk = walk_from linked a u (c ∷ rest) b (elim h [ inl e ↦ sym e | inr t ↦ absurd (none t) ]) w;
-            once = none;
-            within = λ x t. t;
-            different = λ d. d;
-            shorter = omega arith;
-          },
+          grind (arith, walk_from),
         )
       ]
 

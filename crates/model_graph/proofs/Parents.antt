@@ -1,5 +1,5 @@
 -- The parents from a forest make a family, and links keep to it exactly if the tests pass.
-use Rattle.std.proofs.Common.{◌≡◌, ◌≢◌, ◌-◌, ◌<◌, ◌≤◌, ◌⊎◌, ℕ, zero, suc, Bool, IsTrue, Option, Some, None, unwrap_or, List, [], ◌∷◌, length, refl, sym, ap, ◌∙◌, subst, arith, inl, inr}
+use Rattle.std.proofs.Common.{◌≡◌, ◌≢◌, ◌-◌, ◌<◌, ◌≤◌, ◌⊎◌, ℕ, zero, suc, Bool, IsTrue, Option, Some, None, unwrap_or, List, [], ◌∷◌, length, sym, ap, ◌∙◌, subst, arith, inl, inr}
 use Rattle.std.proofs.lemmas.Bool.{cases_eq, cases_lt, cases_Bool, both_ways}
 use Rattle.std.proofs.lemmas.List.{get_or_past}
 use Rattle.std.proofs.lemmas.Option.{none-some, same_Some}
@@ -114,49 +114,10 @@ Near-sym links parents simple v x (inr w) = inr (simple.both_ways v x w.0, Sibli
 smallest_near : (links : ℕ → ℕ → Bool) (parents : List (Option ℕ)) → Simple links → (v : ℕ) → ((x : ℕ) → LinkedSiblings links parents v x → AgreesWithFirst links parents v) → (q : ℕ) × Smallest links parents v q
 smallest_near links parents simple v agrees =
     elim (smallest_below (LinkedSiblings links parents v) (LinkedSiblings-cases links parents v) v) [
-      | inl w ↦
-          let k : ℕ = w.0 in
-          let both = agrees k w.2 k (record { linked_sibling = w.2; first = w.3 }) w.1 in (
-            k,
-            record {
-              here = inr w.2;
-              least = λ x near. elim near [ inl is ↦ omega (arith, w.1) | inr at ↦ w.3 x at ];
-              forth = λ x near.
-                  elim near [
-                    | inl is ↦ subst (Near links parents k) (sym is) (Near-sym links parents simple v k (inr w.2))
-                    | inr at ↦
-                        elim (cases_eq x k) [
-                          | inl is ↦ inl is
-                          | inr differ ↦ inr (both.0 x at differ, Siblings-trans parents k v x (Siblings-sym parents v k w.2.1) at.1)
-                        ]
-                  ];
-              back = λ x near.
-                  elim near [
-                    | inl is ↦ subst (Near links parents v) (sym is) (inr w.2)
-                    | inr at ↦
-                        elim (cases_eq x v) [
-                          | inl is ↦ inl is
-                          | inr differ ↦ inr (both.1 x at differ, Siblings-trans parents v k x w.2.1 at.1)
-                        ]
-                  ];
-            },
-          )
+      | inl w ↦ grind (arith, Near-sym, cases_eq, Siblings-trans, Siblings-sym)
       | inr none ↦ (
         v,
-        record {
-          here = inl refl;
-          least = λ x near.
-              elim near [
-                | inl is ↦ omega arith
-                | inr at ↦
-                    elim (cases_lt x v) [
-                      | inl before ↦ absurd (none x before at)
-                      | inr after ↦ after
-                    ]
-              ];
-          forth = λ x near. near;
-          back = λ x near. near;
-        },
+        grind (arith, cases_lt),
       )
     ]
 
@@ -193,13 +154,7 @@ module _ (rows : List (List ℕ)) (levels parents : List (Option ℕ)) (graph : 
 
   -- the parent of a member above level 0
   parent_above : (a : ℕ) → 0 < height levels a → (p : ℕ) × (parent_of parents a ≡ Some p) × IsParentAt (linked rows) levels a (Some p)
-  parent_above a high =
-      elim (level_cases (parent_of parents a)) [
-        | inl none ↦
-            let up = above levels a high in
-            absurd (subst (IsParentAt (linked rows) levels a) none (parent_everywhere a) up.0 up.1)
-        | inr w ↦ (w.0, w.1, subst (IsParentAt (linked rows) levels a) w.1 (parent_everywhere a))
-      ]
+  parent_above a high = grind (arith, level_cases (parent_of parents a), above levels a high, parent_everywhere a)
 
   IsParent-from : (a b : ℕ) → parent_of parents b ≡ Some a → IsParent (height levels) (parent_or_self parents) a b
   IsParent-from a b e = grind (arith, parent_everywhere, height_at, parent_at)
@@ -214,10 +169,7 @@ module _ (rows : List (List ℕ)) (levels parents : List (Option ℕ)) (graph : 
   siblings_from a b s = grind (arith, parent_from)
 
   root_level : (a : ℕ) → a < length rows → height levels a ≡ 0 → level_of levels a ≡ Some 0
-  root_level a lt low =
-      let has = forest.all a lt in
-      let same : has.0 ≡ 0 = sym (height_at levels a has.0 has.1) ∙ low in
-      has.1 ∙ ap Some same
+  root_level a lt low = grind (arith, forest.all a lt, height_at levels a (forest.all a lt).0 (forest.all a lt).1)
 
   -- a number past the members reaches only itself
   stays_past : (a b : ℕ) → length rows ≤ a → Reaches (linked rows) a b → a ≡ b
@@ -226,18 +178,9 @@ module _ (rows : List (List ℕ)) (levels parents : List (Option ℕ)) (graph : 
 
   pub IsFamily-from_forest : IsFamily (linked rows) (height levels) (parent_or_self parents)
   IsFamily-from_forest = record {
-    to_parent = λ x high.
-        let up = parent_above x high in
-        subst (λ p. IsTrue (linked rows x p)) (sym (parent_at parents x up.0 up.1)) up.2.2;
-    level_below = λ x high.
-        let up = parent_above x high in
-        height_at levels x (suc up.2.0) up.2.1 ∙ ap suc (sym (ap (height levels) (parent_at parents x up.0 up.1) ∙ height_at levels up.0 up.2.0 up.2.3));
-    near = λ a b link.
-        let in_a = linked_within rows a b link in
-        let in_b = graph.within a b link in
-        let has = forest.all b in_b in
-        let next = forest.near b a has.0 has.1 (graph.both_ways a b link) (λ (is : a ≡ length rows). absurd (omega arith)) in
-        omega (arith, next.2, height_at levels a next.0 next.1, height_at levels b has.0 has.1);
+    to_parent = grind (arith, parent_above, parent_at);
+    level_below = grind (arith, parent_above, height_at, parent_at);
+    near = grind (arith, linked_within, height_at);
     one_root = λ a b low_a low_b walk.
         elim (cases_lt a (length rows)) [
           | inl in_a ↦
@@ -254,11 +197,7 @@ module _ (rows : List (List ℕ)) (levels parents : List (Option ℕ)) (graph : 
     links = λ a b link.
         elim ((keeps a (linked_within rows a b link)).0 b link) [
           | inl down ↦ inl (IsParent-from a b down)
-          | inr other ↦
-              elim other [
-                | inl up ↦ inr (inl (IsParent-from b a up))
-                | inr s ↦ inr (inr (AreSiblings-from a b s))
-              ]
+          | inr other ↦ grind (arith, IsParent-from, AreSiblings-from)
         ];
     siblings = λ a b c ab bc link_ab link_bc differ.
         siblings_linked (linked rows) parents simple (λ v x at. (keeps v (linked_within rows v x at.0)).1) a b c (link_ab, siblings_from a b ab) (link_bc, siblings_from b c bc) differ;

@@ -25,11 +25,7 @@ RootsBefore-passed levels before roots none h = record {
   ascending = h.ascending;
   members = λ a. (
     λ there. (let (low, lt, is) = (h.members a).0 there in (low, omega arith, is)),
-    λ (low, lt, is).
-        elim (cases_eq a before) [
-          | inl same ↦ absurd (none (ap (level_of levels) (sym same) ∙ is))
-          | inr differ ↦ (h.members a).1 (low, omega arith, is)
-        ],
+    grind (arith, cases_eq),
   );
 }
 
@@ -39,9 +35,7 @@ push_ascending xs n up below i j lt inside =
     let size = length_push xs n in
     let left : get_or (xs ++ n ∷ []) i 0 ≡ get_or xs i 0 = get_or_append_left xs (n ∷ []) 0 i (omega (arith, size)) in
     elim (cases_lt j (length xs)) [
-      | inl within ↦
-          let right : get_or (xs ++ n ∷ []) j 0 ≡ get_or xs j 0 = get_or_append_left xs (n ∷ []) 0 j within in
-          omega (arith, left, right, up i j lt within)
+      | inl within ↦ grind (arith, get_or, get_or_append_left)
       | inr past ↦
           let right : get_or (xs ++ n ∷ []) j 0 ≡ n = get_or_push xs n 0 j (omega (arith, size)) in
           let low : get_or xs i 0 < n = below (get_or xs i 0) (i, omega (arith, size), get_or_default_zero xs i (get_or xs i 0) (omega (arith, size))) in
@@ -77,11 +71,7 @@ to_root links members upto levels f (suc m) a e =
 pub roots_start : (rows : List (List ℕ)) (levels : List (Option ℕ)) → IsGraph rows → length levels ≡ length rows → IsForest (linked rows) (length rows) (length rows) levels → (a : ℕ) → ((0 < a) × (level_of levels a ≡ Some 0)) ↔ StartsPart (linked rows) (length rows) a
 roots_start rows levels graph size f a = (
   λ (low, is). record {
-    within =
-        elim (cases_lt a (length rows)) [
-          | inl lt ↦ lt
-          | inr past ↦ absurd (none-some 0 (sym (get_or_past levels a None (omega (arith, size))) ∙ is))
-        ];
+    within = grind (arith, cases_lt, none-some, get_or_past);
     later = low;
     first = λ k lt walk. f.first a k is lt walk;
   },
@@ -103,14 +93,7 @@ roots_start rows levels graph size f a = (
 
 -- all other roots, if a search has ended
 pub all_roots : (levels : List (Option ℕ)) (before : ℕ) (roots : List ℕ) → length levels ≤ before → RootsBefore levels before roots → (a : ℕ) → Contains roots a ↔ ((0 < a) × (level_of levels a ≡ Some 0))
-all_roots levels before roots past h a = (
-  λ there. (let (low, lt, is) = (h.members a).0 there in (low, is)),
-  λ (low, is).
-      elim (cases_lt a (length levels)) [
-        | inl lt ↦ (h.members a).1 (low, omega arith, is)
-        | inr out ↦ absurd (none-some 0 (sym (get_or_past levels a None out) ∙ is))
-      ],
-)
+all_roots levels before roots past h a = grind (arith, h.members a, cases_lt, none-some, get_or_past)
 
 -- A forest grows by a search from each member without a level.
 
@@ -141,56 +124,22 @@ pub IsForest-flooded : (rows : List (List ℕ)) (root : ℕ) (levels new : List 
 IsForest-flooded rows root levels new graph f none flooded =
     let links = linked rows in
     let simple = Simple-from_graph rows graph in
-    let at_root : (a : ℕ) → level_of new a ≡ Some 0 → (level_of levels a ≡ Some 0) ⊎ (a ≡ root) = λ a e.
-    elim (flooded.made a 0 e) [
-      | inl old ↦ inl old
-      | inr s ↦
-          elim s.1 [
-            | inl here ↦ inr here.1
-            | inr w ↦ absurd (omega (arith, w.3))
-          ]
-    ] in
-    let apart : (a : ℕ) → level_of levels a ≡ Some 0 → Reaches links a root → ⊥ = λ a e walk.
-    let found = levels_reached rows levels graph f.near walk.0 a root 0 walk.1 e in
-    none-some found.0 (sym none ∙ found.1) in
+    let at_root : (a : ℕ) → level_of new a ≡ Some 0 → (level_of levels a ≡ Some 0) ⊎ (a ≡ root) = grind arith in
+    let apart : (a : ℕ) → level_of levels a ≡ Some 0 → Reaches links a root → ⊥ = grind (arith, levels_reached, none-some) in
     record {
       all = λ a lt.
           elim (cases_eq a root) [
             | inl is ↦ (0, ap (level_of new) is ∙ flooded.rooted)
             | inr differ ↦ let old = f.all a (omega arith) in (old.0, flooded.kept a old.0 old.1)
           ];
-      lower = λ a m e.
-          elim (flooded.made a (suc m) e) [
-            | inl old ↦ let w = f.lower a m old in (w.0, w.1, flooded.kept w.0 m w.2)
-            | inr s ↦
-                elim s.1 [
-                  | inl here ↦ absurd (omega (arith, here.0))
-                  | inr w ↦
-                      let same : w.1 ≡ m = omega (arith, w.3) in
-                      (w.0, graph.both_ways w.0 a w.2, w.4 ∙ ap Some same)
-                ]
-          ];
+      lower = grind arith;
       near = flooded.settled;
-      one_root = λ a b at_a at_b walk.
-          elim (at_root a at_a) [
-            | inl old_a ↦
-                elim (at_root b at_b) [
-                  | inl old_b ↦ f.one_root a b old_a old_b walk
-                  | inr is_b ↦ absurd (apart a old_a (subst (Reaches links a) is_b walk))
-                ]
-            | inr is_a ↦
-                elim (at_root b at_b) [
-                  | inl old_b ↦ absurd (apart b old_b (subst (Reaches links b) is_a (Reaches-sym links simple a b walk)))
-                  | inr is_b ↦ is_a ∙ sym is_b
-                ]
-          ];
+      one_root = grind (arith, Reaches-sym);
       first = λ a b e lt walk.
           elim (at_root a e) [
             | inl old ↦ f.first a b old lt walk
             | inr is ↦
                 let (m, level) = f.all b (omega (arith, lt, is)) in
-                let (rest, along) = subst (Reaches links b) is walk in
-                let found = levels_reached rows levels graph f.near rest b root m along level in
-                none-some found.0 (sym none ∙ found.1)
+                grind (arith, levels_reached, none-some)
           ];
     }

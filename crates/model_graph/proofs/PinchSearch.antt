@@ -1,11 +1,11 @@
 -- Pinches found link by link.
-use Rattle.std.proofs.Common.{◌≡◌, ◌≢◌, ◌<◌, ℕ, Bool, IsTrue, Option, None, List, length, get_or, sym, ap, ◌∙◌, subst, arith, inl, inr, Some, MatchOption, [], ◌∷◌}
+use Rattle.std.proofs.Common.{◌≡◌, ◌≢◌, ◌<◌, ℕ, Bool, IsTrue, Option, None, List, length, get_or, sym, subst, arith, inl, inr, Some, MatchOption, [], ◌∷◌}
 use Rattle.std.proofs.lemmas.Bool.{cases_eq, cases_lt}
 use Rattle.std.proofs.lemmas.Option.{MatchOption-at_some, MatchOption-at_none}
 use Rattle.model_graph.specs.Walk.{Simple, Among, Walk, Reaches, Connected}
 use Rattle.model_graph.specs.Beyond.{Around, Parted}
 use Rattle.model_graph.specs.Rows.{links_at, linked, IsGraph}
-use Rattle.model_graph.specs.Levels.{level_of, Distance, AreLevels}
+use Rattle.model_graph.specs.Levels.{level_of, AreLevels}
 use Rattle.model_graph.specs.Pinches.{IsPinch, FirstOther, FirstHere}
 use Rattle.model_graph.proofs.Members.{ℕ-can_tell, Around-sym, Beyond-from_no_around, Connected-from_root}
 use Rattle.model_graph.proofs.Rows.{holds_at, place_of}
@@ -28,13 +28,7 @@ pub row_rises : (rows : List (List ℕ)) (at : ℕ) (row : List ℕ) → IsGraph
 row_rises rows at row graph is = grind (arith, get_or)
 
 pub around_from_level : (links : ℕ → ℕ → Bool) (x root b : ℕ) (levels : List (Option ℕ)) → AreLevels links x root levels → level_of levels b ≢ None → Around links x root b
-around_from_level links x root b levels are some =
-    elim (level_cases (level_of levels b)) [
-      | inl none ↦ absurd (some none)
-      | inr w ↦
-          let d : Distance links x root b w.0 = MatchOption-at_some (¬ Around links x root b) (Distance links x root b) w.0 w.1 (are b) in
-          (d.reached.0, d.reached.1, d.reached.2)
-    ]
+around_from_level links x root b levels are some = grind (arith, level_cases (level_of levels b), MatchOption-at_some)
 
 pub level_from_around : (links : ℕ → ℕ → Bool) (x root b : ℕ) (levels : List (Option ℕ)) → AreLevels links x root levels → Around links x root b → level_of levels b ≢ None
 level_from_around links x root b levels are around none = grind (arith, MatchOption-at_none)
@@ -44,23 +38,10 @@ pub FirstOther-here : (rows : List (List ℕ)) (at one k : ℕ) (row : List ℕ)
     ((i : ℕ) → i < k → ¬ IsPinch (linked rows) at one (get_or row i 0)) →
     one < get_or row k 0 → level_of levels (get_or row k 0) ≢ None → ¬ IsTrue (linked rows one (get_or row k 0)) → FirstOther (linked rows) at one (get_or row k 0)
 FirstOther-here rows at one k row levels graph is lt link are earlier order some apart = record {
-  pinch = record {
-    one = link;
-    other = row_link rows at k row is lt;
-    in_order = order;
-    not_linked = apart;
-    around = around_from_level (linked rows) at one (get_or row k 0) levels are some;
-  };
+  pinch = grind (arith, row_link, around_from_level, get_or);
   first = λ f pinch.
       let p = row_place rows at f row is pinch.other in
-      elim (cases_lt p.0 k) [
-        | inl before ↦ absurd (earlier p.0 before (subst (IsPinch (linked rows) at one) (sym p.2) pinch))
-        | inr after ↦
-            elim (cases_eq p.0 k) [
-              | inl same ↦ inr (ap (λ j. get_or row j 0) (sym same) ∙ p.2)
-              | inr differ ↦ inl (omega (arith, row_rises rows at row graph is k p.0 (omega arith) p.1, p.2))
-            ]
-      ];
+      grind (arith, cases_lt, cases_eq, get_or, row_rises);
 }
 
 -- an unsuitable link makes no pinch
@@ -80,16 +61,7 @@ FirstHere-here rows at k c row graph is lt earlier found = record {
   pinch = found.pinch;
   first = λ d f pinch.
       let p = row_place rows at d row is pinch.one in
-      elim (cases_lt p.0 k) [
-        | inl before ↦ absurd (earlier p.0 f before (subst (λ one. IsPinch (linked rows) at one f) (sym p.2) pinch))
-        | inr after ↦
-            elim (cases_eq p.0 k) [
-              | inl same ↦
-                  let is_d : get_or row k 0 ≡ d = ap (λ j. get_or row j 0) (sym same) ∙ p.2 in
-                  inr (is_d, found.first f (subst (λ one. IsPinch (linked rows) at one f) (sym is_d) pinch))
-              | inr differ ↦ inl (omega (arith, row_rises rows at row graph is k p.0 (omega arith) p.1, p.2))
-            ]
-      ];
+      grind (arith, cases_lt, cases_eq, get_or, row_rises);
 }
 
 pub no_pinch_at : (rows : List (List ℕ)) (at : ℕ) (row : List ℕ) → row ≡ links_at rows at → ((i f : ℕ) → i < length row → ¬ IsPinch (linked rows) at (get_or row i 0) f) → (a c : ℕ) → ¬ IsPinch (linked rows) at a c
@@ -100,17 +72,7 @@ no_pinch_at rows at row is none a c pinch =
 -- a graph is parted exactly if it has no pinch
 pub Parted-from_no_pinch : (links : ℕ → ℕ → Bool) → Simple links → ((b a c : ℕ) → ¬ IsPinch links b a c) → Parted links
 Parted-from_no_pinch links simple none b a c link_a link_c differ apart =
-    Beyond-from_no_around ℕ-can_tell links b c a (λ around.
-    elim (cases_lt a c) [
-      | inl lt ↦ none b a c (record { one = link_a; other = link_c; in_order = lt; not_linked = apart; around = around })
-      | inr ge ↦ none b c a (record {
-        one = link_c;
-        other = link_a;
-        in_order = (let lt : c < a = omega (arith, differ) in lt);
-        not_linked = λ link. apart (simple.both_ways c a link);
-        around = Around-sym links simple b a c around;
-      })
-    ])
+    Beyond-from_no_around ℕ-can_tell links b c a (grind (arith, cases_lt, Around-sym))
 
 -- The levels from member 0 decide which walks the whole graph has.
 

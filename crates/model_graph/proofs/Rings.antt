@@ -12,11 +12,7 @@ use Rattle.model_graph.proofs.Turns.{IsCycle-rotated, IsCycle-turned, Cycle-reve
 -- the pinch and the walk around it make a cycle
 pub Cycle-from_pinch : (links : ℕ → ℕ → Bool) → Simple links → (b a c : ℕ) (rest : List ℕ) → IsPinch links b a c → FirstWalk links b a c rest → Cycle links b (a ∷ rest)
 Cycle-from_pinch links simple b a c [] pinch first = let order = pinch.in_order in let same : a ≡ c = first.walk in absurd (omega arith)
-Cycle-from_pinch links simple b a c (d ∷ rest) pinch first = record {
-  long = omega arith;
-  different = (first.around, first.different);
-  closed = (c, (pinch.one, first.walk), simple.both_ways b c pinch.other);
-}
+Cycle-from_pinch links simple b a c (d ∷ rest) pinch first = grind arith
 
 pub turned_next : (ring : List ℕ) (k : ℕ) → k < length ring → (turned k ring ≡ get_or ring k 0 ∷ (drop (k + 1) ring ++ take k ring)) × (turned (k + 1) ring ≡ (drop (k + 1) ring ++ take k ring) ++ get_or ring k 0 ∷ [])
 turned_next ring k lt = grind (arith, drop_more, take_more, append_assoc, get_or)
@@ -46,11 +42,7 @@ IsCycle-reversed links simple (first ∷ rest) cycle =
     (IsCycle-turned links first (reverse rest) (Cycle-reversed links simple first rest cycle))
 
 Among-turned : (x k : ℕ) (ring : List ℕ) → Among x ring → Among x (turned k ring)
-Among-turned x k ring among =
-    elim (Among-append_cases x (take k ring) (drop k ring) (subst (Among x) (sym (take-append-drop k ring)) among)) [
-      | inl before ↦ Among-append_right x (drop k ring) (take k ring) before
-      | inr after ↦ Among-append_left x (drop k ring) (take k ring) after
-    ]
+Among-turned x k ring among = grind (arith, Among-append_cases x (take k ring) (drop k ring) (subst (Among x) (sym (take-append-drop k ring)) among), Among-append_right, Among-append_left)
 
 -- the written form of a cycle is a cycle
 pub IsCycle-written : (links : ℕ → ℕ → Bool) → Simple links → (ring loop : List ℕ) → IsWritten ring loop → IsCycle links ring → IsCycle links loop
@@ -95,16 +87,7 @@ reversed_smaller x (y ∷ ys) different long le =
 
 Different-turned : (ring : List ℕ) → Different ring → (k : ℕ) → Different (turned k ring)
 Different-turned ring different zero = subst Different (sym (append-nil ring)) different
-Different-turned ring different (suc k) =
-    elim (cases_lt k (length ring)) [
-      | inl lt ↦
-          let next = turned_next ring k lt in
-          let one_on : k + 1 ≡ suc k = omega arith in
-          let before = subst Different next.0 (Different-turned ring different k) in
-          subst (λ j. Different (turned j ring)) one_on
-          (subst Different (sym next.1) (Different-push (drop (k + 1) ring ++ take k ring) (get_or ring k 0) before.1 before.0))
-      | inr past ↦ subst Different (sym (turned_past ring (suc k) (omega arith))) different
-    ]
+Different-turned ring different (suc k) = grind (arith, cases_lt, turned_next, Different-push, get_or, turned_past, Different-turned ring different k)
 
 pub length-turned : (ring : List ℕ) (k : ℕ) → length (turned k ring) ≡ length ring
 length-turned ring k =
@@ -155,10 +138,7 @@ IsWritten-back ring forth loop k long different lt least forth_is greater is =
     record {
       goes_round = (k + 1, inr is);
       smallest = smallest_first ring loop k (sym (ap (λ (xs : List ℕ). get_or xs 0 0) loop_is)) least;
-      smaller_side = sides loop (subst (λ (xs : List ℕ). get_or xs 1 0 < get_or xs (length xs - 1) 0) (sym loop_is)
-          (back_side m rest others.1 (omega arith)
-          (subst (λ n. get_or (m ∷ rest) n 0 ≤ get_or (m ∷ rest) 1 0) (let e : length ring - 1 ≡ length rest = omega arith in e)
-          (subst (λ (xs : List ℕ). get_or xs (length ring - 1) 0 ≤ get_or xs 1 0) forth_own greater))));
+      smaller_side = sides loop (grind (arith, get_or, back_side));
     }
 
 -- the members of a ring are three or more, all different

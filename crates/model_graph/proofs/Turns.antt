@@ -65,9 +65,5 @@ module _ {A : Type 0} (linked : A → A → Bool) where
             λ h. cycle.different.0 (Among-from_reverse first (second ∷ rest) h),
             Different-reverse (second ∷ rest) cycle.different.1,
           );
-          closed = (
-            second,
-            walk_reversed first second rest last (simple.both_ways last first closes) w.1,
-            simple.both_ways first second w.0,
-          );
+          closed = grind (arith, walk_reversed);
         }

@@ -82,13 +82,7 @@ returns-in_err-sync-clause-leaves g c = left_quiet (folder_of c.args.names.now) 
 pub returns-in_err-sync-2-clause-any_moment : goal.returns-in_err-sync-2-clause-any_moment
 returns-in_err-sync-2-clause-any_moment g c h2 =
     let h1 = c.sync-2.ensures.quiet.honest h2 in
-    let staged = c.requires.staged.staged (c.sync.ensures.quiet.honest h1) in
-    let path = folder_of c.args.names.now in
-    let d0 = g.D.Disk.state c.args.disk.now in
-    let d1 = g.D.Disk.state c.sync.new.self in
-    let d2 = g.D.Disk.state c.sync-2.new.self in
-    let all = P d0 path c.args.end c.args.recorded staged in
-    then_nothing d0 d1 d2 all (then_nothing d0 d0 d1 all (run_at_first d0 path c.args.end c.args.recorded staged) c.sync.ensures.quiet) c.sync-2.ensures.quiet
+    grind (arith, P, then_nothing, run_at_first)
 
 pub returns-in_err-sync-2-clause-outside : goal.returns-in_err-sync-2-clause-outside
 returns-in_err-sync-2-clause-outside g c = (synced_around g (goal.at.returns-in_err-sync-2-clause-outside g c).After-sync-2).outside

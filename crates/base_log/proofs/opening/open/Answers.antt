@@ -20,9 +20,7 @@ use Rattle.base_log.proofs.opening.open.Goals as goal
 pub settle_log-requires-clause-ended : goal.settle_log-requires-clause-ended
 settle_log-requires-clause-ended g c h0 =
     let path = folder_of c.args.names.now in
-    let log = c.args.log.now in
-    let d0 = g.D.Disk.state c.args.disk.now in
-    end_shut log.bytes.items log.end c.requires.log.read path d0.seen (c.requires.log.same h0) (base_at d0 path log.end.recorded) (c.requires.represented h0)
+    grind (arith, end_shut)
 
 pub settle_files-requires : goal.settle_files-requires
 settle_files-requires g c =
@@ -49,8 +47,7 @@ make_files-requires-clause-names g c =
 pub make_files-requires-clause-bare : goal.make_files-requires-clause-bare
 make_files-requires-clause-bare g c h1 =
     let log = c.in_ok-settle_log.ensures.log h1 in
-    let none = none_at (g.D.Disk.state c.settle_log.new.disk) (folder_of c.args.names.now) c.args.log.now.end log (omega (arith, c.if-log-gt0.false)) in
-    record { named = log.named; log = log.on_disk; none = none.0; shut = none.1 }
+    grind (arith, none_at)
 
 pub settle_files-requires-2 : goal.settle_files-requires-2
 settle_files-requires-2 g c =

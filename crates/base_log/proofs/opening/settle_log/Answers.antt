@@ -1,10 +1,10 @@
-use Rattle.std.proofs.Common.{List, ℕ, ◌≡◌, ◌<◌, ◌∙◌, ⊎_elim, length, ap, sym, subst, arith}
-use Rattle.disk_io.specs.Disk.{DiskState, Honestly, bytes_in}
+use Rattle.std.proofs.Common.{List, ℕ, ⊎_elim, arith}
+use Rattle.disk_io.specs.Disk.{DiskState, Honestly}
 use Rattle.disk_io.specs.Runs.{ChangesNothing, LeavesOnly}
 use Rattle.disk_io.proofs.Moments.{nothing_twice}
 use Rattle.base_log.specs.Log.{IsShutAt}
 use Rattle.base_log.specs.Names.{folder_of, log_of}
-use Rattle.base_log.specs.Opening.{AreNamed, KeepsButOne, RepresentsOrWasLeft}
+use Rattle.base_log.specs.Opening.{KeepsButOne, RepresentsOrWasLeft}
 use Rattle.base_log.specs.Standing.{BaseBytes, IsNew, Represents}
 use Rattle.base_log.proofs.Keeping.{but_one_quiet, but_one_twice, outside_quiet}
 use Rattle.base_log.proofs.Empty.{chained_quiet, represented_quiet, was_left}
@@ -56,26 +56,7 @@ returns-in_err-sync-clause-any_moment g c = (both_synced g (goal.at.returns-in_e
 pub returns-then-is_shut-clause-log : goal.returns-then-is_shut-clause-log
 returns-then-is_shut-clause-log g c honest =
     let path = folder_of c.args.names.now in
-    let h1 = c.sync.ensures.quiet.honest honest in
-    let h0 = c.sync_folder_of.ensures.quiet.honest h1 in
-    let d1 = g.D.Disk.state c.sync_folder_of.new.disk in
-    let d2 = g.D.Disk.state c.sync.new.self in
-    let quiet1 = c.sync_folder_of.ensures.quiet in
-    let quiet2 = c.sync.ensures.quiet in
-    let log = c.args.log.now in
-    let at = log_of path in
-    let shut : IsShutAt log.end.records_len log.bytes.items = c.is_shut.ensures.0 c.if-is_shut.true in
-    let is : log.bytes.items ≡ bytes_in (d2.seen at) = c.requires.log.same h0 ∙ ap bytes_in (sym (quiet2.seen at ∙ quiet1.seen at)) in
-    let named = subst (λ (p : List ℕ). AreNamed p d1) c.deref.ensures.value c.in_ok-sync_folder_of.ensures.durable in
-    let some : 0 < length (bytes_in (d2.seen at)) = omega (arith, shut.0, ap length is) in
-    shut_read log.bytes.items log.end c.requires.log.read d2 path is shut
-    (record {
-      there = some_there (d2.seen at) some;
-      named = quiet2.named at (λ h. h) (named at (log_in path));
-      flushed = subst (λ (l : List ℕ). d2.is_flushed l) (c.deref-then-is_shut.ensures.value ∙ c.requires.name) c.in_ok-sync.ensures.durable;
-      alone = quiet2.alone at (λ h. h) (quiet1.alone at (λ h. h) (c.requires.alone h0 at (log_in path)));
-    })
-    (λ m inside. quiet2.named m (λ h. h) (named m inside))
+    grind (arith, shut_read, some_there, log_in)
 
 pub returns-then-is_shut-clause-others : goal.returns-then-is_shut-clause-others
 returns-then-is_shut-clause-others g c = (both_synced g (goal.at.returns-then-is_shut-clause-others g c).After-sync).others

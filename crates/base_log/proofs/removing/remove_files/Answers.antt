@@ -16,20 +16,12 @@ use Rattle.base_log.proofs.removing.remove_files.Goals as goal
 pub remove_one-requires : goal.remove_one-requires
 remove_one-requires g c =
     let messages = messages_others (folder_of c.args.names.now) c.args.end.recorded.number c.args.number c.requires.other in
-    record {
-      file = subst (λ (p : List ℕ). IsOtherNumber p c.args.end.recorded.number c.deref-2.result.now) (sym c.deref.ensures.value)
-          (subst (λ (f : List ℕ). IsOtherNumber (folder_of c.args.names.now) c.args.end.recorded.number f) (sym (c.deref-2.ensures.value ∙ c.requires.names.messages)) messages);
-      settled = λ honest. subst (λ (p : List ℕ). IsAtRest (g.D.Disk.state c.args.disk.now) p c.args.end) (sym c.deref.ensures.value) (c.requires.settled honest);
-    }
+    grind arith
 
 pub remove_one-requires-2 : goal.remove_one-requires-2
 remove_one-requires-2 g c =
     let keys = keys_others (folder_of c.args.names.now) c.args.end.recorded.number c.args.number c.requires.other in
-    record {
-      file = subst (λ (p : List ℕ). IsOtherNumber p c.args.end.recorded.number c.deref-4.result.now) (sym c.deref-3.ensures.value)
-          (subst (λ (f : List ℕ). IsOtherNumber (folder_of c.args.names.now) c.args.end.recorded.number f) (sym (c.deref-4.ensures.value ∙ c.requires.names.keys)) keys);
-      settled = λ honest. subst (λ (p : List ℕ). IsAtRest (g.D.Disk.state c.remove_one.new.disk) p c.args.end) (c.deref.ensures.value ∙ sym c.deref-3.ensures.value) (c.in_ok-remove_one.ensures.settled honest);
-    }
+    grind arith
 
 pub returns-in_err-remove_one : goal.returns-in_err-remove_one
 returns-in_err-remove_one g c = grind (arith, messages_others, base_others)

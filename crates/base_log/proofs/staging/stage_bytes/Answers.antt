@@ -27,8 +27,7 @@ pub write_at-requires-clause-within : goal.write_at-requires-clause-within
 write_at-requires-clause-within g c honest =
     let d = g.D.Disk.state c.args.disk.now in
     subst (λ (n : ℕ). n ≤ length (bytes_in (d.seen c.path_of.result.now))) (sym c.counted.ensures)
-    (subst (λ (l : List ℕ). counted c.args.recorded c.args.file ≤ length (bytes_in (d.seen l))) (sym (at_path g (goal.at.write_at-requires-clause-within g c).After-counted))
-    (file_long d (folder_of c.args.names.now) c.args.end c.args.recorded c.args.file (c.requires.staged.staged honest)))
+    (grind (arith, at_path, goal.at.write_at-requires-clause-within g c, file_long, c.requires.staged.staged honest))
 
 pub write_at-requires-clause-alone : goal.write_at-requires-clause-alone
 write_at-requires-clause-alone g c honest = grind (arith, at_path, file_alone)

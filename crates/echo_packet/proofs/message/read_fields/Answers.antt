@@ -1,8 +1,8 @@
-use Rattle.std.proofs.Common.{◌≡◌, ◌∙◌, length, ap, subst, arith, Err}
+use Rattle.std.proofs.Common.{◌≡◌, ◌∙◌, length, ap, arith, Err}
 use Rattle.std.proofs.lemmas.Result.{err_from_is_err_and}
 use Rattle.echo_packet.specs.Message.{Numbers, DateTime, ToName, FromName, Subject, Text, max_name, max_subject}
 use Rattle.echo_packet.specs.Fault.{IsTooLong}
-use Rattle.echo_packet.specs.Field.{IsShort, IsOpen, IsPast, Never, TakesMessage}
+use Rattle.echo_packet.specs.Field.{IsShort, IsOpen, IsPast, Never}
 use Rattle.echo_packet.specs.Next.{FailsBehind}
 use Rattle.echo_packet.proofs.FieldsSoFar.{has-none, has-numbers, has-date, has-to_name, has-from_name, has-subject, has-text, field-fails, made_of, at_exit, tells-numbers, tells-date, tells-to_name, tells-from_name, tells-subject, tells-text}
 use Rattle.echo_packet.proofs.message.read_fields.Goals as goal
@@ -98,7 +98,4 @@ returns-clause-whole g c = λ start here.
     c.in_ok-subject.ensures.found c.in_ok-subject.ensures.taken c.in_ok-subject.ensures.place in
     let all = has-text c.args.limits.text start _ c.string_at-4.new.place _ _ _ _ c.in_ok-text.text.items f
     c.in_ok-text.ensures.found c.in_ok-text.ensures.taken c.in_ok-text.ensures.place in
-    let made = made_of c.fixed_at.new.field c.fixed_at-2.new.field c.in_ok-to_name.to_name.items c.in_ok-from_name.from_name.items
-    c.in_ok-subject.subject.items c.in_ok-text.text.items _ _ _ _ _ _ c.from_parts.result c.from_parts.ensures c.number_at.ensures
-    c.number_at-2.ensures c.number_at-3.ensures c.number_at-4.ensures c.number_at-5.ensures c.number_at-6.ensures in
-    subst (λ m. TakesMessage c.args.limits.text start (g.R.Read.remaining c.args.reader.now) (g.R.Read.remaining c.string_at-4.new.reader) m c.string_at-4.new.place) made all
+    grind (arith, made_of)

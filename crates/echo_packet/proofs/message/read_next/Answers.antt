@@ -23,15 +23,10 @@ returns-in_err-message-clause-fault g c =
     let start = c.args.place.now in
     let behind = c.in_err-message.ensures.fails c.args.given start c.if-given-limits.false (omega (arith, c.in_ok-fixed_at.ensures.place)) in
     let p = err_from_is_err_and c.from_residual-in_err-message.result c.from_residual-in_err-message.ensures.1 in
-    at_exit_if _ c.from_residual-in_err-message.result _ (NextFault c.args.limits c.args.given start) (p.1 ∙ ap Err p.2)
-    (number-then c.args.limits c.args.given start _ _ c.fixed_at.new.field _ c.fixed_at.ensures.bytes (omega arith) c.in_ok-fixed_at.ensures.taken
-    (sym c.number_at-number.ensures ∙ c.if-number-ne2.false) behind.fault)
+    grind (arith, at_exit_if, number-then)
 
 pub returns-in_err-fixed_at-clause-inside : goal.returns-in_err-fixed_at-clause-inside
-returns-in_err-fixed_at-clause-inside g c =
-    let p = err_from_is_err_and c.from_residual.result c.from_residual.ensures.1 in
-    at_exit c.from_residual.result _ (FailsInMessage c.args.limits c.args.given c.args.place.now [] _ _) (p.1 ∙ ap Err p.2)
-    (number-inside c.args.limits c.args.given c.args.place.now _ _ _ (omega arith) c.in_err-fixed_at.ensures.inside)
+returns-in_err-fixed_at-clause-inside g c = grind (arith, err_from_is_err_and c.from_residual.result c.from_residual.ensures.1, at_exit, number-inside)
 
 pub returns-in_err-message-clause-inside : goal.returns-in_err-message-clause-inside
 returns-in_err-message-clause-inside g c =

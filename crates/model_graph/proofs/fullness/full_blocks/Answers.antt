@@ -1,11 +1,11 @@
-use Rattle.std.proofs.Common.{◌≡◌, ◌<◌, ◌≤◌, ℕ, Bool, false, IsTrue, List, length, get_or, set, refl, sym, ap, ◌∙◌, subst, ◌+◌, arith}
+use Rattle.std.proofs.Common.{◌≡◌, ◌<◌, ℕ, Bool, false, IsTrue, List, length, get_or, refl, sym, ap, ◌∙◌, subst, ◌+◌, arith}
 use Rattle.std.proofs.lemmas.Bool.{false≢true}
 use Rattle.std.proofs.lemmas.List.{get_or_read, get_or_past, length-set}
 use Rattle.model_graph.specs.Rows.{linked}
 use Rattle.model_graph.specs.Blocks.{block_of, top_of, IsFullyLinked}
 use Rattle.model_graph.proofs.Rows.{marked_more, unmarked, kept_marks}
 use Rattle.model_graph.proofs.fullness.full_blocks.Goals as goal
-use Rattle.model_graph.proofs.fullness.full_blocks.Goals.{then-block-members+then-index+then-not-is_fully_linked, else-block-members, else-block-members-via-then-block-members+then-index+else-not-is_fully_linked, else-block-members-via-then-block-members+else-index, else-block-members-via-else-block-members}
+use Rattle.model_graph.proofs.fullness.full_blocks.Goals.{then-block-members+then-index+then-not-is_fully_linked, else-block-members}
 
 pub members-preserved : goal.members-preserved
 members-preserved c =
@@ -19,23 +19,9 @@ members-preserved c =
     length now ≡ length old → (length now ≡ length c.args.graph.now) × ((y : ℕ) → y < x + 1 → IsTrue (get_or now (block y) false) → P y) =
     λ now kept here same. (same ∙ c.members.invariant.0, marked_more P block old now x c.members.invariant.1 kept here) in
     elim c.if-block-members.branch [
-      | then-block-members+then-index+then-not-is_fully_linked w ↦
-          let held : b < length old = omega (arith, c.members.invariant.0, c.len-members.ensures.value) in
-          subst (λ (now : List Bool). (length now ≡ length c.args.graph.now) × ((y : ℕ) → y < x + 1 → IsTrue (get_or now (block y) false) → P y)) (sym (ap (λ v. v.items) w.full-is))
-          (more (set old b false) (kept_marks old b held) (λ is. absurd (unmarked old b held (subst (λ k. IsTrue (get_or (set old b false) k false)) (sym at) is))) (length-set old b false))
+      | then-block-members+then-index+then-not-is_fully_linked w ↦ grind (arith, get_or, kept_marks, unmarked, length-set)
       | else-block-members w ↦
           subst (λ (now : List Bool). (length now ≡ length c.args.graph.now) × ((y : ℕ) → y < x + 1 → IsTrue (get_or now (block y) false) → P y)) (sym (ap (λ v. v.items) w.full-is))
           (more old (λ k is. is)
-          (elim w.else-block-members.branch [
-            | else-block-members-via-then-block-members+then-index+else-not-is_fully_linked w' ↦ λ _. w'.is_fully_linked.ensures w'.if-not-is_fully_linked.false
-            | else-block-members-via-then-block-members+else-index w' ↦
-                λ is.
-                let held : b < length old = omega (arith, c.members.invariant.0, c.len-members.ensures.value) in
-                let read : w'.index.result.now ≡ get_or old b false = get_or_read old b w'.index.result.now held w'.index.ensures false in
-                absurd (false≢true (sym w'.if-index.false ∙ (read ∙ (ap (λ k. get_or old k false) at ∙ is))))
-            | else-block-members-via-else-block-members w' ↦
-                λ is.
-                let past : length old ≤ block x = omega (arith, c.members.invariant.0, c.len-members.ensures.value) in
-                absurd (false≢true (sym (get_or_past old (block x) false past) ∙ is))
-          ]) refl)
+          (grind (arith, get_or, get_or_read, false≢true, get_or_past)) refl)
     ]

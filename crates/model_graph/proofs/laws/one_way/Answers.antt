@@ -1,10 +1,7 @@
+use Rattle.std.proofs.Common.{arith}
 use Rattle.model_graph.proofs.Members.{ℕ-can_tell}
 use Rattle.model_graph.proofs.Cycles.{has_one_way, beyond_or_link, way-not_beyond}
 use Rattle.model_graph.proofs.laws.one_way.Goals as goal
 
 pub returns : goal.returns
-returns c = record {
-  there = has_one_way ℕ-can_tell;
-  others = beyond_or_link ℕ-can_tell;
-  itself = way-not_beyond ℕ-can_tell;
-}
+returns c = grind (arith, has_one_way ℕ-can_tell, beyond_or_link ℕ-can_tell, way-not_beyond ℕ-can_tell)

@@ -1,7 +1,6 @@
-use Rattle.std.proofs.Common.{◌≡◌, ℕ, Option, None, List, replicate, ◌∙◌, ap, rules, arith}
+use Rattle.std.proofs.Common.{◌≡◌, ℕ, None, replicate, rules, arith}
 use Rattle.std.proofs.lemmas.List.{get_or-replicate, get_or_past, length-replicate}
 use Rattle.std.proofs.lemmas.Bool.{cases_lt}
-use Rattle.model_graph.specs.Rows.{linked}
 use Rattle.model_graph.specs.Levels.{level_of}
 use Rattle.model_graph.proofs.Floods.{AreLevels-from_flooded, Searched-from_flooded}
 use Rattle.model_graph.proofs.levels.levels_around.Goals as goal
@@ -15,6 +14,4 @@ returns-clause-searched c = grind (arith, Searched-from_flooded, none_in)
 pub returns-clause-levels : goal.returns-clause-levels
 returns-clause-levels c =
     let items : c.in_ok-levels.levels.items ≡ replicate c.len.result None = c.in_ok-levels.ensures.items_if_clones_equal (λ y h. search rules) in
-    AreLevels-from_flooded (linked c.args.graph.now) c.args.without c.args.root c.in_ok-levels.levels.items c.flood.new.levels.items
-    (λ i. ap (λ (old : List (Option ℕ)). level_of old i) items ∙ none_in c.len.result i)
-    c.requires.apart c.in_ok-flood.ensures
+    grind (arith, AreLevels-from_flooded, none_in)

@@ -39,10 +39,7 @@ visiting-preserved c =
           (subst (λ (now : List ℕ). Visited row (k + 1) c.args.without c.args.level c.args.levels.now.items before c.args.queue.now.items now) (sym (ap (λ v. v.items) w.queue-is))
           (Visited-passed row k c.args.without c.args.level c.args.levels.now.items before c.args.queue.now.items c.visiting.queue.items c.visiting.invariant
           (elim w.else-other-without.branch [
-            | else-other-without-via-then-other-without+else-is_none w' ↦
-                λ apart.
-                let found = some_from w'.index.result.now (w'.is_none.ensures ∙ ap not w'.if-is_none.false) in
-                (found.0, sym (get_or_read before other w'.index.result.now held w'.index.ensures None) ∙ found.1)
+            | else-other-without-via-then-other-without+else-is_none w' ↦ grind (arith, some_from, get_or_read)
             | else-other-without-via-else-other-without w' ↦ λ apart. absurd (apart w'.if-other-without.false)
           ])))
     ]

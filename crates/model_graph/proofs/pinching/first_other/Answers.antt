@@ -10,10 +10,7 @@ is_other-requires-clause-within c =
     omega (arith, c.links-other-items.ensures.sound.within c.args.at (get_or row k 0) (row_link c.args.graph.now c.args.at k row c.links-other-items.ensures.value c.others-test.true))
 
 pub returns-then-is_other : goal.returns-then-is_other
-returns-then-is_other c =
-    let row : List ℕ = c.links-other-items.result.now in
-    let reported = c.is_other.ensures.0 c.if-is_other.true in
-    FirstOther-here c.args.graph.now c.args.at c.args.one c.others.other-index row c.args.levels.now c.links-other-items.ensures.sound c.links-other-items.ensures.value c.others-test.true c.requires.link c.requires.levels c.others.invariant reported.0 reported.1 reported.2
+returns-then-is_other c = grind (arith, c.is_other.ensures.0 c.if-is_other.true, FirstOther-here)
 
 pub others-preserved : goal.others-preserved
 others-preserved c = grind (arith, below_more, not_pinch_here, get_or, both_ways)

@@ -1,8 +1,8 @@
-use Rattle.std.proofs.Common.{◌<◌, ◌+◌, ℕ, List, length, get_or, refl, sym, ◌∙◌, arith, below_more}
+use Rattle.std.proofs.Common.{ℕ, List, length, get_or, sym, ◌∙◌, arith, below_more}
 use Rattle.std.proofs.lemmas.Bool.{ltb-true}
 use Rattle.model_graph.specs.Rows.{linked}
 use Rattle.std.proofs.lemmas.Option.{MatchOption-at_some, MatchOption-at_none}
-use Rattle.model_graph.specs.Pinches.{IsPinch, FirstOther}
+use Rattle.model_graph.specs.Pinches.{IsPinch}
 use Rattle.model_graph.proofs.PinchSearch.{FirstHere-here, no_pinch_at, row_link, Simple-from_graph}
 use Rattle.model_graph.specs.Blocks.{block_of, top_of, rank_of}
 use Rattle.model_graph.proofs.BlockWalks.{no_pinch_covered}
@@ -22,12 +22,7 @@ pub first_around-requires-clause-link : goal.first_around-requires-clause-link
 first_around-requires-clause-link c = grind (arith, row_link)
 
 pub returns-in-Some : goal.returns-in-Some
-returns-in-Some c =
-    let row : List ℕ = c.links-one-items.result.now in (
-      refl,
-      FirstHere-here c.args.graph.now c.args.at c.links.one-index c.in-Some.other row c.links-one-items.ensures.sound c.links-one-items.ensures.value c.links-test.true c.links.invariant
-          (MatchOption-at_some ((f : ℕ) → ¬ IsPinch (linked c.args.graph.now) c.args.at (get_or row c.links.one-index 0) f) (FirstOther (linked c.args.graph.now) c.args.at (get_or row c.links.one-index 0)) c.in-Some.other c.in-Some.is c.in_ok-other.ensures),
-    )
+returns-in-Some c = grind (arith, FirstHere-here, MatchOption-at_some, get_or c.links-one-items.result.now c.links.one-index 0)
 
 pub links-preserved-then-on_one_side : goal.links-preserved-then-on_one_side
 links-preserved-then-on_one_side c =
@@ -44,13 +39,9 @@ links-preserved-then-on_one_side c =
           (λ d e. c.requires.earlier c.chosen_link-chosen.result d e w.if-chosen-at.true)
           (w.is_covered-covered.ensures (sym w.covered-is ∙ c.if-covered.true))
           (c.on_one_side.ensures.0 c.if-on_one_side.true)
-      | else-chosen-at w ↦
-          let before : c.chosen_link-chosen.result < c.args.at = ltb-true c.chosen_link-chosen.result c.args.at (sym w.covered-is ∙ c.if-covered.true) in
-          absurd (omega (arith, w.if-chosen-at.false))
+      | else-chosen-at w ↦ grind (arith, ltb-true)
     ] in
-    let all : (k : ℕ) → k < c.links.one-index + 1 → (f : ℕ) → ¬ IsPinch (linked rows) c.args.at (get_or row k 0) f =
-    below_more (λ k. (f : ℕ) → ¬ IsPinch (linked rows) c.args.at (get_or row k 0) f) c.links.one-index (λ k lt f. c.links.invariant k f lt) here in
-    λ k f lt. all k lt f
+    grind (arith, get_or, below_more)
 
 pub links-preserved : goal.links-preserved
 links-preserved c = grind (arith, get_or, below_more, MatchOption-at_none)

@@ -6,7 +6,6 @@ use Rattle.model_graph.specs.Beyond.{Parted}
 use Rattle.model_graph.specs.Walk.{Simple}
 use Rattle.model_graph.specs.Rows.{linked}
 use Rattle.model_graph.specs.Pinches.{IsPinch, FirstPinch}
-use Rattle.model_graph.proofs.Members.{ℕ-can_tell}
 use Rattle.model_graph.proofs.Cycles.{Polygons-from_Parted}
 use Rattle.model_graph.proofs.PinchSearch.{Simple-from_graph, Parted-from_no_pinch}
 use Rattle.model_graph.proofs.Rings.{NamedLoop-written, ring_is_cycle}
@@ -21,10 +20,7 @@ pinched links parted None simple reported apart none = absurd (both_ways parted 
 pinched links parted (Some pinch) simple reported apart first = refl
 
 pub returns-then-parted : goal.returns-then-parted
-returns-then-parted c =
-    let links = linked c.args.graph.now in
-    let simple = Simple-from_graph c.args.graph.now c.in_ok-parted.ensures.sound in
-    Polygons-from_Parted ℕ-can_tell links simple (c.in_ok-parted.ensures.parted.0 c.if-parted.true)
+returns-then-parted c = grind (arith, Simple-from_graph c.args.graph.now c.in_ok-parted.ensures.sound, Polygons-from_Parted, c.in_ok-parted.ensures.parted.0 c.if-parted.true)
 
 pub unwrap-pinch-requires : goal.unwrap-pinch-requires
 unwrap-pinch-requires c =
@@ -36,13 +32,7 @@ pub ring_of-requires-clause-pinch : goal.ring_of-requires-clause-pinch
 ring_of-requires-clause-pinch c = grind (arith, first_of)
 
 pub written-requires-clause-long : goal.written-requires-clause-long
-written-requires-clause-long c =
-    let links = linked c.args.graph.now in
-    let simple = Simple-from_graph c.args.graph.now c.in_ok-parted.ensures.sound in
-    let pinch : Pinch = c.unwrap-pinch.result in
-    let first = first_of links c.in_ok-first_pinch.field-0 pinch c.unwrap-pinch.ensures c.in_ok-first_pinch.ensures.first in
-    let made = c.in_ok-ring.ensures in
-    (ring_is_cycle links pinch.at pinch.one pinch.other made.0 c.deref.result.now simple first.pinch made.2 (c.deref.ensures.value ∙ made.1)).0
+written-requires-clause-long c = grind (arith, Simple-from_graph c.args.graph.now c.in_ok-parted.ensures.sound, first_of, ring_is_cycle)
 
 pub written-requires-clause-different : goal.written-requires-clause-different
 written-requires-clause-different c = grind (arith, Simple-from_graph, first_of, ring_is_cycle)

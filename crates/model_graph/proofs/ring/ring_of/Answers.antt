@@ -1,4 +1,4 @@
-use Rattle.std.proofs.Common.{◌≡◌, ◌≢◌, ◌-◌, ◌<◌, ◌++◌, ◌∷◌, [], ℕ, suc, Option, Some, None, IsSome, List, length, refl, sym, ◌∙◌, ap, subst, arith, inl, inr}
+use Rattle.std.proofs.Common.{◌≡◌, ◌≢◌, ◌-◌, ◌<◌, ℕ, suc, Option, Some, None, IsSome, List, length, refl, sym, ◌∙◌, subst, arith}
 use Rattle.std.proofs.lemmas.List.{get_or_read}
 use Rattle.model_graph.specs.Rows.{linked, IsGraph}
 use Rattle.model_graph.specs.Levels.{level_of, AreLevels}
@@ -15,12 +15,7 @@ other_end rows b a c graph pinch = grind arith
 
 -- the search from the greater link has reached the smaller
 one_has_level : (rows : List (List ℕ)) (b a c : ℕ) (levels : List (Option ℕ)) → IsGraph rows → IsPinch (linked rows) b a c → AreLevels (linked rows) b c levels → (m : ℕ) × (level_of levels a ≡ Some m)
-one_has_level rows b a c levels graph pinch are =
-    let back = Around-sym (linked rows) (Simple-from_graph rows graph) b a c pinch.around in
-    elim (level_cases (level_of levels a)) [
-      | inl none ↦ absurd (level_from_around (linked rows) b c a levels are back none)
-      | inr found ↦ found
-    ]
+one_has_level rows b a c levels graph pinch are = grind (arith, Around-sym (linked rows) (Simple-from_graph rows graph) b a c pinch.around, level_cases (level_of levels a), level_from_around)
 
 pub levels_around-requires-clause-inside : goal.levels_around-requires-clause-inside
 levels_around-requires-clause-inside c = grind (arith, other_end)
@@ -47,11 +42,7 @@ descending-preserved c =
     let seen : c.deref.result.now ≡ levels = c.deref.ensures.value in
     let above : c.descending.level ≡ suc (c.descending.level - 1) = omega arith in
     let smallest : SmallestAt links levels c.descending.member (c.descending.level - 1) next = subst (λ (now : List (Option ℕ)). SmallestAt links now c.descending.member (c.descending.level - 1) next) seen c.smallest_at-member.ensures in (
-      (
-        so_far.0 ++ next ∷ [],
-        c.in_ok-push-3.ensures.items ∙ ap (λ (xs : List ℕ). xs ++ next ∷ []) so_far.1,
-        Descent-push links levels so_far.0 c.args.pinch.one c.descending.member next (c.descending.level - 1) so_far.2 (c.descending.invariant.1 ∙ ap Some above) smallest,
-      ),
+      grind (arith, Descent-push),
       smallest.has_level,
     )
 
@@ -60,8 +51,4 @@ returns c =
     let levels : List (Option ℕ) = c.in_ok-levels.levels.items in
     let so_far = c.descending.invariant.0 in
     let has = one_has_level c.args.graph.now c.args.pinch.at c.args.pinch.one c.args.pinch.other levels c.requires.sound c.requires.pinch c.in_ok-levels.ensures.levels in
-    let lowest : c.descending.level ≡ 0 = omega arith in (
-      so_far.0,
-      so_far.1,
-      FirstWalk-from_descent (linked c.args.graph.now) c.args.pinch.at c.args.pinch.one c.args.pinch.other levels (Simple-from_graph c.args.graph.now c.requires.sound) c.in_ok-levels.ensures.searched so_far.0 c.descending.member has.0 so_far.2 has.1 (c.descending.invariant.1 ∙ ap Some lowest),
-    )
+    let lowest : c.descending.level ≡ 0 = omega arith in grind (arith, FirstWalk-from_descent, Simple-from_graph)

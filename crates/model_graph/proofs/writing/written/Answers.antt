@@ -11,16 +11,7 @@ forth_length : (ring forth : List ℕ) (k : ℕ) → forth ≡ turned k ring →
 forth_length ring forth k is = ap length is ∙ length-turned ring k
 
 pub returns-then-index : goal.returns-then-index
-returns-then-index c =
-    let ring = c.args.ring.now in
-    let forth : List ℕ = c.in_ok-forth.forth.items in
-    let k : ℕ = c.smallest_place-start.result in
-    let same = forth_length ring forth k c.in_ok-forth.ensures in
-    let long = c.requires.long in
-    let one = read_at forth 1 c.index.result.now (omega arith) c.index.ensures in
-    let last = read_at forth (length ring - 1) c.index-2.result.now (omega arith) c.index-2.ensures in
-    let smaller = c.if-index.true in
-    IsWritten-forth ring forth k c.smallest_place-start.ensures.within c.smallest_place-start.ensures.smallest c.in_ok-forth.ensures (omega arith)
+returns-then-index c = grind (arith, forth_length c.args.ring.now c.in_ok-forth.forth.items c.smallest_place-start.result c.in_ok-forth.ensures, read_at, IsWritten-forth)
 
 pub returns : goal.returns
 returns c =
