@@ -7,7 +7,7 @@ ghost use Rattle.base_file.specs.Alone.{IsReadAlone};
 use crate::judging::sound_message;
 use crate::room::MessageRoom;
 use disk_io::{Broken, are_bytes};
-use echo_filed::{Filed, Version, has_tag, read_stored_into};
+use echo_filed::{Filed, Version, has_tag, read_stored};
 use std::alloc::AllocError;
 
 // The cursor of a base file with only a message of this first byte.
@@ -25,7 +25,7 @@ pub fn read_message(room: &mut MessageRoom, bytes: &[u8]) -> Result<Option<Filed
 {
     are_bytes(bytes);
     let mut rest = bytes;
-    let stored = match read_stored_into(room.take_strings(), &mut rest, Version::Second) {
+    let stored = match read_stored(room.take_strings(), &mut rest, Version::Second) {
         Ok(stored) => stored,
         Err(Broken::Memory) => return Err(AllocError),
         Err(_) => return Ok(None),
@@ -37,6 +37,6 @@ pub fn read_message(room: &mut MessageRoom, bytes: &[u8]) -> Result<Option<Filed
     let Some((message, last)) = sound_message(room, Version::Second, cursor, 0, stored)? else {
         return Ok(None);
     };
-    room.strings.last = last.into_vec();
+    room.put_bytes(last.into_vec());
     Ok(Some(message))
 }

@@ -14,7 +14,7 @@ ghost use Rattle.base_file.specs.Loading.{IsShortOnceScanned, Judges, UnlessWron
 
 use crate::room::MessageRoom;
 use echo_addr::{Address, Items};
-use echo_filed::{Filed, Key, StoredMessage, Version, has_tag, is_short, lines_of_id_into};
+use echo_filed::{Filed, Key, StoredMessage, Version, has_tag, is_short, lines_of_id};
 use echo_packet::{MAX_NAME, MAX_SUBJECT};
 use echo_text::{Echo, TextFault, is_kept_tag, read_text_into, trimmed, write_text_into};
 use std::alloc::AllocError;
@@ -72,13 +72,16 @@ fn has_line_bytes(bytes: &[u8]) -> bool
     bytes.iter().all(|b| *b != 0 && *b != 13)
 }
 
-// Whether the text is the one that is written for the echo, which is written into a vector.
-fn is_written(written: &mut Vec<u8>, echo: &Echo, text: &[u8]) -> Result<bool, AllocError>
+// Whether the text is the one that is written for the echo.
+fn is_written(room: &mut MessageRoom, echo: &Echo, text: &[u8]) -> Result<bool, AllocError>
     requires { IsEcho echo.now }
     ensures { IfOk result (λ same. same ≡ bytes_eq (text_of echo.now) text.now) }
 {
-    write_text_into(written, echo)?;
-    Ok(written.as_slice() == text)
+    let mut written = room.take_bytes();
+    write_text_into(&mut written, echo)?;
+    let same = written.as_slice() == text;
+    room.put_bytes(written);
+    Ok(same)
 }
 
 // The echo of the text, unless it is written in another way.
@@ -93,7 +96,7 @@ fn echo_of(room: &mut MessageRoom, text: &[u8]) -> Result<Option<Echo>, AllocErr
         Err(TextFault::Memory) => return Err(AllocError),
         Err(_) => return Ok(None),
     };
-    if !is_written(&mut room.written, &echo, text)? {
+    if !is_written(room, &echo, text)? {
         return Ok(None);
     }
     Ok(Some(echo))
@@ -109,8 +112,8 @@ fn bare(room: &mut MessageRoom, tag: Items<u8>, id: &[u8]) -> Result<Option<Echo
     let mut parts = room.take_echo();
     parts.seen.clear();
     parts.path.clear();
-    room.strings.tag = parts.tag;
-    let kept = lines_of_id_into(parts.kept, id)?;
+    room.put_bytes(parts.tag);
+    let kept = lines_of_id(parts.kept, id)?;
     Ok(Some(Echo {
         tag,
         kept,
@@ -131,7 +134,7 @@ fn echo_in(
     if with_tag {
         bare(room, tag, last)
     } else {
-        room.strings.tag = tag.into_vec();
+        room.put_bytes(tag.into_vec());
         echo_of(room, last)
     }
 }
@@ -222,7 +225,7 @@ fn key_of(
 {
     let alloc = room.alloc();
     if !with_tag {
-        room.strings.last = last.into_vec();
+        room.put_bytes(last.into_vec());
         return Key::of_message(alloc, message);
     }
     let tag = Vec::from_slice(alloc, message.echo.tag.as_slice())?;

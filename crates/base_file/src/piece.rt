@@ -8,7 +8,7 @@ use crate::fault::BaseFault;
 use crate::judging::judged;
 use crate::room::MessageRoom;
 use disk_io::{Broken, are_bytes};
-use echo_filed::{Key, StoredMessage, is_short, read_stored_into};
+use echo_filed::{Key, StoredMessage, is_short, read_stored};
 use std::alloc::AllocError;
 
 /// The front of a piece of a base file.
@@ -95,7 +95,7 @@ pub fn judge_next(
     ensures { IfOk result (IsNext head.version head.cursor place bytes.now) }
 {
     let mut rest = bytes;
-    match read_stored_into(room.take_strings(), &mut rest, head.version) {
+    match read_stored(room.take_strings(), &mut rest, head.version) {
         Ok(stored) => judge_one(room, head, place, stored, bytes.len() - rest.len()),
         Err(Broken::Memory) => Err(AllocError),
         Err(_) => Ok(Next::Cut),

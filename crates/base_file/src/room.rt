@@ -1,51 +1,83 @@
 //! Vectors that one message after another is read into.
+use echo_addr::NetNode;
 use echo_filed::{Filed, StoredRoom};
 use echo_text::EchoRoom;
 use std::alloc::Global;
-use std::mem;
 
-/// Vectors for one message. They may hold anything.
+/// Vectors of messages that are needed no more. They may hold anything.
 #[derive(Drop)]
 pub struct MessageRoom {
-    pub(crate) strings: StoredRoom,
-    pub(crate) echo: EchoRoom,
-    // For the text as it is written.
-    pub(crate) written: Vec<u8>,
+    bytes: Vec<Vec<u8>>,
+    entries: Vec<Vec<NetNode>>,
 }
 
 impl MessageRoom {
-    /// Empty vectors. Takes no memory.
+    /// No vectors. Takes no memory.
     pub fn new(alloc: Global) -> MessageRoom {
         MessageRoom {
-            strings: StoredRoom::new(alloc),
-            echo: EchoRoom::new(alloc),
-            written: Vec::new(alloc),
+            bytes: Vec::new(alloc),
+            entries: Vec::new(alloc),
         }
     }
 
-    /// Takes the vectors of a message that is needed no more, if there is one.
+    /// Takes the vectors of a message, if there is one. If memory is refused, some are lost.
     pub fn take_back(&mut self, message: Option<Filed>) {
         if let Some(message) = message {
-            self.strings.to_name = message.to_name.into_vec();
-            self.strings.from_name = message.from_name.into_vec();
-            self.strings.subject = message.subject.into_vec();
-            self.echo = message.echo.into_room();
+            let echo = message.echo.into_room();
+            self.put_entries(echo.path);
+            self.put_entries(echo.seen);
+            self.put_bytes(echo.kept);
+            self.put_bytes(echo.tag);
+            // The last one put is the first one taken, so a name often goes where a name was.
+            self.put_bytes(message.subject.into_vec());
+            self.put_bytes(message.from_name.into_vec());
+            self.put_bytes(message.to_name.into_vec());
         }
     }
 
     pub(crate) fn alloc(&self) -> Global {
-        *self.written.allocator()
+        *self.bytes.allocator()
     }
 
-    // Takes out the vectors for strings.
+    pub(crate) fn put_bytes(&mut self, bytes: Vec<u8>) {
+        let _put = self.bytes.push(bytes);
+    }
+
+    fn put_entries(&mut self, entries: Vec<NetNode>) {
+        let _put = self.entries.push(entries);
+    }
+
+    /// A vector that may hold anything.
+    pub(crate) fn take_bytes(&mut self) -> Vec<u8> {
+        match self.bytes.pop() {
+            Some(bytes) => bytes,
+            None => Vec::new(self.alloc()),
+        }
+    }
+
+    fn take_entries(&mut self) -> Vec<NetNode> {
+        match self.entries.pop() {
+            Some(entries) => entries,
+            None => Vec::new(self.alloc()),
+        }
+    }
+
     pub(crate) fn take_strings(&mut self) -> StoredRoom {
-        let none = StoredRoom::new(self.alloc());
-        mem::replace(&mut self.strings, none)
+        StoredRoom {
+            to_name: self.take_bytes(),
+            from_name: self.take_bytes(),
+            subject: self.take_bytes(),
+            tag: self.take_bytes(),
+            last: self.take_bytes(),
+        }
     }
 
-    // Takes out the vectors for an echo.
     pub(crate) fn take_echo(&mut self) -> EchoRoom {
-        let none = EchoRoom::new(self.alloc());
-        mem::replace(&mut self.echo, none)
+        EchoRoom {
+            tag: self.take_bytes(),
+            kept: self.take_bytes(),
+            seen: self.take_entries(),
+            path: self.take_entries(),
+        }
     }
 }

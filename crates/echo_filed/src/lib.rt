@@ -26,5 +26,5 @@ pub use key::{Key, by_id};
 pub use laws::{key_law, set_law, stub_laws, text_laws};
 pub use numbers::long_bytes;
 pub use sending::{Unsent, is_short, is_short_enough, send_message};
-pub use stored::{StoredMessage, StoredRoom, Version, has_tag, read_stored, read_stored_into};
-pub use stub::{is_stub, leave, lines_of_id, lines_of_id_into, stub_lines};
+pub use stored::{StoredMessage, StoredRoom, Version, has_tag, read_stored};
+pub use stub::{is_stub, leave, lines_of_id, stub_lines};

@@ -7,7 +7,6 @@ ghost use Rattle.echo_filed.specs.Fields.{Reads};
 use crate::field::{read_address, read_byte, read_date, read_last, read_short};
 use disk_io::{Broken, Source};
 use echo_addr::{Address, Items};
-use std::alloc::Global;
 use std::marker::Model;
 
 /// The two layouts of a base file. Both are read, the second is written.
@@ -59,19 +58,6 @@ pub struct StoredRoom {
     pub last: Vec<u8>,
 }
 
-impl StoredRoom {
-    /// Empty vectors. Takes no memory.
-    pub fn new(alloc: Global) -> StoredRoom {
-        StoredRoom {
-            to_name: Vec::new(alloc),
-            from_name: Vec::new(alloc),
-            subject: Vec::new(alloc),
-            tag: Vec::new(alloc),
-            last: Vec::new(alloc),
-        }
-    }
-}
-
 /// Whether messages of this first byte have tag and id instead of the text.
 pub fn has_tag(version: Version, kind: u8) -> bool
     ensures { result ≡ has_tag version kind }
@@ -82,20 +68,8 @@ pub fn has_tag(version: Version, kind: u8) -> bool
     }
 }
 
-/// The next message.
-pub fn read_stored<R: Source>(
-    alloc: Global,
-    reader: &mut R,
-    version: Version,
-) -> Result<StoredMessage, Broken>
-    ensures read { Reads (IsStored version) (stored_bytes version) (R.remaining reader.old) (R.remaining reader.new) result }
-    ensures device { CountsBreak result (R.failures reader.old) (R.failures reader.new) }
-{
-    read_stored_into(StoredRoom::new(alloc), reader, version)
-}
-
 /// The next message, with its strings in the vectors of the room. Their content makes no difference.
-pub fn read_stored_into<R: Source>(
+pub fn read_stored<R: Source>(
     room: StoredRoom,
     reader: &mut R,
     version: Version,

@@ -55,16 +55,8 @@ pub fn is_stub(message: &Filed) -> bool
     }
 }
 
-/// The one line that carries the id.
-pub fn lines_of_id(alloc: Global, id: &[u8]) -> Result<Lines, AllocError>
-    requires { IsLine (id_line msgid_word id.now) }
-    ensures { IfOk result (λ lines. lines ≡ id_line msgid_word id.now ∷ []) }
-{
-    lines_of_id_into(Vec::new(alloc), id)
-}
-
-/// The same in a vector, which may hold anything.
-pub fn lines_of_id_into(mut text: Vec<u8>, id: &[u8]) -> Result<Lines, AllocError>
+/// The one line that carries the id, in a vector, which may hold anything.
+pub fn lines_of_id(mut text: Vec<u8>, id: &[u8]) -> Result<Lines, AllocError>
     requires { IsLine (id_line msgid_word id.now) }
     ensures { IfOk result (λ lines. lines ≡ id_line msgid_word id.now ∷ []) }
 {
@@ -80,7 +72,7 @@ pub fn stub_lines(alloc: Global, message: &Filed) -> Result<Lines, AllocError>
     requires { is_stub message.now ≡ false }
     ensures { IfOk result (λ lines. lines ≡ (stub_of message.now).echo.kept) }
 {
-    lines_of_id(alloc, message.echo.msgid().unwrap_or(&[]))
+    lines_of_id(Vec::new(alloc), message.echo.msgid().unwrap_or(&[]))
 }
 
 /// Leaves of a message these lines alone, those that a purge leaves.

@@ -10,7 +10,7 @@ use crate::fault::BaseFault;
 use crate::judging::judged;
 use crate::room::MessageRoom;
 use disk_io::{Broken, Source, fill};
-use echo_filed::{Version, read_long, read_stored_into};
+use echo_filed::{Version, read_long, read_stored};
 use std::alloc::Global;
 use std::hash::BuildHasher;
 
@@ -103,7 +103,7 @@ fn take_message<R: Source, S: BuildHasher>(
     ensures device { CountsLoad result (R.failures reader.old) (R.failures reader.new) }
 {
     let place = base.len();
-    let stored = match read_stored_into(room.take_strings(), reader, version) {
+    let stored = match read_stored(room.take_strings(), reader, version) {
         Ok(stored) => stored,
         Err(broken) => return Err(broken_fault(broken, place as u64)),
     };

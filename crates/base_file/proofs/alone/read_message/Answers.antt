@@ -18,7 +18,7 @@ returns-in-Err c = let stops : StopsIn Second c.args.bytes.now = search rules in
 pub returns-then-not-is_empty : goal.returns-then-not-is_empty
 returns-then-not-is_empty c =
     let read = c.in-Ok.ensures.read in
-    let rest = c.read_stored_into.new.reader.now in
+    let rest = c.read_stored.new.reader.now in
     let some : 0 < length rest = grind (arith, c.is_empty.ensures, c.if-not-is_empty.true) in
     none_longer c.in-Ok.stored c.args.bytes.now rest read.0 read.1 some
 
@@ -27,7 +27,7 @@ returns-in_default c =
     let read = c.in-Ok.ensures.read in
     let s = c.in-Ok.stored in
     let cursor : c.cursor_alone-cursor.result ≡ cursor_alone s = c.cursor_alone-cursor.ensures ∙ ap (λ (x : Stored). cursor_alone x) c.stored.view_is in
-    none_wrong s c.args.bytes.now c.cursor_alone-cursor.result read.0 (whole c.args.bytes.now (stored_bytes Second s) c.read_stored_into.new.reader.now c.is_empty.result read.1 c.is_empty.ensures c.if-not-is_empty.false) cursor
+    none_wrong s c.args.bytes.now c.cursor_alone-cursor.result read.0 (whole c.args.bytes.now (stored_bytes Second s) c.read_stored.new.reader.now c.is_empty.result read.1 c.is_empty.ensures c.if-not-is_empty.false) cursor
     (rw c.in_default.is at c.in_ok-message.ensures)
 
 pub returns : goal.returns
@@ -36,5 +36,5 @@ returns c =
     let s = c.in-Ok.stored in
     let cursor : c.cursor_alone-cursor.result ≡ cursor_alone s = c.cursor_alone-cursor.ensures ∙ ap (λ (x : Stored). cursor_alone x) c.stored.view_is in
     let found = rw c.in-Some.is at c.in_ok-message.ensures in
-    read_alone s c.in-Some.message c.args.bytes.now c.cursor_alone-cursor.result read.0 (whole c.args.bytes.now (stored_bytes Second s) c.read_stored_into.new.reader.now c.is_empty.result read.1 c.is_empty.ensures c.if-not-is_empty.false) cursor found.0
+    read_alone s c.in-Some.message c.args.bytes.now c.cursor_alone-cursor.result read.0 (whole c.args.bytes.now (stored_bytes Second s) c.read_stored.new.reader.now c.is_empty.result read.1 c.is_empty.ensures c.if-not-is_empty.false) cursor found.0
     (ap (λ p. p.0) found.1)

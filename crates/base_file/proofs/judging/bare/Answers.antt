@@ -12,8 +12,8 @@ invariant_of-result c =
     bare_made c.args.tag c.args.id.now c.in_ok-kept.kept c.new.result c.new-2.result right (sym c.is_wrong_id.ensures ∙ c.if-is_wrong_id.false)
     c.in_ok-kept.ensures (c.new.ensures ∙ c.clear.ensures.items) (c.new-2.ensures ∙ c.clear-2.ensures.items)
 
-pub lines_of_id_into-requires : goal.lines_of_id_into-requires
-lines_of_id_into-requires c =
+pub lines_of_id-requires : goal.lines_of_id-requires
+lines_of_id-requires c =
     let right : is_tag c.args.tag ≡ true = ap is_tag (sym c.as_slice.ensures) ∙ sym c.is_kept_tag.ensures ∙ c.if-not-is_kept_tag.false in
     let line = id_line msgid_word c.args.id.now in
     let made = bare_made c.args.tag c.args.id.now (line ∷ []) [] [] right (sym c.is_wrong_id.ensures ∙ c.if-is_wrong_id.false) refl refl refl in

@@ -8,6 +8,6 @@ use Rattle.base_file.proofs.judging.is_written.Goals as goal
 pub returns : goal.returns
 returns c =
     let e = c.args.echo.now in
-    c.eq.ensures
+    c.eq-same.ensures
     ∙ ap (λ l. bytes_eq l c.args.text.now)
     (c.as_slice.ensures.value ∙ one_text e c.write_text_into.new.text.items (text_of e) c.in_ok-write_text_into.ensures (text_is_text e c.requires))

@@ -4,7 +4,7 @@ use Rattle.echo_filed.proofs.Layouts.{byte_field, fixed_field}
 use Rattle.echo_filed.proofs.StoredFields.{address_field, from_date, from_first, from_second, from_sender, from_subject, last_field, short_field}
 use Rattle.echo_filed.proofs.StoredTaken.{last_breaks, last_had, stored_breaks, stored_had}
 use Rattle.echo_filed.proofs.Taken.{breaks_first, breaks_second, reads_both}
-use Rattle.echo_filed.proofs.stored.read_stored_into.Goals as goal
+use Rattle.echo_filed.proofs.stored.read_stored.Goals as goal
 
 pub returns-in_err-kind-clause-read : goal.returns-in_err-kind-clause-read
 returns-in_err-kind-clause-read g c =

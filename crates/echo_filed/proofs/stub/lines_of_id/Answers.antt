@@ -1,6 +1,6 @@
 use Rattle.echo_filed.proofs.LinesOfIds.{id_text}
 use Rattle.std.proofs.Common.{◌∙◌, arith}
-use Rattle.echo_filed.proofs.stub.lines_of_id_into.Goals as goal
+use Rattle.echo_filed.proofs.stub.lines_of_id.Goals as goal
 
 pub of_text-requires : goal.of_text-requires
 of_text-requires c =
