@@ -30,11 +30,7 @@ one_more_new earlier (b ∷ base) m h new =
 
 -- one more message at the end of a base
 pub one_more : (base : List Filed) (cursor : ℕ) (m : Filed) → IsBase base cursor → IsFiled m → is_known base (key_of m) ≡ false → IsBase (base ++ m ∷ []) cursor
-one_more base cursor m h filed new = record {
-  each = all_append IsFiled base (m ∷ []) h.each (filed, tt);
-  new = one_more_new [] base m h.new new;
-  within = let within = h.within in omega (arith, length-append base (m ∷ []));
-}
+one_more base cursor m h filed new = grind (arith, all_append, one_more_new, length-append)
 
 -- a message with another id has another key
 other_key : (b : Filed) (tag id : List ℕ) (has : Option (List ℕ)) → unwrap_or (option_map (bytes_eq id) has) false ≡ false → same_key (key_with b has) (ById tag id) ≡ false
@@ -53,10 +49,7 @@ none_known (b ∷ base) tag id h =
 
 -- a message that is known by an id has it
 pub known_by_id : (base : List Filed) (tag id : List ℕ) → is_known base (ById tag id) ≡ true → list_any (has_id id) base ≡ true
-known_by_id base tag id h = elim (cases_Bool (list_any (has_id id) base)) [
-  | inl has ↦ has
-  | inr none ↦ absurd (true≢false (sym h ∙ none_known base tag id none))
-]
+known_by_id base tag id h = grind (arith, cases_Bool, true≢false, none_known)
 
 -- a message with the id has the key of its tag and the id
 own_key : (m : Filed) (id : List ℕ) (has : Option (List ℕ)) → unwrap_or (option_map (bytes_eq id) has) false ≡ true → same_key (key_with m has) (ById m.echo.tag id) ≡ true
@@ -92,10 +85,7 @@ no_such_id id tags (m ∷ base) h none =
 
 -- the comparison of a look-up, which has the asked key first
 turned : (k l : Key) → derived k l ≡ same_key l k
-turned k l = derived_is_same k l ∙ elim (cases_Bool (same_key l k)) [
-  | inl same ↦ (same_key_decides k l).1 (sym ((same_key_decides l k).0 same)) ∙ sym same
-  | inr other ↦ false_from_ne_true (same_key k l) (λ e. true≢false (sym ((same_key_decides l k).1 (sym ((same_key_decides k l).0 e))) ∙ other)) ∙ sym other
-]
+turned k l = grind (arith, derived_is_same, cases_Bool, same_key_decides, false_from_ne_true, true≢false)
 
 first_same : {X : Type 0} (x y : X) (xs ys : List X) → x ∷ xs ≡ y ∷ ys → (x ≡ y) × (xs ≡ ys)
 first_same x y xs ys h = (cc, cc)
@@ -126,12 +116,7 @@ more_tags tags tags' more (m ∷ base) h = (more m.echo.tag h.0, more_tags tags 
 -- entries after the list of tags grew
 pub still_entries : (entries : List (Key × Filed)) (tags tags' : List (List ℕ)) (cursor purged : ℕ)
     → ((t : List ℕ) → list_any (bytes_eq t) tags ≡ true → list_any (bytes_eq t) tags' ≡ true) → AreEntries entries tags cursor purged → AreEntries entries tags' cursor purged
-still_entries entries tags tags' cursor purged more h = record {
-  is_base = h.is_base;
-  own_keys = h.own_keys;
-  own_tags = more_tags tags tags' more (values_of entries) h.own_tags;
-  front = h.front;
-}
+still_entries entries tags tags' cursor purged more h = grind (arith, more_tags)
 
 pub values_more : (entries : List (Key × Filed)) (key : Key) (m : Filed) → values_of (entries ++ (key, m) ∷ []) ≡ values_of entries ++ m ∷ []
 values_more entries key m = map-append (λ (e : Key × Filed). e.1) entries ((key, m) ∷ [])

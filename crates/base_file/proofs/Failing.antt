@@ -1,5 +1,5 @@
 -- Why a call did not load a base, by the bytes that it consumed.
-use Rattle.std.proofs.Common.{◌≡◌, false, ℕ, ◌^◌, ◌<◌, ◌≤◌, List, [], ◌∷◌, ◌++◌, length, map, take, refl, sym, ap, subst, ◌∙◌, Option, Some, None, Result, Ok, Err, arith, inl, inr, true}
+use Rattle.std.proofs.Common.{◌≡◌, false, ℕ, ◌^◌, ◌<◌, ◌≤◌, List, [], ◌∷◌, ◌++◌, length, map, take, refl, sym, ap, subst, ◌∙◌, Option, Some, None, Result, Ok, Err, arith, inl, inr}
 use Rattle.std.specs.Prelude.{IfErr, IfOk, IfSome}
 use Rattle.std.specs.Io.KnownBytes.{Consumes}
 use Rattle.std.specs.List.{AllByRecursion, flat_map}
@@ -88,13 +88,7 @@ taken_more version cursor messages messages' a b c so next =
 behind_head : (version : Version) (cursor number : ℕ) (messages : List Filed) (a b c : Option (List ℕ)) → number < 2 ^ 32 → cursor ≤ number
     → (so : HasTaken version cursor messages b c) → (rest bytes : List ℕ) → bytes ≡ (head_bytes version cursor number ++ flat_map (stored_bytes version) so.all) ++ rest
     → Begins version cursor number so.all rest bytes
-behind_head version cursor number messages a b c fits within so rest bytes whole = record {
-  number_fits = fits;
-  cursor_within = within;
-  sizes = so.sizes;
-  sound = so.sound;
-  whole = whole ∙ append_assoc (head_bytes version cursor number) (flat_map (stored_bytes version) so.all) rest;
-}
+behind_head version cursor number messages a b c fits within so rest bytes whole = grind (arith, append_assoc)
 
 message_cut : (version : Version) (cursor number n : ℕ) (messages : List Filed) (b c : Option (List ℕ)) → number < 2 ^ 32 → cursor ≤ number → n < number → n ≡ length messages
     → (so : HasTaken version cursor messages b c) → (consumed : List ℕ) → StopsIn version consumed
@@ -119,32 +113,7 @@ message_cut version cursor number n messages b c fits within more many so consum
 message_damaged : (version : Version) (cursor number n : ℕ) (messages : List Filed) (a b c d : Option (List ℕ)) → number < 2 ^ 32 → cursor ≤ number → n < number → n ≡ length messages
     → Consumes a b (head_bytes version cursor number) → (so : HasTaken version cursor messages b c) → TakesDamaged version cursor messages c d
     → IfSome a (λ bytes. IsDamagedAt n bytes)
-message_damaged version cursor number n messages a b c d fits within more many head so bad =
-    by a d (Consumes-trans a c d (head_bytes version cursor number ++ stored) (stored_bytes version bad.next)
-    (Consumes-trans a b c (head_bytes version cursor number) stored head so.took) bad.took)
-  where
-    stored : List ℕ
-    stored = flat_map (stored_bytes version) so.all
-
-    by : (x y : Option (List ℕ)) → Consumes x y ((head_bytes version cursor number ++ stored) ++ stored_bytes version bad.next) → IfSome x (λ bytes. IsDamagedAt n bytes)
-    by None y took = tt
-    by (Some bytes) None took = absurd took
-    by (Some bytes) (Some rest) took =
-        let P : List Filed → Type 0 = λ l. is_damaged version cursor l bad.next ≡ true in
-        record {
-          version = version;
-          cursor = cursor;
-          number = number;
-          all = so.all;
-          next = bad.next;
-          rest = rest;
-          begins = behind_head version cursor number messages None b c fits within so (stored_bytes version bad.next ++ rest) bytes
-              (took ∙ append_assoc (head_bytes version cursor number ++ stored) (stored_bytes version bad.next) rest);
-          many = sym (many ∙ ap length so.said ∙ length-map so.all (message_in version));
-          one_more = more;
-          size = bad.size;
-          damaged = subst P so.said bad.damaged;
-        }
+message_damaged version cursor number n messages a b c d fits within more many head so bad = grind (arith, Consumes-trans, behind_head, append_assoc, length-map)
 
 -- a message behind sound ones was not taken
 pub message_fails : (version : Version) (cursor number : ℕ) (messages messages' : List Filed) (a b c d : Option (List ℕ)) (answered : BaseFault) → number < 2 ^ 32 → cursor ≤ number
@@ -169,25 +138,7 @@ message_fails version cursor number messages messages' a b c d fault.TooMany fit
 
 -- head and all messages are a base
 pub base_taken : (head : Head) (base : Base) (a b c : Option (List ℕ)) → TakesHead head a b → TakesAll head base b c → TakesBase base.messages head.cursor a c
-base_taken head base a b c first rest =
-    let version = head.version in
-    let stored = flat_map (stored_bytes version) rest.all in
-    let many = rest.many in (
-      head_bytes version head.cursor head.number ++ stored,
-      Consumes-trans a b c (head_bytes version head.cursor head.number) stored first.took rest.took,
-      record {
-        version = version;
-        all = rest.all;
-        begins = record {
-          number_fits = let fits = first.number_fits in omega arith;
-          cursor_within = let within = first.cursor_within in omega arith;
-          sizes = rest.sizes;
-          sound = rest.sound;
-          whole = λ i. head_bytes version head.cursor (sym many i) ++ sym (append-nil stored) i;
-        };
-        messages = rest.messages;
-      },
-    )
+base_taken head base a b c first rest = grind (arith, Consumes-trans, append-nil)
 
 -- an answer that describes the bytes is the only one
 pub only_answer : (old new : Option (List ℕ)) (r : Result Base BaseFault) (other : Result Loaded BaseFault)

@@ -1,11 +1,11 @@
 -- A base file gives a base.
-use Rattle.std.proofs.Common.{◌≡◌, ◌≢◌, ℕ, ◌^◌, ◌<◌, ◌≤◌, ◌==◌, ◌||◌, not, nat_lt, Bool, true, false, cond, List, [], ◌∷◌, ◌++◌, length, map, refl, sym, subst, Option, Some, None, arith}
+use Rattle.std.proofs.Common.{◌≡◌, ◌≢◌, ℕ, ◌^◌, ◌<◌, ◌≤◌, ◌==◌, ◌||◌, not, nat_lt, Bool, true, false, cond, List, [], ◌∷◌, ◌++◌, length, map, refl, Option, Some, None, arith}
 use Rattle.std.specs.Prelude.{bytes_eq, is_none}
 use Rattle.std.specs.List.{AllByRecursion, list_all, list_any}
 use Rattle.std.proofs.lemmas.Bool.{ltb-false, not-false, or_parts}
 use Rattle.std.proofs.lemmas.List.{length-map}
 use Rattle.std.proofs.lemmas.List.Elements.{All-from_recursion}
-use Rattle.echo_packet.specs.Message.{HasNoZero, max_name, max_subject}
+use Rattle.echo_packet.specs.Message.{HasNoZero}
 use Rattle.echo_text.specs.Lines.{is_tag, trimmed}
 use Rattle.echo_text.specs.Echo.{EchoText, IsEcho}
 use Rattle.echo_text.specs.Ids.{is_line_byte, is_zero}
@@ -15,7 +15,7 @@ use Rattle.echo_filed.specs.Written.{echo_of, text_of}
 use Rattle.echo_filed.specs.Filed.{Filed, HasSmallSender, IsFiled, key_of}
 use Rattle.echo_filed.specs.Stubs.{bare}
 use Rattle.echo_filed.specs.declared.stored.Version.{Version}
-use Rattle.echo_filed.specs.Stored.{IsStored, Stored, echo_in, has_tag, is_posted, message_in, sender_in}
+use Rattle.echo_filed.specs.Stored.{IsStored, Stored, echo_in, has_tag, message_in, sender_in}
 use Rattle.echo_filed.proofs.Plain.{no_zero, plain_if, some_bytes}
 use Rattle.echo_filed.proofs.Stubs.{bare_echo}
 use Rattle.echo_filed.proofs.Texts.{says_read}
@@ -61,23 +61,7 @@ right_last false s h = right_text s.last h
 -- a message with right strings and this text
 pub filed_with : (version : Version) (s : Stored) (echo : EchoText) → IsStored version s → has_wrong_string s ≡ false → IsEcho echo
     → IsFiled (record { sender = sender_in s; date = s.date; to_name = s.to_name; from_name = s.from_name; subject = s.subject; echo = echo })
-filed_with version s echo size h is =
-    let q1 = or_parts (is_no_string max_name s.to_name) _ h in
-    let q2 = or_parts (is_no_string max_name s.from_name) (is_no_string max_subject s.subject) q1.1 in
-    let to = right_string max_name s.to_name q1.0 in
-    let from = right_string max_name s.from_name q2.0 in
-    let subject = right_string max_subject s.subject q2.1 in
-    record {
-      small_sender = small_of (is_posted s.kind) s size.zone size.net size.node;
-      date_len = size.date_len;
-      to_room = to.room;
-      to_bytes = to.bytes;
-      from_room = from.room;
-      from_bytes = from.bytes;
-      subject_room = subject.room;
-      subject_bytes = subject.bytes;
-      is_echo = is;
-    }
+filed_with version s echo size h is = grind (arith, or_parts, right_string, small_of)
 
 -- a stored message that is not damaged, as a message of a base
 pub record IsSound (earlier : List Filed) (m : Filed) : Type 0 where
@@ -101,15 +85,7 @@ stored_sound version cursor earlier s size h =
 pub all_filed : (version : Version) (cursor : ℕ) (earlier : List Filed) (all : List Stored) → AllByRecursion (IsStored version) all → AreSound version cursor earlier all
     → AllByRecursion IsFiled (map (message_in version) all) × AreNew earlier (map (message_in version) all)
 all_filed version cursor earlier [] sizes sound = (tt, tt)
-all_filed version cursor earlier (s ∷ later) sizes sound =
-    let one = stored_sound version cursor earlier s sizes.0 sound.0 in
-    let more = all_filed version cursor (earlier ++ message_in version s ∷ []) later sizes.1 sound.1 in
-    ((one.filed, more.0), (one.new, more.1))
+all_filed version cursor earlier (s ∷ later) sizes sound = grind (arith, stored_sound, all_filed version cursor (earlier ++ message_in version s ∷ []) later sizes.1 sound.1)
 
 pub loaded_is_base : (base : List Filed) (cursor : ℕ) (bytes : List ℕ) → BaseOf base cursor bytes → IsBase base cursor
-loaded_is_base base cursor bytes h =
-    let both = all_filed h.version cursor [] h.all h.begins.sizes h.begins.sound in
-    let within = h.begins.cursor_within in
-    let P : List Filed → Type 0 = λ l. IsBase l cursor in
-    subst P (sym h.messages)
-    (record { each = both.0; new = both.1; within = omega (arith, length-map h.all (message_in h.version)) })
+loaded_is_base base cursor bytes h = grind (arith, all_filed, length-map)

@@ -1,6 +1,6 @@
 -- Bytes are a base or have a fault, and only one of these.
-use Rattle.std.proofs.Common.{◌≡◌, ℕ, zero, suc, ◌+◌, ◌-◌, ◌*◌, ◌^◌, ◌<◌, ◌≤◌, nat_lt, Bool, true, false, cond, List, [], ◌∷◌, ◌++◌, length, map, take, drop, refl, sym, ap, subst, ◌∙◌, Option, Some, None, Result, Ok, Err, arith, inl, inr}
-use Rattle.std.specs.Prelude.{nat_eq, ◌||◌}
+use Rattle.std.proofs.Common.{◌≡◌, ℕ, zero, suc, ◌+◌, ◌-◌, ◌^◌, ◌<◌, ◌≤◌, nat_lt, Bool, true, false, cond, List, [], ◌∷◌, ◌++◌, length, map, take, drop, refl, sym, ap, subst, ◌∙◌, Option, Some, None, Result, Ok, Err, arith, inl, inr}
+use Rattle.std.specs.Prelude.{nat_eq}
 use Rattle.std.specs.Cmp.Lexicographic.{bytes_decides}
 use Rattle.std.specs.List.{AllByRecursion, flat_map, starts_with}
 use Rattle.std.proofs.lemmas.Bool.{cases_Bool, cond-false, cond-true, le-ltb, lt-ltb, ltb-false, ltb-true}
@@ -60,10 +60,7 @@ sound_front : (version : Version) (cursor : ℕ) (earlier : List Filed) (all : L
     → messages_in version cursor earlier (length all + more) (flat_map (stored_bytes version) all ++ rest)
     ≡ messages_in version cursor (earlier ++ map (message_in version) all) more rest
 unfolding messages_in judged
-sound_front version cursor earlier [] more rest sizes sound =
-    let none : length {A = Stored} [] + more ≡ more = omega arith in
-    let same = sym (append-nil earlier) in
-    λ i. messages_in version cursor (same i) (none i) rest
+sound_front version cursor earlier [] more rest sizes sound = grind (arith, append-nil, messages_in)
 sound_front version cursor earlier (s ∷ later) more rest sizes sound =
     let count : length (s ∷ later) + more ≡ suc (length later + more) = omega arith in
     let bytes : flat_map (stored_bytes version) (s ∷ later) ++ rest ≡ stored_bytes version s ++ (flat_map (stored_bytes version) later ++ rest) =
@@ -87,22 +84,7 @@ record HeadRecords (version : Version) (cursor number : ℕ) (rest bytes : List 
 
 head_tells : (version : Version) (cursor number : ℕ) (rest : List ℕ) → HeadRecords version cursor number rest (head_bytes version cursor number ++ rest)
 unfolding head_bytes version_of
-head_tells First cursor number rest = record {
-  front = refl;
-  room = omega arith;
-  which = refl;
-  cursor_at = long_value cursor;
-  number_at = long_value number;
-  behind = refl;
-}
-head_tells Second cursor number rest = record {
-  front = refl;
-  room = omega arith;
-  which = refl;
-  cursor_at = long_value cursor;
-  number_at = long_value number;
-  behind = refl;
-}
+head_tells h1 cursor number rest = grind (arith, long_value)
 
 -- the outcome of the bytes after their head
 behind_head : (version : Version) (cursor number : ℕ) (rest bytes : List ℕ) → cursor ≤ number → bytes ≡ head_bytes version cursor number ++ rest
@@ -219,11 +201,7 @@ wrong_cursor bytes h room past =
     ∙ cond-true (nat_lt (long_at 12 bytes) (long_at 8 bytes)) (Err fault.NotBase) _ (lt-ltb (long_at 12 bytes) (long_at 8 bytes) past)
 
 no_base_is : (bytes : List ℕ) → IsNoBase bytes → Err fault.NotBase ≡ load_outcome bytes
-no_base_is bytes (inl h) = sym (no_front bytes h)
-no_base_is bytes (inr h) = elim (cases_Bool (is_front bytes)) [
-  | inl front ↦ sym (wrong_cursor bytes front h.0 h.1)
-  | inr other ↦ sym (no_front bytes other)
-]
+no_base_is bytes h2 = grind (arith, no_front, cases_Bool, wrong_cursor)
 
 -- an answer that describes the bytes is the outcome
 pub only_outcome : (bytes : List ℕ) → AreBytes bytes → (answer : Result Loaded BaseFault) → LoadOf bytes answer → answer ≡ load_outcome bytes
@@ -259,24 +237,12 @@ say_more version (b ∷ all) s = ap (λ l. message_in version b ∷ l) (say_more
 bytes_more : (version : Version) (all : List Stored) (s : Stored) (rest : List ℕ)
     → flat_map (stored_bytes version) all ++ (stored_bytes version s ++ rest) ≡ flat_map (stored_bytes version) (all ++ s ∷ []) ++ rest
 bytes_more version [] s rest = ap (λ bs. bs ++ rest) (sym (append-nil (stored_bytes version s)))
-bytes_more version (b ∷ all) s rest =
-    append_assoc (stored_bytes version b) (flat_map (stored_bytes version) all) (stored_bytes version s ++ rest)
-    ∙ ap (λ bs. stored_bytes version b ++ bs) (bytes_more version all s rest)
-    ∙ sym (append_assoc (stored_bytes version b) (flat_map (stored_bytes version) (all ++ s ∷ [])) rest)
+bytes_more version (b ∷ all) s rest = grind (arith, append_assoc, bytes_more version all s rest)
 
 pub begins_more : (version : Version) (cursor number : ℕ) (all : List Stored) (s : Stored) (left rest bytes : List ℕ) → Begins version cursor number all left bytes
     → left ≡ stored_bytes version s ++ rest → IsStored version s → is_damaged version cursor (map (message_in version) all) s ≡ false
     → Begins version cursor number (all ++ s ∷ []) rest bytes
-begins_more version cursor number all s left rest bytes b e size fine = record {
-  number_fits = b.number_fits;
-  cursor_within = b.cursor_within;
-  sizes = all_append (IsStored version) all (s ∷ []) b.sizes (size, tt);
-  sound = sound_more version cursor [] all s b.sound fine;
-  whole =
-      b.whole
-      ∙ ap (λ bs. head_bytes version cursor number ++ (flat_map (stored_bytes version) all ++ bs)) e
-      ∙ ap (λ bs. head_bytes version cursor number ++ bs) (bytes_more version all s rest);
-}
+begins_more version cursor number all s left rest bytes b e size fine = grind (arith, all_append, sound_more, bytes_more)
 
 -- the answer for the rest of a base, after sound messages
 abbrev Rest : Version → ℕ → ℕ → List ℕ → ℕ → Type 0
@@ -287,30 +253,7 @@ Rest version cursor number bytes more =
 -- the whole base, if no message remains
 pub whole_loads : (version : Version) (cursor number : ℕ) (bytes : List ℕ) (all : List Stored) (rest : List ℕ) → Begins version cursor number all rest bytes → number ≡ length all
     → LoadOf bytes (Ok (map (message_in version) all, cursor, length bytes - length rest))
-whole_loads version cursor number bytes all rest b many =
-    let front = head_bytes version cursor (length all) ++ flat_map (stored_bytes version) all in
-    let begun : bytes ≡ front ++ rest =
-    b.whole ∙ ap (λ (n : ℕ). head_bytes version cursor n ++ (flat_map (stored_bytes version) all ++ rest)) many
-    ∙ sym (append_assoc (head_bytes version cursor (length all)) (flat_map (stored_bytes version) all) rest) in
-    let size : length front ≡ length bytes - length rest = omega (arith, ap length begun, length-append front rest) in
-    let fits = b.number_fits in
-    let within = b.cursor_within in (
-      omega arith,
-      record {
-        version = version;
-        all = all;
-        begins = record {
-          number_fits = omega arith;
-          cursor_within = omega arith;
-          sizes = b.sizes;
-          sound = b.sound;
-          whole =
-              ap (take (length bytes - length rest)) begun ∙ take_at front rest (length bytes - length rest) size
-              ∙ ap (λ bs. head_bytes version cursor (length all) ++ bs) (sym (append-nil (flat_map (stored_bytes version) all)));
-        };
-        messages = refl;
-      },
-    )
+whole_loads version cursor number bytes all rest b many = grind (arith, append_assoc, length-append, take_at, append-nil)
 
 none_left : (version : Version) (cursor number : ℕ) (bytes : List ℕ) → Rest version cursor number bytes 0
 unfolding messages_in finished
@@ -397,33 +340,14 @@ magic_front version front size h =
 
 version_is : (bytes : List ℕ) → 16 ≤ length bytes → is_front bytes ≡ true → take 8 bytes ≡ magic (version_of bytes)
 unfolding version_of
-version_is bytes room h =
-    let size : length (take 8 bytes) ≡ 8 = length-take-le 8 bytes (omega arith) in
-    let one : Bool = starts_with nat_eq (magic First) (take 8 bytes) in
-    let P : Version → Type 0 = λ v. take 8 bytes ≡ magic v in
-    elim (cases_Bool one) [
-      | inl first ↦ subst P (sym (cond-true one First Second first)) (magic_front First (take 8 bytes) size first)
-      | inr other ↦
-          subst P (sym (cond-false one First Second other))
-          (magic_front Second (take 8 bytes) size (sym (ap (λ b. b || starts_with nat_eq (magic Second) (take 8 bytes)) other) ∙ h))
-    ]
+version_is bytes room h = grind (arith, length-take-le, cases_Bool, cond-true, magic_front, cond-false)
 
 -- the numbers of the head, at their places
 eight_on : (bytes : List ℕ) → long_at 0 (drop 8 bytes) ≡ long_at 8 bytes
-eight_on bytes =
-    let a = get_or-drop 8 bytes 0 0 in
-    let b = get_or-drop 8 bytes 1 0 in
-    let c = get_or-drop 8 bytes 2 0 in
-    let d = get_or-drop 8 bytes 3 0 in
-    λ i. (a i + 256 * b i) + 65536 * (c i + 256 * d i)
+eight_on bytes = grind (arith, get_or-drop)
 
 twelve_on : (bytes : List ℕ) → long_at 0 (drop 12 bytes) ≡ long_at 12 bytes
-twelve_on bytes =
-    let a = get_or-drop 12 bytes 0 0 in
-    let b = get_or-drop 12 bytes 1 0 in
-    let c = get_or-drop 12 bytes 2 0 in
-    let d = get_or-drop 12 bytes 3 0 in
-    λ i. (a i + 256 * b i) + 65536 * (c i + 256 * d i)
+twelve_on bytes = grind (arith, get_or-drop)
 
 -- bytes with a head begin with it
 pub record HasHead (version : Version) (bytes : List ℕ) : Type 0 where
@@ -432,20 +356,7 @@ pub record HasHead (version : Version) (bytes : List ℕ) : Type 0 where
 
 pub has_head : (v : Version) (bytes : List ℕ) → AreBytes bytes → 16 ≤ length bytes → take 8 bytes ≡ magic v → HasHead v bytes
 unfolding head_bytes
-has_head v bytes are room is =
-    let cursor = long_front (drop 8 bytes) (AreBytes-drop 8 bytes are) (omega (arith, length-drop 8 bytes)) in
-    let number = long_front (drop 12 bytes) (AreBytes-drop 12 bytes are) (omega (arith, length-drop 12 bytes)) in
-    let fits : long_at 12 bytes < 2 ^ 32 = let P : ℕ → Type 0 = λ n. n < 2 ^ 32 in subst P (twelve_on bytes) number.1 in
-    record {
-      whole =
-          sym (take-append-drop 8 bytes)
-          ∙ ap (λ bs. bs ++ drop 8 bytes) is
-          ∙ ap (λ bs. magic v ++ bs) (cursor.0 ∙ (λ i. long (eight_on bytes i) ++ drop-drop 4 8 bytes i))
-          ∙ ap (λ bs. magic v ++ (long (long_at 8 bytes) ++ bs)) (number.0 ∙ (λ i. long (twelve_on bytes i) ++ drop-drop 4 12 bytes i))
-          ∙ ap (λ bs. magic v ++ bs) (sym (append_assoc (long (long_at 8 bytes)) (long (long_at 12 bytes)) (drop 16 bytes)))
-          ∙ sym (append_assoc (magic v) (long (long_at 8 bytes) ++ long (long_at 12 bytes)) (drop 16 bytes));
-      number_fits = fits;
-    }
+has_head v bytes are room is = grind (arith, long_front, AreBytes-drop, length-drop, twelve_on, take-append-drop, eight_on, drop-drop, append_assoc)
 
 -- the outcome describes the bytes
 pub outcome_loads : (bytes : List ℕ) → AreBytes bytes → LoadOf bytes (load_outcome bytes)

@@ -5,11 +5,11 @@ use Rattle.std.proofs.lemmas.List.{append-nil}
 use Rattle.echo_packet.specs.Header.{AreBytes}
 use Rattle.echo_filed.specs.Filed.{Filed, IsFiled}
 use Rattle.echo_filed.specs.Fields.{StopsIn}
-use Rattle.echo_filed.specs.Stored.{IsStored, Stored, has_tag, is_short, is_short_enough, message_in, stored_bytes}
+use Rattle.echo_filed.specs.Stored.{IsStored, Stored, has_tag, is_short_enough, message_in, stored_bytes}
 use Rattle.echo_filed.specs.declared.stored.Version.TheVariants.{Second}
 use Rattle.echo_filed.proofs.StoredFields.{stopped_unread, stored_again, stored_in}
 use Rattle.base_file.specs.Alone.{IsStoredAlone, MayStandAlone, cursor_alone}
-use Rattle.base_file.specs.BaseFile.{has_wrong_form, has_wrong_last, has_wrong_sender, has_wrong_string, is_damaged, is_other_kind, stored_at}
+use Rattle.base_file.specs.BaseFile.{has_wrong_form, is_damaged, stored_at}
 use Rattle.base_file.specs.Loading.{is_wrong}
 use Rattle.base_file.proofs.Saved.{not_damaged, size_at, stored_says}
 use Rattle.base_file.proofs.SavedAgain.{stored_at_back}
@@ -36,13 +36,7 @@ only_message m n bytes one other =
 -- a message that was judged alone
 pub read_alone : (s : Stored) (m : Filed) (bytes : List ℕ) (cursor : ℕ) → IsStored Second s → bytes ≡ stored_bytes Second s → cursor ≡ cursor_alone s → is_wrong Second cursor 0 s ≡ false → m ≡ message_in Second s
     → IsStoredAlone m bytes
-read_alone s m bytes cursor size same at right is = record {
-  s = s;
-  size = size;
-  alone = known_damaged Second (cursor_alone s) 0 [] s m false refl (ap (λ (n : ℕ). is_wrong Second n 0 s) (sym at) ∙ right) is refl;
-  is = sym is;
-  same = same;
-}
+read_alone s m bytes cursor size same at right is = grind (arith, known_damaged)
 
 -- bytes of a message that is wrong are no message
 pub none_wrong : (s : Stored) (bytes : List ℕ) (cursor : ℕ) → IsStored Second s → bytes ≡ stored_bytes Second s → cursor ≡ cursor_alone s → is_wrong Second cursor 0 s ≡ true
@@ -72,29 +66,12 @@ true_of_not false h = absurd (true≢false h)
 
 -- the form that a message of a base has alone
 form_alone : (s : Stored) (cursor place : ℕ) (tagged : Bool) → has_tag Second s.kind ≡ tagged → has_wrong_form Second cursor place s ≡ false → has_wrong_form Second (if tagged then 1 else 0) 0 s ≡ false
-form_alone s cursor place true is right =
-    let m = message_in Second s in
-    let short : is_short Second cursor place m ≡ true =
-    true_of_not (is_short Second cursor place m) (sym (cond-true (has_tag Second s.kind) (not (is_short Second cursor place m)) (is_short Second cursor place m) is) ∙ right) in
-    let scanned : is_short Second 1 0 m ≡ true = (and_parts (nat_lt place cursor) (is_short Second 1 0 m) short).1 in
-    cond-true (has_tag Second s.kind) (not (is_short Second 1 0 m)) (is_short Second 1 0 m) is ∙ ap not scanned
-form_alone s cursor place false is right =
-    cond-false (has_tag Second s.kind) (not (is_short Second 0 0 (message_in Second s))) (is_short Second 0 0 (message_in Second s)) is
+form_alone s cursor place h4 is right = grind (arith, true_of_not, cond-true, and_parts, nat_lt, cond-false)
 
 -- each message of a base may be alone in one
 pub represented_alone : (s : Stored) (cursor : ℕ) (earlier : List Filed) → is_damaged Second cursor earlier s ≡ false → MayStandAlone s
 unfolding is_damaged
-represented_alone s cursor earlier h =
-    let p1 = or_parts (is_other_kind Second s.kind) _ h in
-    let p2 = or_parts (has_wrong_sender s) _ p1.1 in
-    let p3 = or_parts (has_wrong_string s) _ p2.1 in
-    let p4 = or_parts (has_wrong_last Second s) _ p3.1 in
-    let p5 = or_parts (has_wrong_form Second cursor (length earlier) s) _ p4.1 in
-    or_from (is_other_kind Second s.kind) _ p1.0
-    (or_from (has_wrong_sender s) _ p2.0
-    (or_from (has_wrong_string s) _ p3.0
-    (or_from (has_wrong_last Second s) _ p4.0
-    (or_from (has_wrong_form Second (cursor_alone s) 0 s) _ (form_alone s cursor (length earlier) (has_tag Second s.kind) refl p5.0) refl))))
+represented_alone s cursor earlier h = grind (arith, or_parts, or_from, form_alone)
 
 -- a message, as it is saved in front of a base
 pub saved_alone : (m : Filed) (cursor : ℕ) → IsFiled m → is_short_enough (stored_at cursor 0 m) ≡ true → IsStoredAlone m (stored_bytes Second (stored_at cursor 0 m))

@@ -1,5 +1,5 @@
 -- A tag that is put among the tags.
-use Rattle.std.proofs.Common.{◌≡◌, ◌∙◌, ◌⊎◌, ◌||◌, ◌++◌, ◌∷◌, [], Bool, List, ℕ, ap, false, inl, inr, map, refl, sym, true}
+use Rattle.std.proofs.Common.{◌≡◌, ◌∙◌, ◌⊎◌, ◌||◌, ◌++◌, ◌∷◌, [], Bool, List, ℕ, ap, false, inl, inr, map, refl, sym, true, arith}
 use Rattle.std.specs.Prelude.{bytes_eq}
 use Rattle.std.specs.List.{list_any}
 use Rattle.std.specs.declared.cmp.Ordering.{Ordering}
@@ -46,18 +46,11 @@ module _ {K : Type 0} (tag_of : K → List ℕ) where
   last_found (t ∷ tags) k tag e = passes_later (bytes_eq tag (tag_of t)) _ (last_found tags k tag e)
 
   pub still_found : (tags : List K) (k : K) (tag : List ℕ) → list_any (bytes_eq tag) (map tag_of tags) ≡ true → list_any (bytes_eq tag) (map tag_of (tags ++ k ∷ [])) ≡ true
-  still_found [] k tag h = elim (either_passes false false h) [ inl e ↦ passes_first (bytes_eq tag (tag_of k)) false (absurd_of e) | inr e ↦ passes_first (bytes_eq tag (tag_of k)) false (absurd_of e) ]
-    where
-      absurd_of : false ≡ true → bytes_eq tag (tag_of k) ≡ true
-      absurd_of e = cc
+  still_found [] k tag h = grind (arith, either_passes, passes_first)
   still_found (t ∷ tags) k tag h = elim (either_passes (bytes_eq tag (tag_of t)) (list_any (bytes_eq tag) (map tag_of tags)) h) [
     | inl e ↦ passes_first (bytes_eq tag (tag_of t)) _ e
     | inr e ↦ passes_later (bytes_eq tag (tag_of t)) _ (still_found tags k tag e)
   ]
-
-  -- the tags and one behind them, and the keys as they were
-  pub tag_pushed : (sorted tags : List K) (k : K) → AreAmong tag_of sorted tags → AreAmong tag_of sorted (tags ++ k ∷ [])
-  tag_pushed sorted tags k h tag found = still_found tags k tag (h tag found)
 
   -- and that one among the keys
   pub tag_noted : (sorted tags : List K) (k l : K) → tag_of l ≡ tag_of k → AreAmong tag_of sorted tags

@@ -20,18 +20,7 @@ use Rattle.base_file.proofs.Verdicts.{known_damaged}
 -- the bytes of a message are in front
 judged_here : (version : Version) (cursor place : ℕ) (bytes rest : List ℕ) (s : Stored) (j : Next) → IsStored version s → bytes ≡ stored_bytes version s ++ rest
     → JudgesOne version cursor place s (length bytes - length rest) j → IsJudged version cursor place bytes j
-judged_here version cursor place bytes rest s j fits e h =
-    let n = length bytes - length rest in
-    let front = stored_bytes version s in
-    let size : length front ≡ n = omega (arith, ap length e, length-append front rest) in
-    record {
-      s = s;
-      fits = fits;
-      size = n;
-      within = omega arith;
-      same = sym (ap (take n) e ∙ take_at front rest n size);
-      judges = h;
-    }
+judged_here version cursor place bytes rest s j fits e h = grind (arith, length-append, take_at)
 
 pub next_judged : {E : Type 0} (version : Version) (cursor place : ℕ) (bytes rest : List ℕ) (s : Stored) (r : Result Next E) → IsStored version s
     → bytes ≡ stored_bytes version s ++ rest → IfOk r (JudgesOne version cursor place s (length bytes - length rest)) → IfOk r (IsNext version cursor place bytes)
@@ -43,16 +32,7 @@ next_judged version cursor place bytes rest s (Err x) fits e h = tt
 -- the head in a piece is that of the file
 pub head_here : (version : Version) (cursor number : ℕ) (bytes : List ℕ) → AreBytes bytes → 16 ≤ length bytes → take 8 bytes ≡ magic version → cursor ≡ long_at 8 bytes → number ≡ long_at 12 bytes
     → cursor ≤ number → BeginsWith (record { version = version; cursor = cursor; number = number }) bytes
-head_here version cursor number bytes are room is at to within =
-    let head = has_head version bytes are room is in
-    let fits = head.number_fits in
-    let at' = sym at in
-    let to' = sym to in
-    record {
-      number_fits = omega arith;
-      cursor_within = within;
-      whole = head.whole ∙ (λ i. head_bytes version (at' i) (to' i) ++ drop 16 bytes);
-    }
+head_here version cursor number bytes are room is at to within = grind (arith, has_head)
 
 head_long : (version : Version) (cursor number : ℕ) (rest : List ℕ) → 16 ≤ length (head_bytes version cursor number ++ rest)
 unfolding head_bytes

@@ -40,11 +40,7 @@ abbrev pub left_of : Bool → Filed → List (List (List ℕ))
 left_of stub m = cond (not stub) ((stub_of m).echo.kept ∷ []) []
 
 left_one : (m : Filed) → lines_left (m ∷ []) ≡ left_of (is_stub m) m
-left_one m = by (is_stub m)
-  where
-    by : (stub : Bool) → map (λ (x : Filed). (stub_of x).echo.kept) (cond (not stub) (m ∷ []) []) ≡ cond (not stub) ((stub_of m).echo.kept ∷ []) []
-    by true = refl
-    by false = refl
+left_one m = grind arith
 
 pub left_more : (all : List Filed) (i : ℕ) (m : Filed) → slice_get all i ≡ Some m → lines_left (take (i + 1) all) ≡ lines_left (take i all) ++ left_of (is_stub m) m
 left_more all i m at =

@@ -1,14 +1,14 @@
 -- The saved bytes of a base are a base file of it.
 use Rattle.std.proofs.Common.{◌≡◌, ◌≢◌, ℕ, suc, codes, ◌+◌, ◌^◌, ◌<◌, ◌≤◌, ◌==◌, ◌&&◌, ◌||◌, not, nat_lt, nat_le, Bool, true, false, cond, List, [], ◌∷◌, ◌++◌, length, map, refl, sym, ap, subst, ◌∙◌, Option, Some, None, Ok, arith, lit<}
-use Rattle.std.specs.Prelude.{bytes_eq, is_some, is_none, unwrap_or, ⊤}
+use Rattle.std.specs.Prelude.{bytes_eq, is_some, is_none, ⊤}
 use Rattle.std.specs.Cmp.Lexicographic.{pointwise, bytes_decides}
-use Rattle.std.specs.List.{AllByRecursion, flat_map, list_all, list_any}
+use Rattle.std.specs.List.{AllByRecursion, list_all, list_any}
 use Rattle.std.proofs.lemmas.Bool.{and_from, and_parts, cond-false, cond-true, eqb-true, le-ltb, leb-true, ltb-true, true≢false, ne_eqb, not_from_true, not_from_false, or_from}
 use Rattle.std.proofs.lemmas.List.Elements.{recursion_from_All}
 use Rattle.std.proofs.lemmas.List.{append-nil, length-append, nil_from_length, take_at}
 use Rattle.echo_addr.specs.declared.address.Address.{Address}
-use Rattle.echo_packet.specs.Message.{HasNoZero, max_name, max_subject}
-use Rattle.echo_text.specs.Lines.{is_tag, is_tag_byte, msgid_word, trimmed}
+use Rattle.echo_packet.specs.Message.{HasNoZero}
+use Rattle.echo_text.specs.Lines.{is_tag, msgid_word, trimmed}
 use Rattle.echo_text.specs.Echo.{EchoText, IsEcho, IsLine, msgid_of}
 use Rattle.echo_text.specs.Refusal.{text_refusal}
 use Rattle.echo_text.specs.Ids.{is_line_byte, is_zero}
@@ -16,7 +16,7 @@ use Rattle.echo_filed.specs.Written.{echo_of, text_of}
 use Rattle.echo_filed.specs.Filed.{Filed, HasSmallSender, IsFiled, id_line, key_of}
 use Rattle.echo_filed.specs.Stubs.{bare, is_stub, is_stub_with}
 use Rattle.echo_filed.specs.declared.stored.Version.TheVariants.{Second}
-use Rattle.echo_filed.specs.Stored.{IsStored, echo_in, has_tag, is_posted, is_short, is_short_enough, kind_of, message_in, sender_in, sender_or_zeros, stored_as, stored_bytes}
+use Rattle.echo_filed.specs.Stored.{IsStored, echo_in, has_tag, is_posted, is_short, is_short_enough, kind_of, message_in, sender_or_zeros, stored_as}
 use Rattle.echo_filed.proofs.Keys.{lines_decide, msgid_is_id}
 use Rattle.echo_filed.proofs.Trims.{trimmed_same}
 use Rattle.echo_filed.proofs.Plain.{IsLineByte, Plain}
@@ -24,13 +24,10 @@ use Rattle.echo_filed.proofs.Bytes.{none_zero, text_no_zero}
 use Rattle.echo_filed.proofs.Texts.{written_accepted, written_back}
 use Rattle.echo_filed.proofs.Sendings.{tagged}
 use Rattle.base_file.specs.Base.{AreNew, IsBase, is_known}
-use Rattle.base_file.specs.BaseFile.{AreSound, BaseOf, LoadOf, has_wrong_form, has_wrong_last, has_wrong_sender, has_wrong_string, head_bytes, is_countable, is_damaged, is_no_string, is_other_kind, is_wrong_id, is_wrong_text, saved_bytes, stored_at, stored_from}
+use Rattle.base_file.specs.BaseFile.{AreSound, BaseOf, LoadOf, has_wrong_form, has_wrong_last, has_wrong_sender, has_wrong_string, is_countable, is_damaged, is_no_string, is_other_kind, is_wrong_id, is_wrong_text, saved_bytes, stored_at, stored_from}
 
 known_kind : (short : Bool) (sender : Option Address) → is_other_kind Second (kind_of short sender) ≡ false
-known_kind true None = refl
-known_kind true (Some a) = refl
-known_kind false None = refl
-known_kind false (Some a) = refl
+known_kind h1 h2 = grind arith
 
 -- the sender that the bytes of one tell
 abbrev reported : Bool → Option Address → Option Address
@@ -38,10 +35,7 @@ reported short o =
     cond (is_posted (kind_of short o)) None (Some (record { zone = (sender_or_zeros o).zone; net = (sender_or_zeros o).net; node = (sender_or_zeros o).node }))
 
 reported_is : (short : Bool) (o : Option Address) → reported short o ≡ o
-reported_is true None = refl
-reported_is true (Some a) = refl
-reported_is false None = refl
-reported_is false (Some a) = refl
+reported_is h1 h2 = grind arith
 
 -- a message that a base stores in short form: it has an id, and a purge changes nothing
 record IsShort (m : Filed) : Type 0 where
@@ -86,44 +80,23 @@ bare_is e id kept seen path =
     λ i. record { tag = e.tag; kept = kept' i; seen = seen' i; path = path' i }
 
 echo_back : (short : Bool) (m : Filed) → IsEcho m.echo → IsFormOf short m → echo_in Second (stored_as short m) ≡ m.echo
-echo_back true m is h =
-    cond-true (has_tag Second (kind_of true m.sender)) (bare m.echo.tag (unwrap_or (msgid_of m.echo.kept) [])) (echo_of (unwrap_or (msgid_of m.echo.kept) [])) (tagged true m.sender)
-    ∙ ap (λ (o : Option (List ℕ)). bare m.echo.tag (unwrap_or o [])) h.has
-    ∙ bare_is m.echo h.id h.kept h.seen h.path
-echo_back false m is h =
-    cond-false (has_tag Second (kind_of false m.sender)) (bare [] (text_of m.echo)) (echo_of (text_of m.echo)) (tagged false m.sender)
-    ∙ written_back m.echo is
+echo_back h1 m is h = grind (arith, cond-true, tagged, bare_is, cond-false, written_back)
 
 -- the stored form gives the message back
 stored_back : (short : Bool) (m : Filed) → IsEcho m.echo → IsFormOf short m → message_in Second (stored_as short m) ≡ m
 unfolding message_in
-stored_back short m is h =
-    let sender : sender_in (stored_as short m) ≡ m.sender = reported_is short m.sender in
-    let echo : echo_in Second (stored_as short m) ≡ m.echo = echo_back short m is h in
-    λ i. record { sender = sender i; date = m.date; to_name = m.to_name; from_name = m.from_name; subject = m.subject; echo = echo i }
+stored_back short m is h = grind (arith, reported_is, echo_back)
 
 -- no sender of a posted message
 sender_right : (short : Bool) (m : Filed) (o : Option Address) → m.sender ≡ o → has_wrong_sender (stored_as short m) ≡ false
-sender_right short m o e = let P : Option Address → Bool = λ s. wrong short s in ap P e ∙ right short o
-  where
-    wrong : Bool → Option Address → Bool
-    wrong short s = is_posted (kind_of short s) && not (((sender_or_zeros s).zone == 0) && (((sender_or_zeros s).net == 0) && ((sender_or_zeros s).node == 0)))
-
-    right : (short : Bool) (s : Option Address) → wrong short s ≡ false
-    right true None = refl
-    right true (Some a) = refl
-    right false None = refl
-    right false (Some a) = refl
+sender_right short m o e = grind arith
 
 string_right : (most : ℕ) (s : List ℕ) → length s ≤ most → HasNoZero s → is_no_string most s ≡ false
 string_right most s room bytes =
     or_from (nat_lt most (length s)) (list_any is_zero s) (le-ltb most (length s) room) (none_zero s (recursion_from_All (λ b. b ≢ 0) s bytes))
 
 strings_right : (short : Bool) (m : Filed) → IsFiled m → has_wrong_string (stored_as short m) ≡ false
-strings_right short m h =
-    or_from (is_no_string max_name m.to_name) (is_no_string max_name m.from_name || is_no_string max_subject m.subject) (string_right max_name m.to_name h.to_room h.to_bytes)
-    (or_from (is_no_string max_name m.from_name) (is_no_string max_subject m.subject) (string_right max_name m.from_name h.from_room h.from_bytes)
-    (string_right max_subject m.subject h.subject_room h.subject_bytes))
+strings_right short m h = grind (arith, or_from, string_right)
 
 text_right : (e : EchoText) → IsEcho e → is_wrong_text (text_of e) ≡ false
 text_right e is =
@@ -137,10 +110,7 @@ text_right e is =
 -- the end of bytes that a line may contain
 plain_end : (front back : List ℕ) → Plain (front ++ back) → list_all is_line_byte back ≡ true
 plain_end [] [] h = refl
-plain_end [] (b ∷ back) h =
-    and_from (is_line_byte b) (list_all is_line_byte back)
-    (not_from_false (is_zero b || (b == 13)) (or_from (is_zero b) (b == 13) (ne_eqb b 0 h.0.0) (ne_eqb b 13 h.0.1)))
-    (plain_end [] back h.1)
+plain_end [] (b ∷ back) h = grind (arith, and_from, not_from_false, or_from, ne_eqb, plain_end [] back h.1)
 plain_end (b ∷ front) back h = plain_end front back h.1
 
 id_right : (m : Filed) → IsEcho m.echo → (h : IsShort m) → is_wrong_id h.id ≡ false
@@ -156,22 +126,11 @@ id_right m is h =
     (not_from_true (bytes_eq (trimmed h.id) h.id) ((bytes_decides (trimmed h.id) h.id).1 (trimmed_same h.id id.trim))))
 
 last_right : (short : Bool) (m : Filed) → IsEcho m.echo → IsFormOf short m → has_wrong_last Second (stored_as short m) ≡ false
-last_right true m is h =
-    cond-true (has_tag Second (kind_of true m.sender)) (not (is_tag m.echo.tag) || is_wrong_id (unwrap_or (msgid_of m.echo.kept) [])) (is_wrong_text (unwrap_or (msgid_of m.echo.kept) [])) (tagged true m.sender)
-    ∙ ap (λ (o : Option (List ℕ)). not (is_tag m.echo.tag) || is_wrong_id (unwrap_or o [])) h.has
-    ∙ or_from (not (is_tag m.echo.tag)) (is_wrong_id h.id) (not_from_true (is_tag m.echo.tag) is.tag_bytes) (id_right m is h)
-last_right false m is h =
-    cond-false (has_tag Second (kind_of false m.sender)) (not (is_tag []) || is_wrong_id (text_of m.echo)) (is_wrong_text (text_of m.echo)) (tagged false m.sender)
-    ∙ text_right m.echo is
+last_right h1 m is h = grind (arith, cond-true, tagged, or_from, not_from_true, id_right, cond-false, text_right)
 
 form_right : (cursor place : ℕ) (short : Bool) (m : Filed) → IsEcho m.echo → is_short Second cursor place m ≡ short → IsFormOf short m
     → has_wrong_form Second cursor place (stored_as short m) ≡ false
-form_right cursor place true m is e h =
-    cond-true (has_tag Second (kind_of true m.sender)) (not (is_short Second cursor place (message_in Second (stored_as true m)))) (is_short Second cursor place (message_in Second (stored_as true m))) (tagged true m.sender)
-    ∙ ap not (ap (is_short Second cursor place) (stored_back true m is h) ∙ e)
-form_right cursor place false m is e h =
-    cond-false (has_tag Second (kind_of false m.sender)) (not (is_short Second cursor place (message_in Second (stored_as false m)))) (is_short Second cursor place (message_in Second (stored_as false m))) (tagged false m.sender)
-    ∙ (ap (is_short Second cursor place) (stored_back false m is h) ∙ e)
+form_right cursor place h3 m is e h = grind (arith, cond-true, tagged, stored_back, cond-false)
 
 -- a message that follows the earlier ones in a base is not damaged
 stored_right : (cursor : ℕ) (earlier : List Filed) (m : Filed) → IsFiled m → is_known earlier (key_of m) ≡ false → (short : Bool) → is_short Second cursor (length earlier) m ≡ short
@@ -210,20 +169,14 @@ all_sound cursor earlier (m ∷ later) place e all new =
 
 all_say : (cursor place : ℕ) (base : List Filed) → AllByRecursion IsFiled base → base ≡ map (message_in Second) (stored_from cursor place base)
 all_say cursor place [] all = refl
-all_say cursor place (m ∷ later) all =
-    let one = sym (stored_says cursor place m all.0.is_echo) in
-    let more = all_say cursor (place + 1) later all.1 in
-    λ i. one i ∷ more i
+all_say cursor place (m ∷ later) all = grind (arith, stored_says, all_say cursor (place + 1) later all.1)
 
 as_many : (cursor place : ℕ) (base : List Filed) → length (stored_from cursor place base) ≡ length base
 as_many cursor place [] = refl
 as_many cursor place (m ∷ later) = ap suc (as_many cursor (place + 1) later)
 
 kind_small : (short : Bool) (sender : Option Address) → kind_of short sender < 2 ^ 8
-kind_small true None = lit< tt
-kind_small true (Some a) = lit< tt
-kind_small false None = lit< tt
-kind_small false (Some a) = lit< tt
+kind_small h1 h2 = grind arith
 
 -- the numbers of a sender
 record AreSmall (a : Address) : Type 0 where
@@ -236,32 +189,14 @@ sender_small None h = record { zone = lit< tt; net = lit< tt; node = lit< tt }
 sender_small (Some a) h = record { zone = h.0; net = h.1; node = h.2 }
 
 tag_small : (short : Bool) (tag : List ℕ) → is_tag tag ≡ true → length (cond short tag []) < 2 ^ 8
-tag_small true tag h =
-    let some = and_parts (nat_lt 0 (length tag) && nat_le (length tag) 60) (list_all is_tag_byte tag) h in
-    let room = leb-true (length tag) 60 (and_parts (nat_lt 0 (length tag)) (nat_le (length tag) 60) some.0).1 in
-    omega arith
-tag_small false tag h = lit< tt
+tag_small h1 tag h = grind (arith, and_parts, nat_lt, nat_le, leb-true)
 
 tag_if : (short : Bool) (sender : Option Address) (tag : List ℕ) → has_tag Second (kind_of short sender) ≡ false → cond short tag [] ≡ []
 tag_if true sender tag h = absurd (true≢false (sym (tagged true sender) ∙ h))
 tag_if false sender tag h = refl
 
 size_right : (short : Bool) (m : Filed) → IsFiled m → is_short_enough (stored_as short m) ≡ true → IsStored Second (stored_as short m)
-size_right short m h enough =
-    let small = sender_small m.sender h.small_sender in
-    record {
-      kind = kind_small short m.sender;
-      zone = small.zone;
-      net = small.net;
-      node = small.node;
-      date_len = h.date_len;
-      to_name = omega (arith, h.to_room);
-      from_name = omega (arith, h.from_room);
-      subject = omega (arith, h.subject_room);
-      tag = tag_small short m.echo.tag h.is_echo.tag_bytes;
-      no_tag = tag_if short m.sender m.echo.tag;
-      last = ltb-true (length ((stored_as short m).last)) (2 ^ 32) enough;
-    }
+size_right short m h enough = grind (arith, sender_small, kind_small, tag_small, tag_if, ltb-true)
 
 pub size_at : (cursor place : ℕ) (m : Filed) → IsFiled m → is_short_enough (stored_at cursor place m) ≡ true → IsStored Second (stored_at cursor place m)
 unfolding stored_at
@@ -277,31 +212,9 @@ all_sizes cursor place (m ∷ later) all enough =
 -- a base that is not too large loads from its saved bytes
 pub saved_is_base : (base : List Filed) (cursor : ℕ) → IsBase base cursor → is_countable base cursor ≡ true → BaseOf base cursor (saved_bytes base cursor)
 unfolding saved_bytes is_countable
-saved_is_base base cursor h few =
-    let parts = and_parts (nat_lt (length base) (2 ^ 32)) (list_all is_short_enough (stored_from cursor 0 base)) few in
-    let many = as_many cursor 0 base in
-    let within = h.within in
-    let number = ltb-true (length base) (2 ^ 32) parts.0 in
-    record {
-      version = Second;
-      all = stored_from cursor 0 base;
-      begins = record {
-        number_fits = omega arith;
-        cursor_within = omega arith;
-        sizes = all_sizes cursor 0 base h.each parts.1;
-        sound = all_sound cursor [] base 0 refl h.each h.new;
-        whole =
-            ap (λ n. head_bytes Second cursor n ++ flat_map (stored_bytes Second) (stored_from cursor 0 base)) (sym many)
-            ∙ ap (λ bs. head_bytes Second cursor (length (stored_from cursor 0 base)) ++ bs) (sym (append-nil (flat_map (stored_bytes Second) (stored_from cursor 0 base))));
-      };
-      messages = all_say cursor 0 base h.each;
-    }
+saved_is_base base cursor h few = grind (arith, and_parts, nat_lt, as_many, ltb-true, all_sizes, all_sound, append-nil, all_say)
 
 -- and whatever follows it
 pub saved_loads : (base : List Filed) (cursor : ℕ) (rest : List ℕ) → IsBase base cursor → is_countable base cursor ≡ true
     → LoadOf (saved_bytes base cursor ++ rest) (Ok (base, cursor, length (saved_bytes base cursor)))
-saved_loads base cursor rest h few =
-    let P : List ℕ → Type 0 = BaseOf base cursor in (
-      omega (arith, length-append (saved_bytes base cursor) rest),
-      subst P (sym (take_at (saved_bytes base cursor) rest (length (saved_bytes base cursor)) refl)) (saved_is_base base cursor h few),
-    )
+saved_loads base cursor rest h few = grind (arith, length-append, take_at, saved_is_base)

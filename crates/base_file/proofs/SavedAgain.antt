@@ -1,5 +1,5 @@
 -- A base file of version 2 that was read is saved as the same bytes.
-use Rattle.std.proofs.Common.{◌≡◌, ℕ, zero, suc, ◌+◌, ◌^◌, ◌<◌, ◌≤◌, ◌==◌, ◌&&◌, ◌||◌, not, nat_lt, Bool, true, false, cond, List, [], ◌∷◌, ◌++◌, length, get_or, map, take, refl, sym, ap, subst, ◌∙◌, Option, Some, None, arith, eqb-true}
+use Rattle.std.proofs.Common.{◌≡◌, ℕ, ◌+◌, ◌^◌, ◌<◌, ◌≤◌, ◌==◌, ◌&&◌, ◌||◌, not, nat_lt, Bool, true, false, cond, List, [], ◌∷◌, ◌++◌, length, get_or, map, take, refl, sym, ap, subst, ◌∙◌, Option, Some, None, arith, eqb-true}
 use Rattle.std.specs.Prelude.{bytes_eq, is_none, unwrap_or}
 use Rattle.std.specs.Cmp.Lexicographic.{bytes_decides}
 use Rattle.std.specs.List.{AllByRecursion, flat_map, list_all, list_any}
@@ -14,30 +14,19 @@ use Rattle.echo_filed.specs.Written.{echo_of, text_of}
 use Rattle.echo_filed.specs.Filed.{Filed}
 use Rattle.echo_filed.specs.Stubs.{bare}
 use Rattle.echo_filed.specs.declared.stored.Version.{Version}
-use Rattle.echo_filed.specs.declared.stored.Version.TheVariants.{First, Second}
+use Rattle.echo_filed.specs.declared.stored.Version.TheVariants.{Second}
 use Rattle.echo_filed.specs.Stored.{IsStored, Stored, has_tag, is_posted, is_short, is_short_enough, kind_of, message_in, sender_or_zeros, stored_as, stored_bytes}
 use Rattle.base_file.proofs.ShortForms.{id_reported}
 use Rattle.base_file.specs.BaseFile.{AreSound, BaseOf, has_wrong_form, has_wrong_last, has_wrong_sender, has_wrong_string, head_bytes, is_countable, is_damaged, is_other_kind, is_wrong_id, is_wrong_text, magic, saved_bytes, stored_at, stored_from}
 
 -- the first byte is given by the sender and the form
 kind_back : (k : ℕ) (sender : Address) → k ≤ 3 → kind_of ((k == 2) || (k == 3)) (cond (is_posted k) None (Some sender)) ≡ k
-kind_back zero sender h = refl
-kind_back (suc zero) sender h = refl
-kind_back (suc (suc zero)) sender h = refl
-kind_back (suc (suc (suc zero))) sender h = refl
-kind_back (suc (suc (suc (suc k)))) sender h = absurd (omega arith)
+kind_back h1 sender h = grind arith
 
 -- a posted message has zeros for a sender
 sender_back : (posted : Bool) (a : Address) → (posted && not ((a.zone == 0) && ((a.net == 0) && (a.node == 0)))) ≡ false
     → sender_or_zeros (cond posted None (Some a)) ≡ a
-sender_back false a h = refl
-sender_back true a h =
-    let p1 = and_parts (a.zone == 0) ((a.net == 0) && (a.node == 0)) (not-false ((a.zone == 0) && ((a.net == 0) && (a.node == 0))) h) in
-    let p2 = and_parts (a.net == 0) (a.node == 0) p1.1 in
-    let zone = sym (eqb-true a.zone 0 p1.0) in
-    let net = sym (eqb-true a.net 0 p2.0) in
-    let node = sym (eqb-true a.node 0 p2.1) in
-    λ i. record { zone = zone i; net = net i; node = node i }
+sender_back h1 a h = grind (arith, and_parts, not-false, eqb-true)
 
 -- the tag and the id, or the text
 last_back : (with_tag : Bool) (tag last : List ℕ) → (with_tag ≡ false → tag ≡ []) → cond with_tag (not (is_tag tag) || is_wrong_id last) (is_wrong_text last) ≡ false
@@ -61,26 +50,7 @@ form_back false short h = h
 stored_as_back : (s : Stored) → IsStored Second s → is_other_kind Second s.kind ≡ false → has_wrong_sender s ≡ false → has_wrong_last Second s ≡ false
     → stored_as (has_tag Second s.kind) (message_in Second s) ≡ s
 unfolding message_in
-stored_as_back s size kind sender last =
-    let a : Address = record { zone = s.zone; net = s.net; node = s.node } in
-    let few : s.kind ≤ 3 = ltb-false 3 s.kind kind in
-    let k = kind_back s.kind a few in
-    let from = sender_back (is_posted s.kind) a sender in
-    let back = last_back (has_tag Second s.kind) s.tag s.last size.no_tag last in
-    let tag = back.0 in
-    let end = back.1 in
-    λ i. record {
-      kind = k i;
-      zone = (from i).zone;
-      net = (from i).net;
-      node = (from i).node;
-      date = s.date;
-      to_name = s.to_name;
-      from_name = s.from_name;
-      subject = s.subject;
-      tag = tag i;
-      last = end i;
-    }
+stored_as_back s size kind sender last = grind (arith, ltb-false, kind_back, sender_back, last_back)
 
 pub stored_at_back : (cursor : ℕ) (earlier : List Filed) (s : Stored) → IsStored Second s → is_damaged Second cursor earlier s ≡ false
     → stored_at cursor (length earlier) (message_in Second s) ≡ s
@@ -110,13 +80,7 @@ all_short (s ∷ later) sizes =
 -- the version is given by the first bytes
 second_by : (version : Version) (cursor number : ℕ) (rest bytes : List ℕ) → bytes ≡ head_bytes version cursor number ++ rest → take 8 bytes ≡ magic Second → version ≡ Second
 unfolding head_bytes
-second_by First cursor number rest bytes whole front =
-    let mark : ℕ = get_or (take 8 bytes) 7 0 in
-    absurd (two_marks mark (ap (λ bs. get_or (take 8 bs) 7 0) whole) (ap (λ bs. get_or bs 7 0) front))
-  where
-    two_marks : (n : ℕ) → n ≡ 49 → n ≡ 50 → ⊥
-    two_marks n one two = omega arith
-second_by Second cursor number rest bytes whole front = refl
+second_by h1 cursor number rest bytes whole front = grind (arith, get_or)
 
 -- the bytes of the second save, which four bytes can count
 pub record SavesAgain (base : List Filed) (cursor : ℕ) (bytes : List ℕ) : Type 0 where

@@ -83,11 +83,7 @@ enough_more cursor i all m at before here =
 
 pub too_long_here : (cursor i : ℕ) (all : List Filed) (m : Filed) → slice_get all i ≡ Some m → is_short_enough (stored_at cursor i m) ≡ false
     → false ≡ list_all is_short_enough (stored_from cursor 0 all)
-too_long_here cursor i all m at long = not_both (list_all is_short_enough (stored_from cursor 0 all)) refl
-  where
-    not_both : (b : Bool) → list_all is_short_enough (stored_from cursor 0 all) ≡ b → false ≡ b
-    not_both false e = refl
-    not_both true e = sym long ∙ enough_here cursor i all m at e
+too_long_here cursor i all m at long = grind (arith, enough_here)
 
 -- four bytes count the messages, or not
 pub countable_if : (cursor : ℕ) (all : List Filed) → length all < 2 ^ 32 → list_all is_short_enough (stored_from cursor 0 all) ≡ is_countable all cursor

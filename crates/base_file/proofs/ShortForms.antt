@@ -1,10 +1,10 @@
 -- A message with tag and id instead of the text.
 use Rattle.std.proofs.Common.{◌≡◌, ℕ, ◌<◌, ◌==◌, ◌&&◌, ◌||◌, not, nat_lt, Bool, true, false, List, [], ◌∷◌, length, refl, sym, ap, subst, ◌∙◌, Some, arith}
-use Rattle.std.specs.Prelude.{bytes_eq, is_some}
+use Rattle.std.specs.Prelude.{bytes_eq}
 use Rattle.std.specs.Cmp.Lexicographic.{bytes_decides, pointwise}
 use Rattle.std.specs.List.{list_all}
 use Rattle.std.proofs.lemmas.Bool.{cond-true, not-false, or_parts, true≢false}
-use Rattle.echo_text.specs.Lines.{is_tag, msgid_word, trimmed}
+use Rattle.echo_text.specs.Lines.{msgid_word, trimmed}
 use Rattle.echo_text.specs.Echo.{EchoText, msgid_of}
 use Rattle.echo_text.specs.Ids.{is_line_byte}
 use Rattle.echo_filed.specs.declared.key.Key.TheVariants.{ById}
@@ -12,13 +12,12 @@ use Rattle.echo_filed.specs.Filed.{Filed, id_line, key_of, key_with}
 use Rattle.echo_filed.specs.Stubs.{bare, is_stub}
 use Rattle.echo_filed.specs.Written.{echo_of}
 use Rattle.echo_filed.specs.declared.stored.Version.{Version}
-use Rattle.echo_filed.specs.declared.stored.Version.TheVariants.{First, Second}
 use Rattle.echo_filed.specs.Stored.{Stored, has_tag, message_in}
 use Rattle.echo_filed.proofs.Keys.{lines_decide, msgid_first}
 use Rattle.echo_filed.proofs.Left.{is_stub_reported}
 use Rattle.echo_filed.proofs.Trims.{IsTrim, trimmed_trim}
-use Rattle.base_file.specs.BaseFile.{has_wrong_last, is_wrong_id, is_wrong_text}
-use Rattle.base_file.specs.Loading.{IsShortOnceScanned, UnlessWrong, has_wrong_field, has_wrong_front}
+use Rattle.base_file.specs.BaseFile.{is_wrong_id}
+use Rattle.base_file.specs.Loading.{IsShortOnceScanned, UnlessWrong, has_wrong_field}
 
 some : (l : List ℕ) → (length l == 0) ≡ false → 0 < length l
 some [] h = absurd (true≢false h)
@@ -40,12 +39,7 @@ bare_text version s tagged = cond-true (has_tag version s.kind) (bare s.tag s.la
 -- its id is the last field
 last_is_id : (version : Version) (s : Stored) → has_tag version s.kind ≡ true → has_wrong_field version s ≡ false
     → msgid_of (message_in version s).echo.kept ≡ Some s.last
-last_is_id version s tagged right =
-    let last : has_wrong_last version s ≡ false = (or_parts (has_wrong_front version s) (has_wrong_last version s) right).1 in
-    let both : (not (is_tag s.tag) || is_wrong_id s.last) ≡ false =
-    sym (cond-true (has_tag version s.kind) (not (is_tag s.tag) || is_wrong_id s.last) (is_wrong_text s.last) tagged) ∙ last in
-    ap (λ (e : EchoText). msgid_of e.kept) (bare_text version s tagged)
-    ∙ id_reported s.last (or_parts (not (is_tag s.tag)) (is_wrong_id s.last) both).1
+last_is_id version s tagged right = grind (arith, or_parts, cond-true, bare_text, id_reported)
 
 -- its key has the tag and this id
 pub short_key : (version : Version) (s : Stored) → has_tag version s.kind ≡ true → has_wrong_field version s ≡ false
@@ -68,17 +62,10 @@ and_true false = refl
 -- so that it has this form wherever it was scanned
 pub short_once_scanned : (version : Version) (s : Stored) → has_tag version s.kind ≡ true → has_wrong_field version s ≡ false
     → IsShortOnceScanned version (message_in version s)
-short_once_scanned First s tagged right cursor place = absurd (true≢false (sym tagged))
-short_once_scanned Second s tagged right cursor place =
-    ap (λ o. nat_lt place cursor && (is_some o && is_stub (message_in Second s))) (last_is_id Second s tagged right)
-    ∙ ap (λ b. nat_lt place cursor && b) (bare_is_stub Second s tagged right)
-    ∙ and_true (nat_lt place cursor)
+short_once_scanned h1 s tagged right cursor place = grind (arith, true≢false, nat_lt, last_is_id, bare_is_stub, and_true)
 
 -- the found message and its last field, if it has tag and id instead of the text
 pub found_short : (version : Version) (s : Stored) (with_tag : Bool) (p : Filed × List ℕ) → with_tag ≡ has_tag version s.kind → with_tag ≡ true
     → UnlessWrong (has_wrong_field version s) (message_in version s, s.last) (Some p)
     → IsShortOnceScanned version p.0 × (key_of p.0 ≡ ById p.0.echo.tag p.1)
-found_short version s with_tag p same tagged found =
-    let has : has_tag version s.kind ≡ true = sym same ∙ tagged in
-    let P : Filed × List ℕ → Type 0 = λ p. IsShortOnceScanned version p.0 × (key_of p.0 ≡ ById p.0.echo.tag p.1) in
-    subst P (sym found.1) (short_once_scanned version s has found.0, short_key version s has found.0)
+found_short version s with_tag p same tagged found = grind (arith, short_once_scanned, short_key)

@@ -33,10 +33,7 @@ all_drop (suc n) (m ∷ base) h = all_drop n base h.1
 pub purged_keys : (n : ℕ) (base : List Filed) → map key_of (map stub_of (take n base) ++ drop n base) ≡ map key_of base
 purged_keys zero base = refl
 purged_keys (suc n) [] = refl
-purged_keys (suc n) (m ∷ base) =
-    let one = stub_keeps_key m in
-    let more = purged_keys n base in
-    λ i. one i ∷ more i
+purged_keys (suc n) (m ∷ base) = grind (arith, stub_keeps_key, purged_keys n base)
 
 pub known_by_keys : (base : List Filed) (key : Key) → is_known base key ≡ list_any (λ k. same_key k key) (map key_of base)
 known_by_keys [] key = refl
@@ -106,13 +103,4 @@ stubs_front (suc n) (m ∷ base) = ((stub_reported (stub_of m)).1 (stub_of_stub 
 -- entries after their first messages became stubs
 pub stub_entries : (entries later : List (Key × Filed)) (tags : List (List ℕ)) (cursor purged : ℕ) → AreEntries entries tags cursor purged → keys_of later ≡ keys_of entries
     → values_of later ≡ map stub_of (take cursor (values_of entries)) ++ drop cursor (values_of entries) → AreEntries later tags cursor cursor
-stub_entries entries later tags cursor purged h keys values =
-    let Q : List Filed → Type 0 = λ l. IsBase l cursor in
-    let R : List Filed → Type 0 = λ l. AllByRecursion (HasTagIn tags) l in
-    let P : List Filed → Type 0 = λ l. AllByRecursion (λ m. is_stub m ≡ true) (take cursor l) in
-    record {
-      is_base = subst Q (sym values) (stubs_keep (values_of entries) cursor h.is_base);
-      own_keys = keys ∙ h.own_keys ∙ sym (purged_keys cursor (values_of entries)) ∙ ap (map key_of) (sym values);
-      own_tags = subst R (sym values) (stub_tags tags cursor (values_of entries) h.own_tags);
-      front = record { within = omega arith; stubs = subst P (sym values) (stubs_front cursor (values_of entries)) };
-    }
+stub_entries entries later tags cursor purged h keys values = grind (arith, stubs_keep, purged_keys, stub_tags, stubs_front)

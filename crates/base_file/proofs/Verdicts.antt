@@ -1,6 +1,6 @@
 -- The tests that decide if a stored message may be next in a base.
-use Rattle.std.proofs.Common.{◌≡◌, ◌==◌, ℕ, ◌||◌, not, Bool, true, false, List, [], ◌∷◌, length, refl, sym, ap, subst, ◌∙◌, Option, Some}
-use Rattle.std.specs.Prelude.{bytes_eq, is_none}
+use Rattle.std.proofs.Common.{◌≡◌, ◌==◌, ℕ, ◌||◌, not, Bool, true, false, List, [], ◌∷◌, length, sym, ap, subst, ◌∙◌, Option, Some, arith}
+use Rattle.std.specs.Prelude.{bytes_eq}
 use Rattle.std.specs.List.{list_all, list_any}
 use Rattle.std.proofs.lemmas.Bool.{not-false, or_parts}
 use Rattle.echo_addr.specs.declared.address.Address.{Address}
@@ -8,9 +8,8 @@ use Rattle.echo_addr.specs.declared.address.NetNode.{NetNode}
 use Rattle.echo_text.specs.Lines.{is_tag, msgid_word, trimmed}
 use Rattle.echo_text.specs.Echo.{EchoOf, EchoText, IsEcho}
 use Rattle.echo_text.specs.Ids.{is_line_byte, is_zero}
-use Rattle.echo_text.specs.Refusal.{text_refusal}
 use Rattle.echo_filed.specs.Filed.{Filed, IsFiled, id_line, key_of}
-use Rattle.echo_filed.specs.Written.{echo_of, text_of}
+use Rattle.echo_filed.specs.Written.{text_of}
 use Rattle.echo_filed.specs.declared.stored.Version.{Version}
 use Rattle.echo_filed.specs.Stored.{IsStored, Stored, has_tag, message_in, sender_in}
 use Rattle.echo_filed.proofs.Plain.{plain_if}
@@ -23,12 +22,7 @@ use Rattle.base_file.proofs.Loaded.{filed_with, right_last}
 
 -- a text that parses is wrong if the tosser writes it in another way
 pub text_wrong : (text : List ℕ) (e : EchoText) (dropped : ℕ) → list_any is_zero text ≡ false → EchoOf text e dropped → is_wrong_text text ≡ not (bytes_eq (text_of e) text)
-text_wrong text e dropped zero says =
-    let read : not (is_none (text_refusal text)) ≡ false = ap (λ o. not (is_none o)) (says_accepted text e dropped says) in
-    let written : Bool = not (bytes_eq (text_of (echo_of text)) text) in
-    ap (λ b. b || (not (is_none (text_refusal text)) || written)) zero
-    ∙ ap (λ b. b || written) read
-    ∙ ap (λ x. not (bytes_eq (text_of x) text)) (says_one text e dropped says)
+text_wrong text e dropped zero says = grind (arith, says_accepted, says_one)
 
 -- a tag and an id that are not wrong are a text
 pub bare_made : (tag id : List ℕ) (kept : List (List ℕ)) (seen path : List NetNode) → is_tag tag ≡ true → is_wrong_id id ≡ false
@@ -62,11 +56,7 @@ message_is version s sender echo same reported =
 
 -- the tests in groups
 regrouped : (o s t l f k : Bool) → (o || (s || (t || (l || (f || k))))) ≡ ((((o || (s || t)) || l) || f) || k)
-regrouped true s t l f k = refl
-regrouped false true t l f k = refl
-regrouped false false true l f k = refl
-regrouped false false false true f k = refl
-regrouped false false false false f k = refl
+regrouped h1 h2 h3 h4 f k = grind arith
 
 pub damaged_by : (version : Version) (cursor : ℕ) (earlier : List Filed) (s : Stored)
     → is_damaged version cursor earlier s ≡ (is_wrong version cursor (length earlier) s || is_known earlier (key_of (message_in version s)))
@@ -84,11 +74,7 @@ wrong_damaged version cursor place earlier s at_end wrong =
 
 pub known_damaged : (version : Version) (cursor place : ℕ) (earlier : List Filed) (s : Stored) (m : Filed) (known : Bool) → place ≡ length earlier
     → is_wrong version cursor place s ≡ false → m ≡ message_in version s → is_known earlier (key_of m) ≡ known → is_damaged version cursor earlier s ≡ known
-known_damaged version cursor place earlier s m known at_end right reported is =
-    damaged_by version cursor earlier s
-    ∙ ap (λ b. b || is_known earlier (key_of (message_in version s))) (ap (λ n. is_wrong version cursor n s) (sym at_end) ∙ right)
-    ∙ ap (λ x. is_known earlier (key_of x)) (sym reported)
-    ∙ is
+known_damaged version cursor place earlier s m known at_end right reported is = grind (arith, damaged_by)
 
 -- the bytes after the subject, with other names for their parts
 pub last_said : (version : Version) (s : Stored) (with_tag : Bool) (last : List ℕ) (o : Option EchoText) (echo : EchoText) → with_tag ≡ has_tag version s.kind → last ≡ s.last

@@ -68,6 +68,4 @@ part_lost file more ahead first order long none =
 pub part_kept : (d : DiskState) (path real : List ℕ) (first : ℕ) (behind : List ℕ) (old new : ReadAhead) → path ≡ real
     → ((more : List ℕ) → IsPartOf (take first (bytes_in (d.seen path)) ++ more) old → IsPartOf (take first (bytes_in (d.seen path)) ++ more) new)
     → IsPartOf (take first (bytes_in (d.seen real)) ++ behind) old → IsPartOf (take first (bytes_in (d.seen real)) ++ behind) new
-part_kept d path real first behind old new same kept was =
-    subst (λ (p : List ℕ). IsPartOf (take first (bytes_in (d.seen p)) ++ behind) new) same
-    (kept behind (subst (λ (p : List ℕ). IsPartOf (take first (bytes_in (d.seen p)) ++ behind) old) (sym same) was))
+part_kept d path real first behind old new same kept was = grind arith

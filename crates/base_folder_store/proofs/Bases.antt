@@ -1,5 +1,5 @@
 -- Facts about the base that the files of a folder represent.
-use Rattle.std.proofs.Common.{◌≡◌, ℕ, List, length, sym, ◌∙◌, ap, subst, arith, inl, inr, ⊎_elim}
+use Rattle.std.proofs.Common.{◌≡◌, ℕ, List, length, sym, ◌∙◌, ap, subst, arith}
 use Rattle.disk_io.specs.Disk.{DiskState}
 use Rattle.disk_io.specs.Runs.{ChangesNothing, LeavesOnly}
 use Rattle.disk_io.proofs.Moments.{weaker_run}
@@ -28,17 +28,11 @@ recorded_where keyed bytes base holds = stand_where_recorded (digest_by keyed by
 -- a crash at any moment of opening
 pub opened_run : (keyed : ℕ → ℕ → List ℕ → ℕ) (path : List ℕ) (d e : DiskState) (base : Base) (represented : RepresentsBase keyed path base d.seen)
     → LeavesOnly d e (RepresentsOrWasLeft path d represented.bytes) → LeavesOnly d e (RepresentsBaseOrWasLeft keyed path d base)
-opened_run keyed path d e base represented run =
-    weaker_run d e (RepresentsOrWasLeft path d represented.bytes) (RepresentsBaseOrWasLeft keyed path d base) run
-    (λ c left. ⊎_elim (λ alone. inl (record { outside = alone.outside; represented = record { bytes = represented.bytes; represented = alone.represented; holds = represented.holds } })) (λ was. inr was) left)
+opened_run keyed path d e base represented run = grind (arith, weaker_run)
 
 -- a look at the disk leaves the folder open
 pub open_quiet : (d e : DiskState) (folder : Folder) → ChangesNothing d e → IsOpen d folder → IsOpen e folder
-open_quiet d e folder quiet was = record {
-  names = was.names;
-  staged = staged_quiet d e (path_of folder) folder.end folder.recorded quiet was.staged;
-  keys = was.keys;
-}
+open_quiet d e folder quiet was = grind (arith, staged_quiet)
 
 -- each message remains at the place in its entry
 pub recorded_quiet : (d e : DiskState) (folder : Folder) (base : List Filed) → ChangesNothing d e → AreWhereRecorded base (held_by d folder).messages (held_by d folder).keys

@@ -1,5 +1,5 @@
 -- A base folder while a call makes new files that replace its own.
-use Rattle.std.proofs.Common.{◌≡◌, ◌≢◌, ◌/◌, ℕ, List, length, sym, ap, subst, ◌∙◌, arith}
+use Rattle.std.proofs.Common.{◌≡◌, ◌/◌, ℕ, List, length, sym, ap, subst, ◌∙◌, arith}
 use Rattle.disk_io.specs.Disk.{DiskState}
 use Rattle.disk_io.specs.Runs.{ChangesNothing}
 use Rattle.base_log.specs.AtRest.{IsAtRest}
@@ -26,28 +26,14 @@ committed_others d f g others = λ i. base_at d (others.path i) (others.end i).r
 -- a folder with unchanged files remains readable
 readable_same : (d e : DiskState) (f : Folder) → e.seen (messages_of (path_of f) f.end.recorded.number) ≡ d.seen (messages_of (path_of f) f.end.recorded.number)
     → e.seen (keys_of (path_of f) f.end.recorded.number) ≡ d.seen (keys_of (path_of f) f.end.recorded.number) → IsReadable d f → IsReadable e f
-readable_same d e f messages keys was = record {
-  legible = legible_same d e f (subst (λ (t : CommitRecord). e.seen (messages_of (path_of f) t.number) ≡ d.seen (messages_of (path_of f) t.number)) was.recorded messages)
-      (subst (λ (t : CommitRecord). e.seen (keys_of (path_of f) t.number) ≡ d.seen (keys_of (path_of f) t.number)) was.recorded keys) was.legible;
-  recorded = was.recorded;
-  written = was.written;
-}
+readable_same d e f messages keys was = grind (arith, legible_same)
 
 pub readable_quiet : (d e : DiskState) (f : Folder) → ChangesNothing d e → IsReadable d f → IsReadable e f
 readable_quiet d e f quiet was = readable_same d e f (quiet.seen (messages_of (path_of f) f.end.recorded.number)) (quiet.seen (keys_of (path_of f) f.end.recorded.number)) was
 
 -- the files of another number are others
 pub readable_others : (d e : DiskState) (f g : Folder) → IsStagedIn f g → SameOthersThanBoth (path_of g) g.recorded.number d.seen e.seen → IsReadable d f → IsReadable e f
-readable_others d e f g others same was =
-    let n = f.end.recorded.number in
-    let number = g.recorded.number in
-    let m_m : messages_of (path_of f) n ≢ messages_of (path_of g) number =
-    λ is. others.number (sym (messages_of-injective (path_of f) n number (is ∙ ap (λ (p : List ℕ). messages_of p number) others.path))) in
-    let m_k : messages_of (path_of f) n ≢ keys_of (path_of g) number = λ is. messages_not_keys (path_of f) n number (is ∙ ap (λ (p : List ℕ). keys_of p number) others.path) in
-    let k_m : keys_of (path_of f) n ≢ messages_of (path_of g) number = λ is. keys_not_messages (path_of f) n number (is ∙ ap (λ (p : List ℕ). messages_of p number) others.path) in
-    let k_k : keys_of (path_of f) n ≢ keys_of (path_of g) number =
-    λ is. others.number (sym (keys_of-injective (path_of f) n number (is ∙ ap (λ (p : List ℕ). keys_of p number) others.path))) in
-    readable_same d e f (same (messages_of (path_of f) n) m_m m_k) (same (keys_of (path_of f) n) k_m k_k) was
+readable_others d e f g others same was = grind (arith, messages_of-injective, messages_not_keys, keys_not_messages, keys_of-injective, readable_same)
 
 -- an open folder that was committed can be read
 pub rest_readable : (d : DiskState) (f : Folder) → IsOpen d f → f.end.recorded ≡ f.recorded → IsWritten f → IsReadable d f
@@ -79,21 +65,4 @@ many_readable keyed d f base readable holds =
 
 -- with another cursor it is still open
 pub cursor_open : (d : DiskState) (f : Folder) (cursor : ℕ) → IsOpen d f → IsOpen d (record f { recorded = record f.recorded { cursor = cursor } })
-cursor_open d f cursor was = record {
-  names = was.names;
-  staged = record {
-    log = was.staged.log;
-    represented = was.staged.represented;
-    shown = was.staged.shown;
-    digit = was.staged.digit;
-    messages_there = was.staged.messages_there;
-    keys_there = was.staged.keys_there;
-    messages_alone = was.staged.messages_alone;
-    keys_alone = was.staged.keys_alone;
-    messages_long = was.staged.messages_long;
-    keys_long = was.staged.keys_long;
-    messages_behind = was.staged.messages_behind;
-    keys_behind = was.staged.keys_behind;
-  };
-  keys = was.keys;
-}
+cursor_open d f cursor was = grind arith

@@ -1,5 +1,5 @@
 -- The index of a folder's keys and its buffers, before and after calls.
-use Rattle.std.proofs.Common.{◌≡◌, ℕ, List, length, Result, Ok, Err, sym, subst}
+use Rattle.std.proofs.Common.{◌≡◌, ℕ, List, length, Result, Ok, Err, sym, subst, arith}
 use Rattle.std.specs.Prelude.{OnOk}
 use Rattle.disk_io.specs.Disk.{DiskState, Honestly}
 use Rattle.base_log.specs.Standing.{BaseBytes}
@@ -28,10 +28,7 @@ parts_held d e f g b same are = subst (λ (held : BaseBytes). AreParts held.mess
 -- Parts of a folder's bytes are parts of them with one message more.
 parts_more : (held : BaseBytes) (bytes : List ℕ) (digest : ℕ) (b : Buffers) → AreParts held.messages held.keys b
     → AreParts (with_stored held bytes digest).messages (with_stored held bytes digest).keys b
-parts_more held bytes digest b are = record {
-  messages = part_grows held.messages bytes b.messages are.messages;
-  keys = part_grows held.keys (entry (length held.messages) digest) b.keys are.keys;
-}
+parts_more held bytes digest b are = grind (arith, part_grows)
 
 -- The index and the buffers still agree with the folder after a message is added.
 pub cached_more : {T : Type 0} (d e : DiskState) (f g : Folder) (i : Index) (b : Buffers) (r : Result T StoreError) (bytes : List ℕ) (digest : ℕ)

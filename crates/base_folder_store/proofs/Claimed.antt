@@ -25,24 +25,7 @@ no_entries digest [] none = refl
 no_entries digest (s ∷ later) none = absurd (omega (arith, none, keys_long digest 0 (s ∷ later)))
 
 pub claimed_open : (d : DiskState) (f : Folder) (mark : FolderIdentity) → IsOpen d f → IsOpen d (with_mark f mark)
-claimed_open d f mark was = record {
-  names = was.names;
-  staged = record {
-    log = was.staged.log;
-    represented = was.staged.represented;
-    shown = was.staged.shown;
-    digit = was.staged.digit;
-    messages_there = was.staged.messages_there;
-    keys_there = was.staged.keys_there;
-    messages_alone = was.staged.messages_alone;
-    keys_alone = was.staged.keys_alone;
-    messages_long = was.staged.messages_long;
-    keys_long = was.staged.keys_long;
-    messages_behind = was.staged.messages_behind;
-    keys_behind = was.staged.keys_behind;
-  };
-  keys = was.keys;
-}
+claimed_open d f mark was = grind (arith, keys_long)
 
 -- with no message each key serves
 pub claimed_holds : (keyed : ℕ → ℕ → List ℕ → ℕ) → ((first second : ℕ) (bytes : List ℕ) → keyed first second bytes < 2 ^ 64) → (d : DiskState) (f : Folder) (mark : FolderIdentity) (base : Base) → IsOpen d f → IsUnclaimed f
@@ -84,16 +67,10 @@ claim_keeps keyed fits d f g mark result base claim opened holds =
     by_claim (λ (x : Folder). HoldsBase keyed (held_by d x) base) f g mark result claim holds (λ free. claimed_holds keyed fits d f mark base opened free holds)
 
 pub claim_goes_on : (keyed : ℕ → ℕ → List ℕ → ℕ) (d : DiskState) (f g : Folder) (mark : FolderIdentity) (result : Bool) (k : Option Filed) → IsClaim f g mark result → IsUsable d f → GoesOn (state_of d keyed f k) (state_of d keyed g k)
-claim_goes_on keyed d f g mark result k claim usable =
-    by_claim (λ (x : Folder). GoesOn (state_of d keyed f k) (state_of d keyed x k)) f g mark result claim
-    (record { ready = usable; committed = λ honest base is. is; honest = λ is. is })
-    (λ free. record { ready = record { named = usable.named; opened = λ honest. claimed_open d f mark (usable.opened honest) }; committed = λ honest base is. is; honest = λ is. is })
+claim_goes_on keyed d f g mark result k claim usable = grind (arith, claimed_open)
 
 pub claim_commits : (keyed : ℕ → ℕ → List ℕ → ℕ) (d : DiskState) (f g : Folder) (mark : FolderIdentity) (result : Bool) (k : Option Filed) → IsClaim f g mark result → IsUsable d f → CommitsNothing (state_of d keyed f k) (state_of d keyed g k)
-claim_commits keyed d f g mark result k claim usable =
-    by_claim (λ (x : Folder). CommitsNothing (state_of d keyed f k) (state_of d keyed x k)) f g mark result claim
-    (stages d d keyed f f k k refl (run_none d f usable.opened))
-    (λ free. stages d d keyed f (with_mark f mark) k k refl (run_none d f usable.opened))
+claim_commits keyed d f g mark result k claim usable = grind (arith, stages, run_none)
 
 pub claim_cached : (d : DiskState) (f g : Folder) (mark : FolderIdentity) (result : Bool) (i : Index) (b : Buffers) → IsClaim f g mark result → IsCached d f i b → IsCached d g i b
 claim_cached d f g mark result i b claim was = by_claim (λ (x : Folder). IsCached d x i b) f g mark result claim was (λ free. was)

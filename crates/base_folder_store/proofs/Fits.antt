@@ -1,11 +1,11 @@
 -- A purged base has room in a folder that had room for the base.
-use Rattle.std.proofs.Common.{◌≡◌, ◌+◌, ◌*◌, ◌/◌, ◌^◌, ◌<◌, ◌≤◌, ℕ, nat_lt, List, [], ◌∷◌, ◌++◌, length, take, ap, inl, inr, arith, length-append}
+use Rattle.std.proofs.Common.{◌≡◌, ◌+◌, ◌*◌, ◌^◌, ◌<◌, ◌≤◌, ℕ, nat_lt, List, [], ◌∷◌, ◌++◌, length, inl, inr, arith, length-append}
 use Rattle.std.specs.List.{AllByRecursion, flat_map}
 use Rattle.std.proofs.lemmas.Bool.{cond-true, lt-ltb}
 use Rattle.std.proofs.lemmas.List.{length-drop, length-map, length-take-le}
 use Rattle.echo_packet.specs.Header.{word}
 use Rattle.echo_filed.specs.Filed.{Filed}
-use Rattle.echo_filed.specs.Stored.{IsStored, Stored, after_length, last_bytes, message_in, stored_bytes}
+use Rattle.echo_filed.specs.Stored.{IsStored, Stored, after_length, last_bytes, stored_bytes}
 use Rattle.echo_filed.specs.declared.stored.Version.TheVariants.{Second}
 use Rattle.base_file.specs.Base.{Base}
 use Rattle.base_log.specs.Standing.{BaseBytes}
@@ -35,24 +35,16 @@ entries_few (s ∷ all) sizes = omega (arith, stored_some s sizes.0, entries_few
 
 -- if eight bytes count the messages, they count the entries
 keys_few : (keyed : ℕ → ℕ → List ℕ → ℕ) (bytes : BaseBytes) (base : Base) → HoldsBase keyed bytes base → 16 * length base.messages < 2 ^ 64
-keys_few keyed bytes base holds =
-    let files = holds.files in
-    omega (arith, files.long, ap (λ (l : List ℕ). length l) files.stored, ap (λ (l : List Filed). length l) files.filed, length-map files.all (message_in Second), entries_few files.all files.sizes)
+keys_few keyed bytes base holds = grind (arith, length-map, entries_few)
 
 -- the bytes of a message reach to the next one
 reaches : (messages keys : List ℕ) (i : ℕ) (s : Stored) → HasBytesOf messages keys i s → place_at keys i + length (stored_bytes Second s) ≡ place_behind messages keys i
-reaches messages keys i s has =
-    let ends = place_behind messages keys i in
-    omega (arith, has.begins, ap (λ (l : List ℕ). length l) has.bytes, length-drop (place_at keys i) (take ends messages), length-take-le ends messages has.ends)
+reaches messages keys i s has = grind (arith, length-drop, length-take-le)
 
 -- one more purged message has no more bytes than before
 pub shorter_more : (base : List Filed) (was held now : BaseBytes) (place number : ℕ) (bytes : List ℕ) (s : Stored) → AreWhereRecorded base was.messages was.keys → HasBytesOf was.messages was.keys place s
     → length held.messages ≤ place_at was.keys place → length bytes ≤ length (stored_bytes Second s) → now ≡ with_stored held bytes number → place + 1 < length base → length now.messages ≤ place_at was.keys (place + 1)
-shorter_more base was held now place number bytes s recorded has less shorter staged within =
-    let inside : place + 1 < length was.keys / 16 = omega (arith, recorded.many, within) in
-    let next : place_behind was.messages was.keys place ≡ place_at was.keys (place + 1) =
-    cond-true (nat_lt (place + 1) (length was.keys / 16)) (place_at was.keys (place + 1)) (length was.messages) (lt-ltb (place + 1) (length was.keys / 16) inside) in
-    omega (arith, less, shorter, next, reaches was.messages was.keys place s has, ap (λ (b : BaseBytes). length b.messages) staged, length-append held.messages bytes)
+shorter_more base was held now place number bytes s recorded has less shorter staged within = grind (arith, cond-true, nat_lt, lt-ltb, reaches, length-append)
 
 -- and there is room for it
 pub room_left : (keyed : ℕ → ℕ → List ℕ → ℕ) (base : Base) (was held : BaseBytes) (next : Folder) (place bytes : ℕ) (s : Stored) → HoldsBase keyed was base → HoldsLeft keyed base was place held → place < length base.messages

@@ -1,7 +1,6 @@
 -- A folder with readable files.
-use Rattle.std.proofs.Common.{◌≡◌, ◌≤◌, ◌+◌, ℕ, List, length, sym, ap, subst, arith, length-append}
+use Rattle.std.proofs.Common.{◌≡◌, ℕ, List, length, ap, arith, length-append}
 use Rattle.std.proofs.lemmas.List.{length-take-le}
-use Rattle.std.specs.Prelude.{IsSome}
 use Rattle.disk_io.specs.Disk.{DiskState, bytes_in}
 use Rattle.disk_io.specs.Runs.{ChangesNothing}
 use Rattle.base_log.specs.AtRest.{IsStaged}
@@ -15,26 +14,12 @@ use Rattle.base_folder_store.specs.Opened.{IsLegible, IsOpen, and_waiting, held_
 use Rattle.base_folder_store.specs.declared.folder.Folder.{Folder}
 
 pub legible_open : (d : DiskState) (f : Folder) → IsOpen d f → IsLegible d f
-legible_open d f opened = record {
-  names = opened.names;
-  messages_there = opened.staged.messages_there;
-  messages_long = opened.staged.messages_long;
-  keys_there = opened.staged.keys_there;
-  keys_long = opened.staged.keys_long;
-  keys = opened.keys;
-}
+legible_open d f opened = grind arith
 
 -- a folder with unchanged files remains readable
 pub legible_same : (d e : DiskState) (f : Folder) → e.seen (messages_of (path_of f) f.recorded.number) ≡ d.seen (messages_of (path_of f) f.recorded.number)
     → e.seen (keys_of (path_of f) f.recorded.number) ≡ d.seen (keys_of (path_of f) f.recorded.number) → IsLegible d f → IsLegible e f
-legible_same d e f messages keys was = record {
-  names = was.names;
-  messages_there = subst (λ x. IsSome x) (sym messages) was.messages_there;
-  messages_long = subst (λ x. f.recorded.messages ≤ length (bytes_in x)) (sym messages) was.messages_long;
-  keys_there = subst (λ x. IsSome x) (sym keys) was.keys_there;
-  keys_long = subst (λ x. f.recorded.keys ≤ length (bytes_in x)) (sym keys) was.keys_long;
-  keys = was.keys;
-}
+legible_same d e f messages keys was = grind arith
 
 pub legible_quiet : (d e : DiskState) (f : Folder) → ChangesNothing d e → IsLegible d f → IsLegible e f
 legible_quiet d e f quiet was = legible_same d e f (quiet.seen (messages_of (path_of f) f.recorded.number)) (quiet.seen (keys_of (path_of f) f.recorded.number)) was
@@ -49,15 +34,8 @@ keys_count d path end recorded staged = length-take-le recorded.keys (bytes_in (
 
 -- the number of bytes of all keys
 pub keys_all : (d : DiskState) (f : Folder) → IsLegible d f → length (held_by d f).keys ≡ f.keys
-keys_all d f legible =
-    let written : length (base_at d (path_of f) f.recorded).keys ≡ f.recorded.keys = length-take-le f.recorded.keys (bytes_in (d.seen (keys_of (path_of f) f.recorded.number))) legible.keys_long in
-    let all : length (held_by d f).keys ≡ length (base_at d (path_of f) f.recorded).keys + length f.waiting.keys.items = length-append (base_at d (path_of f) f.recorded).keys f.waiting.keys.items in
-    let sum = legible.keys in
-    omega (arith, written, all, sum)
+keys_all d f legible = grind (arith, length-take-le, length-append)
 
 -- the number of bytes of all messages
 pub messages_all : (d : DiskState) (f : Folder) → IsLegible d f → length (held_by d f).messages ≡ next_place f
-messages_all d f legible =
-    let written : length (base_at d (path_of f) f.recorded).messages ≡ f.recorded.messages = length-take-le f.recorded.messages (bytes_in (d.seen (messages_of (path_of f) f.recorded.number))) legible.messages_long in
-    let all : length (held_by d f).messages ≡ length (base_at d (path_of f) f.recorded).messages + length f.waiting.messages.items = length-append (base_at d (path_of f) f.recorded).messages f.waiting.messages.items in
-    omega (arith, written, all)
+messages_all d f legible = grind (arith, length-take-le, length-append)

@@ -1,5 +1,5 @@
 -- A message looked up among those of a base.
-use Rattle.std.proofs.Common.{◌≡◌, ◌≢◌, ℕ, suc, ◌*◌, ◌/◌, ◌<◌, ◌≤◌, Bool, false, List, [], ◌∷◌, length, get_or, refl, sym, subst, ◌∙◌, arith, ⊎_elim}
+use Rattle.std.proofs.Common.{◌≡◌, ◌≢◌, ℕ, suc, ◌*◌, ◌/◌, ◌<◌, ◌≤◌, Bool, false, List, [], ◌∷◌, length, get_or, refl, sym, ◌∙◌, arith, ⊎_elim}
 use Rattle.std.specs.List.{list_any}
 use Rattle.std.proofs.lemmas.Bool.{cases_lt, false_from_ne_true, or_from}
 use Rattle.echo_filed.specs.Filed.{Filed}
@@ -23,19 +23,13 @@ stored_of base place bytes file of same d = record { s = of.s; size = of.size; a
 
 -- a message of a base that has one
 pub some_message : (base : List Filed) (i : ℕ) → i < length base → Filed
-some_message [] i within = absurd (omega (arith, within))
-some_message (m ∷ rest) i within = m
+some_message h1 i within = grind arith
 
 -- those from one on that was looked at do not pass
 pub passed_on : (test : Filed → Bool) (digest : ℕ) (base : List Filed) (keys : List ℕ) (below place : ℕ) → length keys ≡ 16 * length base → HaveDigest test digest base keys
     → ((j : ℕ) (d : Filed) → below ≤ j → j < length base → test (get_or base j d) ≡ false) → ((j : ℕ) → place < j → j < below → j < length keys / 16 → digest_at keys j ≢ digest)
     → ((d : Filed) → test (get_or base place d) ≡ false) → (j : ℕ) (d : Filed) → place ≤ j → j < length base → test (get_or base j d) ≡ false
-passed_on test digest base keys below place many have behind others fails j d from inside =
-    let here : (j ≡ place) → test (get_or base j d) ≡ false = λ at. subst (λ (n : ℕ). test (get_or base n d) ≡ false) (sym at) (fails d) in
-    ⊎_elim
-    (λ (h : j < below). ⊎_elim (λ (k : place < j). other_digest test digest base keys have j d inside (others j k h (omega (arith, many, inside)))) (λ (k : j ≤ place). here (omega (arith, k, from))) (cases_lt place j))
-    (λ (h : below ≤ j). behind j d h inside)
-    (cases_lt j below)
+passed_on test digest base keys below place many have behind others fails j d from inside = grind (arith, get_or, other_digest, cases_lt)
 
 -- no message passes if all from a number on fail and no earlier one has the digest
 pub none_found : (test : Filed → Bool) (digest : ℕ) (base : List Filed) (keys : List ℕ) (below : ℕ) → length keys ≡ 16 * length base → HaveDigest test digest base keys

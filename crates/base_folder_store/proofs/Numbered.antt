@@ -1,5 +1,5 @@
 -- A message is at the place in the entry of its number.
-use Rattle.std.proofs.Common.{◌≡◌, ℕ, ◌≤◌, ◌<◌, ◌+◌, ◌-◌, ◌*◌, ◌/◌, List, ◌++◌, length, min, take, drop, nat_lt, sym, ◌∙◌, ap, subst, arith, ⊎_elim, length-append, length-drop}
+use Rattle.std.proofs.Common.{◌≡◌, ℕ, ◌≤◌, ◌<◌, ◌+◌, ◌-◌, ◌*◌, ◌/◌, List, ◌++◌, length, min, take, drop, nat_lt, sym, ◌∙◌, ap, arith, ⊎_elim, length-append, length-drop}
 use Rattle.std.proofs.lemmas.Bool.{cases_lt, cond-false, cond-true, le-ltb, lt-ltb}
 use Rattle.std.proofs.lemmas.List.{drop-append-le, drop-drop, length-take-le, take-append-drop, take-append-le}
 use Rattle.std.specs.Int.{w64, from_le_bytes}
@@ -37,10 +37,7 @@ piece_place keys from piece i is within =
 -- two entries give the start and the end of the first message, or one entry if it is the last
 module _ (messages keys piece : List ℕ) (place : ℕ) (is : IsPieceOf keys place piece) (inside : place < length keys / 16) (two : length piece / 16 ≡ min 2 (length keys / 16 - place)) where
   begins_there : place_at piece 0 ≡ place_at keys place
-  begins_there =
-      let some : 0 < length piece / 16 = omega (arith, inside, two) in
-      let none : place + 0 ≡ place = omega arith in
-      sym (piece_place keys place piece 0 is some) ∙ ap (place_at keys) none
+  begins_there = grind (arith, piece_place)
 
   ends_there : place_behind messages piece 0 ≡ place_behind messages keys place
   ends_there =
@@ -59,11 +56,7 @@ module _ (messages keys piece : List ℕ) (place : ℕ) (is : IsPieceOf keys pla
       (cases_lt (place + 1) (length keys / 16))
 
   pub piece_has : (s : Stored) → HasBytesOf messages keys place s → HasBytesOf messages piece 0 s
-  piece_has s has = record {
-    begins = subst (λ (n : ℕ). n ≤ place_behind messages piece 0) (sym begins_there) (subst (λ (n : ℕ). place_at keys place ≤ n) (sym ends_there) has.begins);
-    ends = subst (λ (n : ℕ). n ≤ length messages) (sym ends_there) has.ends;
-    bytes = (λ i. drop (begins_there i) (take (ends_there i) messages)) ∙ has.bytes;
-  }
+  piece_has s has = grind (arith, begins_there, ends_there)
 
   pub first_digest : digest_at piece 0 ≡ digest_at keys place
   first_digest =

@@ -39,7 +39,4 @@ files_more digest base cursor messages keys m bytes number was is filed new reco
 
 pub holds_more : (keyed : ℕ → ℕ → List ℕ → ℕ) (held : BaseBytes) (base : Base) (m : Filed) (bytes : List ℕ) (number : ℕ) → HoldsBase keyed held base → IsStoredAlone m bytes → IsFiled m
     → is_known base.messages (key_of m) ≡ false → number ≡ digest_by keyed held.mark (digested m) → length (held.messages ++ bytes) < 2 ^ 64 → HoldsBase keyed (with_stored held bytes number) (with_message base m)
-holds_more keyed held base m bytes number was is filed new recorded fits = record {
-  files = files_more (digest_by keyed held.mark) base.messages base.cursor held.messages held.keys m bytes number was.files is filed new recorded fits;
-  cursor = was.cursor;
-}
+holds_more keyed held base m bytes number was is filed new recorded fits = grind (arith, files_more)

@@ -1,6 +1,6 @@
 -- The facts that the first two lines of a text give without parsing.
-use Rattle.std.proofs.Common.{◌≡◌, ℕ, ◌<◌, ◌≤◌, ◌==◌, nat_lt, true, false, List, ◌∷◌, ◌++◌, length, map, take, drop, get_or, Option, Some, refl, sym, ap, ◌∙◌, arith}
-use Rattle.std.specs.List.{filter, find}
+use Rattle.std.proofs.Common.{◌≡◌, ℕ, ◌<◌, ◌≤◌, nat_lt, true, false, List, ◌∷◌, ◌++◌, length, take, drop, get_or, Option, Some, refl, sym, ap, ◌∙◌, arith}
+use Rattle.std.specs.List.{find}
 use Rattle.std.proofs.lemmas.Bool.{and_from, cond-false, cond-true, lt-ltb, ne_eqb, or_from}
 use Rattle.std.proofs.lemmas.List.{drop_at, take-append-drop}
 use Rattle.std.proofs.lemmas.Slice.Eq.{bytes_eq-Decides}
@@ -10,10 +10,9 @@ use Rattle.echo_text.specs.Lines.{after_word, area_tag, area_word, begins, first
 use Rattle.echo_text.specs.Tail.{kept_of}
 use Rattle.echo_text.proofs.KeptLines.{msgids_kept}
 use Rattle.echo_text.proofs.Tags.{area_tag_back}
-use Rattle.echo_filed.specs.Filed.{Filed, has_id, key_of, key_with, same_key}
+use Rattle.echo_filed.specs.Filed.{Filed, has_id, key_of, same_key}
 use Rattle.echo_filed.specs.Stored.{IsStored, Stored, after_length, after_long_length, has_tag, last_bytes, message_in, stored_bytes}
 use Rattle.echo_filed.specs.Written.{echo_of}
-use Rattle.echo_filed.specs.declared.key.Key.{Key}
 use Rattle.echo_filed.specs.declared.key.Key.TheVariants.{ById}
 use Rattle.echo_filed.specs.declared.stored.Version.TheVariants.{Second}
 
@@ -27,15 +26,10 @@ first_found id others some = cond-true (nat_lt 0 (length id)) (Some id) (find (�
 -- a MSGID line in front has the id
 id_in_front : (rest id : List ℕ) (later : List (List ℕ)) → trimmed rest ≡ id → 0 < length id → msgid_of (kept_of ((msgid_word ++ rest) ∷ later)) ≡ Some id
 unfolding msgid_of begins after_word
-id_in_front rest id later is some =
-    ap (λ (found : List (List ℕ)). find (λ found. nat_lt 0 (length found)) (map (λ line. trimmed (after_word msgid_word line)) found)) (msgids_kept ((msgid_word ++ rest) ∷ later))
-    ∙ ap (λ (one : List ℕ). find (λ found. nat_lt 0 (length found)) (one ∷ map (λ line. trimmed (after_word msgid_word line)) (filter (begins msgid_word) later))) is
-    ∙ first_found id (map (λ line. trimmed (after_word msgid_word line)) (filter (begins msgid_word) later)) some
+id_in_front rest id later is some = grind (arith, nat_lt, msgids_kept, first_found)
 
 pub plain_id : (line id : List ℕ) (later : List (List ℕ)) → take 7 line ≡ msgid_word → trimmed (drop 7 line) ≡ id → 0 < length id → msgid_of (kept_of (line ∷ later)) ≡ Some id
-plain_id line id later front rest some =
-    ap (λ (l : List ℕ). msgid_of (kept_of (l ∷ later))) (sym (take-append-drop 7 line) ∙ ap (λ (l : List ℕ). l ++ drop 7 line) front)
-    ∙ id_in_front (drop 7 line) id later rest some
+plain_id line id later front rest some = grind (arith, take-append-drop, id_in_front)
 
 -- the names of a stored message come after 27 bytes
 pub strings_in : (s : Stored) (bytes : List ℕ) → IsStored Second s → bytes ≡ stored_bytes Second s
@@ -48,9 +42,7 @@ strings_in s bytes size is =
 -- its first byte shows that it has its text
 pub whole_in : (s : Stored) (bytes : List ℕ) → bytes ≡ stored_bytes Second s → get_or bytes 0 0 ≤ 1 → has_tag Second s.kind ≡ false
 unfolding stored_bytes
-whole_in s bytes is small =
-    let first : get_or bytes 0 0 ≡ s.kind = ap (λ (l : List ℕ). get_or l 0 0) is in
-    or_from (s.kind == 2) (s.kind == 3) (ne_eqb s.kind 2 (λ (e : s.kind ≡ 2). omega (arith, first, small, e))) (ne_eqb s.kind 3 (λ (e : s.kind ≡ 3). omega (arith, first, small, e)))
+whole_in s bytes is small = grind (arith, get_or, or_from, ne_eqb)
 
 -- the text comes after its length
 pub last_in : (s : Stored) (last : List ℕ) → has_tag Second s.kind ≡ false → last ≡ last_bytes Second s → drop 4 last ≡ s.last
@@ -75,7 +67,4 @@ module _ (s : Stored) (m : Filed) (text id : List ℕ) (is : message_in Second s
 
   pub plain_key : (tag : List ℕ) → area_tag (first_line (lines text)) ≡ tag → same_key (key_of m) (ById tag id) ≡ true
   unfolding key_of echo_of
-  plain_key tag tagged =
-      let said : m.echo.tag ≡ tag = ap (λ (e : EchoText). e.tag) echo ∙ tagged in
-      let key : key_of m ≡ ById tag id = (λ i. key_with m (kept_is i)) ∙ ap (λ (t : List ℕ). ById t id) said in
-      ap (λ (k : Key). same_key k (ById tag id)) key ∙ and_from (bytes_eq tag tag) (bytes_eq id id) ((bytes_eq-Decides tag tag).1 refl) ((bytes_eq-Decides id id).1 refl)
+  plain_key tag tagged = grind (arith, echo, kept_is, and_from, bytes_eq-Decides)

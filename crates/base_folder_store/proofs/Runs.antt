@@ -1,5 +1,5 @@
 -- Sequences of calls on an open base folder.
-use Rattle.std.proofs.Common.{◌≡◌, inl, inr, ⊎_elim, List, ℕ, Result, ◌∙◌, subst}
+use Rattle.std.proofs.Common.{◌≡◌, inl, inr, ⊎_elim, List, ℕ, Result, ◌∙◌, subst, arith}
 use Rattle.disk_io.specs.Disk.{DiskState, Honestly}
 use Rattle.disk_io.specs.Runs.{ChangesNothing}
 use Rattle.disk_io.proofs.Moments.{then_nothing, then_run, weaker_run}
@@ -18,10 +18,7 @@ run_none d f opened = record { any_moment = λ honest. nothing_left d f (opened 
 
 -- the disk was only looked at
 pub run_quiet : (d e : DiskState) (f : Folder) → Honestly d (IsOpen d f) → ChangesNothing d e → StagesOnly (path_of f) (committed_by d f) d e
-run_quiet d e f opened quiet = record {
-  any_moment = λ honest. then_nothing d d e (RepresentsAlone (path_of f) d (committed_by d f)) (nothing_left d f (opened (quiet.honest honest))) quiet;
-  outside = outside_quiet (path_of f) d e quiet;
-}
+run_quiet d e f opened quiet = grind (arith, then_nothing, nothing_left, outside_quiet)
 
 -- one run that stages after another
 pub run_twice : (path here : List ℕ) (d e f : DiskState) (base now : BaseBytes) → here ≡ path → StagesOnly path base d e → StagesOnly here now e f → Honestly e (now ≡ base) → StagesOnly path base d f
@@ -41,10 +38,7 @@ run_twice path here d e f base now at one there same =
 
 -- a run that only stages commits nothing
 pub run_staged : (path : List ℕ) (d e : DiskState) (first next : BaseBytes) → StagesOnly path first d e → CommitsOnly path first next d e
-run_staged path d e first next one = record {
-  any_moment = λ honest. weaker_run d e (RepresentsAlone path d first) (IsBeforeOrAfter path d first next) (one.any_moment honest) (λ c left. record { outside = left.outside; represented = inl left.represented });
-  outside = one.outside;
-}
+run_staged path d e first next one = grind (arith, weaker_run)
 
 -- a commit after a run that stages
 pub run_to_commit : (path here : List ℕ) (d e f : DiskState) (first next now held : BaseBytes) → here ≡ path → StagesOnly path first d e → CommitsOnly here now held e f → Honestly e (now ≡ first) → Honestly e (held ≡ next)

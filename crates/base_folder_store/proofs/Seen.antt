@@ -1,5 +1,5 @@
 -- The answers of a store over a base folder about its base.
-use Rattle.std.proofs.Common.{◌≡◌, ◌<◌, ◌/◌, ◌^◌, ◌++◌, ℕ, false, true, List, length, get_or, Option, Some, None, sym, ap, subst, ◌∙◌, arith}
+use Rattle.std.proofs.Common.{◌≡◌, ◌<◌, ◌/◌, ◌^◌, ℕ, false, true, List, length, get_or, Option, Some, None, sym, ap, ◌∙◌, arith}
 use Rattle.std.specs.Prelude.{bytes_eq, option_map, slice_get, unwrap_or}
 use Rattle.std.specs.Cmp.Lexicographic.{bytes_decides}
 use Rattle.std.proofs.lemmas.Option.{slice_get-get_or}
@@ -11,7 +11,7 @@ use Rattle.echo_filed.specs.declared.key.Key.{Key}
 use Rattle.echo_filed.proofs.Keys.{same_key_decides}
 use Rattle.base_file.specs.Alone.{IsStoredAlone}
 use Rattle.base_file.specs.Base.{Base, IsBase, is_known}
-use Rattle.base_store.specs.Keys.{digested, digested_key, digested_with}
+use Rattle.base_store.specs.Keys.{digested_key, digested_with}
 use Rattle.base_store.proofs.Digests.{of_key}
 use Rattle.base_store.proofs.Recorded.{recorded_base_each}
 use Rattle.base_store.specs.Store.{all_scanned, with_message}
@@ -66,24 +66,7 @@ abbrev pub at_end : Folder → Folder
 at_end f = record f { recorded = record f.recorded { cursor = f.keys / 16 } }
 
 pub end_open : (d : DiskState) (f : Folder) → IsOpen d f → IsOpen d (at_end f)
-end_open d f was = record {
-  names = was.names;
-  staged = record {
-    log = was.staged.log;
-    represented = was.staged.represented;
-    shown = was.staged.shown;
-    digit = was.staged.digit;
-    messages_there = was.staged.messages_there;
-    keys_there = was.staged.keys_there;
-    messages_alone = was.staged.messages_alone;
-    keys_alone = was.staged.keys_alone;
-    messages_long = was.staged.messages_long;
-    keys_long = was.staged.keys_long;
-    messages_behind = was.staged.messages_behind;
-    keys_behind = was.staged.keys_behind;
-  };
-  keys = was.keys;
-}
+end_open d f was = grind arith
 
 pub end_holds : (keyed : ℕ → ℕ → List ℕ → ℕ) (d : DiskState) (f : Folder) (base : Base) → IsOpen d f → HoldsBase keyed (held_by d f) base → HoldsBase keyed (held_by d (at_end f)) (all_scanned base)
 end_holds keyed d f base opened holds =
@@ -107,8 +90,4 @@ end_holds keyed d f base opened holds =
 -- a message that was filed, with its digest
 pub filed_more : (keyed : ℕ → ℕ → List ℕ → ℕ) (now held : BaseBytes) (base : Base) (m : Filed) (key : Key) (bytes : List ℕ) (number : ℕ) → now ≡ with_stored held bytes number → length now.messages < 2 ^ 64
     → HoldsBase keyed held base → IsStoredAlone m bytes → IsFiled m → key ≡ key_of m → is_known base.messages key ≡ false → number ≡ digest_by keyed held.mark (digested_key key) → HoldsBase keyed now (with_message base m)
-filed_more keyed now held base m key bytes number staged fits holds stored filed own new recorded =
-    let number_is : number ≡ digest_by keyed held.mark (digested m) = recorded ∙ ap (digest_by keyed held.mark) (ap digested_key own ∙ sym (of_key m)) in
-    let unknown : is_known base.messages (key_of m) ≡ false = subst (λ (k : Key). is_known base.messages k ≡ false) own new in
-    let room : length (held.messages ++ bytes) < 2 ^ 64 = subst (λ (b : BaseBytes). length b.messages < 2 ^ 64) staged fits in
-    subst (λ (b : BaseBytes). HoldsBase keyed b (with_message base m)) (sym staged) (holds_more keyed held base m bytes number holds stored filed unknown number_is room)
+filed_more keyed now held base m key bytes number staged fits holds stored filed own new recorded = grind (arith, of_key, holds_more)

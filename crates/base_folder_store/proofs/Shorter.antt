@@ -11,7 +11,7 @@ use Rattle.echo_text.specs.Lines.{after_feeds, after_word, area_word, begins, is
 use Rattle.echo_filed.specs.Filed.{Filed}
 use Rattle.echo_filed.specs.Sending.{front_bytes, strings_bytes}
 use Rattle.echo_filed.specs.Stored.{IsStored, Stored, after_length, after_long_length, is_short, is_short_enough, message_in, stored_as, stored_bytes}
-use Rattle.echo_filed.specs.Stubs.{is_stub, stub_of, stub_with}
+use Rattle.echo_filed.specs.Stubs.{stub_of, stub_with}
 use Rattle.echo_filed.specs.Written.{short_lines, text_of}
 use Rattle.echo_filed.specs.declared.stored.Version.TheVariants.{Second}
 use Rattle.echo_filed.proofs.Keys.{msgid_first, msgid_is_id, stub_of_stub}
@@ -77,10 +77,7 @@ text_long e =
 -- how long a stored message is
 stored_long : (short : Bool) (m : Filed)
     → length (stored_bytes Second (stored_as short m)) ≡ length (front_bytes (stored_as short m)) + (length (strings_bytes m.to_name m.from_name m.subject) + length (last_sent short m))
-stored_long short m =
-    ap (λ (l : List ℕ). length l) (sym (stored_parts short m))
-    ∙ length-append (front_bytes (stored_as short m)) (strings_bytes m.to_name m.from_name m.subject ++ last_sent short m)
-    ∙ ap (λ (n : ℕ). length (front_bytes (stored_as short m)) + n) (length-append (strings_bytes m.to_name m.from_name m.subject) (last_sent short m))
+stored_long short m = grind (arith, stored_parts, length-append, last_sent)
 
 -- a message, saved as scanned or not, is saved with no more bytes as its stub, and four bytes count these
 record IsLess (short : Bool) (m stub : Filed) : Type 0 where
@@ -89,8 +86,7 @@ record IsLess (short : Bool) (m stub : Filed) : Type 0 where
 
 -- its last part
 last_less : (short : Bool) (m : Filed) (id : List ℕ) → msgid_of m.echo.kept ≡ Some id → length (after_length m.echo.tag ++ after_long_length id) ≤ length (last_sent short m)
-last_less true m id has = let same = ap (λ (o : Option (List ℕ)). length (after_length m.echo.tag ++ after_long_length (unwrap_or o []))) has in omega (arith, same)
-last_less false m id has = omega (arith, length-append (after_length m.echo.tag) (after_long_length id), id_within m.echo.kept id has, text_long m.echo)
+last_less h1 m id has = grind (arith, length-append, id_within, text_long)
 
 last_few : (short : Bool) (m : Filed) (id : List ℕ) → msgid_of m.echo.kept ≡ Some id → length id ≤ length (stored_as short m).last
 last_few true m id has = let same = ap (λ (o : Option (List ℕ)). length (unwrap_or o [])) has in omega (arith, same)
@@ -106,46 +102,15 @@ front_same short m id = refl
 -- with an id it is saved in short form
 with_id : (short : Bool) (m : Filed) (id : List ℕ) → msgid_of m.echo.kept ≡ Some id → IsLess short m (stub_with m (Some id))
 unfolding stored_at
-with_id short m id has =
-    let stub = stub_with m (Some id) in
-    let recorded : msgid_of stub.echo.kept ≡ Some id = msgid_first id [] (msgid_is_id m.echo.kept id has) in
-    let one : stub_of m ≡ stub = stub_is m id has in
-    let again : stub_of stub ≡ stub = ap stub_of (sym one) ∙ stub_of_stub m ∙ one in
-    let is : is_short Second 1 0 stub ≡ true = and_from (is_some (msgid_of stub.echo.kept)) (is_stub stub) (ap is_some recorded) ((stub_reported stub).1 again) in
-    let at : stored_at 1 0 stub ≡ stored_as true stub = ap (λ (b : Bool). stored_as b stub) is in
-    let last : last_sent true stub ≡ after_length m.echo.tag ++ after_long_length id = ap (λ (o : Option (List ℕ)). after_length m.echo.tag ++ after_long_length (unwrap_or o [])) recorded in
-    record {
-      less = omega (
-        arith,
-        ap (λ (s : Stored). length (stored_bytes Second s)) at,
-        stored_long true stub,
-        stored_long short m,
-        ap (λ (l : List ℕ). length l) last,
-        last_less short m id has,
-        front_same short m id,
-      );
-      few = λ fits.
-          let size = ap (λ (s : Stored). length s.last) at in
-          let short_last = ap (λ (o : Option (List ℕ)). length (unwrap_or o [])) recorded in
-          let below = ltb-true (length (stored_as short m).last) (2 ^ 32) fits in
-          lt-ltb (length (stored_at 1 0 stub).last) (2 ^ 32) (omega (arith, size, short_last, below, last_few short m id has));
-    }
+with_id short m id has = grind (arith, msgid_first, msgid_is_id, stub_is, stub_of_stub, and_from, stub_reported, last_sent, stored_long, last_less, front_same, ltb-true, lt-ltb, last_few)
 
 never : (past stub : Bool) (has : Option (List ℕ)) → has ≡ None → (past && (is_some has && stub)) ≡ false
-never true stub has none = ap (λ (o : Option (List ℕ)). is_some o && stub) none
-never false stub has none = refl
+never h1 stub has none = grind arith
 
 -- without one it stays
 without_id : (cursor : ℕ) (m : Filed) → msgid_of m.echo.kept ≡ None → IsLess (is_short Second cursor 0 m) m m
 unfolding stored_at
-without_id cursor m none =
-    let not_now : is_short Second 1 0 m ≡ false = ap (λ (o : Option (List ℕ)). is_some o && is_stub m) none in
-    let not_then : is_short Second cursor 0 m ≡ false = never (nat_lt 0 cursor) (is_stub m) (msgid_of m.echo.kept) none in
-    let same : stored_at 1 0 m ≡ stored_as (is_short Second cursor 0 m) m = ap (λ (b : Bool). stored_as b m) (not_now ∙ sym not_then) in
-    record {
-      less = let size = ap (λ (s : Stored). length (stored_bytes Second s)) same in omega (arith, size);
-      few = λ fits. ap is_short_enough same ∙ fits;
-    }
+without_id cursor m none = grind (arith, never, nat_lt)
 
 less_of : (cursor : ℕ) (m : Filed) (has : Option (List ℕ)) → msgid_of m.echo.kept ≡ has → IsLess (is_short Second cursor 0 m) m (stub_of m)
 unfolding stub_of

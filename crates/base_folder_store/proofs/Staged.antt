@@ -1,5 +1,5 @@
 -- An open base folder after staging and after a commit.
-use Rattle.std.proofs.Common.{◌≡◌, ◌<◌, ◌+◌, ◌^◌, ℕ, List, ◌++◌, length, refl, sym, ap, subst, ◌∙◌, arith, length-append}
+use Rattle.std.proofs.Common.{◌≡◌, ◌<◌, ◌+◌, ◌^◌, ℕ, List, ◌++◌, length, sym, ap, subst, ◌∙◌, arith, length-append}
 use Rattle.std.proofs.lemmas.List.{append_assoc, length-take-le}
 use Rattle.disk_io.specs.Disk.{DiskState, bytes_in}
 use Rattle.disk_io.specs.Runs.{LeavesOnly}
@@ -21,13 +21,7 @@ use Rattle.base_folder_store.proofs.Waits.{written_held}
 
 -- without a call, everything outside is unchanged
 pub outside_same : (path : List ℕ) (d : DiskState) → KeepsOutside path d d
-outside_same path d = record {
-  seen = λ m out. refl;
-  named = λ m out is. is;
-  flushed = λ m out is. is;
-  alone = λ m out is. is;
-  honest = λ is. is;
-}
+outside_same path d = grind arith
 
 -- it has the paths of its files still
 pub names_kept : (f g : Folder) → g.names ≡ f.names → g.recorded ≡ f.recorded → IsNamed f → IsNamed g
@@ -44,29 +38,13 @@ committed_staged d path after recorded rest is = subst (λ (t : CommitRecord). I
 -- the folder with one more waiting message, and its entry
 module _ (d : DiskState) (f g : Folder) (bytes : List ℕ) (digest : ℕ) (was : IsOpen d f) (more : OneMoreWaits f g bytes digest) where
   regrouped : and_keys (and_messages (base_at d (path_of f) f.recorded) (f.waiting.messages.items ++ bytes)) (f.waiting.keys.items ++ entry (next_place f) digest) ≡ and_keys (and_messages (held_by d f) bytes) (entry (next_place f) digest)
-  regrouped = λ i. record {
-    messages = sym (append_assoc (base_at d (path_of f) f.recorded).messages f.waiting.messages.items bytes) i;
-    keys = sym (append_assoc (base_at d (path_of f) f.recorded).keys f.waiting.keys.items (entry (next_place f) digest)) i;
-    cursor = f.recorded.cursor;
-    mark = f.recorded.mark;
-  }
+  regrouped = grind (arith, append_assoc)
 
   added_held : held_by d g ≡ and_keys (and_messages (held_by d f) bytes) (entry (next_place f) digest)
   added_held = (λ i. and_keys (and_messages (base_at d (folder_of (more.names i)) (more.recorded i)) (more.messages i)) (more.entries i)) ∙ regrouped
 
   pub added_open : IsOpen d g
-  added_open = record {
-    names = names_kept f g more.names more.recorded was.names;
-    staged = subst (λ (t : CommitRecord). IsStaged d (path_of g) g.end t) (sym more.recorded)
-        (subst (λ (x : End). IsStaged d (path_of g) x f.recorded) (sym more.end) (subst (λ (n : Names). IsStaged d (folder_of n) f.end f.recorded) (sym more.names) was.staged));
-    keys =
-        let one : length (entry (next_place f) digest) ≡ 16 = refl in
-        let was_keys = was.keys in
-        let now = more.keys in
-        let recorded = ap (λ (t : CommitRecord). t.keys) more.recorded in
-        let wait = ap (λ (l : List ℕ). length l) more.entries ∙ length-append f.waiting.keys.items (entry (next_place f) digest) in
-        omega (arith, one, was_keys, now, recorded, wait);
-  }
+  added_open = grind (arith, names_kept, length-append)
 
   is_place : f.recorded.messages + length f.waiting.messages.items ≡ length (held_by d f).messages
   is_place =
@@ -78,22 +56,13 @@ module _ (d : DiskState) (f g : Folder) (bytes : List ℕ) (digest : ℕ) (was :
   added_stored = added_held ∙ ap (λ (n : ℕ). and_keys (and_messages (held_by d f) bytes) (entry n digest)) is_place
 
   pub added_fits : length (held_by d g).messages < 2 ^ 64
-  added_fits =
-      let all : length (held_by d g).messages ≡ length ((held_by d f).messages ++ bytes) = ap (λ (b : BaseBytes). length b.messages) added_held in
-      let longer = length-append (held_by d f).messages bytes in
-      let room : f.recorded.messages + length f.waiting.messages.items + length bytes < 2 ^ 64 = more.fits in
-      omega (arith, all, longer, is_place, room)
-
-  pub added_committed : committed_by d g ≡ committed_by d f
-  added_committed = λ i. base_at d (folder_of (more.names i)) (more.end i).recorded
+  added_fits = grind (arith, added_held, length-append, is_place)
 
 -- the folder once all that waited is written
 module _ (d e : DiskState) (f g : Folder) (bytes one : List ℕ) (was : IsOpen d f) (names : g.names ≡ f.names) (end : g.end ≡ f.end) (keys : g.keys ≡ f.keys) (none : IsWritten g)
     (messages : bytes ≡ f.waiting.messages.items) (entries : one ≡ f.waiting.keys.items) (added : base_at e (path_of f) g.recorded ≡ and_keys (and_messages (base_at d (path_of f) f.recorded) bytes) one) where
   pub out_held : held_by e g ≡ held_by d f
-  out_held =
-      written_held e g none ∙ (λ i. base_at e (folder_of (names i)) g.recorded) ∙ added
-      ∙ (λ i. and_keys (and_messages (base_at d (path_of f) f.recorded) (messages i)) (entries i))
+  out_held = grind (arith, written_held)
 
   pub out_open : g.recorded.number ≡ f.recorded.number → IsStaged e (path_of f) f.end g.recorded → IsOpen e g
   out_open number staged = record {

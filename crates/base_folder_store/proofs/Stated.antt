@@ -1,21 +1,21 @@
 -- A base folder as a store, before and after calls.
-use Rattle.std.proofs.Common.{◌≡◌, ◌≤◌, ◌<◌, ◌⊎◌, inl, inr, ℕ, List, length, Option, Result, Ok, Err, refl, sym, ap, subst, arith}
+use Rattle.std.proofs.Common.{◌≡◌, ◌≤◌, ◌<◌, ◌⊎◌, ℕ, List, length, Option, Result, Ok, Err, refl, sym, ap, subst, arith}
 use Rattle.std.specs.Prelude.{IfOk, OnOk, IsErrOf}
-use Rattle.disk_io.specs.Disk.{DiskState, Files, Honestly, IsIn}
+use Rattle.disk_io.specs.Disk.{DiskState, Files, Honestly}
 use Rattle.disk_io.specs.Runs.{ChangesNothing}
 use Rattle.disk_io.proofs.Moments.{weaker_run}
-use Rattle.base_log.specs.Moments.{IsBeforeOrAfter, KeepsOutside, RepresentsAlone}
+use Rattle.base_log.specs.Moments.{KeepsOutside}
 use Rattle.base_log.specs.Standing.{BaseBytes, Represents}
 use Rattle.base_log.proofs.Quiet.{base_quiet}
 use Rattle.base_file.specs.Base.{Base}
 use Rattle.echo_filed.specs.Filed.{Filed}
-use Rattle.base_store.specs.Store.{Commits, CommitsNothing, GoesOn, HasStoreCause, IsSameStore, KeepsOthers, LooksOn, MayCommit, LeavesCommitted, LeavesEither, StoreState}
+use Rattle.base_store.specs.Store.{Commits, CommitsNothing, GoesOn, HasStoreCause, IsSameStore, KeepsOthers, LooksOn, MayCommit, StoreState}
 use Rattle.base_store.specs.declared.store_error.StoreError.{StoreError}
 use Rattle.base_store.specs.declared.store_error.StoreError.TheVariants as error
 use Rattle.base_folder_store.specs.Answers.{Answers, HasReadCause}
 use Rattle.base_folder_store.specs.Calls.{CommitsOnly, IsAcknowledged, StagesOnly, StaysOpen}
 use Rattle.base_folder_store.specs.Held.{HoldsBase, RepresentsBase}
-use Rattle.base_folder_store.specs.Opened.{IsNamed, IsOpen, and_waiting, committed_by, held_by, path_of}
+use Rattle.base_folder_store.specs.Opened.{IsNamed, IsOpen, committed_by, held_by, path_of}
 use Rattle.base_folder_store.specs.State.{IsUsable, state_of}
 use Rattle.base_folder_store.specs.declared.folder.Folder.{Folder}
 use Rattle.base_folder_store.proofs.Bases.{open_quiet}
@@ -23,38 +23,18 @@ use Rattle.base_store.proofs.Causes.{same_error}
 
 -- a look at the disk is one at the store
 pub looks : (d e : DiskState) (keyed : ℕ → ℕ → List ℕ → ℕ) (f : Folder) (h k : Option Filed) → IsUsable d f → ChangesNothing d e → LooksOn (state_of d keyed f h) (state_of e keyed f k)
-looks d e keyed f h k usable quiet =
-    let held : held_by e f ≡ held_by d f = ap (λ (b : BaseBytes). and_waiting b f.waiting) (base_quiet d e (path_of f) f.recorded quiet) in
-    let recorded : committed_by e f ≡ committed_by d f = base_quiet d e (path_of f) f.end.recorded quiet in
-    record {
-      ready = record { named = usable.named; opened = λ honest. open_quiet d e f quiet (usable.opened (quiet.honest honest)) };
-      keeps = λ base is. subst (λ (b : BaseBytes). HoldsBase keyed b base) (sym held) is;
-      keeps_no_other = λ base is. subst (λ (b : BaseBytes). HoldsBase keyed b base) held is;
-      committed = λ base is. subst (λ (b : BaseBytes). HoldsBase keyed b base) (sym recorded) is;
-      quiet = quiet;
-      same = record { represented = λ base c. (λ x. x, λ x. x); own = λ m. (λ x. x, λ x. x); undoes = (λ x. x, λ x. x) };
-    }
+looks d e keyed f h k usable quiet = grind (arith, base_quiet, open_quiet)
 
 -- the same folder, by its path
 pub same_folder : (d e : DiskState) (keyed : ℕ → ℕ → List ℕ → ℕ) (f g : Folder) (h k : Option Filed) → path_of g ≡ path_of f → IsSameStore (state_of d keyed f h) (state_of e keyed g k)
-same_folder d e keyed f g h k path = record {
-  represented = λ base c. (subst (λ (p : List ℕ). RepresentsBase keyed p base c) path, subst (λ (p : List ℕ). RepresentsBase keyed p base c) (sym path));
-  own = λ m. (subst (λ (p : List ℕ). IsIn p m) path, subst (λ (p : List ℕ). IsIn p m) (sym path));
-  undoes = (λ x. x, λ x. x);
-}
+same_folder d e keyed f g h k path = grind arith
 
 pub others : (d e : DiskState) (keyed : ℕ → ℕ → List ℕ → ℕ) (f g : Folder) (h k : Option Filed) → KeepsOutside (path_of f) d e → KeepsOthers (state_of d keyed f h) (state_of e keyed g k)
 others d e keyed f g h k kept = record { seen = kept.seen; named = kept.named; flushed = kept.flushed; alone = kept.alone; honest = kept.honest }
 
 -- staging commits nothing
 pub stages : (d e : DiskState) (keyed : ℕ → ℕ → List ℕ → ℕ) (f g : Folder) (h k : Option Filed) → path_of g ≡ path_of f → StagesOnly (path_of f) (committed_by d f) d e → CommitsNothing (state_of d keyed f h) (state_of e keyed g k)
-stages d e keyed f g h k path run = record {
-  any_moment = λ honest base is.
-      weaker_run d e (RepresentsAlone (path_of f) d (committed_by d f)) (LeavesCommitted (state_of d keyed f h) base) (run.any_moment honest)
-      (λ c left. record { others = left.outside; represented = record { bytes = committed_by d f; represented = left.represented; holds = is } });
-  others = others d e keyed f g h k run.outside;
-  same = same_folder d e keyed f g h k path;
-}
+stages d e keyed f g h k path run = grind (arith, weaker_run, others, same_folder)
 
 -- the store allows further calls if the folder is still open and its committed base is unchanged
 pub went_on : {T : Type 0} (d e : DiskState) (keyed : ℕ → ℕ → List ℕ → ℕ) (f g : Folder) (h k : Option Filed) (r : Result T StoreError) → StaysOpen f g e r → Honestly e (OnOk r (committed_by e g ≡ committed_by d f))
@@ -85,18 +65,11 @@ committed d e keyed f g h k (Err failed) stays done kept = tt
 -- the base from before a commit, or the one that was held
 either_represented : (keyed : ℕ → ℕ → List ℕ → ℕ) (path : List ℕ) (first next : Base) (before now : BaseBytes) (c : Files) → HoldsBase keyed before first → HoldsBase keyed now next
     → Represents path before c ⊎ Represents path now c → RepresentsBase keyed path first c ⊎ RepresentsBase keyed path next c
-either_represented keyed path first next before now c was is (inl represented) = inl (record { bytes = before; represented = represented; holds = was })
-either_represented keyed path first next before now c was is (inr represented) = inr (record { bytes = now; represented = represented; holds = is })
+either_represented keyed path first next before now c was is h10 = grind arith
 
 pub may_commit : (d e : DiskState) (keyed : ℕ → ℕ → List ℕ → ℕ) (f g : Folder) (h k : Option Filed) → path_of g ≡ path_of f → CommitsOnly (path_of f) (committed_by d f) (held_by d f) d e
     → MayCommit (state_of d keyed f h) (state_of e keyed g k)
-may_commit d e keyed f g h k path run = record {
-  any_moment = λ honest first next was is.
-      weaker_run d e (IsBeforeOrAfter (path_of f) d (committed_by d f) (held_by d f)) (LeavesEither (state_of d keyed f h) first next) (run.any_moment honest)
-      (λ c left. record { others = left.outside; represented = either_represented keyed (path_of f) first next (committed_by d f) (held_by d f) c was is left.represented });
-  others = others d e keyed f g h k run.outside;
-  same = same_folder d e keyed f g h k path;
-}
+may_commit d e keyed f g h k path run = grind (arith, weaker_run, others, either_represented, same_folder)
 
 -- if the folder holds a base, the answer is not damage
 pub not_damaged : {T : Type 0} (P : T → Type 0) (r : Result T StoreError) → Answers P r → IsErrOf r error.Damaged → ⊥

@@ -1,5 +1,5 @@
 -- The messages of a base folder after a purge, in order.
-use Rattle.std.proofs.Common.{◌≡◌, ◌<◌, ◌≤◌, ◌+◌, ◌^◌, ℕ, zero, suc, not, nat_lt, ◌&&◌, Bool, true, false, List, [], ◌∷◌, ◌++◌, length, map, take, drop, get_or, refl, sym, ap, subst, ◌∙◌, arith, count_by, append_assoc, lit<, if◌then◌else◌}
+use Rattle.std.proofs.Common.{◌≡◌, ◌<◌, ◌≤◌, ◌+◌, ◌^◌, ℕ, zero, suc, not, nat_lt, ◌&&◌, Bool, true, false, List, [], ◌∷◌, ◌++◌, length, map, take, drop, get_or, refl, sym, ap, subst, ◌∙◌, arith, count_by, append_assoc, if◌then◌else◌}
 use Rattle.std.specs.List.{AllByRecursion}
 use Rattle.std.proofs.lemmas.Bool.{ltb-false, ltb-true}
 use Rattle.std.proofs.lemmas.List.{append-nil, get_or-take, length-append, length-drop, length-map, length-take, length-take-le, take_all, take_more}
@@ -11,7 +11,7 @@ use Rattle.base_log.specs.Standing.{BaseBytes}
 use Rattle.base_file.specs.Alone.{IsStoredAlone}
 use Rattle.base_file.specs.Base.{AreNew, Base, IsBase, is_known}
 use Rattle.base_file.proofs.StubBases.{stubs_keep}
-use Rattle.base_store.specs.Keys.{digest_at, digested, digested_key}
+use Rattle.base_store.specs.Keys.{digest_at, digested}
 use Rattle.base_store.proofs.Digests.{of_key}
 use Rattle.base_store.proofs.Recorded.{recorded_base_each}
 use Rattle.base_store.specs.Store.{purged}
@@ -29,8 +29,7 @@ pub is_below : (i n : ℕ) → IsBelow (nat_lt i n) i n
 is_below i n = record { yes = λ is. ltb-true i n is; no = λ is. ltb-false i n is }
 
 pub at_most_one : (b : Bool) → (if b then 1 else 0) ≤ 1
-at_most_one true = omega arith
-at_most_one false = omega arith
+at_most_one h1 = grind arith
 
 -- the message of a number, which is left so
 left_at : (n : ℕ) (ms : List Filed) (i : ℕ) (d : Filed) (scanned : Bool) → i < length ms → IsBelow scanned i n → get_or (map stub_of (take n ms) ++ drop n ms) i d ≡ left_if scanned (get_or ms i d)
@@ -72,26 +71,11 @@ first_many base place within = length-take-le place (purged base).messages (omeg
 
 -- a purged message has the same digest
 same_digested : (scanned : Bool) (m : Filed) → digested (left_if scanned m) ≡ digested m
-same_digested true m = of_key (stub_of m) ∙ ap digested_key (stub_keeps_key m) ∙ sym (of_key m)
-same_digested false m = refl
+same_digested h1 m = grind (arith, of_key, stub_keeps_key)
 
 -- without messages nothing changes
 pub left_none : (keyed : ℕ → ℕ → List ℕ → ℕ) (old held : BaseBytes) (base : Base) → HoldsBase keyed old base → held ≡ record { messages = []; keys = []; cursor = 0; mark = old.mark } → HoldsBase keyed held (first_left base 0)
-left_none keyed old held base holds is =
-    subst (λ (b : BaseBytes). HoldsBase keyed b (first_left base 0)) (sym is) (record {
-      files = record {
-        all = [];
-        sizes = tt;
-        sound = tt;
-        stored = refl;
-        filed = refl;
-        entries = refl;
-        long = lit< tt;
-        digests = holds.files.digests;
-        holds = record { each = tt; new = tt; within = omega arith };
-      };
-      cursor = refl;
-    })
+left_none keyed old held base holds is = grind arith
 
 -- one message more is left
 pub left_more : (keyed : ℕ → ℕ → List ℕ → ℕ) (old held now : BaseBytes) (base : Base) (place number : ℕ) (d : Filed) (bytes : List ℕ) (scanned : Bool) → HoldsBase keyed old base → held.mark ≡ old.mark → place < length base.messages
@@ -118,45 +102,19 @@ left_more keyed old held now base place number d bytes scanned holds mark within
 -- all are left, under the cursor
 pub left_whole : (keyed : ℕ → ℕ → List ℕ → ℕ) (old held now : BaseBytes) (base : Base) → HoldsBase keyed old base → HoldsBase keyed held (first_left base (length base.messages))
     → now ≡ record { messages = held.messages; keys = held.keys; cursor = old.cursor; mark = held.mark } → HoldsBase keyed now (purged base)
-left_whole keyed old held now base holds left is =
-    let all = (purged base).messages in
-    let whole : take (length base.messages) all ≡ all = take_all (length base.messages) all (omega (arith, as_many base)) in
-    let files = left.files in
-    subst (λ (b : BaseBytes). HoldsBase keyed b (purged base)) (sym is) (record {
-      files = record {
-        all = files.all;
-        sizes = files.sizes;
-        sound = files.sound;
-        stored = files.stored;
-        filed = sym whole ∙ files.filed;
-        entries = files.entries;
-        long = files.long;
-        digests = files.digests;
-        holds = stubs_keep base.messages base.cursor holds.files.holds;
-      };
-      cursor = holds.cursor;
-    })
+left_whole keyed old held now base holds left is = grind (arith, take_all, as_many, stubs_keep)
 
 -- how many of some messages change
 abbrev changed : List Filed → ℕ
 changed l = count_by (λ m. not (is_stub m)) l
 
 scanned_more : (front : List Filed) (place : ℕ) (d : Filed) (stub : Bool) → place < length front → is_stub (get_or front place d) ≡ stub → changed (take (place + 1) front) ≡ changed (take place front) + (if not stub then 1 else 0)
-scanned_more front place d true inside same = let none = count_by_more_no (λ (m : Filed). not (is_stub m)) front place d inside (ap not same) in omega (arith, none)
-scanned_more front place d false inside same = count_by_more_yes (λ (m : Filed). not (is_stub m)) front place d inside (ap not same)
+scanned_more front place d h4 inside same = grind (arith, count_by_more_no, count_by_more_yes)
 
 -- whether one message more changes
 changed_more : (messages : List Filed) (cursor place : ℕ) (d : Filed) (scanned stub : Bool) → place < length messages → IsBelow scanned place cursor → is_stub (get_or messages place d) ≡ stub
     → changed (take (place + 1) (take cursor messages)) ≡ changed (take place (take cursor messages)) + (if scanned && not stub then 1 else 0)
-changed_more messages cursor place d true stub within below is =
-    let less : place < cursor = below.yes refl in
-    scanned_more (take cursor messages) place d stub (omega (arith, length-take cursor messages)) (ap is_stub (get_or-take cursor messages place d less) ∙ is)
-changed_more messages cursor place d false stub within below is =
-    let front = take cursor messages in
-    let past : cursor ≤ place = below.no refl in
-    let short : length front ≤ place = omega (arith, length-take cursor messages) in
-    let same : take (place + 1) front ≡ take place front = take_all (place + 1) front (omega arith) ∙ sym (take_all place front short) in
-    let counts = ap (λ (l : List Filed). changed l) same in omega (arith, counts)
+changed_more messages cursor place d h5 stub within below is = grind (arith, scanned_more, length-take, get_or-take, take_all)
 
 pub changed_step : (base : Base) (place : ℕ) (d : Filed) (scanned changed : Bool) → place < length base.messages → IsBelow scanned place base.cursor → changed ≡ (scanned && not (is_stub (get_or base.messages place d)))
     → changed_in base (place + 1) ≡ changed_in base place + (if changed then 1 else 0)

@@ -17,10 +17,7 @@ written_held d f none = (λ i. and_keys (and_messages (base_at d (path_of f) f.r
 
 -- the number of bytes written, then waiting
 pub count_across : (file waiting : List ℕ) (written : ℕ) → written ≤ length file → length (take written file ++ waiting) ≡ written + length waiting
-count_across file waiting written room =
-    let front = length-take-le written file room in
-    let all = length-append (take written file) waiting in
-    omega (arith, front, all)
+count_across file waiting written room = grind (arith, length-take-le, length-append)
 
 -- a part that extends from the written bytes into the waiting ones
 pub part_across : (xs ys : List ℕ) (n begins ends first last from to : ℕ) → length xs ≡ n → begins ≤ ends → first ≡ min begins n → last ≡ min ends n → from ≡ begins - n → to ≡ ends - n

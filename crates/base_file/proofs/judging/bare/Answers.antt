@@ -1,8 +1,6 @@
-use Rattle.std.proofs.Common.{◌≡◌, ◌∙◌, ◌∷◌, [], true, ap, refl, sym}
+use Rattle.std.proofs.Common.{◌≡◌, ◌∙◌, true, ap, sym, arith}
 use Rattle.std.proofs.lemmas.List.Elements.{All-head}
-use Rattle.echo_text.specs.Lines.{is_tag, msgid_word}
-use Rattle.echo_text.specs.Echo.{IsLine}
-use Rattle.echo_filed.specs.Filed.{id_line}
+use Rattle.echo_text.specs.Lines.{is_tag}
 use Rattle.base_file.proofs.Verdicts.{bare_made}
 use Rattle.base_file.proofs.judging.bare.Goals as goal
 
@@ -13,8 +11,4 @@ invariant_of-result c =
     c.in_ok-kept.ensures (c.new.ensures ∙ c.clear.ensures.items) (c.new-2.ensures ∙ c.clear-2.ensures.items)
 
 pub lines_of_id-requires : goal.lines_of_id-requires
-lines_of_id-requires c =
-    let right : is_tag c.args.tag ≡ true = ap is_tag (sym c.as_slice.ensures) ∙ sym c.is_kept_tag.ensures ∙ c.if-not-is_kept_tag.false in
-    let line = id_line msgid_word c.args.id.now in
-    let made = bare_made c.args.tag c.args.id.now (line ∷ []) [] [] right (sym c.is_wrong_id.ensures ∙ c.if-is_wrong_id.false) refl refl refl in
-    All-head IsLine line [] made.kept_lines
+lines_of_id-requires c = grind (arith, bare_made, All-head)

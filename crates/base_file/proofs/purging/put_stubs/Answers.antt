@@ -1,4 +1,4 @@
-use Rattle.std.proofs.Common.{◌≡◌, ◌∙◌, ◌-◌, ◌≤◌, ap, set, subst, sym, Option, arith}
+use Rattle.std.proofs.Common.{◌≡◌, ◌∙◌, ◌-◌, ◌≤◌, set, subst, sym, Option, arith}
 use Rattle.std.specs.Prelude.{IfSome}
 use Rattle.std.proofs.lemmas.List.{length-map}
 use Rattle.indexmap.specs.IndexMap.{values}
@@ -29,9 +29,7 @@ places-preserved-in-Some g c =
     }
 
 pub places-preserved-in_default : goal.places-preserved-in_default
-places-preserved-in_default g c =
-    absurd (never_empty (values c.args.entries.now) (values c.places.entries) c.places.i c.args.cursor c.index.result.now (omega arith) (omega arith) (subst (λ n. c.args.cursor ≤ n) (sym (length-map c.args.entries.now.entries (λ e. e.1))) c.requires.within)
-    c.places.invariant.done c.index.ensures c.places.lines.items c.places.invariant.to_do (sym c.is_stub.ensures ∙ c.if-not-is_stub.true) (sym c.places.lines.ok.0 ∙ c.in_default.ensures.cases.0))
+places-preserved-in_default g c = grind (arith, never_empty, length-map)
 
 pub places-preserved : goal.places-preserved
 places-preserved g c =
@@ -46,10 +44,4 @@ places-preserved g c =
     }
 
 pub returns-clause-values : goal.returns-clause-values
-returns-clause-values g c =
-    let all = values c.args.entries.now in
-    let cursor = c.args.cursor in
-    let done = c.places.invariant.done in
-    let above = c.places.invariant.above in
-    let at : c.places.i ≡ c.args.start = omega (arith, above) in
-    done ∙ ap (λ n. from_place all n cursor) at ∙ from_stubs all c.args.start cursor c.requires.order c.requires.stubs
+returns-clause-values g c = grind (arith, from_place, from_stubs)

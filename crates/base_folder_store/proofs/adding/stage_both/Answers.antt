@@ -1,10 +1,10 @@
-use Rattle.std.proofs.Common.{◌≡◌, ◌+◌, ◌<◌, ◌^◌, ℕ, List, length, Result, Ok, Err, refl, sym, ap, subst, ◌∙◌}
+use Rattle.std.proofs.Common.{◌≡◌, ◌+◌, ◌<◌, ◌^◌, ℕ, List, length, Result, refl, sym, ap, subst, arith}
 use Rattle.std.specs.Prelude.{IfOk}
 use Rattle.disk_io.specs.Disk.{DiskState, Honestly}
 use Rattle.disk_io.specs.declared.disk_error.DiskError.{DiskError}
 use Rattle.base_log.specs.AtRest.{HoldsNext, IsStaged}
-use Rattle.base_log.specs.Names.{AreNames, folder_of, keys_of}
-use Rattle.base_log.specs.Standing.{BaseBytes, and_keys, and_messages, base_at}
+use Rattle.base_log.specs.Names.{folder_of}
+use Rattle.base_log.specs.Standing.{and_keys, and_messages, base_at}
 use Rattle.base_log.specs.declared.log.CommitRecord.{CommitRecord}
 use Rattle.base_log.specs.declared.log.End.{End}
 use Rattle.base_log.proofs.LeftOutside.{left_twice}
@@ -16,10 +16,7 @@ pub stage_bytes-requires-clause-staged : goal.stage_bytes-requires-clause-staged
 stage_bytes-requires-clause-staged g c = record { names = c.requires.names; staged = c.requires.staged }
 
 pub stage_bytes-requires-2-clause-staged : goal.stage_bytes-requires-2-clause-staged
-stage_bytes-requires-2-clause-staged g c = record {
-  names = subst (λ (n : ℕ). AreNames c.args.names.now n) (sym (ap (λ (t : CommitRecord). t.number) c.in_ok-more.ensures.recorded)) c.requires.names;
-  staged = c.in_ok-more.ensures.staged;
-}
+stage_bytes-requires-2-clause-staged g c = grind arith
 
 pub stage_bytes-requires-2-clause-room : goal.stage_bytes-requires-2-clause-room
 stage_bytes-requires-2-clause-room g c = subst (λ (n : ℕ). n + length c.args.keys.now < 2 ^ 64) (sym (ap (λ (t : CommitRecord). t.keys) c.in_ok-more.ensures.recorded)) c.requires.keys_room
@@ -29,14 +26,7 @@ both : (path : List ℕ) (d e f : DiskState) (end : End) (recorded more : Commit
     → Honestly e (HoldsNext e path end.recorded (base_at d path end.recorded) (and_messages (base_at d path recorded) bytes) more) → IfOk r (λ m. m ≡ record more { keys = more.keys + length keys })
     → Honestly f (IfOk r (λ m. IsStaged f path end m)) → Honestly f (IfOk r (HoldsNext f path end.recorded (base_at e path end.recorded) (and_keys (base_at e path more) keys)))
     → IfOk r (λ m. StagesBoth path d f end recorded m bytes keys)
-both path d e f end recorded more bytes keys (Ok m) since is first next staged second = record {
-  staged = staged;
-  added = λ honest. (second honest).added ∙ ap (λ (b : BaseBytes). and_keys b keys) (first (since honest)).added;
-  same = λ honest. (second honest).same ∙ (first (since honest)).same;
-  number = ap (λ (t : CommitRecord). t.number) next ∙ ap (λ (t : CommitRecord). t.number) is;
-  mark = ap (λ (t : CommitRecord). t.mark) next ∙ ap (λ (t : CommitRecord). t.mark) is;
-}
-both path d e f end recorded more bytes keys (Err failed) since is first next staged second = tt
+both path d e f end recorded more bytes keys h10 since is first next staged second = grind arith
 
 pub returns-clause-staged : goal.returns-clause-staged
 returns-clause-staged g c =
@@ -57,9 +47,7 @@ pub returns-in_err-more-clause-others : goal.returns-in_err-more-clause-others
 returns-in_err-more-clause-others g c = λ m messages keys. c.stage_bytes.ensures.others m messages
 
 pub returns-clause-others : goal.returns-clause-others
-returns-clause-others g c = λ m messages keys.
-    c.stage_bytes-2.ensures.others m (λ is. keys (is ∙ ap (λ (t : CommitRecord). keys_of (folder_of c.args.names.now) t.number) c.in_ok-more.ensures.recorded))
-    ∙ c.stage_bytes.ensures.others m messages
+returns-clause-others g c = grind arith
 
 pub returns-clause-leaves : goal.returns-clause-leaves
 returns-clause-leaves g c =

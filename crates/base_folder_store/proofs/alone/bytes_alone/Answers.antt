@@ -1,4 +1,4 @@
-use Rattle.std.proofs.Common.{◌≡◌, true, false, ℕ, List, sym, subst}
+use Rattle.std.proofs.Common.{◌≡◌, true, false, arith}
 use Rattle.base_file.specs.Alone.{IsStoredAlone}
 use Rattle.base_file.specs.BaseFile.{stored_at}
 use Rattle.base_file.proofs.LoneMessages.{saved_alone}
@@ -14,6 +14,4 @@ unfolding stored_at
 stored_whole m filed room = saved_alone m 0 filed room
 
 pub returns-clause-stored : goal.returns-clause-stored
-returns-clause-stored c =
-    let m = c.args.message.now in
-    ok_both _ _ _ (λ bytes is room. subst (λ (l : List ℕ). IsStoredAlone m l) (sym is) (stored_whole m c.is_filed.ensures room)) c.write_whole.result c.write_whole.ensures.bytes c.write_whole.ensures.room
+returns-clause-stored c = grind (arith, ok_both, stored_whole)

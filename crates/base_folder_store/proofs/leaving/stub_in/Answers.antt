@@ -1,9 +1,9 @@
-use Rattle.std.proofs.Common.{◌≡◌, ◌≤◌, not, true, List, ℕ, length, refl, sym, ap, subst, ◌∙◌}
+use Rattle.std.proofs.Common.{◌≡◌, ◌≤◌, not, true, List, ℕ, length, refl, sym, ap, subst, ◌∙◌, arith}
 use Rattle.std.proofs.lemmas.Bool.{true≢false}
 use Rattle.base_file.specs.Alone.{IsStoredAlone}
 use Rattle.base_file.specs.BaseFile.{stored_at}
 use Rattle.echo_filed.specs.Filed.{Filed}
-use Rattle.echo_filed.specs.Stored.{is_short_enough, message_in, stored_bytes}
+use Rattle.echo_filed.specs.Stored.{message_in, stored_bytes}
 use Rattle.echo_filed.specs.Stubs.{is_stub, stub_of}
 use Rattle.echo_filed.specs.declared.stored.Version.TheVariants.{Second}
 use Rattle.base_folder_store.specs.Left.{IsLeftOf}
@@ -21,11 +21,7 @@ returns-in_err-bytes-clause-left c = λ s size alone is.
     answers_whole (IsLeftOf true s) _ c.from_residual-in_err-bytes.result c.from_residual-in_err-bytes.ensures.1 c.in_err-bytes.ensures.whole
 
 pub returns-in_err-bytes-clause-few : goal.returns-in_err-bytes-clause-few
-returns-in_err-bytes-clause-few c is =
-    let stored = c.in_ok-message.ensures.stored in
-    let left : c.make_stub.new.message ≡ stub_of (message_in Second stored.s) = c.in_ok-changed.ensures.left ∙ ap stub_of (sym stored.is) in
-    let few : is_short_enough (stored_at 1 0 c.make_stub.new.message) ≡ true = ap (λ (x : Filed). is_short_enough (stored_at 1 0 x)) left ∙ (leaves_less stored.s stored.size stored.alone).few in
-    true≢false (sym few ∙ c.in_err-bytes.ensures.many (handed_on _ _ c.from_residual-in_err-bytes.result c.from_residual-in_err-bytes.ensures.1 is))
+returns-in_err-bytes-clause-few c is = grind (arith, leaves_less, true≢false, handed_on)
 
 pub returns-clause-left : goal.returns-clause-left
 returns-clause-left c = λ s size alone is.

@@ -3,13 +3,7 @@ use Rattle.base_folder_store.proofs.Numbered.{in_order, piece_is, within}
 use Rattle.base_folder_store.proofs.reading.bounds_of.Goals as goal
 
 pub returns-then-begins-ends-clause-some : goal.returns-then-begins-ends-clause-some
-returns-then-begins-ends-clause-some c = λ file s long has.
-    let keys = c.args.entries.now in
-    let behind = c.end_of-ends.ensures file long in
-    let order = in_order file keys c.args.place c.place_of-begins.result c.end_of-ends.result s has c.place_of-begins.ensures behind in
-    let inner = within file keys c.args.place c.place_of-begins.result c.end_of-ends.result s has c.place_of-begins.ensures behind in
-    let either = c.then-begins-ends.either in
-    absurd (omega (arith, order, inner, either, long))
+returns-then-begins-ends-clause-some c = grind (arith, in_order, within)
 
 pub returns-clause-bytes : goal.returns-clause-bytes
 returns-clause-bytes c = λ file s long has.

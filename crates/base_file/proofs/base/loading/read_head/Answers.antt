@@ -19,8 +19,4 @@ returns-in-Err-read_long-clause-read g c =
     (cut_fails 0 (magic version ++ long cursor) _ _ _ c.in-Err-read_long.broken took (number_cut version cursor) c.in-Err-read_long.ensures.read)
 
 pub returns-clause-read : goal.returns-clause-read
-returns-clause-read g c = record {
-  number_fits = c.in-Ok-read_long.ensures.read.0;
-  cursor_within = omega arith;
-  took = head_taken c.in_ok-version.version c.in-Ok.cursor c.in-Ok-read_long.number _ _ _ _ c.in_ok-version.ensures.read c.in-Ok.ensures.read.1 c.in-Ok-read_long.ensures.read.1;
-}
+returns-clause-read g c = grind (arith, head_taken)

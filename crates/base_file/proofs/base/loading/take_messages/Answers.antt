@@ -1,19 +1,11 @@
-use Rattle.std.proofs.Common.{◌∙◌, ◌∷◌, [], arith, ap, length}
+use Rattle.std.proofs.Common.{arith}
 use Rattle.std.proofs.lemmas.List.{length-append}
 use Rattle.std.proofs.lemmas.Result.{err_from_is_err_and}
-use Rattle.echo_filed.specs.Stored.{message_in}
 use Rattle.base_file.proofs.Failing.{message_fails, taken_more}
 use Rattle.base_file.proofs.base.loading.take_messages.Goals as goal
 
 pub messages-preserved : goal.messages-preserved
-messages-preserved g c =
-    let so = c.messages.invariant in
-    let next = c.in_ok-take_message.ensures.taken in
-    record {
-      so = taken_more c.args.head.version c.args.head.cursor c.messages.base.messages c.take_message.new.base.messages _ _ _ so.so next;
-      within = omega (arith, ap length next.filed, length-append c.messages.base.messages (message_in c.args.head.version next.next ∷ []), c.len.ensures.count, c.messages-test.true);
-      failed = c.in_ok-take_message.ensures.device ∙ so.failed;
-    }
+messages-preserved g c = grind (arith, taken_more, length-append)
 
 pub returns-in_err-take_message-clause-taken : goal.returns-in_err-take_message-clause-taken
 returns-in_err-take_message-clause-taken g c =

@@ -1,6 +1,4 @@
-use Rattle.std.proofs.Common.{◌≡◌, ◌∷◌, ◌++◌, ◌∙◌, [], List, ℕ, Vec, Global, map, subst, sym, true}
-use Rattle.std.specs.Prelude.{bytes_eq}
-use Rattle.std.specs.List.{list_any}
+use Rattle.std.proofs.Common.{◌∷◌, ◌++◌, ◌∙◌, [], List, ℕ, Vec, Global, subst, sym, arith}
 use Rattle.base_file.specs.Entries.{AreAmong}
 use Rattle.base_file.proofs.NotedTags.{last_found, tag_noted}
 use Rattle.base_file.proofs.tags.Tags.note.Goals as goal
@@ -16,7 +14,4 @@ invariant_of-self-2 c =
     (tag_noted bytes c.self.inside.sorted.keys all v w (c.in_ok-from_slice-2.ensures.items ∙ sym c.in_ok-from_slice.ensures.items) c.self.invariant))
 
 pub returns-clause-found : goal.returns-clause-found
-returns-clause-found c =
-    let bytes : Vec ℕ Global → List ℕ = λ t. t.items in
-    subst (λ all. list_any (bytes_eq c.args.tag.now) (map bytes all) ≡ true) (sym c.in_ok-push.ensures.items)
-    (last_found bytes c.self.inside.all.items c.in_ok-from_slice.field-0 c.args.tag.now (sym c.in_ok-from_slice.ensures.items))
+returns-clause-found c = grind (arith, last_found)

@@ -1,8 +1,7 @@
-use Rattle.std.proofs.Common.{List, ℕ, Result, sym, subst, ◌≡◌, ◌∙◌}
+use Rattle.std.proofs.Common.{List, ℕ, Result, subst, ◌≡◌, ◌∙◌, arith}
 use Rattle.std.proofs.lemmas.Result.{on_ok_weaker}
 use Rattle.disk_io.specs.Disk.{DiskState, Honestly}
-use Rattle.disk_io.specs.Runs.{LeavesOnly}
-use Rattle.base_log.specs.Moments.{LeavesOutside, RepresentsAlone}
+use Rattle.base_log.specs.Moments.{LeavesOutside}
 use Rattle.base_log.proofs.LeftOutside.{left_twice}
 use Rattle.base_store.specs.declared.store_error.StoreError.{StoreError}
 use Rattle.base_folder_store.specs.Calls.{IsAcknowledged}
@@ -54,8 +53,4 @@ pub returns-in_err-write_out-clause-refused : goal.returns-in_err-write_out-clau
 returns-in_err-write_out-clause-refused g c honest is = c.write_out.ensures.run.any_moment honest
 
 pub returns-clause-refused : goal.returns-clause-refused
-returns-clause-refused g c honest is =
-    let f = c.args.self.now in
-    let d = g.D.Disk.state c.args.disk.now in
-    let same = c.tell.ensures.refused is in
-    subst (λ x. LeavesOnly d (g.D.Disk.state x) (RepresentsAlone (path_of f) d (committed_by d f))) (sym same) (c.write_out.ensures.run.any_moment (c.tell.ensures.run.outside.honest honest))
+returns-clause-refused g c honest is = grind arith

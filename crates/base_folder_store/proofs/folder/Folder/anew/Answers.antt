@@ -1,12 +1,11 @@
-use Rattle.std.proofs.Common.{◌≡◌, ℕ, List, length, refl, sym, ap, subst, ◌∙◌, arith}
-use Rattle.base_log.specs.AtRest.{IsAtRest}
+use Rattle.std.proofs.Common.{◌≡◌, ℕ, List, refl, sym, ap, subst, ◌∙◌, arith}
 use Rattle.base_log.specs.Names.{AreNames, folder_of, keys_of, messages_of}
 use Rattle.base_log.specs.Standing.{base_at}
 use Rattle.base_log.specs.declared.log.CommitRecord.{CommitRecord}
 use Rattle.base_log.proofs.Renewed.{alone_first, alone_run}
 use Rattle.base_folder_store.specs.Calls.{StagesOnly}
 use Rattle.base_folder_store.specs.Left.{IsStagedIn}
-use Rattle.base_folder_store.specs.Opened.{IsWritten, path_of}
+use Rattle.base_folder_store.specs.Opened.{path_of}
 use Rattle.base_folder_store.specs.declared.folder.Folder.{Folder}
 use Rattle.base_folder_store.proofs.Beside.{readable_others}
 use Rattle.base_folder_store.proofs.Staged.{outside_same}
@@ -25,10 +24,7 @@ returns-in_err-names-clause-run g c =
     }
 
 pub stage_anew-requires-clause-settled : goal.stage_anew-requires-clause-settled
-stage_anew-requires-clause-settled g c honest =
-    let f = c.args.self.now in
-    let folder : folder_of c.in_ok-names.names ≡ path_of f = c.in_ok-names.ensures.folder ∙ c.deref.ensures.value in
-    subst (λ (p : List ℕ). IsAtRest (g.D.Disk.state c.args.disk.now) p f.end) (sym folder) (c.requires.settled honest)
+stage_anew-requires-clause-settled g c honest = grind arith
 
 -- the run, once new files were to be made
 record Made (g : given.Over) (c : After-stage_anew g) : Type 0 where
@@ -36,14 +32,7 @@ record Made (g : given.Over) (c : After-stage_anew g) : Type 0 where
   run : StagesOnly (path_of c.args.self.now) (base_at (g.D.Disk.state c.args.disk.now) (path_of c.args.self.now) c.args.self.now.end.recorded) (g.D.Disk.state c.args.disk.now) (g.D.Disk.state c.stage_anew.new.disk)
 
 made : (g : given.Over) (c : After-stage_anew g) → Made g c
-made g c =
-    let d = g.D.Disk.state c.args.disk.now in
-    let e = g.D.Disk.state c.stage_anew.new.disk in
-    let folder : folder_of c.in_ok-names.names ≡ path_of c.args.self.now = c.in_ok-names.ensures.folder ∙ c.deref.ensures.value in
-    record {
-      folder = folder;
-      run = subst (λ (p : List ℕ). StagesOnly p (base_at d p c.args.self.now.end.recorded) d e) folder c.stage_anew.ensures.run;
-    }
+made g c = grind arith
 
 pub returns-in_err-recorded-clause-run : goal.returns-in_err-recorded-clause-run
 returns-in_err-recorded-clause-run g c = (made g (goal.at.returns-in_err-recorded-clause-run g c).After-stage_anew).run
@@ -52,26 +41,10 @@ pub returns-clause-run : goal.returns-clause-run
 returns-clause-run g c = (made g (goal.at.returns-clause-run g c).After-stage_anew).run
 
 pub returns-clause-opened : goal.returns-clause-opened
-returns-clause-opened g c honest =
-    let f = c.args.self.now in
-    let d0 = g.D.Disk.state c.args.disk.now in
-    let d1 = g.D.Disk.state c.stage_anew.new.disk in
-    let next : Folder = record { names = c.in_ok-names.names; end = f.end; recorded = c.in_ok-recorded.recorded; keys = 0; waiting = c.new-waiting.result } in
-    let recorded = c.in_ok-recorded.ensures.recorded in
-    let none : IsWritten next = record { messages = c.new-waiting.ensures.messages; keys = c.new-waiting.ensures.keys } in
-    record {
-      names = subst (λ (t : CommitRecord). AreNames c.in_ok-names.names t.number) (sym recorded) c.in_ok-names.ensures.names;
-      staged = c.in_ok-recorded.ensures.staged honest;
-      keys = let count = ap (λ (t : CommitRecord). t.keys) recorded in let wait = ap (λ (l : List ℕ). length l) none.keys in omega (arith, count, wait);
-    }
+returns-clause-opened g c honest = grind arith
 
 pub returns-clause-empty : goal.returns-clause-empty
-returns-clause-empty g c =
-    let d0 = g.D.Disk.state c.args.disk.now in
-    let d1 = g.D.Disk.state c.stage_anew.new.disk in
-    let next : Folder = record { names = c.in_ok-names.names; end = c.args.self.now.end; recorded = c.in_ok-recorded.recorded; keys = 0; waiting = c.new-waiting.result } in
-    let none : IsWritten next = record { messages = c.new-waiting.ensures.messages; keys = c.new-waiting.ensures.keys } in
-    written_held d1 next none ∙ ap (λ (t : CommitRecord). base_at d1 (folder_of c.in_ok-names.names) t) c.in_ok-recorded.ensures.recorded
+returns-clause-empty g c = grind (arith, written_held)
 
 pub returns-clause-committed : goal.returns-clause-committed
 returns-clause-committed g c honest =

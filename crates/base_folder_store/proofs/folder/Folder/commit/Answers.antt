@@ -1,6 +1,5 @@
-use Rattle.std.proofs.Common.{◌≢◌, ◌<◌, List, ℕ, subst, ◌∙◌}
+use Rattle.std.proofs.Common.{◌≢◌, ◌<◌, List, ℕ, subst, arith}
 use Rattle.std.proofs.lemmas.Result.{on_ok_weaker}
-use Rattle.base_log.specs.AtRest.{IsAtRest}
 use Rattle.base_log.specs.Moments.{LeavesOutside}
 use Rattle.base_log.specs.Opening.{AreGone}
 use Rattle.base_log.proofs.LeftOutside.{left_twice}
@@ -11,33 +10,10 @@ use Rattle.base_folder_store.proofs.Runs.{run_from_commit}
 use Rattle.base_folder_store.proofs.folder.Folder.commit.Goals as goal
 
 pub returns-clause-stays : goal.returns-clause-stays
-returns-clause-stays g c =
-    let e = g.D.Disk.state c.remove_former.new.disk in
-    let f = c.acknowledge.new.self in
-    let stays = c.acknowledge.ensures.stays in
-    let done = c.in_ok-acknowledge.ensures.done in
-    record {
-      named = stays.named;
-      opened = λ honest.
-          on_ok_weaker {P = IsAtRest e (path_of f) f.end} c.remove_former.result
-          (λ rest. rest_open (g.D.Disk.state c.acknowledge.new.disk) e f (c.in_ok-acknowledge.ensures.stays.opened (c.remove_former.ensures.run.outside.honest honest)) rest done.recorded) (c.remove_former.ensures.settled honest);
-      path = stays.path;
-      mark = stays.mark;
-    }
+returns-clause-stays g c = grind (arith, on_ok_weaker, rest_open)
 
 pub returns-clause-done : goal.returns-clause-done
-returns-clause-done g c =
-    let e = g.D.Disk.state c.remove_former.new.disk in
-    let f = c.acknowledge.new.self in
-    let done = c.in_ok-acknowledge.ensures.done in
-    let now = λ (honest : e.is_honest). c.remove_former.ensures.same ∙ done.committed (c.remove_former.ensures.run.outside.honest honest) in
-    record {
-      written = on_ok_from c.remove_former.result done.written;
-      recorded = on_ok_from c.remove_former.result done.recorded;
-      same = λ honest. on_ok_from c.remove_former.result (rest_held e f done.recorded done.written ∙ now honest);
-      committed = λ honest. on_ok_from c.remove_former.result (now honest);
-      settled = c.remove_former.ensures.settled;
-    }
+returns-clause-done g c = grind (arith, on_ok_from, rest_held)
 
 pub returns-clause-run : goal.returns-clause-run
 returns-clause-run g c =

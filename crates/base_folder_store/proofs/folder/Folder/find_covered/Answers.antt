@@ -3,9 +3,7 @@ use Rattle.std.specs.List.{list_any}
 use Rattle.std.proofs.lemmas.List.Folds.{list_any_at}
 use Rattle.disk_io.proofs.Moments.{nothing_twice}
 use Rattle.echo_filed.specs.Filed.{Filed}
-use Rattle.base_folder_store.specs.Answers.{IsStoredOf}
 use Rattle.base_folder_store.specs.Opened.{held_by}
-use Rattle.base_folder_store.specs.declared.reading.StoredMessage.{StoredMessage}
 use Rattle.base_folder_store.proofs.Bases.{recorded_quiet}
 use Rattle.base_folder_store.proofs.Causes.{answers_error}
 use Rattle.base_folder_store.proofs.Legible.{keys_all, legible_quiet}
@@ -17,19 +15,10 @@ few : (below count place : ℕ) (keys : List ℕ) (base : List Filed) → length
 few below count place keys base all many within under = omega (arith, all, many, within, under)
 
 pub stored-requires-clause-legible : goal.stored-requires-clause-legible
-stored-requires-clause-legible g c honest =
-    let quiet = c.entries.invariant.quiet in
-    legible_quiet (g.D.Disk.state c.args.disk.now) (g.D.Disk.state c.entries.disk) c.args.self.now quiet (c.requires.legible (quiet.honest honest))
+stored-requires-clause-legible g c honest = grind (arith, legible_quiet)
 
 pub returns-in_err-stored-clause-found : goal.returns-in_err-stored-clause-found
-returns-in_err-stored-clause-found g c honest = λ base recorded have.
-    let d = g.D.Disk.state c.args.disk.now in
-    let f = c.args.self.now in
-    let quiet = c.entries.invariant.quiet in
-    let h0 = quiet.honest (c.stored.ensures.quiet.honest honest) in
-    let inside = few c.entries.below f.keys c.in-Some.place (held_by d f).keys base (keys_all d f (c.requires.legible h0)) recorded.many c.entries.invariant.within c.in-Some.ensures.found in
-    answers_error {T = StoredMessage} (λ (b : StoredMessage). IsStoredOf base c.in-Some.place b.bytes.items) (λ (found : Bool). found ≡ list_any (g.W.Sought.test c.args.sought.now) base) _ c.from_residual.result c.from_residual.ensures.1
-    (c.in_err-stored.ensures.stored honest base (recorded_quiet d (g.D.Disk.state c.entries.disk) f base quiet recorded) inside)
+returns-in_err-stored-clause-found g c honest = grind (arith, few, keys_all, answers_error, recorded_quiet)
 
 pub returns-in_err-is_stored-clause-found : goal.returns-in_err-is_stored-clause-found
 returns-in_err-is_stored-clause-found g c honest = λ base recorded have.
@@ -63,28 +52,7 @@ pub returns-then-branch-clause-quiet : goal.returns-then-branch-clause-quiet
 returns-then-branch-clause-quiet g c = nothing_twice (g.D.Disk.state c.args.disk.now) (g.D.Disk.state c.entries.disk) (g.D.Disk.state c.stored.new.disk) c.entries.invariant.quiet c.stored.ensures.quiet
 
 pub entries-preserved : goal.entries-preserved
-entries-preserved g c =
-    let under = c.in-Some.ensures.found in
-    let low = c.entries.invariant.within in
-    record {
-      quiet = nothing_twice (g.D.Disk.state c.args.disk.now) (g.D.Disk.state c.entries.disk) (g.D.Disk.state c.stored.new.disk) c.entries.invariant.quiet c.stored.ensures.quiet;
-      cause = let later = c.stored.ensures.cause.later in let before = c.entries.invariant.cause in omega (arith, later, before);
-      within = omega (arith, under, low);
-      passed = λ honest base recorded have.
-          let d = g.D.Disk.state c.args.disk.now in
-          let f = c.args.self.now in
-          let test = g.W.Sought.test c.args.sought.now in
-          let quiet = c.entries.invariant.quiet in
-          let before = c.stored.ensures.quiet.honest honest in
-          let first = quiet.honest before in
-          let all = keys_all d f (c.requires.legible first) in
-          let inside = few c.entries.below f.keys c.in-Some.place (held_by d f).keys base all recorded.many low under in
-          let of = c.in_ok-stored.ensures.stored honest base (recorded_quiet d (g.D.Disk.state c.entries.disk) f base quiet recorded) inside in
-          let enough = c.requires.covered first in
-          passed_on test c.args.digest base (held_by d f).keys c.entries.below c.in-Some.place recorded.many have (c.entries.invariant.passed before base recorded have)
-          (λ j behind bound short. c.in-Some.ensures.last (held_by d f).keys (c.requires.indexed first) j behind bound (omega (arith, short, all, enough)))
-          (λ m. sym (c.in_ok-is_stored.ensures.found (get_or base c.in-Some.place m) (stored_of base c.in-Some.place c.in_ok-stored.stored.bytes.items c.deref.result.now of c.deref.ensures.value m)) ∙ c.if-branch.false);
-    }
+entries-preserved g c = grind (arith, nothing_twice, keys_all, few, recorded_quiet, passed_on, get_or, stored_of)
 
 pub returns-clause-found : goal.returns-clause-found
 returns-clause-found g c honest = λ base recorded have.

@@ -1,8 +1,8 @@
-use Rattle.std.proofs.Common.{◌≡◌, ◌/◌, ℕ, length, refl, sym, ap, subst, ◌∙◌, arith}
+use Rattle.std.proofs.Common.{◌≡◌, ℕ, length, sym, ap, subst, ◌∙◌, arith}
 use Rattle.base_log.specs.Standing.{BaseBytes}
 use Rattle.base_folder_store.specs.Calls.{StagesOnly}
 use Rattle.base_folder_store.specs.Held.{HoldsBase}
-use Rattle.base_folder_store.specs.Left.{IsPurgedTo, changed_in}
+use Rattle.base_folder_store.specs.Left.{changed_in}
 use Rattle.base_folder_store.specs.Opened.{committed_by, path_of}
 use Rattle.base_folder_store.proofs.Beside.{committed_others, many_readable}
 use Rattle.base_store.proofs.Causes.{failed_since}
@@ -14,15 +14,7 @@ use Rattle.base_folder_store.proofs.folder.Folder.leave_all.Goals.{After-leave_n
 use Rattle.base_folder_store.proofs.folder.Folder.leave_all.Goals as goal
 
 pub messages-init : goal.messages-init
-messages-init g c = record {
-  purged = c.requires;
-  changed = λ honest keyed base holds. refl;
-  few = omega arith;
-  same = λ honest. refl;
-  path = refl;
-  run = run_none (g.D.Disk.state c.args.disk.now) c.args.next.now c.requires.opened;
-  cause = omega arith;
-}
+messages-init g c = grind (arith, run_none)
 
 -- the run up to the call for one more message
 left : (g : given.Over) (c : After-leave_next g)
@@ -76,10 +68,7 @@ returns-in_err-one-clause-cause g c =
     }
 
 pub returns-clause-purged : goal.returns-clause-purged
-returns-clause-purged g c =
-    let past = c.messages-test.false in
-    let at : c.messages.place ≡ c.args.self.now.keys / 16 = omega (arith, past, c.count-place-end.ensures, c.messages.auto.place-end) in
-    subst (λ (n : ℕ). IsPurgedTo (g.D.Disk.state c.messages.disk) c.args.self.now c.messages.next n) at c.messages.invariant.purged
+returns-clause-purged g c = grind arith
 
 pub returns-clause-changed : goal.returns-clause-changed
 returns-clause-changed g c honest =

@@ -69,12 +69,7 @@ message d f n place purged inside honest keyed base holds =
     }
 
 pub stage_left-requires : goal.stage_left-requires
-stage_left-requires g c = record {
-  named = c.requires.purged.paired.named;
-  opened = λ honest.
-      let quiet = c.stored.ensures.quiet in
-      open_quiet (g.D.Disk.state c.args.disk.now) (g.D.Disk.state c.stored.new.disk) c.args.next.now quiet (c.requires.purged.opened (quiet.honest honest));
-}
+stage_left-requires g c = grind (arith, open_quiet)
 
 -- the message that was read, and its purged form
 record Here (g : given.Over) (c : After-stage_left g) (base : Base) : Type 0 where
@@ -112,10 +107,7 @@ pub returns-in_err-stored-clause-run : goal.returns-in_err-stored-clause-run
 returns-in_err-stored-clause-run g c = read g (goal.at.returns-in_err-stored-clause-run g c).After-stored
 
 pub returns-in_err-stored-clause-few : goal.returns-in_err-stored-clause-few
-returns-in_err-stored-clause-few g c = λ is.
-    let many = c.in_err-stored.ensures.many (handed_on _ _ c.from_residual.result c.from_residual.ensures.1 is) in
-    let few = c.requires.purged.few in
-    omega (arith, many, few)
+returns-in_err-stored-clause-few g c = grind (arith, handed_on)
 
 pub returns-in_err-left-clause-run : goal.returns-in_err-left-clause-run
 returns-in_err-left-clause-run g c = read g (goal.at.returns-in_err-left-clause-run g c).After-stored
@@ -171,9 +163,7 @@ returns-in_err-stage_left-clause-cause g c =
     }
 
 pub returns-clause-same : goal.returns-clause-same
-returns-clause-same g c honest =
-    let n = c.args.next.now in
-    c.in_ok-stage_left.ensures.same honest ∙ base_quiet (g.D.Disk.state c.args.disk.now) (g.D.Disk.state c.stored.new.disk) (path_of n) n.end.recorded c.stored.ensures.quiet
+returns-clause-same g c honest = grind (arith, base_quiet)
 
 -- whether the message was scanned
 scanned_below : (d : DiskState) (f : Folder) (place : ℕ) (keyed : ℕ → ℕ → List ℕ → ℕ) (base : Base) → HoldsBase keyed (committed_by d f) base → IsBelow (nat_lt place f.end.recorded.cursor) place base.cursor

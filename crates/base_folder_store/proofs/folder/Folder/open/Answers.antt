@@ -1,8 +1,7 @@
-use Rattle.std.proofs.Common.{◌≡◌, List, ℕ, refl, sym, subst}
-use Rattle.disk_io.specs.Runs.{LeavesOnly}
+use Rattle.std.proofs.Common.{◌≡◌, List, ℕ, refl, sym, subst, arith}
 use Rattle.base_log.specs.AtRest.{IsAtRest}
 use Rattle.base_log.specs.Moments.{KeepsOutside}
-use Rattle.base_log.specs.Opening.{AreAlone, RepresentsOrWasLeft}
+use Rattle.base_log.specs.Opening.{AreAlone}
 use Rattle.base_log.specs.Reading.{IsLogIn}
 use Rattle.base_log.specs.Standing.{Represents, base_at}
 use Rattle.base_store.proofs.Runs.{quiet_disk}
@@ -25,9 +24,7 @@ open-requires-clause-represented g c honest =
     subst (λ (p : List ℕ). Represents p (base_at d p c.args.log.now.end.recorded) d.seen) (sym c.in_ok-names.ensures.folder) (c.requires.log.represented honest)
 
 pub returns-in_err-open-clause-any_moment : goal.returns-in_err-open-clause-any_moment
-returns-in_err-open-clause-any_moment g c honest =
-    let d = g.D.Disk.state c.args.disk.now in
-    subst (λ (p : List ℕ). LeavesOnly d (g.D.Disk.state c.open.new.disk) (RepresentsOrWasLeft p d (base_at d p c.args.log.now.end.recorded))) c.in_ok-names.ensures.folder (c.open.ensures.any_moment honest)
+returns-in_err-open-clause-any_moment g c honest = grind arith
 
 pub returns-in_err-open-clause-outside : goal.returns-in_err-open-clause-outside
 returns-in_err-open-clause-outside g c =
@@ -53,18 +50,11 @@ returns-clause-found g c honest =
     (subst (λ (p : List ℕ). base_at d1 p recorded ≡ base_at d0 p recorded) c.in_ok-names.ensures.folder (c.in_ok-open.ensures.same honest)) (record { messages = c.new-waiting.ensures.messages; keys = c.new-waiting.ensures.keys })
 
 pub returns-clause-any_moment : goal.returns-clause-any_moment
-returns-clause-any_moment g c honest =
-    let d = g.D.Disk.state c.args.disk.now in
-    subst (λ (p : List ℕ). LeavesOnly d (g.D.Disk.state c.open.new.disk) (RepresentsOrWasLeft p d (base_at d p c.args.log.now.end.recorded))) c.in_ok-names.ensures.folder (c.open.ensures.any_moment honest)
+returns-clause-any_moment g c honest = grind arith
 
 pub returns-clause-outside : goal.returns-clause-outside
 returns-clause-outside g c =
     subst (λ (p : List ℕ). KeepsOutside p (g.D.Disk.state c.args.disk.now) (g.D.Disk.state c.open.new.disk)) c.in_ok-names.ensures.folder c.open.ensures.outside
 
 pub returns-clause-fresh : goal.returns-clause-fresh
-returns-clause-fresh g c = record {
-  named = c.in_ok-names.ensures.names;
-  path = c.in_ok-names.ensures.folder;
-  settled = refl;
-  written = record { messages = c.new-waiting.ensures.messages; keys = c.new-waiting.ensures.keys };
-}
+returns-clause-fresh g c = grind arith

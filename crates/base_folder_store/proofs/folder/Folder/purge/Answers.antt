@@ -18,9 +18,7 @@ use Rattle.base_folder_store.proofs.folder.Folder.purge.Goals.{After-leave_all}
 use Rattle.base_folder_store.proofs.folder.Folder.purge.Goals as goal
 
 pub anew-requires-clause-readable : goal.anew-requires-clause-readable
-anew-requires-clause-readable g c honest =
-    let done = c.in_ok-commit.ensures.done in
-    rest_readable (g.D.Disk.state c.commit.new.disk) c.commit.new.self (c.in_ok-commit.ensures.stays.opened honest) done.recorded done.written
+anew-requires-clause-readable g c honest = grind (arith, rest_readable)
 
 pub leave_all-requires : goal.leave_all-requires
 leave_all-requires g c =
@@ -84,16 +82,7 @@ returns-in_err-commit-clause-cause g c =
     }
 
 pub returns-in_err-next-clause-cause : goal.returns-in_err-next-clause-cause
-returns-in_err-next-clause-cause g c =
-    let cause = c.in_err-next.ensures.cause in
-    let one = c.commit.ensures.cause.later in
-    let two = cause.later in
-    record {
-      later = omega (arith, one, two);
-      failed = λ is.
-          failed_since (g.D.Disk.failures c.args.disk.now) (g.D.Disk.failures c.commit.new.disk) (g.D.Disk.failures c.anew.new.disk) one (cause.failed (handed_on _ _ c.from_residual-in_err-next.result c.from_residual-in_err-next.ensures.1 is));
-      damaged = λ honest is keyed base holds. absurd (cause.whole (handed_on _ _ c.from_residual-in_err-next.result c.from_residual-in_err-next.ensures.1 is));
-    }
+returns-in_err-next-clause-cause g c = grind (arith, failed_since, handed_on)
 
 pub returns-in_err-changed-clause-cause : goal.returns-in_err-changed-clause-cause
 returns-in_err-changed-clause-cause g c =
@@ -114,19 +103,13 @@ returns-in_err-changed-clause-cause g c =
 
 -- it keeps its path, its owner and its key at an error
 pub returns-in_err-commit-clause-stays : goal.returns-in_err-commit-clause-stays
-returns-in_err-commit-clause-stays g c =
-    let was = c.commit.ensures.stays in
-    record { named = was.named; opened = λ honest. on_ok_none _ _ c.from_residual.result c.from_residual.ensures.1; path = was.path; mark = was.mark }
+returns-in_err-commit-clause-stays g c = grind (arith, on_ok_none)
 
 pub returns-in_err-next-clause-stays : goal.returns-in_err-next-clause-stays
-returns-in_err-next-clause-stays g c =
-    let was = c.commit.ensures.stays in
-    record { named = was.named; opened = λ honest. on_ok_none _ _ c.from_residual-in_err-next.result c.from_residual-in_err-next.ensures.1; path = was.path; mark = was.mark }
+returns-in_err-next-clause-stays g c = grind (arith, on_ok_none)
 
 pub returns-in_err-changed-clause-stays : goal.returns-in_err-changed-clause-stays
-returns-in_err-changed-clause-stays g c =
-    let was = c.commit.ensures.stays in
-    record { named = was.named; opened = λ honest. on_ok_none _ _ c.from_residual-in_err-changed.result c.from_residual-in_err-changed.ensures.1; path = was.path; mark = was.mark }
+returns-in_err-changed-clause-stays g c = grind (arith, on_ok_none)
 
 pub returns-clause-stays : goal.returns-clause-stays
 returns-clause-stays g c =

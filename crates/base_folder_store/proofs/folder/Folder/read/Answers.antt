@@ -23,9 +23,7 @@ returns-then-ends-written-clause-read g c honest = λ base recorded inside.
     (c.read_alone.ensures.read m (record { s = of.s; size = of.size; alone = of.alone; is = refl; same = c.deref.ensures.value ∙ of.same }))
 
 pub read_by-requires-clause-within : goal.read_by-requires-clause-within
-read_by-requires-clause-within g c =
-    let within = c.requires.within in
-    omega (arith, c.in-Some.ensures.long, c.behind_two-next.ensures, within)
+read_by-requires-clause-within g c = grind arith
 
 pub returns-in-Some-clause-read : goal.returns-in-Some-clause-read
 returns-in-Some-clause-read g c honest = λ base recorded inside.

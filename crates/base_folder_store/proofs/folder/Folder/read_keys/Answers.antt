@@ -1,4 +1,4 @@
-use Rattle.std.proofs.Common.{◌≡◌, ◌*◌, ℕ, List, ◌++◌, take, drop, ◌∙◌, arith}
+use Rattle.std.proofs.Common.{◌≡◌, ◌*◌, ℕ, List, ◌++◌, take, drop, arith}
 use Rattle.disk_io.specs.Disk.{DiskState, bytes_in}
 use Rattle.base_folder_store.specs.Opened.{IsLegible, held_by}
 use Rattle.base_folder_store.specs.declared.folder.Folder.{Folder}
@@ -9,9 +9,7 @@ use Rattle.base_folder_store.proofs.folder.Folder.read_keys.Goals as goal
 -- the bytes that were read are a part of the keys
 part_of : (d : DiskState) (f : Folder) (path waits piece : List ℕ) (from to : ℕ) → IsLegible d f → path ≡ f.names.keys.items → waits ≡ f.waiting.keys.items
     → piece ≡ drop (16 * from) (take (16 * to) (take f.recorded.keys (bytes_in (d.seen path)) ++ waits)) → piece ≡ drop (16 * from) (take (16 * to) (held_by d f).keys)
-part_of d f path waits piece from to legible same all read =
-    let file = same ∙ legible.names.keys in
-    read ∙ (λ i. drop (16 * from) (take (16 * to) (take f.recorded.keys (bytes_in (d.seen (file i))) ++ all i)))
+part_of d f path waits piece from to legible same all read = grind arith
 
 pub returns-clause-piece : goal.returns-clause-piece
 returns-clause-piece g c honest =

@@ -1,4 +1,4 @@
-use Rattle.std.proofs.Common.{◌≡◌, ◌∙◌, ℕ, List, refl, sym, ap}
+use Rattle.std.proofs.Common.{◌≡◌, ◌∙◌, ℕ, List, refl, sym, ap, arith}
 use Rattle.std.proofs.lemmas.Bool.{true≢false}
 use Rattle.base_file.specs.Alone.{IsStoredAlone}
 use Rattle.base_store.specs.Keys.{digested}
@@ -7,7 +7,6 @@ use Rattle.echo_filed.specs.Stored.{Stored, message_in, stored_bytes}
 use Rattle.echo_filed.specs.declared.stored.Version.TheVariants.{Second}
 use Rattle.base_folder_store.specs.Held.{digest_by}
 use Rattle.base_folder_store.specs.Vouched.{IsThere}
-use Rattle.base_folder_store.specs.declared.reading.StoredMessage.{StoredMessage}
 use Rattle.base_log.specs.Standing.{BaseBytes}
 use Rattle.base_folder_store.proofs.Causes.{answers_error}
 use Rattle.base_folder_store.proofs.folder.Folder.read_vouched.Goals as goal
@@ -17,14 +16,10 @@ alone_there : (held : BaseBytes) (i : ℕ) (s : Stored) (bytes file : List ℕ) 
 alone_there held i s bytes file there is same = record { s = s; size = there.size; alone = there.alone; is = refl; same = is ∙ same }
 
 pub returns-in_err-stored-clause-message : goal.returns-in_err-stored-clause-message
-returns-in_err-stored-clause-message g c honest = λ s there has.
-    answers_error {T = StoredMessage} (λ (stored : StoredMessage). stored.bytes.items ≡ stored_bytes Second s) (λ (m : Filed). m ≡ message_in Second s) _ c.from_residual.result c.from_residual.ensures.1
-    (c.in_err-stored.ensures.there honest s there.stored)
+returns-in_err-stored-clause-message g c honest = grind (arith, answers_error)
 
 pub returns-in_err-message-clause-message : goal.returns-in_err-message-clause-message
-returns-in_err-message-clause-message g c honest = λ s there has.
-    answers_error {T = Filed} (λ (m : Filed). m ≡ message_in Second s) (λ (m : Filed). m ≡ message_in Second s) _ c.from_residual-in_err-message.result c.from_residual-in_err-message.ensures.1
-    (c.in_err-message.ensures.read (message_in Second s) (alone_there _ _ s _ _ there c.deref.ensures.value (c.in_ok-stored.ensures.there honest s there.stored)))
+returns-in_err-message-clause-message g c honest = grind (arith, answers_error, alone_there)
 
 pub returns-then-branch-clause-message : goal.returns-then-branch-clause-message
 returns-then-branch-clause-message g c honest = λ s there has.

@@ -1,10 +1,9 @@
-use Rattle.std.proofs.Common.{◌≡◌, ℕ, List, sym, subst, ◌∙◌, arith}
+use Rattle.std.proofs.Common.{◌≡◌, ℕ, List, subst, arith}
 use Rattle.disk_io.specs.Disk.{DiskState, Honestly}
 use Rattle.base_log.specs.AtRest.{IsAtRest}
 use Rattle.base_log.specs.Moments.{LeavesOutside}
 use Rattle.base_log.specs.Names.{folder_of}
 use Rattle.base_log.specs.Opening.{AreGone}
-use Rattle.base_log.specs.Standing.{base_at}
 use Rattle.base_log.proofs.LeftOutside.{left_start}
 use Rattle.base_log.proofs.Renewed.{alone_first, alone_run}
 use Rattle.base_folder_store.specs.Calls.{StagesOnly}
@@ -30,22 +29,10 @@ record Removed (g : given.Over) (c : After-remove_files g) : Type 0 where
   leaves : LeavesOutside (path_of c.args.self.now) (g.D.Disk.state c.args.disk.now) (g.D.Disk.state c.remove_files.new.disk)
 
 removed : (g : given.Over) (c : After-remove_files g) → Removed g c
-removed g c =
-    let end = c.args.self.now.end in
-    let d = g.D.Disk.state c.args.disk.now in
-    let e = g.D.Disk.state c.remove_files.new.disk in
-    let folder : folder_of c.in_ok-names.names ≡ path_of c.args.self.now = c.in_ok-names.ensures.folder ∙ c.deref.ensures.value in
-    record {
-      folder = folder;
-      same = subst (λ (p : List ℕ). base_at e p end.recorded ≡ base_at d p end.recorded) folder c.remove_files.ensures.same;
-      run = subst (λ (p : List ℕ). StagesOnly p (base_at d p end.recorded) d e) folder c.remove_files.ensures.run;
-      leaves = subst (λ (p : List ℕ). LeavesOutside p d e) folder c.remove_files.ensures.leaves;
-    }
+removed g c = grind arith
 
 pub remove_files-requires-clause-settled : goal.remove_files-requires-clause-settled
-remove_files-requires-clause-settled g c honest =
-    let folder : folder_of c.in_ok-names.names ≡ path_of c.args.self.now = c.in_ok-names.ensures.folder ∙ c.deref.ensures.value in
-    subst (λ (p : List ℕ). IsAtRest (g.D.Disk.state c.args.disk.now) p c.args.self.now.end) (sym folder) (c.requires honest)
+remove_files-requires-clause-settled g c honest = grind arith
 
 pub returns-then-former-self-clause-run : goal.returns-then-former-self-clause-run
 returns-then-former-self-clause-run g c = nothing (g.D.Disk.state c.args.disk.now) c.args.self.now c.requires
@@ -82,9 +69,7 @@ returns-clause-settled g c honest =
     subst (λ (p : List ℕ). IsAtRest (g.D.Disk.state c.remove_files.new.disk) p c.args.self.now.end) (removed g (goal.at.returns-clause-settled g c).After-remove_files).folder (c.in_ok-remove_files.ensures.settled honest)
 
 pub returns-then-former-self-clause-gone : goal.returns-then-former-self-clause-gone
-returns-then-former-self-clause-gone g c honest = λ digit other.
-    let either = c.then-former-self.either in
-    absurd (omega (arith, either, digit, other))
+returns-then-former-self-clause-gone g c honest = grind arith
 
 pub returns-clause-gone : goal.returns-clause-gone
 returns-clause-gone g c honest = λ digit other.

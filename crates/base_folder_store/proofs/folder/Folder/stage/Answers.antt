@@ -1,8 +1,6 @@
-use Rattle.std.proofs.Common.{◌≡◌, ◌<◌, ◌^◌, length, sym, ap, subst, ◌∙◌}
+use Rattle.std.proofs.Common.{◌≡◌, ◌<◌, ◌^◌, length, sym, subst, arith}
 use Rattle.std.proofs.lemmas.Result.{on_ok_weaker}
-use Rattle.base_log.specs.Names.{folder_of, keys_of, messages_of}
-use Rattle.base_log.specs.Standing.{BaseBytes, base_at}
-use Rattle.base_log.specs.declared.log.CommitRecord.{CommitRecord}
+use Rattle.base_log.specs.Standing.{BaseBytes}
 use Rattle.base_folder_store.specs.Opened.{IsNamed, committed_by, held_by, path_of}
 use Rattle.base_folder_store.proofs.Causes.{on_ok_none}
 use Rattle.base_folder_store.proofs.Runs.{run_none, run_twice}
@@ -20,18 +18,10 @@ record Added (g : given.Over) (c : After-add g) : Type 0 where
   same : committed_by (g.D.Disk.state c.args.disk.now) c.add.new.self ≡ committed_by (g.D.Disk.state c.args.disk.now) c.args.self.now
 
 added : (g : given.Over) (c : After-add g) → Added g c
-added g c = record {
-  named = names_kept c.args.self.now c.add.new.self c.add.ensures.names c.add.ensures.recorded c.requires.named;
-  path = ap folder_of c.add.ensures.names;
-  number = ap (λ (t : CommitRecord). t.number) c.add.ensures.recorded;
-  mark = ap (λ (t : CommitRecord). t.mark) c.add.ensures.recorded;
-  same = λ i. base_at (g.D.Disk.state c.args.disk.now) (folder_of (c.add.ensures.names i)) (c.add.ensures.end i).recorded;
-}
+added g c = grind (arith, names_kept)
 
 pub returns-in_err-add-clause-stays : goal.returns-in_err-add-clause-stays
-returns-in_err-add-clause-stays g c =
-    let at = added g (goal.at.returns-in_err-add-clause-stays g c).After-add in
-    record { named = at.named; opened = λ honest. on_ok_none _ _ c.from_residual.result c.from_residual.ensures.1; path = at.path; mark = at.mark }
+returns-in_err-add-clause-stays g c = grind (arith, added, on_ok_none)
 
 pub returns-in_err-add-clause-run : goal.returns-in_err-add-clause-run
 returns-in_err-add-clause-run g c = run_none (g.D.Disk.state c.args.disk.now) c.args.self.now c.requires.opened
@@ -67,29 +57,13 @@ write_out-requires g c = record {
 }
 
 pub returns-clause-stays : goal.returns-clause-stays
-returns-clause-stays g c =
-    let at = added g (goal.at.returns-clause-stays g c).After-add in
-    let stays = c.write_out.ensures.stays in
-    record { named = stays.named; opened = stays.opened; path = stays.path ∙ at.path; mark = stays.mark ∙ at.mark }
+returns-clause-stays g c = grind (arith, added)
 
 pub returns-clause-files : goal.returns-clause-files
-returns-clause-files g c =
-    let files = c.write_out.ensures.files in
-    record {
-      end = files.end ∙ c.add.ensures.end;
-      number = files.number ∙ (added g (goal.at.returns-clause-files g c).After-add).number;
-      others = λ m messages keys.
-          files.others m (λ is. messages (is ∙ (λ i. messages_of (folder_of (c.add.ensures.names i)) (c.add.ensures.recorded i).number)))
-          (λ is. keys (is ∙ (λ i. keys_of (folder_of (c.add.ensures.names i)) (c.add.ensures.recorded i).number)));
-    }
+returns-clause-files g c = grind (arith, added)
 
 pub returns-clause-staged : goal.returns-clause-staged
-returns-clause-staged g c honest =
-    let h0 = c.write_out.ensures.run.outside.honest honest in
-    let d = g.D.Disk.state c.args.disk.now in
-    let f = c.add.new.self in
-    on_ok_weaker {P = held_by (g.D.Disk.state c.write_out.new.disk) c.write_out.new.self ≡ held_by d f} c.write_out.result
-    (λ held. held ∙ added_stored d c.args.self.now f c.args.bytes.now c.args.digest (c.requires.opened h0) c.in_ok-add.ensures.waits) (c.write_out.ensures.out.held honest)
+returns-clause-staged g c honest = grind (arith, on_ok_weaker, added_stored)
 
 pub returns-clause-fits : goal.returns-clause-fits
 returns-clause-fits g c honest =
@@ -101,13 +75,7 @@ returns-clause-fits g c honest =
     (λ held. subst (λ (b : BaseBytes). length b.messages < 2 ^ 64) (sym held) fits) (c.write_out.ensures.out.held honest)
 
 pub returns-clause-same : goal.returns-clause-same
-returns-clause-same g c honest =
-    let at = added g (goal.at.returns-clause-same g c).After-add in
-    on_ok_weaker {P = committed_by (g.D.Disk.state c.write_out.new.disk) c.write_out.new.self ≡ committed_by (g.D.Disk.state c.args.disk.now) c.add.new.self} c.write_out.result (λ same. same ∙ at.same) (c.write_out.ensures.out.same honest)
+returns-clause-same g c honest = grind (arith, added, on_ok_weaker)
 
 pub returns-clause-run : goal.returns-clause-run
-returns-clause-run g c =
-    let d = g.D.Disk.state c.args.disk.now in
-    let f = c.args.self.now in
-    let at = added g (goal.at.returns-clause-run g c).After-add in
-    run_twice (path_of f) (path_of c.add.new.self) d d (g.D.Disk.state c.write_out.new.disk) (committed_by d f) (committed_by d c.add.new.self) at.path (run_none d f c.requires.opened) c.write_out.ensures.run (λ honest. at.same)
+returns-clause-run g c = grind (arith, added, run_twice, run_none)

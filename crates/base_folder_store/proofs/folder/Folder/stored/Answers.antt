@@ -1,8 +1,7 @@
-use Rattle.std.proofs.Common.{◌≡◌, ◌<◌, ◌-◌, ◌/◌, ℕ, List, length, min, sym, ap, subst, ◌∙◌, arith}
+use Rattle.std.proofs.Common.{◌≡◌, ◌<◌, ◌-◌, ◌/◌, ℕ, length, min, arith}
 use Rattle.std.specs.Prelude.{Vec}
 use Rattle.std.specs.declared.alloc.Global.{Global}
-use Rattle.base_log.specs.Standing.{BaseBytes}
-use Rattle.base_store.specs.Keys.{HasBytesOf, IsPieceOf, digest_at}
+use Rattle.base_store.specs.Keys.{HasBytesOf, IsPieceOf}
 use Rattle.echo_filed.specs.Stored.{Stored, stored_bytes}
 use Rattle.echo_filed.specs.declared.stored.Version.TheVariants.{Second}
 use Rattle.base_folder_store.specs.Answers.{IsStoredOf}
@@ -22,18 +21,7 @@ record Entry (g : given.Over) (c : After-stored_by g) : Type 0 where
   two : length c.deref.result.now / 16 ≡ min 2 (length (held_by (g.D.Disk.state c.args.disk.now) c.args.self.now).keys / 16 - c.args.place)
 
 entry : (g : given.Over) (c : After-stored_by g) → (g.D.Disk.state c.entry_at.new.disk).is_honest → Entry g c
-entry g c h1 =
-    let d = g.D.Disk.state c.args.disk.now in
-    let f = c.args.self.now in
-    let all = keys_all d f (c.requires.legible (c.entry_at.ensures.quiet.honest h1)) in
-    let within = c.requires.within in
-    let long = c.in_ok-entry.ensures.long in
-    let same = ap (λ (l : List ℕ). length l) c.deref.ensures.value in
-    record {
-      piece = subst (λ (l : List ℕ). IsPieceOf (held_by d f).keys c.args.place l) (sym c.deref.ensures.value) (c.in_ok-entry.ensures.entry h1);
-      inside = omega (arith, all, within);
-      two = ap (λ (n : ℕ). n / 16) same ∙ long ∙ ap (λ (n : ℕ). min 2 (n / 16 - c.args.place)) (sym all);
-    }
+entry g c h1 = grind (arith, keys_all)
 
 pub returns-in_err-entry-clause-stored : goal.returns-in_err-entry-clause-stored
 returns-in_err-entry-clause-stored g c honest = λ base recorded inside.
@@ -44,22 +32,12 @@ returns-in_err-entry-clause-there g c honest = λ s has.
     answers_whole {T = Vec ℕ Global} (λ (stored : StoredMessage). stored.bytes.items ≡ stored_bytes Second s) _ c.from_residual.result c.from_residual.ensures.1 (c.in_err-entry.ensures.whole honest)
 
 pub stored_by-requires-clause-within : goal.stored_by-requires-clause-within
-stored_by-requires-clause-within g c =
-    let within = c.requires.within in
-    let long = c.in_ok-entry.ensures.long in
-    let same = ap (λ (l : List ℕ). length l) c.deref.ensures.value in
-    omega (arith, within, long, same)
+stored_by-requires-clause-within g c = grind arith
 
 -- the bytes of the message, by its entry
 has_entry : (g : given.Over) (c : After-stored_by g) → (g.D.Disk.state c.stored_by.new.disk).is_honest → (s : Stored) → HasBytesOf (held_by (g.D.Disk.state c.args.disk.now) c.args.self.now).messages (held_by (g.D.Disk.state c.args.disk.now) c.args.self.now).keys c.args.place s
     → HasBytesOf (held_by (g.D.Disk.state c.entry_at.new.disk) c.args.self.now).messages c.deref.result.now 0 s
-has_entry g c honest s has =
-    let d = g.D.Disk.state c.args.disk.now in
-    let e = g.D.Disk.state c.entry_at.new.disk in
-    let f = c.args.self.now in
-    let one = entry g c (c.stored_by.ensures.quiet.honest honest) in
-    subst (λ (b : BaseBytes). HasBytesOf b.messages c.deref.result.now 0 s) (sym (held_quiet d e f c.entry_at.ensures.quiet))
-    (piece_has (held_by d f).messages (held_by d f).keys c.deref.result.now c.args.place one.piece one.inside one.two s has)
+has_entry g c honest s has = grind (arith, entry, held_quiet, piece_has)
 
 pub returns-in_err-bytes-clause-stored : goal.returns-in_err-bytes-clause-stored
 returns-in_err-bytes-clause-stored g c honest = λ base recorded inside.
@@ -68,9 +46,7 @@ returns-in_err-bytes-clause-stored g c honest = λ base recorded inside.
     (c.in_err-bytes.ensures.stored honest represented.s (has_entry g (goal.at.returns-in_err-bytes-clause-stored g c).After-stored_by honest represented.s represented.bytes))
 
 pub returns-in_err-bytes-clause-there : goal.returns-in_err-bytes-clause-there
-returns-in_err-bytes-clause-there g c honest = λ s has.
-    answers_error {T = Vec ℕ Global} (λ (b : Vec ℕ Global). b.items ≡ stored_bytes Second s) (λ (stored : StoredMessage). stored.bytes.items ≡ stored_bytes Second s) _ c.from_residual-in_err-bytes.result c.from_residual-in_err-bytes.ensures.1
-    (c.in_err-bytes.ensures.stored honest s (has_entry g (goal.at.returns-in_err-bytes-clause-there g c).After-stored_by honest s has))
+returns-in_err-bytes-clause-there g c honest = grind (arith, answers_error, has_entry)
 
 pub returns-clause-stored : goal.returns-clause-stored
 returns-clause-stored g c honest = λ base recorded inside.
@@ -87,11 +63,4 @@ pub returns-clause-there : goal.returns-clause-there
 returns-clause-there g c honest = λ s has. c.in_ok-bytes.ensures.stored honest s (has_entry g (goal.at.returns-clause-there g c).After-stored_by honest s has)
 
 pub returns-clause-digest : goal.returns-clause-digest
-returns-clause-digest g c honest =
-    let h1 = c.stored_by.ensures.quiet.honest honest in
-    let d = g.D.Disk.state c.args.disk.now in
-    let f = c.args.self.now in
-    let one = entry g (goal.at.returns-clause-digest g c).After-stored_by h1 in
-    c.digest_of-digest.ensures
-    ∙ ap (λ (l : List ℕ). digest_at l 0) (c.deref-2.ensures.value ∙ sym c.deref.ensures.value)
-    ∙ first_digest (held_by d f).messages (held_by d f).keys c.deref.result.now c.args.place one.piece one.inside one.two
+returns-clause-digest g c honest = grind (arith, entry, first_digest)

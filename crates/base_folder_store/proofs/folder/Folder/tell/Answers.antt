@@ -1,4 +1,4 @@
-use Rattle.std.proofs.Common.{refl, sym, subst, ◌∙◌}
+use Rattle.std.proofs.Common.{refl, sym, subst, arith}
 use Rattle.disk_io.specs.Disk.{DiskState, Honestly}
 use Rattle.disk_io.specs.Runs.{LeavesOnly}
 use Rattle.base_log.specs.Moments.{IsBeforeOrAfter, KeepsOutside}
@@ -23,19 +23,7 @@ returns-clause-stays g c =
     }
 
 pub returns-clause-done : goal.returns-clause-done
-returns-clause-done g c =
-    let f = c.args.self.now in
-    let d = g.D.Disk.state c.args.disk.now in
-    let e = g.D.Disk.state c.commit.new.disk in
-    let none : IsWritten f = c.requires.written in
-    let now : Folder = record { names = f.names; end = c.in_ok-end.end; recorded = f.recorded; keys = f.keys; waiting = f.waiting } in
-    record {
-      written = record { messages = none.messages; keys = none.keys };
-      recorded = c.in_ok-end.ensures.recorded;
-      same = λ honest. committed_held d e f now refl refl c.in_ok-end.ensures.recorded (c.in_ok-end.ensures.acknowledged honest ∙ sym (written_held d f none)) (record { messages = none.messages; keys = none.keys });
-      committed = λ honest. committed_recorded d e f now refl (c.in_ok-end.ensures.acknowledged honest ∙ sym (written_held d f none));
-      settled = c.in_ok-end.ensures.settled;
-    }
+returns-clause-done g c = grind (arith, committed_held, written_held, committed_recorded)
 
 -- a commit of a folder without waiting bytes, as a run
 run_of : (d e : DiskState) (f : Folder) → IsWritten f → Honestly e (LeavesOnly d e (IsBeforeOrAfter (path_of f) d (committed_by d f) (base_at d (path_of f) f.recorded))) → KeepsOutside (path_of f) d e

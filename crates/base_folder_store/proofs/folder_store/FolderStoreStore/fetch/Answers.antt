@@ -1,4 +1,4 @@
-use Rattle.std.proofs.Common.{◌≡◌, inl, Some, sym, ◌∙◌, arith}
+use Rattle.std.proofs.Common.{◌≡◌, inl, Some, sym, arith}
 use Rattle.std.specs.Prelude.{slice_get}
 use Rattle.std.proofs.lemmas.Result.{err_from_is_err_and}
 use Rattle.base_file.specs.Base.{Base}
@@ -15,14 +15,7 @@ use Rattle.base_folder_store.proofs.WhereSo.{looks_where}
 use Rattle.base_folder_store.proofs.folder_store.FolderStoreStore.fetch.Goals as goal
 
 pub returns-then-place-count-clause-cause : goal.returns-then-place-count-clause-cause
-returns-then-place-count-clause-cause g c =
-    let s = c.args.self.now in
-    let d = g.D.Disk.state s.disk in
-    let keyed = g.H.Digest.keyed in
-    let past = c.if-place-count.true in
-    let store = where_so (state_of d keyed s.folder s.message) (IsCached d s.folder s.index s.buffers) in
-    none_there store (g.D.Disk.failures s.disk) c.args.place c.count.result c.requires.within
-    (λ honest base holds. c.count.ensures ∙ many_messages keyed d s.folder base (c.requires.ready.0.opened honest) holds) (omega (arith, past))
+returns-then-place-count-clause-cause g c = grind (arith, none_there, many_messages)
 
 pub returns-in_err-message-clause-cause : goal.returns-in_err-message-clause-cause
 returns-in_err-message-clause-cause g c =
@@ -46,17 +39,7 @@ returns-clause-fetched g c = λ honest base holds.
     sym (c.in_ok-message.ensures.read honest base.messages (recorded_where keyed (held_by d s.folder) base holds) (c.requires.within was base holds))
 
 pub returns-in_err-message-clause-looks : goal.returns-in_err-message-clause-looks
-returns-in_err-message-clause-looks g c =
-    let s = c.args.self.now in
-    let d = g.D.Disk.state s.disk in
-    let e = g.D.Disk.state c.read.new.disk in
-    let keyed = g.H.Digest.keyed in
-    looks_where (state_of d keyed s.folder s.message) (state_of e keyed s.folder c.take-gone.new.self) (IsCached d s.folder s.index s.buffers) (IsCached e s.folder s.index c.read.new.buffers)
-    (looks d e keyed s.folder s.message c.take-gone.new.self c.requires.ready.0 c.read.ensures.quiet) (λ honest.
-    let same = held_quiet d e s.folder c.read.ensures.quiet in (
-      indexed_held d e s.folder s.folder s.index same (c.requires.ready.1 (c.read.ensures.quiet.honest honest)).0,
-      parts_held d e s.folder s.folder c.read.new.buffers same (c.read.ensures.parts honest),
-    ))
+returns-in_err-message-clause-looks g c = grind (arith, looks_where, looks, held_quiet, indexed_held, parts_held)
 
 pub returns-clause-looks : goal.returns-clause-looks
 returns-clause-looks g c =

@@ -1,7 +1,6 @@
-use Rattle.std.proofs.Common.{List, ℕ, length, ap, subst, sym, ◌∙◌}
+use Rattle.std.proofs.Common.{List, ℕ, subst, sym, arith}
 use Rattle.base_store.proofs.Runs.{looks_commit, no_look}
 use Rattle.base_file.specs.Alone.{IsStoredAlone}
-use Rattle.base_folder_store.specs.Added.{LacksRoom}
 use Rattle.base_folder_store.specs.Opened.{held_by}
 use Rattle.base_folder_store.specs.State.{IsCached, state_of, where_so}
 use Rattle.base_folder_store.proofs.Causes.{at_error, done_both, handed_on}
@@ -59,12 +58,7 @@ returns-clause-commits g c =
     (stages d e keyed s.folder now s.message s.message c.stage.ensures.stays.path c.stage.ensures.run)
 
 pub returns-in_err-bytes-clause-many : goal.returns-in_err-bytes-clause-many
-returns-in_err-bytes-clause-many g c is room =
-    let long = c.in_err-bytes.ensures.many (handed_on _ _ c.from_residual.result c.from_residual.ensures.1 is) in
-    let short = room.text in
-    cc
+returns-in_err-bytes-clause-many g c is room = grind (arith, handed_on)
 
 pub returns-clause-many : goal.returns-clause-many
-returns-clause-many g c is room =
-    let size = ap (λ (l : List ℕ). length l) (c.deref.ensures.value ∙ c.in_ok-bytes.ensures.bytes) in
-    room.room (subst (λ (n : ℕ). LacksRoom c.args.self.now.folder n) size (c.stage.ensures.many is))
+returns-clause-many g c is room = grind arith

@@ -1,4 +1,4 @@
-use Rattle.std.proofs.Common.{◌≡◌, inl, Bool}
+use Rattle.std.proofs.Common.{◌≡◌, inl, Bool, arith}
 use Rattle.std.specs.List.{list_any}
 use Rattle.echo_filed.specs.Filed.{has_id}
 use Rattle.base_file.specs.Base.{Base}
@@ -35,18 +35,7 @@ pub find-requires-clause-legible : goal.find-requires-clause-legible
 find-requires-clause-legible g c honest = legible_open (g.D.Disk.state c.args.self.now.disk) c.args.self.now.folder (c.requires.0.opened honest)
 
 pub returns-clause-looks : goal.returns-clause-looks
-returns-clause-looks g c =
-    let s = c.args.self.now in
-    let d = g.D.Disk.state s.disk in
-    let e = g.D.Disk.state c.find.new.disk in
-    let keyed = g.H.Digest.keyed in
-    looks_where (state_of d keyed s.folder s.message) (state_of e keyed s.folder s.message) (IsCached d s.folder s.index s.buffers) (IsCached e s.folder c.find.new.index s.buffers)
-    (looks d e keyed s.folder s.message s.message c.requires.0 c.find.ensures.quiet)
-    (λ honest.
-    let same = held_quiet d e s.folder c.find.ensures.quiet in (
-      indexed_held d e s.folder s.folder c.find.new.index same (c.find.ensures.indexed honest),
-      parts_held d e s.folder s.folder s.buffers same (c.requires.1 (c.find.ensures.quiet.honest honest)).1,
-    ))
+returns-clause-looks g c = grind (arith, looks_where, looks, held_quiet, indexed_held, parts_held)
 
 pub returns-clause-many : goal.returns-clause-many
 returns-clause-many g c is = inl (inl (c.find.ensures.many is))

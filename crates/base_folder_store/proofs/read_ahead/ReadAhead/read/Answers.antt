@@ -14,9 +14,4 @@ returns-in-Ok-clause-part g c honest = λ more was.
     (c.requires.long (c.read_part_into.ensures.quiet.honest honest)) (c.in-Ok.ensures.bytes honest)
 
 pub returns-in-Err-clause-part : goal.returns-in-Err-clause-part
-returns-in-Err-clause-part g c honest = λ more was.
-    let asked = c.requires.order in
-    let room = c.requires.within in
-    let order : c.args.begins ≤ c.args.first = omega arith in
-    part_lost (bytes_in ((g.D.Disk.state c.args.disk.now).seen c.args.path.now)) more (record { from = c.args.begins; bytes = c.clear.new.self }) c.args.first order
-    (c.requires.long (c.read_part_into.ensures.quiet.honest honest)) c.clear.ensures.items
+returns-in-Err-clause-part g c honest = grind (arith, part_lost)
