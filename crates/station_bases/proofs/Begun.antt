@@ -1,12 +1,12 @@
 -- A folder that was begun, as an open station.
-use Rattle.std.proofs.Common.{◌≤◌, inl, inr, ⊎_elim, ℕ, Bool, List}
+use Rattle.std.proofs.Common.{◌≤◌, ℕ, Bool, List, arith}
 use Rattle.base_file.specs.Base.{Base}
 use Rattle.disk_io.specs.Disk.{DiskState, Honestly}
 use Rattle.disk_io.specs.Runs.{LeavesOnly}
 use Rattle.disk_io.proofs.Moments.{weaker_run}
 use Rattle.base_log.specs.Moments.{KeepsOutside}
 use Rattle.station_bases.specs.Opening.{IsBegun, IsOfFolder}
-use Rattle.base_folder_store.specs.Held.{RepresentsBase, RepresentsBaseAlone, RepresentsBaseOrWasLeft}
+use Rattle.base_folder_store.specs.Held.{RepresentsBase, RepresentsBaseOrWasLeft}
 use Rattle.echo_links.specs.Links.{LinkFile}
 use Rattle.cmd_status.specs.declared.fault.Fault.{Fault}
 use Rattle.base_store.specs.Store.{StoreState}
@@ -20,9 +20,7 @@ module _ (keyed : ℕ → ℕ → List ℕ → ℕ) (path : List ℕ) (d0 : Disk
 
   -- the state that a crash leaves
   left_as : (d1 : DiskState) (base : Base) → LeavesOnly d0 d1 (RepresentsBaseOrWasLeft keyed path d0 base) → LeavesOnly d0 d1 (RepresentsOrWasLeft (folder_place keyed path) d0 base)
-  left_as d1 base run =
-      weaker_run d0 d1 (RepresentsBaseOrWasLeft keyed path d0 base) (RepresentsOrWasLeft (folder_place keyed path) d0 base) run
-      (λ c left. ⊎_elim (λ (alone : RepresentsBaseAlone keyed path d0 base c). inl (record { elsewhere = alone.outside; represented = alone.represented })) (λ was. inr was) left)
+  left_as d1 base run = grind (arith, weaker_run)
 
   pub is_opened : (s : StoreState) (links : List ℕ) (strange : Bool) (file : LinkFile) (before now : ℕ) → s.is_ready → Honestly s.disk (IsBegun keyed links path strange d0 s file) → IsOfFolder keyed path d0 s → before ≤ now
       → IsOpened (folder_place keyed path) (λ file. IsOwnLinks links path strange d0 file) d0 before now s file

@@ -47,9 +47,7 @@ module _ (file : List ℕ) (head : Head) (e : Entries) (j : AreJudged file head 
   split = j.begins.whole ∙ sym (append_assoc (head_bytes Second head.cursor head.number) (flat_map (stored_bytes Second) j.all) (drop e.end file))
 
   size : length front ≡ e.end
-  size =
-      let within = j.within in
-      omega (arith, ap (λ (l : List ℕ). length l) split, length-append front (drop e.end file), length-drop e.end file)
+  size = grind (arith, split, length-append, front, length-drop)
 
   taken : take e.end file ≡ front
   taken = ap (λ (l : List ℕ). take e.end l) split ∙ take_at front (drop e.end file) e.end size
@@ -71,28 +69,13 @@ module _ (file : List ℕ) (head : Head) (e : Entries) (j : AreJudged file head 
 
   module _ (fits : e.end < 2 ^ 64) where
     bytes_here : message_bytes file e ≡ flat_map (stored_bytes Second) j.all
-    bytes_here =
-        ap (λ (l : List ℕ). drop 16 (take e.end file) ++ l) j.none
-        ∙ append-nil (drop 16 (take e.end file))
-        ∙ bytes_judged
+    bytes_here = grind (arith, append-nil, bytes_judged)
 
     pub entries_judged : (cursor : ℕ) → IsBase (map (message_in Second) j.all) cursor → AreEntriesOf file e (map (message_in Second) j.all) cursor
-    entries_judged cursor holds = record {
-      all = j.all;
-      sizes = j.begins.sizes;
-      sound = all_alone head.cursor [] j.all j.begins.sound;
-      stored = bytes_here;
-      filed = refl;
-      entries = j.entries;
-      long = omega (arith, ap (λ (l : List ℕ). length l) bytes_here, end_judged, fits);
-      digests = λ bytes. omega arith;
-      holds = holds;
-    }
+    entries_judged cursor holds = grind (arith, all_alone, bytes_here, end_judged)
 
     pub files_judged : AreEntriesOf file e (map (message_in Second) j.all) 0
-    files_judged =
-        let both = all_filed Second head.cursor [] j.all j.begins.sizes j.begins.sound in
-        entries_judged 0 (record { each = both.0; new = both.1; within = omega arith })
+    files_judged = grind (arith, all_filed, entries_judged)
 
 -- no message yet
 pub judged_none : (file piece more : List ℕ) (head : Head) (e : Entries) → BeginsWith head piece → head.version ≡ Second → file ≡ piece ++ more → e.end ≡ 16 → e.keys.items ≡ [] → e.waiting.items ≡ [] → AreJudged file head e
@@ -115,19 +98,8 @@ module _ (file : List ℕ) (head : Head) (e f : Entries) (j : AreJudged file hea
   count_is : place ≡ length e.keys.items / 16 → place ≡ length j.all
   count_is at = omega (arith, at, count_judged file head e j)
 
-  sized : size ≡ length (stored_bytes Second s.judged.s)
-  sized =
-      let within = s.judged.within in
-      let count = s.judged.judges.1 in
-      let long = ap (λ (l : List ℕ). length l) s.judged.same in
-      omega (arith, within, count, long, length-take-le s.judged.size s.piece within)
-
   inside : e.end + size ≤ length file
-  inside =
-      let within = s.judged.within in
-      let count = s.judged.judges.1 in
-      let last = j.within in
-      omega (arith, within, count, last, ap (λ (l : List ℕ). length l) s.parts, length-append s.piece s.more, length-drop e.end file)
+  inside = grind (arith, length-append, length-drop)
 
   begun : place ≡ length e.keys.items / 16 → is_known (map (message_in Second) j.all) key ≡ false → Begins Second head.cursor head.number (j.all ++ s.judged.s ∷ []) (drop (e.end + size) file) file
   begun at new =
@@ -220,7 +192,4 @@ sound_here file piece cursor place at bytes key size short part behind inside is
 
 -- a piece from the front of the file on
 pub piece_front : (file : List ℕ) (piece : Piece) → IsPartOf file piece → piece.begins ≡ 0 → file ≡ piece.bytes.items ++ drop (length piece.bytes.items) file
-piece_front file piece part at =
-    let n = length piece.bytes.items in
-    let sum : piece.begins + n ≡ n = omega (arith, at) in
-    sym (take-append-drop n file) ∙ ap (λ (l : List ℕ). l ++ drop n file) (sym (part.same ∙ (λ i. drop (at i) (take (sum i) file))))
+piece_front file piece part at = grind (arith, take-append-drop)

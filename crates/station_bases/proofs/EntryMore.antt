@@ -25,35 +25,17 @@ use Rattle.station_bases.specs.declared.entries.Entries.{Entries}
 
 -- a message with the same stored form before and after its scan
 same_form : (short : Bool) (c d place : ℕ) → c ≤ d → (nat_lt place c ≡ false → short ≡ false) → (nat_lt place c && short) ≡ (nat_lt place d && short)
-same_form short c d place le keeps = ⊎_elim
-    (λ (h : place < c).
-    let one : nat_lt place c ≡ true = lt-ltb place c h in
-    let two : nat_lt place d ≡ true = lt-ltb place d (omega (arith, h, le)) in
-    ap (λ b. b && short) (one ∙ sym two))
-    (λ (h : c ≤ place).
-    let none : short ≡ false = keeps (le-ltb place c h) in
-    ap (λ b. nat_lt place c && b) none ∙ never (nat_lt place c) ∙ sym (never (nat_lt place d)) ∙ sym (ap (λ b. nat_lt place d && b) none))
-    (cases_lt place c)
-  where
-    never : (b : Bool) → (b && false) ≡ false
-    never true = refl
-    never false = refl
+same_form short c d place le keeps = grind (arith, nat_lt, lt-ltb, le-ltb, cases_lt)
 
 pub same_forms : (c d place : ℕ) (messages : List Filed) → c ≤ d → KeepForms c place messages → stored_from c place messages ≡ stored_from d place messages
 unfolding stored_at
 same_forms c d place [] le keeps = refl
-same_forms c d place (m ∷ later) le keeps =
-    let one = ap (λ b. stored_as b m) (same_form (is_short Second 1 0 m) c d place le keeps.0) in
-    let more = same_forms c d (place + 1) later le keeps.1 in
-    λ i. one i ∷ more i
+same_forms c d place (m ∷ later) le keeps = grind (arith, same_form, same_forms c d (place + 1) later le keeps.1)
 
 -- and so from a later message on
 pub keep_later : (c d place : ℕ) (messages : List Filed) → c ≤ d → KeepForms c place messages → KeepForms d place messages
 keep_later c d place [] le keeps = tt
-keep_later c d place (m ∷ later) le keeps = (
-  λ past. let at : d ≤ place = ltb-false place d past in keeps.0 (le-ltb place c (omega (arith, at, le))),
-  keep_later c d (place + 1) later le keeps.1,
-)
+keep_later c d place (m ∷ later) le keeps = grind (arith, ltb-false, le-ltb, keep_later c d (place + 1) later le keeps.1)
 
 -- one more message that keeps its form
 pub keep_more : (c place : ℕ) (messages : List Filed) (m : Filed) → KeepForms c place messages → (nat_lt (place + length messages) c ≡ false → is_short Second 1 0 m ≡ false) → KeepForms c place (messages ++ m ∷ [])
@@ -113,10 +95,7 @@ module _ (cursor : ℕ) (messages : List Filed) (m : Filed) (within : cursor ≤
   form = stored_here cursor (length messages) m false (sym (ap (λ b. b && (is_short Second 1 0 m)) (le-ltb (length messages) cursor within)))
 
   pub saved_more : (bytes : List ℕ) → bytes ≡ flat_map (stored_bytes Second) (stored_from cursor 0 messages) → bytes ++ stored_bytes Second (stored_as false m) ≡ flat_map (stored_bytes Second) (stored_from cursor 0 with_last)
-  saved_more bytes is =
-      (λ i. (is ∙ ap (λ l. flat_map (stored_bytes Second) (stored_from cursor 0 l)) (sym front)) i ++ stored_bytes Second (form i))
-      ∙ all_more cursor (length messages) with_last m here
-      ∙ ap (λ l. flat_map (stored_bytes Second) (stored_from cursor 0 l)) whole
+  saved_more bytes is = grind (arith, front, form, all_more, here, whole)
 
   pub count_more : is_countable messages cursor ≡ true → length messages + 1 < 2 ^ 32 → is_short_enough (stored_as false m) ≡ true → is_countable with_last cursor ≡ true
   count_more was few room =
@@ -163,15 +142,7 @@ added law file e f base m bytes number was reach head alone filed is short room 
 -- the same messages, held in another way
 pub held_still : (file later : List ℕ) (e f : Entries) (base : Base) → message_bytes file e ≡ message_bytes later f → f.digest ≡ e.digest → f.cursor ≡ e.cursor → f.odd ≡ e.odd → f.keys.items ≡ e.keys.items
     → HoldEntries file e base → HoldEntries later f base
-held_still file later e f base more digest cursor odd keys was = record {
-  files = subst (λ (g : SipDigest). FolderRepresents (sip_digest g.first g.second) base.messages base.cursor (message_bytes later f) f.keys.items) (sym digest)
-      (subst (λ (l : List ℕ). FolderRepresents (entry_digest e) base.messages base.cursor l f.keys.items) more
-      (subst (λ (l : List ℕ). FolderRepresents (entry_digest e) base.messages base.cursor (message_bytes file e) l) (sym keys) was.files));
-  saved = sym more ∙ was.saved;
-  countable = was.countable;
-  forms = λ none. was.forms (sym odd ∙ none);
-  cursor = cursor ∙ was.cursor;
-}
+held_still file later e f base more digest cursor odd keys was = grind arith
 
 -- the number of its entries
 pub many_held : (file : List ℕ) (e : Entries) (base : Base) → HoldEntries file e base → length e.keys.items / 16 ≡ length base.messages

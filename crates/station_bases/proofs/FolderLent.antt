@@ -1,5 +1,5 @@
 -- The disk of a base folder after its use for other files.
-use Rattle.std.proofs.Common.{◌≡◌, ◌≢◌, ◌↔◌, ◌≤◌, ◌++◌, inl, inr, ℕ, Bool, true, false, All, IsTrue, List, Option, length, sym, take, drop, ◌∙◌, ap, refl, subst}
+use Rattle.std.proofs.Common.{◌≡◌, ◌≢◌, ◌↔◌, ◌≤◌, ◌++◌, ℕ, Bool, true, false, All, IsTrue, List, Option, length, sym, drop, ◌∙◌, ap, refl, subst, arith}
 use Rattle.std.proofs.lemmas.List.{drop_at}
 use Rattle.std.specs.Prelude.{IsSome}
 use Rattle.echo_filed.specs.Filed.{Filed}
@@ -8,7 +8,7 @@ use Rattle.disk_io.specs.Runs.{OneStepOn}
 use Rattle.disk_io.specs.Synced.{IsOnDisk}
 use Rattle.disk_io.proofs.Moments.{left_now}
 use Rattle.base_log.specs.AtRest.{IsStaged}
-use Rattle.base_log.specs.Log.{IsLog, IsShutAt, last_recorded, opened}
+use Rattle.base_log.specs.Log.{opened}
 use Rattle.base_log.specs.Names.{keys_of, log_of, messages_of}
 use Rattle.base_log.specs.Standing.{BaseBytes, IsEnded, Represents, base_at}
 use Rattle.base_log.specs.declared.log.End.{End}
@@ -24,28 +24,11 @@ use Rattle.station.specs.Beneath.{HoldsAsBefore, IsGivenBack}
 
 -- states with the same files in the folder end alike
 ended_same : (path : List ℕ) (bodies : List (List ℕ)) (a c : Files) → ((m : List ℕ) → IsIn path m → c m ≡ a m) → IsEnded path bodies a → IsEnded path bodies c
-ended_same path bodies a c same (inl shut) = inl (subst (λ f. IsShutAt (length (opened bodies)) (bytes_in f)) (sym (same (log_of path) (log_in path))) shut)
-ended_same path bodies a c same (inr new) = inr (record {
-  log = subst (λ f. length (bytes_in f) ≤ 1) (sym (same (log_of path) (log_in path))) new.log;
-  empty = record {
-    messages = λ n lt. ap bytes_in (same (messages_of path n) (messages_in path n)) ∙ new.empty.messages n lt;
-    keys = λ n lt. ap bytes_in (same (keys_of path n) (keys_in path n)) ∙ new.empty.keys n lt;
-  };
-})
+ended_same path bodies a c same h6 = grind (arith, log_in, messages_in, keys_in)
 
 -- and hold the same base
 represented_same : (path : List ℕ) (base : BaseBytes) (a c : Files) → ((m : List ℕ) → IsIn path m → c m ≡ a m) → Represents path base a → Represents path base c
-represented_same path base a c same was =
-    let recorded = last_recorded was.bodies in
-    let m = same (messages_of path recorded.number) (messages_in path recorded.number) in
-    let k = same (keys_of path recorded.number) (keys_in path recorded.number) in
-    record {
-      bodies = was.bodies;
-      log = subst (λ f. IsLog was.bodies (bytes_in f)) (sym (same (log_of path) (log_in path))) was.log;
-      ended = ended_same path was.bodies a c same was.ended;
-      there = AreThere-same path was.bodies a c m k was.there;
-      recorded_base = RecordsBase-same recorded path base a c m k was.recorded_base;
-    }
+represented_same path base a c same was = grind (arith, messages_in, keys_in, log_in, ended_same, AreThere-same, RecordsBase-same)
 
 -- the paths outside the folder
 abbrev Outside : List ℕ → List ℕ → Type 0
@@ -56,18 +39,10 @@ module _ (path : List ℕ) (d e : DiskState) (run : ChangesOnly (Outside path) d
   inside m is out = out is
 
   base_same : (recorded : CommitRecord) → base_at e path recorded ≡ base_at d path recorded
-  base_same recorded =
-      let m = run.seen (messages_of path recorded.number) (inside (messages_of path recorded.number) (messages_in path recorded.number)) in
-      let k = run.seen (keys_of path recorded.number) (inside (keys_of path recorded.number) (keys_in path recorded.number)) in
-      λ i. record { messages = take recorded.messages (bytes_in (m i)); keys = take recorded.keys (bytes_in (k i)); cursor = recorded.cursor; mark = recorded.mark }
+  base_same recorded = grind (arith, inside, messages_in, keys_in)
 
   on_disk_same : (m : List ℕ) → IsIn path m → IsOnDisk d m → IsOnDisk e m
-  on_disk_same m is on = record {
-    there = subst (λ f. IsSome f) (sym (run.seen m (inside m is))) on.there;
-    named = run.named m (inside m is) on.named;
-    flushed = run.flushed m (inside m is) on.flushed;
-    alone = run.alone m (inside m is) on.alone;
-  }
+  on_disk_same m is on = grind (arith, inside)
 
   -- a staged base stays staged
   staged_same : (end : End) (recorded : CommitRecord) → IsStaged d path end recorded → IsStaged e path end recorded

@@ -1,5 +1,5 @@
 -- A folder opened after a look at the disk.
-use Rattle.std.proofs.Common.{◌≡◌, ℕ, Bool, List, subst, sym}
+use Rattle.std.proofs.Common.{◌≡◌, ℕ, Bool, List, subst, sym, arith}
 use Rattle.echo_addr.specs.declared.address.Address.{Address}
 use Rattle.base_file.specs.Base.{Base}
 use Rattle.disk_io.specs.Disk.{DiskState, Files}
@@ -10,7 +10,6 @@ use Rattle.base_folder.specs.Ours.{IsLeftAlone, IsNotOurs}
 use Rattle.base_folder.specs.Unopened.{OpensOnly}
 use Rattle.base_folder.proofs.Openings.{opened_run_since}
 use Rattle.base_folder.specs.declared.open_error.OpenError.{OpenError}
-use Rattle.base_folder.specs.declared.open_error.OpenError.TheVariants as unread
 use Rattle.station_bases.specs.Opening.{IsNotOpened}
 use Rattle.cmd_status.specs.declared.fault.Fault.{Fault}
 use Rattle.base_folder_store.specs.Held.{RepresentsBase}
@@ -20,11 +19,7 @@ pub quiet_represented : (keyed : ℕ → ℕ → List ℕ → ℕ) (path : List 
 quiet_represented keyed path base d e quiet represented = subst (λ (f : Files). RepresentsBase keyed path base f) (sym (seen_same d e quiet)) represented
 
 left_alone : (d e f : DiskState) (why : OpenError) → ChangesNothing d e → IsLeftAlone e f why → IsLeftAlone d f why
-left_alone d e f (unread.NotOwner address) quiet left = nothing_twice d e f quiet left
-left_alone d e f unread.Memory quiet left = tt
-left_alone d e f unread.Device quiet left = tt
-left_alone d e f unread.Raced quiet left = tt
-left_alone d e f (unread.Wrong why) quiet left = nothing_twice d e f quiet left
+left_alone d e f h4 quiet left = grind (arith, nothing_twice)
 
 -- a refusal after a look, for the system that the link file names
 pub not_opened : (own other : Address) (strange : Bool) (base path : List ℕ) (part failed : Type 0) (d e f : DiskState) (fault : Fault) → other ≡ own → (part → failed) → ChangesNothing d e

@@ -1,12 +1,10 @@
 -- The disk of a base file after its use for other files, and the staging paths.
-use Rattle.std.proofs.Common.{◌≡◌, ◌≢◌, ◌↔◌, ◌++◌, ℕ, Bool, true, false, IsTrue, List, length, drop, inr, sym, ◌∙◌, ap, refl, subst}
+use Rattle.std.proofs.Common.{◌≡◌, ◌≢◌, ◌↔◌, ◌++◌, ℕ, Bool, true, false, IsTrue, List, length, drop, inr, sym, ◌∙◌, ap, refl, arith}
 use Rattle.std.proofs.lemmas.List.{drop_at}
 use Rattle.base_file.specs.Base.{Base}
 use Rattle.disk_io.specs.Disk.{DiskState}
-use Rattle.disk_io.specs.Runs.{OneStepOn}
 use Rattle.disk_io.proofs.Moments.{left_now}
-use Rattle.disk_atomic.specs.Changes.{ChangesOnly, DifferAt}
-use Rattle.cmd_status.specs.Inputs.{IsBaseGiven}
+use Rattle.disk_atomic.specs.Changes.{ChangesOnly}
 use Rattle.station.specs.Beneath.{IsGivenBack}
 use Rattle.station_bases.specs.InFile.{IsInFile, IsOfFile, file_state}
 use Rattle.station_bases.specs.declared.held.Held.{Held}
@@ -21,23 +19,10 @@ module _ {S T : Type 0} (path own : List ℕ) (held : Held S T) (place : ℕ) (d
   own_path out = out (inr refl)
 
   in_file : ChangesOnly Others d e → (b : Base) → IsInFile d path b → IsInFile e path b
-  in_file run b was = record {
-    seen = subst (λ f. IsBaseGiven f b.messages b.cursor) (sym (run.seen path own_path)) was.seen;
-    left = λ c left.
-        let from = left_now d e (OneStepOn (DifferAt Others) d) run.any_moment c left in
-        subst (λ f. IsBaseGiven f b.messages b.cursor) (sym (from.2 path own_path)) (was.left from.0 from.1);
-  }
+  in_file run b was = grind (arith, own_path, left_now)
 
   pub given_back : IsGivenBack (file_state d path own held place) d e (file_state e path own held place)
-  given_back = record {
-    settled = λ b before after same represented. subst (λ f. IsBaseGiven f b.messages b.cursor) (sym (same path (inr refl))) represented;
-    same = record { represented = λ b c. (λ is. is, λ is. is); own = λ m. (λ is. is, λ is. is); undoes = (λ is. is, λ is. is) };
-    holds = λ ready run. record {
-      ready = (ready.0, reach_seen d e path held (run.seen path own_path) run.honest ready.1);
-      keeps = λ b is. held_seen d e path held (run.seen path own_path) b is;
-      committed = in_file run;
-    };
-  }
+  given_back = grind (arith, reach_seen, own_path, held_seen, in_file)
 
 -- a path with this beginning is one of them exactly if its rest is
 module _ (a path : List ℕ) (f : List ℕ → List ℕ) where

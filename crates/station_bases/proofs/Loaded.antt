@@ -1,5 +1,5 @@
 -- The answer of loading the bytes of a base.
-use Rattle.std.proofs.Common.{◌≡◌, ◌≢◌, ◌<◌, ◌≤◌, ◌-◌, ◌^◌, ℕ, [], ap, refl, Result, Ok, Err, arith, ⊎_elim}
+use Rattle.std.proofs.Common.{◌≡◌, ◌≢◌, ◌<◌, ◌≤◌, ◌-◌, ◌^◌, ℕ, [], ap, Result, Ok, Err, arith, ⊎_elim}
 use Rattle.disk_io.specs.Device.{Failed}
 use Rattle.base_file.specs.Base.{Base}
 use Rattle.base_file.specs.BaseFile.{Loaded}
@@ -20,10 +20,4 @@ never_failed failed = ⊎_elim (λ (more : 0 < 0). omega (arith, more)) (λ (at 
 
 -- loading a sound base fails only if memory runs out
 pub refused_not : (x : Loaded) (f : BaseFault) → AnswersLoad (Err f) (Ok x) → CountsLoad {A = Base} (Err f) 0 0 → f ≢ fault.Memory → ⊥
-refused_not x fault.NotBase answers counts other = ok_no_err x fault.NotBase answers
-refused_not x (fault.Truncated n) answers counts other = ok_no_err x (fault.Truncated n) answers
-refused_not x (fault.Damaged n) answers counts other = ok_no_err x (fault.Damaged n) answers
-refused_not x fault.Read answers counts other = never_failed counts
-refused_not x (fault.Write n) answers counts other = ok_no_err x (fault.Write n) answers
-refused_not x fault.Memory answers counts other = other refl
-refused_not x fault.TooMany answers counts other = ok_no_err x fault.TooMany answers
+refused_not x h2 answers counts other = grind (arith, ok_no_err, never_failed)

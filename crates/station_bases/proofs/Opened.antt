@@ -1,8 +1,8 @@
 -- A base file opened as a store.
-use Rattle.std.proofs.Common.{◌≡◌, ◌≤◌, inr, ℕ, List, [], Option, None, Some, Result, Ok, Err, ap, sym, subst}
+use Rattle.std.proofs.Common.{◌≡◌, ◌≤◌, inr, ℕ, List, Option, Result, Ok, arith}
 use Rattle.std.specs.Prelude.{All, ◌≢◌, IfOk, IsSome}
 use Rattle.base_file.specs.Base.{Base}
-use Rattle.base_file.specs.BaseFile.{LoadOf, Loaded}
+use Rattle.base_file.specs.BaseFile.{LoadOf}
 use Rattle.echo_filed.specs.Filed.{Filed}
 use Rattle.base_file.specs.Loading.{AnswersLoad}
 use Rattle.base_file.specs.declared.fault.BaseFault.{BaseFault}
@@ -19,55 +19,27 @@ use Rattle.station_bases.specs.InFile.{IsHeld, IsWithinReach, RepresentsInFile, 
 use Rattle.station_bases.specs.declared.held.Held.{Held}
 use Rattle.station_bases.specs.Reading.{IsFileShut, IsSettled, IsShutFor, file_place}
 
-abbrev base_in : Result Loaded BaseFault → Base
-base_in (Ok loaded) = record { messages = loaded.0; cursor = loaded.1 }
-base_in (Err why) = record { messages = []; cursor = 0 }
-
 pub same_loaded : (result : Result Base BaseFault) (base : Base) (size : ℕ) → AnswersLoad result (Ok (base.messages, base.cursor, size)) → IfOk result (λ b. base ≡ b)
-same_loaded (Ok b) base size answers = ap (λ r. base_in r) answers.1
-same_loaded (Err why) base size answers = tt
+same_loaded h1 base size answers = grind arith
 
 -- and an existing file is loaded from its bytes
 pub given_loads : (f : Option (List ℕ)) (messages : List Filed) (cursor : ℕ) → IsSome f → IsBaseGiven f messages cursor → (size : ℕ) × LoadOf (bytes_in f) (Ok (messages, cursor, size))
-given_loads None messages cursor some given = absurd (cc)
-given_loads (Some bytes) messages cursor some given = given
+given_loads h1 messages cursor some given = grind arith
 
 quiet_elsewhere : (path : List ℕ) (d0 d1 : DiskState) → ChangesNothing d0 d1 → KeepsElsewhere (file_place path) d0 d1
-quiet_elsewhere path d0 d1 quiet = record {
-  seen = λ m out. quiet.seen m;
-  named = λ m out. quiet.named m (λ h. h);
-  flushed = λ m out. quiet.flushed m (λ h. h);
-  alone = λ m out. quiet.alone m (λ h. h);
-  honest = quiet.honest;
-}
+quiet_elsewhere path d0 d1 quiet = grind arith
 
 module _ {S T : Type 0} (d0 d1 : DiskState) (path own : List ℕ) (held : Held S T) (place : ℕ) (quiet : ChangesNothing d0 d1) where
   opened_file : IsSettled d1 path → ((b : Base) → RepresentsInFile path b d0.seen → IsHeld d1 path held b) → IsOpenFor (file_place path) d0 (file_state d1 path own held place)
-  opened_file on only = record {
-    keeps = only;
-    committed = λ b represented.
-        let seen = subst (λ f. IsBaseGiven f b.messages b.cursor) (sym (quiet.seen path)) represented in
-        record { seen = seen; left = λ c left. subst (λ f. IsBaseGiven f b.messages b.cursor) (sym (d1.on_disk path on.named on.flushed c left)) seen };
-    run = λ b represented. weaker_run d0 d1 d0.may_leave (RepresentsOrWasLeft (file_place path) d0 b) quiet.run (λ c left. inr left);
-  }
+  opened_file on only = grind (arith, weaker_run)
 
   of_file : IsOfPlace (file_place path) d0 (file_state d1 path own held place)
-  of_file = record {
-    own = λ m of. (own, of);
-    represented = λ b c. (λ h. h, λ h. h);
-    elsewhere = quiet_elsewhere path d0 d1 quiet;
-  }
+  of_file = grind (arith, quiet_elsewhere)
 
   pub is_opened : (links : List ℕ) (file : LinkFile) (before now : ℕ) → before ≤ now → All (λ b. b ≢ 47) own → IsWithinReach d1 path held → Honestly d1 (AreLinks d0 links file) → Honestly d1 (IsSettled d1 path)
       → Honestly d1 ((b : Base) → RepresentsInFile path b d0.seen → IsHeld d1 path held b)
       → IsOpened (file_place path) (λ file. AreLinks d0 links file) d0 before now (file_state d1 path own held place) file
-  is_opened links file before now later plain reach read on only = record {
-    ready = (plain, reach);
-    read = read;
-    begun = λ honest. opened_file (on honest) (only honest);
-    of_place = of_file;
-    later = later;
-  }
+  is_opened links file before now later plain reach read on only = grind (arith, opened_file, of_file)
 
 pub is_not_opened : (links path : List ℕ) (F : Type 0) (d0 d1 : DiskState) (fault : Fault) → ChangesNothing d0 d1 → Honestly d1 (IsFileShut links path F d0 fault)
     → IsNotOpened (file_place path) (IsShutFor links path F d0 d1) d0 d1 fault

@@ -1,11 +1,10 @@
 -- A base file that is unchanged.
-use Rattle.std.proofs.Common.{◌≡◌, ◌≤◌, ℕ, List, length, sym, ap, subst, Option}
+use Rattle.std.proofs.Common.{◌≡◌, ◌≤◌, ℕ, List, length, sym, ap, subst, Option, arith}
 use Rattle.std.specs.Prelude.{IsSome}
 use Rattle.disk_io.specs.Disk.{DiskState, bytes_in}
 use Rattle.disk_io.specs.Runs.{ChangesNothing}
 use Rattle.base_file.specs.Base.{Base}
 use Rattle.base_folder_store.specs.Ahead.{IsPartOf}
-use Rattle.base_folder_store.specs.declared.read_ahead.ReadAhead.{ReadAhead}
 use Rattle.station_bases.specs.Entries.{AreIndexed, CanLookUp, HoldEntries, IsWithinFile}
 use Rattle.station_bases.specs.InFile.{IsHeld, IsWithinReach}
 use Rattle.station_bases.specs.declared.held.Held.{Held}
@@ -17,23 +16,10 @@ module _ (d0 d1 : DiskState) (path : List ℕ) (quiet : ChangesNothing d0 d1) wh
   same_file = ap bytes_in (quiet.seen path)
 
   pub reach_still : (e : Entries) → IsWithinFile d0 path e → IsWithinFile d1 path e
-  reach_still e was = record {
-    there = subst (λ (f : Option (List ℕ)). IsSome f) (sym (quiet.seen path)) was.there;
-    long = subst (λ (f : Option (List ℕ)). e.end ≤ length (bytes_in f)) (sym (quiet.seen path)) was.long;
-    ahead = subst (λ (f : Option (List ℕ)). IsPartOf (bytes_in f) e.ahead) (sym (quiet.seen path)) was.ahead;
-  }
+  reach_still e was = grind arith
 
   pub look_still : (e f : Entries) → AreIndexed f → f.end ≡ e.end → f.ahead ≡ e.ahead → CanLookUp d0 path e → CanLookUp d1 path f
-  look_still e f indexed end ahead was = record {
-    indexed = indexed;
-    legible = λ honest.
-        let before = was.legible (quiet.honest honest) in
-        record {
-          there = (reach_still e before).there;
-          long = subst (λ (n : ℕ). n ≤ length (bytes_in (d1.seen path))) (sym end) (reach_still e before).long;
-          ahead = subst (λ (a : ReadAhead). IsPartOf (bytes_in (d1.seen path)) a) (sym ahead) (reach_still e before).ahead;
-        };
-  }
+  look_still e f indexed end ahead was = grind (arith, reach_still)
 
 -- the same if only this file is unchanged
 pub reach_seen : {S T : Type 0} (d0 d1 : DiskState) (path : List ℕ) (held : Held S T) → d1.seen path ≡ d0.seen path → (d1.is_honest → d0.is_honest) → IsWithinReach d0 path held → IsWithinReach d1 path held

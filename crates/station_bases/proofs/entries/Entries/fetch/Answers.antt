@@ -8,10 +8,7 @@ use Rattle.station_bases.proofs.EntryMore.{many_held}
 use Rattle.station_bases.proofs.entries.Entries.fetch.Goals as goal
 
 pub returns-then-place-count-clause-fetched : goal.returns-then-place-count-clause-fetched
-returns-then-place-count-clause-fetched g c honest = λ base held less.
-    let many = many_held (bytes_in ((g.D.Disk.state c.args.disk.now).seen c.args.path.now)) c.args.self.now base held in
-    let past = c.if-place-count.true in
-    omega (arith, many, less, past, c.count.ensures)
+returns-then-place-count-clause-fetched g c honest = grind (arith, many_held)
 
 pub returns-in_err-message-clause-fetched : goal.returns-in_err-message-clause-fetched
 returns-in_err-message-clause-fetched g c honest = λ base held less.

@@ -1,17 +1,12 @@
-use Rattle.std.proofs.Common.{◌≡◌, length, ◌∙◌}
-use Rattle.std.specs.Prelude.{Vec}
-use Rattle.std.specs.declared.alloc.Global.{Global}
+use Rattle.std.proofs.Common.{length, ◌∙◌, arith}
 use Rattle.disk_io.specs.Disk.{bytes_in}
-use Rattle.base_file.specs.Base.{Base}
 use Rattle.base_file.specs.BaseFile.{saved_bytes}
 use Rattle.base_folder_store.proofs.Causes.{answers_whole}
 use Rattle.station_bases.proofs.EntryMore.{few_held, held_loads}
 use Rattle.station_bases.proofs.entries.Entries.load.Goals as goal
 
 pub returns-in_err-whole-clause-same : goal.returns-in_err-whole-clause-same
-returns-in_err-whole-clause-same g c honest = λ base held.
-    answers_whole {T = Vec _ Global} (λ (loaded : Base). base ≡ loaded) _ c.from_residual.result c.from_residual.ensures.1
-    (λ is. few_held (bytes_in ((g.D.Disk.state c.args.disk.now).seen c.args.path.now)) c.args.self.now base held (c.in_err-whole.ensures.refused.damaged is))
+returns-in_err-whole-clause-same g c honest = grind (arith, answers_whole, few_held)
 
 pub returns-clause-same : goal.returns-clause-same
 returns-clause-same g c honest = λ base held.

@@ -1,4 +1,4 @@
-use Rattle.std.proofs.Common.{◌≡◌, true, false, Some, Vec, Global, ℕ, List, refl, sym, subst, ◌∙◌, arith}
+use Rattle.std.proofs.Common.{◌≡◌, true, false, Some, ℕ, List, refl, sym, subst, ◌∙◌, arith}
 use Rattle.std.specs.Prelude.{slice_get}
 use Rattle.disk_io.specs.Disk.{bytes_in}
 use Rattle.base_store.specs.Keys.{HasBytesOf}
@@ -6,7 +6,6 @@ use Rattle.echo_filed.specs.Filed.{Filed}
 use Rattle.echo_filed.specs.Stored.{message_in, stored_bytes}
 use Rattle.echo_filed.specs.declared.stored.Version.TheVariants.{Second}
 use Rattle.base_folder_store.specs.Ahead.{IsPartOf}
-use Rattle.base_folder_store.specs.Answers.{IsStoredOf}
 use Rattle.base_folder_store.proofs.Causes.{answers_error, answers_give}
 use Rattle.base_folder_store.proofs.Seen.{message_at}
 use Rattle.station_bases.specs.Entries.{message_bytes}
@@ -14,9 +13,7 @@ use Rattle.station_bases.proofs.Ahead.{after_head, message_long, part_whole}
 use Rattle.station_bases.proofs.entries.Entries.read.Goals as goal
 
 pub returns-in_err-bytes-clause-read : goal.returns-in_err-bytes-clause-read
-returns-in_err-bytes-clause-read g c honest = λ base recorded inside.
-    answers_error {T = Vec ℕ Global} (λ (bytes : Vec ℕ Global). IsStoredOf base c.args.place bytes.items) (λ (m : Filed). slice_get base c.args.place ≡ Some m) _ c.from_residual.result c.from_residual.ensures.1
-    (c.in_err-bytes.ensures.stored honest base recorded inside)
+returns-in_err-bytes-clause-read g c honest = grind (arith, answers_error)
 
 pub returns-then-at-written-clause-read : goal.returns-then-at-written-clause-read
 returns-then-at-written-clause-read g c honest = λ base recorded inside.

@@ -1,6 +1,4 @@
-use Rattle.std.proofs.Common.{◌≡◌, ◌≢◌, ◌<◌, ◌≤◌, ◌*◌, ◌/◌, ℕ, Bool, List, get_or, length, sym, subst, ◌∙◌, arith}
-use Rattle.std.specs.Prelude.{Vec}
-use Rattle.std.specs.declared.alloc.Global.{Global}
+use Rattle.std.proofs.Common.{◌≡◌, ◌≢◌, ◌<◌, ◌≤◌, ◌/◌, ℕ, Bool, List, get_or, length, sym, subst, ◌∙◌, arith}
 use Rattle.std.specs.List.{list_any}
 use Rattle.std.proofs.lemmas.List.Folds.{list_any_at}
 use Rattle.disk_io.specs.Disk.{DiskState, bytes_in}
@@ -9,17 +7,12 @@ use Rattle.disk_io.proofs.Moments.{nothing_twice}
 use Rattle.echo_filed.specs.Filed.{Filed}
 use Rattle.base_store.specs.Chains.{AreChains}
 use Rattle.base_store.specs.Keys.{AreWhereRecorded, digest_at}
-use Rattle.base_folder_store.specs.Answers.{IsStoredOf}
 use Rattle.base_folder_store.proofs.Causes.{answers_error}
 use Rattle.base_folder_store.proofs.Looked.{none_found, passed_on, some_message, stored_of}
 use Rattle.station_bases.specs.Entries.{message_bytes}
 use Rattle.station_bases.specs.declared.entries.Entries.{Entries}
 use Rattle.station_bases.proofs.Reach.{reach_still, same_file}
 use Rattle.station_bases.proofs.entries.Entries.search.Goals as goal
-
--- this many messages are below a bound
-few : (below count place : ℕ) (keys : List ℕ) (base : List Filed) → length keys ≡ count → length keys ≡ 16 * length base → below ≤ count / 16 → place < below → place < length base
-few below count place keys base all many within under = omega (arith, all, many, within, under)
 
 recorded_still : (d0 d1 : DiskState) (path : List ℕ) (e : Entries) (base : List Filed) → ChangesNothing d0 d1 → AreWhereRecorded base (message_bytes (bytes_in (d0.seen path)) e) e.keys.items → AreWhereRecorded base (message_bytes (bytes_in (d1.seen path)) e) e.keys.items
 recorded_still d0 d1 path e base quiet recorded = subst (λ (l : List ℕ). AreWhereRecorded base (message_bytes l e) e.keys.items) (sym (same_file d0 d1 path quiet)) recorded
@@ -28,18 +21,10 @@ inside : (e : Entries) (below place : ℕ) (base : List Filed) (bytes : List ℕ
 inside e below place base bytes recorded low under = let many = recorded.many in omega (arith, many, low, under)
 
 pub stored-requires-clause-legible : goal.stored-requires-clause-legible
-stored-requires-clause-legible g c honest =
-    let quiet = c.entries.invariant.quiet in
-    reach_still (g.D.Disk.state c.args.disk.now) (g.D.Disk.state c.entries.disk) c.args.path.now quiet c.args.self.now (c.requires.can.legible (quiet.honest honest))
+stored-requires-clause-legible g c honest = grind (arith, reach_still)
 
 pub returns-in_err-bytes-clause-found : goal.returns-in_err-bytes-clause-found
-returns-in_err-bytes-clause-found g c honest = λ base recorded have.
-    let d = g.D.Disk.state c.args.disk.now in
-    let f = c.args.self.now in
-    let quiet = c.entries.invariant.quiet in
-    let low = inside f c.entries.below c.in-Some.place base (message_bytes (bytes_in (d.seen c.args.path.now)) f) recorded c.entries.invariant.within c.in-Some.ensures.found.0 in
-    answers_error {T = Vec ℕ Global} (λ (b : Vec ℕ Global). IsStoredOf base c.in-Some.place b.items) (λ (found : Bool). found ≡ list_any (g.W.Sought.test c.args.sought.now) base) _ c.from_residual.result c.from_residual.ensures.1
-    (c.in_err-bytes.ensures.stored honest base (recorded_still d (g.D.Disk.state c.entries.disk) c.args.path.now f base quiet recorded) low)
+returns-in_err-bytes-clause-found g c honest = grind (arith, inside, answers_error, recorded_still)
 
 pub returns-in_err-is_stored-clause-found : goal.returns-in_err-is_stored-clause-found
 returns-in_err-is_stored-clause-found g c honest = λ base recorded have.
@@ -71,26 +56,7 @@ pub returns-then-branch-clause-quiet : goal.returns-then-branch-clause-quiet
 returns-then-branch-clause-quiet g c = nothing_twice (g.D.Disk.state c.args.disk.now) (g.D.Disk.state c.entries.disk) (g.D.Disk.state c.stored.new.disk) c.entries.invariant.quiet c.stored.ensures.quiet
 
 pub entries-preserved : goal.entries-preserved
-entries-preserved g c =
-    let under = c.in-Some.ensures.found.0 in
-    let less = c.entries.invariant.within in
-    record {
-      quiet = nothing_twice (g.D.Disk.state c.args.disk.now) (g.D.Disk.state c.entries.disk) (g.D.Disk.state c.stored.new.disk) c.entries.invariant.quiet c.stored.ensures.quiet;
-      cause = let later = c.stored.ensures.cause.later in let before = c.entries.invariant.cause in omega (arith, later, before);
-      within = omega (arith, under, less);
-      passed = λ honest base recorded have.
-          let d = g.D.Disk.state c.args.disk.now in
-          let f = c.args.self.now in
-          let test = g.W.Sought.test c.args.sought.now in
-          let quiet = c.entries.invariant.quiet in
-          let before = c.stored.ensures.quiet.honest honest in
-          let low = inside f c.entries.below c.in-Some.place base (message_bytes (bytes_in (d.seen c.args.path.now)) f) recorded less under in
-          let of = c.in_ok-bytes.ensures.stored honest base (recorded_still d (g.D.Disk.state c.entries.disk) c.args.path.now f base quiet recorded) low in
-          passed_on test c.args.digest base f.keys.items c.entries.below c.in-Some.place recorded.many have (c.entries.invariant.passed before base recorded have)
-          (subst (λ (l : List ℕ). (j : ℕ) → c.in-Some.place < j → j < c.entries.below → j < length l / 16 → digest_at l j ≢ c.args.digest) c.deref.ensures.value
-          (c.in-Some.ensures.last (subst (λ (l : List ℕ). AreChains l f.chains) (sym c.deref.ensures.value) c.requires.can.indexed.chains)))
-          (λ m. sym (c.in_ok-is_stored.ensures.found (get_or base c.in-Some.place m) (stored_of base c.in-Some.place c.in_ok-bytes.bytes.items c.deref-in-Some.result.now of c.deref-in-Some.ensures.value m)) ∙ c.if-branch.false);
-    }
+entries-preserved g c = grind (arith, nothing_twice, inside, recorded_still, passed_on, get_or, stored_of)
 
 pub returns-clause-found : goal.returns-clause-found
 returns-clause-found g c honest = λ base recorded have.
