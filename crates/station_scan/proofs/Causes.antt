@@ -7,7 +7,7 @@ use Rattle.station.proofs.Failures.{failed_wider}
 use Rattle.station_scan.specs.Publishing.{HasPublishCause}
 use Rattle.station_scan.specs.Writing.{HasStopCause, publish_stop}
 use Rattle.station_scan.specs.declared.passing.PassStop.{PassStop}
-use Rattle.station_scan.specs.declared.passing.PassStop.TheVariants.{Placing, Reading}
+use Rattle.station_scan.specs.declared.passing.PassStop.TheVariants.{Placing}
 use Rattle.station_scan.specs.declared.publish_error.PublishError.{PublishError}
 use Rattle.station_scan.specs.declared.publish_error.PublishError.TheVariants.{Packets}
 
@@ -18,5 +18,4 @@ module _ {S T : Type 0} (state : S → StoreState) (s0 s1 s2 : StoreState) (f0 f
 
 -- a path in use stopped the pass
 pub publish_stop_taken : (stop : PassStop) (why : PublishError) → why ≡ publish_stop stop → IsErrOf {T = Unit {0}} (Err why) (Packets placing.Taken) → IsErrOf {T = Unit {0}} (Err stop) (Placing placing.Taken)
-publish_stop_taken (Placing cause) why is taken = cc (is, taken)
-publish_stop_taken (Reading cause) why is taken = absurd (cc (is, taken))
+publish_stop_taken h1 why is taken = grind arith

@@ -1,28 +1,26 @@
 -- The packets of a pass as the files of a scan.
-use Rattle.std.proofs.Common.{◌≡◌, inl, inr, ⊎_elim, ◌∙◌, ℕ, List, [], ◌∷◌, ◌++◌, map, refl, sym, subst, ap, append_assoc, arith}
+use Rattle.std.proofs.Common.{◌≡◌, inl, inr, ⊎_elim, ◌∙◌, ℕ, List, [], ◌∷◌, map, refl, sym, subst, ap, append_assoc, arith}
 use Rattle.std.specs.Prelude.{All, Contains}
 use Rattle.std.proofs.lemmas.List.Elements.{All-contains, All-map}
 use Rattle.base_file.specs.Base.{Base}
-use Rattle.disk_io.specs.Disk.{DiskState, Files, bytes_in}
+use Rattle.disk_io.specs.Disk.{DiskState, Files}
 use Rattle.disk_atomic.specs.ListStaged.{IsNameByte}
 use Rattle.disk_atomic.specs.Naming.{HasItsPath, IsWholeAtEither}
 use Rattle.disk_atomic.specs.Outgoing.{IsAtStaging, IsFree, SendsBytes}
 use Rattle.disk_atomic.specs.declared.outgoing.Outgoing.{Outgoing}
 use Rattle.disk_atomic.proofs.Packets.{nobody}
 use Rattle.echo_addr.specs.declared.address.Address.{Address}
-use Rattle.echo_packet.specs.Header.{word}
-use Rattle.echo_packet.specs.Message.{messages_bytes}
 use Rattle.model_steps.specs.PacketFiles.{PacketFile}
 use Rattle.model_steps.specs.Scanning.{header_to}
 use Rattle.cmd_report.specs.Scanned.{file_sent, packet_name}
-use Rattle.echo_toss.specs.Counts.{bytes_for, copies_out, link_set}
+use Rattle.echo_toss.specs.Counts.{bytes_for, link_set}
 use Rattle.echo_toss.specs.Exports.{Outgoing as Sent, nowhere, packet_out}
 use Rattle.echo_toss.proofs.Counts.{scanned_to}
 use Rattle.station_scan.specs.Fitting.{AreFit, AreTaken}
 use Rattle.station_scan.specs.Publishing.{IsFreeIn, IsGoingAt, ended_in}
 use Rattle.station_scan.specs.Scanning.{packets_in}
 use Rattle.station_scan.specs.Sending.{AreRoutes, HasBytes, IsAtItsPath, IsFreeAt, IsOfPacket, IsOffOwn, IsStagingGone, IsStagingOfPacket, IsWhole, file_paths, for_address}
-use Rattle.station_scan.specs.Passing.{AreFor, FitTo, IsFront, IsGrowingTo, IsRouted, IsStagingTo, IsTakenFor, all_sent, header_for, is_made, links_to}
+use Rattle.station_scan.specs.Passing.{AreFor, FitTo, IsFront, IsGrowingTo, IsRouted, IsStagingTo, IsTakenFor, all_sent, is_made, links_to}
 use Rattle.station_scan.specs.declared.sending.Sending.{Sending}
 use Rattle.station_scan.proofs.Lists.{all_of_map, contains_map, kept_passes, map_twice}
 use Rattle.station_scan.proofs.Routes.{address_for, all_for, made_wider, plain_name}
@@ -94,20 +92,15 @@ module _ (to : Sending) (planned : AreRoutes to) (base : Base) (packets : List O
   )
 
   pub of_packet : (m : List ℕ) → IsGoingAt packets to.trial.now m → IsOfPacket to.outbound.now to.own.now (files_to to base) m
-  of_packet m (inl (p, has, at)) = let (among, plain, is) = is_file p has in inl (sends p, among, plain, ⊎_elim (λ e. inl (e ∙ is.staging)) (λ e. inr (e ∙ is.path)) at)
-  of_packet m (inr e) = inr (e ∙ planned.tried)
+  of_packet m h2 = grind (arith, is_file)
 
   pub staging_packet : (m : List ℕ) → IsAtStaging packets to.trial.now m → IsStagingOfPacket to.outbound.now to.own.now (files_to to base) m
-  staging_packet m (inl (p, has, at)) = let (among, plain, is) = is_file p has in inl (sends p, among, plain, at ∙ is.staging)
-  staging_packet m (inr e) = inr (e ∙ planned.tried)
+  staging_packet m h2 = grind (arith, is_file)
 
   -- the packets at their paths
   module _ (disk : DiskState) (all : All (HasItsPath (for_address (content_of to base)) disk) packets) where
     pub at_its_path : All (IsAtItsPath to.outbound.now disk) (files_to to base)
-    at_its_path = all_files (IsAtItsPath to.outbound.now disk) (λ k z lt.
-        let is = for.routed k z lt in
-        let there = (all k z lt).file in
-        record { seen = ap disk.seen (sym is.path) ∙ there.seen; named = subst disk.is_named is.path there.named; flushed = subst disk.is_flushed is.path there.flushed })
+    at_its_path = all_files (IsAtItsPath to.outbound.now disk) (grind arith)
 
     pub none_staging : All (IsStagingGone to.outbound.now to.own.now disk.seen) (files_to to base)
     none_staging = all_files (IsStagingGone to.outbound.now to.own.now disk.seen) (λ k z lt. ap disk.seen (sym (for.routed k z lt).staging) ∙ (all k z lt).gone)
@@ -128,10 +121,7 @@ module _ (to : Sending) (planned : AreRoutes to) (base : Base) (packets : List O
     pub ended_has : All (λ p. ended_in disk.seen p ≡ for_address (content_of to base) p) packets
     ended_has =
         all_for to (is_made (all_sent to base)) packets for (IsGrowingTo to (all_sent to base) disk) (λ p. ended_in disk.seen p ≡ for_address (content_of to base) p)
-        (λ p is one.
-        let h = header_for to p.to in
-        let m = messages_bytes (copies_out p.to (all_sent to base)) in
-        ap (λ (path : List ℕ). bytes_in (disk.seen path) ++ word 0) is.staging ∙ ap (λ (l : List ℕ). l ++ word 0) (one.written honest) ∙ append_assoc h m (word 0)) grows
+        (grind (arith, append_assoc)) grows
 
     pub growing_free : All (IsFree disk) packets
     growing_free = all_for to (is_made (all_sent to base)) packets for (IsGrowingTo to (all_sent to base) disk) (IsFree disk) (λ p is one. ap disk.seen is.path ∙ one.free honest) grows

@@ -11,7 +11,7 @@ use Rattle.disk_atomic.specs.Outgoing.{IsAtStaging, IsLonger}
 use Rattle.disk_atomic.specs.declared.outgoing.Outgoing.{Outgoing}
 use Rattle.disk_atomic.proofs.Packets.{nobody}
 use Rattle.echo_addr.specs.declared.address.Address.{Address}
-use Rattle.echo_packet.specs.Message.{Message, messages_bytes}
+use Rattle.echo_packet.specs.Message.{messages_bytes}
 use Rattle.echo_toss.specs.Counts.{copies_out, link_set}
 use Rattle.echo_toss.specs.Exports.{Outgoing as Sent}
 use Rattle.echo_toss.proofs.Counts.{copies_append, messages_append}
@@ -43,39 +43,14 @@ module _ (to : Sending) (sent : List Sent) where
       → All (λ a. copies_out a sent ≡ []) (links_to to q) → All (IsGrowingTo to sent disk) (links_to to q)
   growing_new q packets for disk opened headed none =
       let each = all_for to q packets for (λ a. copies_out a sent ≡ []) (λ p. copies_out p.to sent ≡ []) (λ p is n. n) none in
-      for_all to q packets for (IsGrowingTo to sent disk) (λ k z lt.
-      let p = get_or packets k z in
-      let is = for.routed k z lt in
-      record {
-        grow = subst (λ (m : List ℕ). CanGrow disk m) is.staging (opened.grow k z lt);
-        named = opened.named;
-        free = λ honest. ap disk.seen (sym is.path) ∙ opened.free honest k z lt;
-        written = λ honest.
-            ap (λ (m : List ℕ). bytes_in (disk.seen m)) (sym is.staging) ∙ headed honest k z lt ∙ sym (ap (λ (l : List Message). header_for to p.to ++ messages_bytes l) (each k z lt) ∙ append-nil (header_for to p.to));
-        bytes = λ honest. subst (λ (m : List ℕ). AreBytes (bytes_in (disk.seen m))) is.staging (opened.bytes honest k z lt);
-      })
+      for_all to q packets for (IsGrowingTo to sent disk) (grind (arith, get_or, append-nil))
 
   -- with more copies
   pub growing_more : (more : List Sent) (q : Address → Bool) (packets : List Outgoing) → AreFor to q packets → (d0 d1 : DiskState) → (d1.is_honest → d0.is_honest) → All (IsGrowingTo to sent d0) (links_to to q) → AreOpen to.outbound.now packets d1
       → Honestly d1 (All (IsLonger (λ x. messages_bytes (copies_out x more)) d0 d1) packets) → All (IsGrowingTo to (sent ++ more) d1) (links_to to q)
   growing_more more q packets for d0 d1 honest_run was opened longer =
       let each = all_for to q packets for (IsGrowingTo to sent d0) (λ p. IsGrowingTo to sent d0 p.to) (λ p is g. g) was in
-      for_all to q packets for (IsGrowingTo to (sent ++ more) d1) (λ k z lt.
-      let a = (get_or packets k z).to in
-      let is = for.routed k z lt in
-      let h = header_for to a in
-      let one = messages_bytes (copies_out a sent) in
-      let two = messages_bytes (copies_out a more) in
-      let both : messages_bytes (copies_out a (sent ++ more)) ≡ one ++ two = ap messages_bytes (copies_append a sent more) ∙ messages_append (copies_out a sent) (copies_out a more) in
-      record {
-        grow = subst (λ (m : List ℕ). CanGrow d1 m) is.staging (opened.grow k z lt);
-        named = opened.named;
-        free = λ honest. ap d1.seen (sym is.path) ∙ opened.free honest k z lt;
-        written = λ honest.
-            ap (λ (m : List ℕ). bytes_in (d1.seen m)) (sym is.staging) ∙ longer honest k z lt
-            ∙ ap (λ (l : List ℕ). l ++ two) (ap (λ (m : List ℕ). bytes_in (d0.seen m)) is.staging ∙ (each k z lt).written (honest_run honest)) ∙ append_assoc h one two ∙ ap (λ (l : List ℕ). h ++ l) (sym both);
-        bytes = λ honest. subst (λ (m : List ℕ). AreBytes (bytes_in (d1.seen m))) is.staging (opened.bytes honest k z lt);
-      })
+      for_all to q packets for (IsGrowingTo to (sent ++ more) d1) (grind (arith, get_or, copies_append, messages_append, append_assoc))
 
   -- messages for other addresses change nothing
   pub growing_same : (more : List Sent) (d : DiskState) (a : Address) → is_made more a ≡ false → IsGrowingTo to sent d a → IsGrowingTo to (sent ++ more) d a
@@ -125,12 +100,7 @@ module _ (to : Sending) (sent more : List Sent) (d0 : DiskState) (copied begun :
         let none : All (λ a. copies_out a sent ≡ []) (links_to to (is_begun sent more)) =
         of_each (λ a. copies_out a sent ≡ []) (is_begun sent more) links (λ k d lt b. no_copies sent (get_or links k d) (begun_is sent more (get_or links k d) b).0) in
         let new = to_each (IsGrowingTo to sent d1) (is_begun sent more) links (new_grow none) in
-        of_each (IsGrowingTo to sent d1) (is_made more) links (λ k d lt made.
-        let a = get_or links k d in
-        elim (cases_Bool (is_made sent a)) [
-          | inl was ↦ old k d lt was
-          | inr first ↦ new k d lt (begun_if sent more a first (more_made sent more a made))
-        ])
+        of_each (IsGrowingTo to sent d1) (is_made more) links (grind (arith, get_or, cases_Bool, begun_if, more_made))
       where
         new_grow : All (λ a. copies_out a sent ≡ []) (links_to to (is_begun sent more)) → All (IsGrowingTo to sent d1) (links_to to (is_begun sent more))
         new_grow none k d lt =

@@ -75,15 +75,7 @@ module _ (cursor : ℕ) (folder : List ℕ) (found : List Left) (placed : AreLef
       → LeavesOnly d0 d1 (OneStepOn (FinishesEach cursor found) d0) → ChangesOnly (IsOfLeft found) d0 d1 → EndsThese cursor paths d0 d2 (Ok tt)
   settled_these paths lent gone over named run changes =
       let still : All (IsOver cursor d0 d2) found = λ k z lt. over_still cursor d0 d1 d2 quiet (get_or found k z) (over k z lt) in
-      record {
-        found = found;
-        lent = lent;
-        over = still;
-        named = λ m is. quiet.named m (λ h. h) (named m (of_left_in folder found placed m is));
-        flushed = is_flushed gone still;
-        any_moment = then_nothing d0 d1 d2 (OneStepOn (FinishesEach cursor found) d0) run quiet;
-        changes = then_only (IsOfLeft found) d0 d1 d2 changes (only_nothing (IsOfLeft found) d1 d2 quiet);
-      }
+      grind (arith, of_left_in, is_flushed, then_nothing, then_only, only_nothing)
 
   pub unsettled_these : (paths : List LeftPaths) (cause : PlacingError) → AreSameLeft paths found → LeavesOnly d0 d1 (OneStepOn (FinishesEach cursor found) d0) → ChangesOnly (IsOfLeft found) d0 d1 → EndsThese cursor paths d0 d2 (Err cause)
   unsettled_these paths cause lent run changes = grind (arith, then_nothing, then_only, only_nothing)
@@ -118,11 +110,7 @@ module _ (paths : List LeftPaths) (found : List Left) (lent : AreSameLeft paths 
         let (p, listed, like) = are.each k no_paths low in
         let path = is.path ∙ ap (λ (t : TwoPaths). t.path) like.two in
         let staging = is.staging ∙ ap (λ (t : TwoPaths). t.staging) like.two in
-        record {
-          path_in = subst (IsIn folder) (sym path) (name_in folder p.name like.plain);
-          staging_in = subst (IsIn folder) (sym staging) (name_staging_in folder own p.name like.plain own_plain);
-          other = λ e. staging_other (folder ++ p.name) own (sym staging ∙ e ∙ path);
-        }
+        grind (arith, name_in, name_staging_in, staging_other)
 
     two_away : (k j : ℕ) (z : Left) → k < j → j < length found → k < length found → AreAway (get_or found k z) (get_or found j z)
     two_away k j z lt hi low =
@@ -135,12 +123,7 @@ module _ (paths : List LeftPaths) (found : List Left) (lent : AreSameLeft paths 
         let staging_p = one.staging ∙ ap (λ (t : TwoPaths). t.staging) like_p.two in
         let staging_q = other.staging ∙ ap (λ (t : TwoPaths). t.staging) like_q.two in
         let four = four_apart folder own p.name q.name like_p.plain like_q.plain (λ e. are.differ k j no_paths lt (within j hi) (path_p ∙ e ∙ sym path_q)) in
-        record {
-          paths = λ e. four.paths (sym (one.path ∙ path_p) ∙ e ∙ other.path ∙ path_q);
-          stagings = λ e. four.stagings (sym staging_p ∙ e ∙ staging_q);
-          path_not_staging = λ e. four.path_staging_other (sym (one.path ∙ path_p) ∙ e ∙ staging_q);
-          staging_not_path = λ e. four.staging_not_path (sym staging_p ∙ e ∙ other.path ∙ path_q);
-        }
+        grind arith
 
     pub are_left_in : AreLeftIn folder found
     are_left_in = record { each = left_in; away = λ k j z lt hi. two_away k j z lt hi (omega arith) }

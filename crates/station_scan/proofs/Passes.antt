@@ -1,5 +1,5 @@
 -- A pass over the messages of a store, group by group.
-use Rattle.std.proofs.Common.{◌≡◌, ◌≢◌, ◌⊎◌, inl, inr, ⊎_elim, ◌∙◌, ◌<◌, ◌≤◌, ◌==◌, ◌&&◌, ◌+◌, ℕ, Bool, false, not, List, [], ◌∷◌, ◌++◌, get_or, length, length-append, drop, map, filter, refl, sym, subst, ap, append_assoc, arith}
+use Rattle.std.proofs.Common.{◌≡◌, ◌≢◌, ◌⊎◌, inl, inr, ⊎_elim, ◌∙◌, ◌<◌, ◌≤◌, ◌==◌, ◌&&◌, ◌+◌, ℕ, Bool, not, List, [], ◌∷◌, ◌++◌, get_or, length, length-append, drop, map, filter, refl, sym, subst, ap, append_assoc, arith}
 use Rattle.std.specs.Prelude.{All, None, Ok, OnOk, Result, nat_lt}
 use Rattle.std.proofs.lemmas.Bool.{cases_Bool, eqb-true, false_from_ne_true, le-ltb, ltb-false, ltb-true, lt-ltb}
 use Rattle.std.proofs.lemmas.List.{append-nil, drop_all, map-id}
@@ -98,19 +98,13 @@ module _ (to : Sending) (sent more : List Sent) (all : List LinkPacket) (are : A
   begun_for = next_for is_first (is_begun sent more) (λ l was now. ap (λ (n : ℕ). (n == 0) && nat_lt 0 l.counted.messages) was ∙ ap (λ (n : ℕ). (copies sent l.packet.to == 0) && nat_lt 0 n) now ∙ ap (λ (b : Bool). b && nat_lt 0 (copies (sent ++ more) l.packet.to)) (none_is (copies sent l.packet.to)))
     where
       none_is : (n : ℕ) → (n == 0) ≡ not (nat_lt 0 n)
-      none_is n = elim (cases_Bool (nat_lt 0 n)) [
-        | inl some ↦ false_from_ne_true (n == 0) (λ e. let zero_is = eqb-true n 0 e in let lt = ltb-true 0 n some in omega (arith, zero_is, lt)) ∙ sym (ap not some)
-        | inr none ↦ let ge = ltb-false 0 n none in let zero_is : n ≡ 0 = omega (arith, ge) in ap (λ (m : ℕ). m == 0) zero_is ∙ sym (ap not none)
-      ]
+      none_is n = grind (arith, cases_Bool, false_from_ne_true, eqb-true, ltb-true, ltb-false)
 
   pub copied_for : AreFor to (is_made more) (copied_in next)
   copied_for = next_for is_longer (is_made more) (λ l was now. ap (λ (n : ℕ). nat_lt n l.counted.messages) was ∙ ap (λ (n : ℕ). nat_lt (copies sent l.packet.to) n) (now ∙ grown l.packet.to) ∙ longer_is (copies sent l.packet.to) (copies more l.packet.to))
     where
       longer_is : (m n : ℕ) → nat_lt m (m + n) ≡ nat_lt 0 n
-      longer_is m n = elim (cases_Bool (nat_lt 0 n)) [
-        | inl some ↦ let lt = ltb-true 0 n some in lt-ltb m (m + n) (omega (arith, lt)) ∙ sym some
-        | inr none ↦ let ge = ltb-false 0 n none in le-ltb m (m + n) (omega (arith, ge)) ∙ sym none
-      ]
+      longer_is m n = grind (arith, cases_Bool, ltb-true, lt-ltb, ltb-false, le-ltb)
 
 -- ---- nothing has changed
 
@@ -132,12 +126,7 @@ module _ (Own : List ℕ → Type 0) (to : Sending) where
       let o = off k z lt in
       let is = for.routed k z lt in
       record { path = λ own. o.path (subst Own (sym is.path) own); staging = λ own. o.staging (subst Own (sym is.staging) own); trial = o.off_trial })) in
-      of_each (Fits Own to) (is_made (sent ++ more)) links (λ k d lt made.
-      let a = get_or links k d in
-      elim (cases_Bool (is_made sent a)) [
-        | inl was ↦ old k d lt was
-        | inr first ↦ new k d lt (begun_if sent more a first made)
-      ])
+      of_each (Fits Own to) (is_made (sent ++ more)) links (grind (arith, get_or, cases_Bool, begun_if))
 
   -- the paths of those that begin are in use, or not off
   pub begun_taken : (sent more : List Sent) (packets : List Outgoing) → AreFor to (is_begun sent more) packets → (d : DiskState) → (All (IsFree d) packets → ⊥) → AreTakenTo Own to (sent ++ more) d.seen
@@ -214,10 +203,7 @@ module _ (Own : List ℕ → Type 0) (to : Sending) where
           let old = to_each (IsGrowingTo to sent s.disk) (is_made sent) links is.grows in
           let nobody_in : All (λ a. ⊥) (links_to to (is_made more)) = λ k d lt. absurd (omega (arith, none, some_for to (is_made more) copied for_copied (omega (arith, lt)))) in
           let no = to_each (λ (a : Address). ⊥) (is_made more) links nobody_in in
-          group_making s.disk (of_each (IsGrowingTo to (sent ++ more) s.disk) (is_made (sent ++ more)) links (λ k d lt made.
-          let a = get_or links k d in
-          let last : is_made more a ≡ false = false_from_ne_true (is_made more a) (λ yes. no k d lt yes) in
-          growing_same to sent more s.disk a last (old k d lt (made_before sent more a made last))))
+          group_making s.disk (of_each (IsGrowingTo to (sent ++ more) s.disk) (is_made (sent ++ more)) links (grind (arith, get_or, false_from_ne_true, growing_same, made_before)))
 
   -- a part was staged, and then more of it
   pub staged_more : (P Q : List Sent → Type 0) (s0 s1 s2 : StoreState) (all : List LinkPacket) (was : HasStaged Own to P s0 s1 all) → (P was.sent → Q was.sent) → IsUsedAt (IsStagingTo to was.sent) s1 s2 → HasStaged Own to Q s0 s2 all

@@ -1,6 +1,6 @@
 -- Packets and the commit of a store.
 use Rattle.std.proofs.Common.{◌≡◌, inl, inr, ⊎_elim, ◌∙◌, ◌<◌, ℕ, List, ap, get_or, length, subst, sym, arith}
-use Rattle.std.specs.Prelude.{All, Bool, Err, IfErr, IfOk, Ok, OnOk, Result, true}
+use Rattle.std.specs.Prelude.{All, Bool, IfErr, IfOk, OnOk, Result, true}
 use Rattle.std.proofs.lemmas.List.Elements.{All-contains}
 use Rattle.base_file.specs.Base.{Base}
 use Rattle.disk_io.specs.Disk.{DiskState, Files, Honestly, bytes_in}
@@ -144,13 +144,7 @@ module _ (outbound trial : List ℕ) (content : Outgoing → List ℕ) (packets 
       let run = used.changes in
       let not : (m : List ℕ) → (IsGoingAt packets trial m → ⊥) → IsAtStaging packets trial m → ⊥ = λ m other at. other (going_at m at) in
       then_run s0.disk s1.disk s2.disk (May first next) (CommitsWith s1 (IsOfOne packets) (staged_in s1.disk.seen) packets first next) (stopping honest first next was) commits
-      (λ c with. inr (record {
-        others = λ m out other on.
-            with.others m (λ own. out ((used.same.own m).0 own)) (λ of. other (inl of)) (run.named m (not m other) on.0, run.flushed m (not m other) on.1) ∙ run.seen m (not m other);
-        either =
-            ⊎_elim (λ none. inl ((used.same.represented first c).0 none.0, none.1))
-            (λ all. inr ((used.same.represented next c).0 all.0, whole_as (staged_in s1.disk.seen) content packets written c all.1, bytes_as (staged_in s1.disk.seen) content packets written all.2)) with.either;
-      }))
+      (λ c with. inr (grind (arith, whole_as, bytes_as)))
 
   -- and the paths that it touches
   pub publish_keeps : (s2 : StoreState) → KeepsStoreBut (IsPublishedAt s1 (IsOfOne packets)) s1 s2 → KeepsStoreBut (IsPublishedAt s0 (IsGoingAt packets trial)) s0 s2
@@ -174,15 +168,13 @@ module _ (outbound trial : List ℕ) (content : Base → Outgoing → List ℕ) 
   }
 
   pub published_from : (result : Result (Unit {0}) PublishError) → OnOk result (ArePublished (staged_before s1) packets s1 s2) → OnOk result (ArePublished content packets s0 s2)
-  published_from (Ok done) are = published_as are
-  published_from (Err why) are = tt
+  published_from h1 are = grind (arith, published_as)
 
   stops_as : s2.disk.is_honest → (why : PublishError) → StopsCommitting packets s1 s2 why → StopsPublishing content packets trial s0 s2 why
   stops_as h1 why h2 = grind (arith, commits_used, filled_as)
 
   pub stops_from : s2.disk.is_honest → (result : Result (Unit {0}) PublishError) → IfErr result (StopsCommitting packets s1 s2) → IfErr result (StopsPublishing content packets trial s0 s2)
-  stops_from honest (Ok done) stops = tt
-  stops_from honest (Err why) stops = stops_as honest why stops
+  stops_from honest h2 stops = grind (arith, stops_as)
 
 -- it stopped before the commit
 pub stops_before : (content : Base → Outgoing → List ℕ) (packets : List Outgoing) (trial : List ℕ) (s0 s1 : StoreState) (why : PublishError) → HoldsAsBefore s0 s1 → NoneStays packets trial s1.disk why → StopsPublishing content packets trial s0 s1 why

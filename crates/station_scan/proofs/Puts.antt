@@ -1,5 +1,5 @@
 -- Leftover packets are finished, and then the packets of a scan are put in place.
-use Rattle.std.proofs.Common.{◌≡◌, ◌⊎◌, inl, inr, ⊎_elim, ◌∙◌, ◌<◌, ℕ, List, [], ◌++◌, Result, Ok, Err, refl, sym, subst, ap, append_assoc, arith}
+use Rattle.std.proofs.Common.{◌≡◌, ◌⊎◌, inl, inr, ⊎_elim, ◌∙◌, ◌<◌, ℕ, List, [], ◌++◌, Result, Ok, Err, refl, sym, subst, append_assoc, arith}
 use Rattle.std.proofs.lemmas.Result.{on_ok_weaker}
 use Rattle.std.specs.Prelude.{All, IfErr, IsErrOf, None, OnOk}
 use Rattle.std.proofs.lemmas.List.{append_cancel_left}
@@ -8,7 +8,6 @@ use Rattle.base_file.specs.Base.{Base}
 use Rattle.disk_io.specs.Disk.{DiskState, Files}
 use Rattle.disk_io.specs.Runs.{ChangesNothing}
 use Rattle.disk_io.proofs.Moments.{then_nothing, weaker_run}
-use Rattle.disk_atomic.specs.Finishing.{IsOver}
 use Rattle.disk_atomic.specs.StagingPaths.{dotted, staging_path}
 use Rattle.disk_atomic.specs.ListStaged.{IsNameByte}
 use Rattle.disk_atomic.specs.declared.finishing.Left.{Left}
@@ -88,9 +87,7 @@ module _ (Own : List ℕ → Type 0) (to : Sending) (own_is : to.own.now ≡ dot
     gone_or_was : (files : List PacketFile) (m : List ℕ) → IsStagingOfPacket outbound own files m → (s2.disk.seen m ≡ None) ⊎ (s2.disk.seen m ≡ s1.disk.seen m) → (s2.disk.seen m ≡ None) ⊎ (s2.disk.seen m ≡ s0.disk.seen m)
     gone_or_was files m of (inl none) = inl none
     gone_or_was files m of (inr same) = elim (among (λ (l : Left). l.staging.now) m found) [
-      | inl left ↦
-          let over : IsOver cursor s0.disk s1.disk left.0 = All-contains (IsOver cursor s0.disk s1.disk) found left.0 ends.over left.1 in
-          inl (same ∙ ap s1.disk.seen left.2 ∙ (is_ended cursor s0.disk s1.disk left.0 over).gone)
+      | inl left ↦ grind (arith, All-contains, is_ended)
       | inr none ↦ inr (same ∙ ends.changes.seen m (λ is.
           ⊎_elim (λ (e : m ≡ is.0.staging.now). All-contains (λ (l : Left). m ≡ l.staging.now → ⊥) found is.0 none is.1 e)
           (λ (e : m ≡ is.0.path.now).

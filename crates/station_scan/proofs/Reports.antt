@@ -16,7 +16,7 @@ use Rattle.cmd_store.specs.Answered.{AnswersOn, AreLines, RefusesNone}
 use Rattle.cmd_store.specs.Scanned.{ScansOn, files_scanned}
 use Rattle.cmd_store.specs.Stops.{store_answer}
 use Rattle.cmd_store.specs.declared.command_error.CommandError.{CommandError}
-use Rattle.cmd_store.specs.declared.command_error.CommandError.TheVariants.{Met, Store}
+use Rattle.cmd_store.specs.declared.command_error.CommandError.TheVariants.{Store}
 use Rattle.cmd_store.proofs.Scans.{scan_printed}
 use Rattle.echo_toss.specs.declared.counting.CountedPacket.{CountedPacket}
 use Rattle.echo_toss.specs.Counts.{counted_of, counted_to, link_set}
@@ -68,8 +68,7 @@ lines_answer to base sent links old new result stamp at are all out =
 
 -- where the store did not fail
 pub no_damage : (stop : CommandError) → store_answer {A = Unit {0}} (Err stop) ≡ Ok tt → IsErrOf {T = Unit {0}} (Err (Command stop)) (Command (Store error.Damaged)) → ⊥
-no_damage (Met fault) met is = cc is
-no_damage (Store cause) met is = cc met
+no_damage h1 met is = grind arith
 
 pub staying_why : (failed : Type 0) (left : DiskError) → (left ≡ disk.Device → failed) → IsOfPlacing failed ⊥ ⊥ (Staying left)
 staying_why failed disk.Device gives = gives refl
@@ -175,8 +174,7 @@ err_of (Ok value) why what is same = absurd (cc is)
 err_of (Err other) why what is same = cc (is, same)
 
 pub placing_err_of : (done : Result (Unit {0}) PlacingError) (why what : PlacingError) → done ≡ Err why → why ≡ what → IsErrOf done what
-placing_err_of (Ok value) why what is same = absurd (cc is)
-placing_err_of (Err other) why what is same = cc (is, same)
+placing_err_of h1 why what is same = grind arith
 
 -- no planned packets: no fault of the store, and its reason
 pub unplanned_other : (from : ℕ) (why : ScanError) → IsUnplanned from why → (e : CommandError) → why ≡ Command e → ⊥

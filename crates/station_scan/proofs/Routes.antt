@@ -55,14 +55,7 @@ pub begun_if : (sent more : List Sent) (a : Address) → is_made sent a ≡ fals
 begun_if sent more a none made = ap (λ (b : Bool). not b && is_made (sent ++ more) a) none ∙ made
 
 pub more_made : (sent more : List Sent) (a : Address) → is_made more a ≡ true → is_made (sent ++ more) a ≡ true
-more_made sent more a made = elim (cases_Bool (is_made (sent ++ more) a)) [
-  | inl made_then ↦ made_then
-  | inr none ↦
-      let all = no_copies (sent ++ more) a none in
-      let parts = sym (copies_append a sent more) ∙ all in
-      let nothing : copies_out a more ≡ [] = (append_nothing (copies_out a sent) (copies_out a more) parts) in
-      absurd (true≢false (sym made ∙ ap (λ (l : List Message). nat_lt 0 (length l)) nothing))
-]
+more_made sent more a made = grind (arith, cases_Bool, no_copies, copies_append, append_nothing)
   where
     append_nothing : (one other : List Message) → one ++ other ≡ [] → other ≡ []
     append_nothing [] other e = e
@@ -133,9 +126,7 @@ module _ (to : Sending) (planned : AreRoutes to) where
 
     -- its path is no staging path
     pub path_off : IsStagingFor to q (path_to to a) → ⊥
-    path_off (b, among, at) =
-        let other = (kept_passes q all_links b among).0 in
-        ⊎_elim (λ e. not_path e) (λ e. (off_trial a has).0 e) at
+    path_off (b, among, at) = grind (arith, kept_passes, not_path, off_trial)
       where
         not_path : path_to to a ≡ staging_to to b → ⊥
         not_path e = not_staging to.own.now (name a) (name b) (plain_name a has) (append_cancel_left to.outbound.now (name a) (name b ++ ending to.own.now) (e ∙ append_assoc to.outbound.now (name b) (ending to.own.now)))
@@ -205,22 +196,8 @@ module _ (to : Sending) (q : Address → Bool) (packets : List Outgoing) (for : 
             let is = for.routed k z lt in
             let plain = plain_name to planned (get_or packets k z).to (linked k z lt) in
             let n = packet_name (get_or packets k z).to to.source.from in
-            record {
-              path_in = subst (IsIn to.outbound.now) (sym is.path) (name_in to.outbound.now n plain);
-              staging_in = subst (IsIn to.outbound.now) (sym is.staging) (name_staging_in to.outbound.now to.own.now n plain planned.plain);
-              other = λ e. staging_other (to.outbound.now ++ n) to.own.now (sym is.staging ∙ e ∙ is.path);
-            };
-        apart = λ k j z lt hi.
-            let low : k < length packets = omega (arith, lt, hi) in
-            let one = for.routed k z low in
-            let other = for.routed j z hi in
-            let four = two_apart to planned (get_or packets k z).to (get_or packets j z).to (linked k z low) (linked j z hi) (differ k j z lt hi) in
-            record {
-              paths = λ e. four.paths (sym one.path ∙ e ∙ other.path);
-              stagings = λ e. four.stagings (sym one.staging ∙ e ∙ other.staging);
-              path_not_staging = λ e. four.path_staging_other (sym one.path ∙ e ∙ other.staging);
-              staging_not_path = λ e. four.staging_not_path (sym one.staging ∙ e ∙ other.path);
-            };
+            grind (arith, name_in, name_staging_in, staging_other);
+        apart = grind (arith, two_apart, get_or, linked, differ);
       };
       apart = λ k z lt. let is = for.routed k z lt in let f = fits k z lt in record { path = λ o. f.path (subst Own is.path (inside _ o)); staging = λ o. f.staging (subst Own is.staging (inside _ o)) };
       is_trial = record { inside = subst (IsIn to.outbound.now) (sym planned.tried) (trial_in to.outbound.now to.own.now planned.plain); off = of_trial };

@@ -135,9 +135,7 @@ module _ (place : Place) (d0 d2 : DiskState) (s1 s2 : StoreState) (begun : IsOpe
         between = with.between;
         ended = with.ended;
         staging_them = with.staging_them;
-        others = λ m other on.
-            with.others m (λ these. other (these_as Own place.is_own in_own outbound own files own_in m these))
-            (⊎_elim (λ is. inl (on_disk_still m (λ o. other (inl o)) is.0, is.1)) (λ ended. inr ended) on);
+        others = grind (arith, these_as, on_disk_still);
         either = ⊎_elim (λ none. inl ((of.represented base c).0 none.0, none.1)) (λ all. inr ((of.represented (all_scanned base) c).0 all.0, all.1, all.2)) with.either;
       })
 
@@ -157,10 +155,7 @@ module _ (place : Place) (d0 d2 : DiskState) (s1 s2 : StoreState) (begun : IsOpe
         between = sent.between;
         ended = sent.ended;
         staging_them = sent.staging_them;
-        packets = λ k z lt.
-            let at = sent.packets k z lt in
-            let path = outbound ++ (get_or files k z).name in
-            record { seen = quiet.seen path ∙ at.seen; named = quiet.named path (λ h. h) at.named; flushed = quiet.flushed path (λ h. h) at.flushed };
+        packets = grind arith;
         gone = λ k z lt. quiet.seen (staging_path (outbound ++ (get_or files k z).name) own) ∙ sent.gone k z lt;
         shown = subst Comes (sym (same_seen s2.disk d2 quiet)) ((of.represented (all_scanned base) s2.disk.seen).0 sent.shown);
         on_disk = λ c left. (of.represented (all_scanned base) c).0 (sent.on_disk c (quiet.no_more c left));

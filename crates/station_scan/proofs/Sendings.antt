@@ -62,8 +62,7 @@ module _ (outbound own : List ℕ) (files : List PacketFile) (few : List ℕ →
   sends_before = weaker_run s0.disk s1.disk (WritesStaging s0 outbound own files first) May writes_before (λ c over. inl over)
 
   of_staging : (m : List ℕ) → IsStagingOfPacket outbound own files m → IsOfPacket outbound own files m
-  of_staging m (inl (sent, has, plain, at)) = inl (sent, has, plain, inl at)
-  of_staging m (inr at) = inr at
+  of_staging m h2 = grind arith
 
   not_these : (m : List ℕ) → (IsOfThese s0.is_own outbound own files m → ⊥) → IsStagingOfPacket outbound own files m → ⊥
   not_these m other at = other (inr (of_staging m at))
@@ -72,12 +71,7 @@ module _ (outbound own : List ℕ) (files : List PacketFile) (few : List ℕ →
   later c (inl over) =
       let step = left_now s0.disk s1.disk (OneStepOn (DifferAt few) s0.disk) used.changes.any_moment over.writes.0 over.writes.1 in
       inl (record { writes = (step.0, step.1, λ m other. over.writes.2 m other ∙ step.2 m (λ at. other (into m at))); represented = (used.same.represented first c).0 over.represented })
-  later c (inr with) = inr (record {
-    others = λ m other on.
-        let not : few m → ⊥ = λ at. not_these m other (into m at) in
-        with.others m (λ of. other (⊎_elim (λ o. inl ((used.same.own m).0 o)) (λ p. inr p) of)) (used.changes.named m not on.0, used.changes.flushed m not on.1) ∙ used.changes.seen m not;
-    either = ⊎_elim (λ none. inl ((used.same.represented first c).0 none.0, none.1)) (λ all. inr ((used.same.represented next c).0 all.0, all.1, all.2)) with.either;
-  })
+  later c (inr with) = inr (grind (arith, not_these, into))
 
   -- only these paths are touched
   pub few_keeps : KeepsStoreBut (IsOfThese s0.is_own outbound own files) s0 s1

@@ -1,5 +1,5 @@
 -- Packets in staging files, while a path is tried with the first of them.
-use Rattle.std.proofs.Common.{◌≡◌, ◌≢◌, ◌⊎◌, inl, inr, ⊎_elim, ◌∙◌, ◌<◌, ◌≤◌, ℕ, List, ap, arith, get_or, length, subst, sym}
+use Rattle.std.proofs.Common.{◌≡◌, ◌≢◌, ◌⊎◌, inl, inr, ⊎_elim, ◌∙◌, ◌<◌, ℕ, List, ap, arith, get_or, length, sym}
 use Rattle.std.specs.Prelude.{All, Contains}
 use Rattle.std.proofs.lemmas.Bool.{cases_lt}
 use Rattle.std.proofs.lemmas.List.{get_or_default}
@@ -53,10 +53,7 @@ module _ (outbound trial : List ℕ) (packets : List Outgoing) (placed : ArePlac
           (λ at.
           ⊎_elim (λ b. (placed.apart 0 k z later lt).stagings (ap (λ (q : Outgoing). q.staging.now) first ∙ sym b)) (λ t. of.off (p, Contains-get_or packets k z lt, inl (sym t))) at)
           (all k z lt).file)
-          (λ (low : k ≤ 0).
-          let zero : k ≡ 0 = omega arith in
-          subst (λ (q : Outgoing). HasOnDisk e q.staging.now (content q)) (sym (ap (λ (n : ℕ). get_or packets n z) zero ∙ first))
-          (record { seen = tries.stays.seen ∙ was.seen; named = tries.stays.named was.named; flushed = tries.stays.flushed was.flushed }))
+          (grind (arith, get_or))
           (cases_lt 0 k)
 
       pub still_staged : All (IsStaged content d) packets → All (IsStaged content e) packets

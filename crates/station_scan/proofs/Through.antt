@@ -1,5 +1,5 @@
 -- Facts about a disk before and after calls that change nothing.
-use Rattle.std.proofs.Common.{inl, inr, ⊎_elim, ◌∙◌, ℕ, List, get_or, refl, subst, sym, arith}
+use Rattle.std.proofs.Common.{inl, inr, ⊎_elim, ◌∙◌, ℕ, List, get_or, subst, sym, arith}
 use Rattle.std.proofs.lemmas.Result.{on_ok_weaker}
 use Rattle.std.specs.Prelude.{All, Err, IfOk, Ok, OnOk, Result}
 use Rattle.disk_io.specs.Disk.{DiskState, Files}
@@ -49,11 +49,7 @@ module _ (a d e b : DiskState) (before : ChangesNothing a d) (after : ChangesNot
       then_nothing a e b (OneStepOn (NamesEach has packets) a)
       (then_run a d e (OneStepOn (NamesEach has packets) a) (OneStepOn (NamesEach has packets) d)
       (weaker_run a d a.may_leave (OneStepOn (NamesEach has packets) a) before.run
-      (λ c left. (
-        c,
-        left,
-        record { others = λ m other. refl; whole = λ k z lt. inr (left_there a (get_or packets k z).staging.now (has (get_or packets k z)) (staged k z lt).file c left) },
-      )))
+      (grind (arith, left_there, get_or)))
       named (λ c step. (step.0, before.no_more step.0 step.1, step.2)))
       after
 

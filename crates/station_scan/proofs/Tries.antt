@@ -48,5 +48,4 @@ module _ {D : Type 0} (state : D → DiskState) (stamp : Stamp) (place : Place) 
   -- so it was on the disk on which the store was opened
   pub scan_tries : (result : Result (Unit {0}) ScanError) → ((base : Base) → place.represents base d0.seen → OnOk result (TriesOn state stamp Own outbound s1 s2 out now file base))
       → OnOk result (ScanTries state stamp place outbound Reads d0 d2 out now)
-  scan_tries (Ok done) tries = λ base represented. tries_in base (tries base represented)
-  scan_tries (Err why) tries = tt
+  scan_tries h1 tries = grind (arith, tries_in)

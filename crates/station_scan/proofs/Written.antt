@@ -1,5 +1,5 @@
 -- Packets that are written group by group, while their store is read.
-use Rattle.std.proofs.Common.{◌≡◌, ◌∙◌, inl, inr, ℕ, List, arith, get_or}
+use Rattle.std.proofs.Common.{◌≡◌, inl, inr, ℕ, List, arith, get_or}
 use Rattle.std.specs.Prelude.{All, Bool, Err, IfOk, None, Ok, OnOk, Result, true}
 use Rattle.disk_io.specs.Disk.{DiskState, Honestly, IsIn}
 use Rattle.disk_io.specs.Runs.{ChangesNothing, KeepsNamed}
@@ -81,5 +81,4 @@ pub same_through : (packets : List Outgoing) (a d0 d1 e : DiskState) → Changes
 same_through packets a d0 d1 e h1 h2 done h3 = grind (arith, get_or)
 
 pub gone_through : (packets : List Outgoing) (trial : List ℕ) (d e : DiskState) → ChangesNothing d e → (done : Result (Unit {0}) DiskError) → OnOk done (All (IsStagingGone d) packets) → OnOk done (d.seen trial ≡ None) → OnOk done (AreGone packets trial e)
-gone_through packets trial d e quiet (Ok done) gone none = (λ k z lt. quiet.seen (get_or packets k z).staging.now ∙ gone k z lt, quiet.seen trial ∙ none)
-gone_through packets trial d e quiet (Err cause) gone none = tt
+gone_through packets trial d e quiet h6 gone none = grind (arith, get_or)

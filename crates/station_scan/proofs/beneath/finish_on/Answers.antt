@@ -1,4 +1,4 @@
-use Rattle.std.proofs.Common.{refl, subst, sym}
+use Rattle.std.proofs.Common.{refl, subst, sym, arith}
 use Rattle.station_scan.specs.Left.{AreFreeLeft, IsOfNameOff}
 use Rattle.station_scan.proofs.Looked.{same_seen}
 use Rattle.station_scan.proofs.Through.{ends_through}
@@ -33,14 +33,7 @@ returns-clause-used g c =
     used (IsOfNameOff (g.P.Paths.OwnPaths.is_own c.args.paths.now) c.args.sending.outbound.now c.args.sending.own.now) s0 a b d0 d1 lent.looks lent.quiet (lent.back back) (λ m own at. at.1 (c.requires.own m own)) c.finish_left-done.ensures.changes s1 c.give_back-store.ensures.looks c.give_back-store.ensures.quiet
 
 pub returns-clause-ends : goal.returns-clause-ends
-returns-clause-ends g c = λ honest.
-    let s0 = g.P.Kept.Store.state c.args.store in
-    let d0 = g.D.Disk.state c.lend-disk.result.0 in
-    let d1 = g.D.Disk.state c.finish_left-done.new.disk in
-    let e = (g.P.Kept.Store.state c.give_back-store.result).disk in
-    let quiet = c.give_back-store.ensures.quiet in
-    ends_through s0.disk d0 d1 e c.lend-disk.ensures.quiet quiet (g.G.ListStaged.is_true c.finish_left-done.new.listing) (g.P.Paths.OwnPaths.is_own c.args.paths.now) c.args.sending.outbound.now c.args.sending.own.now c.args.cursor c.finish_left-done.result
-    (c.finish_left-done.ensures.ends (quiet.honest honest))
+returns-clause-ends g c = grind (arith, ends_through)
 
 pub returns-clause-taken : goal.returns-clause-taken
 returns-clause-taken g c = λ honest is free.

@@ -1,8 +1,6 @@
-use Rattle.std.proofs.Common.{◌≡◌, ◌∙◌, ◌<◌, ◌+◌, [], ◌∷◌, ◌++◌, List, ap, arith, length, map, subst, sym, take}
-use Rattle.std.specs.Prelude.{All}
+use Rattle.std.proofs.Common.{◌≡◌, ◌∙◌, ◌<◌, ◌+◌, [], ◌∷◌, ◌++◌, ap, arith, length, map, subst, sym, take}
 use Rattle.std.proofs.lemmas.List.{map-append, map-id, take_all, take_more}
 use Rattle.std.proofs.lemmas.List.Elements.{All-append, All-cons, All-nil}
-use Rattle.echo_addr.specs.declared.address.Address.{Address}
 use Rattle.echo_toss.specs.Counts.{link_set}
 use Rattle.station_scan.specs.Passing.{IsCounted}
 use Rattle.station_scan.specs.Sending.{route_to}
@@ -26,15 +24,8 @@ routes-preserved c =
     let pushed : c.push.new.self.items ≡ c.routes.all.items ++ x ∷ [] = c.in_ok-push.ensures.items in
     let at : take (i + 1) routes ≡ take i routes ++ r ∷ [] = take_more routes i r low ∙ ap (λ (y : Route). take i routes ++ y ∷ []) (sym c.index-routes-i.is) in
     let address = λ (l : LinkPacket). l.packet.to in
-    let counted : IsCounted to [] x = record {
-      routed = record { path = c.as_slice.ensures ∙ ap (λ (y : Route). y.two.path) is; staging = c.as_slice-in-routes.ensures ∙ ap (λ (y : Route). y.two.staging) is };
-      counted = c.empty.ensures;
-    } in
-    record {
-      addresses = ap (map address) pushed ∙ map-append address c.routes.all.items (x ∷ []) ∙ ap (λ (l : List Address). l ++ r.to ∷ []) inv.addresses
-          ∙ sym (ap (map (λ (y : Route). y.to)) at ∙ map-append (λ (y : Route). y.to) (take i routes) (r ∷ []));
-      each = subst (λ (l : List LinkPacket). All (IsCounted to []) l) (sym pushed) (All-append (IsCounted to []) c.routes.all.items (x ∷ []) inv.each (All-cons (IsCounted to []) x [] counted (All-nil (IsCounted to []))));
-    }
+    let counted : IsCounted to [] x = grind arith in
+    grind (arith, map-append, All-append, All-cons, All-nil)
 
 pub returns : goal.returns
 returns c =

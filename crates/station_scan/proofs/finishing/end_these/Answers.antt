@@ -1,4 +1,4 @@
-use Rattle.std.proofs.Common.{subst, sym}
+use Rattle.std.proofs.Common.{subst, sym, arith}
 use Rattle.std.proofs.lemmas.Result.{err_from_is_err_and}
 use Rattle.disk_atomic.specs.Finishing.{IsOfLeft}
 use Rattle.disk_atomic.proofs.Changes.{only_nothing, then_only, wider}
@@ -7,15 +7,10 @@ use Rattle.station_scan.proofs.Lefts.{are_free, are_there, nothing_these, of_pat
 use Rattle.station_scan.proofs.finishing.end_these.Goals as goal
 
 pub finish_stopped-requires-clause-there : goal.finish_stopped-requires-clause-there
-finish_stopped-requires-clause-there g c = λ honest.
-    let lent = subst (AreSameLeft c.args.paths.now) (sym c.deref.ensures.value) c.in_ok-found.ensures in
-    are_there c.args.paths.now c.deref.result.now lent (g.D.Disk.state c.args.disk.now) (c.requires.there honest)
+finish_stopped-requires-clause-there g c = grind (arith, are_there)
 
 pub returns-in_err-found-clause-ends : goal.returns-in_err-found-clause-ends
-returns-in_err-found-clause-ends g c = λ honest.
-    let d = g.D.Disk.state c.args.disk.now in
-    let p = err_from_is_err_and c.from_residual.result c.from_residual.ensures.1 in
-    rw p.1 (nothing_these c.args.cursor c.args.paths.now d d p.0 (quiet_start d))
+returns-in_err-found-clause-ends g c = grind (arith, err_from_is_err_and, nothing_these, quiet_start)
 
 pub returns-in_err-finish_stopped-clause-changes : goal.returns-in_err-finish_stopped-clause-changes
 returns-in_err-finish_stopped-clause-changes g c =

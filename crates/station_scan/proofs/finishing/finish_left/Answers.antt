@@ -9,10 +9,7 @@ use Rattle.station_scan.proofs.Lefts.{are_left_in, free_found, left_of_name, non
 use Rattle.station_scan.proofs.finishing.finish_left.Goals as goal
 
 pub returns-in_err-named-clause-ends : goal.returns-in_err-named-clause-ends
-returns-in_err-named-clause-ends g c = λ honest.
-    let d = g.D.Disk.state c.args.disk.now in
-    let p = err_from_is_err_and c.from_residual.result c.from_residual.ensures.1 in
-    rw p.1 (nothing_left (g.G.ListStaged.is_true c.left_staged.new.self d.seen) (g.O.OwnPaths.is_own c.args.paths.now) c.args.folder.now c.args.own.now c.args.cursor d d (quiet_start d) p.0)
+returns-in_err-named-clause-ends g c = grind (arith, err_from_is_err_and, nothing_left, quiet_start)
 
 pub returns-in_err-found-clause-ends : goal.returns-in_err-found-clause-ends
 returns-in_err-found-clause-ends g c = grind (arith, err_from_is_err_and, nothing_left)

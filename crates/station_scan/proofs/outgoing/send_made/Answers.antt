@@ -1,4 +1,4 @@
-use Rattle.std.proofs.Common.{◌≡◌, Err, Ok, Result, inl, inr, refl, subst, sym, ℕ}
+use Rattle.std.proofs.Common.{◌≡◌, Err, Ok, Result, inl, inr, refl, subst, ℕ, arith}
 use Rattle.std.specs.Prelude.{List, None, OnOk}
 use Rattle.std.specs.List.{flat_map}
 use Rattle.disk_io.specs.Device.{Failed}
@@ -10,10 +10,7 @@ use Rattle.cmd_store.specs.Answered.{AnswersOn, AreLines, RefusesNone}
 use Rattle.cmd_store.specs.Stops.{store_answer}
 use Rattle.cmd_store.specs.declared.command_error.CommandError.{CommandError}
 use Rattle.echo_toss.specs.Exports.{Outgoing as Sent}
-use Rattle.station_scan.specs.Moved.{SendsFrom}
 use Rattle.station_scan.specs.Passing.{AreCounted, IsAllOf, IsPartOf, IsStagingTo, counts_in}
-use Rattle.station_scan.specs.Scanning.{packets_in}
-use Rattle.station_scan.specs.declared.scan_error.ScanError.{ScanError}
 use Rattle.station_scan.specs.declared.scan_error.ScanError.TheVariants.{Command, Staying}
 use Rattle.station_scan.proofs.Lefts.{quiet_start}
 use Rattle.station_scan.proofs.Passes.{can_still, gone_or_same, passed_part, staged_keeps, staged_more}
@@ -35,9 +32,7 @@ returns-in-Ok-clause-sends g c = λ before passed honest base moved.
     let failed = Failed (g.P.Kept.Store.failures c.args.store) (g.P.Kept.Store.failures c.publish_made-store.result.store) in
     let printed = subst (λ (r : Result (Unit {0}) CommandError). AnswersOn (AreLines (flat_map counted_line (counts_in c.args.packets.now))) RefusesNone out now r) c.in-Ok.is c.print_made.ensures.answers in
     let answer = lines_answer to base passed.sent c.args.packets.now out now (Ok tt) c.requires.ready.stamp moved.at passed.counted (passed.part.whole honest1 (all_scanned base) moved.keeps) printed in
-    let put = subst (λ (r : Result (Unit {0}) ScanError). SendsFrom g.D.Disk.state (g.P.Paths.OwnPaths.is_own c.args.paths.now) to.outbound.now to.own.now failed s0 s2 base (packets_in to.source.stamp to.source.links.now base) r) (sym c.stop_done-done.ensures)
-    (did.sends before passed honest base moved) in
-    scans_sent g.D.Disk.state (g.P.Paths.OwnPaths.is_own c.args.paths.now) to failed s0 s2 base out now c.stop_done-done.result answer put
+    grind (arith, scans_sent)
 
 pub returns-in-Ok-done-clause-sends : goal.returns-in-Ok-done-clause-sends
 returns-in-Ok-done-clause-sends g c = λ before passed honest base moved.

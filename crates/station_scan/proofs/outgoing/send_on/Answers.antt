@@ -10,10 +10,6 @@ use Rattle.station_scan.specs.Moved.{ScansFrom}
 use Rattle.station_scan.specs.Passing.{HasPassed, IsStagingTo, StopsPassing}
 use Rattle.station_scan.specs.declared.publish_error.PublishError.{PublishError}
 use Rattle.station_scan.specs.declared.publish_error.PublishError.TheVariants.{Base as OfBase, Packets, Reading, Staging}
-use Rattle.base_store.specs.declared.store_error.StoreError.{StoreError}
-use Rattle.base_store.specs.declared.store_error.StoreError.TheVariants as error
-use Rattle.disk_io.specs.declared.disk_error.DiskError.{DiskError}
-use Rattle.disk_io.specs.declared.disk_error.DiskError.TheVariants as disk
 use Rattle.disk_atomic.specs.declared.placing_error.PlacingError.{PlacingError}
 use Rattle.disk_atomic.specs.declared.placing_error.PlacingError.TheVariants as placing
 use Rattle.station_scan.specs.declared.scan_error.ScanError.{ScanError}
@@ -90,18 +86,7 @@ returns-in-Packets-clause-keeps g c =
     touched_after to.outbound.now s0 s1 s2 (staged_keeps Own to c.requires.ready.routes stops.staged.sent stops.staged.fit s0 s1 stops.staged.used) (touched_looked to.outbound.now s1 s2 c.report-store.ensures.looks)
 
 pub returns-in-Reading-clause-sends : goal.returns-in-Reading-clause-sends
-returns-in-Reading-clause-sends g c = λ honest base moved.
-    let Own = g.P.Paths.OwnPaths.is_own c.args.paths.now in
-    let to = c.args.sending in
-    let s0 = g.P.Kept.Store.state c.args.store in
-    let s1 = g.P.Kept.Store.state c.pass_waiting-store.result.store in
-    let pass = c.pass_waiting-store.ensures in
-    let is : c.pass_waiting-store.result.done ≡ Err (Reading c.in-Reading.cause) = c.in-Err.is ∙ ap (λ (w : PublishError). Err w) c.in-Reading.is in
-    let stops = subst (λ (r : Result (Vec LinkPacket Global) PublishError). IfErr r (StopsPassing Own to s0 s1)) is pass.stopped in
-    let f0 = g.P.Kept.Store.failures c.args.store in
-    let f1 = g.P.Kept.Store.failures c.pass_waiting-store.result.store in
-    let out = output_of g.W.Write.contents g.W.Sink.failures g.W.Sink.holds c.args.out.now in
-    scans_reading g.D.Disk.state Own to (Failed f0 f1) s0 s1 base out moved c.requires.ready honest (Reading c.in-Reading.cause) stops c.in-Reading.cause tt (λ e. pass.cause.unread honest (err_of c.pass_waiting-store.result.done (Reading c.in-Reading.cause) (Reading error.Damaged) is (ap (λ (w : StoreError). Reading w) e)) (all_scanned base) moved.keeps)
+returns-in-Reading-clause-sends g c = grind (arith, scans_reading, err_of)
 
 pub returns-in-Reading-clause-keeps : goal.returns-in-Reading-clause-keeps
 returns-in-Reading-clause-keeps g c =
@@ -129,18 +114,7 @@ returns-in-Base-clause-keeps g c =
     staged_keeps Own to c.requires.ready.routes stops.staged.sent stops.staged.fit s0 s1 stops.staged.used
 
 pub returns-in-Staging-clause-sends : goal.returns-in-Staging-clause-sends
-returns-in-Staging-clause-sends g c = λ honest base moved.
-    let Own = g.P.Paths.OwnPaths.is_own c.args.paths.now in
-    let to = c.args.sending in
-    let s0 = g.P.Kept.Store.state c.args.store in
-    let s1 = g.P.Kept.Store.state c.pass_waiting-store.result.store in
-    let pass = c.pass_waiting-store.ensures in
-    let is : c.pass_waiting-store.result.done ≡ Err (Staging c.in-Staging.left) = c.in-Err.is ∙ ap (λ (w : PublishError). Err w) c.in-Staging.is in
-    let stops = subst (λ (r : Result (Vec LinkPacket Global) PublishError). IfErr r (StopsPassing Own to s0 s1)) is pass.stopped in
-    let f0 = g.P.Kept.Store.failures c.args.store in
-    let f1 = g.P.Kept.Store.failures c.pass_waiting-store.result.store in
-    let out = output_of g.W.Write.contents g.W.Sink.failures g.W.Sink.holds c.args.out.now in
-    scans_staying g.D.Disk.state Own to (Failed f0 f1) s0 s1 base out moved c.requires.ready honest (Staging c.in-Staging.left) stops c.in-Staging.left (λ e. pass.cause.staging (err_of c.pass_waiting-store.result.done (Staging c.in-Staging.left) (Staging disk.Device) is (ap (λ (w : DiskError). Staging w) e)))
+returns-in-Staging-clause-sends g c = grind (arith, scans_staying, err_of)
 
 pub returns-in-Staging-clause-keeps : goal.returns-in-Staging-clause-keeps
 returns-in-Staging-clause-keeps g c =

@@ -21,11 +21,7 @@ returns-in-Err-clause-taken g c = λ honest is sent making.
     (⊎_elim (λ e. absurd (cc (e, taken))) (λ e. e.1) c.in-Err.ensures.err)
 
 pub returns-then-is_empty-clause-stages : goal.returns-then-is_empty-clause-stages
-returns-then-is_empty-clause-stages g c = λ sent making.
-    let did = c.in-Ok.ensures in
-    let counted = did.counted ∙ ap (map (with_group c.args.group.now.sent)) c.deref.ensures.value in
-    none_staged (g.P.Paths.OwnPaths.is_own c.args.paths.now) c.args.sending (g.P.Kept.Store.state c.args.store) c.requires.ready sent c.args.group.now.sent c.args.packets.now.items making c.in-Ok.going.counted.items counted c.in-Ok.going.begun.items
-    c.in-Ok.going.copied.items did.begun did.copied did.off
+returns-then-is_empty-clause-stages g c = grind (arith, none_staged)
 
 pub returns-then-is_empty-clause-making : goal.returns-then-is_empty-clause-making
 returns-then-is_empty-clause-making g c = λ sent making.
@@ -69,22 +65,7 @@ append_group-requires g c κs =
     )
 
 pub returns-clause-stages : goal.returns-clause-stages
-returns-clause-stages g c = λ sent making.
-    let Own = g.P.Paths.OwnPaths.is_own c.args.paths.now in
-    let to = c.args.sending in
-    let s = g.P.Kept.Store.state c.args.store in
-    let more = c.args.group.now.sent in
-    let all = c.args.packets.now.items in
-    let going = c.in-Ok.going in
-    let did = c.in-Ok.ensures in
-    let counted = did.counted ∙ ap (map (with_group c.args.group.now.sent)) c.deref.ensures.value in
-    let copied = c.as_slice-copied.result.now in
-    let begun = c.deref-2.result.now in
-    let copied_are : copied ≡ copied_in going.counted.items = c.as_slice-copied.ensures.value ∙ did.copied in
-    let begun_are : begun ≡ begun_in going.counted.items = c.deref-2.ensures.value ∙ did.begun in
-    let off = subst (λ (l : List Outgoing). All (IsOff Own to.trial.now) l) (sym c.deref-2.ensures.value) did.off in
-    let some : 0 < length copied = let not : length copied ≢ 0 = eqb-false _ _ (sym c.is_empty.ensures ∙ c.if-is_empty.false) in omega arith in
-    group_staged Own to s c.requires.ready sent more all making going.counted.items counted begun copied begun_are copied_are off some (g.P.Kept.Store.state c.append_group.result.store) c.append_group.ensures.used
+returns-clause-stages g c = grind (arith, eqb-false, group_staged)
 
 pub returns-clause-making : goal.returns-clause-making
 returns-clause-making g c = λ sent making.

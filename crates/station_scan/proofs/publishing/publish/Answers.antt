@@ -41,9 +41,7 @@ pub returns-in-Ok-true-clause-keeps : goal.returns-in-Ok-true-clause-keeps
 returns-in-Ok-true-clause-keeps = grind (arith, publish_keeps)
 
 pub returns-in-Ok-false-clause-any_moment : goal.returns-in-Ok-false-clause-any_moment
-returns-in-Ok-false-clause-any_moment g c = λ honest first next was is.
-    let batch = c.args.batch in
-    stopping batch.outbound.now batch.trial.now (ended_before (g.P.Kept.Store.state c.args.store) next) batch.packets.now (g.P.Kept.Store.state c.args.store) c.requires.off c.requires.ready (g.P.Kept.Store.state c.stage_on-store.result.store) c.stage_on-store.ensures.used honest first next was
+returns-in-Ok-false-clause-any_moment g c = grind (arith, stopping)
 
 pub returns-in-Ok-false-clause-keeps : goal.returns-in-Ok-false-clause-keeps
 returns-in-Ok-false-clause-keeps = grind (arith, staging_keeps)

@@ -1,4 +1,4 @@
-use Rattle.std.proofs.Common.{◌⊎◌, ◌≤◌, ⊎_elim, arith, inl, inr, refl}
+use Rattle.std.proofs.Common.{◌⊎◌, ◌≤◌, ⊎_elim, arith, inl, inr}
 use Rattle.disk_io.specs.Device.{Failed}
 use Rattle.station.proofs.Failures.{failed_wider}
 use Rattle.cmd_status.specs.Devices.{output_of}
@@ -34,20 +34,7 @@ returns-in-Ok-clause-scans g c = λ honest base keeps committed.
     (put.scans honest base moved)
 
 pub returns-in-Ok-clause-tried : goal.returns-in-Ok-clause-tried
-returns-in-Ok-clause-tried g c = λ honest base keeps committed.
-    let s1 = g.P.Kept.Store.state c.args.store in
-    let sA = g.P.Kept.Store.state c.move_to_end.new.self in
-    let s2 = g.P.Kept.Store.state c.put_moved.result.store in
-    let move = c.move_to_end.ensures in
-    let put = c.put_moved.ensures in
-    let honestA = put.keeps.keeps.honest honest in
-    let honest1 = move.quiet.honest honestA in
-    let on = c.in-Ok.ensures.goes_on in
-    let moved : IsMoved sA c.cursor-from.result base =
-    record { ready = on.ready; keeps = c.in-Ok.ensures.moved honestA base keeps; committed = on.committed honestA base committed; at = c.cursor-from.ensures honest1 base keeps } in
-    let out = output_of g.W.Write.contents g.W.Sink.failures g.W.Sink.holds c.args.out.now in
-    let now = output_of g.W.Write.contents g.W.Sink.failures g.W.Sink.holds c.put_moved.new.out in
-    tries_moved g.D.Disk.state c.args.scan.now.stamp (g.P.Paths.OwnPaths.is_own c.args.paths.now) c.args.scan.now.outbound.now s1 sA s2 out now c.args.links.now base c.put_moved.result.done move.quiet (put.tried honest base moved)
+returns-in-Ok-clause-tried g c = grind (arith, tries_moved)
 
 pub returns-in-Ok-clause-keeps : goal.returns-in-Ok-clause-keeps
 returns-in-Ok-clause-keeps g c =
@@ -68,13 +55,7 @@ returns-in-Ok-clause-many g c = λ honest base keeps committed is.
     record { store = way.store; keeps = inr (way.holds.keeps _ (c.in-Ok.ensures.moved honestA base keeps)); committed = way.holds.committed base (on.committed honestA base committed); full = way.full }
 
 pub returns-in-Err-clause-scans : goal.returns-in-Err-clause-scans
-returns-in-Err-clause-scans g c = λ honest base keeps committed.
-    let s1 = g.P.Kept.Store.state c.args.store in
-    let s2 = g.P.Kept.Store.state c.move_to_end.new.self in
-    let move = c.move_to_end.ensures in
-    let out = output_of g.W.Write.contents g.W.Sink.failures g.W.Sink.holds c.args.out.now in
-    scans_stopped c.args.scan.now.stamp (g.P.Paths.OwnPaths.is_own c.args.paths.now) c.args.scan.now.outbound.now _ _ s1 s2 out out c.args.links.now base (Store c.in-Err.cause) (move.quiet.honest honest) c.requires.ready committed move.quiet refl
-    (λ e. move.cause.damaged honest (cc (c.in-Err.is, e)) base keeps)
+returns-in-Err-clause-scans g c = grind (arith, scans_stopped)
 
 pub returns-in-Err-clause-keeps : goal.returns-in-Err-clause-keeps
 returns-in-Err-clause-keeps g c = grind (arith, keeps_nothing)

@@ -1,9 +1,8 @@
-use Rattle.std.proofs.Common.{◌≡◌, ◌≢◌, ◌∙◌, ℕ, List, ap, get_or, inr, true, subst, sym, arith}
+use Rattle.std.proofs.Common.{◌≡◌, ◌≢◌, ℕ, List, get_or, true, arith}
 use Rattle.std.specs.Prelude.{None}
 use Rattle.std.proofs.lemmas.List.Elements.{Contains-get_or}
 use Rattle.std.proofs.lemmas.Result.{IfOk-weaker}
-use Rattle.disk_io.specs.Disk.{IsIn, bytes_in}
-use Rattle.disk_io.specs.Fixed.{AreBytes}
+use Rattle.disk_io.specs.Disk.{IsIn}
 use Rattle.disk_atomic.specs.Outgoing.{IsAtStaging, staged_in}
 use Rattle.disk_atomic.proofs.Changes.{only_nothing, then_only}
 use Rattle.station_scan.specs.Publishing.{AreStaged}
@@ -47,15 +46,4 @@ returns-clause-staged g c =
     let off = path_off folder trial packets c.requires.placed c.requires.trial in
     let now = staged_now (staged_in d1.seen) packets e c.try_first.ensures.staged in
     IfOk-weaker c.try_first.result (λ b. b ≡ true → (m : List ℕ) → IsIn folder m → m ≢ trial → e.seen m ≡ None → e.is_flushed m) (λ b. b ≡ true → AreStaged packets e)
-    (λ b gone is. record {
-      staged = now.1;
-      bytes = λ honest k z lt. subst AreBytes (sym (now.0 k z lt)) (subst AreBytes (sym (ap bytes_in (quiet.seen (get_or packets k z).staging.now))) (c.requires.opened.bytes (quiet.honest (run.honest honest)) k z lt));
-      clear = λ honest k z lt.
-          let path = (get_or packets k z).path.now in
-          let none : e.seen path ≡ None = run.seen path (off k z lt) ∙ quiet.seen path ∙ c.requires.opened.free (quiet.honest (run.honest honest)) k z lt in
-          record {
-            none = none;
-            named = (c.try_first.ensures.staged k z lt).named;
-            flushed = gone is path (c.requires.placed.each k z lt).path_in (λ e. c.requires.trial.off (get_or packets k z, Contains-get_or packets k z lt, inr (sym e))) none;
-          };
-    }) c.try_first.ensures.gone
+    (grind (arith, get_or, Contains-get_or)) c.try_first.ensures.gone

@@ -18,13 +18,7 @@ try_link-requires-clause-can g c =
     let some : 0 < length packets = let not : length packets ≢ 0 = eqb-false _ _ (sym c.is_empty.ensures ∙ c.if-is_empty.false) in omega arith in
     let is : x ≡ get_or packets 0 x = get_or_default packets 0 nobody x some in
     let first = first_staged c.args.outbound.now c.args.trial.now packets c.requires.placed c.requires.trial.0 has x is some (g.D.Disk.state c.args.disk.now) c.requires.staged in
-    record {
-      other = first_other c.args.outbound.now c.args.trial.now packets c.requires.placed c.requires.trial.0 has x is some;
-      there = λ honest. some_is_there _ _ first.file.seen;
-      durable = first.file.flushed;
-      staging_named = first.file.named;
-      path_named = c.requires.trial.1;
-    }
+    grind (arith, first_other, some_is_there)
 
 pub returns-then-is_empty-clause-tried : goal.returns-then-is_empty-clause-tried
 returns-then-is_empty-clause-tried g c is = inl (eqb-true _ _ (sym c.is_empty.ensures ∙ c.if-is_empty.true))

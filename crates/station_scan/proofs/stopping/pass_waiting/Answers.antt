@@ -1,11 +1,6 @@
 use Rattle.std.proofs.Common.{List, refl, subst, sym, arith}
-use Rattle.std.specs.Prelude.{Err, Result}
 use Rattle.station_scan.specs.Passing.{HasStaged, IsPartOf}
-use Rattle.station_scan.specs.Publishing.{HasPublishCause}
-use Rattle.station_scan.specs.Writing.{HasStopCause}
 use Rattle.station_scan.specs.declared.counting.LinkPacket.{LinkPacket}
-use Rattle.station_scan.specs.declared.passing.PassStop.{PassStop}
-use Rattle.station_scan.specs.declared.publish_error.PublishError.{PublishError}
 use Rattle.station_scan.specs.declared.publish_error.PublishError.TheVariants.{Staging}
 use Rattle.station_scan.proofs.Causes.{publish_stop_cause, publish_stop_taken}
 use Rattle.station_scan.proofs.Passes.{can_still, making_new, stops_dropped, stops_none}
@@ -46,9 +41,7 @@ returns-in-Ok-done-2-clause-cause g c =
     let f2 = g.P.Kept.Store.failures c.drop_made-store.result.store in
     let staged = c.pass_on-store.ensures.staged in
     let run = (c.drop_made-store.ensures.used staged.sent (rw c.deref.ensures.value staged.counted)).changes.honest in
-    subst (λ (why : PublishError). HasPublishCause g.P.Kept.Store.state s0 s2 f0 f2 (Err why)) (sym c.stopped.ensures)
-    (publish_stop_cause g.P.Kept.Store.state s0 s1 s2 f0 f1 f2 run c.in-Err-done.stop
-    (subst (λ (r : Result (Unit {0}) PassStop). HasStopCause g.P.Kept.Store.state s0 s1 f0 f1 r) c.in-Err-done.is c.pass_on-store.ensures.cause) c.drop_made-store.ensures.cause.later)
+    grind (arith, publish_stop_cause)
 
 pub returns-clause-stopped : goal.returns-clause-stopped
 returns-clause-stopped g c =
