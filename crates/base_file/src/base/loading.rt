@@ -127,9 +127,10 @@ fn take_messages<R: Source, S: BuildHasher>(
     ensures taken { TakesMessages head base.new (R.remaining reader.old) (R.remaining reader.new) result }
     ensures device { CountsLoad result (R.failures reader.old) (R.failures reader.new) }
 {
-    let mut room = MessageRoom::new(*base.entries.allocator());
     let number = head.number as usize;
     'messages: while base.len() < number {
+        // The base keeps the vectors of the message, so the next one gets new ones.
+        let mut room = MessageRoom::new(*base.entries.allocator());
         take_message(&mut room, reader, base, head.version, head.cursor as usize)?;
     }
     Ok(())
