@@ -1,17 +1,31 @@
 -- Worked runs, by computation.
-use Rattle.std.proofs.Common.{◌≡◌, Some, None, ℕ, List, [], ◌∷◌, ◌++◌, codes, length, drop, map}
+use Rattle.std.proofs.Common.{◌≡◌, Some, None, ℕ, List, [], ◌∷◌, ◌++◌, refl, codes, length, drop, map, arith}
 use Rattle.std.specs.Prelude.{Bool, true, false}
+use Rattle.std.specs.Fmt.{digits}
 use Rattle.echo_addr.specs.declared.address.Address.{Address}
+use Rattle.echo_addr.specs.Entries.{entries, pair_of, tokens}
+use Rattle.echo_text.specs.Lines.{lines, trimmed, begins, after_word}
+use Rattle.echo_text.specs.Tail.{kept_of, path_lists, seen_lists}
+use Rattle.echo_text.specs.Echo.{msgid_of}
+use Rattle.echo_text.specs.Ids.{id_of}
+use Rattle.echo_text.specs.Refusal.{text_refusal}
 use Rattle.model_steps.specs.declared.draft.Draft.{Draft}
 use Rattle.echo_filed.specs.declared.key.Key.{Key}
 use Rattle.echo_filed.specs.declared.key.Key.TheVariants.{ById}
 use Rattle.model_steps.specs.declared.stamp.Stamp.{Stamp}
-use Rattle.echo_links.specs.Links.{LinkFile}
+use Rattle.echo_filed.specs.Sets.{address_set, entry_set}
+use Rattle.model_steps.specs.Stamps.{date_of}
+use Rattle.echo_links.specs.Links.{LinkFile, links_of}
+use Rattle.echo_filed.specs.Written.{echo_of, short_lines, text_of}
 use Rattle.echo_filed.specs.Filed.{Filed, key_of}
 use Rattle.base_file.specs.Base.{is_known}
-use Rattle.model_steps.specs.Posting.{posted, posting}
-use Rattle.model_steps.specs.Scanning.{targets}
-use Rattle.model_run.specs.Event.{RunEvent, Posting, Scanning, Delivery, PartDelivery, Purging}
+use Rattle.model_steps.specs.Posting.{post_refusal, posted, posted_lines, posting}
+use Rattle.echo_filed.specs.Stubs.{stub_of}
+use Rattle.model_steps.specs.Purging.{purged}
+use Rattle.model_steps.specs.Scanning.{copy_to, exported, header_to, packet_to, packets_of, recipients, scanned, targets}
+use Rattle.model_steps.specs.Tossing.{received, toss_outcome, tossing}
+use Rattle.model_run.specs.declared.event.Event.TheVariants.{Deliver, Post, Purge, Scan}
+use Rattle.model_run.specs.Event.{RunEvent, Posting, Scanning, Delivery, PartDelivery, Purging, run_event}
 use Rattle.model_run.specs.Run.{Run, run_of}
 use Rattle.model_run.specs.Orderly.{sent_count}
 use Rattle.model_run.specs.World.{filed_at, area_count, is_settled, undelivered, waiting_at}
@@ -121,6 +135,16 @@ record Runs : Type 0 where
   purged_at : (filed_at purged_run 2 (codes "TEST") ≡ 1) × (waiting_at purged_run 2 (codes "TEST") ≡ 1) × (filed_at purged_run 3 (codes "TEST") ≡ 0) × (filed_at purged_run 2 (codes "OTHER") ≡ 0)
   purged_shown : shown purged_run ≡ line (1 ∷ (1 ∷ (1 ∷ []))) (0 ∷ (0 ∷ (1 ∷ []))) 2 0 false
 
+runs : Runs
+unfolding posted posted_lines posting post_refusal id_of trimmed lines digits date_of scanned packets_of recipients packet_to targets links_of address_set header_to copy_to exported entry_set text_of short_lines received toss_outcome tossing text_refusal echo_of kept_of path_lists seen_lists begins after_word entries tokens pair_of key_of msgid_of purged stub_of
+runs = grind arith
+
+-- the same events in the program's form
+program_events : map run_event (
+    Post 0 (codes "TEST") draft 1 stamp ∷ (Scan 0 stamp ∷ (Deliver 0 ∷ (Purge 0 ∷ [])))
+    ) ≡ post 0 ∷ (scan 0 ∷ (Delivery 0 ∷ (Purging 0 ∷ [])))
+program_events = refl
+
 -- nets that miss one clause of `Tidy`
 abbrev pub two_files : List LinkFile
 two_files = file 1 (2 ∷ []) ∷ (file 2 (1 ∷ []) ∷ (file 2 (1 ∷ []) ∷ []))
@@ -160,6 +184,10 @@ record Untidy : Type 0 where
   -- clause 8: on a ring two send the message to one
   twice : sent_count (address 2) first_key ring_run.packets ≡ 2
 
+untidy : Untidy
+unfolding posted posted_lines posting post_refusal id_of trimmed lines digits date_of scanned packets_of recipients packet_to targets links_of address_set header_to copy_to exported entry_set text_of short_lines received toss_outcome tossing text_refusal echo_of kept_of path_lists seen_lists begins after_word entries tokens pair_of key_of msgid_of purged stub_of
+untidy = grind arith
+
 -- cases that no run of these systems has, since their ids differ and SEEN-BY lists the sender
 abbrev two_areas : LinkFile
 two_areas = record {
@@ -189,3 +217,7 @@ record Steps : Type 0 where
   other_area : is_known (posted_in (codes "TEST") ∷ []) (key_of (posted_in (codes "OTHER"))) ≡ false
   -- a message does not go back to its sender, for any SEEN-BY
   sender_left_out : targets (file 1 (2 ∷ (3 ∷ []))) unlisted ≡ address 3 ∷ []
+
+steps : Steps
+unfolding posted posted_lines posting post_refusal id_of trimmed lines digits date_of targets links_of begins after_word key_of msgid_of
+steps = grind arith

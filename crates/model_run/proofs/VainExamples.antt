@@ -1,15 +1,32 @@
 -- Nets that `check` refuses though their computed run does no harm: for these clauses a no is more careful than
 -- necessary. And a tidy net with a cycle, which a rule against all cycles would refuse.
-use Rattle.std.proofs.Common.{◌≡◌, ℕ, List, [], ◌∷◌, codes}
-use Rattle.std.specs.Prelude.{true}
-use Rattle.echo_links.specs.Links.{LinkFile}
+use Rattle.std.proofs.Common.{◌≡◌, ◌≢◌, inl, inr, refl, ap, ℕ, arith, List, [], ◌∷◌, codes}
+use Rattle.std.specs.Prelude.{true, false}
+use Rattle.std.specs.Fmt.{digits}
+use Rattle.echo_addr.specs.declared.address.Address.{Address}
+use Rattle.echo_addr.specs.Entries.{entries, pair_of, tokens}
+use Rattle.echo_text.specs.Lines.{lines, trimmed, begins, after_word}
+use Rattle.echo_text.specs.Tail.{kept_of, path_lists, seen_lists}
+use Rattle.echo_text.specs.Echo.{msgid_of}
+use Rattle.echo_text.specs.Ids.{id_of}
+use Rattle.echo_text.specs.Refusal.{text_refusal}
+use Rattle.echo_filed.specs.Sets.{address_set, entry_set}
+use Rattle.model_steps.specs.Stamps.{date_of}
+use Rattle.echo_links.specs.Links.{LinkFile, links_of}
+use Rattle.echo_filed.specs.Written.{echo_of, short_lines, text_of}
+use Rattle.echo_filed.specs.Filed.{key_of}
+use Rattle.model_steps.specs.Posting.{post_refusal, posted, posted_lines, posting}
+use Rattle.echo_filed.specs.Stubs.{stub_of}
+use Rattle.model_steps.specs.Purging.{purged}
+use Rattle.model_steps.specs.Scanning.{copy_to, exported, header_to, packet_to, packets_of, recipients, scanned, targets}
+use Rattle.model_steps.specs.Tossing.{received, toss_outcome, tossing}
 use Rattle.model_run.specs.Event.{Delivery}
 use Rattle.model_run.specs.Run.{Run, run_of}
 use Rattle.model_run.specs.Orderly.{sent_count}
 use Rattle.model_graph.specs.Cycle.{NoCycle}
 use Rattle.model_run.specs.Tidy.{Tidy, lists}
 use Rattle.model_run.proofs.NetExamples.{address, all_done, carrier, far, file, first_key, line, post, scan, shown, triangle}
-use Rattle.model_run.proofs.TidyExamples.{test}
+use Rattle.model_run.proofs.TidyExamples.{test, triangle_tidy}
 
 -- a system without the area
 abbrev without : ℕ → LinkFile
@@ -27,6 +44,20 @@ to_another = file 1 (2 ∷ (3 ∷ [])) ∷ (file 2 (1 ∷ []) ∷ (without 3 ∷
 abbrev twins : List LinkFile
 twins = carrier (address 1) (far ∷ []) ∷ (carrier far (address 1 ∷ []) ∷ [])
 
+-- these nets are not tidy
+two_of_one_address : ¬ Tidy second_file test
+two_of_one_address t = t.joined.one_file.1.0 (inl refl)
+
+no_carrier : ¬ Tidy to_another test
+unfolding links_of
+no_carrier t = differ (t.joined.known (address 1) (address 3) refl)
+  where
+    differ : (let no_bit = false in no_bit ≡ true) → ⊥
+    differ e = cc
+
+one_net_node : ¬ Tidy twins test
+one_net_node t = grind arith
+
 -- but a posting of the first system comes to each carrier once, and nothing is sent again; so does a posting of the
 -- second twin
 abbrev from_second : Run
@@ -41,6 +72,28 @@ record GoesWell : Type 0 where
   twins_sent : (sent_count (address 1) first_key (all_done twins).packets ≡ 0) × (sent_count far first_key (all_done twins).packets ≡ 1)
   second_twin_shown : shown from_second ≡ line (1 ∷ (1 ∷ [])) (0 ∷ (0 ∷ [])) 1 0 true
 
+goes_well : GoesWell
+unfolding posted posted_lines posting post_refusal id_of trimmed lines digits date_of scanned packets_of recipients packet_to targets links_of address_set header_to copy_to exported entry_set text_of short_lines received toss_outcome tossing text_refusal echo_of kept_of path_lists seen_lists begins after_word entries tokens pair_of key_of msgid_of purged stub_of
+goes_well = grind arith
+
+-- a triangle is tidy, and its three systems are a cycle
+three_in_a_cycle : ¬ NoCycle (lists triangle test)
+unfolding links_of
+three_in_a_cycle none = none (address 1) (address 2 ∷ (address 3 ∷ [])) (record {
+  long = omega arith;
+  different = (
+    λ h. elim h [ inl e ↦ differ 1 2 (omega arith) e | inr k ↦ elim k [ inl e ↦ differ 1 3 (omega arith) e | inr z ↦ z ] ],
+    (λ h. elim h [ inl e ↦ differ 2 3 (omega arith) e | inr z ↦ z ], (λ h. h, tt)),
+  );
+  closed = (address 3, (refl, (refl, refl)), refl);
+})
+  where
+    differ : (i j : ℕ) → i ≢ j → address i ≢ address j
+    differ i j other e = other (ap (λ (a : Address). a.node) e)
+
 record TidyWithCycle : Type 0 where
   tidy : Tidy triangle test
   cycle : ¬ NoCycle (lists triangle test)
+
+triangle_has_both : TidyWithCycle
+triangle_has_both = record { tidy = triangle_tidy; cycle = three_in_a_cycle }
