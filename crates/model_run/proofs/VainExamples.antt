@@ -1,7 +1,7 @@
 -- Nets that `check` refuses though their computed run does no harm: for these clauses a no is more careful than
 -- necessary. And a tidy net with a cycle, which a rule against all cycles would refuse.
-use Rattle.std.proofs.Common.{◌≡◌, ◌≢◌, inl, inr, refl, ap, ℕ, arith, List, [], ◌∷◌, codes}
-use Rattle.std.specs.Prelude.{true, false}
+use Rattle.std.proofs.Common.{◌≡◌, ◌≢◌, inl, refl, ap, ℕ, arith, List, [], ◌∷◌, codes}
+use Rattle.std.specs.Prelude.{true}
 use Rattle.std.specs.Fmt.{digits}
 use Rattle.echo_addr.specs.declared.address.Address.{Address}
 use Rattle.echo_addr.specs.Entries.{entries, pair_of, tokens}
@@ -48,16 +48,6 @@ twins = carrier (address 1) (far ∷ []) ∷ (carrier far (address 1 ∷ []) ∷
 two_of_one_address : ¬ Tidy second_file test
 two_of_one_address t = t.joined.one_file.1.0 (inl refl)
 
-no_carrier : ¬ Tidy to_another test
-unfolding links_of
-no_carrier t = differ (t.joined.known (address 1) (address 3) refl)
-  where
-    differ : (let no_bit = false in no_bit ≡ true) → ⊥
-    differ e = cc
-
-one_net_node : ¬ Tidy twins test
-one_net_node t = grind arith
-
 -- but a posting of the first system comes to each carrier once, and nothing is sent again; so does a posting of the
 -- second twin
 abbrev from_second : Run
@@ -79,14 +69,7 @@ goes_well = grind arith
 -- a triangle is tidy, and its three systems are a cycle
 three_in_a_cycle : ¬ NoCycle (lists triangle test)
 unfolding links_of
-three_in_a_cycle none = none (address 1) (address 2 ∷ (address 3 ∷ [])) (record {
-  long = omega arith;
-  different = (
-    λ h. elim h [ inl e ↦ differ 1 2 (omega arith) e | inr k ↦ elim k [ inl e ↦ differ 1 3 (omega arith) e | inr z ↦ z ] ],
-    (λ h. elim h [ inl e ↦ differ 2 3 (omega arith) e | inr z ↦ z ], (λ h. h, tt)),
-  );
-  closed = (address 3, (refl, (refl, refl)), refl);
-})
+three_in_a_cycle none = none (address 1) (address 2 ∷ (address 3 ∷ [])) (grind (arith, differ, address))
   where
     differ : (i j : ℕ) → i ≢ j → address i ≢ address j
     differ i j other e = other (ap (λ (a : Address). a.node) e)
