@@ -1,12 +1,25 @@
 -- Nets with changing link files, by computation: one that stays in order, and for each premise of the law on such nets
 -- a run that misses it and is not orderly.
-use Rattle.std.proofs.Common.{◌≡◌, ℕ, List, [], ◌∷◌, codes, map}
+use Rattle.std.proofs.Common.{◌≡◌, ℕ, List, [], ◌∷◌, codes, map, arith}
 use Rattle.std.specs.Prelude.{Bool, true, filter}
-use Rattle.echo_links.specs.Links.{LinkFile}
+use Rattle.std.specs.Fmt.{digits}
+use Rattle.echo_addr.specs.Entries.{entries, pair_of, tokens}
+use Rattle.echo_text.specs.Lines.{lines, trimmed, begins, after_word}
+use Rattle.echo_text.specs.Tail.{kept_of, path_lists, seen_lists}
+use Rattle.echo_text.specs.Echo.{msgid_of}
+use Rattle.echo_text.specs.Ids.{id_of}
+use Rattle.echo_text.specs.Refusal.{text_refusal}
+use Rattle.echo_links.specs.Links.{LinkFile, links_of}
 use Rattle.echo_filed.specs.declared.key.Key.{Key}
 use Rattle.echo_filed.specs.declared.key.Key.TheVariants.{ById}
+use Rattle.echo_filed.specs.Sets.{address_set, entry_set}
+use Rattle.echo_filed.specs.Written.{echo_of, short_lines, text_of}
 use Rattle.echo_filed.specs.Filed.{key_of, same_key}
 use Rattle.model_steps.specs.declared.draft.Draft.{Draft}
+use Rattle.model_steps.specs.Stamps.{date_of}
+use Rattle.model_steps.specs.Posting.{post_refusal, posted, posted_lines, posting}
+use Rattle.model_steps.specs.Scanning.{copy_to, exported, header_to, packet_to, packets_of, recipients, scanned, targets}
+use Rattle.model_steps.specs.Tossing.{received, toss_outcome, tossing}
 use Rattle.model_run.specs.Event.{RunEvent, Delivery, Posting}
 use Rattle.model_run.specs.Run.{Run}
 use Rattle.model_run.specs.Orderly.{count, sent_count}
@@ -125,3 +138,7 @@ record Epochs : Type 0 where
   -- a system that starts over: 1:10/2 takes its posting for the old one with that key
   taken_for_old : subjects first begun_anew ≡ (codes "00000001" ∷ []) ∷ ((codes "00000001" ∷ []) ∷ ([] ∷ ((codes "Other" ∷ []) ∷ [])))
   and_settled : is_settled begun_anew ≡ true
+
+epochs : Epochs
+unfolding posted posted_lines posting post_refusal id_of trimmed lines digits date_of scanned packets_of recipients packet_to targets links_of address_set header_to copy_to exported entry_set text_of short_lines received toss_outcome tossing text_refusal echo_of kept_of path_lists seen_lists begins after_word entries tokens pair_of key_of msgid_of
+epochs = grind arith

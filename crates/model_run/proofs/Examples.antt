@@ -345,6 +345,11 @@ in_area tag lines = with_text (codes "AREA:" ++ (tag ++ 13 ∷ lines))
 abbrev id_line : List ℕ
 id_line = 1 ∷ codes "MSGID: x 1" ++ 13 ∷ []
 
+-- one id in two areas
+two_areas : outcomes file [] (system 1) (in_area (codes "TEST") id_line ∷ (in_area (codes "OTHER") id_line ∷ [])) ≡ outcome.Filed ∷ (outcome.Filed ∷ [])
+unfolding toss_outcome tossing received text_refusal echo_of lines begins after_word trimmed kept_of seen_lists path_lists entry_set entries tokens pair_of links_of key_of msgid_of
+two_areas = refl
+
 -- without an id the content is the key
 no_id_twice : outcomes file [] (system 1) (in_area (codes "TEST") (codes "Hello") ∷ (in_area (codes "TEST") (codes "Hello") ∷ (in_area (codes "TEST") (codes "Hallo") ∷ []))) ≡
     outcome.Filed ∷ (outcome.Known ∷ (outcome.Filed ∷ []))
@@ -357,9 +362,18 @@ id_tells : tossed file (tossed file [] (system 1) (in_area (codes "TEST") id_lin
 unfolding toss_outcome tossing received text_refusal echo_of lines begins after_word trimmed kept_of seen_lists path_lists entry_set entries tokens pair_of links_of key_of msgid_of
 id_tells = refl
 
+not_linked : toss_outcome file [] (system 4) (in_area (codes "TEST") id_line) ≡ outcome.NotLinked
+unfolding toss_outcome received text_refusal echo_of lines begins after_word trimmed kept_of seen_lists path_lists entry_set entries tokens pair_of links_of
+not_linked = refl
+
 strange_origin : toss_outcome file [] (system 40000) (in_area (codes "TEST") id_line) ≡ outcome.NotLinked
 unfolding toss_outcome received text_refusal echo_of lines begins after_word trimmed kept_of seen_lists path_lists entry_set entries tokens pair_of links_of
 strange_origin = refl
+
+-- no area before no link
+no_area : toss_outcome file [] (system 4) (in_area (codes "NONE") id_line) ≡ outcome.NoArea
+unfolding toss_outcome received text_refusal echo_of lines begins after_word trimmed kept_of seen_lists path_lists entry_set entries tokens pair_of links_of
+no_area = refl
 
 not_echo : toss_outcome file [] (system 1) (with_text (codes "Hello")) ≡ outcome.NotEcho
 unfolding toss_outcome received text_refusal echo_of lines begins after_word trimmed
@@ -377,6 +391,19 @@ blank_tag = refl
 known_not_linked : toss_outcome file (first_received ∷ []) (system 4) first_copy ≡ outcome.NotLinked
 unfolding toss_outcome received text_refusal echo_of lines begins after_word trimmed kept_of seen_lists path_lists entry_set entries tokens pair_of links_of
 known_not_linked = refl
+
+known : toss_outcome file (first_received ∷ []) (system 1) first_copy ≡ outcome.Known
+unfolding toss_outcome received text_refusal echo_of lines begins after_word trimmed kept_of seen_lists path_lists entry_set entries tokens pair_of links_of key_of msgid_of
+known = refl
+
+filed : tossing file [] (system 1) first_copy ≡ Some first_received
+unfolding tossing toss_outcome received text_refusal echo_of lines begins after_word trimmed kept_of seen_lists path_lists entry_set entries tokens pair_of links_of key_of msgid_of
+filed = refl
+
+-- neither the sender nor a system in SEEN-BY is a target
+sender_left_out : targets file (record first_received { echo = record first_received.echo { seen = [] } }) ≡ system 3 ∷ []
+unfolding targets links_of
+sender_left_out = refl
 
 seen_left_out : targets file (record first_received { echo = record first_received.echo { seen = record { net = 10; node = 3 } ∷ [] } }) ≡ []
 unfolding targets links_of

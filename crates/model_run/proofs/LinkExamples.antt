@@ -33,6 +33,10 @@ unknown_word : file_fault (codes "FOO") ≡ Some (fault.UnknownWord 1)
 unfolding file_fault file_lines words line_fault
 unknown_word = refl
 
+small_letters : file_fault (codes "area TEST") ≡ Some (fault.UnknownWord 1)
+unfolding file_fault file_lines words line_fault
+small_letters = refl
+
 remark_after_blank : file_fault (codes " ;x") ≡ Some (fault.UnknownWord 1)
 unfolding file_fault file_lines words line_fault
 remark_after_blank = refl
@@ -94,6 +98,11 @@ repeated_value = refl
 no_tag : file_fault (codes "AREA") ≡ Some (fault.BadTag 1)
 unfolding file_fault file_lines words line_fault
 no_tag = refl
+
+-- L8: over 40 bytes, without the blanks at both ends
+long_name : file_fault (codes "NAME " ++ replicate 41 97) ≡ Some (fault.NameTooLong 1)
+unfolding file_fault file_lines words line_fault
+long_name = refl
 
 name_of_forty : file_fault (line (codes "SYSTEM 1:10/1") ++ (codes "NAME  " ++ (replicate 40 97 ++ codes "  "))) ≡ None
 unfolding file_fault file_lines words line_fault address_refusal

@@ -21,6 +21,15 @@ use Rattle.base_file.specs.BaseFile.{BaseOf, head_bytes, is_damaged, saved_bytes
 use Rattle.model_run.proofs.BaseExamples.{size_with, small, stored_with}
 use Rattle.model_steps.specs.declared.fault.PostFault.TheVariants as fault
 
+small_letters : posting first_file [] (codes "test") draft 1 stamp ≡ Some first_posting
+unfolding posted posting post_refusal
+small_letters = refl
+
+-- B1 before B2; a tag is not trimmed
+no_area : post_refusal first_file [] (codes "NONE") (record draft { body = 0 ∷ [] }) 1 stamp ≡ Some fault.NoArea
+unfolding post_refusal
+no_area = refl
+
 blank_before_tag : post_refusal first_file [] (codes " TEST") draft 1 stamp ≡ Some fault.NoArea
 unfolding post_refusal
 blank_before_tag = refl
@@ -33,6 +42,11 @@ zero_in_subject = refl
 zero_before_length : post_refusal first_file [] (codes "TEST") (record draft { to_name = replicate 36 65; body = 0 ∷ [] }) 1 stamp ≡ Some fault.ByteZero
 unfolding post_refusal
 zero_before_length = refl
+
+-- B3: over 35 bytes, over 71
+long_name : post_refusal first_file [] (codes "TEST") (record draft { to_name = replicate 36 65 }) 1 stamp ≡ Some fault.FieldTooLong
+unfolding post_refusal
+long_name = refl
 
 long_subject : post_refusal first_file [] (codes "TEST") (record draft { subject = replicate 72 65 }) 1 stamp ≡ Some fault.FieldTooLong
 unfolding post_refusal
@@ -78,6 +92,10 @@ reply_before_serial = refl
 -- B4: in each area, also if the message came from a link
 abbrev two_areas : LinkFile
 two_areas = record first_file { areas = record { tag = codes "OTHER"; links = [] } ∷ first_file.areas }
+
+known_serial : post_refusal two_areas (first_posting ∷ []) (codes "TEST") draft 1 stamp ≡ Some fault.KnownSerial
+unfolding post_refusal posted posted_lines id_of trimmed lines digits msgid_of begins after_word
+known_serial = refl
 
 known_elsewhere : post_refusal two_areas (first_posting ∷ []) (codes "OTHER") draft 1 stamp ≡ Some fault.KnownSerial
 unfolding post_refusal posted posted_lines id_of trimmed lines digits msgid_of begins after_word

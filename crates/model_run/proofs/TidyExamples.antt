@@ -11,7 +11,7 @@ use Rattle.model_run.specs.Tidy.{Carries, Tidy, lists}
 use Rattle.model_run.proofs.TosserLaws.{the_laws}
 use Rattle.model_graph.proofs.Members.{Among-at}
 use Rattle.model_run.proofs.Lists.{and-parts, any-from, not_both, Among-map_to}
-use Rattle.model_run.proofs.NetExamples.{address, beside, far, file, one_sided, over_zones, ring, triangle, two_files}
+use Rattle.model_run.proofs.NetExamples.{address, beside, far, file, one_sided, over_zones, own_link, ring, triangle, two_files}
 
 abbrev pub test : List ℕ
 test = codes "TEST"
@@ -22,9 +22,18 @@ is_false e = not_both false e refl
 one_node : (i j : ℕ) → address i ≡ address j → i ≡ j
 one_node i j e = ap (λ (a : Address). a.node) e
 
+-- clause 1: no file has the area
+no_carrier : ¬ Tidy (file 1 [] ∷ []) (codes "OTHER")
+no_carrier t = is_false t.joined.some
+
 -- clause 2: two files with one address
 same_address_twice : ¬ Tidy two_files test
 same_address_twice t = t.joined.one_file.1.0 (inl refl)
+
+-- clause 3: a system that lists itself
+lists_itself : ¬ Tidy own_link test
+unfolding links_of
+lists_itself t = t.joined.no_self (address 1) refl
 
 -- clause 4: a link without a file
 unknown_link : ¬ Tidy (file 1 (9 ∷ []) ∷ []) test

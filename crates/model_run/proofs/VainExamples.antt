@@ -1,7 +1,7 @@
 -- Nets that `check` refuses though their computed run does no harm: for these clauses a no is more careful than
 -- necessary. And a tidy net with a cycle, which a rule against all cycles would refuse.
 use Rattle.std.proofs.Common.{◌≡◌, ◌≢◌, inl, refl, ap, ℕ, arith, List, [], ◌∷◌, codes}
-use Rattle.std.specs.Prelude.{true}
+use Rattle.std.specs.Prelude.{true, false}
 use Rattle.std.specs.Fmt.{digits}
 use Rattle.echo_addr.specs.declared.address.Address.{Address}
 use Rattle.echo_addr.specs.Entries.{entries, pair_of, tokens}
@@ -47,6 +47,16 @@ twins = carrier (address 1) (far ∷ []) ∷ (carrier far (address 1 ∷ []) ∷
 -- these nets are not tidy
 two_of_one_address : ¬ Tidy second_file test
 two_of_one_address t = t.joined.one_file.1.0 (inl refl)
+
+no_carrier : ¬ Tidy to_another test
+unfolding links_of
+no_carrier t = differ (t.joined.known (address 1) (address 3) refl)
+  where
+    differ : (let no_bit = false in no_bit ≡ true) → ⊥
+    differ e = cc
+
+one_net_node : ¬ Tidy twins test
+one_net_node t = grind arith
 
 -- but a posting of the first system comes to each carrier once, and nothing is sent again; so does a posting of the
 -- second twin
