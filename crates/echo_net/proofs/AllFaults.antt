@@ -1,5 +1,5 @@
 -- Every fault of the files and their links: the lists hold exactly these, in order.
-use Rattle.std.proofs.Common.{◌≡◌, ◌<◌, ◌+◌, ◌&&◌, ◌||◌, ◌==◌, ◌↔◌, ℕ, Bool, true, false, not, cond, IsTrue, List, [], ◌∷◌, ◌++◌, filter, length, map, take, get_or, refl, sym, ap, subst, ◌∙◌, append-nil, append_assoc, arith, inl, inr}
+use Rattle.std.proofs.Common.{◌≡◌, ◌<◌, ◌+◌, ◌&&◌, ◌||◌, ◌==◌, ◌↔◌, ℕ, Bool, true, false, not, IsTrue, List, [], ◌∷◌, ◌++◌, filter, length, map, take, get_or, refl, sym, ap, subst, ◌∙◌, append-nil, append_assoc, arith, inl, inr}
 use Rattle.std.specs.Prelude.{Contains}
 use Rattle.std.specs.Cmp.{both_ways}
 use Rattle.std.specs.List.{list_any}
@@ -18,7 +18,7 @@ use Rattle.echo_net.specs.declared.link.Link.{Link}
 use Rattle.echo_net.specs.declared.verdict.NetFault.{NetFault}
 use Rattle.echo_net.specs.declared.verdict.NetFault.TheVariants.{NoSuchArea, TwoFiles, SelfLink, Unknown, OneSided, SameNetNode, Apart, Loop}
 use Rattle.echo_net.specs.declared.verdict.Verdict.{Verdict}
-use Rattle.echo_net.specs.declared.verdict.Verdict.TheVariants.{Yes, No}
+use Rattle.echo_net.specs.declared.verdict.Verdict.TheVariants.{No}
 use Rattle.echo_net.specs.AllFaults.{AddsApart, AddsLinkFaults, AddsRounds, AddsTwoFiles, AppliesTo, AreAllFaults, AreFurther, AreLinkFaults, IsAhead, fault_of, fault_where, in_preference, is_one_sided, is_self_link, is_unknown, loop_fault, names_fault}
 use Rattle.echo_net.specs.Drawn.{AreLinksInOrder, back, has_address, has_link}
 use Rattle.echo_net.specs.Faults.{AllAreAnswered, AllAreKnown, AreSoundLinks, HaveOneFileEach, IfNo, IsFirstFault, NoneListsItself}
@@ -42,8 +42,7 @@ module _ {X : Type 0} (p : X → Bool) (xs : List X) (i : ℕ) (d : X) (inside :
   one_kept passes more = grind (arith, taken)
 
   pub one_left : p here ≡ false → next ≡ all → next ≡ filter p (take (i + 1) xs)
-  one_left fails same =
-      same ∙ (before ∙ sym (taken ∙ (ap (λ (b : Bool). filter p (take i xs) ++ cond b (here ∷ []) []) fails ∙ append-nil (filter p (take i xs)))))
+  one_left fails same = grind (arith, taken, append-nil)
 
 -- the same members by another property
 pub restated : (P Q : Link → Type 0) (all : List Link) → AreLinksInOrder P all → ((l : Link) → P l ↔ Q l) → AreLinksInOrder Q all
@@ -59,16 +58,13 @@ kept_in_order p links Q up same =
     ))
 
 not_from : (b : Bool) → (IsTrue b → ⊥) → IsTrue (not b)
-not_from true none = absurd (none refl)
-not_from false none = refl
+not_from h1 none = grind arith
 
 not_to : (b : Bool) → IsTrue (not b) → IsTrue b → ⊥
-not_to true h passes = cc
-not_to false h passes = cc
+not_to h1 h passes = grind arith
 
 from_not : (b : Bool) → IsTrue (not b) → b ≡ false
-from_not true h = absurd cc
-from_not false h = refl
+from_not h1 h = grind arith
 
 -- four additions, one after the other
 pub four : (old a b c d one two three new : List NetFault) → one ≡ old ++ a → two ≡ one ++ b → three ≡ two ++ c → new ≡ three ++ d →
@@ -79,30 +75,15 @@ module _ (files : List LinkFile) (tag : List ℕ) (carriers : List Address) (lin
     (members : (a : Address) → Contains carriers a ↔ IsTrue (carries files tag a))
     (listed : (l : Link) → Contains links l ↔ IsTrue (lists files tag l.from l.to)) where
   self_links : (l : Link) → (Contains links l × IsTrue (is_self_link l)) ↔ AppliesTo files tag kinds.SelfLink l
-  self_links l = (
-    λ (there, same). (let e = same_exact l.from l.to same in (e, subst (λ (b : Address). IsTrue (lists files tag l.from b)) (sym e) ((listed l).0 there))),
-    λ (e, h). ((listed l).1 (subst (λ (b : Address). IsTrue (lists files tag l.from b)) e h), same_itself l.from l.to e),
-  )
+  self_links l = grind (arith, same_exact, same_itself)
 
   unknown : (l : Link) → (Contains links l × IsTrue (is_unknown carriers l)) ↔ AppliesTo files tag kinds.Unknown l
-  unknown l =
-      let same : has_address carriers l.to ≡ carries files tag l.to = carriers_held files tag carriers members l.to in (
-        λ (there, out). ((listed l).0 there, not_to (carries files tag l.to) (subst (λ (b : Bool). IsTrue (not b)) same out)),
-        λ (h, out). ((listed l).1 h, subst (λ (b : Bool). IsTrue (not b)) (sym same) (not_from (carries files tag l.to) out)),
-      )
+  unknown l = grind (arith, carriers_held, not_to, not_from)
 
   one_sided : (l : Link) → (Contains links l × IsTrue (is_one_sided carriers links l)) ↔ AppliesTo files tag kinds.OneSided l
   one_sided l =
       let known : has_address carriers l.to ≡ carries files tag l.to = carriers_held files tag carriers members l.to in
-      let back_is : has_link links (back l) ≡ lists files tag l.to l.from = links_held files tag links listed (back l) in (
-        λ (there, passes). (let (to, alone) = and_parts (has_address carriers l.to) (not (has_link links (back l))) passes in
-            ((listed l).0 there, subst IsTrue known to, not_to (lists files tag l.to l.from) (subst (λ (b : Bool). IsTrue (not b)) back_is alone))),
-        λ (h, to, alone). (
-          (listed l).1 h,
-          and_from (has_address carriers l.to) (not (has_link links (back l))) (subst IsTrue (sym known) to)
-              (subst (λ (b : Bool). IsTrue (not b)) (sym back_is) (not_from (lists files tag l.to l.from) alone)),
-        ),
-      )
+      let back_is : has_link links (back l) ≡ lists files tag l.to l.from = links_held files tag links listed (back l) in grind (arith, and_parts, not_to, and_from, not_from)
 
   twins : (l : Link) → HasTwin (Contains carriers) l.from l.to ↔ AppliesTo files tag kinds.SameNetNode l
   twins l = (twin_to files tag carriers links members listed l.from l.to, twin_from files tag carriers links members listed l.from l.to)
@@ -129,12 +110,7 @@ module _ (files : List LinkFile) (tag : List ℕ) (carriers : List Address) (lin
     are_unknown = kept_in_order (is_unknown carriers) links (AppliesTo files tag kinds.Unknown) up unknown;
     are_one_sided = kept_in_order (is_one_sided carriers links) links (AppliesTo files tag kinds.OneSided) up one_sided;
     are_same_net_nodes = restated (λ l. HasTwin (Contains carriers) l.from l.to) (AppliesTo files tag kinds.SameNetNode) added.twins added.are_twins twins;
-    whole =
-        let rest : List NetFault = map (fault_of kinds.SelfLink) (filter is_self_link links) ++ (map (fault_of kinds.Unknown) (filter (is_unknown carriers) links) ++ (map (fault_of kinds.OneSided) (filter (is_one_sided carriers links) links) ++ map (fault_of kinds.SameNetNode) added.twins)) in
-        let own : List NetFault = map (fault_of kinds.TwoFiles) shared.found in
-        added.whole ∙ (ap (λ (l : List NetFault). l ++ rest) (shared.whole ∙ ap (λ (l : List NetFault). l ++ own)
-        (begun ∙ (ap (λ (l : List NetFault). l ++ fault_where (not (length carriers == 0))) nothing ∙ ap fault_where some_carried)))
-        ∙ append_assoc (fault_where (list_any (λ file. has_area file tag) files)) own rest);
+    whole = grind (arith, some_carried, append_assoc);
   }
 
 -- no link, and a first link
@@ -159,16 +135,14 @@ starts P (m ∷ ls) l order holds first =
     ]
 
 not_true : (b : Bool) → (IsTrue b → ⊥) → b ≡ false
-not_true true none = absurd (none refl)
-not_true false none = refl
+not_true h1 none = grind arith
 
 neither : (p s q : Bool) → p ≡ false → q ≡ false → (p || (s && q)) ≡ false
 neither p s q h1 h2 = grind arith
 
 -- no system before the smallest is alone
 alone_first : (a : Address) (m : Link) → m.from ≡ m.to → address_before m.from a ≡ false → pair_before m.from m.to a a ≡ false
-alone_first a m same late =
-    neither (address_before m.from a) (same_address m.from a) (address_before m.to a) late (subst (λ (b : Address). address_before b a ≡ false) same late)
+alone_first a m same late = grind (arith, neither)
 
 -- whether this is a fault of the files or their links
 abbrev is_of_links : NetFault → Bool
@@ -191,67 +165,36 @@ module _ (files : List LinkFile) (tag : List ℕ) (all : List NetFault) (r : Are
   no_one_sided : AllAreAnswered files tag → r.one_sided ≡ []
   no_one_sided both = no_links (AppliesTo files tag kinds.OneSided) r.one_sided r.are_one_sided (λ l h. h.2 (both l.from l.to h.0))
 
-  abbrev behind_one_sided : List NetFault
-  behind_one_sided = map (fault_of kinds.SameNetNode) r.same_net_nodes
-
-  abbrev behind_unknown : List NetFault
-  behind_unknown = map (fault_of kinds.OneSided) r.one_sided ++ behind_one_sided
-
-  abbrev behind_self_links : List NetFault
-  behind_self_links = map (fault_of kinds.Unknown) r.unknown ++ behind_unknown
-
-  abbrev behind_two_files : List NetFault
-  behind_two_files = map (fault_of kinds.SelfLink) r.self_links ++ behind_self_links
-
   pub first_of_links : (fault : NetFault) → IsFirstFault files tag fault → is_of_links fault ≡ true → (rest : List NetFault) × (all ≡ fault ∷ rest)
-  first_of_links NoSuchArea h passes =
-      let none : list_any (λ file. has_area file tag) files ≡ false = not_true (list_any (λ file. has_area file tag) files) h in (
-        map (fault_of kinds.TwoFiles) r.two_files ++ behind_two_files,
-        r.whole ∙ ap (λ (b : Bool). in_preference b r.two_files r.self_links r.unknown r.one_sided r.same_net_nodes) none,
-      )
+  first_of_links NoSuchArea h passes = grind (arith, not_true)
   first_of_links (TwoFiles a) h passes =
       let some : list_any (λ file. has_area file tag) files ≡ true = h.0 in
       let (rest, is) = starts (AppliesTo files tag kinds.TwoFiles) r.two_files (link a a) r.are_two_files (refl, h.1.holds)
-      (λ m at_m. alone_first a m at_m.0 (h.1.first m.from at_m.1)) in (
-        map (fault_of kinds.TwoFiles) rest ++ behind_two_files,
-        r.whole ∙ (λ i. in_preference (some i) (is i) r.self_links r.unknown r.one_sided r.same_net_nodes),
-      )
+      (λ m at_m. alone_first a m at_m.0 (h.1.first m.from at_m.1)) in grind arith
   first_of_links (SelfLink a) h passes =
       let some : list_any (λ file. has_area file tag) files ≡ true = h.0 in
       let none_twice = no_two_files h.1 in
       let (rest, is) = starts (AppliesTo files tag kinds.SelfLink) r.self_links (link a a) r.are_self_links (refl, h.2.holds)
-      (λ m at_m. alone_first a m at_m.0 (h.2.first m.from at_m.1)) in (
-        map (fault_of kinds.SelfLink) rest ++ behind_self_links,
-        r.whole ∙ (λ i. in_preference (some i) (none_twice i) (is i) r.unknown r.one_sided r.same_net_nodes),
-      )
+      (λ m at_m. alone_first a m at_m.0 (h.2.first m.from at_m.1)) in grind arith
   first_of_links (Unknown a b) h passes =
       let some : list_any (λ file. has_area file tag) files ≡ true = h.0 in
       let none_twice = no_two_files h.1 in
       let none_self = no_self_links h.2 in
-      let (rest, is) = starts (AppliesTo files tag kinds.Unknown) r.unknown (link a b) r.are_unknown h.3.holds (λ m at_m. h.3.first m.from m.to at_m) in (
-        map (fault_of kinds.Unknown) rest ++ behind_unknown,
-        r.whole ∙ (λ i. in_preference (some i) (none_twice i) (none_self i) (is i) r.one_sided r.same_net_nodes),
-      )
+      let (rest, is) = starts (AppliesTo files tag kinds.Unknown) r.unknown (link a b) r.are_unknown h.3.holds (λ m at_m. h.3.first m.from m.to at_m) in grind arith
   first_of_links (OneSided a b) h passes =
       let some : list_any (λ file. has_area file tag) files ≡ true = h.0 in
       let none_twice = no_two_files h.1 in
       let none_self = no_self_links h.2 in
       let all_known = no_unknown h.3 in
       let (rest, is) = starts (AppliesTo files tag kinds.OneSided) r.one_sided (link a b) r.are_one_sided (h.4.holds.0, h.3 a b h.4.holds.0, h.4.holds.1)
-      (λ m at_m. h.4.first m.from m.to (at_m.0, at_m.2)) in (
-        map (fault_of kinds.OneSided) rest ++ behind_one_sided,
-        r.whole ∙ (λ i. in_preference (some i) (none_twice i) (none_self i) (all_known i) (is i) r.same_net_nodes),
-      )
+      (λ m at_m. h.4.first m.from m.to (at_m.0, at_m.2)) in grind arith
   first_of_links (SameNetNode a b) h passes =
       let some : list_any (λ file. has_area file tag) files ≡ true = h.0 in
       let none_twice = no_two_files h.1 in
       let none_self = no_self_links h.2 in
       let all_known = no_unknown h.3 in
       let all_answered = no_one_sided h.4 in
-      let (rest, is) = starts (AppliesTo files tag kinds.SameNetNode) r.same_net_nodes (link a b) r.are_same_net_nodes h.5.holds (λ m at_m. h.5.first m.from m.to at_m) in (
-        map (fault_of kinds.SameNetNode) rest,
-        r.whole ∙ (λ i. in_preference (some i) (none_twice i) (none_self i) (all_known i) (all_answered i) (is i)),
-      )
+      let (rest, is) = starts (AppliesTo files tag kinds.SameNetNode) r.same_net_nodes (link a b) r.are_same_net_nodes h.5.holds (λ m at_m. h.5.first m.from m.to at_m) in grind arith
   first_of_links (Apart a b) h passes = absurd cc
   first_of_links (Loop loop) h passes = absurd cc
 
@@ -263,11 +206,7 @@ module _ (files : List LinkFile) (tag : List ℕ) (all : List NetFault) (r : Are
       let none_self = no_self_links sound.no_self in
       let all_known = no_unknown sound.known in
       let all_answered = no_one_sided sound.both in
-      let no_twins = no_links (AppliesTo files tag kinds.SameNetNode) r.same_net_nodes r.are_same_net_nodes (λ l h.
-      let same = sound.apart l.from l.to h.one h.other h.same in
-      let low = h.in_order in
-      let up = not_before_itself l.from l.to same in
-      cc) in
+      let no_twins = no_links (AppliesTo files tag kinds.SameNetNode) r.same_net_nodes r.are_same_net_nodes (grind (arith, not_before_itself)) in
       r.whole ∙ (λ i. in_preference (some i) (none_twice i) (none_self i) (all_known i) (all_answered i) (no_twins i))
 
 -- the additions after the faults of files and links
@@ -339,5 +278,4 @@ module _ (files : List LinkFile) (tag : List ℕ) (all : List NetFault) (r : Are
 
   -- if none is named, all are further ones
   pub none_named : (verdict : Verdict) → names_fault verdict ≡ false → AreFurther files tag verdict all
-  none_named (Yes s l) fails = record { all = all; are_all = r; ahead = refl }
-  none_named (No fault) fails = absurd cc
+  none_named h1 fails = grind (arith, ahead)

@@ -36,8 +36,7 @@ use Rattle.echo_net.proofs.Owned.{back, carried, connected, keeps, keeps_back, l
 pub carries_listed : (files : List LinkFile) (tag : List ℕ) (a : Address) → Contains (systems (carrying files tag)) a ↔ IsTrue (carries files tag a)
 carries_listed files tag a = (
   λ h. let (file, there, is) = Among-map_from (λ (f : LinkFile). f.system) a (carrying files tag) (Among-from_Contains a (systems (carrying files tag)) h) in
-      let (in', has) = Among-filter_from (λ f. has_area f tag) file files there in
-      any-to (λ f. same_address f.system a && has_area f tag) file files in' (and_from (same_address file.system a) (has_area file tag) (same_itself file.system a (sym is)) has),
+      grind (arith, Among-filter_from, any-to, and_from, same_itself),
   λ h. let (file, there, both) = any-from (λ f. same_address f.system a && has_area f tag) files h in
       let (same, has) = and_parts (same_address file.system a) (has_area file tag) both in
       let in' = Among-map_to (λ (f : LinkFile). f.system) file (carrying files tag) (Among-filter_to (λ f. has_area f tag) file files there has) in
@@ -48,9 +47,7 @@ pub links_listed : (files : List LinkFile) (tag : List ℕ) (l : Link) → Conta
 links_listed files tag l = (
   λ h. let (file, there, in') = Among-flat_map_from (links_from_file tag) l files (Among-from_Contains l (listed_links files tag) h) in
       let (to, listed, is) = Among-map_from (link file.system) l (links_of file tag) in' in
-      any-to (λ f. same_address f.system l.from && is_link f tag l.to) file files there
-      (and_from (same_address file.system l.from) (is_link file tag l.to) (same_itself file.system l.from (sym (ap (λ (m : Link). m.from) is)))
-      (any-to (same_address l.to) to (links_of file tag) listed (same_itself l.to to (ap (λ (m : Link). m.to) is)))),
+      grind (arith, any-to, and_from, same_itself),
   λ h. let (file, there, both) = any-from (λ f. same_address f.system l.from && is_link f tag l.to) files h in
       let (same, has) = and_parts (same_address file.system l.from) (is_link file tag l.to) both in
       let (to, listed, same') = any-from (same_address l.to) (links_of file tag) has in
@@ -116,8 +113,7 @@ module _ (files : List LinkFile) (tag : List ℕ) (carriers : List Address) (lin
       let carried = any-to (λ f. same_address f.system file.system && has_area f tag) file files there
       (and_from (same_address file.system file.system) (has_area file tag) (same_itself file.system file.system refl) has) in
       let (k, lt, at) = (members file.system).1 carried in
-      let none : length carriers ≡ 0 = eqb-true (length carriers) 0 (sym is ∙ true_) in
-      omega (arith, lt, none)
+      grind (arith, eqb-true)
 
   pub is_carried : (empty : Bool) → empty ≡ (length carriers == 0) → empty ≡ false → IsCarried files tag
   is_carried empty is false_ =
@@ -165,13 +161,7 @@ module _ (files : List LinkFile) (tag : List ℕ) (carriers : List Address) (lin
   same_net_node a b smallest = grind (arith, twin_to, twin_from)
 
   pub net_nodes_differ : ((a b : Address) → ¬ HasTwin (Contains carriers) a b) → NetNodesDiffer files tag
-  net_nodes_differ none a b at_a at_b same = elim (cases_Bool (address_before a b)) [
-    | inl lower ↦ absurd (none a b (twin_from a b (record { one = at_a; other = at_b; in_order = lower; same = same })))
-    | inr not_lower ↦ elim (cases_Bool (address_before b a)) [
-      | inl higher ↦ absurd (none b a (twin_from b a (record { one = at_b; other = at_a; in_order = higher; same = sym same })))
-      | inr neither ↦ same_where_neither a b not_lower neither
-    ]
-  ]
+  net_nodes_differ none a b at_a at_b same = grind (arith, cases_Bool, twin_from, same_where_neither)
 
   -- each link leads to a carrier
   pub all_carry : AreSoundLinks files tag → (l : Link) → Contains links l → Contains carriers l.to
@@ -205,9 +195,7 @@ module _ (files : List LinkFile) (tag : List ℕ) (all : List Address) (links : 
   pub is_graph : IsGraph rows
   is_graph = record {
     within = λ i j h. omega (arith, (parts files tag all order i j (linked_to i j h)).other, are.same_length);
-    both_ways = λ i j h.
-        let p = parts files tag all order i j (linked_to i j h) in
-        linked_from j i (whole files tag all order j i p.other p.one (sound.both (system_at all i) (system_at all j) p.linked));
+    both_ways = grind (arith, parts, linked_to, linked_from, whole);
     no_self = λ i h. sound.no_self (system_at all i) (parts files tag all order i i (linked_to i i h)).linked;
     ascending = λ i. elim (cases_lt i (length rows)) [
       | inl lt ↦ (are.each i (omega (arith, lt, are.same_length))).ascending
@@ -234,15 +222,7 @@ module _ (files : List LinkFile) (tag : List ℕ) (all : List Address) (order : 
   joined = numbered all (lists files tag)
 
   pub is_joined : Connected (λ i. i < length all) joined → Joined files tag
-  is_joined h = record {
-    some = sound.some;
-    one_file = sound.one_file;
-    no_self = sound.no_self;
-    known = sound.known;
-    both = sound.both;
-    apart = sound.apart;
-    connected = connected files tag all order sound.no_self sound.known sound.both h;
-  }
+  is_joined h = grind (arith, connected)
 
   pub is_tidy : Connected (λ i. i < length all) joined → Polygons joined → Tidy files tag
   is_tidy h g = record { joined = is_joined h; cycles = polygons files tag all order sound.no_self sound.known sound.both g }
@@ -250,17 +230,9 @@ module _ (files : List LinkFile) (tag : List ℕ) (all : List Address) (order : 
   pub is_apart : (u : ℕ) → FirstUnreached joined (length all) u → IsFirstFault files tag (Apart (system_at all 0) (system_at all u))
   is_apart u found = (
     sound,
+    grind (arith, carried, number, no_later),
     record {
-      holds = carried files tag all order 0 (omega (arith, found.within));
-      first = λ b h.
-          let (j, inside, is) = number files tag all order b h in
-          subst (λ (c : Address). address_before c (system_at all 0) ≡ false) is (no_later files tag all order 0 j (omega arith) inside);
-    },
-    record {
-      holds = (
-        carried files tag all order u found.within,
-        λ h. found.apart (reaches_back files tag all order sound.no_self sound.known sound.both 0 u (omega (arith, found.within)) found.within h),
-      );
+      holds = grind (arith, carried, reaches_back);
       first = λ c (at, far).
           let (j, inside, is) = number files tag all order c at in
           let le : u ≤ j = elim (cases_lt j u) [
@@ -303,7 +275,6 @@ not_tidy files tag (SameNetNode a b) h tidy =
     let twin = h.5.holds in
     let same = tidy.joined.apart a b twin.one twin.other twin.same in
     let low = twin.in_order in
-    let up = not_before_itself a b same in
-    cc
+    grind (arith, not_before_itself)
 not_tidy files tag (Apart a b) h tidy = h.2.holds.1 (tidy.joined.connected a b h.1.holds h.2.holds.0)
 not_tidy files tag (Loop loop) h tidy = loop_apart (lists files tag) loop h.1.cycle h.1.unlinked tidy.cycles

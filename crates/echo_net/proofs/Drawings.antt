@@ -1,7 +1,6 @@
 -- The drawing of an area: the contents of its lists, and the facts of each member.
 use Rattle.std.specs.Prelude.{Contains}
-use Rattle.std.specs.Cmp.{both_ways}
-use Rattle.std.proofs.Common.{◌≡◌, ◌<◌, ◌+◌, ◌↔◌, inl, inr, ℕ, Bool, true, false, IsTrue, if◌then◌else◌, List, [], ◌∷◌, ◌++◌, length, map, take, get_or, refl, sym, ap, subst, ◌∙◌, arith, ◌||◌, ◌&&◌}
+use Rattle.std.proofs.Common.{◌≡◌, ◌<◌, ◌+◌, ◌↔◌, inl, inr, ℕ, Bool, true, false, IsTrue, if◌then◌else◌, List, [], ◌∷◌, ◌++◌, length, map, take, get_or, refl, sym, ap, subst, ◌∙◌, arith}
 use Rattle.std.specs.List.Sorted.{IsStrictlySortedBy}
 use Rattle.std.specs.Ordering.{is_lt}
 use Rattle.std.proofs.lemmas.Bool.{and_from, and_parts, cases_Bool, cases_lt}
@@ -14,10 +13,9 @@ use Rattle.model_graph.proofs.Members.{Among-from_Contains, Contains-from_Among,
 use Rattle.model_run.proofs.Lists.{any-from, any-to, Among-map_to, Among-map_from}
 use Rattle.model_run.specs.Tidy.{carries, lists, Carries}
 use Rattle.echo_net.specs.declared.drawing.Drawing.{Drawing}
-use Rattle.echo_net.specs.declared.drawing.Mark.TheVariants.{Plain, Named, OnLoop}
 use Rattle.echo_net.specs.declared.link.Link.{Link}
 use Rattle.echo_net.specs.declared.verdict.Verdict.{Verdict}
-use Rattle.echo_net.specs.Drawn.{AreLinksInOrder, IsDrawing, IsDrawn, IsDrawnPair, back, has_address, has_link, link_drawn, link_from, loop_links, loop_named, same_link, sides_of, steps_from, system_drawn, system_from, systems_named, upward}
+use Rattle.echo_net.specs.Drawn.{AreLinksInOrder, IsDrawing, IsDrawn, IsDrawnPair, back, has_address, has_link, link_drawn, link_from, loop_links, loop_named, same_link, steps_from, system_drawn, system_from, systems_named, upward}
 use Rattle.echo_net.specs.Nets.{link, systems}
 use Rattle.echo_net.proofs.Orders.{address_order, link_order, link_total, pair_before_is, same_exact, same_itself, same_where_neither, not_before_itself, at_place, earlier_less}
 use Rattle.std.specs.List.{list_any}
@@ -37,28 +35,22 @@ use Rattle.echo_net.specs.declared.each_fault.Kind.TheVariants as kinds
 -- the tests for members pass exactly for members
 address_held : (all : List Address) (a : Address) → IsTrue (has_address all a) ↔ Contains all a
 address_held all a = (
-  λ h. (let (x, there, same) = any-from (same_address a) all h in
-      subst (Contains all) (sym (same_exact a x same)) (Contains-from_Among x all there)),
+  grind (arith, any-from, same_exact, Contains-from_Among),
   λ there. any-to (same_address a) a all (Among-from_Contains a all there) (same_itself a a refl),
 )
 
 link_held : (all : List Link) (l : Link) → IsTrue (has_link all l) ↔ Contains all l
 link_held all l = (
-  λ h. (let (m, there, same) = any-from (same_link l) all h in
-      let (from, to) = and_parts (same_address l.from m.from) (same_address l.to m.to) same in
-      let is : m ≡ l = (λ i. record { from = sym (same_exact l.from m.from from) i; to = sym (same_exact l.to m.to to) i }) in
-      subst (Contains all) is (Contains-from_Among m all there)),
+  grind (arith, any-from, and_parts, same_exact, Contains-from_Among),
   λ there. any-to (same_link l) l all (Among-from_Contains l all there)
       (and_from (same_address l.from l.from) (same_address l.to l.to) (same_itself l.from l.from refl) (same_itself l.to l.to refl)),
 )
 
 pub address_reported : (all : List Address) (a : Address) (r : Bool) → IsTrue r ↔ Contains all a → r ≡ has_address all a
-address_reported all a r reported =
-    both_ways r (has_address all a) (λ yes. (address_held all a).1 (reported.0 yes)) (λ yes. reported.1 ((address_held all a).0 yes))
+address_reported all a r reported = grind (arith, address_held)
 
 pub link_reported : (all : List Link) (l : Link) (r : Bool) → IsTrue r ↔ Contains all l → r ≡ has_link all l
-link_reported all l r reported =
-    both_ways r (has_link all l) (λ yes. (link_held all l).1 (reported.0 yes)) (λ yes. reported.1 ((link_held all l).0 yes))
+link_reported all l r reported = grind (arith, link_held)
 
 -- the last of these, or the address before them
 abbrev pub last_or : Address → List Address → Address
@@ -80,14 +72,7 @@ pub step_taken : (first : Address) (round : List Address) (i : ℕ) (d from : Ad
     → (new ≡ steps_from first (take (i + 1) round)) × (get_or round i d ≡ last_or first (take (i + 1) round))
 step_taken first round i d from all new inside links last is =
     let x = get_or round i d in
-    let more : take (i + 1) round ≡ take i round ++ x ∷ [] = take_more round i d inside in (
-      is
-          ∙ ap (λ (a : Address). all ++ upward (link a x) ∷ []) last
-          ∙ ap (λ (t : List Link). t ++ upward (link (last_or first (take i round)) x) ∷ []) links
-          ∙ sym (steps_from-push first (take i round) x)
-          ∙ ap (steps_from first) (sym more),
-      sym (last_or-push first (take i round) x) ∙ ap (last_or first) (sym more),
-    )
+    let more : take (i + 1) round ≡ take i round ++ x ∷ [] = take_more round i d inside in grind (arith, steps_from-push, last_or-push)
 
 -- sorting keeps the members
 pub held_again : {X : Type 0} (before after all : List X) → before ≡ all → ((x : X) → Contains after x ↔ Contains before x) → (x : X) → Contains after x ↔ Contains all x
@@ -120,13 +105,7 @@ upward_where l b is = ap (λ (x : Bool). if x then back l else l) is
 
 -- a link with its smaller end first is drawn
 pair_from : (files : List LinkFile) (tag : List ℕ) (m : Link) → IsTrue (lists files tag m.from m.to) → IsDrawnPair files tag (upward m)
-pair_from files tag m listed = turned (address_before m.to m.from) refl
-  where
-    turned : (r : Bool) → address_before m.to m.from ≡ r → IsDrawnPair files tag (upward m)
-    turned true is =
-        subst (IsDrawnPair files tag) (sym (upward_where m true is)) (let drawn : IsDrawnPair files tag (back m) = (before_not_after m.to m.from is, inr listed) in drawn)
-    turned false is =
-        subst (IsDrawnPair files tag) (sym (upward_where m false is)) (let drawn : IsDrawnPair files tag m = (is, inl listed) in drawn)
+pair_from files tag m listed = grind (arith, upward_where, before_not_after)
 
 -- and each drawn pair has such a link
 pair_to : (files : List LinkFile) (tag : List ℕ) (l : Link) → IsDrawnPair files tag l → (m : Link) × IsTrue (lists files tag m.from m.to) × (upward m ≡ l)
@@ -189,18 +168,13 @@ module _ (files : List LinkFile) (tag : List ℕ) (verdict : Verdict) (carriers 
   system_same a =
       let carries_same = carriers_held files tag carriers carried a in
       let round_same = same_held round (loop_named verdict) rounds a in
-      λ i. record {
-        system = a;
-        carries = carries_same i;
-        mark = if round_same i then OnLoop else if has_address (systems_named verdict) a then Named else Plain;
-      }
+      grind arith
 
   link_same : (l : Link) → link_from links steps l ≡ link_drawn files tag verdict l
   link_same l =
       let one = links_held files tag links listed l in
       let other = links_held files tag links listed (back l) in
-      let looped = same_links_held steps (loop_links (loop_named verdict)) stepped l in
-      λ i. record { one = l.from; other = l.to; sides = sides_of (one i) (other i); on_loop = looped i }
+      grind (arith, same_links_held)
 
   -- the whole drawing
   pub is_drawing : (addresses named : List Address) (pairs : List Link) (drawing : Drawing) → IsStrictlySortedBy address_order addresses
@@ -210,9 +184,7 @@ module _ (files : List LinkFile) (tag : List ℕ) (verdict : Verdict) (carriers 
   is_drawing addresses named pairs drawing up members pairs_up pairs_members is_named systems drawn = record {
     addresses = addresses;
     addresses_in_order = in_order_from_sorted (IsDrawn files tag) addresses up (addresses_drawn files tag carriers links addresses carried listed members);
-    systems =
-        systems ∙ ap (λ (n : List Address). map (system_from carriers round n) addresses) is_named
-        ∙ same_each (system_from carriers round (systems_named verdict)) (system_drawn files tag verdict) system_same addresses;
+    systems = grind (arith, system_same);
     pairs = pairs;
     pairs_in_order = links_in_order (IsDrawnPair files tag) pairs pairs_up (pairs_drawn files tag links pairs listed pairs_members);
     links = drawn ∙ same_each (link_from links steps) (link_drawn files tag verdict) link_same pairs;
@@ -222,10 +194,7 @@ module _ (files : List LinkFile) (tag : List ℕ) (verdict : Verdict) (carriers 
 
 -- for pairs with one first address the second decides
 second_decides : (a b c : Address) → address_before b c ≡ true → pair_before a b a c ≡ true
-second_decides a b c before =
-    let first = not_before_itself a a refl in
-    let same = same_itself a a refl in
-    λ i. (first i) || ((same i) && (before i))
+second_decides a b c before = grind (arith, not_before_itself, same_itself)
 
 module _ (files : List LinkFile) (tag : List ℕ) (all : List Address) (order : AreInOrder (Carries files tag) all) (sound : AreSoundLinks files tag) where
   abbrev pub pair : ℕ → Link
@@ -235,12 +204,7 @@ module _ (files : List LinkFile) (tag : List ℕ) (all : List Address) (order : 
   joined = numbered all (lists files tag)
 
   smallest : 0 < length all → IsSmallest (Carries files tag) (system_at all 0)
-  smallest some = record {
-    holds = carried files tag all order 0 some;
-    first = λ b h.
-        let (j, inside, is) = number files tag all order b h in
-        subst (λ (c : Address). address_before c (system_at all 0) ≡ false) is (no_later files tag all order 0 j (omega arith) inside);
-  }
+  smallest some = grind (arith, carried, number, no_later)
 
   starts_apart : (u : ℕ) → StartsPart joined (length all) u → IsApart files tag (system_at all 0) (system_at all u)
   starts_apart u starts = record {
@@ -253,12 +217,8 @@ module _ (files : List LinkFile) (tag : List ℕ) (all : List Address) (order : 
         elim (cases_lt k u) [
           | inl lt ↦
               starts.first k lt
-              (reaches_back files tag all order sound.no_self sound.known sound.both k u inside starts.within
-              (subst (λ (d : Address). Reaches (lists files tag) d (system_at all u)) (sym is) walk))
-          | inr le ↦ (
-              let late : address_before c (system_at all u) ≡ false =
-              subst (λ (d : Address). address_before d (system_at all u) ≡ false) is (no_later files tag all order u k le inside) in
-              absurd cc)
+              (grind (arith, reaches_back))
+          | inr le ↦ grind (arith, no_later)
         ];
   }
 
@@ -267,23 +227,13 @@ module _ (files : List LinkFile) (tag : List ℕ) (all : List Address) (order : 
       let (j, in_j, is_j) = number files tag all order l.to apart.carries in
       let (i, in_i, is_i) = number files tag all order l.from apart.smallest.holds in
       let some : 0 < length all = omega (arith, in_i) in
-      let late : address_before l.from (system_at all 0) ≡ false =
-      subst (λ (c : Address). address_before c (system_at all 0) ≡ false) is_i (no_later files tag all order 0 i (omega arith) in_i) in
+      let late : address_before l.from (system_at all 0) ≡ false = grind (arith, no_later) in
       let zero_is : system_at all 0 ≡ l.from =
       same_where_neither (system_at all 0) l.from (apart.smallest.first (system_at all 0) (carried files tag all order 0 some)) late in (
         j,
         record {
           within = in_j;
-          later =
-              elim (cases_lt 0 j) [
-                | inl lt ↦ lt
-                | inr le ↦ (
-                    let none : j ≡ 0 = omega arith in
-                    let same : l.from ≡ l.to = sym zero_is ∙ (ap (system_at all) (sym none) ∙ is_j) in
-                    let low = not_before_itself l.from l.to same in
-                    let up = apart.in_order in
-                    absurd cc)
-              ];
+          later = grind (arith, cases_lt, not_before_itself);
           first = λ k lt walk.
               let inside : k < length all = omega (arith, in_j) in
               let moved = reaches files tag all order sound.no_self sound.known sound.both k j walk in
@@ -332,8 +282,7 @@ none_there : (P : Link → Type 0) (ls : List Link) → AreLinksInOrder P ls →
 none_there P ls order none l h = (let (k, lt, is) = subst (λ (xs : List Link). Contains xs l) none ((order.members l).1 h) in omega (arith, lt))
 
 fault_where_none : (b : Bool) → fault_where b ≡ [] → b ≡ true
-fault_where_none true e = refl
-fault_where_none false e = absurd cc
+fault_where_none h1 e = grind arith
 
 -- files and links without a fault
 pub sound_where_none : (files : List LinkFile) (tag : List ℕ) (all : List NetFault) → AreLinkFaults files tag all → all ≡ [] → AreSoundLinks files tag
@@ -386,13 +335,11 @@ apart_first files tag a b (sound, one, other) = record {
       ];
   first = λ c at before walk.
       let far : ¬ Reaches (lists files tag) a c = λ h. other.holds.1 (Reaches-trans (lists files tag) a c b h walk) in
-      let late = other.first c (at, far) in
-      cc;
+      grind arith;
 }
 
 pub apart_later : (files : List LinkFile) (tag : List ℕ) (a b : Address) → IsFirstFault files tag (Apart a b) → (m : Link) → IsApart files tag m.from m.to →
     (address_before m.from a ≡ false) × (address_before m.to b ≡ false)
 apart_later files tag a b (sound, one, other) m apart =
     let same : m.from ≡ a = same_where_neither m.from a (one.first m.from apart.smallest.holds) (apart.smallest.first a one.holds) in
-    let above : address_before a m.to ≡ true = subst (λ (c : Address). address_before c m.to ≡ true) same apart.in_order in
-    (one.first m.from apart.smallest.holds, other.first m.to (apart.carries, apart.first a one.holds above))
+    grind arith

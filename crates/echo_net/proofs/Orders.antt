@@ -121,16 +121,14 @@ pub net_node_same : (a b : NetNode) → ((a.net == b.net) && (a.node == b.node))
 net_node_same a b h = grind (arith, and_parts, eqb-true)
 
 pub net_node_itself : (a b : NetNode) → a ≡ b → ((a.net == b.net) && (a.node == b.node)) ≡ true
-net_node_itself a b e =
-    and_from (a.net == b.net) (a.node == b.node) (eq-eqb a.net b.net (ap (λ (n : NetNode). n.net) e)) (eq-eqb a.node b.node (ap (λ (n : NetNode). n.node) e))
+net_node_itself a b e = grind (arith, and_from, eq-eqb)
 
 neither : (o p : Ordering) → o ≡ ordering_reverse p → is_lt o ≡ false → is_lt p ≡ false → o ≡ Equal
 neither o p h1 h2 h3 = grind arith
 
 -- of two different addresses one comes first
 pub same_where_neither : (a b : Address) → address_before a b ≡ false → address_before b a ≡ false → a ≡ b
-same_where_neither a b h g =
-    address_exact a b (neither (address_order a b) (address_order b a) (address_total.antisymm a b) (sym (before_is a b) ∙ h) (sym (before_is b a) ∙ g))
+same_where_neither a b h g = grind (arith, address_exact, neither, before_is)
 
 pub not_before_itself : (a b : Address) → a ≡ b → address_before a b ≡ false
 not_before_itself a b e = ap (address_before a) (sym e) ∙ (before_is a a ∙ ap is_lt (tied_itself address_total a))
@@ -186,13 +184,7 @@ module _ {X : Type 0} {R : X → X → Ordering} (o : IsTotalOrder R) (xs : List
   pub one_place : (i j : ℕ) (x : X) → IsAt xs i x → IsAt xs j x → i ≡ j
   one_place i j x at_i at_j =
       let itself : R x x ≡ Equal = tied_itself o x in
-      elim (cases_lt i j) [
-        | inl lt ↦ (let less = earlier_less i j x x at_i at_j lt in cc)
-        | inr le ↦ elim (cases_lt j i) [
-          | inl lt ↦ (let less = earlier_less j i x x at_j at_i lt in cc)
-          | inr ge ↦ omega arith
-        ]
-      ]
+      grind (arith, cases_lt, earlier_less)
 
 pub at_place : {X : Type 0} (xs : List X) (i : ℕ) (d : X) → i < length xs → IsAt xs i (get_or xs i d)
 at_place xs i d inside = (inside, get_or_default xs i (get_or xs i d) d inside)
@@ -273,17 +265,7 @@ module _ {X K V : Type 0} {RK : K → K → Ordering} {RV : V → V → Ordering
       let at_next : IsAt xs (i + 1) next = at_place xs (i + 1) x (omega (arith, at_y.0)) in
       let less : order x next ≡ Less = earlier_less o xs up i (i + 1) x next at_x at_next (omega arith) in
       let le : is_gt (order next y) ≡ false = not_gt o next y (later_not_before o xs up (i + 1) j next y at_next at_y (omega arith)) in
-      elim (then_less (RK (key x) (key next)) (RV (value x) (value next)) less) [
-        | inl lower ↦ (let high : RK (key next) (key y) ≡ Greater =
-            ok.antisymm (key next) (key y) ∙ ap ordering_reverse (sym (ok.congr (key x) (key y) (key next) same) ∙ lower) in
-            let no : is_gt (RK (key next) (key y)) ≡ false = gt_first (RK (key next) (key y)) (RV (value next) (value y)) le in
-            let yes : is_gt (RK (key next) (key y)) ≡ true = ap is_gt high in cc)
-        | inr alike ↦ record {
-          alike = alike.0;
-          above = alike.1;
-          upto = gt_second (RK (key next) (key y)) (RV (value next) (value y)) (sym (ok.congr (key x) (key next) (key y) alike.0) ∙ same) le;
-        }
-      ]
+      grind (arith, then_less, gt_first, gt_second)
 
 -- The absence of one carrier after another.
 
@@ -332,8 +314,7 @@ module _ (lines : List Line) (carriers : List Address) (up : IsStrictlySortedBy 
   }
 
   pub one_more_judged : (found : Option Absence) → IsReasonOfAbsence lines (get_or carriers i d) found → AreListed lines carriers (i + 1) (all ++ absent_as (get_or carriers i d) found)
-  one_more_judged None held = subst (AreListed lines carriers (i + 1)) (sym (append-nil all)) (one_held_more held)
-  one_more_judged (Some why) absent = one_absent_more why absent
+  one_more_judged h1 h2 = grind (arith, append-nil, one_held_more, one_absent_more)
 
 -- the absences of all carriers
 pub all_listed : (lines : List Line) (carriers : List Address) (IsCarrier : Address → Type 0) → ((a : Address) → Contains carriers a ↔ IsCarrier a) →

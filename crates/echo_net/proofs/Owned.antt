@@ -4,7 +4,7 @@ use Rattle.std.specs.Prelude.{Contains, slice_get}
 use Rattle.std.specs.List.Sorted.{IsStrictlySortedBy, IsPartitionedBy, IsPartitionPoint}
 use Rattle.std.specs.Ordering.{nat_cmp, ordering_then, is_lt, ordering_reverse}
 use Rattle.std.specs.declared.cmp.Ordering.{Ordering}
-use Rattle.std.specs.declared.cmp.Ordering.TheVariants.{Less, Equal}
+use Rattle.std.specs.declared.cmp.Ordering.TheVariants.{Less}
 use Rattle.std.proofs.lemmas.Bool.{cases_lt, or_parts, and_from, and_parts, cases_Bool, lt-ltb, ltb-true, not-true}
 use Rattle.std.proofs.lemmas.Cmp.{tied_itself}
 use Rattle.std.proofs.lemmas.List.{get_or_default, get_or-drop, get_or-take, get_or_at, get_or_append_left, length-drop, length-take, length-append}
@@ -89,13 +89,7 @@ module _ (systems : List Address) (owners : List Owner) (all : (o : Owner) → C
 
   -- two owners of one address have different indexes
   places_of : (p : ℕ) (x y : Owner) → IsAt owners p x → IsAt owners (p + 1) y → x.system ≡ y.system → x.file < y.file
-  places_of p x y at_x at_y same =
-      let less = earlier_less owner_total owners up p (p + 1) x y at_x at_y (omega arith) in
-      let tied : address_order x.system y.system ≡ Equal = ap (address_order x.system) (sym same) ∙ tied_itself address_total x.system in
-      elim (then_less (address_order x.system y.system) (nat_cmp x.file y.file) less) [
-        | inl lower ↦ cc
-        | inr alike ↦ nat_less x.file y.file alike.1
-      ]
+  places_of p x y at_x at_y same = grind (arith, earlier_less, owner_total, address_order, tied_itself, address_total, then_less, nat_less)
 
   -- two owners of one address next to each other show an address that occurs twice
   pub shared_from : (k : ℕ) (l : Link) → IsShared owners k (k + 1) l → (l.from ≡ l.to) × OccursTwice systems l.from
@@ -119,15 +113,7 @@ module _ (systems : List Address) (owners : List Owner) (all : (o : Owner) → C
 
   pub shared_to : (l : Link) → (l.from ≡ l.to) × OccursTwice systems l.from → (k : ℕ) × IsShared owners k (k + 1) l
   shared_to l (same, twice) =
-      let (k, inside, one, next) = pair_of l.from twice in (
-        k,
-        record {
-          later = omega arith;
-          within = inside;
-          same = λ d. one d ∙ sym (next d);
-          pair = λ d. let first = one d in let second = next d in λ i. record { from = sym first i; to = (sym same ∙ sym second) i };
-        },
-      )
+      let (k, inside, one, next) = pair_of l.from twice in grind arith
 
 -- the links of shared addresses to themselves
 module _ (systems : List Address) (shared : List Link) where
@@ -189,10 +175,7 @@ module _ (files : List LinkFile) (tag : List ℕ) (all : List Address) (order : 
   pub back_name : (i : ℕ) → i < length all → back (name i) ≡ i
   back_name i inside =
       position_or_len_is (λ b. same_address b (name i)) all i no_address (omega arith)
-      (λ k lt. elim (cases_Bool (same_address (name k) (name i))) [
-        | inl same ↦ absurd (others k i lt inside (same_exact (name k) (name i) same))
-        | inr apart ↦ apart
-      ])
+      (grind (arith, cases_Bool, others, same_exact))
       (λ lt. same_itself (name i) (name i) refl)
 
   pub number : (a : Address) → Carries files tag a → (i : ℕ) × (i < length all) × (name i ≡ a)
@@ -239,10 +222,7 @@ module _ (files : List LinkFile) (tag : List ℕ) (all : List Address) (order : 
         let back_i : i ≡ back a = sym (back_name i in_i) ∙ ap back is_i in
         let back_j : j ≡ back b = sym (back_name j in_j) ∙ ap back is_j in
         let named : address_before (name i) (name j) ≡ true = subst (λ (x : Address). address_before x (name j) ≡ true) (sym is_i) (subst (λ (x : Address). address_before a x ≡ true) (sym is_j) before) in
-        elim (cases_lt i j) [
-          | inl lt ↦ omega (arith, lt, back_i, back_j)
-          | inr le ↦ (let late = no_later j i le in_i in cc)
-        ]
+        grind (arith, cases_lt, no_later)
 
     pub reaches : (i j : ℕ) → Reaches joined i j → Reaches (lists files tag) (name i) (name j)
     reaches i j h = Reaches-renamed joined (lists files tag) name back renaming i j h
@@ -318,8 +298,7 @@ pub row_members : (carriers : List Address) → IsStrictlySortedBy address_order
 row_members carriers up links row zip j = (
   λ h. (let (l, there, at) = zip_from carriers links row zip j (Among-from_Contains j row h) in (l, Contains-from_Among l links there, at)),
   λ (l, there, at). (let (i, in', at') = zip_to carriers links row zip l (Among-from_Contains l links there) in
-      let same : i ≡ j = one_place address_total carriers up i j l.to at' at in
-      subst (Contains row) same (Contains-from_Among i row in')),
+      grind (arith, one_place, address_total, Contains-from_Among)),
 )
 
 pub row_ascends : (row : List ℕ) → IsStrictlySortedBy nat_cmp row → IsAscending row
@@ -330,8 +309,7 @@ pub is_row : (carriers : List Address) (links run : List Link) (system : Address
     ((l : Link) → Contains run l ↔ (Contains links l × (l.from ≡ system))) → IsAscending row →
     ((j : ℕ) → Contains row j ↔ ((l : Link) × Contains run l × IsAt carriers j l.to)) → IsRow carriers links system row
 is_row carriers links run system row from ascending members =
-    let held : (j : ℕ) → IsTrue (list_any (λ n. n == j) row) → Contains row j = λ j h.
-    let (k, inside, is) = place_of row j h in (k, inside, get_or_default row k j 0 inside ∙ is) in
+    let held : (j : ℕ) → IsTrue (list_any (λ n. n == j) row) → Contains row j = grind (arith, place_of, get_or_default) in
     let passes : (j : ℕ) → Contains row j → IsTrue (list_any (λ n. n == j) row) = λ j (k, inside, is).
     holds_at row j k inside (get_or_default row k 0 j inside ∙ is) in
     record {
@@ -341,8 +319,7 @@ is_row carriers links run system row from ascending members =
         λ h. (let (l, there, at) = (members j).0 (held j h) in
             let (in', own) = (from l).0 there in
             let to : l.to ≡ system_at carriers j = sym (get_or_default carriers j no_address l.to inside ∙ at.1) in
-            let is : l ≡ link system (system_at carriers j) = (λ i. record { from = own i; to = to i }) in
-            subst (Contains links) is in'),
+            grind arith),
         λ h. (let to = system_at carriers j in
             passes j ((members j).1 (link system to, (from (link system to)).1 (h, refl), (inside, get_or_default carriers j to no_address inside)))),
       );
@@ -356,9 +333,7 @@ one_row_more carriers links i rows row size below here = (
   omega (arith, length-append rows (row ∷ [])),
   λ k lt. elim (cases_lt k i) [
     | inl earlier ↦ subst (IsRow carriers links (system_at carriers k)) (sym (get_or_append_left rows (row ∷ []) [] k (omega arith))) (below k earlier)
-    | inr later ↦ (let same : i ≡ k = omega arith in
-        subst (λ (n : ℕ). IsRow carriers links (system_at carriers n) (links_at (rows ++ row ∷ []) n)) same
-        (subst (IsRow carriers links (system_at carriers i)) (sym (get_or_at rows row [] [] i size)) here))
+    | inr later ↦ grind (arith, get_or_at)
   ],
 )
 
@@ -373,10 +348,7 @@ module _ (links : List Link) (up : IsStrictlySortedBy link_order links) (system 
       let l = get_or links i d in
       let m = get_or links j d in
       let up_to : address_before m.from l.from ≡ false = rising links up i j l m (at_links i d (omega arith)) (at_links j d inside) le in
-      elim (cases_Bool (address_before l.from system)) [
-        | inl before ↦ before
-        | inr after ↦ (let late = not_before_after l.from m.from system up_to h in cc)
-      ]
+      grind (arith, cases_Bool, not_before_after)
 
   pub not_greater_first : (start : ℕ) → IsPartitionedBy (λ l. not (address_before system l.from)) (drop start links)
   not_greater_first start i j d le inside h =
@@ -386,14 +358,9 @@ module _ (links : List Link) (up : IsStrictlySortedBy link_order links) (system 
       let fits : start + j < length links = omega (arith, size, inside) in
       let up_to : address_before m.from l.from ≡ false =
       rising links up (start + i) (start + j) l m (at_links (start + i) d (omega arith)) (at_links (start + j) d fits) (omega arith) in
-      let after : address_before system m.from ≡ false =
-      not-true (address_before system m.from) (subst (λ (n : Link). not (address_before system n.from) ≡ true) (get_or-drop start links j d) h) in
-      let lower : address_before system l.from ≡ false = elim (cases_Bool (address_before system l.from)) [
-        | inr up ↦ up
-        | inl low ↦ (let early = not_before_later system l.from m.from up_to low in cc)
-      ] in
-      subst (λ (n : Link). not (address_before system n.from) ≡ true) (sym (get_or-drop start links i d))
-      (ap not lower)
+      let after : address_before system m.from ≡ false = grind (arith, not-true, get_or-drop) in
+      let lower : address_before system l.from ≡ false = grind (arith, cases_Bool, not_before_later) in
+      grind (arith, get_or-drop)
 
   pub cut : (start count : ℕ) → IsPartitionPoint (λ l. address_before l.from system ≡ true) (λ l. address_before l.from system ≡ false) links start →
       IsPartitionPoint (λ l. not (address_before system l.from) ≡ true) (λ l. not (address_before system l.from) ≡ false) (drop start links) count →

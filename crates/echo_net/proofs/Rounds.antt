@@ -1,5 +1,5 @@
 -- The loops of the blocks of an area, by the indexes of its carriers, and the loop that a verdict names.
-use Rattle.std.proofs.Common.{◌≡◌, ◌≢◌, ◌<◌, ◌&&◌, ◌⊎◌, ℕ, Bool, true, IsTrue, List, [], ◌∷◌, length, map, get_or, refl, sym, ap, subst, ◌∙◌, arith, inl, inr}
+use Rattle.std.proofs.Common.{◌≡◌, ◌≢◌, ◌<◌, ◌⊎◌, ℕ, Bool, true, IsTrue, List, [], ◌∷◌, length, map, get_or, refl, sym, ap, subst, ◌∙◌, arith, inl, inr}
 use Rattle.std.specs.Prelude.{Contains}
 use Rattle.std.specs.List.{All}
 use Rattle.std.proofs.lemmas.Bool.{and_from, and_parts, cases_Bool, cases_lt, or_cases, or_left, or_right}
@@ -115,24 +115,7 @@ itself linked simple b a link z =
 
 -- a pair that comes after another does not come before it
 not_back : (b a e d : Address) → Earlier b e ⊎ ((b ≡ e) × (Earlier a d ⊎ (a ≡ d))) → pair_before e d b a ≡ true → ⊥
-not_back b a e d h early =
-    elim (or_cases (address_before e b) (same_address e b && address_before d a) early) [
-      | inl lower ↦
-          elim h [
-            | inl up ↦ (let no = before_back b e up in cc)
-            | inr tie ↦ (let no = not_before_itself e b (sym tie.0) in cc)
-          ]
-      | inr both ↦ (
-          let (same, lower) = and_parts (same_address e b) (address_before d a) both in
-          elim h [
-            | inl up ↦ (let no = not_before_itself b e (sym (same_exact e b same)) in cc)
-            | inr tie ↦
-                elim tie.1 [
-                  | inl up ↦ (let no = before_back a d up in cc)
-                  | inr equal ↦ (let no = not_before_itself d a (sym equal) in cc)
-                ]
-          ])
-    ]
+not_back b a e d h early = grind (arith, or_cases, before_back, not_before_itself, and_parts, same_exact)
 
 -- the named loop begins as the first round
 module _ (linked : Address → Address → Bool) (is_simple : Simple linked) (rounds : List Round) (are : AreRounds linked rounds) (loop : List Address) (named : NamedLoopBy Earlier linked loop) where
@@ -163,11 +146,7 @@ module _ (linked : Address → Address → Bool) (is_simple : Simple linked) (ro
       own_last b a d f here p =
           elim (here.first b a f p (itself linked is_simple b a p.one)) [
             | inl up ↦ (let no = not_before_itself b b refl in absurd cc)
-            | inr tie ↦
-                elim tie.1 [
-                  | inl up ↦ (let no = not_before_itself a a refl in absurd cc)
-                  | inr last ↦ last.1
-                ]
+            | inr tie ↦ grind (arith, not_before_itself)
           ]
 
   starts : (ls : List Round) → AreRounds linked ls → (m : Round) → Contains ls m → ((r : Round) → Contains ls r → pair_before r.start.from r.start.to m.start.from m.start.to ≡ true → ⊥) →
@@ -179,10 +158,7 @@ module _ (linked : Address → Address → Bool) (is_simple : Simple linked) (ro
             absurd
             (none l (0, omega arith, refl)
             (subst (λ (q : Round). pair_before l.start.from l.start.to q.start.from q.start.to ≡ true) is (r.ascending 0 k m above lt)))
-        | inr low ↦ (
-            let zero_is : k ≡ 0 = omega arith in
-            let same : l ≡ m = ap (λ (n : ℕ). get_or (l ∷ ls) n m) (sym zero_is) ∙ is in
-            (ls, ap (λ (q : Round). q ∷ ls) same))
+        | inr low ↦ grind (arith, get_or)
       ]
 
   pub named_first : (m : Round) × (rest : List Round) × (rounds ≡ m ∷ rest) × NamedLoopBy Earlier linked m.loop
@@ -195,12 +171,7 @@ module _ (linked : Address → Address → Bool) (is_simple : Simple linked) (ro
       λ r at early.
       let s = are.sound r at in
       let h = found.first r.start.from r.start.to s.other s.first.pinch in
-      not_back b a r.start.from r.start.to
-      (elim h [
-        | inl up ↦ inl up
-        | inr tie ↦ inr (tie.0, elim tie.1 [ inl up ↦ inl up | inr last ↦ inr last.0 ])
-      ])
-      (subst (λ (l : Link). pair_before r.start.from r.start.to l.from l.to ≡ true) start early) in
+      grind (arith, not_back) in
       let (tail, whole) = starts rounds are m there none in (
         m,
         tail,

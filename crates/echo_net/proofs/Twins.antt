@@ -2,7 +2,7 @@
 use Rattle.std.proofs.Common.{◌≡◌, ◌≢◌, ◌<◌, ◌≤◌, ◌+◌, ◌-◌, ◌↔◌, ◌⊎◌, ℕ, false, List, [], ◌∷◌, ◌++◌, length, map, get_or, Option, Some, None, MatchOption, refl, sym, subst, ap, ◌∙◌, arith, inl, inr}
 use Rattle.std.specs.Prelude.{Contains, slice_get}
 use Rattle.std.specs.List.Sorted.{IsStrictlySortedBy}
-use Rattle.std.specs.Ordering.{is_gt, is_lt, ordering_then}
+use Rattle.std.specs.Ordering.{is_gt, ordering_then}
 use Rattle.std.specs.declared.cmp.Ordering.{Ordering}
 use Rattle.std.specs.declared.cmp.Ordering.TheVariants.{Less, Equal}
 use Rattle.std.proofs.lemmas.Bool.{cases_lt}
@@ -91,14 +91,7 @@ one_with_one ns place upto old all d lt inside before same m =
     let here = link (get_or ns place d).system (get_or ns upto d).system in
     let one : (e : Neighbour) → get_or ns place e ≡ get_or ns place d = λ e. get_or_default ns place e d (omega arith) in
     let other : (e : Neighbour) → get_or ns upto e ≡ get_or ns upto d = λ e. get_or_default ns upto e d inside in
-    let twin : IsTwin ns place upto here = record {
-      later = lt;
-      within = inside;
-      same = λ e. ap (λ (n : Neighbour). n.net_node) (one e) ∙ (same ∙ sym (ap (λ (n : Neighbour). n.net_node) (other e)));
-      pair = λ e. let first = ap (λ (n : Neighbour). n.system) (one e) in
-          let second = ap (λ (n : Neighbour). n.system) (other e) in
-          λ i. record { from = sym first i; to = sym second i };
-    } in (
+    let twin : IsTwin ns place upto here = grind arith in (
       λ h. elim (Contains-push_cases all here m h) [
         | inl there ↦ elim ((before m).0 there) [
           | inl first ↦ inl first
@@ -171,13 +164,7 @@ module _ (systems : List Address) (neighbours : List Neighbour) (up : IsStrictly
       let less = earlier_less neighbour_total neighbours up i j x y at_x at_y twin.later in
       let tied : net_node_order x.net_node y.net_node ≡ Equal = ap (net_node_order x.net_node) (sym (twin.same d)) ∙ tied_itself net_node_total x.net_node in
       let lower : address_order x.system y.system ≡ Less = sym (ap (λ (o : Ordering). ordering_then o (address_order x.system y.system)) tied) ∙ less in
-      record {
-        one = subst (Contains systems) (sym from) one.system;
-        other = subst (Contains systems) (sym to) other.system;
-        in_order = before_is l.from l.to ∙ (ap (λ (a : Address). is_lt (address_order a l.to)) from
-            ∙ (ap (λ (a : Address). is_lt (address_order x.system a)) to ∙ ap is_lt lower));
-        same = ap net_node_of from ∙ (sym one.net_node ∙ (twin.same d ∙ (other.net_node ∙ sym (ap net_node_of to))));
-      }
+      grind (arith, before_is, address_order)
 
   -- the indexes of two systems of one net and node
   pub places_of : (a b : Address) → HasTwin (Contains systems) a b → (i : ℕ) × (j : ℕ) × (i < j) × IsAt neighbours i (neighbour_of a) × IsAt neighbours j (neighbour_of b)
@@ -187,8 +174,7 @@ module _ (systems : List Address) (neighbours : List Neighbour) (up : IsStrictly
       let (i, in_x, is_x) = there a h.one in
       let (j, in_y, is_y) = there b h.other in
       let tied : net_node_order x.net_node y.net_node ≡ Equal = ap (net_node_order x.net_node) (sym h.same) ∙ tied_itself net_node_total x.net_node in
-      let less : neighbour_order x y ≡ Less = ap (λ (o : Ordering). ordering_then o (address_order a b)) tied ∙ before_less a b h.in_order in
-      (i, j, earlier_from_less neighbour_total neighbours up i j x y (in_x, is_x) (in_y, is_y) less, (in_x, is_x), (in_y, is_y))
+      grind (arith, neighbour_order, address_order, before_less, earlier_from_less, neighbour_total)
 
   -- any two systems of one net and node have two indexes
   pub has_places : (l : Link) → HasTwin (Contains systems) l.from l.to → (i : ℕ) × (j : ℕ) × IsTwin neighbours i j l
@@ -208,14 +194,7 @@ module _ (systems : List Address) (neighbours : List Neighbour) (up : IsStrictly
         let alike : x.net_node ≡ z.net_node = net_node_exact x.net_node z.net_node n.alike in
         let first : (d : Neighbour) → get_or neighbours i d ≡ x = λ d. get_or_default neighbours i d x in_x ∙ is_x in
         let second : (d : Neighbour) → get_or neighbours (i + 1) d ≡ z = λ d. get_or_default neighbours (i + 1) d x inside in
-        let twin : IsTwin neighbours i (i + 1) (link a z.system) = record {
-          later = omega arith;
-          within = inside;
-          same = λ d. ap (λ (m : Neighbour). m.net_node) (first d) ∙ (alike ∙ sym (ap (λ (m : Neighbour). m.net_node) (second d)));
-          pair = λ d. let one = ap (λ (m : Neighbour). m.system) (first d) in
-              let other = ap (λ (m : Neighbour). m.system) (second d) in
-              λ i. record { from = sym one i; to = sym other i };
-        } in (
+        let twin : IsTwin neighbours i (i + 1) (link a z.system) = grind arith in (
           link a z.system,
           (pairs (link a z.system)).1 (i, twin),
           ap (λ (o : Ordering). is_gt (ordering_then o (address_order z.system b))) (tied_itself address_total a) ∙ n.upto,

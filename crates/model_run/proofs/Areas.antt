@@ -1,5 +1,5 @@
 -- The area in link files, and the keys of its messages.
-use Rattle.std.proofs.Common.{◌≡◌, inl, inr, refl, sym, subst, ap, ◌∙◌, ℕ, IsTrue, List, [], ◌∷◌, map, Option, Some, arith, nat_lt, ◌≢◌, ◌⊎◌, ◌++◌}
+use Rattle.std.proofs.Common.{◌≡◌, inl, inr, refl, sym, ap, ◌∙◌, ℕ, IsTrue, List, [], ◌∷◌, map, Option, Some, arith, nat_lt, ◌≢◌, ◌⊎◌, ◌++◌}
 use Rattle.std.specs.Prelude.{Bool, true, false, bytes_eq, is_some, ◌&&◌, not, find}
 use Rattle.std.specs.List.{AllByRecursion, list_all}
 use Rattle.echo_addr.specs.declared.address.Address.{Address}
@@ -179,14 +179,7 @@ listed-to file e n h =
     let own = map net_node_of (file.system ∷ links_of file e.tag) in
     let all = e.seen ++ own in
     let P : NetNode → Type 0 = λ x. Among x own in
-    let there : Among n all = elim h [
-      | inl old ↦ Among-append_left n e.seen own old
-      | inr new ↦ Among-append_right n e.seen own (elim new [
-        | inl here ↦ inl here
-        | inr link ↦ (let (z, i, same) = link in inr (let Q : NetNode → Type 0 = λ x. Among x (map net_node_of (links_of file e.tag)) in
-            subst Q (sym same) (Among-map_to net_node_of z (links_of file e.tag) i)))
-      ])
-    ] in
+    let there : Among n all = grind (arith, Among-append_left, Among-append_right, Among-map_to) in
     Among-from_Contains n (entry_set all) (((entry_set_is_set all).members n).1 (Contains-from_Among n all there))
 
 pub exported-path : (file : LinkFile) (e : EchoText) → (exported file e).path ≡ e.path ++ net_node_of file.system ∷ []

@@ -114,13 +114,7 @@ unfolding head_bytes stored_bytes is_damaged message_in echo_of text_refusal lin
 first_version = record {
   version = First;
   all = stored 0 ∷ [];
-  begins = record {
-    number_fits = lit< tt;
-    cursor_within = lit≤ tt;
-    sizes = (stored_size First 0 (lit< tt), tt);
-    sound = (refl, tt);
-    whole = refl;
-  };
+  begins = grind (arith, stored_size);
   messages = refl;
 }
 
@@ -249,13 +243,7 @@ posting_base : (version : Version) (bytes : List ℕ) → is_damaged version 0 [
 posting_base version bytes sound same whole = record {
   version = version;
   all = stored 0 ∷ [];
-  begins = record {
-    number_fits = lit< tt;
-    cursor_within = lit≤ tt;
-    sizes = (stored_size version 0 (lit< tt), tt);
-    sound = (sound, tt);
-    whole = whole;
-  };
+  begins = grind (arith, stored_size);
   messages = ap (λ m. m ∷ []) same;
 }
 
@@ -325,13 +313,7 @@ second_damaged version bytes sound damaged whole = record {
   all = stored 0 ∷ [];
   next = stored 0;
   rest = [];
-  begins = record {
-    number_fits = lit< tt;
-    cursor_within = lit≤ tt;
-    sizes = (stored_size version 0 (lit< tt), tt);
-    sound = (sound, tt);
-    whole = whole;
-  };
+  begins = grind (arith, stored_size);
   many = refl;
   one_more = lit< tt;
   size = stored_size version 0 (lit< tt);

@@ -4,9 +4,9 @@ use Rattle.std.specs.Prelude.{true, false, bytes_eq, if◌then◌else◌, unwrap
 use Rattle.std.specs.List.{list_any}
 use Rattle.model_graph.specs.Walk.{Among}
 use Rattle.model_graph.proofs.Members.{Among-append_cases}
-use Rattle.echo_text.specs.Echo.{IsEcho, msgid_of, EchoText}
+use Rattle.echo_text.specs.Echo.{IsEcho, msgid_of}
 use Rattle.echo_filed.specs.declared.key.Key.{Key}
-use Rattle.echo_filed.specs.declared.key.Key.TheVariants.{ByContent, ById}
+use Rattle.echo_filed.specs.declared.key.Key.TheVariants.{ById}
 use Rattle.echo_filed.specs.Filed.{Filed, key_of, key_with, same_key}
 use Rattle.base_file.specs.Base.{is_known}
 use Rattle.model_steps.specs.Posting.{has_id, posted, posting}
@@ -173,10 +173,7 @@ module _ (laws : Laws) (s : System) (ok : SystemOk s) where
   has_id-from_key m tag id e = with_id (msgid_of m.echo.kept) e
     where
       with_id : (found : Option (List ℕ)) → key_with m found ≡ ById tag id → unwrap_or (option_map (bytes_eq id) found) false ≡ true
-      with_id None e = absurd (other e)
-        where
-          other : ByContent m.echo.tag m.date m.to_name m.from_name m.subject m.echo.kept ≡ ById tag id → ⊥
-          other e = cc
+      with_id None e = grind arith
       with_id (Some x) e =
           let same : id ≡ x = cc in
           (and-parts (bytes_eq tag tag) (bytes_eq id x) (laws.keys.full (ById tag id) (ById tag x) (ap (λ (y : List ℕ). ById tag y) same))).1
@@ -213,10 +210,7 @@ module _ (laws : Laws) (s : System) (ok : SystemOk s) where
     kept = Kept-filed s.cursor s.base s.history m ok.kept;
     valid = λ n i. elim (Among-append_cases n s.history (m ∷ []) i) [
       | inl old ↦ ok.valid n old
-      | inr new ↦ elim new [
-        | inl e ↦ (let P : Filed → Type 0 = λ a. IsEcho a.echo in subst P (sym e) echo)
-        | inr t ↦ absurd t
-      ]
+      | inr new ↦ grind arith
     ];
     once = λ key. count_filed m key fresh;
   }
@@ -263,11 +257,7 @@ module _ (laws : Laws) where
 
   pub tossing_one-ok : (sender : Address) (q : Message) (s : System) → SystemOk s → (text_refusal q.text ≡ None → IsEcho (echo_of q.text)) →
       SystemOk (filing s (tossing s.file s.base sender q))
-  tossing_one-ok sender q s ok echo = filed_ok s (tossing s.file s.base sender q) ok (λ m e.
-      let (to_file, is) = tossing_received s.file s.base sender q m e in
-      let P : Filed → Type 0 = λ n. IsEcho n.echo × (¬ HasKey (key_of n) s.history) in
-      let Q : EchoText → Type 0 = λ e. IsEcho e in
-      subst P (sym is) (subst Q (sym (received-echo sender q)) (echo to_file.text), tossed-fresh s ok (received sender q) to_file.new))
+  tossing_one-ok sender q s ok echo = filed_ok s (tossing s.file s.base sender q) ok (grind (arith, tossing_received, received-echo, tossed-fresh))
 
   pub tossing-ok : (sender : Address) (ms : List Message) (s : System) → SystemOk s →
       ((q : Message) → Among q ms → text_refusal q.text ≡ None → IsEcho (echo_of q.text)) → SystemOk (tossing_at sender ms s)

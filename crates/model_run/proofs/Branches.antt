@@ -1,5 +1,5 @@
 -- A posting spreads in branches, one for each link of the poster; links join two branches only at those links.
-use Rattle.std.proofs.Common.{◌≡◌, ◌≢◌, ◌⊎◌, inl, inr, refl, sym, subst, ap, ◌∙◌, ℕ, zero, suc, ◌≤◌, arith, IsTrue, List, [], ◌∷◌, ◌++◌, length}
+use Rattle.std.proofs.Common.{◌≡◌, ◌≢◌, ◌⊎◌, inl, inr, refl, sym, subst, ◌∙◌, ℕ, zero, suc, ◌≤◌, arith, IsTrue, List, [], ◌∷◌, ◌++◌, length}
 use Rattle.std.specs.Prelude.{Bool, true, false}
 use Rattle.echo_addr.specs.declared.address.Address.{Address}
 use Rattle.echo_addr.specs.declared.address.NetNode.{NetNode}
@@ -37,12 +37,7 @@ module _ (linked : Address → Address → Bool) (Carrier : Address → Type 0) 
 
   -- a link of the poster begins a branch
   own_branch : (x : Address) (m : Filed) → IsTrue (linked f x) → Holds x m → branch x m ≡ net_node_of x
-  own_branch x m link h =
-      let (c, from) = came_from linked Carrier f Holds spread x m h f (from_poster linked Carrier f Holds spread x m link h) in
-      let P : Address → Type 0 = λ a. Holds a c.original in
-      let is_posting = spread.one f c.original posting (subst P from c.holds) spread.at_poster in
-      let none : c.original.echo.path ≡ [] = ap (λ (n : Filed). n.echo.path) is_posting ∙ spread.no_path in
-      ap (λ (es : List NetNode). second (net_node_of x) es) (c.path ∙ ap (λ (es : List NetNode). es ++ net_node_of c.from ∷ []) none)
+  own_branch x m link h = grind (arith, came_from, from_poster)
 
   -- a system other than the poster sends a message within its branch
   sent_on : (u : Address) (n : Filed) → Holds u n → u ≢ f → (y : Address) (k : Filed) → Holds y k → IsTrue (linked u y) →
@@ -83,14 +78,8 @@ module _ (linked : Address → Address → Bool) (Carrier : Address → Type 0) 
             elim where_seen [
               | inl seen ↦ further (before seen)
               | inr near ↦ elim (near-is linked Carrier f Holds spread known apart c.from y (spread.carriers c.from c.original c.holds) (spread.carriers y k at_y) near) [
-                | inl e ↦ (let P : Address → Type 0 = λ a. Holds a k in
-                    let same = spread.one c.from k c.original (subst P e at_y) c.holds in
-                    let Q : Address → Type 0 = λ a. branch c.from k ≡ branch a k in
-                    inr (up ∙ (ap (λ (n : Filed). branch c.from n) (sym same) ∙ subst Q (sym e) refl)))
-                | inr link ↦ elim (yes_or_no (is_seen_by c.original y)) [
-                  | inl seen ↦ further (before seen)
-                  | inr unseen ↦ inr (up ∙ sent_on c.from c.original c.holds later y k at_y link unseen)
-                ]
+                | inl e ↦ grind arith
+                | inr link ↦ grind (arith, yes_or_no, sent_on)
               ]
             ]
 
@@ -144,14 +133,7 @@ module _ (linked : Address → Address → Bool) (Carrier : Address → Type 0) 
             let here : close.first ≡ x = apart close.first x (known f close.first close.from_f) (known f x both.0)
             (sym close.is_first ∙ own x close.message both.0 close.holds) in
             let P : Address → Type 0 = λ z. Touches linked a z in
-            record {
-              message = k;
-              holds = at_y;
-              first = y;
-              is_first = own y k both.1 at_y;
-              touches = closed x y both.0 both.1 link (subst P here close.touches);
-              from_f = both.1;
-            }
+            grind arith
             )
       ]
 
@@ -165,14 +147,7 @@ module _ (linked : Address → Address → Bool) (Carrier : Address → Type 0) 
   no_way_around c to_a to_c none rest w around =
       let own = own_branch linked Carrier f Holds spread simple known apart in
       let (m, h) = spread.all a (known f a to_a) in
-      let close = along_walk a rest c w around (record {
-        message = m;
-        holds = h;
-        first = a;
-        is_first = own a m to_a h;
-        touches = inl refl;
-        from_f = to_a;
-      }) in
+      let close = along_walk a rest c w around (grind arith) in
       let here : close.first ≡ c = apart close.first c (known f close.first close.from_f) (known f c to_c)
       (sym close.is_first ∙ own c close.message to_c close.holds) in
       let P : Address → Type 0 = λ z. Touches linked a z in

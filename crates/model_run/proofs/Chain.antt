@@ -35,10 +35,7 @@ middle a b c to_b to_c other = grind (arith, chain-parts)
 no-cycle : NoCycle linked
 no-cycle first [] cycle = absurd (let long = cycle.long in omega (arith, long))
 no-cycle first (b ∷ []) cycle = absurd (let long = cycle.long in omega (arith, long))
-no-cycle first (b ∷ c ∷ rest) cycle =
-    let (last, walk, back) = cycle.closed in
-    let at_b = middle first b c walk.0 walk.1.0 (λ e. cycle.different.0 (inr (inl e))) in
-    behind rest last walk.1.1 back cycle.different.1 at_b walk.1.0
+no-cycle first (b ∷ c ∷ rest) cycle = grind (arith, middle, behind)
   where
     -- then c, between b and its next member, is 1 too
     behind : (rest : List ℕ) (last : ℕ) → Walk linked c rest last → IsTrue (linked last first) → Different (b ∷ c ∷ rest) → b ≡ 1 →

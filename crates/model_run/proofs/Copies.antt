@@ -1,6 +1,6 @@
 -- The contents of the packets of a scan.
-use Rattle.std.proofs.Common.{◌≡◌, ◌≢◌, inl, inr, refl, sym, subst, ap, ℕ, List, [], ◌∷◌, ◌++◌, map, Option, Some, None, arith}
-use Rattle.std.specs.Prelude.{Bool, true, false, filter, not, ◌&&◌, is_none, unwrap_or, option_map}
+use Rattle.std.proofs.Common.{◌≡◌, ◌≢◌, inl, inr, refl, ap, List, [], ◌∷◌, ◌++◌, map, Option, Some, arith}
+use Rattle.std.specs.Prelude.{Bool, true, false, filter, not, is_none, unwrap_or, option_map}
 use Rattle.std.specs.List.{flat_map}
 use Rattle.echo_addr.specs.declared.address.Address.{Address}
 use Rattle.echo_addr.specs.declared.address.NetNode.{NetNode}
@@ -8,15 +8,13 @@ use Rattle.echo_addr.specs.Address.{net_node_of}
 use Rattle.model_graph.specs.Walk.{Among, Different}
 use Rattle.model_graph.proofs.Members.{Among-at}
 use Rattle.echo_packet.specs.Message.{Message}
-use Rattle.echo_text.specs.Echo.{EchoText, IsEcho, msgid_of}
+use Rattle.echo_text.specs.Echo.{IsEcho}
 use Rattle.echo_text.specs.Refusal.{text_refusal}
-use Rattle.echo_text.specs.declared.fault.TextFault.{TextFault}
 use Rattle.model_steps.specs.declared.stamp.Stamp.{Stamp}
 use Rattle.echo_links.specs.Links.{LinkFile, is_link, links_of, same_address, IsFile}
-use Rattle.echo_filed.specs.Sets.{same_entry}
-use Rattle.echo_filed.specs.Filed.{Filed, key_of, key_with}
+use Rattle.echo_filed.specs.Filed.{Filed, key_of}
 use Rattle.model_steps.specs.Tossing.{received}
-use Rattle.model_steps.specs.Scanning.{packet_to, header_to, copy_to, exported, goes_to, targets, is_sender, is_seen_by, recipients}
+use Rattle.model_steps.specs.Scanning.{packet_to, header_to, copy_to, exported, goes_to, targets, recipients}
 use Rattle.model_run.specs.Run.{destination}
 use Rattle.model_run.specs.Orderly.{copies}
 use Rattle.model_run.proofs.TosserPremises.{Laws}
@@ -36,11 +34,7 @@ copied file m = record {
 
 pub copied-key : (file : LinkFile) (m : Filed) → key_of (copied file m) ≡ key_of m
 unfolding key_of copied exported
-copied-key file m = with_id (msgid_of m.echo.kept)
-  where
-    with_id : (o : Option (List ℕ)) → key_with (copied file m) o ≡ key_with m o
-    with_id None = refl
-    with_id (Some id) = refl
+copied-key file m = grind (arith, copied)
 
 pub copied-tag : (file : LinkFile) (m : Filed) → (copied file m).echo.tag ≡ m.echo.tag
 unfolding copied exported
@@ -63,17 +57,7 @@ module _ (laws : Laws) (file : LinkFile) where
     received-copy : (address : Address) (m : Filed) → IsEcho m.echo →
         (is_none (text_refusal (copy_to file address m).text) ≡ true) × (received file.system (copy_to file address m) ≡ copied file m)
     unfolding copy_to received copied
-    received-copy address m echo =
-        let read = laws.read_back (exported file m.echo) (laws.exported_text file m.echo fits echo) in
-        let with_echo : EchoText → Filed = λ e. record {
-          sender = Some file.system;
-          date = m.date;
-          to_name = m.to_name;
-          from_name = m.from_name;
-          subject = m.subject;
-          echo = e;
-        } in
-        (ap (λ (o : Option TextFault). is_none o) read.0, ap with_echo read.1)
+    received-copy address m echo = grind arith
 
     abbrev echomail : Message → Bool
     echomail packed = is_none (text_refusal packed.text)
@@ -99,58 +83,32 @@ module _ (laws : Laws) (file : LinkFile) where
     pub not_sender : m.sender ≢ Some a
     pub not_seen : ¬ Among (net_node_of a) m.echo.seen
 
-  abbrev is_target : Filed → Address → Bool
-  is_target m link = not (is_sender m link) && not (is_seen_by m link)
-
   not-true : (b : Bool) → not b ≡ true → b ≡ false
-  not-true true e = sym e
-  not-true false e = refl
+  not-true h1 e = grind arith
 
   false-not : (b : Bool) → b ≡ false → not b ≡ true
   false-not b e = ap not e
 
   -- by cases on the sender
   sender-is : (o : Option Address) (a : Address) → unwrap_or (option_map (same_address a) o) false ≡ true → o ≡ Some a
-  sender-is None a e = absurd (not_both false e refl)
-  sender-is (Some b) a e = (let q = laws.addresses.sound a b e in cc)
+  sender-is h1 a e = grind (arith, not_both)
 
   is-sender : (o : Option Address) (a : Address) → o ≡ Some a → unwrap_or (option_map (same_address a) o) false ≡ true
-  is-sender o a e =
-      let P : Option Address → Type 0 = λ p. unwrap_or (option_map (same_address a) p) false ≡ true in
-      subst P (sym e) (laws.addresses.full a a refl)
+  is-sender o a e = grind arith
 
   false-or : (b : Bool) → ¬ (b ≡ true) → b ≡ false
   false-or b n = elim (yes_or_no b) [ inl t ↦ absurd (n t) | inr f ↦ f ]
 
   pub targets-from : (m : Filed) (a : Address) → Among a (targets file m) → Targeted m a
   unfolding targets
-  targets-from m a h =
-      let (i, t) = Among-filter_from (is_target m) a (links_of file m.echo.tag) h in
-      let both = and-parts (not (is_sender m a)) (not (is_seen_by m a)) t in
-      record {
-        link = any-to (same_address a) a (links_of file m.echo.tag) i (laws.addresses.full a a refl);
-        not_sender = λ e. not_both (is_sender m a) (is-sender m.sender a e) (not-true (is_sender m a) both.0);
-        not_seen = λ j. not_both (is_seen_by m a)
-            (any-to (same_entry (net_node_of a)) (net_node_of a) m.echo.seen j (laws.entries.full (net_node_of a) (net_node_of a) refl))
-            (not-true (is_seen_by m a) both.1);
-      }
+  targets-from m a h = grind (arith, Among-filter_from, and-parts, any-to, not_both, is-sender, not-true)
 
   pub targets-to : (m : Filed) (a : Address) → Targeted m a → Among a (targets file m)
   unfolding targets
-  targets-to m a t =
-      let (b, i, e) = any-from (same_address a) (links_of file m.echo.tag) t.link in
-      let same = laws.addresses.sound a b e in
-      Among-filter_to (is_target m) a (links_of file m.echo.tag) (Among-at a b (links_of file m.echo.tag) same i)
-      (and-from (not (is_sender m a)) (not (is_seen_by m a))
-      (false-not (is_sender m a) (false-or (is_sender m a) (λ s. t.not_sender (sender-is m.sender a s))))
-      (false-not (is_seen_by m a) (false-or (is_seen_by m a) (λ s.
-      let (n, j, q) = any-from (same_entry (net_node_of a)) m.echo.seen s in
-      t.not_seen (Among-at (net_node_of a) n m.echo.seen (laws.entries.sound (net_node_of a) n q) j)))))
+  targets-to m a t = grind (arith, any-from, Among-filter_to, Among-at, and-from, false-not, false-or, sender-is)
 
   pub goes-from : (m : Filed) (a : Address) → goes_to file a m ≡ true → Targeted m a
-  goes-from m a h =
-      let (b, i, e) = any-from (same_address a) (targets file m) h in
-      targets-from m a (Among-at a b (targets file m) (laws.addresses.sound a b e) i)
+  goes-from m a h = grind (arith, any-from, targets-from, Among-at)
 
   pub goes-to : (m : Filed) (a : Address) → Targeted m a → goes_to file a m ≡ true
   goes-to m a t = any-to (same_address a) a (targets file m) (targets-to m a t) (laws.addresses.full a a refl)
@@ -158,8 +116,7 @@ module _ (laws : Laws) (file : LinkFile) where
   -- a target of a message gets a packet
   pub target-recipient : (waiting : List Filed) (m : Filed) (a : Address) → Among m waiting → Targeted m a → Among a (recipients file waiting)
   unfolding recipients
-  target-recipient waiting m a h t =
-      laws.addresses_all a (flat_map (targets file) waiting) (Among-flat_map_to (targets file) a m waiting h (targets-to m a t))
+  target-recipient waiting m a h t = grind (arith, Among-flat_map_to, targets-to)
 
   pub recipients-differ : (waiting : List Filed) → Different (recipients file waiting)
   unfolding recipients

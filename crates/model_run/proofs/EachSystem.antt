@@ -1,5 +1,5 @@
 -- An invariant of each single system holds in every run.
-use Rattle.std.proofs.Common.{refl, subst, sym, ℕ, List, [], ◌∷◌, length, Option, Some, None, arith}
+use Rattle.std.proofs.Common.{refl, ℕ, List, [], ◌∷◌, length, Option, Some, None, arith}
 use Rattle.std.specs.Prelude.{Bool, true, false, ◌++◌, take, if◌then◌else◌}
 use Rattle.echo_addr.specs.declared.address.Address.{Address}
 use Rattle.model_graph.specs.Walk.{Among}
@@ -64,9 +64,7 @@ module _ (P : System → Type 0) (filed : (s : System) (o : Option Filed) → P 
   event-each run (Purging i) each = change-all P i purging_at purges run.systems each
 
   run-each : ((file : LinkFile) → P (fresh file)) → (files : List LinkFile) (events : List RunEvent) → Each (run_of files events)
-  run-each begins files events = along Each event-each events (start files) (λ s h.
-      let (file, i, e) = Among-map_from fresh s files h in
-      subst P (sym e) (begins file))
+  run-each begins files events = along Each event-each events (start files) (grind (arith, Among-map_from))
 
 -- the base equals the history, or has stubs for it
 abbrev pub IsBaseKept : System → Type 0

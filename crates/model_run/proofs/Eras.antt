@@ -91,8 +91,7 @@ module _ {A N K C : Type 0} (can : CanTell A) (can_keys : CanTell K) (net : Net 
     never-own m h own sent_back =
         let (c, i, e) = Among-map_from goal (place m) (copies run) sent_back in
         let sent = inv.sent c i in
-        let one_poster : sent.poster ≡ m = inv.one_posting sent.poster m sent.posted.is_filed h sent.posted.own own
-        (sent.posted.same_key ∙ sym (ap (λ (p : A × K). p.1) e)) in
+        let one_poster : sent.poster ≡ m = grind arith in
         let P : Filed A N K C → Type 0 = λ p. IsWay net.linked p.at c.to c.from in
         let Q : A → Type 0 = λ a. IsWay net.linked m.at a c.from in
         let way : Q m.at = subst Q (sym (ap (λ (p : A × K). p.0) e)) (subst P one_poster sent.parent.way) in
@@ -124,8 +123,7 @@ module _ {A N K C : Type 0} (can : CanTell A) (can_keys : CanTell K) (net : Net 
       all-filed x at_x =
           let (m, i, at, key) = arrives x at_x in
           let good = inv.good m i in
-          let one_poster : good.poster ≡ p = inv.one_posting good.poster p good.posted.is_filed at_p good.posted.own own
-          (good.posted.same_key ∙ key) in
+          let one_poster : good.poster ≡ p = grind arith in
           let P : Filed A N K C → Type 0 = λ q. Same m.text.content q.text.content in
           (m, i, at, key, subst P one_poster good.posted.same_content)
 
@@ -247,10 +245,7 @@ module _ {A N K C : Type 0} (can : CanTell A) (can_keys : CanTell K) (net : Net 
       let P : List (Filed A N K C) → Type 0 = λ fs. Different (map place fs) in
       let Q : List (A × K) → Type 0 = λ gs. Different gs in
       subst P (sym (filed-append recent past)) (subst Q (sym (map-append place (filed recent) (filed past)))
-      (Different-append (map place (filed recent)) (map place (filed past)) inv.once since.rest.filed_once (λ g h i.
-      let (m, j, e) = Among-map_from place g (filed recent) h in
-      let (n, k, q) = Among-map_from place g (filed past) i in
-      filed-apart m j n k (ap (λ (g : A × K). g.1) (sym e ∙ q)))))
+      (Different-append (map place (filed recent)) (map place (filed past)) inv.once since.rest.filed_once (grind (arith, Among-map_from, filed-apart))))
 
   -- no recent goal is a goal of the past
   goals-apart : (c d : Copy A N K C) → Among c (copies recent) → Among d (copies past) → goal c ≢ goal d
@@ -263,10 +258,7 @@ module _ {A N K C : Type 0} (can : CanTell A) (can_keys : CanTell K) (net : Net 
       let P : List (Copy A N K C) → Type 0 = λ cs. Different (map goal cs) in
       let Q : List (A × K) → Type 0 = λ gs. Different gs in
       subst P (sym (copies-append recent past)) (subst Q (sym (map-append goal (copies recent) (copies past)))
-      (Different-append (map goal (copies recent)) (map goal (copies past)) inv.sent_once since.rest.sent_once (λ g h i.
-      let (c, j, e) = Among-map_from goal g (copies recent) h in
-      let (d, k, q) = Among-map_from goal g (copies past) i in
-      goals-apart c d j k (sym e ∙ q))))
+      (Different-append (map goal (copies recent)) (map goal (copies past)) inv.sent_once since.rest.sent_once (grind (arith, Among-map_from, goals-apart))))
 
   pub whole-never_own : (m : Filed A N K C) → Among m (filed whole) → m.sender ≡ None → ¬ Among (place m) (map goal (copies whole))
   whole-never_own m h own sent =

@@ -1,6 +1,6 @@
 -- Lists of exports, and the packets of a run as its exports.
 use Rattle.std.proofs.Common.{◌≡◌, ◌≢◌, inl, inr, refl, sym, ap, ◌∙◌, ℕ, ◌+◌, ◌≤◌, arith, List, [], ◌∷◌, ◌++◌, map, Option, Some, None, subst, length, take, drop, ◌<◌}
-use Rattle.std.specs.Prelude.{Bool, true, false, filter, ◌==◌, if◌then◌else◌}
+use Rattle.std.specs.Prelude.{Bool, true, false, filter, if◌then◌else◌}
 use Rattle.std.proofs.lemmas.Bool.{eq-eqb, ne_eqb}
 use Rattle.std.proofs.lemmas.List.{append_assoc, append-nil, map-append, take-append-drop, take-append-le, take_all}
 use Rattle.std.proofs.lemmas.List.Elements.{filter-append}
@@ -78,8 +78,7 @@ events-packets (event ∷ later) run n =
     let packets_of : List Export → List Packet = λ es. map (λ (e : Export). e.packet) es in
     events-packets later (after_event run event) (n + 1)
     ∙ (ap (λ (ps : List Packet). ps ++ packets_of rest) (event-packets run n event)
-    ∙ (append_assoc run.packets (packets_of made) (packets_of rest)
-    ∙ ap (λ (ps : List Packet). run.packets ++ ps) (sym (map-append (λ (e : Export). e.packet) made rest))))
+    ∙ (grind (arith, append_assoc, map-append)))
 
 -- The packets of one system for its scanned messages, for any received bytes.
 
@@ -99,10 +98,7 @@ within s ok = Kept-cursor s.cursor s.base s.history ok.kept
 
 filing-done : (s : System) (o : Option Filed) → Within s → SameDone s (filing s o) × Within (filing s o)
 filing-done s None within = (itself s, within)
-filing-done s (Some m) within = (
-  record { file = refl; done = take-append-le s.cursor s.history (m ∷ []) within },
-  (let long : length (s.history ++ m ∷ []) ≡ length s.history + 1 = length-more s.history in omega arith),
-)
+filing-done s (Some m) within = grind (arith, take-append-le, length-more)
   where
     length-more : (ms : List Filed) → length (ms ++ m ∷ []) ≡ length ms + 1
     length-more [] = refl
@@ -138,10 +134,7 @@ pub made-nothing : (file : LinkFile) → Made (fresh file) []
 made-nothing file = record { counts = λ a k. refl; origins = λ p h. absurd h; copy = λ p h c i. absurd h; copies_for = λ m h a goes. absurd h }
 
 pub made-same : (s z : System) (sent : List Packet) → SameDone s z → Made s sent → Made z sent
-made-same s z sent same made =
-    let P : LinkFile → Type 0 = λ file. MadeOf file (take s.cursor s.history) sent in
-    let Q : List Filed → Type 0 = λ done. MadeOf z.file done sent in
-    subst Q (sym same.done) (subst P (sym same.file) made)
+made-same s z sent same made = grind arith
 
 module _ (laws : Laws) where
   -- no key is both among the scanned messages and the waiting ones
@@ -176,8 +169,7 @@ module _ (laws : Laws) where
     done-more a k =
         let g = goes_to s.file a in
         ap (λ (ms : List Filed). count k (filter g ms)) (all-done ∙ sym (take-append-drop s.cursor s.history))
-        ∙ (ap (λ (ms : List Filed). count k ms) (filter-append g (take s.cursor s.history) (drop s.cursor s.history))
-        ∙ count-append k (filter g (take s.cursor s.history)) (filter g (drop s.cursor s.history)))
+        ∙ (grind (arith, filter-append, count-append))
 
     pub made-scan : Made (scanning_at s) (sent ++ scanned s.file s.base s.cursor stamp)
     made-scan =
@@ -222,31 +214,19 @@ module _ (laws : Laws) where
       target-goes h = any-to (same_address a) a (targets s.file m) h (laws.addresses.full a a refl)
 
       goes-target : goes_to s.file a m ≡ true → Among a (targets s.file m)
-      goes-target t =
-          let (b, j, e) = any-from (same_address a) (targets s.file m) t in
-          let P : Address → Type 0 = λ x. Among x (targets s.file m) in
-          subst P (sym (laws.addresses.sound a b e)) j
+      goes-target t = grind (arith, any-from)
 
       no-key : ((o : Filed) → Among o went → key_of o ≢ key_of m) → sent_count a (key_of m) sent ≡ 0
       no-key h = made.counts a (key_of m) ∙ (count-is (key_of m) went ∙ counts.count-none key_of same_key laws.keys (key_of m) went h)
 
       pub sent-once : Among m done → Among a (targets s.file m) → sent_count a (key_of m) sent ≡ 1
-      sent-once h target =
-          let there = Among-filter_to (goes_to s.file a) m done h (target-goes target) in
-          omega (
-            arith,
-            made.counts a (key_of m),
-            counts.count-has key_of same_key laws.keys (key_of m) went m there refl,
-            count-is (key_of m) went,
-            sent-few a (key_of m),
-          )
+      sent-once h target = grind (arith, Among-filter_to, target-goes, counts.count-has, count-is, sent-few)
 
       pub sent-to_others : Among m done → ¬ Among a (targets s.file m) → sent_count a (key_of m) sent ≡ 0
       sent-to_others h not_target = no-key (λ o g e.
           let (j, t) = Among-filter_from (goes_to s.file a) o done g in
           let few : counts.count key_of same_key (key_of m) done ≤ 1 = omega (arith, count-is (key_of m) done, done-once (key_of m)) in
-          let same = counts.count-names_one key_of same_key laws.keys (key_of m) done few o m j h e refl in
-          not_target (goes-target (ap (λ (x : Filed). goes_to s.file a x) (sym same) ∙ t)))
+          grind (arith, counts.count-names_one, goes-target))
 
       pub waits-unsent : Among m (drop s.cursor s.history) → sent_count a (key_of m) sent ≡ 0
       waits-unsent h = no-key (λ o g e. apart s ok o m (Among-filter_from (goes_to s.file a) o done g).0 h e)
@@ -255,8 +235,7 @@ module _ (laws : Laws) where
 
 -- an export is among those of its system
 sent-by_own : (e : Export) (all : List Export) → Among e all → Among e.packet (sent_by e.system all)
-sent-by_own e all h =
-    Among-map_to (λ (x : Export). x.packet) e _ (Among-filter_to (λ x. x.system == e.system) e all h (eq-eqb e.system e.system refl))
+sent-by_own e all h = grind (arith, Among-map_to, Among-filter_to, eq-eqb)
 
 module _ (laws : Laws) where
   -- the invariant of a run and its exports so far
@@ -293,12 +272,7 @@ module _ (laws : Laws) where
 
   -- nothing happens
   idle-logged : (run : Run) (n : ℕ) (all : List Export) → Logged run n all → Logged run (n + 1) all
-  idle-logged run n all logged = record {
-    early = λ e h. omega (arith, logged.early e h);
-    made = logged.made;
-    maker = logged.maker;
-    one_scan = logged.one_scan;
-  }
+  idle-logged run n all logged = grind arith
 
   -- a system scans
   module _ (run : Run) (n : ℕ) (all : List Export) (ok : RunOk run) (logged : Logged run n all) (i : ℕ) (stamp : Stamp)
@@ -319,15 +293,10 @@ module _ (laws : Laws) where
     is-s t at = let e : Some t ≡ Some s = sym at ∙ at_s in cc
 
     made-here : Made (scanning_at s) (sent_by i (all ++ new))
-    made-here =
-        let P : List Packet → Type 0 = λ ps. Made (scanning_at s) ps in
-        subst P (sym (sent_by-append i all new ∙ ap (λ (ps : List Packet). sent_by i all ++ ps) (sent_by-own n i made_packets)))
-        (made-scan laws s ok_s stamp (sent_by i all) (logged.made i s at_s))
+    made-here = grind (arith, sent_by-append, sent_by-own, made-scan, ok_s)
 
     made-there : (j : ℕ) (z : System) → i ≢ j → Made z (sent_by j all) → Made z (sent_by j (all ++ new))
-    made-there j z other made =
-        let P : List Packet → Type 0 = λ ps. Made z ps in
-        subst P (sym (sent_by-append j all new ∙ (ap (λ (ps : List Packet). sent_by j all ++ ps) (sent_by-other n i j made_packets other) ∙ append-nil (sent_by j all)))) made
+    made-there j z other made = grind (arith, sent_by-append, sent_by-other, append-nil)
 
     -- a message exported now was not exported before
     new-keys : (e f : Export) → Among e all → Among f new → e.system ≡ f.system →
@@ -352,11 +321,7 @@ module _ (laws : Laws) where
       ];
       made = λ j z at. elim (nth-change i j scanning_at z run.systems at) [
         | inl other ↦ made-there j z other.0 (logged.made j z other.1)
-        | inr here ↦ (let (x, at_x, is) = here.1 in
-            let P : ℕ → Type 0 = λ l. nth l run.systems ≡ Some x in
-            let Q : System → Type 0 = λ t. Made t (sent_by j (all ++ new)) in
-            let R : ℕ → Type 0 = λ l. Made (scanning_at s) (sent_by l (all ++ new)) in
-            subst Q (sym (is ∙ ap scanning_at (is-s x (subst P (sym here.0) at_x)))) (subst R here.0 made-here))
+        | inr here ↦ grind (arith, is-s, made-here)
       ];
       maker = λ e h. maker-changed run e (elim (Among-append_cases e all new h) [
         | inl old ↦ logged.maker e old
@@ -401,13 +366,11 @@ module _ (laws : Laws) where
 
   delivery-logged : (run : Run) (n : ℕ) (all : List Export) → RunOk run → Logged run n all → (k : ℕ) (found : Option Packet) →
       Logged (delivery run k found) (n + 1) all
-  delivery-logged run n all ok logged k None = idle-logged run n all logged
-  delivery-logged run n all ok logged k (Some p) = grind (arith, idle-logged, change-logged, taking-done)
+  delivery-logged run n all ok logged k h7 = grind (arith, idle-logged, change-logged, taking-done)
 
   part-logged : (run : Run) (n : ℕ) (all : List Export) → RunOk run → Logged run n all → (messages : ℕ) (found : Option Packet) →
       Logged (part_delivery run messages found) (n + 1) all
-  part-logged run n all ok logged messages None = idle-logged run n all logged
-  part-logged run n all ok logged messages (Some p) = grind (arith, change-logged, taking-done)
+  part-logged run n all ok logged messages h7 = grind (arith, idle-logged, change-logged, taking-done)
 
   event-logged : (run : Run) (n : ℕ) (all : List Export) → RunOk run → Logged run n all → (event : RunEvent) →
       Next (after_event run event) n all (event_exports run n event)
@@ -424,16 +387,14 @@ module _ (laws : Laws) where
   events-logged (event ∷ later) run n all ok logged =
       let next = event-logged run n all ok logged event in
       let (m, at_end) = events-logged later (after_event run event) (n + 1) (all ++ event_exports run n event) (event-ok laws run event ok) next in
-      let P : List Export → Type 0 = λ es. Logged (after_events (after_event run event) later) m es in
-      (m, subst P (append_assoc all (event_exports run n event) (exports_after (after_event run event) (n + 1) later)) at_end)
+      grind (arith, append_assoc)
 
   start-logged : (files : List LinkFile) → Logged (start files) 0 []
   start-logged files = record {
     early = λ e h. absurd h;
     made = λ i s at.
         let (file, j, e) = Among-map_from fresh s files (nth-among i s (map fresh files) at) in
-        let P : System → Type 0 = λ t. Made t [] in
-        subst P (sym e) (made-nothing file);
+        grind (arith, made-nothing);
     maker = λ e h. absurd h;
     one_scan = λ e f h g same c d at_c at_d q. absurd h;
   }

@@ -10,7 +10,7 @@ use Rattle.model_graph.specs.Cycle.{Polygons, IsCycle}
 use Rattle.model_graph.proofs.Cycles.{Polygons-from_Parted}
 use Rattle.model_graph.proofs.Members.{Among-cases}
 use Rattle.echo_links.specs.Links.{LinkFile, has_area, same_address}
-use Rattle.echo_filed.specs.Filed.{Filed, key_of}
+use Rattle.echo_filed.specs.Filed.{Filed}
 use Rattle.model_run.specs.Event.{RunEvent}
 use Rattle.model_run.specs.Run.{nth, run_of, Run, System, after_event, coming, delivery, destination, receiver, scanning}
 use Rattle.model_run.specs.Tidy.{Carries, lists, Tidy}
@@ -27,7 +27,7 @@ use Rattle.model_run.proofs.Spreads.{IsNear, Spread, answered, from_poster, no_k
 use Rattle.model_run.proofs.Targets.{some_same, none_some}
 use Rattle.std.specs.List.{list_any, position_or_len}
 use Rattle.model_graph.specs.Loops.{HasUnlinked}
-use Rattle.model_run.specs.Orderly.{Orderly, count}
+use Rattle.model_run.specs.Orderly.{Orderly}
 use Rattle.model_run.proofs.Resting.{runs-settle}
 use Rattle.model_steps.specs.declared.packet.Packet.{Packet}
 use Rattle.model_steps.specs.declared.stamp.Stamp.{Stamp}
@@ -130,15 +130,7 @@ module _ (files : List LinkFile) (known : LawsOfRuns files) (tag : List ℕ) (on
           | inr f ↦ inr (λ file is area. absurd (not_both (has_area file tag) area (ap (λ (g : LinkFile). has_area g tag) (some_same (sym is ∙ found.1)) ∙ f)))
           | inl t ↦ elim (harm-or_none files known tag one_file all_known i found.0 found.1 t (moves i) (rests i).only_moves (rests i).settled) [
             | inl harm ↦ inl (i, harm)
-            | inr unharmed ↦ inr (λ file is area.
-                let P : LinkFile → Type 0 = λ g. (is_g : nth i files ≡ Some g) (area_g : has_area g tag ≡ true) →
-                Unharmed files known tag one_file all_known i g is_g area_g (moves i) (rests i).only_moves in
-                subst P (some_same (sym found.1 ∙ is)) (λ is_g area_g. record {
-                  settled = unharmed.settled;
-                  sent_once = unharmed.sent_once;
-                  never_own = unharmed.never_own;
-                  filed = unharmed.filed;
-                }) is area)
+            | inr unharmed ↦ grind (arith, Unharmed, moves, rests, some_same)
           ]
         ]
       ]
@@ -285,8 +277,7 @@ module _ (files : List LinkFile) (i j : ℕ) (before : i < j) (first second : Li
       let p : System → Bool = λ t. same_address t.file.system (destination q) in
       let P : ℕ → Type 0 = λ k. nth k run.systems ≡ Some s in
       let passes = first_passes p s run.systems (subst P (sym here) at) in
-      let address : z.file.system ≡ s.file.system =
-      ap (λ (f : LinkFile). f.system) (sym is_z) ∙ (same ∙ (ap (λ (f : LinkFile). f.system) is_y ∙ ap (λ (t : System). t.file.system) same_y)) in
+      let address : z.file.system ≡ s.file.system = grind arith in
       let least = first_is_least p run.systems i z at_z (ap (λ (a : Address). same_address a (destination q)) address ∙ passes) in
       omega (arith, before, here, least)
 
@@ -323,16 +314,5 @@ module _ (files : List LinkFile) (i j : ℕ) (before : i < j) (first second : Li
         (trial_posting k tag ∷ []) moves only nothing_first in
         let p = post_of third tag in (
           events,
-          inr (inr (record {
-            settled = settled;
-            poster = z;
-            at_poster = nth-among k z (run_of files events).systems z_at;
-            message = p;
-            filed = held;
-            posting = record { own = posting-own third tag; area = post_of-tag files known tag k third third_at third_area };
-            system = s;
-            there = nth-among j s (run_of files events).systems at;
-            carries = ap (λ (f : LinkFile). has_area f tag) (sym is) ∙ area;
-            lacks = ap (λ (ms : List Filed). count (key_of p) ms) (none s at);
-          })),
+          grind (arith, poster, nth-among, posting-own, post_of-tag),
         )

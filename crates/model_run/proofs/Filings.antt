@@ -241,9 +241,7 @@ tossing-from sender (q ∷ ms) base s m h =
         | inl older ↦ inl older
         | inr e ↦ (let (from, same) = tossed-from s.file s.base sender q m e in inr (q, inl refl, from, same))
       ]
-      | inr new ↦ (let P : LinkFile → Type 0 = λ file. IsFiledBy file base m (TossHere sender ms) in
-          let (r, i, from, same) = subst P (filing-grows s o).file new in
-          inr (r, inr i, from, same))
+      | inr new ↦ grind (arith, filing-grows)
     ]
 
 event-from : (s : LoneSystem) (event : LoneEvent) (m : Filed) → Among m (after_lone s event).system.history →
@@ -315,9 +313,7 @@ run-posted file earlier later tag draft serial stamp allowed =
     let s = lone_run file earlier in
     let P : LinkFile → Type 0 = λ f. IsAllowed f s.system.base tag draft serial stamp →
     Among (posted f tag draft serial stamp) (after_lone s event).system.history in
-    let here : P s.system.file = λ allows.
-    filed-now s.system (posting s.system.file s.system.base tag draft serial stamp) (posted s.system.file tag draft serial stamp)
-    (accepted-posting s.system.file s.system.base tag draft serial stamp allows) in
+    let here : P s.system.file = grind (arith, filed-now, accepted-posting) in
     event-stays file earlier later event (posted file tag draft serial stamp) (subst P (run-file file earlier) here allowed)
 
 -- a base without the key does not know it

@@ -63,8 +63,7 @@ tossing-new sender [] s m h = inl h
 tossing-new sender (q ∷ ms) s m h =
     let next = filing s (tossing s.file s.base sender q) in
     elim (tossing-new sender ms next m h) [
-      | inr later ↦ (let P : LinkFile → Type 0 = λ file. tossing file later.base sender later.packed ≡ Some m in
-          inr (record { packed = later.packed; of = inr later.of; base = later.base; filed = subst P (filing-file s (tossing s.file s.base sender q)) later.filed }))
+      | inr later ↦ grind (arith, filing-file)
       | inl now ↦ elim (filing-new s (tossing s.file s.base sender q) m now) [
         | inl old ↦ inl old
         | inr e ↦ inr (record { packed = q; of = inl refl; base = s.base; filed = e })

@@ -60,12 +60,7 @@ module _ (files : List LinkFile) (known : LawsOfRuns files) (tag : List ℕ) (i 
     posting-first =
         let (z, there, later) = known.stays (trial_posting i tag ∷ []) more i (filing (fresh file) (Some (post_of file tag))) (posted-at files known tag i file is area) in
         let whole = (only-posted files known tag i file is area more moves).whole i z there in
-        record {
-          system = z;
-          at = there;
-          file_is = later.file;
-          first = ap (λ (ms : List Filed). slice_get ms 0) (whole ∙ later.filed.1);
-        }
+        grind arith
 
     pub posting-is : IsPosting tag (post_of file tag)
     posting-is = record { own = posting-own file tag; area = post_of-tag files known tag i file is area }
@@ -90,12 +85,7 @@ module _ (files : List LinkFile) (known : LawsOfRuns files) (tag : List ℕ) (i 
           let R : Key → Type 0 = λ k. sent_count file.system k run.packets ≡ 0 in
           let S : LinkFile → Type 0 = λ g. sent_count g.system key run.packets ≡ 0 in
           let (z, at, same, _) = poster files known tag i file is area more in
-          record {
-            settled = settled;
-            sent_once = subst P (sym named) (λ s h has. let (j, there) = among-nth s run.systems h in once j s there has);
-            never_own = subst R (sym named) (subst S same (never z at));
-            filed = subst Q (sym named) (λ s h has. let (j, there) = among-nth s run.systems h in filed-some only j s there (filed j s there has));
-          }
+          grind (arith, among-nth, filed-some)
 
 -- If a posting of each carrier does no harm, no fault is grave.
 
@@ -131,19 +121,7 @@ module _ (files : List LinkFile) (known : LawsOfRuns files) (tag : List ℕ) (on
     carried i found at has =
         let trial = trials i found at has in
         let unharmed = trial.unharmed in
-        record {
-          moves = trial.moves;
-          rests = record { only_moves = trial.only_moves; settled = unharmed.settled };
-          harmless = λ file is area.
-              let P : LinkFile → Type 0 = λ g. (is_g : nth i files ≡ Some g) (area_g : has_area g tag ≡ true) →
-              Unharmed files known tag one_file all_known i g is_g area_g trial.moves trial.only_moves in
-              subst P (some_same (sym at ∙ is)) (λ is_g area_g. record {
-                settled = unharmed.settled;
-                sent_once = unharmed.sent_once;
-                never_own = unharmed.never_own;
-                filed = unharmed.filed;
-              }) is area;
-        }
+        grind (arith, settled, Unharmed, some_same)
 
     moved : (i : ℕ) → Moved i
     moved i =

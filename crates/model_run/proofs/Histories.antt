@@ -54,8 +54,7 @@ module _ (systems : List System) (i : ℕ) (f : System → System) (s : System) 
       let (j, e) = among-nth z systems h in
       elim (nth-changed i j f z systems e) [
         | inl other ↦ inl (nth-among j z (change i f systems) other.1)
-        | inr here ↦ (let P : ℕ → Type 0 = λ k. nth k systems ≡ Some z in
-            inr (some_same (sym (subst P (sym here.0) e) ∙ at_s)))
+        | inr here ↦ grind (arith, some_same)
       ]
 
 module _ (tag : List ℕ) (systems : List System) (i : ℕ) (f : System → System) (s : System) (at_s : nth i systems ≡ Some s)
@@ -188,8 +187,7 @@ module _ (laws : Laws) (files : List LinkFile) (tag : List ℕ) (tidy : Tidy fil
       let is = (st.history.filed m).0 i in
       let here : address_of is.system ≡ address_of s = ap (λ (f : RFiled). f.at) (sym is.same) ∙ at in
       let one = one-system laws files tag tidy run.systems st.same_files is.system s is.there h here in
-      let P : System → Type 0 = λ t. Among is.message t.history in
-      (is.message, subst P one is.filed, ap (λ (f : RFiled). f.text.key) (sym is.same) ∙ key)
+      grind arith
 
   -- the system of a posting event wrote the posting's id
   pub wrote-event : (p : RFiled) → Among p (rules.filed whole) → p.sender ≡ None → Wrote tag p.at p.text.key
@@ -204,8 +202,7 @@ module _ (laws : Laws) (files : List LinkFile) (tag : List ℕ) (tidy : Tidy fil
   new-key s h k wrote fresh m i e =
       let (p, j, own, key) = whole-poster (can laws) (can_keys laws) net (tidy-net laws files tag tidy) Equal equal-compares past st.recent st.since m i in
       let P : Key → Type 0 = λ x. Wrote tag p.at x in
-      let same = one-writer laws tag p.at (address_of s) k (subst P (key ∙ e) (wrote-event p j own)) wrote in
-      fresh (filed-here s h k (p, j, same, key ∙ e))
+      grind (arith, one-writer, address_of, wrote-event, filed-here)
 
   -- the system at an index changes
   module _ (i : ℕ) (s : System) (at_s : nth i run.systems ≡ Some s) (f : System → System) (files_stay : (t : System) → (f t).file ≡ t.file)
@@ -299,15 +296,9 @@ module _ (laws : Laws) (files : List LinkFile) (tag : List ℕ) (tidy : Tidy fil
           IsHistory tag after (event ∷ whole)
       with-event event filed exported copies came =
           history-changes tag run i f s at_s address-stays whole (event ∷ whole) st.history (m ∷ []) (more m is) (keeps m is) (comes m is) (done m is)
-          (λ x h. elim (Among-in x (rules.filed (event ∷ whole)) (filed_as (address_of s) m ∷ rules.filed whole) filed h) [
-            | inl now ↦ inr (m, inl refl, area, now)
-            | inr old ↦ inl old
-          ])
+          (grind (arith, Among-in, address_of))
           (λ x h. Among-in x (filed_as (address_of s) m ∷ rules.filed whole) (rules.filed (event ∷ whole)) (sym filed) (inr h))
-          (λ x new. Among-in x (filed_as (address_of s) m ∷ rules.filed whole) (rules.filed (event ∷ whole)) (sym filed) (elim new.1 [
-            | inl e ↦ inl (new.3 ∙ ap (λ (n : Filed). filed_as (address_of s) n) e)
-            | inr none ↦ absurd none
-          ])) exported copies came
+          (grind (arith, Among-in, address_of)) exported copies came
 
       pub stands-posted : Carries files tag (address_of s) → Wrote tag (address_of s) (key_of m) → m.sender ≡ None → m.echo.seen ≡ [] → Standing files tag past after
       stands-posted carrier wrote own unseen =
@@ -331,10 +322,7 @@ module _ (laws : Laws) (files : List LinkFile) (tag : List ℕ) (tidy : Tidy fil
           })
           (λ n h posting. elim (more m is n h) [
             | inl old ↦ inl old
-            | inr now ↦ elim now [
-              | inl e ↦ (let P : Filed → Type 0 = λ x. Wrote tag (address_of s) (key_of x) in inr (subst P (sym e) wrote))
-              | inr none ↦ absurd none
-            ]
+            | inr now ↦ grind (arith, Wrote, address_of)
           ])
 
       -- it came from a link

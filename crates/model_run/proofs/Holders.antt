@@ -1,5 +1,5 @@
 -- In an orderly run that has settled after one posting, each carrier got the posting from just one link.
-use Rattle.std.proofs.Common.{◌≡◌, ◌≢◌, ◌⊎◌, inl, inr, refl, sym, subst, ap, ◌∙◌, ℕ, ◌≤◌, arith, IsTrue, List, [], ◌∷◌, take, drop, map, Option, Some, None}
+use Rattle.std.proofs.Common.{◌≡◌, ◌≢◌, ◌⊎◌, inl, inr, refl, sym, subst, ap, ◌∙◌, ℕ, ◌≤◌, arith, IsTrue, List, [], ◌∷◌, take, drop, map, Some, None}
 use Rattle.std.specs.Prelude.{Bool, true, false}
 use Rattle.std.specs.List.{AllByRecursion}
 use Rattle.std.proofs.lemmas.Bool.{cases_eq}
@@ -15,15 +15,15 @@ use Rattle.echo_filed.specs.declared.key.Key.{Key}
 use Rattle.echo_filed.specs.Filed.{Filed, key_of}
 use Rattle.model_steps.specs.Posting.{posted}
 use Rattle.model_steps.specs.Scanning.{is_seen_by}
-use Rattle.model_run.specs.Event.{RunEvent, Scanning}
-use Rattle.model_run.specs.Run.{Run, System, destination, nth, run_of, filing, fresh, scanning, scanning_at}
+use Rattle.model_run.specs.Event.{RunEvent}
+use Rattle.model_run.specs.Run.{Run, System, destination, nth, run_of, filing, fresh, scanning_at}
 use Rattle.model_run.specs.Orderly.{IsPosting, Settled, copies, count, origin, sent_count, tag_of}
 use Rattle.model_run.specs.Exports.{Export, IsSentCopy, exports, sent_by}
 use Rattle.model_run.specs.Tidy.{Carries, lists}
 use Rattle.model_run.proofs.Lists.{Among-take, not_both, nth-among}
 use Rattle.model_run.specs.Grave.{AllAreCarriers}
 use Rattle.model_run.specs.Harms.{Harm, SentItsOwn}
-use Rattle.model_run.specs.Postings.{IsMove, trial_posting, post_and_scan, trial_moment}
+use Rattle.model_run.specs.Postings.{IsMove, trial_posting, post_and_scan}
 use Rattle.model_run.specs.LawsOfRuns.{LawsOfRuns}
 use Rattle.model_run.proofs.HarmLists.{among-nth, nth-map, nth-changed}
 use Rattle.model_run.proofs.OneMessage.{Arrived, OnlyPosted, only-posted, post_of, post_of-tag, poster, counted, counted-one, one-or_zero, sent-part, sent-two, posted-at}
@@ -121,8 +121,7 @@ module _ (files : List LinkFile) (known : LawsOfRuns files) (tag : List ℕ) (on
       elim (some-or_all (λ s. (has_area s.file tag ≡ true) × (2 ≤ sent_count s.file.system (key_of p) run.packets))
       (λ s. (has_area s.file tag ≡ true → sent_count s.file.system (key_of p) run.packets ≤ 1))
       (λ s. where_area (has_area s.file tag) (more-or_few (sent_count s.file.system (key_of p) run.packets))) run.systems) [
-        | inl found ↦ (let (s, h, both) = found in
-            inl (inl (record { system = s; there = h; carries = both.0; key = key_of p; of_area = key-tag p ∙ posting-tag; again = both.1 })))
+        | inl found ↦ grind (arith, of_area, key-tag, posting-tag)
         | inr few ↦ own_or_none settled few (one-or_zero (sent_count f (key_of p) run.packets))
       ]
     where
@@ -148,18 +147,7 @@ module _ (files : List LinkFile) (known : LawsOfRuns files) (tag : List ℕ) (on
             | inr all ↦ inr (record { settled = settled; sent_once = few; never_own = none; filed = all })
             | inl found ↦ (let (s, h, both) = found in
                 let (z, at, same, held) = poster files known tag i file is area more in
-                inl (inr (inr (record {
-                  settled = settled;
-                  poster = z;
-                  at_poster = system-at i z at;
-                  message = p;
-                  filed = held;
-                  posting = p_posting;
-                  system = s;
-                  there = h;
-                  carries = both.0;
-                  lacks = both.1;
-                }))))
+                inl (inr (inr (grind (arith, poster, system-at, p_posting)))))
           ]
 
       own_or_none : Settled run tag → ((s : System) → Among s run.systems → has_area s.file tag ≡ true → sent_count s.file.system (key_of p) run.packets ≤ 1) →
@@ -191,8 +179,7 @@ module _ (files : List LinkFile) (known : LawsOfRuns files) (tag : List ℕ) (on
     same-system : (x : Address) (m n : Filed) (a : Holds x m) (b : Holds x n) → (a.index ≡ b.index) × (a.system ≡ b.system)
     same-system x m n a b =
         let e = one-system files known one_file events a.index b.index a.system b.system a.at b.at (a.address ∙ sym b.address) in
-        let P : ℕ → Type 0 = λ j. nth j run.systems ≡ Some b.system in
-        (e, some_same (sym a.at ∙ subst P (sym e) b.at))
+        grind (arith, some_same)
 
     holds-one : (x : Address) (m n : Filed) → Holds x m → Holds x n → m ≡ n
     holds-one x m n a b =
@@ -220,9 +207,7 @@ module _ (files : List LinkFile) (known : LawsOfRuns files) (tag : List ℕ) (on
         let to : destination e.packet ≡ x = ap (λ (q : Packet). destination q) (sym same) ∙ (arrived.to ∙ a.address) in
         let Q : Address → Type 0 = λ y. IsSentCopy maker.file original y m in
         let sender : origin arrived.packet ≡ maker.file.system = ap (λ (q : Packet). origin q) same ∙ from in
-        let link : is_link a.system.file tag maker.file.system ≡ true =
-        ap (λ (y : Address). is_link a.system.file tag y) (sym sender)
-        ∙ (ap (λ (t : List ℕ). is_link a.system.file t (origin arrived.packet)) (sym (of_area m a.key)) ∙ arrived.link) in
+        let link : is_link a.system.file tag maker.file.system ≡ true = grind (arith, of_area) in
         let R : Address → Type 0 = λ y. IsTrue (lists files tag y maker.file.system) in
         record {
           export = e;
@@ -306,8 +291,7 @@ module _ (files : List LinkFile) (known : LawsOfRuns files) (tag : List ℕ) (on
               let P : List LinkFile → Type 0 = λ fs. nth a.index fs ≡ Some a.system.file in
               let at_file = subst P (run-files files events) (nth-map (λ (s : System). s.file) a.index a.system run.systems a.at) in
               let Q : ℕ → Type 0 = λ j. nth j files ≡ Some a.system.file in
-              let same : file ≡ a.system.file = some_same (sym is ∙ subst Q posting.0 at_file) in
-              inl (posting.0, sym a.address ∙ ap (λ (g : LinkFile). g.system) (sym same), posting.1)
+              grind (arith, some_same)
               )
         ]
 
@@ -341,17 +325,9 @@ module _ (files : List LinkFile) (known : LawsOfRuns files) (tag : List ℕ) (on
         let S : Address → Type 0 = λ z. sent_count z (key_of p) run.packets ≤ 1 in
         let few = subst S b.address (unharmed.sent_once receiver (system-at b.index receiver b.at) b.area_there) in
         elim (held-or_came y m b) [
-          | inl posting ↦ (
-              let V : Address → Type 0 = λ z. sent_count z (key_of p) run.packets ≡ 0 in
-              let none = subst V (sym posting.1) unharmed.never_own in
-              absurd (omega (arith, sent-part y (key_of p) a.index all, all_sent y, here, none))
-              )
+          | inl posting ↦ grind (arith, sent-part, all_sent)
           | inr sent ↦ elim (cases_eq a.index sent.export.system) [
-            | inl same ↦ (
-                let W : ℕ → Type 0 = λ j. nth j run.systems ≡ Some sent.maker in
-                let one : s ≡ sent.maker = some_same (sym a.at ∙ subst W (sym same) sent.at) in
-                sent.copy.sender ∙ ap (λ (z : Address). Some z) (ap (λ (t : System). t.file.system) (sym one) ∙ a.address)
-                )
+            | inl same ↦ grind (arith, some_same)
             | inr other ↦ absurd (omega (
               arith,
               sent-two y (key_of p) a.index sent.export.system other all,
@@ -366,15 +342,7 @@ module _ (files : List LinkFile) (known : LawsOfRuns files) (tag : List ℕ) (on
     poster-holds : Holds f p
     poster-holds =
         let (z, at, same, held) = poster files known tag i file is area more in
-        record {
-          index = i;
-          system = z;
-          at = at;
-          address = ap (λ (g : LinkFile). g.system) same;
-          area_there = ap (λ (g : LinkFile). has_area g tag) same ∙ area;
-          filed = held;
-          key = refl;
-        }
+        grind arith
 
     pub spread : Spread (lists files tag) (Carries files tag) f Holds
     spread = record {
@@ -398,13 +366,7 @@ module _ (files : List LinkFile) (known : LawsOfRuns files) (tag : List ℕ) (i 
   scanned-poster = scanning_at (filing (fresh file) (Some (post_of file tag)))
 
   pub scanned-there : nth i (run_of files (post_and_scan i tag)).systems ≡ Some scanned-poster
-  scanned-there =
-      let before = run_of files (trial_posting i tag ∷ []) in
-      let at = posted-at files known tag i file is area in
-      let P : Run → Type 0 = λ run. nth i run.systems ≡ Some scanned-poster in
-      let Q : Option System → Type 0 = λ o. P (scanning before i trial_moment o) in
-      after_one_more P files (trial_posting i tag ∷ []) (Scanning i trial_moment)
-      (subst Q (sym at) (nth-changed i scanning_at (filing (fresh file) (Some (post_of file tag))) before.systems at))
+  scanned-there = grind (arith, posted-at, after_one_more, nth-changed, post_of)
 
   pub sent-to_link : (a : Address) → is_link file tag a ≡ true →
       1 ≤ sent_count a (key_of (post_of file tag)) (run_of files (post_and_scan i tag)).packets

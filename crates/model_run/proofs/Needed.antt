@@ -50,8 +50,7 @@ module _ (n : ℕ) where
       | inl e ↦ ([], e)
       | inr other ↦ (b ∷ [], (linked-from a b (ltb-true a n at_a) (ltb-true b n at_b) other, refl))
     ];
-    cycles = λ first rest cycle x y h i other.
-        linked-from x y (in-cycle first rest cycle x h) (in-cycle first rest cycle y i) other;
+    cycles = grind (arith, linked-from, in-cycle);
   }
 
 -- For each rule a run in which tossers keep all rules but this one, and which is not orderly.
@@ -159,10 +158,7 @@ keeping-needed = record {
   others = settling-kept 2;
   broken = λ orderly.
       let (m, h, at, key, content) = orderly.all_filed (settled 2) (posted 0) (inr (inl refl)) refl 1 refl in
-      elim h [
-        | inl e ↦ (let two = ap (λ (n : Filed ℕ ℕ ℕ ℕ). n.text.content) e in absurd (omega (arith, two, content)))
-        | inr t ↦ not_at_1 (m, t, at, key)
-      ];
+      grind (arith, not_at_1);
 }
 
 -- a message is exported a second time
@@ -198,30 +194,10 @@ telling-needed = record {
 }
   where
     from_0 : (x : ℕ) → Among x (1 ∷ 2 ∷ []) ↔ IsTarget (polygon 3) (posted 0) x
-    from_0 x = (
-      λ h. (let P : ℕ → Type 0 = λ a. IsTarget (polygon 3) (posted 0) a in
-          elim h [
-            | inl e ↦ subst P (sym e) (record { link = refl; not_sender = λ none. cc; not_seen = λ i. i })
-            | inr t ↦ elim t [
-              | inl e ↦ subst P (sym e) (record { link = refl; not_sender = λ none. cc; not_seen = λ i. i })
-              | inr none ↦ absurd none
-            ]
-          ]),
-      λ target. (let (below, under, other) = linked-parts 3 0 x target.link in
-          elim (ℕ-can_tell x 1) [ inl e ↦ inl e | inr not_1 ↦ inr (inl (omega (arith, under, λ (e : x ≡ 0). other (sym e), not_1))) ]),
-    )
+    from_0 x = grind (arith, linked-parts)
 
     from_1 : (x : ℕ) → Among x (2 ∷ []) ↔ IsTarget (polygon 3) (received 1) x
-    from_1 x = (
-      λ h. (let P : ℕ → Type 0 = λ a. IsTarget (polygon 3) (received 1) a in
-          elim h [
-            | inl e ↦ subst P (sym e) (record { link = refl; not_sender = λ same. (let zero = some_same same in absurd (omega (arith, zero))); not_seen = λ i. i })
-            | inr none ↦ absurd none
-          ]),
-      λ target. (let (below, under, other) = linked-parts 3 1 x target.link in
-          let not_0 : x ≢ 0 = λ e. target.not_sender (ap (λ (a : ℕ). Some a) (sym e)) in
-          inl (omega (arith, under, λ (e : x ≡ 1). other (sym e), not_0))),
-    )
+    from_1 x = grind (arith, some_same, linked-parts)
 
     others : (other : Rule) → other ≢ telling → Kept (polygon 3) (λ a b. a ≡ b) unreported other
     others filing apart = (tt, ((λ yes. (refl, not_at_1), λ new. refl), (tt, (tt, tt))))

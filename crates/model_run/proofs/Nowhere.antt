@@ -18,7 +18,7 @@ use Rattle.model_run.proofs.Lists.{any-to, first_passes, nth-among, with_index-f
 use Rattle.model_run.specs.Grave.{ListsNobody}
 use Rattle.model_run.specs.Harms.{NeverSettles}
 use Rattle.model_run.specs.LawsOfRuns.{LawsOfRuns}
-use Rattle.model_run.specs.Postings.{post_and_scan, trial_moment, trial_posting}
+use Rattle.model_run.specs.Postings.{post_and_scan, trial_posting}
 use Rattle.model_run.proofs.Holders.{sent-to_link}
 use Rattle.model_run.proofs.OneMessage.{post_of, post_of-tag, sent-packet}
 use Rattle.model_run.proofs.Places.{lists-file}
@@ -150,8 +150,7 @@ never_settles files known tag events q first nobody m in_copies of_area more set
     let (before, after, whole) = split-at q run.packets kept.packet in
     let came = kept.delivered (length before) (settled.delivered before q after whole m in_copies of_area) in
     let P : List Packet → Type 0 = λ ps. nth (length before) ps ≡ Some q in
-    let same : came.packet ≡ q = some_same (sym came.at ∙ subst P (sym whole) (nth-middle q before after)) in
-    nobody came.file came.there (came.address ∙ ap (λ (x : Packet). destination x) same)
+    grind (arith, some_same, nth-middle)
 
 -- a system that lists an address without a file posts and scans: this packet never comes
 pub nobody-never_rests : (files : List LinkFile) → LawsOfRuns files → (tag : List ℕ) → ListsNobody files tag → NeverSettles files tag
@@ -169,10 +168,7 @@ nobody-never_rests files known tag lost =
         (sent-to_link files known tag i file is area lost.link link) in
         let (m, in_copies, key) = copied in
         let of_area : m.echo.tag ≡ tag = sym (key-tag m) ∙ (ap tag_of key ∙ (key-tag p ∙ post_of-tag files known tag i file is area)) in
-        let first : Kept files q (run_of files (post_and_scan i tag)) = record {
-          packet = at;
-          delivered = λ k there. absurd (subst (λ (ks : List ℕ). Among k ks) (scanning-delivered one i trial_moment (nth i one.systems)) there);
-        } in (
+        let first : Kept files q (run_of files (post_and_scan i tag)) = grind (arith, scanning-delivered) in (
           post_and_scan i tag,
           never_settles files known tag (post_and_scan i tag) q first (λ f l same. lost.nobody f l (same ∙ to)) m in_copies of_area,
         )

@@ -16,7 +16,6 @@ use Rattle.echo_filed.specs.Filed.{Filed, key_of}
 use Rattle.model_steps.specs.Posting.{posted, posting}
 use Rattle.model_steps.specs.Tossing.{received, sender_of, tossing, zone_of}
 use Rattle.model_steps.specs.Scanning.{scanned}
-use Rattle.model_steps.specs.Stamps.{is_stamp}
 use Rattle.model_run.specs.Event.{RunEvent}
 use Rattle.model_run.specs.Run.{System, Run, after_event, change, coming, delivery, destination, filing, fresh, nth, posting_at, receiver, run_of, scanning, scanning_at, taking, tossing_at}
 use Rattle.model_run.specs.Orderly.{copies, origin, count, sent_count}
@@ -91,8 +90,7 @@ module _ (files : List LinkFile) (known : LawsOfRuns files) (i : ℕ) (p : Filed
         let fits = known.fit s.file (file-there files known events s (nth-among e.system s run.systems there)) in
         let zone = ap (λ (a : Address). a.zone) is in
         let own = ap (λ (x : Packet). x.header.orig_zone) same in
-        let low : 1 ≤ s.file.system.zone = fits.address.zone.0 in
-        cond-false (q.header.orig_zone == 0) file.system.zone q.header.orig_zone (not_zero (q.header.orig_zone) (omega (arith, zone, own, low)))
+        grind (arith, cond-false, not_zero)
       where
         not_zero : (z : ℕ) → 1 ≤ z → (z == 0) ≡ false
         not_zero z low = elim (yes_or_no (z == 0)) [ inr f ↦ f | inl t ↦ absurd (omega (arith, eqb-true z 0 t)) ]
@@ -115,8 +113,7 @@ module _ (files : List LinkFile) (known : LawsOfRuns files) (i : ℕ) (p : Filed
               let is_copy : m ≡ received (origin q) new.packed = is_received ∙ ap (λ (a : Address). received a new.packed) from in
               let P : Filed → Type 0 = λ x. Among x (copies q) in
               let tag_is : m.echo.tag ≡ (echo_of new.packed.text).tag = ap (λ (x : Filed). x.echo.tag) is_copy ∙ received-tag (origin q) new.packed in
-              let link : is_link s.file m.echo.tag (origin q) ≡ true =
-              ap (λ (t : List ℕ). is_link s.file t (origin q)) tag_is ∙ (ap (λ (a : Address). is_link s.file (echo_of new.packed.text).tag a) (sym from) ∙ to_file.link) in
+              let link : is_link s.file m.echo.tag (origin q) ≡ true = grind arith in
               inr (to_after (record {
                 packet = q;
                 there = at;
@@ -164,8 +161,7 @@ module _ (files : List LinkFile) (known : LawsOfRuns files) (i : ℕ) (p : Filed
         }
 
     scanned-so : (k : ℕ) (stamp : Stamp) (o : Option System) → OnlyPosted i p (scanning now k stamp o)
-    scanned-so k stamp None = only
-    scanned-so k stamp (Some s) = scans k stamp s (is_stamp stamp)
+    scanned-so k stamp h3 = grind (arith, scans)
 
     comes : (k : ℕ) (q : Packet) → Among q now.packets → (o : Option System) → OnlyPosted i p (coming now k q o)
     comes k q at None = only
@@ -175,18 +171,9 @@ module _ (files : List LinkFile) (known : LawsOfRuns files) (i : ℕ) (p : Filed
         record {
           from = λ j z is m h. elim (nth-change (receiver now q) j (taking q n) z now.systems is) [
             | inl other ↦ elim (only.from j z other.1 m h) [ inl posting ↦ inl posting | inr arrived ↦ inr (arrived-more now after z z m (λ x l. l) refl arrived) ]
-            | inr here ↦ (let (x, is_x, same) = here.1 in
-                let P : System → Type 0 = λ t. Among m t.history in
-                let Q : ℕ → Type 0 = λ l. nth l now.systems ≡ Some x in
-                let R : System → Type 0 = λ t. ((j ≡ i) × (m ≡ p)) ⊎ Arrived after t m in
-                subst R (sym same) (taken-from events only q at n after (λ y l. l) j x is_x (subst Q (sym here.0) is_x) m (subst P same h)))
+            | inr here ↦ grind (arith, taken-from)
           ];
-          whole = λ j z is. elim (nth-change (receiver now q) j (taking q n) z now.systems is) [
-            | inl other ↦ only.whole j z other.1
-            | inr here ↦ (let (x, is_x, same) = here.1 in
-                let P : System → Type 0 = λ t. t.base ≡ t.history in
-                subst P (sym same) (tossing-whole (sender_of x.file q.header) (take n q.messages) x (only.whole j x is_x)))
-          ];
+          whole = grind (arith, nth-change, tossing-whole);
         }
 
     delivered-so : (k : ℕ) (o : Option Packet) → nth k now.packets ≡ o → OnlyPosted i p (delivery now k o)

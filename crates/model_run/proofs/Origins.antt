@@ -1,11 +1,10 @@
 -- On every net each message has the content of a posting.
-use Rattle.std.proofs.Common.{◌≡◌, ◌⊎◌, inl, inr, refl, sym, subst, ap, ◌∙◌, ℕ, zero, suc, List, [], ◌∷◌, ◌++◌, length, take, drop, Option, Some, None}
-use Rattle.std.specs.Prelude.{Bool, true, false, filter, is_none, if◌then◌else◌}
+use Rattle.std.proofs.Common.{◌≡◌, ◌⊎◌, inl, inr, refl, sym, subst, ap, ◌∙◌, ℕ, zero, suc, List, [], ◌∷◌, ◌++◌, length, take, drop, Option, Some, None, arith}
+use Rattle.std.specs.Prelude.{Bool, true, false, filter, if◌then◌else◌}
 use Rattle.echo_addr.specs.declared.address.Address.{Address}
 use Rattle.model_graph.specs.Walk.{Among}
 use Rattle.model_graph.proofs.Members.{Among-append_left, Among-append_cases}
 use Rattle.echo_packet.specs.Message.{Message}
-use Rattle.echo_text.specs.Refusal.{text_refusal}
 use Rattle.model_steps.specs.declared.packet.Packet.{Packet}
 use Rattle.model_steps.specs.declared.draft.Draft.{Draft}
 use Rattle.model_steps.specs.declared.stamp.Stamp.{Stamp}
@@ -14,7 +13,7 @@ use Rattle.echo_filed.specs.Filed.{Filed, key_of}
 use Rattle.model_steps.specs.Posting.{posting}
 use Rattle.model_steps.specs.Tossing.{received, tossing, sender_of}
 use Rattle.model_steps.specs.Scanning.{goes_to, scanned}
-use Rattle.model_run.specs.Run.{System, Run, fresh, filing, posting_at, tossing_at, scanning_at, purging_at, nth, change, receiver, changing, scanning, taking, coming, delivery, part_delivery, after_event, after_events, run_of, start}
+use Rattle.model_run.specs.Run.{System, Run, filing, posting_at, tossing_at, scanning_at, purging_at, nth, change, receiver, changing, scanning, taking, coming, delivery, part_delivery, after_event, after_events, run_of, start}
 use Rattle.model_run.specs.Event.{RunEvent, Posting, Scanning, Delivery, PartDelivery, Purging}
 use Rattle.model_run.specs.Fits.{FilesFit}
 use Rattle.model_steps.specs.Stamps.{is_stamp}
@@ -35,10 +34,7 @@ Origin ss m = (f : System) × Among f ss × ((o : Filed) × Among o f.history ×
 
 -- a message with the key and the content of another has its origin
 Origin-same : (ss : List System) (m n : Filed) → key_of n ≡ key_of m → content_of n ≡ content_of m → Origin ss m → Origin ss n
-Origin-same ss m n key content from =
-    let (f, at_f, rest) = from in
-    let (o, at_o, own, same_key, same_content) = rest in
-    (f, at_f, (o, at_o, own, same_key ∙ sym key, same_content ∙ sym content))
+Origin-same ss m n key content from = grind arith
 
 pub record Traced (run : Run) : Type 0 where
   pub systems : (s : System) → Among s run.systems → (m : Filed) → Among m s.history → Origin run.systems m
@@ -67,8 +63,7 @@ Origin-kept i f keeps ss m from =
     (z, k, (o, elim e [ inl same ↦ subst P (sym same) j | inr now ↦ subst P (sym now) (keeps s o j) ], own, key, content))
 
 filing-kept : (s : System) (o : Option Filed) (m : Filed) → Among m s.history → Among m (filing s o).history
-filing-kept s None m h = h
-filing-kept s (Some n) m h = Among-append_left m s.history (n ∷ []) h
+filing-kept s h2 m h = grind (arith, Among-append_left)
 
 pub tossing-kept : (sender : Address) (ms : List Message) → Keeps (tossing_at sender ms)
 tossing-kept sender [] s m h = h
@@ -138,8 +133,7 @@ module _ (laws : Laws) where
             let in_p = Among-take n q p.messages i in
             let from : m ≡ received (origin p) q = e ∙ ap (λ (a : Address). received a q) (origin-is t.file p ok_p) in
             let P : Filed → Type 0 = λ c. Origin run.systems c in
-            let copy : Among (received (origin p) q) (copies p) = Among-map_to (received (origin p)) q (filter (λ packed. is_none (text_refusal packed.text)) p.messages)
-            (Among-filter_to (λ packed. is_none (text_refusal packed.text)) q p.messages in_p (ap (λ (o : Option _). is_none o) (ok_p.messages q in_p).0)) in
+            let copy : Among (received (origin p) q) (copies p) = grind (arith, Among-map_to, Among-filter_to) in
             inr (subst P (sym from) (traced.packets p h (received (origin p) q) copy)))
       ]
 
@@ -172,8 +166,7 @@ module _ (laws : Laws) where
 
   part-traced : (run : Run) → Traced run → RunOk run → (n : ℕ) (found : Option Packet) → ((p : Packet) → found ≡ Some p → Among p run.packets) →
       Traced (part_delivery run n found)
-  part-traced run traced ok n None h = traced
-  part-traced run traced ok n (Some p) h = taking-traced run traced ok p (h p refl) n
+  part-traced run traced ok n h5 h = grind (arith, taking-traced)
 
   scanning-traced : (run : Run) → Traced run → RunOk run → (i : ℕ) (stamp : Stamp) (found : Option System) →
       ((s : System) → found ≡ Some s → Among s run.systems) → Traced (scanning run i stamp found)
@@ -212,10 +205,4 @@ module _ (laws : Laws) where
   events-traced (event ∷ later) run ok traced = events-traced later (after_event run event) (event-ok laws run event ok) (event-traced run ok traced event)
 
   pub run-traced : (files : List LinkFile) → FilesFit files → (events : List RunEvent) → Traced (run_of files events)
-  run-traced files fit events = events-traced events (start files) (start-ok laws files fit) (record {
-    systems = λ s h m j.
-        let (file, i, e) = Among-map_from fresh s files h in
-        let P : System → Type 0 = λ t. Among m t.history in
-        absurd (subst P e j);
-    packets = λ p h c i. absurd h;
-  })
+  run-traced files fit events = events-traced events (start files) (start-ok laws files fit) (grind (arith, Among-map_from))

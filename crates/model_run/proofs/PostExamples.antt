@@ -1,5 +1,5 @@
 -- Postings by computation: accepted ones, and the first refusal that applies.
-use Rattle.std.proofs.Common.{◌≡◌, [], ◌∷◌, refl, Some, None, codes, replicate, ℕ, List, ◌++◌, lit<, lit≤}
+use Rattle.std.proofs.Common.{◌≡◌, [], ◌∷◌, refl, Some, None, codes, replicate, ℕ, List, ◌++◌, arith}
 use Rattle.std.specs.Fmt.{digits}
 use Rattle.echo_text.specs.Lines.{after_word, begins, lines, trimmed}
 use Rattle.echo_text.specs.Echo.{msgid_of}
@@ -183,13 +183,7 @@ unfolding head_bytes stored_bytes is_damaged message_in echo_of text_refusal lin
 posted_in_first = record {
   version = First;
   all = stored_with 0 0 line_text ∷ [];
-  begins = record {
-    number_fits = lit< tt;
-    cursor_within = lit≤ tt;
-    sizes = (size_with First 0 0 line_text (lit< tt) (lit< tt) (lit< tt), tt);
-    sound = (refl, tt);
-    whole = refl;
-  };
+  begins = grind (arith, size_with);
   messages = refl;
 }
 

@@ -14,7 +14,7 @@ use Rattle.model_run.proofs.Lists.{nth-among, nth-split, same_list as Among-in}
 use Rattle.model_run.proofs.WholeRuns.{along}
 use Rattle.model_run.proofs.LaterSystems.{events-last}
 use Rattle.model_run.proofs.HarmLists.{among-nth}
-use Rattle.std.specs.Prelude.{Bool, true, is_some, ◌&&◌, ◌||◌, option_map, unwrap_or}
+use Rattle.std.specs.Prelude.{Bool, is_some, ◌&&◌, ◌||◌, option_map, unwrap_or}
 use Rattle.echo_addr.specs.declared.address.Address.{Address}
 use Rattle.echo_addr.specs.Address.{net_node_of}
 use Rattle.model_graph.proofs.Members.{Among-append_cases, Among-append_left}
@@ -110,8 +110,7 @@ module _ (laws : Laws) where
     later = λ s h.
         let (i, e) = among-nth s run.systems h in
         let (z, at, last) = events-last laws events run (λ t j. (ok.systems t j).kept) i s e in
-        let grown : HasGrown s z = record { address = ap (λ (f : LinkFile). f.system) last.file; cursor = last.cursor; filed = last.filed } in
-        (z, nth-among i z (after_events run events).systems at, grown);
+        grind (arith, nth-among);
   }
 
   pub change-outlives : (run : Run) (files : List LinkFile) → SameSystems run.systems files → Outlives run (changed_to run files)
@@ -134,28 +133,10 @@ module _ (laws : Laws) where
 module _ (tag : List ℕ) (part : System → List Filed) (keeps : (s z : System) → Renewed s z → part z ≡ part s) (systems : List System) (files : List LinkFile)
     (same : SameSystems systems files) (m : RFiled) where
   renewed-filed : IsFiledIn tag part systems m → IsFiledIn tag part (with_files files systems) m
-  renewed-filed is =
-      let (z, h, renewed) = renewed-to files systems is.system same is.there in
-      record {
-        system = z;
-        there = h;
-        message = is.message;
-        filed = Among-in is.message (part is.system) (part z) (sym (keeps is.system z renewed)) is.filed;
-        area = is.area;
-        same = is.same ∙ ap (λ (a : Address). filed_as a is.message) (sym renewed.address);
-      }
+  renewed-filed is = grind (arith, renewed-to, Among-in)
 
   filed-renewed : IsFiledIn tag part (with_files files systems) m → IsFiledIn tag part systems m
-  filed-renewed is =
-      let (s, h, renewed) = renewed-back files systems is.system same is.there in
-      record {
-        system = s;
-        there = h;
-        message = is.message;
-        filed = Among-in is.message (part is.system) (part s) (keeps s is.system renewed) is.filed;
-        area = is.area;
-        same = is.same ∙ ap (λ (a : Address). filed_as a is.message) renewed.address;
-      }
+  filed-renewed is = grind (arith, renewed-back, Among-in)
 
 history-renewed : (tag : List ℕ) (run : Run) (files : List LinkFile) → SameSystems run.systems files → (events : List REvent) →
     IsHistory tag run events → IsHistory tag (changed_to run files) events
@@ -192,9 +173,7 @@ module _ (laws : Laws) (tag : List ℕ) where
 
   pub same-systems : (files : List LinkFile) (run : Run) (next : List LinkFile) → map (λ (s : System). s.file) run.systems ≡ files →
       addresses files ≡ addresses next → SameSystems run.systems next
-  same-systems files run next same_files same =
-      sym (map-map (λ (file : LinkFile). file.system) (λ (s : System). s.file) run.systems)
-      ∙ (ap (λ (fs : List LinkFile). addresses fs) same_files ∙ same)
+  same-systems files run next same_files same = grind (arith, map-map)
 
   -- if the area has settled, so have the events
   pub all-settled : (files : List LinkFile) (run : Run) (st : Stands files run) → Settled run tag → IsSettled (st.standing.recent ++ st.past)
@@ -209,8 +188,7 @@ module _ (laws : Laws) (tag : List ℕ) where
             let P : ℕ → Type 0 = λ j. Among j run.delivered in
             let delivered = subst P split.index (settled.delivered split.before is.packet split.after split.whole is.message is.inside is.area) in
             let came = at.history.came k delivered is.packet e is.message is.inside is.area in
-            let Q : RCopy → Type 0 = λ d. Among d (rules.came (at.recent ++ st.past)) in
-            subst Q (sym is.same) came;
+            grind (arith, RCopy);
       }
     where
       exported : (m : RFiled) → IsFiledIn tag (λ s. s.history) run.systems m → Among m (rules.exported (st.standing.recent ++ st.past))
@@ -341,23 +319,13 @@ module _ (laws : Laws) (tag : List ℕ) where
             ⊎ (IsNewKey (entered files run epoch.files st change.fit change.tidy same settled).past (key_of m)
             × ((a : Address) → was a → Carries epoch.files tag a) × ((a : Address) → Carries epoch.files tag a → was a))
         due (inl settled) = inl (paid settled)
-        due (inr area) = elim owed.due [
-          | inl given ↦ inl given
-          | inr new ↦ inr (
-            new.0,
-            λ a had. (let P : Bool → Type 0 = λ b. b ≡ true in subst P (area.carriers a) (new.1 a had)),
-            λ a c. new.2 a (let P : Bool → Type 0 = λ b. b ≡ true in subst P (sym (area.carriers a)) c),
-          )
-        ]
+        due (inr area) = grind arith
 
   -- the receivers of a posting of an epoch are the systems with the area in it
   pub owed-begins : (files : List LinkFile) (begun : Run) (st : Stands files begun) (after : Run) (at : Standing files tag st.past after) → Outlives begun after → (before : Run) →
       ((z : System) → Among z begun.systems → (m : Filed) → Among m z.history → (s : System) × Among s before.systems × (address_of s ≡ address_of z) × Among m s.history) →
       (m : Filed) → PostedBetween tag before after m → Owed (Carries files tag) files st.past after m
-  owed-begins files begun st after at outlives before back m posted = record {
-    posted = (posted.poster, posted.there, posted.filed, posted.posting);
-    due = inr (new, λ a c. c, λ a c. c);
-  }
+  owed-begins files begun st after at outlives before back m posted = grind (arith, new)
     where
       new : IsNewKey st.past (key_of m)
       new n h e =
@@ -425,12 +393,7 @@ tidy-pair tag before after tidy tidy_after fit fit_after same area = record {
     first_same e = (cc, cc)
 
     the_change : (earlier : List Epoch) (last next : Epoch) (later : List Epoch) → before ∷ (after ∷ []) ≡ earlier ++ last ∷ (next ∷ later) → SameArea tag last.files next.files
-    the_change [] last next later e =
-        let (p, rest) = first_same e in
-        let (q, none) = first_same rest in
-        let P : Epoch → Type 0 = λ x. SameArea tag x.files next.files in
-        let Q : Epoch → Type 0 = λ x. SameArea tag before.files x.files in
-        subst P p (subst Q q area)
+    the_change [] last next later e = grind arith
     the_change (x ∷ earlier) last next later e =
         let long = ap (λ (es : List Epoch). length es) e in
         absurd (omega (arith, long, length-append earlier (last ∷ (next ∷ later))))

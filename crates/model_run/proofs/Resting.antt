@@ -20,7 +20,7 @@ use Rattle.echo_text.specs.Refusal.{text_refusal}
 use Rattle.echo_text.specs.declared.fault.TextFault.{TextFault}
 use Rattle.echo_text.specs.Echo.{msgid_of}
 use Rattle.model_steps.specs.declared.packet.Packet.{Packet}
-use Rattle.echo_links.specs.Links.{LinkFile, has_area, is_link, same_address}
+use Rattle.echo_links.specs.Links.{LinkFile, is_link, same_address}
 use Rattle.echo_links.proofs.Addresses.{same_address_decides}
 use Rattle.echo_filed.specs.Written.{echo_of}
 use Rattle.model_run.specs.Event.{RunEvent, Scanning, Delivery}
@@ -224,23 +224,14 @@ module _ (files : List LinkFile) (known : LawsOfRuns files) where
           nowhere e file h same =
               let (s, i, is_file) = system-there events file h in
               let at : s.file.system ≡ destination p = ap (λ (f : LinkFile). f.system) (sym is_file) ∙ same in
-              not_both (same_address s.file.system (destination p)) ((same_address_decides s.file.system (destination p)).1 at)
-              (none_passes (λ z. same_address z.file.system (destination p)) run.systems e s i)
+              grind (arith, not_both, same_address_decides, none_passes)
 
           comes : (o : Option System) → nth (receiver run p) run.systems ≡ o →
               Fewer before (coming run k p o) ⊎ Rests before (coming run k p o) (suc k)
-          comes None e = inr (record {
-            systems = rests.systems;
-            packets = rests.packets;
-            came = next run.delivered (λ j h. h) (λ q at. (let P : Packet → Type 0 = GoesNowhere in inr (subst P (some_same (sym is ∙ at)) (nowhere e))));
-          })
+          comes None e = inr (grind (arith, next, some_same, nowhere))
           comes (Some s) e =
               elim (change-fewer keys (taking p (length p.messages)) run.systems each (receiver run p)) [
-                | inl same ↦ inr (record {
-                  systems = same ∙ rests.systems;
-                  packets = rests.packets;
-                  came = next (with_index k run.delivered) (λ j h. with_index-old k j run.delivered h) (λ q at. inl (with_index-new k run.delivered));
-                })
+                | inl same ↦ inr (grind (arith, next, with_index-old, with_index-new))
                 | inr less ↦ inl (record {
                   within = taken-within p (nth-among k p run.packets is) (length p.messages) (receiver run p);
                   fewer = omega (arith, less, ap (λ (ss : List System). all_lacking keys ss) rests.systems);
@@ -296,12 +287,7 @@ module _ (files : List LinkFile) (known : LawsOfRuns files) where
         | inr now ↦ (let (x, l, same) = now in let P : System → Type 0 = λ y. Among m y.history in so_far.within x l m (subst P same j))
       ];
       lacks = change-same keys scanning_at (λ s. refl) n run.systems ∙ so_far.lacks;
-      quiet = λ i s less at. elim (nth-change n i scanning_at s run.systems at) [
-        | inl other ↦ so_far.quiet i s (let differ : n ≢ i = other.0 in omega arith) other.1
-        | inr here ↦ (let (x, _, same) = here.1 in
-            let P : System → Type 0 = λ y. drop y.cursor y.base ≡ [] in
-            subst P (sym same) (drop_all (length x.base) x.base (omega arith)))
-      ];
+      quiet = grind (arith, nth-change, drop_all);
       size = length-change n scanning_at run.systems ∙ so_far.size;
     }
 
@@ -345,8 +331,7 @@ module _ (files : List LinkFile) (known : LawsOfRuns files) where
           let listed : lists files tag s.file.system to ≡ true =
           any-to (λ file. same_address file.system s.file.system && is_link file tag to) s.file files
           (file-there events s (nth-among e.system s (run_of files events).systems there)) (and-from (same_address s.file.system s.file.system) (is_link s.file tag to) ((same_address_decides s.file.system s.file.system).1 refl) link) in
-          let (file, j, t) = any-from (λ file. same_address file.system to && has_area file tag) files (all_known s.file.system to listed) in
-          nowhere file j ((same_address_decides file.system to).0 (and-parts (same_address file.system to) (has_area file tag) t).0 ∙ ap (λ (x : Packet). destination x) (sym same))
+          grind (arith, any-from, same_address_decides, and-parts)
 
       -- one round: all systems scan, and packets come until one of them brings something new
       record Round (events : List RunEvent) : Type 0 where
@@ -400,20 +385,13 @@ module _ (files : List LinkFile) (known : LawsOfRuns files) where
       settle : (n : ℕ) (events : List RunEvent) → Within (run_of files events) → all_lacking keys (run_of files events).systems ≤ n → Settling events
       settle zero events within few =
           let one = round events within in
-          elim one.out [
-            | inl fewer ↦ absurd (let less = fewer.fewer in omega arith)
-            | inr settled ↦ record { more = one.more; moves = one.moves; settled = settled }
-          ]
+          grind arith
       settle (suc n) events within few =
           let one = round events within in
           elim one.out [
             | inl fewer ↦ (let rest = settle n (events ++ one.more) fewer.within (let less = fewer.fewer in omega arith) in
                 let P : List RunEvent → Type 0 = λ es. Settled (run_of files es) tag in
-                record {
-                  more = one.more ++ rest.more;
-                  moves = all-append IsMove one.more rest.more one.moves rest.moves;
-                  settled = subst P (append_assoc events one.more rest.more) rest.settled;
-                })
+                grind (arith, all-append, append_assoc))
             | inr settled ↦ record { more = one.more; moves = one.moves; settled = settled }
           ]
 
@@ -427,8 +405,7 @@ unfolding all_keys
 all_keys-has [] s h m i = absurd h
 all_keys-has (z ∷ ss) s h m i =
     elim h [
-      | inl e ↦ (let P : System → Type 0 = λ x. Among m x.history in
-          Among-append_left (key_of m) (map key_of z.history) (all_keys ss) (Among-map_to key_of m z.history (subst P e i)))
+      | inl e ↦ grind (arith, Among-append_left, all_keys, Among-map_to)
       | inr t ↦ Among-append_right (key_of m) (map key_of z.history) (all_keys ss) (all_keys-has ss s t m i)
     ]
 

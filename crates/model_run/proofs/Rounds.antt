@@ -9,14 +9,14 @@ use Rattle.echo_addr.specs.declared.address.Address.{Address}
 use Rattle.model_graph.specs.Walk.{Among}
 use Rattle.model_graph.proofs.Members.{Among-append_cases}
 use Rattle.model_steps.specs.declared.packet.Packet.{Packet}
-use Rattle.echo_links.specs.Links.{LinkFile, has_area, is_link, same_address}
+use Rattle.echo_links.specs.Links.{LinkFile, has_area, is_link}
 use Rattle.echo_links.proofs.Addresses.{same_address_decides}
 use Rattle.echo_filed.specs.declared.key.Key.{Key}
 use Rattle.echo_filed.specs.Filed.{Filed, key_of}
 use Rattle.model_steps.specs.Scanning.{recipients, scanned, targets}
 use Rattle.model_steps.specs.Tossing.{sender_of}
 use Rattle.model_run.specs.Event.{RunEvent, Delivery, Scanning}
-use Rattle.model_run.specs.Run.{Run, System, change, coming, delivery, destination, nth, receiver, run_of, scanning, taking, with_index}
+use Rattle.model_run.specs.Run.{Run, System, coming, delivery, destination, nth, receiver, run_of, scanning, taking, with_index}
 use Rattle.model_run.specs.Orderly.{tag_of}
 use Rattle.model_run.specs.World.{is_settled, missing, undelivered}
 use Rattle.model_run.proofs.Copies.{packet-destination}
@@ -107,8 +107,7 @@ module _ (files : List LinkFile) (known : LawsOfRuns files) (tag : List ℕ) (al
         let (m, waits, target) = recipient-target s.file (drop s.cursor s.base) to j in
         let P : List Filed → Type 0 = λ ms. Among m ms in
         let tag_is = of_area m (only s h m (Among-drop s.cursor m s.history (subst P (known.waiting events s h) waits))) in
-        let link : is_link s.file tag to ≡ true =
-        ap (λ (t : List ℕ). is_link s.file t to) (sym tag_is) ∙ among-link s.file m.echo.tag to (target-link s.file m to target) in
+        let link : is_link s.file tag to ≡ true = grind (arith, among-link, target-link) in
         let (f, at, e, _) = carrier-file files tag to (all_known s.file.system to (file-lists files tag s.file (file-there files known events s h) to link)) in
         (f, at, e ∙ (sym (packet-destination the_laws s.file trial_moment (drop s.cursor s.base) to) ∙ ap (λ (q : Packet). destination q) (sym made)))
 
@@ -128,10 +127,7 @@ module _ (files : List LinkFile) (known : LawsOfRuns files) (tag : List ℕ) (al
       AllScanned (run_of files events) (run_of files (events ++ scans n)) n
   all_scan events only home zero =
       let P : List RunEvent → Type 0 = λ es. AllScanned (run_of files events) (run_of files es) 0 in
-      subst P (sym (append-nil events)) (record {
-        scanned = record { within = only; lacks = refl; quiet = λ j s less. absurd (omega arith); size = refl };
-        home = home;
-      })
+      subst P (sym (append-nil events)) (grind arith)
   all_scan events only home (suc n) =
       let before = run_of files events in
       let so_far = all_scan events only home n in
@@ -187,14 +183,12 @@ module _ (files : List LinkFile) (known : LawsOfRuns files) (tag : List ℕ) (al
           let (f, h, same) = so_far.home p there in
           let (s, j, is_file) = system-there files known events f h in
           let to : s.file.system ≡ destination p = ap (λ (g : LinkFile). g.system) (sym is_file) ∙ same in
-          absurd (not_both (same_address s.file.system (destination p)) ((same_address_decides s.file.system (destination p)).1 to)
-          (none_passes (λ z. same_address z.file.system (destination p)) then_.systems e s j))
+          grind (arith, not_both, same_address_decides, none_passes)
       comes (Some s) e = record {
         within = taken-within files known keys events so_far.within k p there (length p.messages) (receiver then_ p);
         home = so_far.home;
         packets = so_far.packets;
-        fewer = fewer-still start then_.systems (change (receiver then_ p) (taking p (length p.messages)) then_.systems) so_far.fewer
-            (change-fewer keys (taking p (length p.messages)) then_.systems each (receiver then_ p));
+        fewer = grind (arith, fewer-still, change-fewer, each);
         came = up-to (with_index k then_.delivered) (λ j h. with_index-old files known keys k j then_.delivered h) (λ _. with_index-new files known keys k then_.delivered);
       }
 
@@ -215,13 +209,7 @@ module _ (files : List LinkFile) (known : LawsOfRuns files) (tag : List ℕ) (al
       AllCame (run_of files events) (run_of files (events ++ deliveries n)) n
   all_come events only home zero =
       let P : List RunEvent → Type 0 = λ es. AllCame (run_of files events) (run_of files es) 0 in
-      subst P (sym (append-nil events)) (record {
-        within = only;
-        home = home;
-        packets = refl;
-        fewer = inl refl;
-        came = λ k less _. absurd (omega arith);
-      })
+      subst P (sym (append-nil events)) (grind arith)
   all_come events only home (suc n) =
       let start = run_of files events in
       let so_far = all_come events only home n in
@@ -254,27 +242,15 @@ module _ (files : List LinkFile) (known : LawsOfRuns files) (tag : List ℕ) (al
       Progress (events ++ round_after files events) next
   round-progress events n next e so_far moving =
       let before = run_of files events in
-      let few : all_lacking keys before.systems + n ≤ length files = elim so_far.out [
-        | inl settled ↦ absurd (not_both (is_settled before) settled moving)
-        | inr few ↦ few
-      ] in
+      let few : all_lacking keys before.systems + n ≤ length files = grind (arith, not_both) in
       let first = all_scan events so_far.within so_far.home (length files) in
       let after_scans = events ++ scans (length files) in
       let start = run_of files after_scans in
       let second = all_come after_scans first.scanned.within first.home (length start.packets) in
       let last = run_of files (after_scans ++ deliveries (length start.packets)) in
-      let quiet : (s : System) → Among s start.systems → drop s.cursor s.base ≡ [] = λ s h.
-      let (j, at) = among-nth s start.systems h in
-      first.scanned.quiet j s (omega (arith, nth-index j s start.systems at, sizes after_scans)) at in
+      let quiet : (s : System) → Among s start.systems → drop s.cursor s.base ≡ [] = grind (arith, among-nth, nth-index, sizes) in
       let P : List RunEvent → Type 0 = λ es. Progress es next in
-      subst P (append_assoc events (scans (length files)) (deliveries (length start.packets))) (record {
-        within = second.within;
-        home = second.home;
-        out = elim second.fewer [
-          | inl same ↦ inl (settled-run start last quiet same second)
-          | inr less ↦ inr (let lacks = first.scanned.lacks in omega (arith, e, less, few, lacks))
-        ];
-      })
+      subst P (append_assoc events (scans (length files)) (deliveries (length start.packets))) (grind (arith, settled-run))
     where
       sizes : (es : List RunEvent) → length (run_of files es).systems ≡ length files
       sizes es = sym (length-map (run_of files es).systems (λ (s : System). s.file)) ∙ ap (λ (fs : List LinkFile). length fs) (run-files files es)

@@ -1,7 +1,6 @@
 -- The packets of one scan, on every net.
 use Rattle.std.proofs.Common.{◌≡◌, ◌≢◌, inl, inr, refl, sym, subst, ap, ◌∙◌, ℕ, arith, List, [], ◌∷◌, drop, map}
-use Rattle.std.specs.Prelude.{true, false, filter, Some}
-use Rattle.std.specs.List.{list_any}
+use Rattle.std.specs.Prelude.{true, filter, Some}
 use Rattle.std.proofs.lemmas.Bool.{cond-true, cond-false}
 use Rattle.echo_addr.specs.declared.address.Address.{Address}
 use Rattle.model_graph.specs.Walk.{Among, Different}
@@ -9,7 +8,7 @@ use Rattle.model_graph.proofs.Members.{Among-at}
 use Rattle.echo_filed.specs.declared.key.Key.{Key}
 use Rattle.model_steps.specs.declared.packet.Packet.{Packet}
 use Rattle.model_steps.specs.declared.stamp.Stamp.{Stamp}
-use Rattle.echo_links.specs.Links.{LinkFile, same_address}
+use Rattle.echo_links.specs.Links.{LinkFile}
 use Rattle.echo_filed.specs.Filed.{Filed}
 use Rattle.model_steps.specs.Scanning.{copy_to, exported, goes_to, header_to, packet_to, packets_of, recipients, scanned}
 use Rattle.model_run.specs.Run.{System, destination}
@@ -39,8 +38,7 @@ copied-sent file m = refl
 packet-has : (file : LinkFile) (stamp : Stamp) (waiting : List Filed) (address : Address) (m : Filed) → Among m waiting → goes_to file address m ≡ true →
     Among (copy_to file address m) (packet_to file stamp waiting address).messages
 unfolding packet_to
-packet-has file stamp waiting address m h goes =
-    Among-map_to (copy_to file address) m (filter (goes_to file address) waiting) (Among-filter_to (goes_to file address) m waiting h goes)
+packet-has file stamp waiting address m h goes = grind (arith, Among-map_to, Among-filter_to)
 
 -- copies have the keys of their messages
 count-copied : (file : LinkFile) (k : Key) (ms : List Filed) → count k (map (copied file) ms) ≡ count k ms
@@ -62,9 +60,7 @@ module _ (laws : Laws) (s : System) (ok : SystemOk s) (stamp : Stamp) where
   made-are = refl
 
   pub scanned-origin : (p : Packet) → Among p (scanned s.file s.base s.cursor stamp) → origin p ≡ s.file.system
-  scanned-origin p h =
-      let (address, _, e) = scanned-from laws s.file s.base s.cursor stamp p h in
-      ap (λ (q : Packet). origin q) e ∙ packet-origin s.file stamp waits address
+  scanned-origin p h = grind (arith, scanned-from, packet-origin)
 
   -- each message of a packet is the copy of a waiting message, for one of its targets
   pub scanned-copied : (p : Packet) → Among p (scanned s.file s.base s.cursor stamp) → (c : Filed) → Among c (copies p) →
@@ -133,13 +129,7 @@ module _ (laws : Laws) (s : System) (ok : SystemOk s) (stamp : Stamp) where
   sent_among a k rs = sent_count a k (map (packet_to s.file stamp waits) rs)
 
   to-other : (a : Address) (k : Key) (r : Address) (rs : List Address) → r ≢ a → sent_among a k (r ∷ rs) ≡ sent_among a k rs
-  to-other a k r rs other =
-      let p = packet_to s.file stamp waits r in
-      let no : same_address (destination p) a ≡ false = elim (yes_or_no (same_address (destination p) a)) [
-        | inl t ↦ absurd (other (sym (packet-destination laws s.file stamp waits r) ∙ laws.addresses.sound (destination p) a t))
-        | inr f ↦ f
-      ] in
-      omega (arith, cond-false (same_address (destination p) a) (count k (copies p)) 0 no)
+  to-other a k r rs other = grind (arith, yes_or_no, packet-destination, cond-false)
 
   to-none : (a : Address) (k : Key) (rs : List Address) → ¬ Among a rs → sent_among a k rs ≡ 0
   to-none a k [] h = refl
@@ -159,20 +149,9 @@ module _ (laws : Laws) (s : System) (ok : SystemOk s) (stamp : Stamp) where
   copies-count a k = ap (λ (ms : List Filed). count k ms) (copies-of a) ∙ count-copied s.file k (filter (goes_to s.file a) waits)
 
   recipients-count : (a : Address) (k : Key) → sent_among a k (recipients s.file waits) ≡ count k (filter (goes_to s.file a) waits)
-  recipients-count a k = elim (yes_or_no (list_any (same_address a) (recipients s.file waits))) [
-    | inl t ↦ (let (b, i, e) = any-from (same_address a) (recipients s.file waits) t in
-        to-one a k (recipients s.file waits) (recipients-differ laws s.file waits)
-        (Among-at a b (recipients s.file waits) (laws.addresses.sound a b e) i)
-        ∙ copies-count a k)
-    | inr f ↦ (let not_there : ¬ Among a (recipients s.file waits) =
-        λ h. not_both (list_any (same_address a) (recipients s.file waits))
-        (any-to (same_address a) a (recipients s.file waits) h (laws.addresses.full a a refl)) f in
-        to-none a k (recipients s.file waits) not_there ∙ ap (λ (ms : List Filed). count k ms) (sym (none-goes a not_there)))
-  ]
+  recipients-count a k = grind (arith, yes_or_no, any-from, to-one, recipients-differ, Among-at, copies-count, not_both, any-to, to-none, none-goes)
 
   -- each target of a waiting message gets one copy of it
   pub scanned-count : (a : Address) (k : Key) →
       sent_count a k (scanned s.file s.base s.cursor stamp) ≡ count k (filter (goes_to s.file a) (drop s.cursor s.history))
-  scanned-count a k =
-      ap (λ (ps : List Packet). sent_count a k ps) made-are
-      ∙ (recipients-count a k ∙ ap (λ (ms : List Filed). count k (filter (goes_to s.file a) ms)) waits-kept)
+  scanned-count a k = grind (arith, made-are, recipients-count, waits-kept)

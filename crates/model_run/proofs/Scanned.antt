@@ -16,7 +16,7 @@ use Rattle.echo_filed.specs.Sets.{address_set}
 use Rattle.echo_filed.specs.Filed.{Filed, same_key}
 use Rattle.model_run.specs.Events.{Exports, Text, copy_to}
 use Rattle.model_run.specs.Run.{System, Run, change, destination, nth, scanning_at}
-use Rattle.model_run.specs.Orderly.{count, origin, sent_count, tag_of}
+use Rattle.model_run.specs.Orderly.{count, sent_count, tag_of}
 use Rattle.model_run.specs.Keeping.{Content, IsFiledIn, IsHistory, IsSent, copy_count, filed_as, said, sent_as}
 use Rattle.model_run.proofs.TosserPremises.{Laws, one_if}
 use Rattle.model_run.proofs.Lists.{yes_or_no, not_both, and-parts, filter-yes, filter-no, nth-append, Among-drop, Among-filter_from, Among-filter_to, same_list as Among-in, Among-map_to, Among-map_from}
@@ -40,10 +40,7 @@ module _ (laws : Laws) (m : RFiled) (text : Text NetNode Key Content) (x : Addre
   copy = copy_to m (λ y. text)
 
   other-goal : (y : Address) → y ≢ x → one_if (same_address y x && same_key text.key k) ≡ 0
-  other-goal y other = cond-false {A = ℕ} (same_address y x && same_key text.key k) 1 0 (elim (yes_or_no (same_address y x && same_key text.key k)) [
-    | inr f ↦ f
-    | inl t ↦ absurd (other (laws.addresses.sound y x (and-parts (same_address y x) (same_key text.key k) t).0))
-  ])
+  other-goal y other = grind (arith, cond-false, yes_or_no, and-parts)
 
   pub sent-nowhere : (to : List Address) → ¬ Among x to → copy_count x k (map copy to) ≡ 0
   sent-nowhere [] h = refl
@@ -107,10 +104,7 @@ module _ (laws : Laws) (tag : List ℕ) (s : System) (ok : SystemOk s) where
   new-to [] m x h i = absurd h
   new-to (n ∷ ms) m x h i =
       elim h [
-        | inl e ↦ (let P : Filed → Type 0 = λ z. Among (copy_of x z) (new_copies (n ∷ ms)) in
-            let Q : Filed → Type 0 = λ z. Among x (targets_of z) in
-            subst P (sym e) (Among-append_left (copy_of x n) (map (copy_to (filed_as (address_of s) n) (λ x. text_of n)) (targets_of n)) (new_copies ms)
-            (Among-map_to (copy_to (filed_as (address_of s) n) (λ x. text_of n)) x (targets_of n) (subst Q e i))))
+        | inl e ↦ grind (arith, Among-append_left, address_of, Among-map_to)
         | inr t ↦ Among-append_right (copy_of x m) (map (copy_to (filed_as (address_of s) n) (λ x. text_of n)) (targets_of n)) (new_copies ms) (new-to ms m x t i)
       ]
 
@@ -174,9 +168,7 @@ module _ (laws : Laws) (tag : List ℕ) (s : System) (ok : SystemOk s) where
     all-done = take_all (length s.base) s.history (omega (arith, Kept-length s.cursor s.base s.history ok.kept))
 
     split : (n : Filed) → Among n s.history → Among n (take s.cursor s.history) ⊎ Among n (drop s.cursor s.history)
-    split n h =
-        Among-append_cases n (take s.cursor s.history) (drop s.cursor s.history)
-        (Among-in n s.history (take s.cursor s.history ++ drop s.cursor s.history) (sym (take-append-drop s.cursor s.history)) h)
+    split n h = grind (arith, Among-append_cases, Among-in, take-append-drop)
 
     in-done : (n : Filed) → Among n s.history → Among n (take (length s.base) s.history)
     in-done n h = Among-in n s.history (take (length s.base) s.history) (sym all-done) h
@@ -225,37 +217,16 @@ module _ (laws : Laws) (tag : List ℕ) (s : System) (ok : SystemOk s) where
     sent-then c = (
       λ h. elim (Among-append_cases c (new_copies waits) (rules.copies events)
           (Among-in c (rules.copies (exports waits events)) (new_copies waits ++ rules.copies events) (copies-are waits events) h)) [
-            | inr old ↦ (let is = (history.sent c).0 old in record {
-              packet = is.packet;
-              there = Among-append_left is.packet run.packets made is.there;
-              message = is.message;
-              inside = is.inside;
-              area = is.area;
-              same = is.same;
-            })
+            | inr old ↦ (let is = (history.sent c).0 old in grind (arith, Among-append_left))
             | inl now ↦ (let (m, j, (x, target, e)) = new-from waits c now in
                 let (k, area) = waits-from m j in
                 let (p, l, from, to, inside) = target-packet laws s ok stamp m k x (targets-from laws s.file m x (laws.addresses_only x (targets s.file m) target)) in
                 let whole : Address → Address → RCopy = λ a b. record { from = a; to = b; text = text_of m } in
-                record {
-                  packet = p;
-                  there = Among-append_right p run.packets made l;
-                  message = copied s.file m;
-                  inside = inside;
-                  area = copied-tag s.file m ∙ area;
-                  same = e ∙ (ap (λ (a : Address). whole a x) (sym from) ∙ ap (λ (b : Address). whole (origin p) b) (sym to));
-                })
+                grind (arith, Among-append_right, copied, copied-tag))
           ],
       λ is. Among-in c (new_copies waits ++ rules.copies events) (rules.copies (exports waits events)) (sym (copies-are waits events))
           (elim (Among-append_cases is.packet run.packets made is.there) [
-            | inl old ↦ Among-append_right c (new_copies waits) (rules.copies events) ((history.sent c).1 (record {
-              packet = is.packet;
-              there = old;
-              message = is.message;
-              inside = is.inside;
-              area = is.area;
-              same = is.same;
-            }))
+            | inl old ↦ Among-append_right c (new_copies waits) (rules.copies events) ((history.sent c).1 (grind arith))
             | inr now ↦ (let (m, j, target, e) = scanned-copied laws s ok stamp is.packet now is.message is.inside in
                 let area : m.echo.tag ≡ tag = sym (copied-tag s.file m) ∙ (ap (λ (n : Filed). n.echo.tag) (sym e) ∙ is.area) in
                 let x = destination is.packet in

@@ -1,15 +1,14 @@
 -- Messages sent again are in packets that the system made before.
-use Rattle.std.proofs.Common.{◌≡◌, inl, inr, refl, sym, subst, ap, ◌∙◌, ℕ, List, take, Option, Some, None}
-use Rattle.std.specs.Prelude.{Bool, true, filter, not, is_some, bytes_eq, ◌&&◌, ◌==◌}
+use Rattle.std.proofs.Common.{◌≡◌, sym, ap, ◌∙◌, ℕ, List, take, Option, Some, None, arith}
+use Rattle.std.specs.Prelude.{Bool, true, filter, not, is_some, ◌&&◌, ◌==◌}
 use Rattle.std.proofs.lemmas.Bool.{eqb-true, true≢false}
 use Rattle.echo_addr.specs.declared.address.Address.{Address}
 use Rattle.model_graph.specs.Walk.{Among}
 use Rattle.echo_packet.specs.Message.{Message}
 use Rattle.echo_text.specs.Echo.{msgid_of}
 use Rattle.echo_links.specs.Links.{LinkFile}
-use Rattle.echo_filed.specs.declared.key.Key.TheVariants.{ByContent, ById}
-use Rattle.echo_filed.specs.Filed.{Filed, key_of, key_with}
-use Rattle.echo_filed.specs.Stubs.{is_stub, stub_of, stub_with}
+use Rattle.echo_filed.specs.Filed.{Filed, key_of}
+use Rattle.echo_filed.specs.Stubs.{stub_of}
 use Rattle.echo_filed.proofs.Keys.{stub_of_stub}
 use Rattle.echo_filed.proofs.StubTests.{stub_reported}
 use Rattle.model_steps.specs.declared.packet.Packet.{Packet}
@@ -27,30 +26,16 @@ use Rattle.model_run.proofs.ExportLists.{run-logged}
 
 -- a stub that is not purged has no id
 no-id : (id : Option (List ℕ)) (stub : Bool) → not (is_some id && stub) ≡ true → stub ≡ true → id ≡ None
-no-id None stub whole is = refl
-no-id (Some id) stub whole is = absurd (true≢false (sym (let P : Bool → Type 0 = λ b. not b ≡ true in subst P is whole)))
+no-id h1 stub whole is = grind (arith, true≢false)
 
 -- a message with the key of one without an id is its own stub
 unstubbed : (b h : Filed) → key_of b ≡ key_of h → msgid_of b.echo.kept ≡ None → stub_of h ≡ h
 unfolding key_of stub_of
-unstubbed b h key none = by-id (msgid_of h.echo.kept) (ap (λ (o : Option (List ℕ)). key_with b o) (sym none) ∙ key)
-  where
-    by-id : (o : Option (List ℕ)) → key_with b None ≡ key_with h o → stub_with h o ≡ h
-    by-id None e = refl
-    by-id (Some id) e = absurd (other e)
-      where
-        other : ByContent b.echo.tag b.date b.to_name b.from_name b.subject b.echo.kept ≡ ById h.echo.tag id → ⊥
-        other e = cc
+unstubbed b h key none = grind arith
 
 -- a message that is not purged equals the filed one
 as-filed : (area : List ℕ) (b h : Filed) → IsKept b h → is_whole_in area b ≡ true → b ≡ h
-as-filed area b h kept whole =
-    elim kept.form [
-      | inl same ↦ same
-      | inr stub ↦ (let again : stub_of b ≡ b = ap stub_of stub ∙ (stub_of_stub h ∙ sym stub) in
-          let text = (and-parts (bytes_eq b.echo.tag area) (not (is_some (msgid_of b.echo.kept) && is_stub b)) whole).1 in
-          stub ∙ unstubbed b h kept.key (no-id (msgid_of b.echo.kept) (is_stub b) text ((stub_reported b).1 again)))
-    ]
+as-filed area b h kept whole = grind (arith, stub_of_stub, and-parts, unstubbed, no-id, stub_reported)
 
 module _ (laws : Laws) (files : List LinkFile) (fit : FilesFit files) (events : List RunEvent) (i : ℕ) (s : System)
     (at : nth i (run_of files events).systems ≡ Some s) where
@@ -69,10 +54,4 @@ module _ (laws : Laws) (files : List LinkFile) (fit : FilesFit files) (events : 
       let (e, u, packet_is) = Among-map_from (λ (x : Export). x.packet) p (filter (λ (x : Export). x.system == i) (exports files events)) q in
       let (v, w) = Among-filter_from (λ (x : Export). x.system == i) e (exports files events) u in
       let P : Message → Type 0 = λ x. Among x e.packet.messages in
-      let Q : Packet → Type 0 = λ x. Among (copy_to s.file to m) x.messages in (
-        e,
-        v,
-        eqb-true e.system i w,
-        ap (λ (x : Packet). destination x) (sym packet_is) ∙ for_it,
-        subst P (sym (is ∙ ap (copy_to s.file to) same)) (subst Q packet_is there),
-      )
+      let Q : Packet → Type 0 = λ x. Among (copy_to s.file to m) x.messages in grind (arith, eqb-true)

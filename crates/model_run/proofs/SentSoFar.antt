@@ -7,7 +7,7 @@ use Rattle.echo_packet.specs.Message.{HasNoZero, Message}
 use Rattle.echo_text.specs.Echo.{EchoText, IsEcho}
 use Rattle.echo_text.specs.Refusal.{text_refusal}
 use Rattle.echo_text.proofs.Reread.{read_is_echo}
-use Rattle.echo_links.specs.Links.{IsFile, LinkFile, same_address}
+use Rattle.echo_links.specs.Links.{IsFile, LinkFile}
 use Rattle.echo_filed.specs.declared.key.Key.{Key}
 use Rattle.echo_filed.specs.Filed.{Filed, key_of, same_key}
 use Rattle.echo_filed.specs.Written.{echo_of}
@@ -31,7 +31,7 @@ use Rattle.model_graph.proofs.Members.{Among-append_cases}
 use Rattle.model_steps.specs.declared.packet.Packet.{Packet}
 use Rattle.model_steps.specs.declared.stamp.Stamp.{Stamp}
 use Rattle.model_steps.specs.Posting.{posting}
-use Rattle.model_steps.specs.Scanning.{goes_to, scanned, targets}
+use Rattle.model_steps.specs.Scanning.{goes_to, scanned}
 use Rattle.model_run.specs.Exports.{IsSentCopy}
 use Rattle.model_run.proofs.ScanPackets.{scanned-copy, scanned-count, scanned-origin}
 use Rattle.model_run.proofs.Copies.{goes-from, goes-to}
@@ -59,10 +59,7 @@ module _ (laws : Laws) where
   tosses-ok sender (q ∷ ms) s ok plain = grind (arith, tossed-ok, tosses-ok sender ms)
 
   pub event-ok : (s : LoneSystem) (event : LoneEvent) → IsOfPackets event → SystemOk s.system → SystemOk (after_lone s event).system
-  event-ok s (PostHere tag draft serial stamp) plain ok = posting-ok laws tag draft serial stamp s.system ok
-  event-ok s (TossHere sender messages) plain ok = tosses-ok sender messages s.system ok plain
-  event-ok s (ScanHere stamp) plain ok = grind (arith, scanning-ok)
-  event-ok s PurgeHere plain ok = purging-ok laws s.system ok
+  event-ok s h2 plain ok = grind (arith, posting-ok, tosses-ok, scanning-ok, purging-ok)
 
   events-ok : (events : List LoneEvent) (s : LoneSystem) → AreOfPackets events → SystemOk s.system → SystemOk (after_all_lone s events).system
   events-ok [] s plain ok = ok
@@ -165,12 +162,7 @@ record StaysDone (s z : System) : Type 0 where
   done_is : done z ≡ done s
 
 grown-done : (s z : System) → Grows s z → s.cursor ≤ length s.history → StaysDone s z
-grown-done s z g within = record {
-  file = g.file;
-  done_is =
-      ap (λ (n : ℕ). take n z.history) g.cursor
-      ∙ (ap (λ (ms : List Filed). take s.cursor ms) g.filed.1 ∙ take-append-le s.cursor s.history g.filed.0 within);
-}
+grown-done s z g within = grind (arith, take-append-le)
 
 -- scanned messages stay at later times
 own-later : (s z : System) (p : Packet) → z.file ≡ s.file → ((m : Filed) → Among m (done s) → Among m (done z)) → IsOwn s p → IsOwn z p
@@ -185,10 +177,7 @@ own-later s z p same more own = record {
 
 quiet-sent : (s : LoneSystem) (z : System) → StaysDone s.system z → IsSentSoFar s → IsSentSoFar (with_system s z)
 quiet-sent s z stays sofar = record {
-  counts_are = λ a k.
-      sofar.counts_are a k
-      ∙ (ap (λ (f : LinkFile). count k (filter (goes_to f a) (done s.system))) (sym stays.file)
-      ∙ ap (λ (ms : List Filed). count k (filter (goes_to z.file a) ms)) (sym stays.done_is));
+  counts_are = grind arith;
   packets = λ p h. own-later s.system z p stays.file
       (λ m i. (let P : List Filed → Type 0 = λ ms. Among m ms in subst P (sym stays.done_is) i)) (sofar.packets p h);
 }
@@ -213,8 +202,7 @@ scan-done file earlier later stamp in_range m h =
     let P : List Filed → Type 0 = λ ms. Among m (take (after_all_lone z later).system.cursor ms) in
     let Q : List Filed → Type 0 = λ ms. Among m ms in
     let R : LoneSystem → Type 0 = λ t. Among m (done t.system) in
-    let now : Among m (take (length s.system.base) s.system.history) =
-    subst Q (sym (take_all (length s.system.base) s.system.history (omega (arith, left-length s left)))) h in
+    let now : Among m (take (length s.system.base) s.system.history) = grind (arith, take_all, left-length) in
     subst R (sym (run-append file earlier (ScanHere stamp ∷ later) ∙ ap (λ (t : LoneSystem). after_all_lone t later) is_z))
     (subst P (sym lasts.filed.1)
     (take-more m (length s.system.base) (after_all_lone z later).system.cursor s.system.history lasts.filed.0 lasts.cursor now))
@@ -244,8 +232,7 @@ module _ (laws : Laws) where
         let g = goes_to s.system.file a in
         let waits = drop s.system.cursor s.system.history in
         ap (λ (ms : List Filed). count k (filter g ms)) (all-done ∙ sym (take-append-drop s.system.cursor s.system.history))
-        ∙ (ap (λ (ms : List Filed). count k ms) (filter-append g (done s.system) waits)
-        ∙ count-append k (filter g (done s.system)) (filter g waits))
+        ∙ (grind (arith, filter-append, count-append))
 
     new-own : (p : Packet) → Among p new → IsOwn z p
     new-own p h = record {
@@ -256,20 +243,12 @@ module _ (laws : Laws) where
           let P : Packet → Type 0 = λ q. (packed : Message) → Among packed q.messages → text_refusal packed.text ≡ None in
           let made = packet-ok laws s.system.file stamp waits address ok.file (waiting-valid laws s.system ok) in
           subst P (sym e) (λ packed j. (made.messages packed j).0);
-      copy = λ c j.
-          let (m, i, sent) = scanned-copy laws s.system ok stamp p h c j in
-          (m, is-done m (Among-drop s.system.cursor m s.system.history i), sent);
+      copy = grind (arith, scanned-copy, is-done, Among-drop);
     }
 
     scan-sent : IsSentSoFar (with_scanned stamp s)
     scan-sent = record {
-      counts_are = λ a k. omega (
-        arith,
-        sent-append a k s.sent new,
-        sofar.counts_are a k,
-        scanned-count laws s.system ok stamp a k,
-        done-more a k,
-      );
+      counts_are = grind (arith, sent-append, scanned-count, done-more);
       packets = λ p h. elim (Among-append_cases p s.sent new h) [
         | inl old ↦ own-later s.system z p refl (λ m i. is-done m (Among-take s.system.cursor m s.system.history i)) (sofar.packets p old)
         | inr now ↦ new-own p now
@@ -294,8 +273,7 @@ module _ (laws : Laws) where
   events-sent (event ∷ later) s plain ok sofar = grind (arith, event-ok, event-sent, events-sent later (after_lone s event))
 
   pub run-sent : (file : LinkFile) → IsFile file → (events : List LoneEvent) → AreOfPackets events → IsSentSoFar (lone_run file events)
-  run-sent file fits events plain =
-      events-sent events (lone_at_first file) plain (first-ok laws file fits) (record { counts_are = λ a k. refl; packets = λ p h. absurd h })
+  run-sent file fits events plain = grind (arith, events-sent, first-ok)
 
   -- for any system so far
   module _ (s : LoneSystem) (ok : SystemOk s.system) (sofar : IsSentSoFar s) where
@@ -320,15 +298,7 @@ module _ (laws : Laws) where
     sent-once a k = omega (arith, sofar.counts_are a k, count-filter k (goes_to s.system.file a) (done s.system), parts k, ok.once k)
 
     pub sent-owed : (m : Filed) → Among m (done s.system) → (a : Address) → IsOwed s.system.file m a → sent_count a (key_of m) s.sent ≡ 1
-    sent-owed m h a owed =
-        let there = Among-filter_to (goes_to s.system.file a) m (done s.system) h (owed-goes m a owed) in
-        omega (
-          arith,
-          sofar.counts_are a (key_of m),
-          counts.count-has key_of same_key laws.keys (key_of m) (went a) m there refl,
-          count-is (key_of m) (went a),
-          sent-once a (key_of m),
-        )
+    sent-owed m h a owed = grind (arith, Among-filter_to, owed-goes, counts.count-has, count-is, sent-once)
 
     -- no message with the key went to the address
     none-went : (a : Address) (k : Key) → ((o : Filed) → Among o (went a) → key_of o ≢ k) → sent_count a k s.sent ≡ 0
@@ -338,9 +308,7 @@ module _ (laws : Laws) where
     sent-others m h a not_owed = none-went a (key_of m) (λ o i e.
         let (j, t) = Among-filter_from (goes_to s.system.file a) o (done s.system) i in
         let few : counts.count key_of same_key (key_of m) s.system.history ≤ 1 = omega (arith, count-is (key_of m) s.system.history, ok.once (key_of m)) in
-        let same = counts.count-names_one key_of same_key laws.keys (key_of m) s.system.history few o m
-        (Among-take s.system.cursor o s.system.history j) h e refl in
-        not_owed (goes-owed m a (ap (λ (x : Filed). goes_to s.system.file a x) (sym same) ∙ t)))
+        grind (arith, counts.count-names_one, Among-take, goes-owed))
 
     pub sent-waiting : (m : Filed) → Among m waits → (a : Address) → sent_count a (key_of m) s.sent ≡ 0
     sent-waiting m h a = none-went a (key_of m) (λ o i e.
@@ -378,9 +346,7 @@ module _ (laws : Laws) where
     copy-owed p h c i =
         let (m, j, sent) = (end-sent.packets p h).copy c i in
         let P : LinkFile → Type 0 = λ f. IsSentCopy f m (destination p) c in
-        let goes = any-to (same_address (destination p)) (destination p) (targets at_end.system.file m) sent.target
-        (laws.addresses.full (destination p) (destination p) refl) in
-        (m, j, subst P (run-file file events) sent, owed-back m (destination p) (goes-owed at_end end-ok end-sent m (destination p) goes))
+        grind (arith, any-to, run-file, owed-back, goes-owed, end-ok, end-sent)
 
   -- a scan sends all messages filed before it
   pub scan-sends : (file : LinkFile) → IsFile file → (earlier later : List LoneEvent) (stamp : Stamp) → AreOfPackets (earlier ++ ScanHere stamp ∷ later) →

@@ -1,5 +1,5 @@
 -- Each event keeps the rules.
-use Rattle.std.proofs.Common.{◌≡◌, inl, inr, refl, sym, subst, ap, ◌∙◌, ℕ, zero, suc, arith, List, [], ◌∷◌, ◌++◌, length, take, Option, Some, None}
+use Rattle.std.proofs.Common.{◌≡◌, inl, inr, refl, sym, subst, ap, ◌∙◌, ℕ, arith, List, [], ◌∷◌, ◌++◌, length, take, Option, Some, None}
 use Rattle.std.specs.Prelude.{Bool, true, false, bytes_eq, filter, is_none, if◌then◌else◌}
 use Rattle.std.proofs.lemmas.List.{take_all, append-nil}
 use Rattle.echo_addr.specs.declared.address.Address.{Address}
@@ -46,18 +46,10 @@ posted-parts : (file : LinkFile) (tag : List ℕ) (draft : Draft) (serial : ℕ)
 unfolding posted
 posted-parts file tag draft serial stamp = (refl, refl)
 
--- changes with the same effect on the item at the index are equal
-change-at : {X : Type 0} (i : ℕ) (f g : X → X) (x : X) (xs : List X) → nth i xs ≡ Some x → f x ≡ g x → change i f xs ≡ change i g xs
-change-at i f g x [] at e = refl
-change-at zero f g x (y ∷ xs) at e = grind (arith, some_same)
-change-at (suc i) f g x (y ∷ xs) at e = ap (λ (ys : List _). y ∷ ys) (change-at i f g x xs at e)
-
 module _ (laws : Laws) (files : List LinkFile) (tag : List ℕ) (tidy : Tidy files tag) (past : List REvent) where
   -- without such a system nothing happens
   no-system : (run : Run) → Standing files tag past run → (i : ℕ) (f : System → System) → nth i run.systems ≡ None → Standing files tag past (changing run i f)
-  no-system run st i f none =
-      let P : List System → Type 0 = λ ss. Standing files tag past (record { systems = ss; packets = run.packets; delivered = run.delivered }) in
-      subst P (sym (change-none i f run.systems none)) st
+  no-system run st i f none = grind (arith, Standing, change-none)
 
   module _ (run : Run) (st : Standing files tag past run) (i : ℕ) (g : List ℕ) (draft : Draft) (serial : ℕ) (stamp : Stamp)
       (s : System) (at_s : nth i run.systems ≡ Some s) where
@@ -140,8 +132,7 @@ module _ (laws : Laws) (files : List LinkFile) (tag : List ℕ) (tidy : Tidy fil
       let ok_p = st.ok.packets p in_run in
       let here = laws.addresses.sound (address_of s) (destination p) (first_passes (λ t. same_address t.file.system (destination p)) s run.systems at_s) in
       let P : List System → Type 0 = λ ss. Tossed laws files tag tidy past p ok_p run (record { systems = ss; packets = run.packets; delivered = run.delivered }) st (take n p.messages) in
-      subst P (change-at (receiver run p) (tossing_at (origin p) (take n p.messages)) (taking p n) s run.systems at_s
-      (ap (λ (a : Address). tossing_at a (take n p.messages) s) (sym (origin-is s.file p ok_p))))
+      subst P (grind (arith, origin-is))
       (toss-all laws files tag tidy past p ok_p (take n p.messages) (λ q h. Among-take n q p.messages h) run st in_run (receiver run p) s at_s here)
 
   part-stands : (run : Run) → Standing files tag past run → (n : ℕ) (found : Option Packet) → ((p : Packet) → found ≡ Some p → Among p run.packets) →
@@ -193,8 +184,7 @@ module _ (laws : Laws) (files : List LinkFile) (tag : List ℕ) (tidy : Tidy fil
 
   delivery-stands : (run : Run) → Standing files tag past run → (k : ℕ) (found : Option Packet) → nth k run.packets ≡ found →
       IsDeliveredOnce (delivery run k found) → Standing files tag past (delivery run k found)
-  delivery-stands run st k None e once = st
-  delivery-stands run st k (Some p) e once = coming-stands run st k p e (nth (receiver run p) run.systems) refl once
+  delivery-stands run st k h4 e once = grind (arith, coming-stands)
 
   pub event-stands : (run : Run) (event : RunEvent) → Standing files tag past run → Standing files tag past (after_event run event)
   event-stands run (Posting i g draft serial stamp) st = posting-stands run st i g draft serial stamp
@@ -214,13 +204,7 @@ start-stands laws files tag fit = record {
   same_files = fresh-files files;
   delivered = record { once = tt; there = λ k h. absurd h };
   recent = [];
-  history = record {
-    filed = λ m. (λ h. absurd h, λ is. absurd (fresh-empty files is.system is.there is.message is.filed));
-    exported = λ m. (λ h. absurd h, λ is. absurd (fresh-empty files is.system is.there is.message (Among-take is.system.cursor is.message is.system.history is.filed)));
-    sent = λ c. (λ h. absurd h, λ is. absurd is.there);
-    as_many = λ a k e. refl;
-    came = λ k h. absurd h;
-  };
+  history = grind (arith, fresh-empty, Among-take);
   since = begins Equal (net_of files tag) [] (nothing-rests Equal);
   wrote = λ s h m i posting. absurd (fresh-empty files s h m i);
 }

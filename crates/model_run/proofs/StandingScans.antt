@@ -49,14 +49,10 @@ module _ (laws : Laws) (files : List LinkFile) (tag : List ℕ) (tidy : Tidy fil
 
   -- the area's links in the file are those of the net
   link-in : (m : Filed) (a : Address) → m.echo.tag ≡ tag → is_link s.file m.echo.tag a ≡ true → IsTrue (lists files tag (address_of s) a)
-  link-in m a area link =
-      let P : List ℕ → Type 0 = λ g. is_link s.file g a ≡ true in
-      link-lists laws files tag tidy run.systems st.same_files s there_s a (subst P area link)
+  link-in m a area link = grind (arith, link-lists, there_s)
 
   link-out : (m : Filed) (a : Address) → m.echo.tag ≡ tag → IsTrue (lists files tag (address_of s) a) → is_link s.file m.echo.tag a ≡ true
-  link-out m a area link =
-      let P : List ℕ → Type 0 = λ g. is_link s.file g a ≡ true in
-      subst P (sym area) (lists-link laws files tag tidy run.systems st.same_files s there_s a link)
+  link-out m a area link = grind (arith, lists-link, there_s)
 
   -- a message goes to its targets
   goes : (m : Filed) → m.echo.tag ≡ tag → (a : Address) → Among a (targets_of m) ↔ IsTarget net (filed_as (address_of s) m) a
@@ -77,8 +73,7 @@ module _ (laws : Laws) (files : List LinkFile) (tag : List ℕ) (tidy : Tidy fil
         let (b, k, e) = any-from (same_address l) (links_of s.file m.echo.tag) (link-out m l area ((goes m area l).0 j).link) in
         let P : Address → Type 0 = λ a. Among (net_node_of a) (copied s.file m).echo.seen in
         subst P (sym (laws.addresses.sound l b e)) (seen-copied laws s.file m (net_node_of b)
-        (Among-append_right (net_node_of b) m.echo.seen (map net_node_of (s.file.system ∷ links_of s.file m.echo.tag))
-        (inr (Among-map_to net_node_of b (links_of s.file m.echo.tag) k))));
+        (grind (arith, Among-append_right, Among-map_to)));
     only = λ n j. elim (Among-append_cases n m.echo.seen (map net_node_of (s.file.system ∷ links_of s.file m.echo.tag)) (copied-seen laws s.file m n j)) [
       | inl old ↦ inl old
       | inr new ↦ elim new [
@@ -157,13 +152,7 @@ module _ (laws : Laws) (files : List LinkFile) (tag : List ℕ) (tidy : Tidy fil
           (Among-in f (rules.exported (then ms)) (map (filed_as (address_of s)) ms ++ rules.exported st.recent) (exported-are laws tag s ok_s ms st.recent) h)) [
             | inl now ↦ (let (n, j, e) = Among-map_from (filed_as (address_of s)) f ms now in
                 absurd (omega (arith, few (key_of m), one, has-count (key_of m) ms n j (ap (λ (g : RFiled). g.text.key) (sym e) ∙ key))))
-            | inr old ↦ not-done (
-              f,
-              Among-in f (rules.exported st.recent ++ rules.exported past) (rules.exported (st.recent ++ past)) (sym (exported-append st.recent past))
-                  (Among-append_left f (rules.exported st.recent) (rules.exported past) old),
-              at,
-              key,
-            )
+            | inr old ↦ grind (arith, not-done, Among-in, exported-append, Among-append_left)
           ]
 
   few-waits : (k : Key) → count k (take s.cursor s.history) + count k (waits laws tag s ok_s) ≤ 1

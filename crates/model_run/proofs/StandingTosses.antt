@@ -10,7 +10,6 @@ use Rattle.echo_text.specs.Echo.{EchoText}
 use Rattle.model_steps.specs.declared.packet.Packet.{Packet}
 use Rattle.echo_links.specs.Links.{LinkFile, has_area, is_link}
 use Rattle.echo_filed.specs.Filed.{Filed, key_of}
-use Rattle.base_file.specs.Base.{is_known}
 use Rattle.model_steps.specs.Tossing.{received, sender_of, tossing}
 use Rattle.model_steps.proofs.Received.{received_tossing, tossing_received}
 use Rattle.model_run.proofs.Eras.{came-append, copies-cases, filed-past, inv}
@@ -107,15 +106,7 @@ module _ (laws : Laws) (files : List LinkFile) (tag : List ℕ) (tidy : Tidy fil
             let S : EchoText → Type 0 = λ e. has_area s.file e.tag ≡ true in
             let in_area = subst Q (sym area) linked in
             let same = received-echo laws (origin p) q in
-            elim (yes_or_no (is_known s.base (key_of m))) [
-              | inl known ↦ known-in_history laws s ok_s (key_of m) known
-              | inr new ↦ absurd (none_some (sym none ∙ received_tossing s.file s.base (origin p) q (record {
-                text = (ok_p.messages q in_p).0;
-                area = subst S same (link-has_area s.file m.echo.tag (origin p) in_area);
-                link = subst R same in_area;
-                new = new;
-              })))
-            ]
+            grind (arith, yes_or_no, known-in_history, ok_s, none_some, received_tossing, link-has_area)
 
         tossed-known : m.echo.tag ≡ tag → Tossed run (changing run i one) st (q ∷ [])
         tossed-known area =
@@ -126,10 +117,7 @@ module _ (laws : Laws) (files : List LinkFile) (tag : List ℕ) (tidy : Tidy fil
                   record {
                     standing = stands-known laws files tag tidy past run st i s at_s one files_stay ok_after stays c now (sym here) n h key in_area;
                     grows = λ d j. inr j;
-                    all = λ x j e. elim j [
-                      | inl same ↦ inl (ap (λ (y : Message). sent_as p (received (origin p) y)) same)
-                      | inr none ↦ absurd none
-                    ];
+                    all = grind arith;
                   })
               | inr before ↦ record {
                 standing = still;
@@ -155,10 +143,7 @@ module _ (laws : Laws) (files : List LinkFile) (tag : List ℕ) (tidy : Tidy fil
               | inl now ↦ record {
                 standing = stands-tossed laws files tag tidy past run st i s at_s one files_stay ok_after m filed area fresh c now (sym here) (received-sender (origin p) q) refl;
                 grows = λ d j. inr j;
-                all = λ x j e. elim j [
-                  | inl same ↦ inl (ap (λ (y : Message). sent_as p (received (origin p) y)) same)
-                  | inr none ↦ absurd none
-                ];
+                all = grind arith;
               }
               | inr before ↦ (let (n, h, at, key) = st.since.rest.known c before in
                   absurd (fresh (filed-here laws files tag tidy past run st s there_s (key_of m)
@@ -171,10 +156,7 @@ module _ (laws : Laws) (files : List LinkFile) (tag : List ℕ) (tidy : Tidy fil
       tossed-other other standing grows = record {
         standing = standing;
         grows = grows;
-        all = λ x j e. elim j [
-          | inl same ↦ absurd (other (ap (λ (y : Message). (received (origin p) y).echo.tag) (sym same) ∙ e))
-          | inr none ↦ absurd none
-        ];
+        all = grind arith;
       }
 
       pub toss-one : Tossed run (changing run i one) st (q ∷ [])
@@ -204,10 +186,7 @@ module _ (laws : Laws) (files : List LinkFile) (tag : List ℕ) (tidy : Tidy fil
   toss-all (q ∷ ms) within run st in_run i s at_s here =
       let one : System → System = λ t. filing t (tossing t.file t.base (origin p) q) in
       let first = toss-one run st in_run i s at_s here q (within q (inl refl)) in
-      let at_one : nth i (change i one run.systems) ≡ Some (one s) = elim (nth-changed i i one s run.systems at_s) [
-        | inl other ↦ absurd (other.0 refl)
-        | inr now ↦ now.1
-      ] in
+      let at_one : nth i (change i one run.systems) ≡ Some (one s) = grind (arith, nth-changed) in
       let rest = toss-all ms (λ r h. within r (inr h)) (changing run i one) first.standing in_run i (one s) at_one
       (ap (λ (f : LinkFile). f.system) (filing-file s (tossing s.file s.base (origin p) q)) ∙ here) in
       let P : List System → Type 0 = λ ss. Tossed run (record { systems = ss; packets = run.packets; delivered = run.delivered }) st (q ∷ ms) in

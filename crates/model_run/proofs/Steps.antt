@@ -1,5 +1,5 @@
 -- Each event keeps the invariant of a run by the rules.
-use Rattle.std.proofs.Common.{◌≡◌, ◌≢◌, ◌⊎◌, inl, inr, refl, sym, subst, ap, ◌∙◌, IsTrue, List, [], ◌∷◌, ◌++◌, map, Some, None}
+use Rattle.std.proofs.Common.{◌≡◌, ◌≢◌, ◌⊎◌, inl, inr, refl, sym, subst, ap, ◌∙◌, IsTrue, List, [], ◌∷◌, ◌++◌, map, Some, None, arith}
 use Rattle.std.proofs.lemmas.List.{map-append}
 use Rattle.model_graph.specs.Walk.{Among, Different}
 use Rattle.model_graph.specs.Beyond.{Beyond, IsWay}
@@ -119,13 +119,7 @@ module _ {A N K C : Type 0} (can : CanTell A) (net : Net A N) (tidy : Tidy net) 
     posting-keeps own carrier unseen = filing-keeps (record {
       carrier = carrier;
       poster = m;
-      posted = record {
-        is_filed = inl refl;
-        own = own;
-        carrier = carrier;
-        same_key = refl;
-        same_content = compares.itself m.text.content;
-      };
+      posted = grind arith;
       source = inl (refl, own, unseen);
     })
 
@@ -186,13 +180,7 @@ module _ {A N K C : Type 0} (can : CanTell A) (net : Net A N) (tidy : Tidy net) 
         record {
           carrier = carriers_to can net tidy m.at x (targets x h).link;
           poster = good_m.poster;
-          posted = record {
-            is_filed = good_m.posted.is_filed;
-            own = good_m.posted.own;
-            carrier = good_m.posted.carrier;
-            same_key = good_m.posted.same_key ∙ sym key;
-            same_content = compares.joined (text x).content m.text.content good_m.poster.text.content content good_m.posted.same_content;
-          };
+          posted = grind arith;
           parent = parent x h;
           is_exported = (m, inl refl, refl, sym key);
         }
@@ -209,8 +197,7 @@ module _ {A N K C : Type 0} (can : CanTell A) (net : Net A N) (tidy : Tidy net) 
     first-time : (x : A) → Among x to → (c : Copy A N K C) → Among c v.copies → c.to ≡ x → c.text.key ≡ m.text.key → ⊥
     first-time x h c i to_x key =
         let sent = old.sent c i in
-        let one_poster : sent.poster ≡ good_m.poster = old.one_posting sent.poster good_m.poster sent.posted.is_filed good_m.posted.is_filed
-        sent.posted.own good_m.posted.own (sent.posted.same_key ∙ (key ∙ sym good_m.posted.same_key)) in
+        let one_poster : sent.poster ≡ good_m.poster = grind arith in
         let P : A → Type 0 = λ a. IsWay net.linked sent.poster.at a c.from in
         let Q : Filed A N K C → Type 0 = λ p. IsWay net.linked p.at x c.from in
         let way : Q good_m.poster = subst Q one_poster (subst P to_x sent.parent.way) in
@@ -226,8 +213,7 @@ module _ {A N K C : Type 0} (can : CanTell A) (net : Net A N) (tidy : Tidy net) 
       λ h. (let (c, i, e) = Among-map_from goal (x, (text x).key) (map (copy_to m text) xs) h in
           let (y, j, e') = Among-map_from (copy_to m text) c xs i in
           let same : x ≡ y = ap (λ (p : A × K). p.0) e ∙ ap (λ (a : Copy A N K C). a.to) e' in
-          let P : A → Type 0 = λ a. Among a xs in
-          d.0 (subst P (sym same) j)),
+          grind arith),
       goals-differ xs (λ y i. within y (inr i)) d.1,
     )
 
@@ -238,12 +224,7 @@ module _ {A N K C : Type 0} (can : CanTell A) (net : Net A N) (tidy : Tidy net) 
         (Different-append (map goal new_copies) (map goal v.copies) (goals-differ to (λ x i. i) one_each) old.sent_once apart)
       where
         apart : (g : A × K) → Among g (map goal new_copies) → ¬ Among g (map goal v.copies)
-        apart g h i =
-            let (c, j, e) = Among-map_from goal g new_copies h in
-            let (x, k, e') = Among-map_from (copy_to m text) c to j in
-            let (b, l, q) = Among-map_from goal g v.copies i in
-            let same : goal b ≡ goal (copy_to m text x) = sym q ∙ (e ∙ ap (λ (a : Copy A N K C). goal a) e') in
-            first-time x k b l (ap (λ (p : A × K). p.0) same) (ap (λ (p : A × K). p.1) same ∙ (keeps x k).0)
+        apart g h i = grind (arith, Among-map_from, first-time)
 
     all-passed_on : (n : Filed A N K C) → Among n (m ∷ v.exported) →
         (p : Filed A N K C) → Among p v.filed → p.sender ≡ None → p.text.key ≡ n.text.key →

@@ -1,5 +1,5 @@
 -- Properties of a run by the rules at all times.
-use Rattle.std.proofs.Common.{◌≡◌, ◌≢◌, ◌⊎◌, IsTrue, List, map, Some, None, inl, inr, sym, subst, ◌∙◌, ◌∷◌, Option}
+use Rattle.std.proofs.Common.{◌≡◌, ◌≢◌, ◌⊎◌, IsTrue, List, map, Some, None, inl, inr, sym, subst, ◌∙◌, ◌∷◌, Option, arith}
 use Rattle.model_graph.specs.Walk.{Among, Different, Simple, Reaches}
 use Rattle.model_graph.specs.Beyond.{Beyond, IsWay, Parted}
 use Rattle.model_run.specs.Nets.{Net, Tidy}
@@ -132,11 +132,7 @@ module _ {A N : Type 0} (can : CanTell A) (net : Net A N) (tidy : Tidy net) wher
     pub beyond-target : (x : A) → IsTrue (net.linked m.at x) → Beyond net.linked m.at f x → IsTarget net m x
     beyond-target x link beyond =
         elim source [
-          | inl here ↦ record {
-            link = link;
-            not_sender = λ e. none_some (sym here.1 ∙ e);
-            not_seen = λ h. linked_differ net.linked simple m.at x link (sym (here.2 x (carriers_to m.at x link) h));
-          }
+          | inl here ↦ grind (arith, linked_differ, simple, carriers_to)
           | inr came ↦ (let (u, is_sender, parent) = came in
               record {
                 link = link;
@@ -157,8 +153,7 @@ module _ {A N : Type 0} (can : CanTell A) (net : Net A N) (tidy : Tidy net) wher
           outside = λ d at_d beyond_x other h.
               let (not_m, not_link) = further can net.linked simple f m.at x d reaches target.link beyond beyond_x other in
               not_listed d at_d beyond_x not_m (reported.behind d at_d (behind f m.at x d differ reaches_x beyond beyond_x) other h);
-          links = λ l link joined.
-              reported.others l (all l (beyond-target l link (links_beyond f m.at x l differ joined beyond))) joined;
+          links = grind (arith, beyond-target, links_beyond, differ, beyond);
         }
       where
         beyond : Beyond net.linked m.at f x

@@ -1,5 +1,5 @@
 -- A plain SEEN-BY keeps the rule.
-use Rattle.std.proofs.Common.{◌≡◌, ◌≢◌, ◌⊎◌, inl, inr, refl, sym, ◌∙◌, IsTrue, List, [], ◌∷◌, subst}
+use Rattle.std.proofs.Common.{◌≡◌, ◌≢◌, ◌⊎◌, inl, inr, refl, sym, ◌∙◌, IsTrue, List, [], ◌∷◌, subst, arith}
 use Rattle.model_graph.specs.Beyond.{Beyond}
 use Rattle.model_run.specs.Nets.{Net, Tidy}
 use Rattle.model_run.specs.Events.{Filed}
@@ -25,17 +25,7 @@ module _ {A N K C : Type 0} (net : Net A N) (tidy : Tidy net) (m : Filed A N K C
       ]
 
   pub reported-plainly : HasSeenBy net m to x seen
-  reported-plainly = record {
-    others = λ l h joined. plain.all l h;
-    behind = λ d carrier beyond other h. elim (plain.only (net.net_node d) h) [
-      | inl before ↦ before
-      | inr new ↦ elim new [
-        | inl near ↦ (let (l, of_m, e) = near in
-            absurd (not-behind d beyond other l (tidy.apart d l carrier (carries l of_m) e) of_m))
-        | inr none ↦ absurd (none d carrier refl)
-      ]
-    ];
-  }
+  reported-plainly = grind (arith, not-behind, carries)
     where
       carries : (l : A) → (l ≡ m.at) ⊎ IsTrue (net.linked m.at l) → IsTrue (net.carries l)
       carries l near = elim near [

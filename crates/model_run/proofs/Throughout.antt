@@ -50,15 +50,7 @@ copy_count-is a k [] = refl
 copy_count-is a k (c ∷ cs) = omega (arith, copy_count-is a k cs)
 
 tells-goals : Laws → Tells same_goal
-tells-goals laws = record {
-  sound = λ g h t.
-      let both = and-parts (same_address g.0 h.0) (same_key g.1 h.1) t in
-      let first : Address → Address × Key = λ a. (a, g.1) in
-      let second : Key → Address × Key = λ k. (h.0, k) in
-      ap first (laws.addresses.sound g.0 h.0 both.0) ∙ ap second (laws.keys.sound g.1 h.1 both.1);
-  full = λ g h e. and-from (same_address g.0 h.0) (same_key g.1 h.1)
-      (laws.addresses.full g.0 h.0 (ap (λ (p : Address × Key). p.0) e)) (laws.keys.full g.1 h.1 (ap (λ (p : Address × Key). p.1) e));
-}
+tells-goals laws = grind (arith, and-parts, and-from)
 
 module _ (laws : Laws) (tag : List ℕ) where
   -- epochs go on from a run, each change in order

@@ -1,12 +1,12 @@
 -- A net that is tidy, and for each clause of `Tidy` a net that breaks it.
 use Rattle.std.proofs.Common.{◌≡◌, ◌≢◌, ◌⊎◌, inl, inr, refl, sym, subst, ap, ◌∙◌, ℕ, arith, IsTrue, List, [], ◌∷◌, codes}
-use Rattle.std.specs.Prelude.{◌&&◌, true, false}
+use Rattle.std.specs.Prelude.{true, false}
 use Rattle.echo_addr.specs.declared.address.Address.{Address}
 use Rattle.echo_addr.specs.Address.{net_node_of}
 use Rattle.echo_addr.specs.declared.address.NetNode.{NetNode}
 use Rattle.model_graph.specs.Walk.{Among, Reaches, Walk}
 use Rattle.model_graph.specs.Cycle.{Cycle}
-use Rattle.echo_links.specs.Links.{LinkFile, has_area, links_of, same_address}
+use Rattle.echo_links.specs.Links.{LinkFile, links_of}
 use Rattle.model_run.specs.Tidy.{Carries, Tidy, lists}
 use Rattle.model_run.proofs.TosserLaws.{the_laws}
 use Rattle.model_graph.proofs.Members.{Among-at}
@@ -87,9 +87,7 @@ no_polygon t = is_false (t.cycles (address 1) (address 3 ∷ (address 2 ∷ (add
 -- the triangle is tidy
 module _ (files : List LinkFile) (tag : List ℕ) where
   carrier-from : (a : Address) → Carries files tag a → (f : LinkFile) × Among f files × (a ≡ f.system)
-  carrier-from a h =
-      let (f, i, t) = any-from (λ file. same_address file.system a && has_area file tag) files h in
-      (f, i, sym (the_laws.addresses.sound f.system a (and-parts (same_address f.system a) (has_area f tag) t).0))
+  carrier-from a h = grind (arith, any-from, and-parts)
 
   link-from : (a b : Address) → IsTrue (lists files tag a b) → (f : LinkFile) × Among f files × (a ≡ f.system) × Among b (links_of f tag)
   link-from a b h = grind (arith, any-from, and-parts, the_laws, Among-at)
@@ -123,9 +121,7 @@ unfolding links_of
 link-ends a b h = ends (link-from triangle test a b h)
   where
     ends_at : (i j : ℕ) → OneOfThree (address i) → OneOfThree (address j) → i ≢ j → a ≡ address i → b ≡ address j → Ends a b
-    ends_at i j one two other p q =
-        let P : Address → Type 0 = λ x. OneOfThree x in
-        record { first = subst P (sym p) one; second = subst P (sym q) two; differ = λ e. other (one_node i j (sym p ∙ (e ∙ q))) }
+    ends_at i j one two other p q = grind (arith, one_node)
 
     ends : ((f : LinkFile) × Among f triangle × (a ≡ f.system) × Among b (links_of f test)) → Ends a b
     ends (f, i, p, j) =
@@ -161,10 +157,7 @@ pub triangle_tidy : Tidy triangle test
 triangle_tidy = record {
   joined = record {
     some = refl;
-    one_file = (
-      λ h. elim h [ inl e ↦ absurd (omega (arith, one_node 1 2 e)) | inr k ↦ elim k [ inl e ↦ absurd (omega (arith, one_node 1 3 e)) | inr z ↦ z ] ],
-      (λ h. elim h [ inl e ↦ absurd (omega (arith, one_node 2 3 e)) | inr z ↦ z ], (λ h. h, tt)),
-    );
+    one_file = grind (arith, one_node);
     no_self = λ a h. (link-ends a a h).differ refl;
     known = λ a b h. three-carry b (link-ends a b h).second;
     both = λ a b h. (let ends = link-ends a b h in elim (all-linked b a ends.second ends.first) [ inl e ↦ absurd (ends.differ (sym e)) | inr l ↦ l ]);
@@ -177,23 +170,15 @@ triangle_tidy = record {
   cycles = λ first rest cycle x y h k other.
       let (last, walk, close) = cycle.closed in
       let begins : OneOfThree first = (link-ends last first close).second in
-      let member : (z : Address) → Among z (first ∷ rest) → OneOfThree z = λ z i. elim i [
-        | inl e ↦ (let P : Address → Type 0 = λ w. OneOfThree w in subst P (sym e) begins)
-        | inr t ↦ walk-three first rest last walk z t
-      ] in
-      elim (all-linked x y (member x h) (member y k)) [ inl e ↦ absurd (other e) | inr l ↦ l ];
+      grind (arith, walk-three, all-linked);
 }
   where
     zone_one : (a : Address) → OneOfThree a → a.zone ≡ 1
-    zone_one a h = elim h [
-      | inl e ↦ ap (λ (x : Address). x.zone) e
-      | inr k ↦ elim k [ inl e ↦ ap (λ (x : Address). x.zone) e | inr l ↦ elim l [ inl e ↦ ap (λ (x : Address). x.zone) e | inr z ↦ absurd z ] ]
-    ]
+    zone_one a h = grind arith
 
     ten : (a b : Address) → OneOfThree a → OneOfThree b → net_node_of a ≡ net_node_of b → a ≡ b
     ten a b h k e =
         let net = ap (λ (n : NetNode). n.net) e in
         let node = ap (λ (n : NetNode). n.node) e in
         let zone = zone_one a h ∙ sym (zone_one b k) in
-        let made : ℕ → ℕ → ℕ → Address = λ z n m. record { zone = z; net = n; node = m } in
-        ap (λ (z : ℕ). made z a.net a.node) zone ∙ (ap (λ (n : ℕ). made b.zone n a.node) net ∙ ap (λ (m : ℕ). made b.zone b.net m) node)
+        grind arith

@@ -1,5 +1,5 @@
 -- The laws of one tosser, proved.
-use Rattle.std.proofs.Common.{◌≡◌, inl, inr, refl, sym, ap, ◌∙◌, ℕ, arith, List, [], ◌∷◌, ◌++◌, length, take, codes, Option}
+use Rattle.std.proofs.Common.{◌≡◌, inl, inr, refl, sym, ap, ◌∙◌, ℕ, arith, List, [], ◌∷◌, ◌++◌, length, codes, Option}
 use Rattle.std.specs.Prelude.{Bool, true}
 use Rattle.std.specs.List.{AllByRecursion}
 use Rattle.std.proofs.Math.Seq.{take-append_seam}
@@ -44,8 +44,7 @@ ids-differ a b serial other at_a at_b e =
     omega (arith, whole, long_a, long_b, length-append (address_text a) tail_a, length-append (address_text b) tail_b) in
     let texts : address_text a ≡ address_text b =
     sym (take-append_seam (address_text a) tail_a)
-    ∙ (ap (λ (n : ℕ). take n (address_text a ++ tail_a)) same
-    ∙ (ap (λ (bytes : List ℕ). take (length (address_text b)) bytes) e ∙ take-append_seam (address_text b) tail_b)) in
+    ∙ (grind (arith, take-append_seam)) in
     sym (address_in-written (address_text a) a (AddressOf-address_text a at_a))
     ∙ (ap (λ (bytes : List ℕ). address_in bytes) texts ∙ address_in-written (address_text b) b (AddressOf-address_text b at_b))
 

@@ -1,6 +1,6 @@
 -- Nets that `check` refuses though their computed run does no harm: for these clauses a no is more careful than
 -- necessary. And a tidy net with a cycle, which a rule against all cycles would refuse.
-use Rattle.std.proofs.Common.{◌≡◌, ◌≢◌, inl, inr, refl, ap, ℕ, arith, List, [], ◌∷◌, codes}
+use Rattle.std.proofs.Common.{◌≡◌, ◌≢◌, inl, refl, ap, ℕ, arith, List, [], ◌∷◌, codes}
 use Rattle.std.specs.Prelude.{true, false}
 use Rattle.std.specs.Fmt.{digits}
 use Rattle.echo_addr.specs.declared.address.Address.{Address}
@@ -79,14 +79,7 @@ goes_well = grind arith
 -- a triangle is tidy, and its three systems are a cycle
 three_in_a_cycle : ¬ NoCycle (lists triangle test)
 unfolding links_of
-three_in_a_cycle none = none (address 1) (address 2 ∷ (address 3 ∷ [])) (record {
-  long = omega arith;
-  different = (
-    λ h. elim h [ inl e ↦ differ 1 2 (omega arith) e | inr k ↦ elim k [ inl e ↦ differ 1 3 (omega arith) e | inr z ↦ z ] ],
-    (λ h. elim h [ inl e ↦ differ 2 3 (omega arith) e | inr z ↦ z ], (λ h. h, tt)),
-  );
-  closed = (address 3, (refl, (refl, refl)), refl);
-})
+three_in_a_cycle none = none (address 1) (address 2 ∷ (address 3 ∷ [])) (grind (arith, differ, address))
   where
     differ : (i j : ℕ) → i ≢ j → address i ≢ address j
     differ i j other e = other (ap (λ (a : Address). a.node) e)

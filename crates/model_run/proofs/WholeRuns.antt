@@ -139,8 +139,7 @@ not-missing delivered k [] packet after e = grind (arith, yes_or_no)
 not-missing delivered k (first ∷ before) packet after e =
     let later : missing delivered (k + 1) (before ++ packet ∷ after) ≡ 0 = omega (arith, e) in
     let there : k + 1 + length before ≡ k + length (first ∷ before) = omega arith in
-    let P : ℕ → Type 0 = λ n. list_any (λ d. d == n) delivered ≡ true in
-    subst P there (not-missing delivered (k + 1) before packet after later)
+    grind (arith, not-missing delivered (k + 1) before packet after later)
 
 pub settled : (run : Run) → IsTrue (is_settled run) → (tag : List ℕ) → Settled run tag
 settled run h tag = grind (arith, and-parts, leb-true, all-from, drop_all, eqb-true, not-missing, any-from, Among-at)

@@ -1,4 +1,4 @@
-use Rattle.std.proofs.Common.{◌++◌, ◌∷◌, [], sym, ap, ◌∙◌, List, take, subst}
+use Rattle.std.proofs.Common.{◌++◌, ◌∷◌, [], sym, ap, ◌∙◌, List, take, subst, arith}
 use Rattle.echo_addr.specs.declared.address.Address.{Address}
 use Rattle.echo_links.specs.Links.{IsFile, LinkFile}
 use Rattle.echo_net.specs.declared.link.Link.{Link}
@@ -16,9 +16,7 @@ files-preserved c =
     let f : LinkFile → List Link = net.links_from_file tag in
     let own : LinkFile → List Address = λ x. net.systems (net.carrying (x ∷ []) tag) in
     record {
-      carriers = c.in_ok-take_file.ensures.carriers
-          ∙ (ap (λ (all : List Address). all ++ own file) c.files.invariant.carriers
-          ∙ (ap (λ (x : LinkFile). net.systems (net.carrying (take i files) tag) ++ own x) c.file-item.is ∙ sym (systems_take tag files i file c.files-test.true)));
+      carriers = grind (arith, systems_take);
       links = c.in_ok-take_file.ensures.links
           ∙ (ap (λ (ls : List Link). ls ++ f file) c.files.invariant.links
           ∙ (ap (λ (x : LinkFile). net.listed_links (take i files) tag ++ f x) c.file-item.is ∙ sym (flat_map_take f files i file c.files-test.true)));

@@ -7,11 +7,7 @@ use Rattle.echo_net.proofs.Owned.{in_order_from_sorted}
 use Rattle.echo_net.proofs.checker.check_area.Goals as goal
 
 pub returns-in-Some-clause-tidy : goal.returns-in-Some-clause-tidy
-returns-in-Some-clause-tidy c = (
-  λ h. absurd h,
-  not_tidy c.args.files.now c.args.tag.now c.in-Some.fault
-      (MatchOption-at_some (AreSoundLinks c.args.files.now c.args.tag.now) (IsFirstFault c.args.files.now c.args.tag.now) c.in-Some.fault c.in-Some.is c.in_ok-wrong_link.ensures),
-)
+returns-in-Some-clause-tidy c = grind (arith, not_tidy, MatchOption-at_some)
 
 pub area_graph-requires-clause-sound : goal.area_graph-requires-clause-sound
 area_graph-requires-clause-sound c = at_none (AreSoundLinks c.args.files.now c.args.tag.now) (IsFirstFault c.args.files.now c.args.tag.now) c.in_ok-wrong_link.wrong_link c.in_default.not-Some c.in_ok-wrong_link.ensures

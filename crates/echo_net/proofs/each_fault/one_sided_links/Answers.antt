@@ -1,4 +1,4 @@
-use Rattle.std.proofs.Common.{◌∙◌, ap, sym}
+use Rattle.std.proofs.Common.{◌∙◌, ap, sym, arith}
 use Rattle.echo_net.specs.AllFaults.{is_one_sided}
 use Rattle.echo_net.proofs.AllFaults.{one_kept, one_left}
 use Rattle.echo_net.proofs.each_fault.one_sided_links.Goals as goal
@@ -11,7 +11,5 @@ links-preserved c =
       | then-is_one_sided+in_ok-push w ↦
           one_kept test c.args.links.now c.links.link-index _ c.links-test.true c.links.found.items c.if-is_one_sided.found.items c.links.invariant
           (sym c.is_one_sided.ensures ∙ w.if-is_one_sided.true) (ap (λ v. v.items) w.found-is ∙ w.in_ok-push.ensures.items)
-      | else-is_one_sided w ↦
-          one_left test c.args.links.now c.links.link-index _ c.links-test.true c.links.found.items c.if-is_one_sided.found.items c.links.invariant
-          (sym c.is_one_sided.ensures ∙ w.if-is_one_sided.false) (ap (λ v. v.items) w.found-is)
+      | else-is_one_sided w ↦ grind (arith, one_left)
     ]

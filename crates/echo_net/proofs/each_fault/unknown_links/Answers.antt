@@ -1,4 +1,4 @@
-use Rattle.std.proofs.Common.{◌∙◌, ap, not, sym}
+use Rattle.std.proofs.Common.{◌∙◌, ap, not, sym, arith}
 use Rattle.echo_net.specs.AllFaults.{is_unknown}
 use Rattle.echo_net.proofs.AllFaults.{one_kept, one_left}
 use Rattle.echo_net.proofs.each_fault.unknown_links.Goals as goal
@@ -11,7 +11,5 @@ links-preserved c =
       | then-not-has_address+in_ok-push w ↦
           one_kept test c.args.links.now c.links.link-index _ c.links-test.true c.links.found.items c.if-not-has_address.found.items c.links.invariant
           (ap not (sym c.has_address.ensures ∙ w.if-not-has_address.true)) (ap (λ v. v.items) w.found-is ∙ w.in_ok-push.ensures.items)
-      | else-not-has_address w ↦
-          one_left test c.args.links.now c.links.link-index _ c.links-test.true c.links.found.items c.if-not-has_address.found.items c.links.invariant
-          (ap not (sym c.has_address.ensures ∙ w.if-not-has_address.false)) (ap (λ v. v.items) w.found-is)
+      | else-not-has_address w ↦ grind (arith, one_left)
     ]

@@ -1,4 +1,4 @@
-use Rattle.std.proofs.Common.{◌≡◌, ◌<◌, ◌∙◌, ℕ, Bool, List, length, map, sym, subst, ap, Option, MatchOption}
+use Rattle.std.proofs.Common.{◌≡◌, ◌<◌, ◌∙◌, ℕ, Bool, List, length, map, sym, subst, ap, Option, MatchOption, arith}
 use Rattle.std.specs.List.{All}
 use Rattle.std.proofs.lemmas.Option.{MatchOption-at_some}
 use Rattle.echo_addr.specs.declared.address.Address.{Address}
@@ -34,8 +34,7 @@ systems_at-requires c =
     let all : List Address = c.args.carriers.now in
     let joined = numbered all (lists c.args.files.now c.args.tag.now) in
     let places : List ℕ = c.in-Some-round.places.items in
-    let named : NamedLoop (linked c.args.graph.now) places =
-    MatchOption-at_some (Polygons (linked c.args.graph.now)) (λ r. NamedLoop (linked c.args.graph.now) r.items) c.in-Some-round.places c.in-Some-round.is c.in_ok-round.ensures in
+    let named : NamedLoop (linked c.args.graph.now) places = grind (arith, MatchOption-at_some) in
     let cycle = (subst (λ (l : ℕ → ℕ → Bool). NamedLoop l places) c.requires.links named).cycle in
     let simple = simple_numbers c.args.files.now c.args.tag.now all c.requires.in_order c.requires.sound.no_self c.requires.sound.known c.requires.sound.both in
     let inside = loop_within joined (length all) (λ i j h. (parts c.args.files.now c.args.tag.now all c.requires.in_order i j h).one) simple.both_ways simple.no_self places cycle in
@@ -48,8 +47,7 @@ returns-in_ok-systems-in-Some-round c =
     let places : List ℕ = c.in-Some-round.places.items in
     let found = renamed (linked c.args.graph.now) joined (length c.args.graph.now) (length all) c.in_ok-apart.apart c.requires.links c.requires.members c.in_ok-apart.ensures in
     let whole = at_none (Connected (λ i. i < length all) joined) (FirstUnreached joined (length all)) c.in_ok-apart.apart c.in_default.not-Some found in
-    let named : NamedLoop (linked c.args.graph.now) places =
-    MatchOption-at_some (Polygons (linked c.args.graph.now)) (λ r. NamedLoop (linked c.args.graph.now) r.items) c.in-Some-round.places c.in-Some-round.is c.in_ok-round.ensures in
+    let named : NamedLoop (linked c.args.graph.now) places = grind (arith, MatchOption-at_some) in
     is_loop c.args.files.now c.args.tag.now all c.requires.in_order c.requires.sound whole places (subst (λ (l : ℕ → ℕ → Bool). NamedLoop l places) c.requires.links named)
     c.new.result (c.new.ensures ∙ (c.in_ok-systems-in-Some-round.ensures ∙ ap (map (system_at all)) c.deref.ensures.value))
 
@@ -59,6 +57,5 @@ returns-in-None c =
     let joined = numbered all (lists c.args.files.now c.args.tag.now) in
     let found = renamed (linked c.args.graph.now) joined (length c.args.graph.now) (length all) c.in_ok-apart.apart c.requires.links c.requires.members c.in_ok-apart.ensures in
     let whole = at_none (Connected (λ i. i < length all) joined) (FirstUnreached joined (length all)) c.in_ok-apart.apart c.in_default.not-Some found in
-    let polygons : Polygons (linked c.args.graph.now) =
-    at_none (Polygons (linked c.args.graph.now)) (λ r. NamedLoop (linked c.args.graph.now) r.items) c.in_ok-round.round (λ r is. let none = c.in-None.is in cc) c.in_ok-round.ensures in
+    let polygons : Polygons (linked c.args.graph.now) = grind (arith, at_none) in
     is_tidy c.args.files.now c.args.tag.now all c.requires.in_order c.requires.sound whole (subst (λ (l : ℕ → ℕ → Bool). Polygons l) c.requires.links polygons)

@@ -1,4 +1,4 @@
-use Rattle.std.proofs.Common.{◌≡◌, ◌∙◌, ◌<◌, ◌↔◌, ℕ, Bool, List, ap, arith, length, map, subst, sym}
+use Rattle.std.proofs.Common.{◌≡◌, ◌<◌, ◌↔◌, ℕ, Bool, List, arith, length, map, subst, sym}
 use Rattle.std.specs.Prelude.{Contains}
 use Rattle.std.specs.List.{All}
 use Rattle.std.proofs.lemmas.List.Elements.{Contains-get_or}
@@ -7,7 +7,6 @@ use Rattle.echo_addr.specs.declared.address.Address.{Address}
 use Rattle.model_graph.specs.Reach.{StartsPart}
 use Rattle.model_run.specs.Tidy.{lists}
 use Rattle.echo_net.specs.declared.each_fault.Kind.TheVariants as kinds
-use Rattle.echo_net.specs.declared.link.Link.{Link}
 use Rattle.echo_net.specs.AllFaults.{AppliesTo}
 use Rattle.echo_net.specs.Drawn.{AreLinksInOrder}
 use Rattle.echo_net.specs.Faults.{numbered}
@@ -34,7 +33,5 @@ returns c =
     IfOk-weaker c.from_first.result
     (λ found. found.items ≡ map (pair files tag all c.requires.in_order c.requires.sound) c.deref.result.now)
     (λ found. AreLinksInOrder (AppliesTo files tag kinds.Apart) found.items)
-    (λ found is.
-    subst (λ (ls : List Link). AreLinksInOrder (AppliesTo files tag kinds.Apart) ls)
-    (sym (is ∙ ap (map (pair files tag all c.requires.in_order c.requires.sound)) c.deref.ensures.value)) ordered)
+    (grind (arith, pair))
     c.from_first.ensures

@@ -1,6 +1,4 @@
-use Rattle.std.proofs.Common.{◌∙◌, ◌<◌, ◌++◌, ℕ, Bool, List, ap, length, map, subst, sym}
-use Rattle.std.specs.Prelude.{Contains}
-use Rattle.std.specs.List.{All}
+use Rattle.std.proofs.Common.{◌∙◌, ◌++◌, ℕ, Bool, List, ap, map, subst, arith}
 use Rattle.std.proofs.lemmas.Result.{on_ok_weaker}
 use Rattle.echo_addr.specs.declared.address.Address.{Address}
 use Rattle.model_blocks.specs.declared.block_loops.BlockLoop.{BlockLoop}
@@ -13,12 +11,7 @@ use Rattle.echo_net.proofs.Rounds.{faults_of, rounds_in_order, rounds_within}
 use Rattle.echo_net.proofs.graph_faults.push_loops.Goals as goal
 
 pub push_rounds-requires : goal.push_rounds-requires
-push_rounds-requires c =
-    let loops : List BlockLoop = c.in_ok-loops.loops.items in
-    let all : List Address = c.args.carriers.now in
-    let are : AreBlockLoops (numbered all (lists c.args.files.now c.args.tag.now)) loops = subst (λ (l : ℕ → ℕ → Bool). AreBlockLoops l loops) c.requires.links c.in_ok-loops.ensures in
-    subst (λ (ls : List BlockLoop). (l : BlockLoop) → Contains ls l → All (λ place. place < length all) l.round.items) (sym c.deref.ensures.value)
-    (rounds_within c.args.files.now c.args.tag.now all c.requires.in_order c.requires.sound loops are)
+push_rounds-requires c = grind (arith, rounds_within)
 
 pub returns : goal.returns
 returns c =

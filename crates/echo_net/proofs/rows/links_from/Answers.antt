@@ -1,4 +1,4 @@
-use Rattle.std.proofs.Common.{rules, ◌≡◌, ◌↔◌, ◌≤◌, not, drop, take, length, sym, subst, ap, ◌∙◌, List, ℕ, true, false}
+use Rattle.std.proofs.Common.{rules, ◌≡◌, ◌↔◌, ◌≤◌, not, drop, take, length, sym, subst, List, ℕ, true, false, arith}
 use Rattle.std.specs.Prelude.{Contains}
 use Rattle.std.specs.List.Sorted.{IsPartitionPoint, IsPartitionedBy}
 use Rattle.std.proofs.lemmas.List.Sorted.{IsPartitionPoint-from_clause}
@@ -14,8 +14,7 @@ returns c =
     let start : ℕ = c.partition_point-start.result in
     let count : ℕ = c.partition_point-count.result in
     let is : c.split_at.result.1.now ≡ drop start links = c.split_at.ensures.back in
-    let run : c.split_at-2.result.0.now ≡ take count (drop start links) =
-    c.split_at-2.ensures.front ∙ ap (take count) is in
+    let run : c.split_at-2.result.0.now ≡ take count (drop start links) = grind arith in
     let first : IsPartitionPoint (λ (l : Link). address_before l.from system ≡ true) (λ (l : Link). address_before l.from system ≡ false) links start =
     IsPartitionPoint-from_clause (λ (l : Link). address_before l.from system) links start c.partition_point-start.ensures.partitioned (smaller_first links c.requires system) (λ a r q k. search rules) in
     let second : IsPartitionPoint (λ (l : Link). not (address_before system l.from) ≡ true) (λ (l : Link). not (address_before system l.from) ≡ false) (drop start links) count =

@@ -1,4 +1,4 @@
-use Rattle.std.proofs.Common.{◌+◌, ◌++◌, ◌∷◌, [], ℕ, List, take, sym, subst}
+use Rattle.std.proofs.Common.{◌+◌, ◌++◌, ◌∷◌, [], ℕ, List, take, sym, subst, arith}
 use Rattle.std.specs.List.{AllZip}
 use Rattle.std.proofs.lemmas.Bool.{some_since}
 use Rattle.std.proofs.lemmas.Option.{MatchOption-at_some}
@@ -35,7 +35,6 @@ returns-clause-members c = λ j.
     let carriers : List Address = c.args.carriers.now in
     let links : List Link = c.args.links.now in
     let past = c.links-test.false in
-    let zip : AllZip (λ (l : Link) (k : ℕ). IsAt carriers k l.to) links c.links.row.items =
-    subst (λ (ls : List Link). AllZip (λ (l : Link) (k : ℕ). IsAt carriers k l.to) ls c.links.row.items) (take_all c.links.link-index links past) c.links.invariant in
+    let zip : AllZip (λ (l : Link) (k : ℕ). IsAt carriers k l.to) links c.links.row.items = grind (arith, take_all) in
     let all = row_members carriers c.requires.carriers links c.links.row.items zip j in
     (λ h. all.0 ((c.put_in_order.ensures.members j).0 h), λ h. (c.put_in_order.ensures.members j).1 (all.1 h))

@@ -1,4 +1,4 @@
-use Rattle.std.proofs.Common.{◌≡◌, ◌<◌, ◌+◌, ◌++◌, ◌∷◌, [], ℕ, List, length, sym, subst, ap, ◌∙◌}
+use Rattle.std.proofs.Common.{◌≡◌, ◌<◌, ◌+◌, ◌++◌, ◌∷◌, [], ℕ, List, length, sym, subst, ap, ◌∙◌, arith}
 use Rattle.echo_addr.specs.declared.address.Address.{Address}
 use Rattle.model_graph.specs.Rows.{links_at}
 use Rattle.echo_net.specs.declared.link.Link.{Link}
@@ -15,8 +15,7 @@ carriers-preserved c =
     let links : List Link = c.args.links.now in
     let i = c.carriers.system-index in
     let row : List ℕ = c.in_ok-row.row.items in
-    let is : c.push.new.self.items ≡ c.carriers.rows.items ++ row ∷ [] =
-    c.in_ok-push.ensures.items ∙ ap (λ (r : List ℕ). c.carriers.rows.items ++ r ∷ []) c.new.ensures in
+    let is : c.push.new.self.items ≡ c.carriers.rows.items ++ row ∷ [] = grind arith in
     let here = is_row carriers links c.links_from-run.result.now (system_at carriers i) row c.links_from-run.ensures c.in_ok-row.ensures.ascending c.in_ok-row.ensures.members in
     let more = one_row_more carriers links i c.carriers.rows.items row c.carriers.invariant.size c.carriers.invariant.each here in
     record {

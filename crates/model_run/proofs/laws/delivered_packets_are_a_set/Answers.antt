@@ -1,8 +1,6 @@
+use Rattle.std.proofs.Common.{arith}
 use Rattle.model_run.proofs.WholeRuns.{run-delivered}
 use Rattle.model_run.proofs.laws.delivered_packets_are_a_set.Goals as goal
 
 pub returns : goal.returns
-returns c = record {
-  once = λ files events. (run-delivered files events).once;
-  there = λ files events. (run-delivered files events).there;
-}
+returns c = grind (arith, run-delivered)

@@ -1,9 +1,8 @@
-use Rattle.std.proofs.Common.{sym, ap, ◌∙◌}
+use Rattle.std.proofs.Common.{sym, ap, ◌∙◌, arith}
 use Rattle.model_run.specs.Orderly.{tag_of}
 use Rattle.model_run.proofs.TosserLaws.{the_laws}
 use Rattle.model_run.proofs.Areas.{key-tag}
 use Rattle.model_run.proofs.Origins.{run-traced}
-use Rattle.model_run.specs.Keeping.{Content}
 use Rattle.model_run.proofs.laws.each_message_was_posted.Goals as goal
 
 pub returns : goal.returns
@@ -16,12 +15,6 @@ returns c = λ files fit events s h m i.
         o,
         at_o,
         record { own = own; area = sym (key-tag o) ∙ (ap tag_of key ∙ key-tag m) },
-        record {
-          date = ap (λ (x : Content). x.date) (sym content);
-          to_name = ap (λ (x : Content). x.to_name) (sym content);
-          from_name = ap (λ (x : Content). x.from_name) (sym content);
-          subject = ap (λ (x : Content). x.subject) (sym content);
-          kept = ap (λ (x : Content). x.kept) (sym content);
-        },
+        grind arith,
       ),
     )

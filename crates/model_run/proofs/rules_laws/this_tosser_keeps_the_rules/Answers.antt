@@ -1,7 +1,6 @@
-use Rattle.std.proofs.Common.{subst, List, []}
+use Rattle.std.proofs.Common.{[], arith}
 use Rattle.std.proofs.lemmas.List.{append-nil}
-use Rattle.model_run.specs.Run.{run_of, start}
-use Rattle.model_run.specs.Keeping.{IsHistory}
+use Rattle.model_run.specs.Run.{start}
 use Rattle.model_run.proofs.TosserLaws.{the_laws}
 use Rattle.model_run.proofs.Histories.{REvent}
 use Rattle.model_run.proofs.StandingRuns.{events-stand, start-stands}
@@ -10,5 +9,4 @@ use Rattle.model_run.proofs.rules_laws.this_tosser_keeps_the_rules.Goals as goal
 pub returns : goal.returns
 returns c = λ files tag tidy fit events.
     let st = events-stand the_laws files tag tidy [] events (start files) (start-stands the_laws files tag fit) in
-    let P : List REvent → Type 0 = λ es. IsHistory tag (run_of files events) es in
-    (st.recent, subst P (append-nil st.recent) st.history, st.since.by_rules.0, st.since.by_rules.1)
+    grind (arith, REvent, append-nil)
