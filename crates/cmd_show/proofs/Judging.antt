@@ -1,5 +1,5 @@
 -- The judgement on a line, from those on its parts.
-use Rattle.std.proofs.Common.{◌≡◌, ℕ, ◌||◌, not, Bool, true, false, cond, List, [], ◌∷◌, length, map, codes, refl, sym, ap, subst, ◌∙◌, Option, Some, None, Result, Ok, Err, inl, inr, nat_lt, arith}
+use Rattle.std.proofs.Common.{◌≡◌, ℕ, ◌||◌, not, Bool, true, false, cond, List, [], ◌∷◌, length, map, codes, refl, sym, ap, subst, ◌∙◌, Option, Some, None, Result, Ok, Err, nat_lt, arith}
 use Rattle.std.specs.Prelude.{IfOk, bytes_eq, filter, is_err}
 use Rattle.std.specs.Cmp.Lexicographic.{bytes_decides}
 use Rattle.std.specs.List.{list_any}
@@ -33,16 +33,7 @@ module _ (earlier : List (List ℕ)) (line : List ℕ) (old new : SaidBefore) (b
     where
       all : (t : List ℕ) → list_any (bytes_eq t) (map tag_in (filter is_area_line (line ∷ earlier)))
           ≡ cond (is_area_line line) (bytes_eq t (tag_in line) || list_any (bytes_eq t) old.tags) (list_any (bytes_eq t) old.tags)
-      all t = elim (cases_Bool (is_area_line line)) [
-        | inl is ↦
-            ap (λ ls. list_any (bytes_eq t) (map tag_in ls)) (cond-true (is_area_line line) (line ∷ filter is_area_line earlier) (filter is_area_line earlier) is)
-            ∙ ap (λ x. bytes_eq t (tag_in line) || x) (before.tags t)
-            ∙ sym (cond-true (is_area_line line) (bytes_eq t (tag_in line) || list_any (bytes_eq t) old.tags) (list_any (bytes_eq t) old.tags) is)
-        | inr isnt ↦
-            ap (λ ls. list_any (bytes_eq t) (map tag_in ls)) (cond-false (is_area_line line) (line ∷ filter is_area_line earlier) (filter is_area_line earlier) isnt)
-            ∙ before.tags t
-            ∙ sym (cond-false (is_area_line line) (bytes_eq t (tag_in line) || list_any (bytes_eq t) old.tags) (list_any (bytes_eq t) old.tags) isnt)
-      ]
+      all t = grind (arith, cases_Bool, cond-true, cond-false)
 
   -- a line adds just its own part
   keeps_system : is_system_line line ≡ false → new.system ≡ old.system → (is_system_line line || old.system) ≡ new.system

@@ -1,4 +1,4 @@
-use Rattle.std.proofs.Common.{◌∙◌, ◌≤◌, ◌+◌, ◌++◌, ℕ, length, option_copied, refl, sym, subst, arith}
+use Rattle.std.proofs.Common.{◌∙◌, ◌≤◌, ◌+◌, ◌++◌, ℕ, length, option_copied, subst, arith}
 use Rattle.base_folder.proofs.Lookings.{err_is}
 use Rattle.base_folder.proofs.Readings.{not_behind, not_past}
 use Rattle.cmd_print.specs.BaseListed.{asked_text}
@@ -9,20 +9,7 @@ use Rattle.cmd_show.proofs.listing.print_messages.Goals as goal
 use Rattle.base_folder_store.proofs.Causes.{at_error}
 
 pub messages-init : goal.messages-init
-messages-init g c =
-    let asked = c.args.asked.now in
-    let begin = c.begin_at-i.result in
-    let within = c.begin_at-i.ensures.within in
-    let behind = c.begin_at-i.ensures.behind in
-    record {
-      inside = not_behind asked.first c.count-count.result begin within behind;
-      ready = c.requires;
-      many = sym c.count-count.ensures.count;
-      holds = λ base holds. holds;
-      later = omega arith;
-      printed = λ honest base holds. printed_none (g.W.Write.contents c.args.out.now) c.args.lines.now.items asked.form asked.area asked.first base.messages base.cursor begin (not_past asked.first c.count-count.result begin within behind);
-      failed = refl;
-    }
+messages-init g c = grind (arith, not_behind, printed_none, not_past)
 
 pub fetch_message-requires : goal.fetch_message-requires
 fetch_message-requires g c = record { ready = c.messages.invariant.ready; within = omega (arith, c.messages-test.true, c.messages.invariant.many) }

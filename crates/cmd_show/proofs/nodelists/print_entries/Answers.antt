@@ -1,4 +1,4 @@
-use Rattle.std.proofs.Common.{◌≡◌, ◌++◌, ℕ, ◌∙◌, ap, arith, length, refl, subst}
+use Rattle.std.proofs.Common.{◌≡◌, ◌++◌, ℕ, ap, arith, length, refl, subst}
 use Rattle.cmd_status.specs.Lines.{PassesOn}
 use Rattle.cmd_status.proofs.Lines.{none_added}
 use Rattle.cmd_print.specs.Listed.{listed_entries}
@@ -10,15 +10,7 @@ pub entries-init : goal.entries-init
 entries-init g c = record { printed = none_added _ _; failed = refl }
 
 pub entries-preserved : goal.entries-preserved
-entries-preserved g c =
-    let old = g.W.Write.contents c.args.out.now in
-    let mid = g.W.Write.contents c.entries.out in
-    let new = g.W.Write.contents c.print_entry.new.out in
-    record {
-      printed = printed_more old mid new c.args.lines.now.items c.entries.lines.items c.print_entry.new.lines.items c.args.list.now c.lines-line-items.result.now c.entries.i c.address_of.result c.line-item.result c.lines-line-items.ensures.lines
-          c.entries-test.true c.address_of.ensures c.line-item.is c.entries.invariant.printed c.in_ok-print_entry.ensures.lines;
-      failed = c.in_ok-print_entry.ensures.ok ∙ c.entries.invariant.failed;
-    }
+entries-preserved g c = grind (arith, printed_more)
 
 pub returns-in_err-print_entry-clause-begun : goal.returns-in_err-print_entry-clause-begun
 returns-in_err-print_entry-clause-begun g c =
