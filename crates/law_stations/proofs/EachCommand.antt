@@ -156,7 +156,7 @@ has-net d net t = record {
         let (same, unnamed, (c, is_cursor, less)) = tagged in
         inr (
           file,
-          record { represented = there; unnamed = unnamed; cursor = c; is_cursor = cursor-too net d.net file.station c (sym t.stations) is_cursor; below = less },
+          record { staged = there; unnamed = unnamed; cursor = c; is_cursor = cursor-too net d.net file.station c (sym t.stations) is_cursor; below = less },
           some_same (sym same ∙ at),
         )
     by k bytes at (suc n) e = inl (among-times k t.places (omega (arith, e)))

@@ -25,12 +25,12 @@ one-ends i cursor net before file after own has = ⊎_elim
     (λ (less : file.number < cursor). record {
       next = naming net file.bytes file.named;
       has = cursor-stays net i cursor file.bytes file.named has;
-      one = record { before = before; file = file; after = after; stood = refl; own = own; cursor = cursor; is_cursor = has; left = []; ends = inl (less, refl, inl refl); represented = refl };
+      one = record { before = before; file = file; after = after; stood = refl; own = own; cursor = cursor; is_cursor = has; left = []; ends = inl (less, refl, inl refl); staging = refl };
     })
     (λ (most : cursor ≤ file.number). record {
       next = net;
       has = has;
-      one = record { before = before; file = file; after = after; stood = refl; own = own; cursor = cursor; is_cursor = has; left = []; ends = inr (most, refl, refl); represented = refl };
+      one = record { before = before; file = file; after = after; stood = refl; own = own; cursor = cursor; is_cursor = has; left = []; ends = inr (most, refl, refl); staging = refl };
     })
     (cases_lt file.number cursor)
 

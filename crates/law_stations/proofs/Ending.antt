@@ -27,7 +27,7 @@ left-tagged : (packets : List (List ℕ)) (at : List ℕ) (file : StagingFile) (
 left-tagged packets at file left h1 = grind arith
 
 module _ (d new : Disks) (net : Net) (t : Tracks d net) (before : List StagingFile) (file : StagingFile) (after left : List StagingFile)
-    (represented : new.staging ≡ before ++ (left ++ after)) (around : PairedAround (IsTagged net.packets (cursors net)) before file after t.tags) where
+    (staging : new.staging ≡ before ++ (left ++ after)) (around : PairedAround (IsTagged net.packets (cursors net)) before file after t.tags) where
   abbrev tags : List (Option ℕ)
   tags = around.front ++ (nones left ++ around.behind)
 
@@ -82,16 +82,16 @@ one-ended i d new net t e = by around.y refl e.ends
     under : around.y ≡ None → (b : Bool) → e.file.named ≡ b → IsTagged net.packets (cursors net) e.file None → e.file.number < e.cursor → new.net ≡ naming d.net e.file.bytes b
         → IsLeft e.file e.left → Tracks new net
     under none true is tag less same left =
-        unchanged d new net t e.before e.file e.after e.left e.represented around none same (left-tagged net.packets (cursors net) e.file e.left left)
+        unchanged d new net t e.before e.file e.after e.left e.staging around none same (left-tagged net.packets (cursors net) e.file e.left left)
     under none false is (inl other) less same left = absurd (not_both e.file.named other is)
     under none false is (inr late) less same left = let most = late e.cursor at in absurd (omega (arith, most, less))
 
     by : (o : Option ℕ) → around.y ≡ o → Ends e.cursor d.net e.file new.net e.left → Tracks new net
     by None none (inl (less, same, left)) = under none e.file.named refl (here None none) less same left
-    by None none (inr (least, same, left)) = unchanged d new net t e.before e.file e.after e.left e.represented around none same (gone left)
+    by None none (inr (least, same, left)) = unchanged d new net t e.before e.file e.after e.left e.staging around none same (gone left)
     by (Some k) waited (inl (less, same, left)) =
         let (there, unnamed, below_it) = here (Some k) waited in
-        gets-name d new net t e.before e.file e.after e.left e.represented around k waited there (same ∙ ap (naming d.net e.file.bytes) unnamed)
+        gets-name d new net t e.before e.file e.after e.left e.staging around k waited there (same ∙ ap (naming d.net e.file.bytes) unnamed)
         (left-tagged net.packets (cursors net) e.file e.left left)
     by (Some k) waited (inr (least, same, left)) =
         let (there, unnamed, below_it) = here (Some k) waited in

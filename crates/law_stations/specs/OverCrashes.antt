@@ -22,7 +22,7 @@ use Rattle.law_stations.specs.Stopping.{MayHappenAll}
 -- A temporary file that did not get its name yet, after its scan moved the cursor: the next scan of the station will
 -- name it.
 pub record IsToBeNamed (d : Disks) (file : StagingFile) : Type 0 where
-  pub represented : Among file d.staging
+  pub staged : Among file d.staging
   pub unnamed : file.named ≡ false
   pub cursor : ℕ
   pub is_cursor : HasCursor d.net file.station cursor

@@ -31,7 +31,7 @@ pub record EndsOne (i : ℕ) (d new : Disks) : Type 0 where
   pub is_cursor : HasCursor d.net i cursor
   pub left : List StagingFile
   pub ends : Ends cursor d.net file new.net left
-  pub represented : new.staging ≡ before ++ (left ++ after)
+  pub staging : new.staging ≡ before ++ (left ++ after)
 
 -- Some files of the station are finished, one after another.
 abbrev pub EndsSome : ℕ → ℕ → Disks → Disks → Type 0
