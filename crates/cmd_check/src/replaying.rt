@@ -20,7 +20,7 @@ use std::hash::RandomState;
 /// has filed in each of its areas, and how many wait there; how many packets were made and not delivered; and
 /// whether the net has settled. For a faulty input nothing is printed. The first fault is returned, that of the
 /// script before those of link files. `stopped` is why no further file was read, and comes last. Look-ups go by the
-/// hasher, and `told` receives each event after it happened.
+/// hasher, and `reported` receives each event after it happened.
 pub fn replay<'a, T: ReplayProgress, W: Sink>(
     alloc: Global,
     script: &[u8],

@@ -18,7 +18,7 @@ pub enum Making {
     Done,
 }
 
-/// One step, by paths. If `came` is `false`, a crash undoes it.
+/// One step, by paths. If `reached` is `false`, a crash undoes it.
 #[derive(Drop)]
 pub enum Step {
     /// A file has other bytes.

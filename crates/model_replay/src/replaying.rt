@@ -32,7 +32,7 @@ pub fn replay(
     replay_reported(alloc, files, events, hasher, &Unreported)
 }
 
-/// The same, and `told` hears of each event once it happened.
+/// The same, and `reported` hears of each event once it happened.
 pub fn replay_reported<T: ReplayProgress>(
     alloc: Global,
     files: Vec<LinkFile>,
@@ -59,7 +59,7 @@ pub fn replay_counted(
     replayed(alloc, files, events, hasher, &Unreported)
 }
 
-// The same, and `told` hears of each event.
+// The same, and `reported` hears of each event.
 fn replayed<T: ReplayProgress>(
     alloc: Global,
     files: Vec<LinkFile>,
