@@ -161,7 +161,11 @@ has-net d net t = record {
         )
     by k bytes at (suc n) e = inl (among-times k t.places (omega (arith, e)))
 
-pub crashes-are-none : CrashesAreNone
-crashes-are-none links commands d happen =
-    let f = followed-all commands (first_disks links) d (first_net links) (first-tracks links) happen in
+pub crashes-from : (commands : List CommandEvent) (first d : Disks) (net : Net) → Tracks first net → MayHappenAll commands first d →
+    (plain : List CommandEvent) × (then : Net) × Paired IsLikeEvent commands plain × Happen plain net then × HasNet d then
+crashes-from commands first d net t happen =
+    let f = followed-all commands first d net t happen in
     (f.plain, f.then, f.like, f.happen, has-net d f.then f.tracks)
+
+pub crashes-are-none : CrashesAreNone
+crashes-are-none links commands d happen = crashes-from commands (first_disks links) d (first_net links) (first-tracks links) happen

@@ -12,6 +12,8 @@ pub mod EachEvent
 pub mod Unpurged
 pub mod Sound
 pub mod Headline
+pub mod AnyNets
+pub mod AnyDisks
 pub mod AnyReader
 pub mod Counting
 pub mod Tracking

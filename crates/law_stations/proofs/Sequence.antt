@@ -2,12 +2,14 @@
 use Rattle.std.proofs.Common.{inr, sym, subst, ℕ, List, [], ◌∷◌, Option, Some, None}
 use Rattle.disk_io.specs.Disk.{DiskState}
 use Rattle.station.specs.Place.{Place}
+use Rattle.law_stations.specs.AnyDisks.{disks_at}
+use Rattle.law_stations.proofs.AnyDisks.{headline-from-any-disks}
 use Rattle.law_stations.specs.Commands.{Command, CommandEvent}
 use Rattle.law_stations.specs.Disks.{Disks, first_disks}
 use Rattle.law_stations.specs.Stopping.{MayHappenAll}
 use Rattle.law_stations.proofs.Shown.{headline-over-crashes}
 use Rattle.law_stations.specs.Seats.{AreNeighbours, AreSeated, Seat}
-use Rattle.law_stations.specs.Sequences.{HeadlineOverSequences, SequencesAreAmong}
+use Rattle.law_stations.specs.Sequences.{HeadlineOverSequences, SequencesAreAmong, HeadlineFromAnySequences}
 use Rattle.law_stations.specs.Steps.{Crashes, Ends, Goes, GoesBy, GoesOn, Happening, IsCut, MayLead, Step, after, after_all, commands_by, commands_of, with_command}
 use Rattle.law_stations.proofs.Seated.{crashed, cut, ended}
 
@@ -48,3 +50,8 @@ pub headline-over-sequences : {D Kept : Type 0} (state : D → DiskState) (place
 headline-over-sequences state place nodelist more tag links stopped old new good seats near steps disks last seated goes =
     let (happen, then) = sequences-are-among state place seats near steps disks (first_disks links) last seated goes in
     record { order = headline-over-crashes nodelist more tag links stopped old new good (commands_of steps) last happen; seated = then }
+
+pub headline-from-any-sequences : {D Kept : Type 0} (state : D → DiskState) (place : Kept → Place) → HeadlineFromAnySequences state place
+headline-from-any-sequences state place nodelist more tag stations packets staging stopped old new good some key area is_new seats near steps disks last seated goes =
+    let (happen, then) = sequences-are-among state place seats near steps disks (disks_at stations packets staging) last seated goes in
+    record { order = headline-from-any-disks nodelist more tag stations packets staging stopped old new good some key area is_new (commands_of steps) last happen; seated = then }

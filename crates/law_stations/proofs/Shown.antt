@@ -44,7 +44,7 @@ purged-too (c ∷ commands) (p ∷ plain) i like h = elim h [
   | inr t ↦ inr (purged-too commands plain i like.1 t)
 ]
 
-unchanged-too : (commands plain : List CommandEvent) (i : ℕ) (messages : List Filed) (cursor : ℕ) (m posting : Filed) → Paired IsLikeEvent commands plain
+pub unchanged-too : (commands plain : List CommandEvent) (i : ℕ) (messages : List Filed) (cursor : ℕ) (m posting : Filed) → Paired IsLikeEvent commands plain
     → IsUnchanged plain i messages cursor m posting → IsUnchanged commands i messages cursor m posting
 unchanged-too commands plain i messages cursor m posting like (inl same) = inl same
 unchanged-too commands plain i messages cursor m posting like (inr left) = inr (record {
@@ -91,7 +91,7 @@ picked-weights w files (bytes ∷ some) (k ∷ places) ps (q ∷ qs) picked read
     (nth-map w k p ps there ∙ ap (λ (x : Packet). Some (w x)) same, picked-weights w files some places ps qs picked.1 read other.1)
 
 -- packets at different indexes hold a message no more often than all packets
-sent-less : (address : Address) (key : Key) (files some : List (List ℕ)) (places : List ℕ) (ps qs : List Packet) → Paired (IsItem files) some places → Different places
+pub sent-less : (address : Address) (key : Key) (files some : List (List ℕ)) (places : List ℕ) (ps qs : List Packet) → Paired (IsItem files) some places → Different places
     → Paired ReadsAs files ps → Paired ReadsAs some qs → sent_count address key qs ≤ sent_count address key ps
 sent-less address key files some places ps qs picked apart read other =
     let w = weight address key in
@@ -99,7 +99,7 @@ sent-less address key files some places ps qs picked apart read other =
     omega (arith, less, sent-total address key ps, sent-total address key qs)
 
 -- a station has the same contents in nets with the same stations
-holds-too : (net other : Net) (i : ℕ) (file : LinkFile) (messages : List Filed) (cursor : ℕ) → net.stations ≡ other.stations → StationHolds net i file messages cursor
+pub holds-too : (net other : Net) (i : ℕ) (file : LinkFile) (messages : List Filed) (cursor : ℕ) → net.stations ≡ other.stations → StationHolds net i file messages cursor
     → StationHolds other i file messages cursor
 holds-too net other i file messages cursor same holds = record {
   station = holds.station;

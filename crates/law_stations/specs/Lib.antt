@@ -2,11 +2,13 @@ pub mod Nets
 pub mod Commands
 pub mod Agreement
 pub mod InOrder
+pub mod AnyNets
 pub mod Kinds
 pub mod Disks
 pub mod Stopping
 pub mod CanEnd
 pub mod OverCrashes
+pub mod AnyDisks
 pub mod LoneStations
 pub mod AloneInOrder
 pub mod LoneDisks

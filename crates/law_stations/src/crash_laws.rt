@@ -1,5 +1,6 @@
 //! Laws about the definitions. Each law is the contract of a function that does nothing.
 
+ghost use Rattle.law_stations.specs.AnyDisks.{HeadlineFromAnyDisks};
 ghost use Rattle.law_stations.specs.CanEnd.{LeftCanEnd};
 ghost use Rattle.law_stations.specs.OverCrashes.{CrashesAreNone, HeadlineOverCrashes, SoundOverCrashes, WholeAreAmong};
 
@@ -37,4 +38,11 @@ pub fn nets_are_sound_over_crashes()
 /// if no message of it waits for a scan, and every packet with one has its name and was tossed whole.
 pub fn nets_are_in_order_over_crashes()
     ensures { HeadlineOverCrashes }
+{}
+
+/// The headline over crashes from any state on, for new messages. Let `check` have ended with 0 for the link files that the
+/// stations have now, and an area. Whatever bases, packet files and temporary files the disks have, each message of the area
+/// that none of them has is in order once it is posted.
+pub fn new_messages_are_in_order_over_crashes()
+    ensures { HeadlineFromAnyDisks }
 {}

@@ -10,6 +10,7 @@ ghost use Rattle.cmd_report.specs.Coming.{Coming};
 ghost use Rattle.cmd_store.specs.Tossed.{Tosses, TossesTo};
 ghost use Rattle.law_stations.specs.Agreement.{EventIsEvents, EventsAreARun};
 ghost use Rattle.law_stations.specs.Commands.{TossesAll};
+ghost use Rattle.law_stations.specs.AnyNets.{HeadlineFromAnyState};
 ghost use Rattle.law_stations.specs.InOrder.{HeadlineOnNets, NetsAreSound};
 
 use cmd_report::PacketFiles;
@@ -56,4 +57,11 @@ pub fn nets_are_sound()
 /// purged.
 pub fn nets_are_in_order()
     ensures { HeadlineOnNets }
+{}
+
+/// The headline from any state of a net on, for new messages. Let `check` have ended with 0 for the link files that the
+/// stations have now, and an area. Whatever bases and packet files there are, each message of the area that none of them
+/// has and that is posted from then on is in order.
+pub fn new_messages_are_in_order()
+    ensures { HeadlineFromAnyState }
 {}

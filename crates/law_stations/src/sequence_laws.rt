@@ -3,7 +3,7 @@
 ghost use Rattle.law_stations.specs.Asked.{CommandsGoOn};
 ghost use Rattle.law_stations.specs.Scanned.{ScansGoOn, TossesGoOn};
 ghost use Rattle.law_stations.specs.Seats.{either};
-ghost use Rattle.law_stations.specs.Sequences.{HeadlineOverSequences, SequencesAreAmong};
+ghost use Rattle.law_stations.specs.Sequences.{HeadlineFromAnySequences, HeadlineOverSequences, SequencesAreAmong};
 
 use disk_io::Disk;
 use station::OpenStation;
@@ -35,4 +35,15 @@ pub fn scans_go_on<'a, D: Disk, P: OpenStation<'a, D>, O: OpenStation<'a, D>>()
 /// steps from empty bases the disks show a net that is in order.
 pub fn sequences_are_in_order<'a, D: Disk, P: OpenStation<'a, D>, O: OpenStation<'a, D>>()
     ensures { HeadlineOverSequences D.state (either P.place O.place) }
+{}
+
+/// The headline over sequences from any state on, for new messages: after any steps the disks show a net in which each
+/// message of the area is in order that nothing on them had at first.
+pub fn new_messages_are_in_order_over_sequences<
+    'a,
+    D: Disk,
+    P: OpenStation<'a, D>,
+    O: OpenStation<'a, D>,
+>()
+    ensures { HeadlineFromAnySequences D.state (either P.place O.place) }
 {}

@@ -1,6 +1,7 @@
 -- A base, and its history of filed messages.
-use Rattle.std.proofs.Common.{◌≡◌, ◌≢◌, ◌⊎◌, inl, inr, refl, sym, subst, ap, ◌∙◌, ℕ, zero, suc, ◌≤◌, arith, List, [], ◌∷◌, ◌++◌, length, take, drop, map, Option, Some, None}
-use Rattle.std.specs.Prelude.{true, false, bytes_eq, if◌then◌else◌, unwrap_or, option_map, Bool, filter}
+pub use Rattle.model_run.specs.States.{IsKept, IsReadable, Kept, RunOk, SystemOk}
+use Rattle.std.proofs.Common.{◌≡◌, ◌≢◌, inl, inr, refl, sym, subst, ap, ◌∙◌, ℕ, zero, suc, ◌≤◌, arith, List, [], ◌∷◌, ◌++◌, length, take, drop, map, Option, Some, None}
+use Rattle.std.specs.Prelude.{true, false, bytes_eq, unwrap_or, option_map, filter}
 use Rattle.std.specs.List.{list_any}
 use Rattle.model_graph.specs.Walk.{Among}
 use Rattle.model_graph.proofs.Members.{Among-append_cases}
@@ -12,9 +13,10 @@ use Rattle.base_file.specs.Base.{is_known}
 use Rattle.model_steps.specs.Posting.{has_id, posted, posting}
 use Rattle.echo_filed.specs.Stubs.{stub_of}
 use Rattle.model_steps.specs.Purging.{purged}
-use Rattle.model_run.specs.Run.{System, filing, nth, Run, fresh, posting_at, tossing_at, scanning_at, purging_at, change, receiver, changing, scanning, taking, coming, delivery, part_delivery, after_event, start}
+use Rattle.model_run.specs.Run.{System, filing, nth, Run, fresh, posting_at, tossing_at, scanning_at, purging_at, receiver, changing, taking, after_event, start}
 use Rattle.model_run.specs.Orderly.{count, FiledUnchanged, SameContent}
 use Rattle.echo_links.specs.Links.{IsFile, LinkFile, upper}
+use Rattle.model_run.proofs.EventKinds.{each-kind, scan_of}
 use Rattle.model_run.proofs.TosserPremises.{Laws}
 use Rattle.model_run.proofs.Lists.{any-to, any-from, and-parts, not_both, Among-filter_from, Among-take, Among-drop, change-all, nth-among, Among-map_from}
 use Rattle.model_run.proofs.Targets.{some_same}
@@ -27,30 +29,16 @@ use Rattle.model_steps.specs.declared.stamp.Stamp.{Stamp}
 use Rattle.echo_text.specs.Ids.{id_of}
 use Rattle.model_steps.specs.Tossing.{received, tossing, sender_of}
 use Rattle.model_steps.specs.Scanning.{scanned, packets_of, packet_to, header_to, copy_to, recipients, goes_to}
-use Rattle.model_steps.specs.Stamps.{is_stamp}
 use Rattle.echo_filed.specs.Written.{echo_of}
-use Rattle.model_run.specs.Event.{RunEvent, Posting, Scanning, Delivery, PartDelivery, Purging}
+use Rattle.model_run.specs.Event.{RunEvent}
 use Rattle.model_run.specs.Fits.{FilesFit}
 use Rattle.model_steps.proofs.Posted.{posting_posted}
 use Rattle.model_steps.proofs.Received.{tossing_received}
 use Rattle.model_run.specs.Keeping.{content_of}
 use Rattle.model_run.proofs.TosserPremises as counts
 
--- a message of the base is the filed message, or its stub
-pub record IsKept (b h : Filed) : Type 0 where
-  pub form : (b ≡ h) ⊎ (b ≡ stub_of h)
-  pub key : key_of b ≡ key_of h
-  pub sender : b.sender ≡ h.sender
-
-IsKept-itself : (m : Filed) → IsKept m m
+pub IsKept-itself : (m : Filed) → IsKept m m
 IsKept-itself m = record { form = inl refl; key = refl; sender = refl }
-
--- before the cursor the base keeps each filed message or its stub; from there on it equals the history
-abbrev pub Kept : ℕ → List Filed → List Filed → Type 0
-Kept zero base history = base ≡ history
-Kept (suc c) [] history = ⊥
-Kept (suc c) (b ∷ base) [] = ⊥
-Kept (suc c) (b ∷ base) (h ∷ history) = IsKept b h × Kept c base history
 
 -- the base with one message more
 pub Kept-filed : (c : ℕ) (base history : List Filed) (m : Filed) → Kept c base history → Kept c (base ++ m ∷ []) (history ++ m ∷ [])
@@ -147,13 +135,6 @@ pub count-is : (key : Key) (ms : List Filed) → count key ms ≡ counts.count k
 count-is key [] = refl
 count-is key (m ∷ ms) = omega (arith, count-is key ms)
 
--- the invariant of a system
-pub record SystemOk (s : System) : Type 0 where
-  pub file : IsFile s.file
-  pub kept : Kept s.cursor s.base s.history
-  pub valid : (m : Filed) → Among m s.history → IsEcho m.echo
-  pub once : (key : Key) → count key s.history ≤ 1
-
 -- some message has the key
 abbrev pub HasKey : Key → List Filed → Type 0
 HasKey key ms = (m : Filed) × Among m ms × (key_of m ≡ key)
@@ -217,14 +198,17 @@ module _ (laws : Laws) (s : System) (ok : SystemOk s) where
 
 -- Properties of every run, on every net.
 
--- the invariant of a packet
+-- a packet that a scan made
 pub record PacketOk (p : Packet) : Type 0 where
   pub zone : p.header.orig_zone ≢ 0
   pub messages : (q : Message) → Among q p.messages → (text_refusal q.text ≡ None) × IsEcho (echo_of q.text)
 
-pub record RunOk (run : Run) : Type 0 where
-  pub systems : (s : System) → Among s run.systems → SystemOk s
-  pub packets : (p : Packet) → Among p run.packets → PacketOk p
+made-readable : (p : Packet) → PacketOk p → IsReadable p
+made-readable p ok = record { messages = λ q h none. (ok.messages q h).1 }
+
+-- scans made all packets
+abbrev pub AllMade : Run → Type 0
+AllMade run = (p : Packet) → Among p run.packets → PacketOk p
 
 module _ (laws : Laws) where
   filed_ok : (s : System) (o : Option Filed) → SystemOk s →
@@ -275,7 +259,7 @@ module _ (laws : Laws) where
   pub waiting-valid : (s : System) → SystemOk s → (m : Filed) → Among m (drop s.cursor s.base) → IsEcho m.echo
   waiting-valid s ok m h = grind (arith, Among-drop, Kept-waiting)
 
-  copy-ok : (file : LinkFile) (address : Address) (m : Filed) → IsFile file → IsEcho m.echo →
+  pub copy-ok : (file : LinkFile) (address : Address) (m : Filed) → IsFile file → IsEcho m.echo →
       (text_refusal (copy_to file address m).text ≡ None) × IsEcho (echo_of (copy_to file address m).text)
   unfolding copy_to
   copy-ok file address m fits echo = grind arith
@@ -296,7 +280,7 @@ module _ (laws : Laws) where
   unfolding scanned packets_of
   scanned-from file base cursor stamp p h = Among-map_from (packet_to file stamp (drop cursor base)) p (recipients file (drop cursor base)) h
 
-  scanned-ok : (s : System) → SystemOk s → (stamp : Stamp) (p : Packet) → Among p (scanned s.file s.base s.cursor stamp) → PacketOk p
+  pub scanned-ok : (s : System) → SystemOk s → (stamp : Stamp) (p : Packet) → Among p (scanned s.file s.base s.cursor stamp) → PacketOk p
   scanned-ok s ok stamp p h =
       let (address, i, e) = scanned-from s.file s.base s.cursor stamp p h in
       let P : Packet → Type 0 = λ q. PacketOk q in
@@ -305,49 +289,41 @@ module _ (laws : Laws) where
   pub changing-ok : (run : Run) (i : ℕ) (f : System → System) → ((s : System) → SystemOk s → SystemOk (f s)) → RunOk run → RunOk (changing run i f)
   changing-ok run i f keeps ok = record { systems = change-all (λ s. SystemOk s) i f keeps run.systems ok.systems; packets = ok.packets }
 
-  taking-ok : (p : Packet) → PacketOk p → (n : ℕ) (s : System) → SystemOk s → SystemOk (taking p n s)
-  taking-ok p ok n s at_s = tossing-ok (sender_of s.file p.header) (take n p.messages) s at_s (λ q h _. (ok.messages q (Among-take n q p.messages h)).1)
+  taking-ok : (p : Packet) → IsReadable p → (n : ℕ) (s : System) → SystemOk s → SystemOk (taking p n s)
+  taking-ok p ok n s at_s = tossing-ok (sender_of s.file p.header) (take n p.messages) s at_s (λ q h none. ok.messages q (Among-take n q p.messages h) none)
 
-  scanning-step : (run : Run) (i : ℕ) (stamp : Stamp) (found : Option System) → ((s : System) → found ≡ Some s → SystemOk s) →
-      RunOk run → RunOk (scanning run i stamp found)
-  scanning-step run i stamp None h ok = ok
-  scanning-step run i stamp (Some s) h ok = scans (is_stamp stamp)
-    where
-      scans : (b : Bool) → RunOk (if b then record {
-        systems = change i scanning_at run.systems;
-        packets = run.packets ++ scanned s.file s.base s.cursor stamp;
-        delivered = run.delivered;
-      } else run)
-      scans true = record {
-        systems = change-all (λ t. SystemOk t) i scanning_at scanning-ok run.systems ok.systems;
-        packets = λ p j. elim (Among-append_cases p run.packets (scanned s.file s.base s.cursor stamp) j) [
-          | inl old ↦ ok.packets p old
-          | inr new ↦ scanned-ok s (h s refl) stamp p new
-        ];
-      }
-      scans false = ok
-
-  coming-step : (run : Run) (k : ℕ) (p : Packet) (found : Option System) → PacketOk p → RunOk run → RunOk (coming run k p found)
-  coming-step run k p None at_p ok = ok
-  coming-step run k p (Some s) at_p ok = record {
-    systems = change-all (λ t. SystemOk t) (receiver run p) (taking p (length p.messages)) (taking-ok p at_p (length p.messages)) run.systems ok.systems;
-    packets = ok.packets;
+  scan-ok : (run : Run) → RunOk run → (i : ℕ) (stamp : Stamp) (s : System) → Among s run.systems → RunOk (scan_of run i s stamp)
+  scan-ok run ok i stamp s h = record {
+    systems = change-all (λ t. SystemOk t) i scanning_at scanning-ok run.systems ok.systems;
+    packets = λ p j. elim (Among-append_cases p run.packets (scanned s.file s.base s.cursor stamp) j) [
+      | inl old ↦ ok.packets p old
+      | inr new ↦ made-readable p (scanned-ok s (ok.systems s h) stamp p new)
+    ];
   }
 
-  delivery-step : (run : Run) (k : ℕ) (found : Option Packet) → ((p : Packet) → found ≡ Some p → PacketOk p) → RunOk run → RunOk (delivery run k found)
-  delivery-step run k found h1 h2 = grind (arith, coming-step)
-
-  part-step : (run : Run) (n : ℕ) (found : Option Packet) → ((p : Packet) → found ≡ Some p → PacketOk p) → RunOk run → RunOk (part_delivery run n found)
-  part-step run n None h ok = ok
-  part-step run n (Some p) h ok = changing-ok run (receiver run p) (taking p n) (taking-ok p (h p refl) n) ok
-
   pub event-ok : (run : Run) (event : RunEvent) → RunOk run → RunOk (after_event run event)
-  event-ok run (Posting i tag draft serial stamp) ok = changing-ok run i (posting_at tag draft serial stamp) (posting-ok tag draft serial stamp) ok
-  event-ok run (Scanning i stamp) ok =
-      scanning-step run i stamp (nth i run.systems) (λ s e. ok.systems s (nth-among i s run.systems e)) ok
-  event-ok run (Delivery k) ok = delivery-step run k (nth k run.packets) (λ p e. ok.packets p (nth-among k p run.packets e)) ok
-  event-ok run (PartDelivery k n) ok = part-step run n (nth k run.packets) (λ p e. ok.packets p (nth-among k p run.packets e)) ok
-  event-ok run (Purging i) ok = changing-ok run i purging_at purging-ok ok
+  event-ok run event ok = each-kind run RunOk event (record {
+    idle = ok;
+    posts = λ i tag draft serial stamp e. changing-ok run i (posting_at tag draft serial stamp) (posting-ok tag draft serial stamp) ok;
+    scans = λ i stamp s at. scan-ok run ok i stamp s (nth-among i s run.systems at);
+    comes = λ k p s at_k at_s. (let c = changing-ok run (receiver run p) (taking p (length p.messages)) (taking-ok p (ok.packets p (nth-among k p run.packets at_k)) (length p.messages)) ok in
+        record { systems = c.systems; packets = c.packets });
+    takes = λ k p n at. changing-ok run (receiver run p) (taking p n) (taking-ok p (ok.packets p (nth-among k p run.packets at)) n) ok;
+    purges = λ i e. changing-ok run i purging_at purging-ok ok;
+  })
+
+  pub event-made : (run : Run) (event : RunEvent) → RunOk run → AllMade run → AllMade (after_event run event)
+  event-made run event ok made = each-kind run AllMade event (record {
+    idle = made;
+    posts = λ i tag draft serial stamp e. made;
+    scans = λ i stamp s at p j. elim (Among-append_cases p run.packets (scanned s.file s.base s.cursor stamp) j) [
+      | inl old ↦ made p old
+      | inr new ↦ scanned-ok s (ok.systems s (nth-among i s run.systems at)) stamp p new
+    ];
+    comes = λ k p s at_k at_s. made;
+    takes = λ k p n at. made;
+    purges = λ i e. made;
+  })
 
   pub fresh-ok : (file : LinkFile) → IsFile file → SystemOk (fresh file)
   fresh-ok file fits = record { file = fits; kept = refl; valid = λ m j. absurd j; once = λ key. omega arith }

@@ -54,7 +54,7 @@ module _ (laws : Laws) (file : LinkFile) where
   seen-copied m n h = laws.set_all n (m.echo.seen ++ map net_node_of (file.system ∷ links_of file m.echo.tag)) h
 
   module _ (fits : IsFile file) where
-    received-copy : (address : Address) (m : Filed) → IsEcho m.echo →
+    pub received-copy : (address : Address) (m : Filed) → IsEcho m.echo →
         (is_none (text_refusal (copy_to file address m).text) ≡ true) × (received file.system (copy_to file address m) ≡ copied file m)
     unfolding copy_to received copied
     received-copy address m echo = grind arith

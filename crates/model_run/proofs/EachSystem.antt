@@ -1,19 +1,17 @@
 -- An invariant of each single system holds in every run.
-use Rattle.std.proofs.Common.{refl, ℕ, List, [], ◌∷◌, length, Option, Some, None, arith}
-use Rattle.std.specs.Prelude.{Bool, true, false, ◌++◌, take, if◌then◌else◌}
+use Rattle.std.proofs.Common.{refl, ℕ, List, [], ◌∷◌, length, Option, arith}
+use Rattle.std.specs.Prelude.{take}
 use Rattle.echo_addr.specs.declared.address.Address.{Address}
 use Rattle.model_graph.specs.Walk.{Among}
 use Rattle.echo_packet.specs.Message.{Message}
 use Rattle.model_steps.specs.declared.packet.Packet.{Packet}
-use Rattle.model_steps.specs.declared.stamp.Stamp.{Stamp}
 use Rattle.echo_links.specs.Links.{LinkFile}
 use Rattle.echo_filed.specs.Filed.{Filed}
 use Rattle.model_steps.specs.Posting.{posting}
-use Rattle.model_steps.specs.Scanning.{scanned}
-use Rattle.model_steps.specs.Stamps.{is_stamp}
 use Rattle.model_steps.specs.Tossing.{sender_of, tossing}
-use Rattle.model_run.specs.Event.{RunEvent, Posting, Scanning, Delivery, PartDelivery, Purging}
-use Rattle.model_run.specs.Run.{System, Run, after_event, change, coming, delivery, filing, fresh, nth, part_delivery, posting_at, purging_at, receiver, run_of, scanning, scanning_at, start, taking, tossing_at}
+use Rattle.model_run.specs.Event.{RunEvent}
+use Rattle.model_run.specs.Run.{System, Run, after_event, filing, fresh, posting_at, purging_at, receiver, run_of, scanning_at, start, taking, tossing_at}
+use Rattle.model_run.proofs.EventKinds.{each-kind}
 use Rattle.model_run.proofs.Lists.{change-all, Among-map_from}
 use Rattle.model_run.proofs.Bases.{Kept, Kept-filed, Kept-purged, Kept-scanned}
 use Rattle.model_run.proofs.WholeRuns.{along}
@@ -31,37 +29,15 @@ module _ (P : System → Type 0) (filed : (s : System) (o : Option Filed) → P 
   takes : (p : Packet) (messages : ℕ) (s : System) → P s → P (taking p messages s)
   takes p messages s at = tosses (sender_of s.file p.header) (take messages p.messages) s at
 
-  scanning-each : (run : Run) (i : ℕ) (stamp : Stamp) (found : Option System) → Each run → Each (scanning run i stamp found)
-  scanning-each run i stamp None each = each
-  scanning-each run i stamp (Some s) each = scan (is_stamp stamp)
-    where
-      scan : (b : Bool) → Each (if b then record {
-        systems = change i scanning_at run.systems;
-        packets = run.packets ++ scanned s.file s.base s.cursor stamp;
-        delivered = run.delivered;
-      } else run)
-      scan true = change-all P i scanning_at scans run.systems each
-      scan false = each
-
-  delivery-each : (run : Run) (k : ℕ) (found : Option Packet) → Each run → Each (delivery run k found)
-  delivery-each run k None each = each
-  delivery-each run k (Some p) each = came (nth (receiver run p) run.systems)
-    where
-      came : (o : Option System) → Each (coming run k p o)
-      came None = each
-      came (Some s) = change-all P (receiver run p) (taking p (length p.messages)) (takes p (length p.messages)) run.systems each
-
-  part-each : (run : Run) (messages : ℕ) (found : Option Packet) → Each run → Each (part_delivery run messages found)
-  part-each run messages None each = each
-  part-each run messages (Some p) each = change-all P (receiver run p) (taking p messages) (takes p messages) run.systems each
-
   event-each : (run : Run) (event : RunEvent) → Each run → Each (after_event run event)
-  event-each run (Posting i tag draft serial stamp) each =
-      change-all P i (posting_at tag draft serial stamp) (λ s at. filed s (posting s.file s.base tag draft serial stamp) at) run.systems each
-  event-each run (Scanning i stamp) each = scanning-each run i stamp (nth i run.systems) each
-  event-each run (Delivery k) each = delivery-each run k (nth k run.packets) each
-  event-each run (PartDelivery k messages) each = part-each run messages (nth k run.packets) each
-  event-each run (Purging i) each = change-all P i purging_at purges run.systems each
+  event-each run event each = each-kind run Each event (record {
+    idle = each;
+    posts = λ i tag draft serial stamp e. change-all P i (posting_at tag draft serial stamp) (λ s at. filed s (posting s.file s.base tag draft serial stamp) at) run.systems each;
+    scans = λ i stamp s at. change-all P i scanning_at scans run.systems each;
+    comes = λ k p s at_k at_s. change-all P (receiver run p) (taking p (length p.messages)) (takes p (length p.messages)) run.systems each;
+    takes = λ k p n at. change-all P (receiver run p) (taking p n) (takes p n) run.systems each;
+    purges = λ i e. change-all P i purging_at purges run.systems each;
+  })
 
   run-each : ((file : LinkFile) → P (fresh file)) → (files : List LinkFile) (events : List RunEvent) → Each (run_of files events)
   run-each begins files events = along Each event-each events (start files) (grind (arith, Among-map_from))

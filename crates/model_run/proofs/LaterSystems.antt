@@ -1,19 +1,17 @@
 -- A system keeps its messages over all events.
 use Rattle.std.proofs.Common.{◌≡◌, inl, inr, refl, sym, subst, ℕ, arith, List, [], ◌∷◌, ◌++◌, length, Option, Some, None}
-use Rattle.std.specs.Prelude.{Bool, true, false, take, if◌then◌else◌}
+use Rattle.std.specs.Prelude.{take}
 use Rattle.std.proofs.lemmas.List.{append_assoc, append-nil}
 use Rattle.echo_addr.specs.declared.address.Address.{Address}
 use Rattle.echo_packet.specs.Message.{Message}
 use Rattle.model_steps.specs.declared.packet.Packet.{Packet}
-use Rattle.model_steps.specs.declared.stamp.Stamp.{Stamp}
 use Rattle.echo_links.specs.Links.{LinkFile}
 use Rattle.echo_filed.specs.Filed.{Filed}
 use Rattle.model_steps.specs.Posting.{posting}
-use Rattle.model_steps.specs.Scanning.{scanned}
-use Rattle.model_steps.specs.Stamps.{is_stamp}
 use Rattle.model_steps.specs.Tossing.{sender_of, tossing}
-use Rattle.model_run.specs.Event.{RunEvent, Posting, Scanning, Delivery, PartDelivery, Purging}
-use Rattle.model_run.specs.Run.{IsLater, System, Run, after_event, after_events, change, coming, delivery, filing, nth, part_delivery, posting_at, purging_at, receiver, run_of, scanning, scanning_at, start, taking, tossing_at}
+use Rattle.model_run.specs.Event.{RunEvent}
+use Rattle.model_run.specs.Run.{IsLater, System, Run, after_event, after_events, change, filing, nth, posting_at, purging_at, receiver, run_of, scanning_at, start, taking, tossing_at}
+use Rattle.model_run.proofs.EventKinds.{each-kind}
 use Rattle.model_run.proofs.TosserPremises.{Laws}
 use Rattle.model_run.proofs.Lists.{nth-among, nth-changed}
 use Rattle.model_run.proofs.Bases.{Kept, Kept-cursor, Kept-length}
@@ -59,41 +57,16 @@ change-last i f ss later j s e =
       | inr here ↦ (let P : ℕ → Type 0 = λ k. nth k ss ≡ Some s in (f s, here.1, later s (subst P (sym here.0) e)))
     ]
 
-scanning-last : (run : Run) → AllKept run → (i : ℕ) (stamp : Stamp) (found : Option System) → Lasts run.systems (scanning run i stamp found).systems
-scanning-last run kept i stamp None = same-last run.systems
-scanning-last run kept i stamp (Some s) = scans (is_stamp stamp)
-  where
-    to_end : (t : System) → nth i run.systems ≡ Some t → IsLater t (scanning_at t)
-    to_end t e = scanning-later t (kept t (nth-among i t run.systems e))
-
-    scans : (b : Bool) → Lasts run.systems (if b then record {
-      systems = change i scanning_at run.systems;
-      packets = run.packets ++ scanned s.file s.base s.cursor stamp;
-      delivered = run.delivered;
-    } else run).systems
-    scans true = change-last i scanning_at run.systems to_end
-    scans false = same-last run.systems
-
-delivery-last : (run : Run) (k : ℕ) (found : Option Packet) → Lasts run.systems (delivery run k found).systems
-delivery-last run k None = same-last run.systems
-delivery-last run k (Some p) = came (nth (receiver run p) run.systems)
-  where
-    came : (o : Option System) → Lasts run.systems (coming run k p o).systems
-    came None = same-last run.systems
-    came (Some s) = change-last (receiver run p) (taking p (length p.messages)) run.systems (λ t _. taking-later p (length p.messages) t)
-
-part-last : (run : Run) (messages : ℕ) (found : Option Packet) → Lasts run.systems (part_delivery run messages found).systems
-part-last run messages None = same-last run.systems
-part-last run messages (Some p) = change-last (receiver run p) (taking p messages) run.systems (λ t _. taking-later p messages t)
-
 event-last : (run : Run) → AllKept run → (event : RunEvent) → Lasts run.systems (after_event run event).systems
-event-last run kept (Posting i tag draft serial stamp) =
-    change-last i (posting_at tag draft serial stamp) run.systems (λ s _. filing-later s (posting s.file s.base tag draft serial stamp))
-event-last run kept (Scanning i stamp) = scanning-last run kept i stamp (nth i run.systems)
-event-last run kept (Delivery k) = delivery-last run k (nth k run.packets)
-event-last run kept (PartDelivery k messages) = part-last run messages (nth k run.packets)
-event-last run kept (Purging i) =
-    change-last i purging_at run.systems (λ s _. purging-later s)
+event-last run kept event = each-kind run (λ r. Lasts run.systems r.systems) event (record {
+  idle = same-last run.systems;
+  posts = λ i tag draft serial stamp e.
+      change-last i (posting_at tag draft serial stamp) run.systems (λ s _. filing-later s (posting s.file s.base tag draft serial stamp));
+  scans = λ i stamp s at. change-last i scanning_at run.systems (λ t e. scanning-later t (kept t (nth-among i t run.systems e)));
+  comes = λ k p s at_k at_s. change-last (receiver run p) (taking p (length p.messages)) run.systems (λ t _. taking-later p (length p.messages) t);
+  takes = λ k p n at. change-last (receiver run p) (taking p n) run.systems (λ t _. taking-later p n t);
+  purges = λ i e. change-last i purging_at run.systems (λ s _. purging-later s);
+})
 
 pub events-last : Laws → (events : List RunEvent) (run : Run) → AllKept run → Lasts run.systems (after_events run events).systems
 events-last laws [] run kept = same-last run.systems

@@ -18,7 +18,15 @@ pub mod WholeRuns
 pub mod EachSystem
 pub mod LaterSystems
 pub mod Renewal
-pub mod Throughout
+pub mod EventKinds
+pub mod AnyState
+pub mod Stays
+pub mod Changes
+pub mod States
+pub mod NewPostings
+pub mod Repair
+pub mod Repairs
+pub mod Saying
 pub mod TosserLaws
 pub mod ScanPackets
 pub mod ExportLists
@@ -47,3 +55,4 @@ pub mod NetExamples
 mod TidyExamples
 mod VainExamples
 mod EpochExamples
+mod RepairExamples

@@ -1,6 +1,6 @@
 -- On every net each message has the content of a posting.
-use Rattle.std.proofs.Common.{◌≡◌, ◌⊎◌, inl, inr, refl, sym, subst, ap, ◌∙◌, ℕ, zero, suc, List, [], ◌∷◌, ◌++◌, length, take, drop, Option, Some, None, arith}
-use Rattle.std.specs.Prelude.{Bool, true, false, filter, if◌then◌else◌}
+use Rattle.std.proofs.Common.{◌≡◌, ◌⊎◌, inl, inr, refl, sym, subst, ap, ◌∙◌, ℕ, zero, suc, List, [], ◌∷◌, length, take, drop, Option, None, arith}
+use Rattle.std.specs.Prelude.{filter}
 use Rattle.echo_addr.specs.declared.address.Address.{Address}
 use Rattle.model_graph.specs.Walk.{Among}
 use Rattle.model_graph.proofs.Members.{Among-append_left, Among-append_cases}
@@ -13,16 +13,16 @@ use Rattle.echo_filed.specs.Filed.{Filed, key_of}
 use Rattle.model_steps.specs.Posting.{posting}
 use Rattle.model_steps.specs.Tossing.{received, tossing, sender_of}
 use Rattle.model_steps.specs.Scanning.{goes_to, scanned}
-use Rattle.model_run.specs.Run.{System, Run, filing, posting_at, tossing_at, scanning_at, purging_at, nth, change, receiver, changing, scanning, taking, coming, delivery, part_delivery, after_event, after_events, run_of, start}
-use Rattle.model_run.specs.Event.{RunEvent, Posting, Scanning, Delivery, PartDelivery, Purging}
+use Rattle.model_run.specs.Run.{System, Run, filing, posting_at, tossing_at, scanning_at, purging_at, change, receiver, changing, taking, after_event, after_events, run_of, start}
+use Rattle.model_run.specs.Event.{RunEvent}
 use Rattle.model_run.specs.Fits.{FilesFit}
-use Rattle.model_steps.specs.Stamps.{is_stamp}
 use Rattle.model_run.specs.Orderly.{copies, origin}
+use Rattle.model_run.proofs.EventKinds.{each-kind}
 use Rattle.model_run.proofs.TosserPremises.{Laws}
 use Rattle.model_run.proofs.Lists.{Among-change, Among-filter_from, Among-filter_to, Among-drop, Among-take, nth-among, Among-map_to, Among-map_from}
 use Rattle.model_steps.proofs.Posted.{posted_own}
 use Rattle.model_steps.proofs.Received.{tossing_received}
-use Rattle.model_run.proofs.Bases.{Kept-waiting, SystemOk, RunOk, event-ok, start-ok, scanned-from, waiting-valid}
+use Rattle.model_run.proofs.Bases.{AllMade, Kept-waiting, SystemOk, RunOk, event-made, event-ok, start-ok, scanned-from, waiting-valid}
 use Rattle.model_run.specs.Keeping.{content_of}
 use Rattle.model_run.proofs.Copies.{copied, copied-content, copied-key, copies-are}
 use Rattle.model_run.proofs.StandingTosses.{origin-is}
@@ -123,15 +123,15 @@ module _ (laws : Laws) where
         | inr e ↦ inr (posting_at tag draft serial stamp t, h, (m, j, (posted_own t.file t.base tag draft serial stamp m e).0, refl, refl))
       ]
 
-  taking-new : (run : Run) → Traced run → RunOk run → (p : Packet) → Among p run.packets → (n : ℕ) (t : System) (m : Filed) →
+  taking-new : (run : Run) → Traced run → AllMade run → (p : Packet) → Among p run.packets → (n : ℕ) (t : System) (m : Filed) →
       Among m (tossing_at (sender_of t.file p.header) (take n p.messages) t).history → Among m t.history ⊎ Origin run.systems m
   taking-new run traced ok p h n t m j =
       elim (tossing-new (sender_of t.file p.header) (take n p.messages) t m j) [
         | inl old ↦ inl old
         | inr new ↦ (let (q, i, e) = new in
-            let ok_p = ok.packets p h in
+            let ok_p = ok p h in
             let in_p = Among-take n q p.messages i in
-            let from : m ≡ received (origin p) q = e ∙ ap (λ (a : Address). received a q) (origin-is t.file p ok_p) in
+            let from : m ≡ received (origin p) q = e ∙ ap (λ (a : Address). received a q) (origin-is t.file p ok_p.zone) in
             let P : Filed → Type 0 = λ c. Origin run.systems c in
             let copy : Among (received (origin p) q) (copies p) = grind (arith, Among-map_to, Among-filter_to) in
             inr (subst P (sym from) (traced.packets p h (received (origin p) q) copy)))
@@ -145,7 +145,7 @@ module _ (laws : Laws) where
     packets = λ p h c j. Origin-kept i f keeps run.systems c (traced.packets p h c j);
   }
 
-  taking-traced : (run : Run) → Traced run → RunOk run → (p : Packet) → Among p run.packets → (n : ℕ) → Traced (changing run (receiver run p) (taking p n))
+  taking-traced : (run : Run) → Traced run → AllMade run → (p : Packet) → Among p run.packets → (n : ℕ) → Traced (changing run (receiver run p) (taking p n))
   taking-traced run traced ok p h n = changing-traced run traced (receiver run p) (taking p n) (keeps)
       (λ s _ _ m j. elim (taking-new run traced ok p h n s m j) [
         | inl old ↦ inl old
@@ -155,54 +155,31 @@ module _ (laws : Laws) where
       keeps : Keeps (taking p n)
       keeps s m j = tossing-kept (sender_of s.file p.header) (take n p.messages) s m j
 
-  delivery-traced : (run : Run) → Traced run → RunOk run → (k : ℕ) (found : Option Packet) → ((p : Packet) → found ≡ Some p → Among p run.packets) →
-      Traced (delivery run k found)
-  delivery-traced run traced ok k None h = traced
-  delivery-traced run traced ok k (Some p) h = came (nth (receiver run p) run.systems)
-    where
-      came : (o : Option System) → Traced (coming run k p o)
-      came None = traced
-      came (Some s) = (let t = taking-traced run traced ok p (h p refl) (length p.messages) in record { systems = t.systems; packets = t.packets })
+  event-traced : (run : Run) → RunOk run → AllMade run → Traced run → (event : RunEvent) → Traced (after_event run event)
+  event-traced run ok made traced event = each-kind run Traced event (record {
+    idle = traced;
+    posts = λ i tag draft serial stamp e. changing-traced run traced i (posting_at tag draft serial stamp)
+        (λ s m j. filing-kept s (posting s.file s.base tag draft serial stamp) m j)
+        (λ s _ h m j. posting-new tag draft serial stamp (change i (posting_at tag draft serial stamp) run.systems) s h m j);
+    scans = λ i stamp s at. record {
+      systems = change-traced run traced i scanning_at (λ t m j. j) (λ t _ _ m j. inl j);
+      packets = λ p j c l. elim (Among-append_cases p run.packets (scanned s.file s.base s.cursor stamp) j) [
+        | inl old ↦ Origin-kept i scanning_at (λ t m j. j) run.systems c (traced.packets p old c l)
+        | inr new ↦ (let h = nth-among i s run.systems at in
+            Origin-kept i scanning_at (λ t m j. j) run.systems c (scanned-traced run traced s h (ok.systems s h) stamp p new c l))
+      ];
+    };
+    comes = λ k p s at_k at_s.
+        let t = taking-traced run traced made p (nth-among k p run.packets at_k) (length p.messages) in
+        record { systems = t.systems; packets = t.packets };
+    takes = λ k p n at. taking-traced run traced made p (nth-among k p run.packets at) n;
+    purges = λ i e. changing-traced run traced i purging_at (λ s m j. j) (λ s _ _ m j. inl j);
+  })
 
-  part-traced : (run : Run) → Traced run → RunOk run → (n : ℕ) (found : Option Packet) → ((p : Packet) → found ≡ Some p → Among p run.packets) →
-      Traced (part_delivery run n found)
-  part-traced run traced ok n h5 h = grind (arith, taking-traced)
-
-  scanning-traced : (run : Run) → Traced run → RunOk run → (i : ℕ) (stamp : Stamp) (found : Option System) →
-      ((s : System) → found ≡ Some s → Among s run.systems) → Traced (scanning run i stamp found)
-  scanning-traced run traced ok i stamp None h = traced
-  scanning-traced run traced ok i stamp (Some s) h = scans (is_stamp stamp)
-    where
-      keeps : Keeps scanning_at
-      keeps t m j = j
-
-      scans : (b : Bool) → Traced (if b then record {
-        systems = change i scanning_at run.systems;
-        packets = run.packets ++ scanned s.file s.base s.cursor stamp;
-        delivered = run.delivered;
-      } else run)
-      scans false = traced
-      scans true = record {
-        systems = change-traced run traced i scanning_at keeps (λ t _ _ m j. inl j);
-        packets = λ p j c l. elim (Among-append_cases p run.packets (scanned s.file s.base s.cursor stamp) j) [
-          | inl old ↦ Origin-kept i scanning_at keeps run.systems c (traced.packets p old c l)
-          | inr new ↦ Origin-kept i scanning_at keeps run.systems c
-              (scanned-traced run traced s (h s refl) (ok.systems s (h s refl)) stamp p new c l)
-        ];
-      }
-
-  event-traced : (run : Run) → RunOk run → Traced run → (event : RunEvent) → Traced (after_event run event)
-  event-traced run ok traced (Posting i tag draft serial stamp) = changing-traced run traced i (posting_at tag draft serial stamp)
-      (λ s m j. filing-kept s (posting s.file s.base tag draft serial stamp) m j)
-      (λ s _ h m j. posting-new tag draft serial stamp (change i (posting_at tag draft serial stamp) run.systems) s h m j)
-  event-traced run ok traced (Scanning i stamp) = scanning-traced run traced ok i stamp (nth i run.systems) (λ s e. nth-among i s run.systems e)
-  event-traced run ok traced (Delivery k) = delivery-traced run traced ok k (nth k run.packets) (λ p e. nth-among k p run.packets e)
-  event-traced run ok traced (PartDelivery k n) = part-traced run traced ok n (nth k run.packets) (λ p e. nth-among k p run.packets e)
-  event-traced run ok traced (Purging i) = changing-traced run traced i purging_at (λ s m j. j) (λ s _ _ m j. inl j)
-
-  events-traced : (events : List RunEvent) (run : Run) → RunOk run → Traced run → Traced (after_events run events)
-  events-traced [] run ok traced = traced
-  events-traced (event ∷ later) run ok traced = events-traced later (after_event run event) (event-ok laws run event ok) (event-traced run ok traced event)
+  events-traced : (events : List RunEvent) (run : Run) → RunOk run → AllMade run → Traced run → Traced (after_events run events)
+  events-traced [] run ok made traced = traced
+  events-traced (event ∷ later) run ok made traced =
+      events-traced later (after_event run event) (event-ok laws run event ok) (event-made laws run event ok made) (event-traced run ok made traced event)
 
   pub run-traced : (files : List LinkFile) → FilesFit files → (events : List RunEvent) → Traced (run_of files events)
-  run-traced files fit events = events-traced events (start files) (start-ok laws files fit) (grind (arith, Among-map_from))
+  run-traced files fit events = events-traced events (start files) (start-ok laws files fit) (λ p h. absurd h) (grind (arith, Among-map_from))

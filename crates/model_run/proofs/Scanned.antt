@@ -1,6 +1,6 @@
 -- A scan exports the waiting messages, one at a time.
 use Rattle.std.proofs.Common.{◌≡◌, ◌≢◌, ◌⊎◌, ◌↔◌, inl, inr, refl, sym, subst, ap, ◌∙◌, ℕ, ◌+◌, arith, List, [], ◌∷◌, ◌++◌, append_assoc, length, take, drop, map, Some}
-use Rattle.std.specs.Prelude.{Bool, bytes_eq, filter, ◌&&◌}
+use Rattle.std.specs.Prelude.{Bool, IsTrue, false, filter, ◌&&◌}
 use Rattle.std.proofs.lemmas.Bool.{cond-false}
 use Rattle.std.proofs.lemmas.List.{take-append-drop, take_all}
 use Rattle.echo_addr.specs.declared.address.Address.{Address}
@@ -13,16 +13,16 @@ use Rattle.model_steps.specs.Scanning.{goes_to, scanned, targets}
 use Rattle.echo_links.specs.Links.{same_address}
 use Rattle.echo_filed.specs.declared.key.Key.{Key}
 use Rattle.echo_filed.specs.Sets.{address_set}
-use Rattle.echo_filed.specs.Filed.{Filed, same_key}
+use Rattle.echo_filed.specs.Filed.{Filed, key_of, same_key}
 use Rattle.model_run.specs.Events.{Exports, Text, copy_to}
 use Rattle.model_run.specs.Run.{System, Run, change, destination, nth, scanning_at}
-use Rattle.model_run.specs.Orderly.{count, sent_count, tag_of}
+use Rattle.model_run.specs.Orderly.{count, sent_count}
 use Rattle.model_run.specs.Keeping.{Content, IsFiledIn, IsHistory, IsSent, copy_count, filed_as, said, sent_as}
 use Rattle.model_run.proofs.TosserPremises.{Laws, one_if}
 use Rattle.model_run.proofs.Lists.{yes_or_no, not_both, and-parts, filter-yes, filter-no, nth-append, Among-drop, Among-filter_from, Among-filter_to, same_list as Among-in, Among-map_to, Among-map_from}
 use Rattle.model_run.proofs.Bases.{Kept-length, SystemOk}
-use Rattle.model_run.proofs.Areas.{address_of, bytes-equal, bytes-same, key-tag}
-use Rattle.model_run.proofs.Copies.{copied, copied-key, copied-tag, goes-from, goes-to, targets-from, targets-to}
+use Rattle.model_run.proofs.Areas.{address_of}
+use Rattle.model_run.proofs.Copies.{copied, copied-key, goes-from, goes-to, targets-from, targets-to}
 use Rattle.model_run.proofs.ScanPackets.{scanned-copied, scanned-count, scanned-origin, target-packet}
 use Rattle.model_run.proofs.ExportLists.{sent-append}
 use Rattle.model_run.proofs.Histories.{RCopy, REvent, RFiled, filed-after, filed-before, filed-new}
@@ -50,7 +50,7 @@ module _ (laws : Laws) (m : RFiled) (text : Text NetNode Key Content) (x : Addre
   sent-there [] d h = absurd h
   sent-there (y ∷ to) d h = grind (arith, other-goal, Among-at, sent-nowhere, sent-there to d.1)
 
-module _ (laws : Laws) (tag : List ℕ) (s : System) (ok : SystemOk s) where
+module _ (laws : Laws) (mine : Key → Bool) (s : System) (ok : SystemOk s) where
   abbrev targets_of : Filed → List Address
   targets_of m = address_set (targets s.file m)
 
@@ -68,10 +68,6 @@ module _ (laws : Laws) (tag : List ℕ) (s : System) (ok : SystemOk s) where
   abbrev new_copies : List Filed → List RCopy
   new_copies [] = []
   new_copies (m ∷ ms) = map (copy_to (filed_as (address_of s) m) (λ x. text_of m)) (targets_of m) ++ new_copies ms
-
-  pub exports-append : (ms : List Filed) (events past : List REvent) → exports ms events ++ past ≡ exports ms (events ++ past)
-  exports-append [] events past = refl
-  exports-append (m ∷ ms) events past = ap (λ (es : List REvent). export m ∷ es) (exports-append ms events past)
 
   pub filed-are : (ms : List Filed) (events : List REvent) → rules.filed (exports ms events) ≡ rules.filed events
   filed-are [] events = refl
@@ -135,26 +131,33 @@ module _ (laws : Laws) (tag : List ℕ) (s : System) (ok : SystemOk s) where
         )
       ]
 
-  -- for a key of the area, only messages of the area count
-  abbrev in_area : Filed → Bool
-  in_area m = bytes_eq m.echo.tag tag
+  -- for one of these keys, only these messages count
+  abbrev is_mine : Filed → Bool
+  is_mine m = mine (key_of m)
 
-  count-area : (k : Key) → tag_of k ≡ tag → (g : Filed → Bool) (ms : List Filed) → count k (filter g (filter in_area ms)) ≡ count k (filter g ms)
-  count-area k e g [] = refl
-  count-area k e g (m ∷ ms) = grind (arith, yes_or_no, filter-yes, filter-no, not_both, bytes-equal, key-tag, cond-false, count-area k e g ms)
+  not-counted : (k : Key) → IsTrue (mine k) → (m : Filed) → is_mine m ≡ false → same_key (key_of m) k ≡ false
+  not-counted k e m f =
+      elim (yes_or_no (same_key (key_of m) k)) [
+        | inr other ↦ other
+        | inl t ↦ absurd (not_both (is_mine m) (ap mine (laws.keys.sound (key_of m) k t) ∙ e) f)
+      ]
 
-  -- the waiting messages of the area
+  count-mine : (k : Key) → IsTrue (mine k) → (g : Filed → Bool) (ms : List Filed) → count k (filter g (filter is_mine ms)) ≡ count k (filter g ms)
+  count-mine k e g [] = refl
+  count-mine k e g (m ∷ ms) = grind (arith, yes_or_no, filter-yes, filter-no, not-counted, cond-false, count-mine k e g ms)
+
+  -- the waiting ones of these messages
   abbrev pub waits : List Filed
-  waits = filter in_area (drop s.cursor s.history)
+  waits = filter is_mine (drop s.cursor s.history)
 
-  pub waits-from : (m : Filed) → Among m waits → Among m (drop s.cursor s.history) × (m.echo.tag ≡ tag)
-  waits-from m h = (let (i, t) = Among-filter_from in_area m (drop s.cursor s.history) h in (i, bytes-same laws m.echo.tag tag t))
+  pub waits-from : (m : Filed) → Among m waits → Among m (drop s.cursor s.history) × IsTrue (mine (key_of m))
+  waits-from m h = Among-filter_from is_mine m (drop s.cursor s.history) h
 
-  waits-to : (m : Filed) → Among m (drop s.cursor s.history) → m.echo.tag ≡ tag → Among m waits
-  waits-to m h e = Among-filter_to in_area m (drop s.cursor s.history) h (bytes-equal laws m.echo.tag tag e)
+  waits-to : (m : Filed) → Among m (drop s.cursor s.history) → IsTrue (mine (key_of m)) → Among m waits
+  waits-to m h e = Among-filter_to is_mine m (drop s.cursor s.history) h e
 
   module _ (run : Run) (i : ℕ) (at_s : nth i run.systems ≡ Some s) (stamp : Stamp) (delivered : IsDeliveredOnce run)
-      (events : List REvent) (history : IsHistory tag run events) where
+      (events : List REvent) (history : IsHistory mine run events) where
     abbrev made : List Packet
     made = scanned s.file s.base s.cursor stamp
 
@@ -183,54 +186,55 @@ module _ (laws : Laws) (tag : List ℕ) (s : System) (ok : SystemOk s) where
     comes : (n : Filed) → Among n (drop s.cursor s.history) → Among n (take (length s.base) s.history)
     comes n h = in-done n (Among-drop s.cursor n s.history h)
 
-    exported-then : (m : RFiled) → Among m (rules.exported (exports waits events)) ↔ IsFiledIn tag scanned_part (change i scanning_at run.systems) m
+    exported-then : (m : RFiled) → Among m (rules.exported (exports waits events)) ↔ IsFiledIn mine scanned_part (change i scanning_at run.systems) m
     exported-then m = (
       λ h. elim (Among-append_cases m (map (filed_as (address_of s)) waits) (rules.exported events)
           (Among-in m (rules.exported (exports waits events)) (map (filed_as (address_of s)) waits ++ rules.exported events) (exported-are waits events) h)) [
-            | inr old ↦ filed-after tag run.systems i scanning_at s at_s refl scanned_part (drop s.cursor s.history) more keeps comes m ((history.exported m).0 old)
+            | inr old ↦ filed-after mine run.systems i scanning_at s at_s refl scanned_part (drop s.cursor s.history) more keeps comes m ((history.exported m).0 old)
             | inl now ↦ (let (n, j, e) = Among-map_from (filed_as (address_of s)) m waits now in
-                let (k, area) = waits-from n j in
-                filed-new tag run.systems i scanning_at s at_s refl scanned_part (drop s.cursor s.history) more keeps comes m (n, k, area, e))
+                let (k, key) = waits-from n j in
+                filed-new mine run.systems i scanning_at s at_s refl scanned_part (drop s.cursor s.history) more keeps comes m (n, k, key, e))
           ],
       λ is. Among-in m (map (filed_as (address_of s)) waits ++ rules.exported events) (rules.exported (exports waits events)) (sym (exported-are waits events))
-          (elim (filed-before tag run.systems i scanning_at s at_s refl scanned_part (drop s.cursor s.history) more keeps comes m is) [
+          (elim (filed-before mine run.systems i scanning_at s at_s refl scanned_part (drop s.cursor s.history) more keeps comes m is) [
             | inl old ↦ Among-append_right m (map (filed_as (address_of s)) waits) (rules.exported events) ((history.exported m).1 old)
-            | inr now ↦ (let (n, j, area, e) = now in
+            | inr now ↦ (let (n, j, key, e) = now in
                 let P : RFiled → Type 0 = λ f. Among f (map (filed_as (address_of s)) waits) in
                 Among-append_left m (map (filed_as (address_of s)) waits) (rules.exported events)
-                (subst P (sym e) (Among-map_to (filed_as (address_of s)) n waits (waits-to n j area))))
+                (subst P (sym e) (Among-map_to (filed_as (address_of s)) n waits (waits-to n j key))))
           ]),
     )
 
-    filed-then : (m : RFiled) → Among m (rules.filed (exports waits events)) ↔ IsFiledIn tag (λ t. t.history) (change i scanning_at run.systems) m
+    filed-then : (m : RFiled) → Among m (rules.filed (exports waits events)) ↔ IsFiledIn mine (λ t. t.history) (change i scanning_at run.systems) m
     filed-then m = (
-      λ h. filed-after tag run.systems i scanning_at s at_s refl (λ t. t.history) [] (λ n j. inl j) (λ n j. j) (λ n j. absurd j) m
+      λ h. filed-after mine run.systems i scanning_at s at_s refl (λ t. t.history) [] (λ n j. inl j) (λ n j. j) (λ n j. absurd j) m
           ((history.filed m).0 (Among-in m (rules.filed (exports waits events)) (rules.filed events) (filed-are waits events) h)),
       λ is. Among-in m (rules.filed events) (rules.filed (exports waits events)) (sym (filed-are waits events))
-          (elim (filed-before tag run.systems i scanning_at s at_s refl (λ t. t.history) [] (λ n j. inl j) (λ n j. j) (λ n j. absurd j) m is) [
+          (elim (filed-before mine run.systems i scanning_at s at_s refl (λ t. t.history) [] (λ n j. inl j) (λ n j. j) (λ n j. absurd j) m is) [
             | inl old ↦ (history.filed m).1 old
             | inr none ↦ absurd none.1
           ]),
     )
 
-    sent-then : (c : RCopy) → Among c (rules.copies (exports waits events)) ↔ IsSent tag (run.packets ++ made) c
+    sent-then : (c : RCopy) → Among c (rules.copies (exports waits events)) ↔ IsSent mine (run.packets ++ made) c
     sent-then c = (
       λ h. elim (Among-append_cases c (new_copies waits) (rules.copies events)
           (Among-in c (rules.copies (exports waits events)) (new_copies waits ++ rules.copies events) (copies-are waits events) h)) [
             | inr old ↦ (let is = (history.sent c).0 old in grind (arith, Among-append_left))
             | inl now ↦ (let (m, j, (x, target, e)) = new-from waits c now in
-                let (k, area) = waits-from m j in
+                let (k, key) = waits-from m j in
                 let (p, l, from, to, inside) = target-packet laws s ok stamp m k x (targets-from laws s.file m x (laws.addresses_only x (targets s.file m) target)) in
                 let whole : Address → Address → RCopy = λ a b. record { from = a; to = b; text = text_of m } in
-                grind (arith, Among-append_right, copied, copied-tag))
+                grind (arith, Among-append_right, copied, copied-key))
           ],
       λ is. Among-in c (new_copies waits ++ rules.copies events) (rules.copies (exports waits events)) (sym (copies-are waits events))
           (elim (Among-append_cases is.packet run.packets made is.there) [
             | inl old ↦ Among-append_right c (new_copies waits) (rules.copies events) ((history.sent c).1 (grind arith))
             | inr now ↦ (let (m, j, target, e) = scanned-copied laws s ok stamp is.packet now is.message is.inside in
-                let area : m.echo.tag ≡ tag = sym (copied-tag s.file m) ∙ (ap (λ (n : Filed). n.echo.tag) (sym e) ∙ is.area) in
+                let T : Key → Type 0 = λ k. IsTrue (mine k) in
+                let key : IsTrue (mine (key_of m)) = subst T (ap key_of e ∙ copied-key s.file m) is.key in
                 let x = destination is.packet in
-                let there = new-to waits m x (waits-to m j area) (laws.addresses_all x (targets s.file m) (targets-to laws s.file m x target)) in
+                let there = new-to waits m x (waits-to m j key) (laws.addresses_all x (targets s.file m) (targets-to laws s.file m x target)) in
                 let P : RCopy → Type 0 = λ d. Among d (new_copies waits) in
                 let whole : Address → Filed → RCopy = λ a n. record { from = a; to = x; text = said n } in
                 Among-append_left c (new_copies waits) (rules.copies events)
@@ -238,29 +242,29 @@ module _ (laws : Laws) (tag : List ℕ) (s : System) (ok : SystemOk s) where
           ]),
     )
 
-    as-many : (x : Address) (k : Key) → tag_of k ≡ tag → copy_count x k (rules.copies (exports waits events)) ≡ sent_count x k (run.packets ++ made)
+    as-many : (x : Address) (k : Key) → IsTrue (mine k) → copy_count x k (rules.copies (exports waits events)) ≡ sent_count x k (run.packets ++ made)
     as-many x k e =
         omega (
           arith,
           ap (λ (cs : List RCopy). copy_count x k cs) (copies-are waits events),
           copy_count-append x k (new_copies waits) (rules.copies events),
           count-new x k waits,
-          count-area k e (goes_to s.file x) (drop s.cursor s.history),
+          count-mine k e (goes_to s.file x) (drop s.cursor s.history),
           history.as_many x k e,
           sent-append x k run.packets made,
           scanned-count laws s ok stamp x k,
         )
 
-    pub history-scans : IsHistory tag after (exports waits events)
+    pub history-scans : IsHistory mine after (exports waits events)
     history-scans = record {
       filed = filed-then;
       exported = exported-then;
       sent = sent-then;
       as_many = as-many;
-      came = λ k h p e m j area.
+      came = λ k h p e m j key.
           let (q, at) = delivered.there k h in
           let same : q ≡ p = some_same (sym (nth-append k q run.packets made at) ∙ e) in
           let P : Packet → Type 0 = λ r. nth k run.packets ≡ Some r in
           Among-in (sent_as p m) (rules.came events) (rules.came (exports waits events)) (sym (came-are waits events))
-          (history.came k h p (subst P same at) m j area);
+          (history.came k h p (subst P same at) m j key);
     }

@@ -1,12 +1,12 @@
 -- A scan keeps the rules.
 use Rattle.std.proofs.Common.{◌≡◌, ◌↔◌, inl, inr, refl, sym, subst, ap, ◌∙◌, ℕ, ◌+◌, ◌≤◌, arith, IsTrue, List, [], ◌∷◌, ◌++◌, take, drop, map, Some}
-use Rattle.std.specs.Prelude.{true, bytes_eq}
+use Rattle.std.specs.Prelude.{Bool, true}
 use Rattle.std.proofs.lemmas.List.{take-append-drop}
 use Rattle.echo_addr.specs.declared.address.Address.{Address}
 use Rattle.echo_addr.specs.declared.address.NetNode.{NetNode}
 use Rattle.echo_addr.specs.Address.{net_node_of}
 use Rattle.model_graph.specs.Walk.{Among}
-use Rattle.model_graph.proofs.Members.{Among-append_left, Among-append_right, Among-append_cases}
+use Rattle.model_graph.proofs.Members.{Among-append_right, Among-append_cases}
 use Rattle.model_steps.specs.declared.stamp.Stamp.{Stamp}
 use Rattle.model_steps.specs.Scanning.{scanned, targets}
 use Rattle.echo_links.specs.Links.{LinkFile, is_link, links_of, same_address}
@@ -15,26 +15,26 @@ use Rattle.echo_filed.specs.declared.key.Key.{Key}
 use Rattle.echo_filed.specs.Filed.{Filed, key_of, same_key}
 use Rattle.model_run.specs.Nets.{Net}
 use Rattle.model_run.specs.Rules.{IsTarget, HasPlainSeenBy}
-use Rattle.model_run.proofs.Eras.{exported-append, filed-cases, ByRules, one_more}
+use Rattle.model_run.proofs.Eras.{ByRules, one_more}
 use Rattle.model_run.proofs.Telling.{reported-plainly}
 use Rattle.model_run.specs.Run.{System, Run, change, nth, scanning_at}
-use Rattle.model_run.specs.Orderly.{count}
+use Rattle.model_run.specs.Orderly.{count, tag_of}
 use Rattle.model_run.specs.Tidy.{Tidy, lists}
 use Rattle.model_run.specs.AreaNets.{net_of}
-use Rattle.model_run.specs.Keeping.{IsHistory, filed_as}
+use Rattle.model_run.specs.Keeping.{filed_as}
 use Rattle.model_run.proofs.TosserPremises.{Laws, count-has}
 use Rattle.model_run.proofs.Lists.{any-from, any-to, map-change, nth-among, Among-drop, same_list as Among-in, Among-map_to, Among-map_from}
-use Rattle.model_run.proofs.Bases.{SystemOk, count-is, RunOk}
-use Rattle.model_run.proofs.Areas.{Wrote, address_of, link-lists, lists-link, one-system, tidy-net}
+use Rattle.model_run.proofs.Bases.{SystemOk, count-is, RunOk, scanned-ok}
+use Rattle.model_run.proofs.Areas.{Wrote, address_of, key-tag, link-lists, lists-link, one-system, tidy-net}
 use Rattle.model_run.proofs.Copies.{copied, copied-content, copied-key, copied-seen, seen-copied, targets-from, targets-to}
 use Rattle.model_run.proofs.Histories.{REvent, RFiled, before-then, Equal, Standing, filed-event}
 use Rattle.model_run.proofs.ExportLists.{count-append, count-filter}
-use Rattle.model_run.proofs.Scanned.{export, exported-are, exports, exports-append, filed-are, history-scans, waits, waits-from}
+use Rattle.model_run.proofs.Scanned.{export, exported-are, exports, filed-are, history-scans, waits, waits-from}
 use Rattle.model_run.proofs.WholeRuns.{IsDeliveredOnce}
 use Rattle.model_run.specs.Events as rules
 
-module _ (laws : Laws) (files : List LinkFile) (tag : List ℕ) (tidy : Tidy files tag) (past : List REvent) (run : Run) (st : Standing files tag past run)
-    (i : ℕ) (s : System) (at_s : nth i run.systems ≡ Some s) (stamp : Stamp) where
+module _ (laws : Laws) (files : List LinkFile) (tag : List ℕ) (mine : Key → Bool) (of_area : (k : Key) → IsTrue (mine k) → tag_of k ≡ tag) (tidy : Tidy files tag)
+    (run : Run) (st : Standing files tag mine run) (i : ℕ) (s : System) (at_s : nth i run.systems ≡ Some s) (stamp : Stamp) where
   abbrev net : Net Address NetNode
   net = net_of files tag
 
@@ -85,7 +85,7 @@ module _ (laws : Laws) (files : List LinkFile) (tag : List ℕ) (tidy : Tidy fil
   }
 
   -- each exported message of the system was scanned
-  exported-done : (k : Key) → rules.Has (address_of s) k (rules.exported (st.recent ++ past)) → 1 ≤ count k (take s.cursor s.history)
+  exported-done : (k : Key) → rules.Has (address_of s) k (rules.exported st.events) → 1 ≤ count k (take s.cursor s.history)
   exported-done k has =
       let (m, h, at, key) = has in
       let is = (st.history.exported m).0 h in
@@ -99,23 +99,26 @@ module _ (laws : Laws) (files : List LinkFile) (tag : List ℕ) (tidy : Tidy fil
       )
 
   abbrev then : List Filed → List REvent
-  then ms = exports laws tag s ok_s ms st.recent
+  then ms = exports laws mine s ok_s ms st.events
 
   has-count : (k : Key) (ms : List Filed) (m : Filed) → Among m ms → key_of m ≡ k → 1 ≤ count k ms
   has-count k ms m h e = omega (arith, count-is k ms, count-has key_of same_key laws.keys k ms m h e)
 
   -- each export is by the rules
-  by-rules : (ms : List Filed) → ((m : Filed) → Among m ms → Among m (waits laws tag s ok_s)) → ((k : Key) → count k (take s.cursor s.history) + count k ms ≤ 1) →
+  by-rules : (ms : List Filed) → ((m : Filed) → Among m ms → Among m (waits laws mine s ok_s)) → ((k : Key) → count k (take s.cursor s.history) + count k ms ≤ 1) →
       ByRules net Equal (then ms)
-  by-rules [] wait few = st.since.by_rules
+  by-rules [] wait few = st.by_rules
   by-rules (m ∷ ms) wait few =
-      let (waiting, area) = waits-from laws tag s ok_s m (wait m (inl refl)) in
-      one_more net Equal (then ms) (export laws tag s ok_s m) (by-rules ms (λ n h. wait n (inr h)) (λ k. omega (arith, few k))) (record {
+      let (waiting, key) = waits-from laws mine s ok_s m (wait m (inl refl)) in
+      let area : m.echo.tag ≡ tag = sym (key-tag m) ∙ of_area (key_of m) key in
+      let f = filed_as (address_of s) m in
+      one_more net Equal (then ms) (export laws mine s ok_s m) (by-rules ms (λ n h. wait n (inr h)) (λ k. omega (arith, few k))) (record {
         possible = tt;
         files_once = tt;
         keeps = λ x h. (copied-key s.file m, copied-content s.file m);
         sends_once = record {
-          is_filed = Among-in (filed_as (address_of s) m) (rules.filed st.recent) (rules.filed (then ms)) (sym (filed-are laws tag s ok_s ms st.recent)) (is-recent waiting area);
+          is_filed = Among-in f (rules.filed st.events) (rules.filed (then ms)) (sym (filed-are laws mine s ok_s ms st.events))
+              (filed-event laws files tag mine tidy run st s there_s m (Among-drop s.cursor m s.history waiting) key);
           first = not-yet;
           targets = λ x. goes m area x;
           one_each = laws.addresses_once (targets s.file m);
@@ -127,65 +130,46 @@ module _ (laws : Laws) (files : List LinkFile) (tag : List ℕ) (tidy : Tidy fil
       one : 1 ≤ count (key_of m) (m ∷ [])
       one = has-count (key_of m) (m ∷ []) m (inl refl) refl
 
-      not-done : rules.Has (address_of s) (key_of m) (rules.exported (st.recent ++ past)) → ⊥
-      not-done has = absurd (omega (arith, few (key_of m), one, exported-done (key_of m) has))
-
-      is-recent : Among m (drop s.cursor s.history) → m.echo.tag ≡ tag → Among (filed_as (address_of s) m) (rules.filed st.recent)
-      is-recent waiting area =
-          let f = filed_as (address_of s) m in
-          let filed = filed-event laws files tag tidy past run st s there_s m (Among-drop s.cursor m s.history waiting) area in
-          elim (filed-cases st.recent past f filed) [
-            | inl now ↦ now
-            | inr before ↦ absurd (not-done (
-              f,
-              Among-in f (rules.exported st.recent ++ rules.exported past) (rules.exported (st.recent ++ past)) (sym (exported-append st.recent past))
-                  (Among-append_right f (rules.exported st.recent) (rules.exported past) (st.since.rest.settled.all_exported f before)),
-              refl,
-              refl,
-            ))
-          ]
-
       not-yet : ¬ rules.Has (address_of s) (key_of m) (rules.exported (then ms))
       not-yet has =
           let (f, h, at, key) = has in
-          elim (Among-append_cases f (map (filed_as (address_of s)) ms) (rules.exported st.recent)
-          (Among-in f (rules.exported (then ms)) (map (filed_as (address_of s)) ms ++ rules.exported st.recent) (exported-are laws tag s ok_s ms st.recent) h)) [
+          elim (Among-append_cases f (map (filed_as (address_of s)) ms) (rules.exported st.events)
+          (Among-in f (rules.exported (then ms)) (map (filed_as (address_of s)) ms ++ rules.exported st.events) (exported-are laws mine s ok_s ms st.events) h)) [
             | inl now ↦ (let (n, j, e) = Among-map_from (filed_as (address_of s)) f ms now in
                 absurd (omega (arith, few (key_of m), one, has-count (key_of m) ms n j (ap (λ (g : RFiled). g.text.key) (sym e) ∙ key))))
-            | inr old ↦ grind (arith, not-done, Among-in, exported-append, Among-append_left)
+            | inr old ↦ absurd (omega (arith, few (key_of m), one, exported-done (key_of m) (f, old, at, key)))
           ]
 
-  few-waits : (k : Key) → count k (take s.cursor s.history) + count k (waits laws tag s ok_s) ≤ 1
+  few-waits : (k : Key) → count k (take s.cursor s.history) + count k (waits laws mine s ok_s) ≤ 1
   few-waits k = omega (
     arith,
     ok_s.once k,
     ap (λ (ms : List Filed). count k ms) (take-append-drop s.cursor s.history),
     count-append k (take s.cursor s.history) (drop s.cursor s.history),
-    count-filter k (λ m. bytes_eq m.echo.tag tag) (drop s.cursor s.history),
+    count-filter k (λ m. mine (key_of m)) (drop s.cursor s.history),
   )
 
   abbrev after : Run
   after = record { systems = change i scanning_at run.systems; packets = run.packets ++ scanned s.file s.base s.cursor stamp; delivered = run.delivered }
 
-  pub stands-scanned : RunOk after → IsDeliveredOnce after → Standing files tag past after
+  pub stands-scanned : RunOk after → IsDeliveredOnce after → Standing files tag mine after
   stands-scanned ok delivered =
-      let all = waits laws tag s ok_s in
-      let P : List REvent → Type 0 = λ es. IsHistory tag after es in
+      let all = waits laws mine s ok_s in
       record {
         ok = ok;
         same_files = map-change (λ (t : System). t.file) i scanning_at (λ t. refl) run.systems ∙ st.same_files;
         delivered = delivered;
-        recent = then all;
-        history = subst P (sym (exports-append laws tag s ok_s all st.recent past)) (history-scans laws tag s ok_s run i at_s stamp st.delivered (st.recent ++ past) st.history);
-        since = record {
-          rest = st.since.rest;
-          by_rules = by-rules all (λ m h. h) few-waits;
-          apart = λ p h own m j. st.since.apart p (Among-in p (rules.filed (then all)) (rules.filed st.recent) (filed-are laws tag s ok_s all st.recent) h) own m j;
-        };
-        wrote = λ z h m j posting. elim (before-then run.systems i scanning_at s at_s z h) [
-          | inl old ↦ st.wrote z old m j posting
+        events = then all;
+        history = history-scans laws mine s ok_s run i at_s stamp st.delivered st.events st.history;
+        by_rules = by-rules all (λ m h. h) few-waits;
+        wrote = λ z h m j own key. elim (before-then run.systems i scanning_at s at_s z h) [
+          | inl old ↦ st.wrote z old m j own key
           | inr now ↦ (let Q : System → Type 0 = λ t. Among m t.history in
               let R : System → Type 0 = λ t. Wrote tag (address_of t) (key_of m) in
-              subst R (sym now) (st.wrote s there_s m (subst Q now j) posting))
+              subst R (sym now) (st.wrote s there_s m (subst Q now j) own key))
+        ];
+        zones = λ p h m j key. elim (Among-append_cases p run.packets (scanned s.file s.base s.cursor stamp) h) [
+          | inl old ↦ st.zones p old m j key
+          | inr new ↦ (scanned-ok laws s ok_s stamp p new).zone
         ];
       }

@@ -1,8 +1,9 @@
 -- Invariants of whole runs: the link files stay, and all is well formed.
-use Rattle.std.proofs.Common.{◌≡◌, refl, subst, ap, ℕ, List, [], ◌∷◌, ◌++◌, length, take, map, Option, Some, None, arith, inl, inr, sym, ◌+◌, ◌==◌, IsTrue}
-use Rattle.std.specs.Prelude.{Bool, true, false, if◌then◌else◌}
+pub use Rattle.model_run.specs.States.{IsDeliveredOnce, files_of}
+use Rattle.std.proofs.Common.{◌≡◌, refl, subst, ap, ℕ, List, [], ◌∷◌, ◌++◌, length, take, map, Option, Some, arith, inl, inr, sym, ◌+◌, ◌==◌, IsTrue}
+use Rattle.std.specs.Prelude.{Bool, true}
 use Rattle.echo_addr.specs.declared.address.Address.{Address}
-use Rattle.model_graph.specs.Walk.{Among, Different}
+use Rattle.model_graph.specs.Walk.{Among}
 use Rattle.echo_packet.specs.Message.{Message}
 use Rattle.model_steps.specs.declared.packet.Packet.{Packet}
 use Rattle.model_steps.specs.declared.draft.Draft.{Draft}
@@ -12,13 +13,13 @@ use Rattle.echo_filed.specs.Filed.{Filed}
 use Rattle.model_steps.specs.Posting.{posting}
 use Rattle.model_steps.specs.Tossing.{sender_of, tossing}
 use Rattle.model_steps.specs.Scanning.{scanned}
-use Rattle.model_steps.specs.Stamps.{is_stamp}
-use Rattle.model_run.specs.Event.{RunEvent, Posting, Scanning, Delivery, PartDelivery, Purging}
-use Rattle.model_run.specs.Run.{System, Run, filing, fresh, posting_at, tossing_at, scanning_at, nth, change, scanning, taking, coming, delivery, part_delivery, after_event, after_events, run_of, start}
+use Rattle.model_run.specs.Event.{RunEvent}
+use Rattle.model_run.specs.Run.{System, Run, filing, fresh, posting_at, tossing_at, scanning_at, nth, taking, after_event, after_events, run_of, start, receiver, purging_at}
 use Rattle.model_run.specs.Fits.{FilesFit}
+use Rattle.model_run.proofs.EventKinds.{each-kind}
 use Rattle.model_run.proofs.TosserPremises.{Laws}
 use Rattle.model_run.proofs.Lists.{map-change, Among-map_from, nth-append, with_index-different, with_index-from, and-parts, any-from, yes_or_no}
-use Rattle.model_run.proofs.Bases.{RunOk, event-ok, start-ok}
+use Rattle.model_run.proofs.Bases.{AllMade, RunOk, event-made, event-ok, start-ok}
 use Rattle.std.specs.List.{list_all, list_any}
 use Rattle.std.proofs.lemmas.Bool.{eqb-true, leb-true}
 use Rattle.std.proofs.lemmas.List.{drop_all}
@@ -34,29 +35,22 @@ tossing-file sender [] s = refl
 tossing-file sender (q ∷ ms) s = grind (arith, filing-file, tossing-file sender ms (filing s (tossing s.file s.base sender q)))
 
 -- the files stay
-abbrev pub files_of : Run → List LinkFile
-files_of run = map (λ (s : System). s.file) run.systems
 
 posting-file : (g : List ℕ) (draft : Draft) (serial : ℕ) (stamp : Stamp) (s : System) → (posting_at g draft serial stamp s).file ≡ s.file
 posting-file g draft serial stamp s = filing-file s (posting s.file s.base g draft serial stamp)
 
-scanning-files : (run : Run) (i : ℕ) (stamp : Stamp) (found : Option System) → files_of (scanning run i stamp found) ≡ files_of run
-scanning-files run i stamp found = grind (arith, map-change)
-
 pub taking-file : (p : Packet) (n : ℕ) (s : System) → (taking p n s).file ≡ s.file
 taking-file p n s = tossing-file (sender_of s.file p.header) (take n p.messages) s
 
-coming-files : (run : Run) (k : ℕ) (p : Packet) (found : Option System) → files_of (coming run k p found) ≡ files_of run
-coming-files run k p found = grind (arith, map-change, taking-file)
-
-delivery-files : (run : Run) (k : ℕ) (found : Option Packet) → files_of (delivery run k found) ≡ files_of run
-delivery-files run k found = grind (arith, coming-files)
-
-part-files : (run : Run) (n : ℕ) (found : Option Packet) → files_of (part_delivery run n found) ≡ files_of run
-part-files run n found = grind (arith, map-change, taking-file)
-
 pub event-files : (run : Run) (event : RunEvent) → files_of (after_event run event) ≡ files_of run
-event-files run event = grind (arith, map-change, posting-file, scanning-files, delivery-files, part-files)
+event-files run event = each-kind run (λ r. files_of r ≡ files_of run) event (record {
+  idle = refl;
+  posts = λ i tag draft serial stamp e. map-change (λ (s : System). s.file) i (posting_at tag draft serial stamp) (posting-file tag draft serial stamp) run.systems;
+  scans = λ i stamp s at. map-change (λ (s : System). s.file) i scanning_at (λ t. refl) run.systems;
+  comes = λ k p s at_k at_s. map-change (λ (s : System). s.file) (receiver run p) (taking p (length p.messages)) (taking-file p (length p.messages)) run.systems;
+  takes = λ k p n at. map-change (λ (s : System). s.file) (receiver run p) (taking p n) (taking-file p n) run.systems;
+  purges = λ i e. map-change (λ (s : System). s.file) i purging_at (λ t. refl) run.systems;
+})
 
 pub fresh-files : (files : List LinkFile) → map (λ (s : System). s.file) (map fresh files) ≡ files
 fresh-files [] = refl
@@ -75,52 +69,32 @@ along P keeps (event ∷ later) run at = along P keeps later (after_event run ev
 pub run-ok : (laws : Laws) (files : List LinkFile) → FilesFit files → (events : List RunEvent) → RunOk (run_of files events)
 run-ok laws files fit events = along (λ run. RunOk run) (λ run event. event-ok laws run event) events (start files) (start-ok laws files fit)
 
+-- and its packets are those of scans
+pub run-made : (laws : Laws) (files : List LinkFile) → FilesFit files → (events : List RunEvent) → AllMade (run_of files events)
+run-made laws files fit events =
+    (along (λ run. RunOk run × AllMade run) (λ run event made. (event-ok laws run event made.0, event-made laws run event made.0 made.1)) events (start files)
+    (start-ok laws files fit, λ p h. absurd h)).1
+
 -- The delivered packets of a run are a set of its packets.
 
-pub record IsDeliveredOnce (run : Run) : Type 0 where
-  pub once : Different run.delivered
-  pub there : (k : ℕ) → Among k run.delivered → (p : Packet) × (nth k run.packets ≡ Some p)
-
-scanning-once : (run : Run) (i : ℕ) (stamp : Stamp) (found : Option System) → IsDeliveredOnce run → IsDeliveredOnce (scanning run i stamp found)
-scanning-once run i stamp None at = at
-scanning-once run i stamp (Some s) at = scans (is_stamp stamp)
-  where
-    scans : (b : Bool) → IsDeliveredOnce (if b then record {
-      systems = change i scanning_at run.systems;
-      packets = run.packets ++ scanned s.file s.base s.cursor stamp;
-      delivered = run.delivered;
-    } else run)
-    scans true = record {
-      once = at.once;
-      there = λ k h.
-          let (p, e) = at.there k h in
-          (p, nth-append k p run.packets (scanned s.file s.base s.cursor stamp) e);
-    }
-    scans false = at
-
-coming-once : (run : Run) (k : ℕ) (p : Packet) (found : Option System) → nth k run.packets ≡ Some p → IsDeliveredOnce run → IsDeliveredOnce (coming run k p found)
-coming-once run k p None e at = at
-coming-once run k p (Some s) e at = record {
-  once = with_index-different k run.delivered at.once;
-  there = λ j h. elim (with_index-from k j run.delivered h) [
-    | inl here ↦ (p, (let P : ℕ → Type 0 = λ i. nth i run.packets ≡ Some p in subst P (sym here) e))
-    | inr old ↦ at.there j old
-  ];
-}
-
-delivery-once : (run : Run) (k : ℕ) (found : Option Packet) → nth k run.packets ≡ found → IsDeliveredOnce run → IsDeliveredOnce (delivery run k found)
-delivery-once run k found h1 h2 = grind (arith, coming-once)
-
-part-once : (run : Run) (messages : ℕ) (found : Option Packet) → IsDeliveredOnce run → IsDeliveredOnce (part_delivery run messages found)
-part-once run messages None at = at
-part-once run messages (Some p) at = record { once = at.once; there = at.there }
-
 pub event-once : (run : Run) (event : RunEvent) → IsDeliveredOnce run → IsDeliveredOnce (after_event run event)
-event-once run (Posting i tag draft serial stamp) at = record { once = at.once; there = at.there }
-event-once run (Scanning i stamp) at = scanning-once run i stamp (nth i run.systems) at
-event-once run (Delivery k) at = delivery-once run k (nth k run.packets) refl at
-event-once run (PartDelivery k messages) at = part-once run messages (nth k run.packets) at
-event-once run (Purging i) at = record { once = at.once; there = at.there }
+event-once run event at = each-kind run IsDeliveredOnce event (record {
+  idle = at;
+  posts = λ i tag draft serial stamp e. record { once = at.once; there = at.there };
+  scans = λ i stamp s at_s. record {
+    once = at.once;
+    there = λ k h. (let (p, e) = at.there k h in (p, nth-append k p run.packets (scanned s.file s.base s.cursor stamp) e));
+  };
+  comes = λ k p s at_k at_s. record {
+    once = with_index-different k run.delivered at.once;
+    there = λ j h. elim (with_index-from k j run.delivered h) [
+      | inl here ↦ (p, (let P : ℕ → Type 0 = λ i. nth i run.packets ≡ Some p in subst P (sym here) at_k))
+      | inr old ↦ at.there j old
+    ];
+  };
+  takes = λ k p n at_k. record { once = at.once; there = at.there };
+  purges = λ i e. record { once = at.once; there = at.there };
+})
 
 pub run-delivered : (files : List LinkFile) (events : List RunEvent) → IsDeliveredOnce (run_of files events)
 run-delivered files events =

@@ -5,6 +5,7 @@ pub mod RulesOrderly
 pub mod Event
 pub mod Run
 pub mod Orderly
+pub mod States
 pub mod Exports
 pub mod Tidy
 pub mod AreaNets
@@ -12,6 +13,8 @@ pub mod Keeping
 pub mod Fits
 pub mod World
 pub mod Epochs
+pub mod AnyState
+pub mod Repair
 pub mod Lone
 pub mod Owed
 pub mod Harms

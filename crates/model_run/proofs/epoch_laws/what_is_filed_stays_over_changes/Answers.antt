@@ -1,6 +1,6 @@
 use Rattle.model_run.proofs.TosserLaws.{the_laws}
-use Rattle.model_run.proofs.Throughout.{epochs-keep}
+use Rattle.model_run.proofs.Renewal.{epochs-outlive}
 use Rattle.model_run.proofs.epoch_laws.what_is_filed_stays_over_changes.Goals as goal
 
 pub returns : goal.returns
-returns c = λ names earlier later named s h. (epochs-keep the_laws names earlier later named).later s h
+returns c = λ first state later named s h. (epochs-outlive the_laws first state.0 later named).later s h

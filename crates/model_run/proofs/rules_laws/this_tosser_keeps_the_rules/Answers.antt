@@ -1,12 +1,24 @@
-use Rattle.std.proofs.Common.{[], arith}
-use Rattle.std.proofs.lemmas.List.{append-nil}
+use Rattle.std.proofs.Common.{◌≡◌, subst, List}
+use Rattle.std.specs.Prelude.{IsTrue}
+use Rattle.echo_links.specs.Links.{LinkFile}
+use Rattle.echo_filed.specs.declared.key.Key.{Key}
+use Rattle.model_run.specs.Keeping.{in_area}
+use Rattle.model_run.specs.Orderly.{tag_of}
 use Rattle.model_run.specs.Run.{start}
+use Rattle.model_run.proofs.Areas.{bytes-same}
+use Rattle.model_run.proofs.Bases.{start-ok}
+use Rattle.model_run.proofs.Changes.{fresh-none}
+use Rattle.model_run.proofs.Histories.{Standing}
+use Rattle.model_run.proofs.StandingRuns.{events-stand, none-stands}
 use Rattle.model_run.proofs.TosserLaws.{the_laws}
-use Rattle.model_run.proofs.Histories.{REvent}
-use Rattle.model_run.proofs.StandingRuns.{events-stand, start-stands}
+use Rattle.model_run.proofs.WholeRuns.{fresh-files}
 use Rattle.model_run.proofs.rules_laws.this_tosser_keeps_the_rules.Goals as goal
 
 pub returns : goal.returns
 returns c = λ files tag tidy fit events.
-    let st = events-stand the_laws files tag tidy [] events (start files) (start-stands the_laws files tag fit) in
-    grind (arith, REvent, append-nil)
+    let of_area : (k : Key) → IsTrue (in_area tag k) → tag_of k ≡ tag = λ k t. bytes-same the_laws (tag_of k) tag t in
+    let P : List LinkFile → Type 0 = λ fs. Standing fs tag (in_area tag) (start files) in
+    let st = events-stand the_laws files tag (in_area tag) of_area tidy events (start files)
+    (subst P (fresh-files files) (none-stands the_laws tag (in_area tag) (start files) (start-ok the_laws files fit)
+    (record { once = tt; there = λ j h. absurd h }) (fresh-none (in_area tag) files))) in
+    (st.events, st.history, st.by_rules.0, st.by_rules.1)

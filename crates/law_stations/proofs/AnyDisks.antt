@@ -1,0 +1,196 @@
+-- A new message is in order over crashes, from any disks on.
+use Rattle.std.proofs.Common.{◌≡◌, inl, inr, refl, sym, subst, ap, ◌∙◌, ℕ, zero, suc, ◌+◌, ◌≤◌, ◌<◌, arith, List, [], ◌∷◌, ◌++◌, filter, length, map, Option, Some, None}
+use Rattle.std.specs.Prelude.{Bool, true, false, not, if◌then◌else◌}
+use Rattle.std.proofs.lemmas.Bool.{cond-false, cond-true, ltb-false, ltb-true}
+use Rattle.std.proofs.lemmas.List.{length-append, length-map}
+use Rattle.model_graph.specs.Walk.{Among}
+use Rattle.echo_links.specs.Links.{LinkFile, upper}
+use Rattle.echo_filed.specs.declared.key.Key.{Key}
+use Rattle.echo_filed.specs.Filed.{Filed}
+use Rattle.model_steps.specs.declared.packet.Packet.{Packet}
+use Rattle.model_run.specs.Orderly.{sent_count}
+use Rattle.model_run.specs.Run.{nth}
+use Rattle.model_run.proofs.HarmLists.{among-nth, nth-map}
+use Rattle.model_run.proofs.Lists.{and-from, and-parts, filter-no, filter-yes, not_both, nth-append, yes_or_no}
+use Rattle.model_run.proofs.Targets.{none_some, some_same}
+use Rattle.law_stations.specs.AnyDisks.{HeadlineFromAnyDisks, KeyHasSettled, KeyInOrderOverCrashes, all_packets, disks_at, is_below, waits_for_name}
+use Rattle.law_stations.specs.AnyNets.{KeyInOrder, KeyIsSettled, net_at}
+use Rattle.law_stations.specs.Commands.{CommandEvent}
+use Rattle.law_stations.specs.Disks.{Disks, StagingFile, cursors}
+use Rattle.law_stations.specs.InOrder.{ReadsAs, StationHolds}
+use Rattle.law_stations.specs.Nets.{Net, Paired, Station}
+use Rattle.law_stations.specs.OverCrashes.{HasNet, IsLikeEvent}
+use Rattle.law_stations.proofs.AnyNets.{headline-from-any-state, packets-read}
+use Rattle.law_stations.proofs.Counting.{IsItem, below, below-step, times, waits}
+use Rattle.law_stations.proofs.EachCommand.{crashes-from}
+use Rattle.law_stations.proofs.Pairs.{paired-back}
+use Rattle.law_stations.proofs.Shown.{holds-too, sent-less, unchanged-too}
+use Rattle.law_stations.proofs.Tracking.{IsTagged, Tracks}
+
+-- the indexes of the packets with names
+abbrev up : ℕ → List (List ℕ) → List ℕ
+up n [] = []
+up n (x ∷ xs) = n ∷ up (suc n) xs
+
+-- and those of the packets that wait for theirs
+abbrev tags : (StagingFile → Bool) → ℕ → List StagingFile → List (Option ℕ)
+tags p n [] = []
+tags p n (file ∷ files) = if p file then Some n ∷ tags p (suc n) files else None ∷ tags p n files
+
+tags-yes : (p : StagingFile → Bool) (n : ℕ) (file : StagingFile) (files : List StagingFile) → p file ≡ true → tags p n (file ∷ files) ≡ Some n ∷ tags p (suc n) files
+tags-yes p n file files t = cond-true (p file) (Some n ∷ tags p (suc n) files) (None ∷ tags p n files) t
+
+tags-no : (p : StagingFile → Bool) (n : ℕ) (file : StagingFile) (files : List StagingFile) → p file ≡ false → tags p n (file ∷ files) ≡ None ∷ tags p n files
+tags-no p n file files f = cond-false (p file) (Some n ∷ tags p (suc n) files) (None ∷ tags p n files) f
+
+-- items at the end of a list
+nth-right : {X : Type 0} (xs ys : List X) (k j : ℕ) → k ≡ length xs + j → nth k (xs ++ ys) ≡ nth j ys
+nth-right {X} [] ys k j e = ap (λ (n : ℕ). nth n ys) (omega (arith, e))
+nth-right (x ∷ xs) ys zero j e = absurd (omega (arith, e))
+nth-right (x ∷ xs) ys (suc k) j e = nth-right xs ys k j (omega (arith, e))
+
+named-up : (files : List (List ℕ)) (n : ℕ) (packets : List (List ℕ)) → ((j k : ℕ) (x : List ℕ) → k ≡ n + j → nth j packets ≡ Some x → nth k files ≡ Some x) →
+    Paired (IsItem files) packets (up n packets)
+named-up files n [] h = tt
+named-up files n (x ∷ packets) h = (h 0 n x (omega arith) refl, named-up files (suc n) packets (λ j k y e at. h (suc j) k y (omega (arith, e)) at))
+
+times-up : (k n : ℕ) (packets : List (List ℕ)) → below k n + times k (up n packets) ≡ below k (n + length packets)
+times-up k n [] = omega (arith, ap (below k) (let e : n + 0 ≡ n = omega arith in e))
+times-up k n (x ∷ packets) =
+    omega (arith, times-up k (suc n) packets, below-step k n, ap (below k) (let e : suc n + length packets ≡ n + length (x ∷ packets) = omega arith in e))
+
+waits-tags : (p : StagingFile → Bool) (k n : ℕ) (files : List StagingFile) → below k n + waits k (tags p n files) ≡ below k (n + length (filter p files))
+waits-tags p k n [] = omega (arith, ap (below k) (let e : n + 0 ≡ n = omega arith in e))
+waits-tags p k n (file ∷ files) = elim (yes_or_no (p file)) [
+  | inl t ↦ (let size = ap (λ (fs : List StagingFile). length fs) (filter-yes p file files t) in
+      omega (
+        arith,
+        ap (λ (ts : List (Option ℕ)). waits k ts) (tags-yes p n file files t),
+        waits-tags p k (suc n) files,
+        below-step k n,
+        ap (below k) (let e : suc n + length (filter p files) ≡ n + length (filter p (file ∷ files)) = omega (arith, size) in e),
+      ))
+  | inr f ↦ (let size = ap (λ (fs : List StagingFile). length fs) (filter-no p file files f) in
+      omega (
+        arith,
+        ap (λ (ts : List (Option ℕ)). waits k ts) (tags-no p n file files f),
+        waits-tags p k n files,
+        ap (below k) (let e : n + length (filter p files) ≡ n + length (filter p (file ∷ files)) = omega (arith, size) in e),
+      ))
+]
+
+below-is : (n : ℕ) (o : Option ℕ) → is_below n o ≡ true → (c : ℕ) × (o ≡ Some c) × (n < c)
+below-is n None t = absurd (not_both false t refl)
+below-is n (Some c) t = (c, refl, ltb-true n c t)
+
+not-below : (n : ℕ) (o : Option ℕ) → is_below n o ≡ false → (c : ℕ) → o ≡ Some c → c ≤ n
+not-below n None f c e = absurd (none_some e)
+not-below n (Some d) f c e = (let same : d ≡ c = some_same e in let P : ℕ → Type 0 = λ x. x ≤ n in subst P same (ltb-false n d f))
+
+not-true : (b : Bool) → not b ≡ true → b ≡ false
+not-true b h = grind arith
+
+tagged-so : (files : List (List ℕ)) (at : List ℕ) (n : ℕ) (staging : List StagingFile) →
+    ((j k : ℕ) (file : StagingFile) → k ≡ n + j → nth j (filter (waits_for_name at) staging) ≡ Some file → nth k files ≡ Some file.bytes) →
+    Paired (IsTagged files at) staging (tags (waits_for_name at) n staging)
+tagged-so files at n [] h = tt
+tagged-so files at n (file ∷ staging) h = elim (yes_or_no (waits_for_name at file)) [
+  | inl t ↦ (let (unnamed, low) = and-parts (not file.named) (is_below file.number (nth file.station at)) t in
+      let (c, is, less) = below-is file.number (nth file.station at) low in
+      let kept = filter-yes (waits_for_name at) file staging t in
+      let P : List (Option ℕ) → Type 0 = λ ts. Paired (IsTagged files at) (file ∷ staging) ts in
+      let N : ℕ → List StagingFile → StagingFile → Type 0 = λ j fs f. nth j fs ≡ Some f in
+      subst P (sym (tags-yes (waits_for_name at) n file staging t)) (
+        (h 0 n file (omega arith) (ap (nth 0) kept), not-true file.named unnamed, (c, is, less)),
+        tagged-so files at (suc n) staging (λ j k f e there. h (suc j) k f (omega (arith, e)) (ap (nth (suc j)) kept ∙ there)),
+      ))
+  | inr f ↦ (let kept = filter-no (waits_for_name at) file staging f in
+      let P : List (Option ℕ) → Type 0 = λ ts. Paired (IsTagged files at) (file ∷ staging) ts in
+      subst P (sym (tags-no (waits_for_name at) n file staging f)) (
+        (elim (yes_or_no file.named) [
+          | inl named ↦ inl named
+          | inr unnamed ↦ elim (yes_or_no (is_below file.number (nth file.station at))) [
+            | inr high ↦ inr (λ c e. not-below file.number (nth file.station at) high c e)
+            | inl low ↦ absurd (not_both (waits_for_name at file) (and-from (not file.named) (is_below file.number (nth file.station at)) (ap not unnamed) low) f)
+          ]
+        ]),
+        tagged-so files at n staging (λ j k g e there. h j k g e (ap (nth j) kept ∙ there)),
+      ))
+]
+
+-- the disks agree with the net of all packets
+tracks : (stations : List Station) (packets : List (List ℕ)) (staging : List StagingFile) →
+    Tracks (disks_at stations packets staging) (net_at stations (all_packets stations packets staging))
+tracks stations packets staging =
+    let at = cursors (net_at stations packets) in
+    let waiting = filter (waits_for_name at) staging in
+    let more = map (λ (file : StagingFile). file.bytes) waiting in
+    record {
+      stations = refl;
+      postings = refl;
+      places = up 0 packets;
+      named = named-up (packets ++ more) 0 packets (λ j k x e there.
+          let same : j ≡ k = omega (arith, e) in
+          ap (λ (n : ℕ). nth n (packets ++ more)) (sym same) ∙ nth-append j x packets more there);
+      tags = tags (waits_for_name at) (length packets) staging;
+      staging = tagged-so (packets ++ more) at (length packets) staging (λ j k file e there.
+          nth-right packets more k j e ∙ nth-map (λ (f : StagingFile). f.bytes) j file waiting there);
+      each = λ k. omega (
+        arith,
+        times-up k 0 packets,
+        ap (below k) (let e : 0 + length packets ≡ length packets = omega arith in e),
+        waits-tags (waits_for_name at) k (length packets) staging,
+        ap (below k) (let e : length packets + length waiting ≡ length (packets ++ more) = omega (arith, length-append packets more, length-map waiting (λ (f : StagingFile). f.bytes)) in e),
+      );
+      tossed = λ j h. absurd h;
+    }
+
+module _ (commands plain : List CommandEvent) (d : Disks) (net : Net) (like : Paired IsLikeEvent commands plain) (has : HasNet d net) (tag : List ℕ) (key : Key)
+    (order : KeyInOrder plain net tag key) (read_all : (ps : List Packet) × Paired ReadsAs net.packets ps) where
+  held : (i : ℕ) (file : LinkFile) (messages : List Filed) (cursor : ℕ) → StationHolds d.net i file messages cursor → StationHolds net i file messages cursor
+  held i file messages cursor = holds-too d.net net i file messages cursor has.stations
+
+  settled : KeyHasSettled d key → KeyIsSettled net key
+  settled is = record {
+    scanned = λ i file messages cursor holds m waits.
+        is.named.scanned i file messages cursor (holds-too net d.net i file messages cursor (sym has.stations) holds) m waits;
+    tossed = λ k bytes p at reads m in_it e. elim (has.all k bytes at) [
+      | inl placed ↦ (
+          let (j, place) = among-nth k has.places placed in
+          let (named, there, same) = paired-back (IsItem net.packets) j k d.net.packets has.places has.named place in
+          let one : named ≡ bytes = some_same (sym same ∙ at) in
+          let P : List ℕ → Type 0 = λ b. ReadsAs b p in
+          has.tossed j k place (is.named.tossed j named p there (subst P (sym one) reads) m in_it e))
+      | inr waits ↦ (
+          let (file, represented, same) = waits in
+          let P : List ℕ → Type 0 = λ b. ReadsAs b p in
+          absurd (is.staging file p represented (subst P (sym same) reads) m in_it e))
+    ];
+  }
+
+  less : (a : _) (qs : List Packet) → Paired ReadsAs d.net.packets qs → sent_count a key qs ≤ sent_count a key read_all.0
+  less a qs read = sent-less a key net.packets d.net.packets has.places read_all.0 qs has.named has.once read_all.1 read
+
+  pub in-order : KeyInOrderOverCrashes commands d tag key
+  in-order = record {
+    filed_once = λ i file messages cursor holds. order.filed_once i file messages cursor (held i file messages cursor holds);
+    sent_once = λ qs read i file messages cursor holds.
+        omega (arith, order.sent_once read_all.0 read_all.1 i file messages cursor (held i file messages cursor holds), less file.system qs read);
+    never_own = λ qs read i file messages cursor holds m in_it own e.
+        omega (arith, order.never_own read_all.0 read_all.1 i file messages cursor (held i file messages cursor holds) m in_it own e, less file.system qs read);
+    no_others = λ qs read i file messages cursor holds without.
+        let none = order.no_others read_all.0 read_all.1 i file messages cursor (held i file messages cursor holds) without in
+        (omega (arith, none.0, less file.system qs read), none.1);
+    all_came = λ is posting among e i file messages cursor holds has_it.
+        let P : List Filed → Type 0 = λ ms. Among posting ms in
+        let unchanged = order.all_came (settled is) posting (subst P has.postings among) e i file messages cursor (held i file messages cursor holds) has_it in
+        record { once = unchanged.once; same = λ m h q. unchanged-too commands plain i messages cursor m posting like (unchanged.same m h q) };
+  }
+
+pub headline-from-any-disks : HeadlineFromAnyDisks
+headline-from-any-disks nodelist more tag stations packets staging stopped old new good some key of_area is_new commands d happen =
+    let all = all_packets stations packets staging in
+    let (plain, net, like, plainly, has) = crashes-from commands (disks_at stations packets staging) d (net_at stations all) (tracks stations packets staging) happen in
+    in-order commands plain d net like has (upper tag) key
+    (headline-from-any-state nodelist more tag stations all stopped old new good some key of_area is_new plain net plainly)
+    (packets-read nodelist more tag stations all stopped old new good some plain net plainly)

@@ -1,0 +1,253 @@
+-- A new message of a checked area is in order, from any state of a net of stations on.
+use Rattle.std.proofs.Common.{◌≡◌, inl, inr, refl, sym, subst, ap, ◌∙◌, ℕ, ◌≤◌, List, [], ◌∷◌, length, map, Option, Some, None, Ok, arith}
+use Rattle.std.specs.Prelude.{Bool, IsTrue, true, is_none}
+use Rattle.std.specs.List.{AllByRecursion}
+use Rattle.cmd_status.specs.Devices.{Output}
+use Rattle.model_graph.specs.Walk.{Among, Different}
+use Rattle.echo_packet.specs.Message.{HasNoZero, IsMessage, Message}
+use Rattle.echo_links.specs.Links.{LinkFile, has_area, upper}
+use Rattle.echo_filed.specs.declared.key.Key.{Key}
+use Rattle.echo_filed.specs.Filed.{Filed, key_of}
+use Rattle.base_file.specs.Base.{Base, IsBase}
+use Rattle.model_steps.specs.declared.packet.Packet.{Packet}
+use Rattle.model_run.specs.AnyState.{HasSettled, IsNew, IsOrderly}
+use Rattle.model_run.specs.Orderly.{FiledUnchanged, SameContent, count, sent_count, tag_of}
+use Rattle.model_run.specs.Run.{Run, System, after_events, nth}
+use Rattle.model_run.specs.States.{IsState}
+use Rattle.model_run.specs.Tidy.{Tidy}
+use Rattle.model_run.proofs.AnyState.{new-orderly}
+use Rattle.model_run.proofs.HarmLists.{among-nth}
+use Rattle.model_run.proofs.Lists.{nth-among, Among-filter_from, Among-filter_to, Among-flat_map_from, Among-flat_map_to}
+use Rattle.model_run.proofs.States.{any-state, later-state}
+use Rattle.model_run.proofs.TosserLaws.{the_laws}
+use Rattle.cmd_status.specs.declared.fault.Fault.{Fault}
+use Rattle.cmd_status.specs.declared.status.Status.TheVariants.{Good}
+use Rattle.cmd_status.specs.Inputs.{AreLinkFiles}
+use Rattle.cmd_check.specs.Checking.{CheckAnswers}
+use Rattle.law_stations.specs.Agreement.{Agrees, HasSystem, IsPacketFile, file_address}
+use Rattle.law_stations.specs.AnyNets.{HeadlineFromAnyState, IsNewTo, IsSomeNet, KeyInOrder, KeyIsSettled, links_at, net_at, own_of}
+use Rattle.law_stations.specs.Commands.{CommandEvent, Happen}
+use Rattle.law_stations.specs.InOrder.{HasUnchanged, IsUnchanged, ReadsAs}
+use Rattle.law_stations.specs.Nets.{Net, Paired, Station}
+use Rattle.law_stations.proofs.EachEvent.{LedAll, led-all}
+use Rattle.law_stations.proofs.Headline.{all-read, checked}
+use Rattle.law_stations.proofs.Moving.{nth-middle}
+use Rattle.law_stations.proofs.Pairs.{paired-among, paired-back}
+use Rattle.law_stations.proofs.Places.{addresses-of}
+use Rattle.law_stations.proofs.Sound.{reads, represented}
+use Rattle.law_stations.proofs.Systems.{file-fits, says-so}
+use Rattle.law_stations.proofs.Unpurged.{kept-where}
+
+-- a system of each station; what its base has counts as filed
+abbrev system_of : LinkFile → Station → System
+system_of file station = record { file = file; base = station.base.messages; cursor = station.base.cursor; history = station.base.messages }
+
+abbrev systems_of : List LinkFile → List Station → List System
+systems_of [] stations = []
+systems_of (file ∷ files) [] = []
+systems_of (file ∷ files) (station ∷ stations) = system_of file station ∷ systems_of files stations
+
+systems-pair : (stations : List Station) (files : List LinkFile) → AreLinkFiles (links_at stations) files →
+    ((station : Station) → Among station stations → IsBase station.base.messages station.base.cursor) → Paired HasSystem stations (systems_of files stations)
+systems-pair [] [] are bases = tt
+systems-pair [] (file ∷ files) are bases = absurd are
+systems-pair (station ∷ stations) [] are bases = absurd are
+systems-pair (station ∷ stations) (file ∷ files) are bases =
+    (record { links = are.0; base = refl; is_base = bases station (inl refl) }, systems-pair stations files are.1 (λ s h. bases s (inr h)))
+
+systems-files : (stations : List Station) (files : List LinkFile) → AreLinkFiles (links_at stations) files → map (λ (s : System). s.file) (systems_of files stations) ≡ files
+systems-files [] [] are = refl
+systems-files [] (file ∷ files) are = absurd are
+systems-files (station ∷ stations) [] are = absurd are
+systems-files (station ∷ stations) (file ∷ files) are = ap (λ (fs : List LinkFile). file ∷ fs) (systems-files stations files are.1)
+
+systems-filed : (stations : List Station) (files : List LinkFile) (s : System) → Among s (systems_of files stations) → s.history ≡ s.base
+systems-filed stations [] s h = absurd h
+systems-filed [] (file ∷ files) s h = absurd h
+systems-filed (station ∷ stations) (file ∷ files) s h = elim h [
+  | inl e ↦ (let P : System → Type 0 = λ t. t.history ≡ t.base in subst P (sym e) refl)
+  | inr t ↦ systems-filed stations files s t
+]
+
+packed-plain : (limit : ℕ) (ms : List Message) → AllByRecursion (IsMessage limit) ms → (q : Message) → Among q ms → HasNoZero q.text
+packed-plain limit [] all q i = absurd i
+packed-plain limit (m ∷ ms) all q i =
+    elim i [
+      | inl e ↦ (let P : Message → Type 0 = λ x. HasNoZero x.text in subst P (sym e) all.0.text.no_zero)
+      | inr t ↦ packed-plain limit ms all.1 q t
+    ]
+
+module _ (stations : List Station) (packets : List (List ℕ)) (some : IsSomeNet stations packets) (files : List LinkFile) (are : AreLinkFiles (links_at stations) files) where
+  abbrev first : Run
+  first = record { systems = systems_of files stations; packets = some.read_as; delivered = [] }
+
+  pairs : Paired HasSystem stations first.systems
+  pairs = systems-pair stations files are some.bases
+
+  -- the station of a system, and the bytes of a packet
+  station-of : (s : System) → Among s first.systems → (station : Station) × Among station stations × HasSystem station s
+  station-of s h =
+      let (i, at) = among-nth s first.systems h in
+      let (station, there, has) = paired-back HasSystem i s stations first.systems pairs at in
+      (station, nth-among i station stations there, has)
+
+  bytes-of : (p : Packet) → Among p some.read_as → (bytes : List ℕ) × Among bytes packets × IsPacketFile bytes p
+  bytes-of p h =
+      let (i, at) = among-nth p some.read_as h in
+      let (bytes, there, is) = paired-back IsPacketFile i p packets some.read_as some.files at in
+      (bytes, nth-among i bytes packets there, is)
+
+  none-is : {X : Type 0} (o : Option X) → o ≡ None → is_none o ≡ true
+  none-is o e = ap is_none e
+
+  is-none : {X : Type 0} (o : Option X) → is_none o ≡ true → o ≡ None
+  is-none o e = grind arith
+
+  begins : Agrees (net_at stations packets) first
+  begins = record {
+    stations = pairs;
+    packets = some.files;
+    delivered = refl;
+    postings = λ m h.
+        let (station, i, j) = Among-flat_map_from own_of m stations h in
+        let (k, own) = Among-filter_from (λ n. is_none n.sender) m station.base.messages j in
+        let (s, at, has) = paired-among HasSystem station stations first.systems pairs i in
+        let P : List Filed → Type 0 = λ ms. Among m ms in (
+          s,
+          at,
+          record {
+            filed = subst P (ap (λ (b : Base). b.messages) has.base ∙ sym (systems-filed stations files s at)) k;
+            own = is-none m.sender own;
+          },
+        );
+    only_postings = λ s at m posting.
+        let (station, there, has) = station-of s at in
+        let P : List Filed → Type 0 = λ ms. Among m ms in
+        let in_base = subst P (systems-filed stations files s at ∙ ap (λ (b : Base). b.messages) (sym has.base)) posting.filed in
+        Among-flat_map_to own_of m station stations there
+        (Among-filter_to (λ n. is_none n.sender) m station.base.messages in_base (none-is m.sender posting.own));
+  }
+
+  state : IsState first
+  state = any-state the_laws first
+      (λ s h. (let (station, there, has) = station-of s h in file-fits station.links s.file has.links))
+      (λ s h. (let (station, there, has) = station-of s h in has.is_base))
+      (systems-filed stations files)
+      (λ p h. (let (bytes, there, is) = bytes-of p h in packed-plain _ p.messages is.packet.messages.each))
+      refl
+
+  new : (key : Key) → IsNewTo stations packets key → IsNew first key
+  new key is = record {
+    unfiled = λ s h.
+        let (station, there, has) = station-of s h in
+        ap (λ (b : Base). count key b.messages) (sym has.base) ∙ is.unfiled station there;
+    unsent = λ p h. (let (bytes, there, packed) = bytes-of p h in is.unsent bytes there p (reads bytes p packed));
+  }
+
+  module _ (apart : Different (map file_address files)) (commands : List CommandEvent) (net : Net) (happen : Happen commands (net_at stations packets) net) where
+    led : LedAll commands net first
+    led = led-all commands (net_at stations packets) net first
+        (subst Different (ap (map file_address) (sym (systems-files stations files are)) ∙ sym (addresses-of first.systems)) apart) begins happen
+
+    abbrev run : Run
+    run = after_events first led.events
+
+    stays : IsState run
+    stays = later-state the_laws led.events first state
+
+    -- a message of a base has the content of a posting, or is a stub
+    is-unchanged : (i : ℕ) (s : System) → nth i run.systems ≡ Some s → (m : Filed) → Among m s.base →
+        (filed : Filed) × Among filed s.history × (key_of m ≡ key_of filed)
+        × ((posting : Filed) → SameContent filed posting → IsUnchanged commands i s.base s.cursor m posting)
+    is-unchanged i s at m h = elim (led.as_filed i) [
+      | inl purged ↦ (
+          let (filed, was, kept, form) = kept-where s.cursor s.base s.history (stays.0.systems s (nth-among i s run.systems at)).kept m h in (
+            filed,
+            was,
+            kept.key,
+            λ posting same. elim form [
+              | inl as_filed ↦ (let P : Filed → Type 0 = λ x. SameContent x posting in inl (subst P (sym as_filed) same))
+              | inr left ↦ inr (record { purged = purged; scanned_before = left.0; filed = filed; stub = left.1; same = same })
+            ],
+          ))
+      | inr keeps ↦ (
+          let P : List Filed → Type 0 = λ ms. Among m ms in
+          (m, subst P (keeps (λ t there. sym (systems-filed stations files t (nth-among i t first.systems there))) s at) h, refl, λ posting same. inl same))
+    ]
+
+    module _ (tag : List ℕ) (tidy : Tidy files tag) (key : Key) (of_area : tag_of key ≡ tag) (is_new : IsNewTo stations packets key) where
+      orderly : IsOrderly run tag key
+      orderly =
+          let P : List LinkFile → Type 0 = λ fs. Tidy fs tag in
+          new-orderly the_laws first tag state.0 state.1 (subst P (sym (systems-files stations files are)) tidy) key of_area (new key is_new) led.events
+
+      settled : KeyIsSettled net key → HasSettled run key
+      settled is = record {
+        scanned = λ s there m waits.
+            let (i, at) = among-nth s run.systems there in
+            let (station, found, has) = paired-back HasSystem i s net.stations run.systems led.agrees.stations at in
+            is.scanned i s.file s.base s.cursor (record { station = station; there = found; says = says-so station s has }) m waits;
+        delivered = λ before packet after whole m in_it e.
+            let at : nth (length before) run.packets ≡ Some packet = ap (nth (length before)) whole ∙ nth-middle before packet after in
+            let (bytes, there, packed) = paired-back IsPacketFile (length before) packet net.packets run.packets led.agrees.packets at in
+            let D : List ℕ → Type 0 = λ ds. Among (length before) ds in
+            subst D led.agrees.delivered (is.tossed (length before) bytes packet there (reads bytes packet packed) m in_it e);
+      }
+
+      unchanged : (i : ℕ) (s : System) → nth i run.systems ≡ Some s → (posting : Filed) → FiledUnchanged s posting → HasUnchanged commands i s.base s.cursor posting
+      unchanged i s at posting is = record {
+        once = is.once;
+        same = λ m h e.
+            let (filed, was, same_key, kept) = is-unchanged i s at m h in
+            kept posting (is.unchanged filed was (sym same_key ∙ e));
+      }
+
+      pub in-order : KeyInOrder commands net tag key
+      in-order = record {
+        filed_once = λ i file messages cursor holds.
+            let at = represented net run led.agrees i file messages cursor holds in
+            at.same (λ f ms c. count key ms ≤ 1) (orderly.filed_once at.s at.among);
+        sent_once = λ read paired i file messages cursor holds.
+            let at = represented net run led.agrees i file messages cursor holds in
+            let P : List Packet → Type 0 = λ ps. sent_count file.system key ps ≤ 1 in
+            subst P (sym (all-read net.packets run.packets read led.agrees.packets paired))
+            (at.same (λ f ms c. sent_count f.system key run.packets ≤ 1) (orderly.sent_once at.s at.among));
+        never_own = λ read paired i file messages cursor holds m in_it own e.
+            let at = represented net run led.agrees i file messages cursor holds in
+            let P : List Packet → Type 0 = λ ps. sent_count file.system key ps ≡ 0 in
+            subst P (sym (all-read net.packets run.packets read led.agrees.packets paired))
+            (at.same (λ f ms c. Among m ms → sent_count f.system key run.packets ≡ 0) (λ there. orderly.never_own at.s at.among m there own e) in_it);
+        no_others = λ read paired i file messages cursor holds without.
+            let at = represented net run led.agrees i file messages cursor holds in
+            let P : List Packet → Type 0 = λ ps. (sent_count file.system key ps ≡ 0) × (count key messages ≡ 0) in
+            subst P (sym (all-read net.packets run.packets read led.agrees.packets paired))
+            (at.same (λ f ms c. (¬ IsTrue (has_area f tag)) → (sent_count f.system key run.packets ≡ 0) × (count key ms ≡ 0)) (orderly.no_others at.s at.among) without);
+        all_came = λ is posting among_postings e i file messages cursor holds has.
+            let at = represented net run led.agrees i file messages cursor holds in
+            let (f, at_f, posted) = led.agrees.postings posting among_postings in
+            at.same (λ f ms c. IsTrue (has_area f tag) → HasUnchanged commands i ms c posting) (λ has_tag. unchanged i at.s at.at posting
+            (orderly.all_came (settled is) f at_f posting posted.filed posted.own e at.s at.among has_tag)) has;
+      }
+
+pub headline-from-any-state : HeadlineFromAnyState
+headline-from-any-state nodelist more tag stations packets stopped old new good some key of_area is_new commands net happen =
+    let (files, are, tidy, orderly) = checked nodelist more tag (links_at stations) stopped old new good in
+    in-order stations packets some files are tidy.joined.one_file commands net happen (upper tag) tidy key of_area is_new
+
+-- and all packet files are packets
+pub packets-read : (nodelist : Option (List ℕ)) (more : Bool) (tag : List ℕ) (stations : List Station) (packets : List (List ℕ)) (stopped : Option Fault) (old new : Output)
+    → CheckAnswers nodelist more tag (links_at stations) stopped old new (Ok Good) → IsSomeNet stations packets
+    → (commands : List CommandEvent) (net : Net) → Happen commands (net_at stations packets) net → (ps : List Packet) × Paired ReadsAs net.packets ps
+packets-read nodelist more tag stations packets stopped old new good some commands net happen =
+    let (files, are, tidy, orderly) = checked nodelist more tag (links_at stations) stopped old new good in
+    let l = led stations packets some files are tidy.joined.one_file commands net happen in
+    (ps-of net (run stations packets some files are tidy.joined.one_file commands net happen) l.agrees)
+  where
+    each : (files : List (List ℕ)) (ps : List Packet) → Paired IsPacketFile files ps → Paired ReadsAs files ps
+    each [] [] is = tt
+    each [] (p ∷ ps) is = absurd is
+    each (bytes ∷ files) [] is = absurd is
+    each (bytes ∷ files) (p ∷ ps) is = (reads bytes p is.0, each files ps is.1)
+
+    ps-of : (net : Net) (r : Run) → Agrees net r → (ps : List Packet) × Paired ReadsAs net.packets ps
+    ps-of net r agrees = (r.packets, each net.packets r.packets agrees.packets)

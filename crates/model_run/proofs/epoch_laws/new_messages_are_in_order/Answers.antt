@@ -1,0 +1,7 @@
+use Rattle.model_run.proofs.TosserLaws.{the_laws}
+use Rattle.model_run.proofs.Changes.{orderly-on}
+use Rattle.model_run.proofs.epoch_laws.new_messages_are_in_order.Goals as goal
+
+pub returns : goal.returns
+returns c = λ first tag state tidy key area new events later named keep.
+    orderly-on the_laws tag key area first state.0 state.1 tidy new events later named keep

@@ -1,0 +1,9 @@
+use Rattle.std.proofs.Common.{refl, map}
+use Rattle.model_run.specs.Run.{System}
+use Rattle.model_run.proofs.Repair.{differ-files, rounds-everywhere}
+use Rattle.model_run.proofs.TosserLaws.{the_laws}
+use Rattle.model_run.proofs.repair_laws.rounds_bring_all_there.Goals as goal
+
+pub returns : goal.returns
+returns c = λ n before after tag differ rounds key nowhere x h whole y i walk few walks.
+    rounds-everywhere the_laws (map (λ (s : System). s.file) before) tag (differ-files before differ) key n walk few before after refl nowhere rounds x h whole y i walks
