@@ -9,6 +9,9 @@
 # note on it and a line for each refused message. The packets after it are tossed. The status is 1 then. A NAME.why
 # without its packet is removed by the next run. STATION/log gets a line for each packet that was tossed or put aside.
 #
+# For a station with a file `peers`, `echonet-station STATION gate` takes the files in: packets and bundles. It checks
+# passwords and files letters. If it fails, the packets that it passed on before are tossed.
+#
 # If a disk fails, or the link file or the base is refused, the packets stay for the next run, and the status is that
 # of the program. STATION/settings may name another folder than STATION/inbound (station.sh). Runs may start at the
 # same time: each waits for the one before it. The program is `echonet` of the PATH, or the one that ECHONET names.
@@ -31,11 +34,13 @@ list=$(mktemp)
 messages=$(mktemp)
 faults=$(mktemp)
 aside=0
+gated=0
 
 # Removes the files of this run. Status 1 reports a packet that was put aside, and nothing else.
 clean_up() {
   ended=$?
   rm -f "$told" "$list" "$messages" "$faults"
+  if [ $gated -gt 1 ]; then exit $gated; fi
   if [ $ended -eq 1 ] && [ $aside -eq 0 ]; then exit 3; fi
 }
 trap clean_up EXIT
@@ -194,11 +199,31 @@ toss_one() {
   fi
 }
 
+# Whether the gate has anything to do. Most runs bring nothing, and start nothing.
+has_gate_work() {
+  is_any "$inbound"/*.[pP][kK][tT] "$inbound"/*.[mM][oO]? "$inbound"/*.[tT][uU]? "$inbound"/*.[wW][eE]? \
+    "$inbound"/*.[tT][hH]? "$inbound"/*.[fF][rR]? "$inbound"/*.[sS][aA]? "$inbound"/*.[sS][uU]? "$station"/gate/*.in
+}
+
+# The gate takes the files in. Its status is 1 if it put something aside.
+pass_gate() {
+  "$tool" "$station" gate --locked || gated=$?
+  case $gated in
+    0 | 2) ;;
+    1) aside=1 ;;
+    *) gated=3 ;;
+  esac
+}
+
 remove_reasons
-set -- "$inbound"/*.[pP][kK][tT]
-if is_there "$1"; then take_in "$@"; fi
+if [ $peered -eq 1 ]; then
+  if has_gate_work; then pass_gate; fi
+else
+  set -- "$inbound"/*.[pP][kK][tT]
+  if is_there "$1"; then take_in "$@"; fi
+fi
 set -- "$station"/tossing/*.pkt
-if ! is_there "$1"; then exit 0; fi
+if ! is_there "$1"; then exit $aside; fi
 
 # All packets at once, since each toss opens the base once. If anything goes wrong, one by one.
 printf '%s\0' "$@" > "$list"
