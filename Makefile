@@ -47,7 +47,7 @@ bin/echonet: bin/proved/echonet
 	@cp crates/echonet/out/echonet bin/echonet
 else
 .PHONY: bin/echonet
-# For `make trials` this also proves a program that replays events, and crashes commands on a disk in memory.
+# For `make trials` this also proves a program that replays events.
 bin/echonet: toolchain
 	$(call prove,echonet $(if $(filter trials,$(MAKECMDGOALS)),test_trials),bin/echonet)
 endif

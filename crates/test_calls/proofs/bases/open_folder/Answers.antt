@@ -8,7 +8,7 @@ use Rattle.base_log.specs.Reading.{IsLogIn}
 use Rattle.base_log.specs.Standing.{BaseBytes, Represents, base_at}
 use Rattle.base_log.proofs.Empty.{represented_quiet}
 use Rattle.base_log.proofs.Quiet.{base_quiet}
-use Rattle.test_disks.proofs.bases.open_folder.Goals as goal
+use Rattle.test_calls.proofs.bases.open_folder.Goals as goal
 
 pub judge-requires-clause-log : goal.judge-requires-clause-log
 judge-requires-clause-log g c honest = c.in_ok-log.ensures.log honest ∙ ap bytes_in (sym (c.read_log.ensures.quiet.seen (log_of c.args.folder.now)))
