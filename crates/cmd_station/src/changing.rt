@@ -72,7 +72,7 @@ fn change_at<'a, L: FileLock, K: FileLock, W: Sink>(
 
 /// How the posting of one message ended. A fault that stops all of them was reported.
 #[derive(Clone, Copy, Debug)]
-pub enum PostEnd {
+pub(crate) enum PostEnd {
     Posted,
     Refused(PostFault),
     Stopped(Status),

@@ -4,9 +4,9 @@
 //! disk. Begin with `place`, the paths, the locks and the base of a station.
 //!
 //! `found` is the state of a base folder before it is opened, and `opened` is work on the open folder. `running` runs a
-//! command on a station. `posting` has the words of `post`, `posting_jam` posts a message of a JAM base, and `posting_mail` a
-//! mail. `changing`, `tossing` and `scanning` are the commands by their words. `unplaced`
-//! reports the path at which a scan failed.
+//! command on a station. `posting` has the words of `post`, `posting_jam` posts the messages of a JAM base, and `posting_mail` a
+//! mail. `changing`, `tossing` and `scanning` are the commands by their words. `unplaced` reports the path at which a scan
+//! failed.
 #![tactic(auto)]
 
 mod changing;
@@ -21,9 +21,9 @@ mod scanning;
 mod tossing;
 mod unplaced;
 
-pub use changing::{PostEnd, run_post, run_post_stored, run_purge, run_reply};
+pub use changing::{run_post, run_post_stored, run_purge, run_reply};
 pub use posting::new_message;
-pub use posting_jam::JamPoster;
+pub use posting_jam::run_post_jam;
 pub use posting_mail::run_post_mail;
 pub use scanning::{ScanWords, run_scan};
 pub use tossing::run_toss;

@@ -1,21 +1,18 @@
-//! The program `echonet`: it reads the words of the command line and calls the command that they name. The commands that
-//! change no base are in `cmd_read`, and those that change one in `cmd_station`. `post --jam`, in `post_jam`, needs both.
+//! The program `echonet`: it reads the words of the command line and calls the command that they name. The commands on
+//! nets are in `cmd_net`, those that read a base in `cmd_export` and `cmd_jam`, and those that change one in `cmd_station`.
 //!
 //! It is proved to be safe and to end, and no more. It is small, so that the crates below it are proved in parallel.
 //! Begin at `main`, the last function, then read `run_words`.
 #![tactic(auto)]
 
-mod post_jam;
-
-use crate::post_jam::run_post_jam;
+use cmd_export::{run_convert, run_export, run_export_stored, run_list, run_resend};
 use cmd_input::{ErasingOutput, Progress, names_of};
+use cmd_jam::run_export_jam;
+use cmd_net::{run_check, run_links, run_nodelist, run_picture, run_replay, run_show, run_why};
 use cmd_notes::{ExplainedCommand, KeptFaultLines};
-use cmd_read::{
-    run_check, run_convert, run_export, run_export_jam, run_export_stored, run_links, run_list,
-    run_nodelist, run_picture, run_replay, run_resend, run_show, run_why,
-};
 use cmd_station::{
-    ScanWords, run_post, run_post_mail, run_post_stored, run_purge, run_reply, run_scan, run_toss,
+    ScanWords, run_post, run_post_jam, run_post_mail, run_post_stored, run_purge, run_reply,
+    run_scan, run_toss,
 };
 use cmd_status::{Fault, Status, ended};
 use cmd_words::{Ending, ParsedLine, Words, explain, parse};

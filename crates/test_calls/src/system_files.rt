@@ -4,7 +4,7 @@ pub(crate) mod disk;
 use disk::{Disk, State};
 use disk_io::{Trial, Watched};
 use disk_system::{
-    InputFault, NewFile, OutputFault, create_file, flush_folder, read_file, read_whole,
+    InputFault, NewFile, OWNER_ALONE, OutputFault, create_file, flush_folder, read_file, read_whole,
 };
 use std::alloc::Global;
 use std::cell::RefCell;
@@ -26,6 +26,7 @@ fn new_at(path: &str) -> NewFile<'_> {
         own: "1.10.2",
         bytes: NEW,
         known_by: 7,
+        mode: OWNER_ALONE,
     }
 }
 

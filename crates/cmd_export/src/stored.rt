@@ -1,10 +1,10 @@
 //! `export --msg`: messages of a base as files of a folder. The lock of the folder is held from before the base is read
 //! until the last file is written. So two runs at once add each message once.
 
-use crate::making::{Making, make_file, remove_left};
 use base_folder::MessageSource;
 use cmd_input::{
-    folder_fault, is_folder, load_base, locked_folder, look_into, output_fault, read_file,
+    folder_fault, folder_path, is_folder, load_base, locked_folder, look_into, output_fault,
+    read_file,
 };
 use cmd_numbered::{
     ExportError, Exported, LastFile, MessageFile, MessageFolder, export_files, is_left, number_in,
@@ -13,10 +13,15 @@ use cmd_numbered::{
 use cmd_status::{Fault, Status, ended, number_of};
 use cmd_words::ExportWords;
 use disk_io::Sink;
-use disk_system::OutputFault;
+use disk_system::{
+    BY_UMASK, NewFile, OutputFault, create_file, flush_folder, folder_of, remove_left,
+};
 use std::alloc::AllocError;
 use std::fs::File;
 use std::{fs, io, str};
+
+/// The word in the staging path of a message where other files have the address of a system.
+const OWN: &str = "msg";
 
 /// How many bytes show that a file is the message that is to be written: its sender's name.
 const MESSAGE_KNOWN_BY: usize = 36;
@@ -43,28 +48,29 @@ impl<E: Sink> MessageFolder for FolderFiles<'_, '_, E> {
 
     fn make(&mut self, file: &MessageFile) -> Result<(), Status> {
         let name = str::from_utf8(file.name.as_slice()).unwrap_or("");
-        match paths(self.rt, self.folder, name) {
-            Ok((path, staging_path)) => self.make_at(path.as_str(), staging_path.as_str(), file),
+        match file_path(self.rt, self.folder, name) {
+            Ok(path) => self.make_at(path.as_str(), file),
             Err(_) => Err(output_fault(OutputFault::Memory, "").report(self.errors)),
         }
     }
 }
 
 impl<E: Sink> FolderFiles<'_, '_, E> {
-    // Makes the file at this path.
-    fn make_at(
-        &mut self,
-        path: &str,
-        staging_path: &str,
-        file: &MessageFile,
-    ) -> Result<(), Status> {
-        let making = Making {
+    // Makes the file at this path. Its name is on the disk then, so after a power cut the first ones of several files are
+    // there.
+    fn make_at(&mut self, path: &str, file: &MessageFile) -> Result<(), Status> {
+        let new = NewFile {
             path,
-            staging_path,
+            own: OWN,
             bytes: file.bytes.as_slice(),
             known_by: MESSAGE_KNOWN_BY,
+            mode: BY_UMASK,
         };
-        make_file(self.rt, making).map_err(|fault| output_fault(fault, path).report(self.errors))
+        let made = match create_file(self.rt.alloc(), self.rt, new) {
+            Ok(()) => flush_folder(self.rt, folder_of(path)),
+            failed => failed,
+        };
+        made.map_err(|fault| output_fault(fault, path).report(self.errors))
     }
 }
 
@@ -182,19 +188,9 @@ fn last_name<'a>(rt: &HostRuntime, folder: &'a str) -> Result<Option<Last>, Faul
     Ok(last)
 }
 
-// The path of a file of the folder, and its staging path.
-fn paths(rt: &HostRuntime, folder: &str, name: &str) -> Result<(String, String), AllocError> {
-    let path = file_path(rt, folder, name)?;
-    let staging_path = format!(in rt.alloc(); "{path}.~msg~.new")?;
-    Ok((path, staging_path))
-}
-
-// The folder, a `/` where it ends in none, and the name.
+// The path of a file of the folder.
 fn file_path(rt: &HostRuntime, folder: &str, name: &str) -> Result<String, AllocError> {
-    let mut path = String::from_str(rt.alloc(), folder)?;
-    if !folder.ends_with('/') {
-        path.push('/')?;
-    }
+    let mut path = folder_path(rt, folder)?;
     path.push_str(name)?;
     Ok(path)
 }

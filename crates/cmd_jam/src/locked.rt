@@ -1,14 +1,16 @@
 //! A JAM base under its lock: `flock` on the file of headers. A missing base is made first, under the lock of its
 //! folder.
 
-use crate::making::{Making, make_file, remove_left};
 use crate::named::{check_file, jam_fault, open_file, open_or_make, with_end, write_at};
-use cmd_input::{check_base, created_now, folder_of, lock_file, locked_folder, output_fault};
+use cmd_input::{check_base, created_now, lock_file, locked_folder, output_fault};
 use cmd_status::Fault;
-use disk_system::flush_folder;
+use disk_system::{BY_UMASK, NewFile, create_file, flush_folder, folder_of, remove_left};
 use echo_jam::new_fixed;
 use std::fs::File;
 use std::{fs, io};
+
+/// The word in the staging path of the headers where other files have the address of a system.
+const OWN: &str = "jam";
 
 /// How many bytes show that a file is one of headers: `JAM` and 00.
 const HEADERS_KNOWN_BY: usize = 4;
@@ -24,7 +26,7 @@ pub(crate) fn locked_headers<'a>(
     base: &'a str,
 ) -> Result<File, Fault<'a>> {
     let headers = with_end(rt, path, ".jhr")?;
-    let staging_path = with_end(rt, headers.as_str(), ".~jam~.new")?;
+    let staging_path = format!(in rt.alloc(); "{headers}.~{OWN}~.new")?;
     if !is_there(rt, path, headers.as_str())? {
         check_base(rt, base)?;
         begin_alone(rt, path, headers.as_str(), staging_path.as_str())?;
@@ -63,7 +65,7 @@ fn begin_alone<'a>(
     remove_left(rt, staging_path);
     let begun = match is_there(rt, path, headers) {
         Ok(true) => Ok(()),
-        Ok(false) => begin_jam(rt, path, headers, staging_path),
+        Ok(false) => begin_jam(rt, path, headers),
         Err(fault) => Err(fault),
     };
     let _ = locked.unlock();
@@ -72,21 +74,18 @@ fn begin_alone<'a>(
 
 // Makes a JAM base. The file of headers comes last and in one step, when the names of the others are on the disk.
 // Readers know by it that there is a base.
-fn begin_jam<'a>(
-    rt: &HostRuntime,
-    path: &'a str,
-    headers: &str,
-    staging_path: &str,
-) -> Result<(), Fault<'a>> {
+fn begin_jam<'a>(rt: &HostRuntime, path: &'a str, headers: &str) -> Result<(), Fault<'a>> {
     make_others(rt, path, true)?;
     let bytes = new_fixed(rt.alloc(), created_now(rt)?)?;
-    let making = Making {
+    let new = NewFile {
         path: headers,
-        staging_path,
+        own: OWN,
         bytes: bytes.as_slice(),
         known_by: HEADERS_KNOWN_BY,
+        mode: BY_UMASK,
     };
-    make_file(rt, making).map_err(|fault| output_fault(fault, path))
+    create_file(rt.alloc(), rt, new).map_err(|fault| output_fault(fault, path))?;
+    flush_folder(rt, folder_of(headers)).map_err(|fault| output_fault(fault, path))
 }
 
 // Makes the other files, if they are missing, and flushes their folder. The index of a new base has no bytes.

@@ -5,12 +5,14 @@ use base_file::BaseFault;
 use base_folder::{BaseReader, Distinct, FillError, MessageSource, SendError, fill, send_file};
 use base_store::SipDigest;
 use cmd_input::{
-    BASE_START, drawn_key, flush_name, folder_of, folder_path, is_folder, is_strange, is_unused,
+    BASE_START, drawn_key, flush_name, folder_path, is_folder, is_strange, is_unused,
     locked_folder, look_into, messages_fault, output_fault, read_file,
 };
 use cmd_status::{Fault, Status, print_rest};
 use disk_io::{Sink, Watched};
-use disk_system::{OutputFault, RealDisk, Unknown, begin_file, drop_file, flush_folder, name_file};
+use disk_system::{
+    OutputFault, RealDisk, Unknown, begin_file, drop_file, flush_folder, folder_of, name_file,
+};
 use std::collections::hash_map::RandomState;
 use std::io;
 

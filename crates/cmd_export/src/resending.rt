@@ -11,7 +11,9 @@ use cmd_report::{push_packet, resent_name};
 use cmd_status::{Fault, FileLock, Status, number_of, parse_address, print_rest};
 use cmd_words::ResendWords;
 use disk_io::{Disk, Sink};
-use disk_system::{NewFile, OutputFault, RealDisk, Unknown, create_file, flush_folder};
+use disk_system::{
+    NewFile, OWNER_ALONE, OutputFault, RealDisk, Unknown, create_file, flush_folder,
+};
 use echo_addr::Address;
 use echo_toss::Resend;
 use model_steps::Packet;
@@ -168,6 +170,7 @@ fn write_packet(rt: &HostRuntime, path: &str, packet: &Packet) -> Result<(), Out
         own: own.as_str(),
         bytes: &bytes,
         known_by: PACKET_KNOWN_BY,
+        mode: OWNER_ALONE,
     };
     create_file(rt.alloc(), rt, new)
 }
