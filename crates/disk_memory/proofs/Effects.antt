@@ -1,16 +1,12 @@
 -- The effect of one step at its path, and no effect at other paths.
 use Rattle.std.proofs.Common.{◌≡◌, ◌≢◌, ℕ, List, ◌∷◌, refl, sym, ◌∙◌, ap, subst, inl, inr, ⊎_elim, arith}
+use Rattle.std.proofs.lemmas.{Bool.false_from_ne_true, Slice.Eq.bytes_eq-Decides}
 use Rattle.std.specs.Prelude.{Bool, true, false, cond, bytes_eq, reverse, Option, Some, None, IsSome, is_some, Result, Ok, Err, MatchResult, OnOk}
 use Rattle.std.specs.Borrow.{Bor}
-use Rattle.std.proofs.lemmas.Bool.{false_from_ne_true}
-use Rattle.std.proofs.lemmas.Slice.Eq.{bytes_eq-Decides}
-use Rattle.disk_io.specs.Disk.{DiskState, Files, bytes_in}
-use Rattle.disk_io.specs.Steps.{ChangesFile}
-use Rattle.disk_io.specs.Runs.{LeavesOneStepOn, ThisPath, ChangesAt, ChangesNothing}
+use Rattle.disk_io.specs.{Disk.DiskState, Disk.Files, Disk.bytes_in, Steps.ChangesFile, Runs.LeavesOneStepOn, Runs.ThisPath, Runs.ChangesAt, Runs.ChangesNothing}
 use Rattle.disk_io.specs.declared.disk_error.DiskError.{DiskError}
 use Rattle.disk_memory.specs.Memory.{AreTogether, left_where, MayLeave, IsNamed, IsFlushed, IsAlone, now_alone, disk_after}
-use Rattle.disk_memory.specs.Shown.{Shown, shown, file_behind}
-use Rattle.disk_memory.specs.declared.step.Step.{Step}
+use Rattle.disk_memory.specs.{Shown.Shown, Shown.shown, Shown.file_behind, declared.step.Step.Step}
 use Rattle.disk_memory.proofs.Steps.{same_elapses}
 
 -- ---- tests of paths

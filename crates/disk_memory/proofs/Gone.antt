@@ -1,16 +1,10 @@
 -- A path with no file, once its folder is synced.
 use Rattle.std.proofs.Common.{◌≡◌, ℕ, List, [], ◌∷◌, refl, sym, subst, arith}
 use Rattle.std.specs.Prelude.{Bool, true, false, cond, ◌&&◌, ◌||◌, bytes_eq, reverse, Option, None, Result, MatchResult, OnOk}
-use Rattle.disk_io.specs.Disk.{IsIn}
-use Rattle.disk_io.specs.declared.disk_error.DiskError.{DiskError}
-use Rattle.disk_memory.specs.Calls.{AddsFolderSync, Bytes}
-use Rattle.disk_memory.specs.Memory.{IsFlushed}
-use Rattle.disk_memory.specs.Shown.{Shown, shown}
-use Rattle.disk_memory.specs.declared.step.Step.{Step}
+use Rattle.disk_io.specs.{Disk.IsIn, declared.disk_error.DiskError.DiskError}
 use Rattle.disk_memory.specs.declared.step.Step.TheVariants.{Changed, Made, Removed, Renamed, Linked, Synced, FolderSynced, Crashed}
-use Rattle.disk_memory.proofs.Effects.{by_ok}
-use Rattle.disk_memory.proofs.Settled.{is_in-true}
-use Rattle.disk_memory.proofs.Steps.{reversed}
+use Rattle.disk_memory.specs.{Calls.AddsFolderSync, Calls.Bytes, Memory.IsFlushed, Shown.Shown, Shown.shown, declared.step.Step.Step}
+use Rattle.disk_memory.proofs.{Effects.by_ok, Settled.is_in-true, Steps.reversed}
 
 -- a missing file has no bytes that are not on the disk
 abbrev HasNone : Shown → Type 0

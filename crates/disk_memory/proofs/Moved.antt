@@ -1,17 +1,11 @@
 -- A file with another path.
 use Rattle.std.proofs.Common.{◌≡◌, ◌≢◌, ◌⊎◌, ℕ, List, ◌∷◌, refl, sym, ◌∙◌, ap, subst, arith}
 use Rattle.std.specs.Prelude.{Bool, true, cond, reverse, Option, Some, None, Result, MatchResult, OnOk}
-use Rattle.disk_io.specs.Disk.{DiskState}
-use Rattle.disk_io.specs.Steps.{RenamesFile}
-use Rattle.disk_io.specs.Runs.{LeavesOneStepOn, EitherPath, ChangesAt}
-use Rattle.disk_io.specs.declared.disk_error.DiskError.{DiskError}
-use Rattle.disk_memory.specs.Calls.{AddsRenaming, Bytes}
-use Rattle.disk_memory.specs.Memory.{left_where, IsFlushed, seen_at, disk_after}
-use Rattle.disk_memory.specs.Shown.{Shown, shown, named_anew}
-use Rattle.disk_memory.specs.declared.step.Step.{Step}
-use Rattle.disk_memory.specs.declared.step.Step.TheVariants.{Renamed}
-use Rattle.disk_memory.proofs.Steps.{reversed, one_elapses, same_elapses}
+use Rattle.disk_io.specs.{Disk.DiskState, Steps.RenamesFile, Runs.LeavesOneStepOn, Runs.EitherPath, Runs.ChangesAt, declared.disk_error.DiskError.DiskError}
+use Rattle.disk_memory.specs.{Calls.AddsRenaming, Calls.Bytes, Memory.left_where, Memory.IsFlushed, Memory.seen_at, Memory.disk_after, Shown.Shown, Shown.shown, Shown.named_anew}
+use Rattle.disk_memory.specs.declared.step.Step.{Step, TheVariants.Renamed}
 use Rattle.disk_memory.proofs.Effects.{here, elsewhere, cond_true, cond_false, cond_both, same_at, flushed_same, by_result, by_ok}
+use Rattle.disk_memory.proofs.Steps.{reversed, one_elapses, same_elapses}
 
 -- all that a renaming owes
 abbrev pub Renaming : List ℕ → List ℕ → DiskState → DiskState → Type 0

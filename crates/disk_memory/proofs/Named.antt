@@ -1,17 +1,11 @@
 -- A file made, and one removed.
 use Rattle.std.proofs.Common.{◌≡◌, ◌≢◌, ℕ, List, [], ◌∷◌, refl, sym, ◌∙◌, ap, subst, inl, inr, arith}
 use Rattle.std.specs.Prelude.{Bool, true, false, cond, reverse, Option, Some, None, Result, Ok, Err, MatchResult, OnOk}
-use Rattle.disk_io.specs.Steps.{TornMaking, TornRemoval}
-use Rattle.disk_io.specs.Runs.{ThisPath}
-use Rattle.disk_io.specs.declared.disk_error.DiskError.{DiskError}
-use Rattle.disk_memory.specs.Calls.{AddsMaking, AddsRemoval, Bytes}
-use Rattle.disk_memory.specs.Memory.{IsAlone, seen_at, disk_after}
-use Rattle.disk_memory.specs.Shown.{Shown, shown, kept_of, named_anew}
-use Rattle.disk_memory.specs.declared.step.Making.{Making}
-use Rattle.disk_memory.specs.declared.step.Step.{Step}
-use Rattle.disk_memory.specs.declared.step.Step.TheVariants.{Made, Removed}
-use Rattle.disk_memory.proofs.Steps.{reversed, one_elapses}
+use Rattle.disk_io.specs.{Steps.TornMaking, Steps.TornRemoval, Runs.ThisPath, declared.disk_error.DiskError.DiskError}
+use Rattle.disk_memory.specs.{Calls.AddsMaking, Calls.AddsRemoval, Calls.Bytes, Memory.IsAlone, Memory.seen_at, Memory.disk_after, Shown.Shown, Shown.shown, Shown.kept_of, Shown.named_anew}
+use Rattle.disk_memory.specs.declared.step.{Making.Making, Step.Step, Step.TheVariants.Made, Step.TheVariants.Removed}
 use Rattle.disk_memory.proofs.Effects.{here, elsewhere, cond_true, cond_false, same_at, KeepsBut, flushed_same, step_crash, Effect, no_effect, by_result, by_ok}
+use Rattle.disk_memory.proofs.Steps.{reversed, one_elapses}
 
 kept_torn : (reached : Making) (was : Option (List ℕ)) → TornMaking was (kept_of reached was)
 kept_torn reached was = grind arith

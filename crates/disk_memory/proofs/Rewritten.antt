@@ -1,19 +1,12 @@
 -- A write, whole or cut short by a crash.
 use Rattle.std.proofs.Common.{◌≡◌, ◌≤◌, ◌-◌, ℕ, List, ◌∷◌, length, refl, sym, ◌∙◌, ap, subst, arith, length-append, length-take, length-drop, append_assoc}
-use Rattle.std.specs.Prelude.{false, bytes_eq, reverse, Option, Some, Result, Ok, Err, MatchResult, OnOk}
 use Rattle.std.proofs.lemmas.List.{take_at, drop_at}
-use Rattle.disk_io.specs.Disk.{bytes_in}
-use Rattle.disk_io.specs.Steps.{IsWrittenAt, TornWrite}
-use Rattle.disk_io.specs.Runs.{NoPath}
-use Rattle.disk_io.specs.declared.disk_error.DiskError.{DiskError}
-use Rattle.disk_memory.specs.Calls.{AddsChange, Bytes}
-use Rattle.disk_memory.specs.Memory.{seen_at, kept_at, disk_after}
-use Rattle.disk_memory.specs.Shown.{Shown, shown, file_of}
-use Rattle.disk_memory.specs.declared.step.Contents.{Contents}
-use Rattle.disk_memory.specs.declared.step.Step.{Step}
-use Rattle.disk_memory.specs.declared.step.Step.TheVariants.{Changed}
-use Rattle.disk_memory.proofs.Steps.{reversed, one_elapses}
+use Rattle.std.specs.Prelude.{false, bytes_eq, reverse, Option, Some, Result, Ok, Err, MatchResult, OnOk}
+use Rattle.disk_io.specs.{Disk.bytes_in, Steps.IsWrittenAt, Steps.TornWrite, Runs.NoPath, declared.disk_error.DiskError.DiskError}
+use Rattle.disk_memory.specs.{Calls.AddsChange, Calls.Bytes, Memory.seen_at, Memory.kept_at, Memory.disk_after, Shown.Shown, Shown.shown, Shown.file_of, declared.step.Contents.Contents}
+use Rattle.disk_memory.specs.declared.step.Step.{Step, TheVariants.Changed}
 use Rattle.disk_memory.proofs.Effects.{here, elsewhere, cond_true, cond_false, cond_field, same_at, KeepsBut, flushed_same, step_crash, Effect, no_effect, by_result}
+use Rattle.disk_memory.proofs.Steps.{reversed, one_elapses}
 
 -- a whole write is one that a crash may leave
 pub whole_write : (old : Option (List ℕ)) (at : ℕ) (bytes new : List ℕ) → at ≤ length (bytes_in old) → IsWrittenAt (bytes_in old) at bytes new → TornWrite at (length bytes) old (Some new)

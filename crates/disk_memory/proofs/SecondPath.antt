@@ -1,16 +1,11 @@
 -- A file with a second path.
 use Rattle.std.proofs.Common.{◌≡◌, ◌≢◌, ◌⊎◌, ◌↔◌, ℕ, List, ◌∷◌, refl, sym, ◌∙◌, ap, subst, inl, inr, arith}
 use Rattle.std.specs.Prelude.{Bool, true, false, cond, bytes_eq, reverse, Option, Some, None, IsTrue, Result, Ok, Err, MatchResult, IfOk}
-use Rattle.disk_io.specs.Steps.{TornNaming}
-use Rattle.disk_io.specs.Runs.{ThisPath, EitherPath}
-use Rattle.disk_io.specs.declared.disk_error.DiskError.{DiskError}
-use Rattle.disk_memory.specs.Calls.{LinksWhereFree, Bytes}
-use Rattle.disk_memory.specs.Memory.{IsFlushed, seen_at, disk_after}
-use Rattle.disk_memory.specs.Shown.{Shown, shown, named_anew}
-use Rattle.disk_memory.specs.declared.step.Step.{Step}
+use Rattle.disk_io.specs.{Steps.TornNaming, Runs.ThisPath, Runs.EitherPath, declared.disk_error.DiskError.DiskError}
+use Rattle.disk_memory.specs.{Calls.LinksWhereFree, Calls.Bytes, Memory.IsFlushed, Memory.seen_at, Memory.disk_after, Shown.Shown, Shown.shown, Shown.named_anew, declared.step.Step.Step}
 use Rattle.disk_memory.specs.declared.step.Step.TheVariants.{Linked}
-use Rattle.disk_memory.proofs.Steps.{reversed, one_elapses}
 use Rattle.disk_memory.proofs.Effects.{here, elsewhere, cond_true, cond_false, cond_field, SameAt, KeepsBut, flushed_same, step_crash, Effect, no_effect}
+use Rattle.disk_memory.proofs.Steps.{reversed, one_elapses}
 
 reached_torn : (reached : Bool) (file was : Option (List ℕ)) → TornNaming file was (cond reached file was)
 reached_torn true file was = inr refl

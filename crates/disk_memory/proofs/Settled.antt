@@ -1,23 +1,14 @@
 -- Files and folders synced to the disk: a crash leaves only files that it might have left before.
 use Rattle.std.proofs.Common.{◌≡◌, ◌≢◌, ℕ, List, [], ◌∷◌, get_or, refl, sym, ◌∙◌, ap, subst, arith}
+use Rattle.std.proofs.lemmas.{Bool.false_from_ne_true, Bool.Decides.Decides-eqb, List.take_at, List.drop_at, List.Folds.list_any_none, Slice.Eq.bytes_eq-Decides}
 use Rattle.std.specs.Prelude.{Bool, true, false, cond, ◌&&◌, ◌||◌, ◌==◌, bytes_eq, reverse, Option, Result, MatchResult, OnOk, All}
 use Rattle.std.specs.List.{list_any}
-use Rattle.std.proofs.lemmas.Bool.{false_from_ne_true}
-use Rattle.std.proofs.lemmas.Bool.Decides.{Decides-eqb}
-use Rattle.std.proofs.lemmas.List.{take_at, drop_at}
-use Rattle.std.proofs.lemmas.List.Folds.{list_any_none}
-use Rattle.std.proofs.lemmas.Slice.Eq.{bytes_eq-Decides}
-use Rattle.disk_io.specs.Disk.{Files, IsIn}
-use Rattle.disk_io.specs.Runs.{ChangesNothing}
-use Rattle.disk_io.specs.declared.disk_error.DiskError.{DiskError}
-use Rattle.disk_memory.specs.Calls.{AddsSync, AddsFolderSync, Bytes}
+use Rattle.disk_io.specs.{Disk.Files, Disk.IsIn, Runs.ChangesNothing, declared.disk_error.DiskError.DiskError}
 use Rattle.disk_memory.specs.Memory.{AreTogether, MayLeave, IsNamed, IsFlushed, disk_after}
-use Rattle.disk_memory.specs.Paths.{is_in}
-use Rattle.disk_memory.specs.Shown.{Shown, shown}
-use Rattle.disk_memory.specs.declared.step.Step.{Step}
 use Rattle.disk_memory.specs.declared.step.Step.TheVariants.{Changed, Made, Removed, Renamed, Linked, Synced, FolderSynced, Crashed}
-use Rattle.disk_memory.proofs.Steps.{reversed}
+use Rattle.disk_memory.specs.{Calls.AddsSync, Calls.AddsFolderSync, Calls.Bytes, Paths.is_in, Shown.Shown, Shown.shown, declared.step.Step.Step}
 use Rattle.disk_memory.proofs.Effects.{here, cond_true, cond_false, cond_both, cond_field, nothing_by, nothing_done, by_result, by_ok}
+use Rattle.disk_memory.proofs.Steps.{reversed}
 
 -- ---- tests
 

@@ -1,12 +1,10 @@
 -- The steps of a disk in memory, and the effect of one more.
 use Rattle.std.proofs.Common.{◌≡◌, List, [], ◌∷◌, ◌++◌, refl, ◌∙◌, ap, ⊎_elim, arith}
-use Rattle.std.specs.Prelude.{false, reverse}
 use Rattle.std.proofs.lemmas.List.{reverse-append}
-use Rattle.disk_io.specs.Disk.{DiskState}
-use Rattle.disk_io.specs.Runs.{Elapses}
-use Rattle.disk_memory.specs.Memory.{AreTogether, MayLeave, disk_after}
-use Rattle.disk_memory.specs.declared.step.Step.{Step}
+use Rattle.std.specs.Prelude.{false, reverse}
+use Rattle.disk_io.specs.{Disk.DiskState, Runs.Elapses}
 use Rattle.disk_memory.specs.declared.step.Step.TheVariants.{Changed, Made, Removed, Renamed, Linked, Synced, FolderSynced, Crashed}
+use Rattle.disk_memory.specs.{Memory.AreTogether, Memory.MayLeave, Memory.disk_after, declared.step.Step.Step}
 
 -- the newest step is first
 pub reversed : (old new : List Step) (x : Step) → new ≡ old ++ x ∷ [] → reverse new ≡ x ∷ reverse old

@@ -1,7 +1,7 @@
 -- A write that a crash cut shorter.
 use Rattle.std.proofs.Common.{◌≡◌, ◌≤◌, ◌+◌, ◌-◌, ℕ, List, drop, sym, ◌∙◌, ap, arith}
-use Rattle.std.specs.Prelude.{Option}
 use Rattle.std.proofs.lemmas.List.{drop-drop}
+use Rattle.std.specs.Prelude.{Option}
 use Rattle.disk_io.specs.Steps.{TornWrite}
 
 drop_further : (k n : ℕ) (a b : List ℕ) → k ≤ n → drop k a ≡ drop k b → drop n a ≡ drop n b

@@ -1,12 +1,8 @@
 -- The steps that one call adds to a disk in memory.
 use Rattle.std.specs.Prelude.{◌≡◌, ℕ, Bool, true, false, List, [], ◌∷◌, ◌++◌, Option, Some, None, IsSome, Vec}
 use Rattle.std.specs.declared.alloc.Global.{Global}
-use Rattle.disk_memory.specs.Memory.{seen_at}
-use Rattle.disk_memory.specs.Shown.{file_of}
-use Rattle.disk_memory.specs.declared.step.Contents.{Contents}
-use Rattle.disk_memory.specs.declared.step.Making.{Making}
-use Rattle.disk_memory.specs.declared.step.Step.{Step}
 use Rattle.disk_memory.specs.declared.step.Step.TheVariants.{Changed, Made, Removed, Renamed, Linked, Synced, FolderSynced}
+use Rattle.disk_memory.specs.{Memory.seen_at, Shown.file_of, declared.step.Contents.Contents, declared.step.Making.Making, declared.step.Step.Step}
 
 abbrev pub Bytes : Type 0
 Bytes = Vec ℕ Global

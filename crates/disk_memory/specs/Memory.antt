@@ -1,12 +1,9 @@
 -- A disk in memory, as a disk: the files that a crash may leave after its steps, the newest first.
 use Rattle.std.specs.Prelude.{◌≡◌, ◌≤◌, ◌⊎◌, ℕ, Bool, true, false, cond, List, [], ◌∷◌, length, reverse, Option}
-use Rattle.std.proofs.Common.{inl, inr, ◌∙◌, refl}
-use Rattle.std.proofs.Math.Nat.{lt_irrefl}
+use Rattle.std.proofs.{Common.inl, Common.inr, Common.◌∙◌, Common.refl, Math.Nat.lt_irrefl}
 use Rattle.disk_io.specs.Disk.{DiskState, Files}
-use Rattle.disk_memory.specs.Shown.{shown}
-use Rattle.disk_memory.specs.declared.memory_disk.MemoryDisk.{MemoryDisk}
-use Rattle.disk_memory.specs.declared.step.Step.{Step}
 use Rattle.disk_memory.specs.declared.step.Step.TheVariants.{Changed, Made, Removed, Renamed, Linked, Synced, FolderSynced, Crashed}
+use Rattle.disk_memory.specs.{Shown.shown, declared.memory_disk.MemoryDisk.MemoryDisk, declared.step.Step.Step}
 
 -- The two paths of a rename reach the disk together, unless a folder was synced since.
 abbrev pub AreTogether : List Step → (List ℕ → Bool) → Type 0

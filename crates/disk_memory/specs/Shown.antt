@@ -1,13 +1,9 @@
 -- A disk in memory at one path, and the effect of each step there.
 use Rattle.std.specs.Prelude.{ℕ, Bool, true, false, cond, ◌&&◌, ◌||◌, List, [], ◌∷◌, Option, Some, None, bytes_eq, Vec}
-use Rattle.std.specs.Borrow.{Bor}
-use Rattle.std.specs.declared.alloc.Global.{Global}
-use Rattle.disk_memory.specs.Paths.{is_in}
-use Rattle.disk_memory.specs.declared.shown.PathView.{PathView}
-use Rattle.disk_memory.specs.declared.step.Making.{Making}
-use Rattle.disk_memory.specs.declared.step.Making.TheVariants.{Lost, Half, Done}
-use Rattle.disk_memory.specs.declared.step.Step.{Step}
+use Rattle.std.specs.{Borrow.Bor, declared.alloc.Global.Global}
 use Rattle.disk_memory.specs.declared.step.Step.TheVariants.{Changed, Made, Removed, Renamed, Linked, Synced, FolderSynced, Crashed}
+use Rattle.disk_memory.specs.{Paths.is_in, declared.shown.PathView.PathView, declared.step.Making.Making}
+use Rattle.disk_memory.specs.declared.step.{Making.TheVariants.Lost, Making.TheVariants.Half, Making.TheVariants.Done, Step.Step}
 
 -- The state of one path.
 pub record Shown : Type 0 where

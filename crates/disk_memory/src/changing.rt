@@ -1,11 +1,8 @@
 //! Calls that change files: each adds one step, or nothing if it fails.
 ghost use Rattle.std.specs.Prelude.{◌≡◌, ◌≤◌, length, IfOk, IsSome, MatchResult};
-ghost use Rattle.disk_io.specs.Disk.{bytes_in};
-ghost use Rattle.disk_io.specs.Steps.{IsWrittenAt, TornWrite};
-ghost use Rattle.disk_io.specs.Runs.{HasCause};
+ghost use Rattle.disk_io.specs.{Disk.bytes_in, Steps.IsWrittenAt, Steps.TornWrite, Runs.HasCause};
 ghost use Rattle.disk_memory.specs.Calls.{AddsChange, AddsMaking, AddsRemoval, AddsRenaming, LinksWhereFree};
-ghost use Rattle.disk_memory.specs.Memory.{seen_at, kept_at};
-ghost use Rattle.disk_memory.specs.Shown.{file_of};
+ghost use Rattle.disk_memory.specs.{Memory.seen_at, Memory.kept_at, Shown.file_of};
 
 use crate::memory_disk::MemoryDisk;
 use crate::shown::{seen, view};

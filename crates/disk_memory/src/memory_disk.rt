@@ -1,8 +1,7 @@
 //! A disk in memory.
 ghost use Rattle.std.specs.Prelude.{◌≡◌, [], OnOk, OnErr};
 ghost use Rattle.disk_io.specs.Runs.{HasCause};
-ghost use Rattle.disk_memory.specs.Memory.{disk_after, steps_of};
-ghost use Rattle.disk_memory.specs.Restart.{IsAllOnDisk, IsCrashOf};
+ghost use Rattle.disk_memory.specs.{Memory.disk_after, Memory.steps_of, Restart.IsAllOnDisk, Restart.IsCrashOf};
 
 use crate::step::Step;
 use crate::tearing::Tear;

@@ -1,8 +1,8 @@
 //! The state of a disk in memory at a path.
 ghost use Rattle.std.specs.Prelude.{◌≡◌, reverse};
 ghost use Rattle.disk_io.specs.Disk.{bytes_in as bytes_of};
-ghost use Rattle.disk_memory.specs.Paths.{is_in};
 ghost use Rattle.disk_memory.specs.Shown.{after, after_making, after_renaming, after_linking, after_folder_sync, shown, shown_by, file_of, file_behind, kept_of, named_anew};
+ghost use Rattle.disk_memory.specs.Paths.{is_in};
 
 use crate::step::{Making, Step};
 

@@ -1,30 +1,19 @@
 -- A net with a checked area is in order.
 use Rattle.std.proofs.Common.{◌≡◌, refl, sym, subst, ap, ◌∙◌, ℕ, ◌≤◌, List, [], ◌∷◌, length, Option, Some, Ok}
-use Rattle.std.specs.Prelude.{Bool, IsTrue}
 use Rattle.std.proofs.lemmas.List.{append-nil}
-use Rattle.cmd_status.specs.Devices.{Output}
+use Rattle.std.specs.Prelude.{Bool, IsTrue}
+use Rattle.cmd_status.specs.{Devices.Output, declared.fault.Fault.Fault, declared.status.Status.TheVariants.Good, Inputs.AreLinkFiles}
 use Rattle.model_graph.specs.Walk.{Among}
 use Rattle.echo_links.specs.Links.{LinkFile, has_area, upper}
 use Rattle.echo_filed.specs.Filed.{Filed, key_of}
 use Rattle.model_steps.specs.declared.packet.Packet.{Packet}
-use Rattle.model_run.specs.Fits.{FilesFit}
-use Rattle.model_run.specs.Orderly.{FiledUnchanged, Orderly, Settled, sent_count}
 use Rattle.model_run.specs.Run.{Run, System, after_events, nth, start}
-use Rattle.model_run.specs.Tidy.{Tidy}
-use Rattle.cmd_status.specs.declared.fault.Fault.{Fault}
-use Rattle.cmd_status.specs.declared.status.Status.TheVariants.{Good}
+use Rattle.model_run.specs.{Fits.FilesFit, Orderly.FiledUnchanged, Orderly.Orderly, Orderly.Settled, Orderly.sent_count, Tidy.Tidy}
 use Rattle.cmd_check.specs.Checking.{CheckAnswers, RunsAreOrderly}
-use Rattle.cmd_status.specs.Inputs.{AreLinkFiles}
-use Rattle.law_stations.specs.Agreement.{HasSystem, IsPacketFile, limits_of}
-use Rattle.law_stations.specs.Commands.{CommandEvent}
 use Rattle.law_stations.specs.InOrder.{HasUnchanged, HeadlineOnNets, InOrder, IsSettled, ReadsAs}
-use Rattle.law_stations.specs.Nets.{Net, Paired}
-use Rattle.law_stations.proofs.EachEvent.{LedAll, led-from-first}
-use Rattle.law_stations.proofs.Pairs.{paired-back}
-use Rattle.law_stations.proofs.Readings.{one-packet}
+use Rattle.law_stations.specs.{Agreement.HasSystem, Agreement.IsPacketFile, Agreement.limits_of, Commands.CommandEvent, Nets.Net, Nets.Paired}
 use Rattle.law_stations.proofs.Sound.{files-fit, is-unchanged, reads, sound, represented}
-use Rattle.law_stations.proofs.Systems.{says-so}
-use Rattle.law_stations.proofs.Moving.{nth-middle}
+use Rattle.law_stations.proofs.{EachEvent.LedAll, EachEvent.led-from-first, Pairs.paired-back, Readings.one-packet, Systems.says-so, Moving.nth-middle}
 use Rattle.model_run.proofs.HarmLists.{among-nth}
 
 -- and as no other packet

@@ -2,16 +2,10 @@
 use Rattle.std.proofs.Common.{inr, sym, subst, ℕ, List, [], ◌∷◌, Option, Some, None}
 use Rattle.disk_io.specs.Disk.{DiskState}
 use Rattle.station.specs.Place.{Place}
-use Rattle.law_stations.specs.AnyDisks.{disks_at}
-use Rattle.law_stations.proofs.AnyDisks.{headline-from-any-disks}
-use Rattle.law_stations.specs.Commands.{Command, CommandEvent}
-use Rattle.law_stations.specs.Disks.{Disks, first_disks}
-use Rattle.law_stations.specs.Stopping.{MayHappenAll}
-use Rattle.law_stations.proofs.Shown.{headline-over-crashes}
-use Rattle.law_stations.specs.Seats.{AreNeighbours, AreSeated, Seat}
-use Rattle.law_stations.specs.Sequences.{HeadlineOverSequences, SequencesAreAmong, HeadlineFromAnySequences}
 use Rattle.law_stations.specs.Steps.{Crashes, Ends, Goes, GoesBy, GoesOn, Happening, IsCut, MayLead, Step, after, after_all, commands_by, commands_of, with_command}
-use Rattle.law_stations.proofs.Seated.{crashed, cut, ended}
+use Rattle.law_stations.specs.{AnyDisks.disks_at, Commands.Command, Commands.CommandEvent, Disks.Disks, Disks.first_disks, Stopping.MayHappenAll, Seats.AreNeighbours, Seats.AreSeated, Seats.Seat}
+use Rattle.law_stations.specs.Sequences.{HeadlineOverSequences, SequencesAreAmong, HeadlineFromAnySequences}
+use Rattle.law_stations.proofs.{AnyDisks.headline-from-any-disks, Shown.headline-over-crashes, Seated.crashed, Seated.cut, Seated.ended}
 
 module _ {D Kept : Type 0} (state : D → DiskState) (place : Kept → Place) (seats : List (Seat Kept)) (near : AreNeighbours place seats) where
   -- one step

@@ -4,25 +4,16 @@ use Rattle.std.specs.Prelude.{if◌then◌else◌}
 use Rattle.echo_addr.specs.declared.address.Address.{Address}
 use Rattle.model_graph.specs.Walk.{Among, Different}
 use Rattle.echo_links.specs.Links.{LinkFile, same_address, upper}
-use Rattle.echo_filed.specs.declared.key.Key.{Key}
-use Rattle.echo_filed.specs.Filed.{Filed, key_of}
+use Rattle.echo_filed.specs.{declared.key.Key.Key, Filed.Filed, Filed.key_of}
 use Rattle.model_steps.specs.declared.packet.Packet.{Packet}
-use Rattle.model_run.specs.Orderly.{copies, count, sent_count}
-use Rattle.model_run.specs.Run.{destination, nth}
-use Rattle.model_run.proofs.Lists.{nth-among}
+use Rattle.model_run.specs.{Orderly.copies, Orderly.count, Orderly.sent_count, Run.destination, Run.nth}
+use Rattle.model_run.proofs.{Lists.nth-among, HarmLists.nth-map, HarmLists.among-nth, Targets.some_same}
 use Rattle.law_stations.specs.Commands.{Command, CommandEvent, Post, Purge, Scan, Toss}
 use Rattle.law_stations.specs.InOrder.{HasUnchanged, InOrder, IsSettled, IsSound, IsUnchanged, ReadsAs, StationHolds, WasPurged}
-use Rattle.law_stations.specs.Nets.{Net, Paired, Station}
-use Rattle.law_stations.proofs.Headline.{headline-on-nets}
-use Rattle.law_stations.proofs.Pairs.{paired-among, paired-back, paired-nth}
-use Rattle.law_stations.proofs.Readings.{one-packet}
-use Rattle.law_stations.proofs.Sound.{nets-are-sound}
-use Rattle.law_stations.specs.Disks.{Disks}
 use Rattle.law_stations.specs.OverCrashes.{HasNet, HasSettled, HeadlineOverCrashes, InOrderOverCrashes, IsLike, IsLikeEvent, SoundOverCrashes}
-use Rattle.law_stations.proofs.Counting.{IsItem, picked-total, total}
-use Rattle.law_stations.proofs.EachCommand.{crashes-are-none}
-use Rattle.model_run.proofs.HarmLists.{nth-map, among-nth}
-use Rattle.model_run.proofs.Targets.{some_same}
+use Rattle.law_stations.specs.{Nets.Net, Nets.Paired, Nets.Station, Disks.Disks}
+use Rattle.law_stations.proofs.{Headline.headline-on-nets, Pairs.paired-among, Pairs.paired-back, Pairs.paired-nth, Readings.one-packet, Sound.nets-are-sound}
+use Rattle.law_stations.proofs.{Counting.IsItem, Counting.picked-total, Counting.total, EachCommand.crashes-are-none}
 
 -- a command like a purge is a purge
 like-purge : (command : Command) → IsLike command Purge → command ≡ Purge

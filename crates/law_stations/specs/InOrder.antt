@@ -1,25 +1,16 @@
 -- The promise about a net, for any commands.
 use Rattle.std.specs.Prelude.{◌≡◌, ◌≢◌, ℕ, ◌⊎◌, ◌≤◌, Bool, IsTrue, List, drop, map, take, Option, Some, Ok}
-use Rattle.cmd_status.specs.Devices.{Output}
+use Rattle.cmd_status.specs.{Devices.Output, declared.fault.Fault.Fault, declared.status.Status.TheVariants.Good, Inputs.AreLinkFiles}
 use Rattle.model_graph.specs.Walk.{Among, Different}
-use Rattle.echo_packet.specs.Packet.{PacketOf}
-use Rattle.echo_packet.specs.declared.limits.Limits.{Limits}
-use Rattle.echo_links.specs.Links.{LinkFile, has_area, upper}
-use Rattle.echo_links.specs.LinkLines.{LinksOf}
+use Rattle.echo_packet.specs.{Packet.PacketOf, declared.limits.Limits.Limits}
+use Rattle.echo_links.specs.{Links.LinkFile, Links.has_area, Links.upper, LinkLines.LinksOf}
 use Rattle.base_file.specs.Base.{IsBase}
-use Rattle.echo_filed.specs.declared.key.Key.{Key}
-use Rattle.echo_filed.specs.Filed.{Filed, key_of}
-use Rattle.echo_filed.specs.Stubs.{stub_of}
+use Rattle.echo_filed.specs.{declared.key.Key.Key, Filed.Filed, Filed.key_of, Stubs.stub_of}
 use Rattle.model_steps.specs.declared.packet.Packet.{Packet}
 use Rattle.model_run.specs.Orderly.{IsPosting, SameContent, copies, count, sent_count, tag_of}
 use Rattle.model_run.specs.Run.{nth}
-use Rattle.cmd_status.specs.declared.fault.Fault.{Fault}
-use Rattle.cmd_status.specs.declared.status.Status.TheVariants.{Good}
 use Rattle.cmd_check.specs.Checking.{CheckAnswers}
-use Rattle.cmd_status.specs.Inputs.{AreLinkFiles}
-use Rattle.law_stations.specs.Agreement.{file_address}
-use Rattle.law_stations.specs.Commands.{CommandEvent, Happen, Purge}
-use Rattle.law_stations.specs.Nets.{Net, Paired, Station, first_net}
+use Rattle.law_stations.specs.{Agreement.file_address, Commands.CommandEvent, Commands.Happen, Commands.Purge, Nets.Net, Nets.Paired, Nets.Station, Nets.first_net}
 
 -- The contents of a station: its link file, and the messages and the cursor of its base.
 pub record StationSays (station : Station) (file : LinkFile) (messages : List Filed) (cursor : ℕ) : Type 0 where

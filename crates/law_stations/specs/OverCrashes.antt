@@ -1,23 +1,15 @@
 -- The promise about the disks of a net, for any stops of its commands.
 use Rattle.std.specs.Prelude.{◌≡◌, ◌≢◌, ◌⊎◌, ◌<◌, ◌≤◌, ℕ, Bool, false, IsTrue, List, [], map, Option, Some, Ok}
-use Rattle.cmd_status.specs.Devices.{Output}
+use Rattle.cmd_status.specs.{Devices.Output, declared.fault.Fault.Fault, declared.status.Status.TheVariants.Good, Inputs.AreLinkFiles}
 use Rattle.model_graph.specs.Walk.{Among, Different}
 use Rattle.echo_links.specs.Links.{LinkFile, has_area, upper}
-use Rattle.echo_filed.specs.declared.key.Key.{Key}
-use Rattle.echo_filed.specs.Filed.{Filed, key_of}
+use Rattle.echo_filed.specs.{declared.key.Key.Key, Filed.Filed, Filed.key_of}
 use Rattle.model_steps.specs.declared.packet.Packet.{Packet}
-use Rattle.model_run.specs.Orderly.{IsPosting, copies, sent_count, tag_of}
-use Rattle.model_run.specs.Run.{nth}
-use Rattle.cmd_status.specs.declared.fault.Fault.{Fault}
-use Rattle.cmd_status.specs.declared.status.Status.TheVariants.{Good}
-use Rattle.cmd_status.specs.Inputs.{AreLinkFiles}
+use Rattle.model_run.specs.{Orderly.IsPosting, Orderly.copies, Orderly.sent_count, Orderly.tag_of, Run.nth}
 use Rattle.cmd_check.specs.Checking.{CheckAnswers}
-use Rattle.law_stations.specs.Agreement.{file_address}
 use Rattle.law_stations.specs.Commands.{Command, CommandEvent, Happen, Post, Purge, Scan, Toss}
 use Rattle.law_stations.specs.InOrder.{HasUnchanged, IsSettled, IsSound, ReadsAs, StationHolds}
-use Rattle.law_stations.specs.Nets.{Net, Paired, first_net}
-use Rattle.law_stations.specs.Disks.{StagingFile, Disks, HasCursor, first_disks}
-use Rattle.law_stations.specs.Stopping.{MayHappenAll}
+use Rattle.law_stations.specs.{Agreement.file_address, Nets.Net, Nets.Paired, Nets.first_net, Disks.StagingFile, Disks.Disks, Disks.HasCursor, Disks.first_disks, Stopping.MayHappenAll}
 
 -- A temporary file that did not get its name yet, after its scan moved the cursor: the next scan of the station will
 -- name it.

@@ -4,14 +4,10 @@ ghost use Rattle.std.specs.Prelude.{◌≡◌, Bool, List, Ok, Option};
 ghost use Rattle.base_file.specs.Base.{Base};
 ghost use Rattle.echo_links.specs.Links.{LinkFile};
 ghost use Rattle.echo_packet.specs.declared.limits.Limits.{Limits};
-ghost use Rattle.cmd_status.specs.Devices.{Output, device_of};
-ghost use Rattle.cmd_status.specs.declared.fault.Fault.{Fault};
+ghost use Rattle.cmd_status.specs.{Devices.Output, Devices.device_of, declared.fault.Fault.Fault};
 ghost use Rattle.cmd_report.specs.Coming.{Coming};
 ghost use Rattle.cmd_store.specs.Tossed.{Tosses, TossesTo};
-ghost use Rattle.law_stations.specs.Agreement.{EventIsEvents, EventsAreARun};
-ghost use Rattle.law_stations.specs.Commands.{TossesAll};
-ghost use Rattle.law_stations.specs.AnyNets.{HeadlineFromAnyState};
-ghost use Rattle.law_stations.specs.InOrder.{HeadlineOnNets, NetsAreSound};
+ghost use Rattle.law_stations.specs.{Agreement.EventIsEvents, Agreement.EventsAreARun, Commands.TossesAll, AnyNets.HeadlineFromAnyState, InOrder.HeadlineOnNets, InOrder.NetsAreSound};
 
 use cmd_report::PacketFiles;
 

@@ -1,8 +1,6 @@
 //! Laws about steps at stations. Each law is the contract of a function that does nothing.
 
-ghost use Rattle.law_stations.specs.Asked.{CommandsGoOn};
-ghost use Rattle.law_stations.specs.Scanned.{ScansGoOn, TossesGoOn};
-ghost use Rattle.law_stations.specs.Seats.{either};
+ghost use Rattle.law_stations.specs.{Asked.CommandsGoOn, Scanned.ScansGoOn, Scanned.TossesGoOn, Seats.either};
 ghost use Rattle.law_stations.specs.Sequences.{HeadlineFromAnySequences, HeadlineOverSequences, SequencesAreAmong};
 
 use disk_io::Disk;

@@ -1,25 +1,15 @@
 -- Base files by computation: saved bytes, reading them, and each fault.
 use Rattle.std.proofs.Common.{◌≡◌, ℕ, List, [], ◌∷◌, ◌++◌, ◌^◌, ◌<◌, refl, true, false, codes, length, lit<, lit≤, inl, arith, ◌+◌, sym, ap, subst, ◌∙◌, Ok, Err, replicate, inr}
+use Rattle.std.proofs.lemmas.List.{length-append, length-replicate}
 use Rattle.std.specs.Fmt.{digits}
 use Rattle.echo_addr.specs.Entries.{entries, pair_of, tokens}
-use Rattle.echo_text.specs.Lines.{after_word, begins, lines, trimmed}
-use Rattle.echo_text.specs.Tail.{kept_of, path_lists, seen_lists}
-use Rattle.echo_text.specs.Echo.{msgid_of}
-use Rattle.echo_text.specs.Ids.{id_of}
-use Rattle.echo_text.specs.Refusal.{text_refusal}
-use Rattle.echo_filed.specs.Sets.{entry_set}
-use Rattle.model_steps.specs.Stamps.{date_of}
-use Rattle.echo_filed.specs.Written.{echo_of, short_lines, text_of}
-use Rattle.model_steps.specs.Posting.{posted, posted_lines}
-use Rattle.echo_filed.specs.Stubs.{is_stub, stub_of}
-use Rattle.model_steps.specs.Purging.{changed, purged}
+use Rattle.echo_text.specs.{Lines.after_word, Lines.begins, Lines.lines, Lines.trimmed, Tail.kept_of, Tail.path_lists, Tail.seen_lists, Echo.msgid_of, Ids.id_of, Refusal.text_refusal}
 use Rattle.echo_filed.specs.Stored.{IsStored, Stored, message_in, stored_bytes, long}
-use Rattle.echo_filed.specs.declared.stored.Version.{Version}
-use Rattle.echo_filed.specs.declared.stored.Version.TheVariants.{First, Second}
+use Rattle.echo_filed.specs.{Sets.entry_set, Written.echo_of, Written.short_lines, Written.text_of, Stubs.is_stub, Stubs.stub_of, declared.stored.Version.Version}
+use Rattle.echo_filed.specs.{declared.stored.Version.TheVariants.First, declared.stored.Version.TheVariants.Second, Filed.key_of}
+use Rattle.model_steps.specs.{Stamps.date_of, Posting.posted, Posting.posted_lines, Purging.changed, Purging.purged}
 use Rattle.base_file.specs.BaseFile.{BaseFaultOf, BaseOf, EndsInside, IsNoBase, head_bytes, is_damaged, saved_bytes, stored_at, IsDamagedAt, LoadOf, magic}
 use Rattle.model_run.proofs.Examples.{date_bytes, first_posting, id_text, kept_text}
-use Rattle.std.proofs.lemmas.List.{length-append, length-replicate}
-use Rattle.echo_filed.specs.Filed.{key_of}
 use Rattle.base_file.specs.declared.fault.BaseFault.TheVariants as fault
 
 -- a number below 256 in four bytes

@@ -1,30 +1,16 @@
 -- Nets with changing link files, by computation: one that stays in order, and for each premise of the law on such nets
 -- a run that misses it and is not orderly.
 use Rattle.std.proofs.Common.{◌≡◌, ℕ, List, [], ◌∷◌, codes, map, arith}
-use Rattle.std.specs.Prelude.{Bool, true, filter}
-use Rattle.std.specs.Fmt.{digits}
+use Rattle.std.specs.{Prelude.Bool, Prelude.true, Prelude.filter, Fmt.digits}
 use Rattle.echo_addr.specs.Entries.{entries, pair_of, tokens}
-use Rattle.echo_text.specs.Lines.{lines, trimmed, begins, after_word}
-use Rattle.echo_text.specs.Tail.{kept_of, path_lists, seen_lists}
-use Rattle.echo_text.specs.Echo.{msgid_of}
-use Rattle.echo_text.specs.Ids.{id_of}
-use Rattle.echo_text.specs.Refusal.{text_refusal}
+use Rattle.echo_text.specs.{Lines.lines, Lines.trimmed, Lines.begins, Lines.after_word, Tail.kept_of, Tail.path_lists, Tail.seen_lists, Echo.msgid_of, Ids.id_of, Refusal.text_refusal}
 use Rattle.echo_links.specs.Links.{LinkFile, links_of}
-use Rattle.echo_filed.specs.declared.key.Key.{Key}
-use Rattle.echo_filed.specs.declared.key.Key.TheVariants.{ById}
-use Rattle.echo_filed.specs.Sets.{address_set, entry_set}
-use Rattle.echo_filed.specs.Written.{echo_of, short_lines, text_of}
+use Rattle.echo_filed.specs.{declared.key.Key.Key, declared.key.Key.TheVariants.ById, Sets.address_set, Sets.entry_set, Written.echo_of, Written.short_lines, Written.text_of}
 use Rattle.echo_filed.specs.Filed.{key_of, same_key}
-use Rattle.model_steps.specs.declared.draft.Draft.{Draft}
-use Rattle.model_steps.specs.Stamps.{date_of}
-use Rattle.model_steps.specs.Posting.{post_refusal, posted, posted_lines, posting}
 use Rattle.model_steps.specs.Scanning.{copy_to, exported, header_to, packet_to, packets_of, recipients, scanned, targets}
+use Rattle.model_steps.specs.{declared.draft.Draft.Draft, Stamps.date_of, Posting.post_refusal, Posting.posted, Posting.posted_lines, Posting.posting}
 use Rattle.model_steps.specs.Tossing.{received, toss_outcome, tossing}
-use Rattle.model_run.specs.Event.{RunEvent, Delivery, Posting}
-use Rattle.model_run.specs.Run.{Run}
-use Rattle.model_run.specs.Orderly.{count, sent_count}
-use Rattle.model_run.specs.World.{is_settled}
-use Rattle.model_run.specs.Epochs.{Epoch, run_of_epochs}
+use Rattle.model_run.specs.{Event.RunEvent, Event.Delivery, Event.Posting, Run.Run, Orderly.count, Orderly.sent_count, World.is_settled, Epochs.Epoch, Epochs.run_of_epochs}
 use Rattle.model_run.proofs.NetExamples.{address, chain, draft, file, post, scan, stamp}
 
 -- a system without the area

@@ -1,31 +1,15 @@
 -- The worked example of a first posting, by computation: the message, the packet of its scan, and the next hop.
 use Rattle.std.proofs.Common.{◌≡◌, ℕ, List, [], ◌∷◌, ◌++◌, refl, Some, codes, length, map, replicate, Ok, Err, inr}
 use Rattle.std.specs.Fmt.{digits}
-use Rattle.echo_addr.specs.declared.address.Address.{Address}
-use Rattle.echo_addr.specs.Entries.{entries, pair_of, tokens}
-use Rattle.echo_packet.specs.declared.header.Header.{Header}
-use Rattle.echo_packet.specs.Header.{header_bytes}
-use Rattle.echo_packet.specs.Message.{Message, numbers}
-use Rattle.echo_packet.specs.Packet.{packet_bytes}
-use Rattle.echo_text.specs.Lines.{after_word, begins, lines, trimmed}
-use Rattle.echo_text.specs.Tail.{kept_of, path_lists, seen_lists}
-use Rattle.echo_text.specs.Ids.{id_of}
-use Rattle.model_steps.specs.declared.draft.Draft.{Draft}
-use Rattle.model_steps.specs.declared.stamp.Stamp.{Stamp}
-use Rattle.model_steps.specs.declared.packet.Packet.{Packet}
-use Rattle.echo_filed.specs.Sets.{address_set, entry_set}
-use Rattle.model_steps.specs.Stamps.{date_of}
-use Rattle.echo_links.specs.Links.{LinkFile, links_of}
-use Rattle.echo_filed.specs.Written.{echo_of, short_lines, text_of}
-use Rattle.echo_filed.specs.Filed.{Filed, key_of}
-use Rattle.model_steps.specs.Posting.{posted, posted_lines, PostStep, post_refusal}
+use Rattle.echo_addr.specs.{declared.address.Address.Address, Entries.entries, Entries.pair_of, Entries.tokens}
+use Rattle.echo_packet.specs.{declared.header.Header.Header, Header.header_bytes, Message.Message, Message.numbers, Packet.packet_bytes}
+use Rattle.echo_text.specs.{Lines.after_word, Lines.begins, Lines.lines, Lines.trimmed, Tail.kept_of, Tail.path_lists, Tail.seen_lists, Ids.id_of, Echo.msgid_of, Refusal.text_refusal}
 use Rattle.model_steps.specs.Tossing.{destination_of, sender_of, received, outcomes, toss_outcome, tossing, TossStep, tossed}
 use Rattle.model_steps.specs.Scanning.{copy_to, exported, header_to, packet_to, packets_of, recipients, scanned, targets, ScanStep}
-use Rattle.echo_text.specs.Echo.{msgid_of}
-use Rattle.echo_text.specs.Refusal.{text_refusal}
-use Rattle.model_steps.specs.SystemState.{SystemState}
-use Rattle.echo_filed.specs.Stubs.{bare, is_stub, stub_of}
-use Rattle.model_steps.specs.Purging.{PurgeStep, changed, purged}
+use Rattle.model_steps.specs.{declared.draft.Draft.Draft, declared.stamp.Stamp.Stamp, declared.packet.Packet.Packet, Stamps.date_of}
+use Rattle.model_steps.specs.{Posting.posted, Posting.posted_lines, Posting.PostStep, Posting.post_refusal, SystemState.SystemState, Purging.PurgeStep, Purging.changed, Purging.purged}
+use Rattle.echo_filed.specs.{Sets.address_set, Sets.entry_set, Written.echo_of, Written.short_lines, Written.text_of, Filed.Filed, Filed.key_of, Stubs.bare, Stubs.is_stub, Stubs.stub_of}
+use Rattle.echo_links.specs.Links.{LinkFile, links_of}
 use Rattle.model_steps.specs.declared.outcome.Outcome.TheVariants as outcome
 use Rattle.model_steps.specs.declared.fault.PostFault.TheVariants as post
 use Rattle.model_steps.specs.declared.fault.ScanFault.TheVariants as scan

@@ -1,24 +1,15 @@
 -- Postings by computation: accepted ones, and the first refusal that applies.
 use Rattle.std.proofs.Common.{◌≡◌, [], ◌∷◌, refl, Some, None, codes, replicate, ℕ, List, ◌++◌, arith}
 use Rattle.std.specs.Fmt.{digits}
-use Rattle.echo_text.specs.Lines.{after_word, begins, lines, trimmed}
-use Rattle.echo_text.specs.Echo.{msgid_of}
-use Rattle.echo_text.specs.Ids.{id_of, is_id}
+use Rattle.echo_text.specs.{Lines.after_word, Lines.begins, Lines.lines, Lines.trimmed, Echo.msgid_of, Ids.id_of, Ids.is_id, Tail.kept_of, Tail.path_lists, Tail.seen_lists, Refusal.text_refusal}
 use Rattle.echo_links.specs.Links.{LinkFile}
-use Rattle.model_steps.specs.Posting.{post_refusal, posted, posted_lines, posting}
+use Rattle.model_steps.specs.{Posting.post_refusal, Posting.posted, Posting.posted_lines, Posting.posting, Purging.changed, Purging.purged}
 use Rattle.model_run.proofs.Examples.{draft, first_file, first_posting, first_received, posting_of, stamp, date_bytes}
+use Rattle.model_run.proofs.BaseExamples.{size_with, small, stored_with}
 use Rattle.echo_addr.specs.Entries.{entries, pair_of, tokens}
-use Rattle.echo_text.specs.Tail.{kept_of, path_lists, seen_lists}
-use Rattle.echo_text.specs.Refusal.{text_refusal}
-use Rattle.echo_filed.specs.Sets.{entry_set}
-use Rattle.echo_filed.specs.Written.{echo_of, short_lines, text_of}
-use Rattle.echo_filed.specs.Filed.{Filed}
-use Rattle.echo_filed.specs.Stubs.{is_stub, stub_of}
-use Rattle.model_steps.specs.Purging.{changed, purged}
-use Rattle.echo_filed.specs.Stored.{message_in, stored_bytes}
+use Rattle.echo_filed.specs.{Sets.entry_set, Written.echo_of, Written.short_lines, Written.text_of, Filed.Filed, Stubs.is_stub, Stubs.stub_of, Stored.message_in, Stored.stored_bytes}
 use Rattle.echo_filed.specs.declared.stored.Version.TheVariants.{First}
 use Rattle.base_file.specs.BaseFile.{BaseOf, head_bytes, is_damaged, saved_bytes, stored_at}
-use Rattle.model_run.proofs.BaseExamples.{size_with, small, stored_with}
 use Rattle.model_steps.specs.declared.fault.PostFault.TheVariants as fault
 
 small_letters : posting first_file [] (codes "test") draft 1 stamp ≡ Some first_posting

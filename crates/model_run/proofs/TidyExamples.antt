@@ -1,17 +1,13 @@
 -- A net that is tidy, and for each clause of `Tidy` a net that breaks it.
 use Rattle.std.proofs.Common.{◌≡◌, ◌≢◌, ◌⊎◌, inl, inr, refl, sym, subst, ap, ◌∙◌, ℕ, arith, IsTrue, List, [], ◌∷◌, codes}
 use Rattle.std.specs.Prelude.{true, false}
-use Rattle.echo_addr.specs.declared.address.Address.{Address}
-use Rattle.echo_addr.specs.Address.{net_node_of}
-use Rattle.echo_addr.specs.declared.address.NetNode.{NetNode}
-use Rattle.model_graph.specs.Walk.{Among, Reaches, Walk}
-use Rattle.model_graph.specs.Cycle.{Cycle}
+use Rattle.echo_addr.specs.{declared.address.Address.Address, Address.net_node_of, declared.address.NetNode.NetNode}
+use Rattle.model_graph.specs.{Walk.Among, Walk.Reaches, Walk.Walk, Cycle.Cycle}
 use Rattle.echo_links.specs.Links.{LinkFile, links_of}
 use Rattle.model_run.specs.Tidy.{Carries, Tidy, lists}
-use Rattle.model_run.proofs.TosserLaws.{the_laws}
-use Rattle.model_graph.proofs.Members.{Among-at}
-use Rattle.model_run.proofs.Lists.{and-parts, any-from, not_both, Among-map_to}
 use Rattle.model_run.proofs.NetExamples.{address, beside, far, file, one_sided, over_zones, own_link, ring, triangle, two_files}
+use Rattle.model_run.proofs.{TosserLaws.the_laws, Lists.and-parts, Lists.any-from, Lists.not_both, Lists.Among-map_to}
+use Rattle.model_graph.proofs.Members.{Among-at}
 
 abbrev pub test : List ℕ
 test = codes "TEST"

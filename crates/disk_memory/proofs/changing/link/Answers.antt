@@ -1,11 +1,7 @@
 use Rattle.std.proofs.Common.{◌≡◌, List, [], ◌∷◌, ◌++◌, ◌∙◌, ap, sym, rules}
-use Rattle.std.specs.Prelude.{Vec, None, is_some, false}
-use Rattle.std.specs.declared.alloc.Global.{Global}
+use Rattle.std.specs.{Prelude.Vec, Prelude.None, Prelude.is_some, Prelude.false, declared.alloc.Global.Global}
 use Rattle.disk_io.specs.Disk.{bytes_in}
-use Rattle.disk_memory.specs.Memory.{seen_at}
-use Rattle.disk_memory.specs.Shown.{Shown}
-use Rattle.disk_memory.specs.declared.step.Step.{Step}
-use Rattle.disk_memory.specs.declared.step.Step.TheVariants.{Linked}
+use Rattle.disk_memory.specs.{Memory.seen_at, Shown.Shown, declared.step.Step.Step, declared.step.Step.TheVariants.Linked}
 use Rattle.disk_memory.proofs.Effects.{some_bytes, none_behind}
 use Rattle.disk_memory.proofs.changing.link.Goals as goal
 

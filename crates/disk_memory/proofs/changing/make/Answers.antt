@@ -1,8 +1,6 @@
 use Rattle.std.proofs.Common.{◌≡◌, [], ◌∷◌, ◌++◌, ◌∙◌, ap, rules}
-use Rattle.std.specs.Prelude.{Vec}
-use Rattle.std.specs.declared.alloc.Global.{Global}
-use Rattle.disk_memory.specs.declared.step.Step.{Step}
-use Rattle.disk_memory.specs.declared.step.Step.TheVariants.{Made}
+use Rattle.std.specs.{Prelude.Vec, declared.alloc.Global.Global}
+use Rattle.disk_memory.specs.declared.step.Step.{Step, TheVariants.Made}
 use Rattle.disk_memory.proofs.changing.make.Goals as goal
 
 pub returns-clause-adds : goal.returns-clause-adds

@@ -1,10 +1,7 @@
 use Rattle.std.proofs.Common.{◌≡◌, List, [], ◌∷◌, ◌++◌, ◌∙◌, ap, rules}
-use Rattle.std.specs.Prelude.{Vec}
-use Rattle.std.specs.declared.alloc.Global.{Global}
+use Rattle.std.specs.{Prelude.Vec, declared.alloc.Global.Global}
 use Rattle.disk_io.specs.Disk.{bytes_in}
-use Rattle.disk_memory.specs.Memory.{seen_at}
-use Rattle.disk_memory.specs.declared.step.Step.{Step}
-use Rattle.disk_memory.specs.declared.step.Step.TheVariants.{Renamed}
+use Rattle.disk_memory.specs.{Memory.seen_at, declared.step.Step.Step, declared.step.Step.TheVariants.Renamed}
 use Rattle.disk_memory.proofs.Effects.{some_bytes}
 use Rattle.disk_memory.proofs.changing.rename.Goals as goal
 

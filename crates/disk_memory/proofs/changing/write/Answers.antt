@@ -1,12 +1,7 @@
 use Rattle.std.proofs.Common.{◌≡◌, List, [], ◌∷◌, ◌++◌, length, ◌∙◌, ap, subst, rules}
-use Rattle.std.specs.Prelude.{Vec}
-use Rattle.std.specs.declared.alloc.Global.{Global}
-use Rattle.disk_io.specs.Disk.{bytes_in}
-use Rattle.disk_io.specs.Steps.{IsWrittenAt, TornWrite}
-use Rattle.disk_memory.specs.Memory.{seen_at, kept_at}
-use Rattle.disk_memory.specs.Shown.{file_of}
-use Rattle.disk_memory.specs.declared.step.Step.{Step}
-use Rattle.disk_memory.specs.declared.step.Step.TheVariants.{Changed}
+use Rattle.std.specs.{Prelude.Vec, declared.alloc.Global.Global}
+use Rattle.disk_io.specs.{Disk.bytes_in, Steps.IsWrittenAt, Steps.TornWrite}
+use Rattle.disk_memory.specs.{Memory.seen_at, Memory.kept_at, Shown.file_of, declared.step.Step.Step, declared.step.Step.TheVariants.Changed}
 use Rattle.disk_memory.proofs.changing.write.Goals as goal
 
 pub returns-clause-adds : goal.returns-clause-adds

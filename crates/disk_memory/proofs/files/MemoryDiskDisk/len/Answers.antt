@@ -1,9 +1,7 @@
 use Rattle.std.proofs.Common.{reverse, sym, subst, arith}
-use Rattle.std.specs.Prelude.{Vec}
-use Rattle.std.specs.declared.alloc.Global.{Global}
+use Rattle.std.specs.{Prelude.Vec, declared.alloc.Global.Global}
 use Rattle.disk_io.specs.Runs.{ChangesNothing}
-use Rattle.disk_memory.specs.Memory.{disk_after, steps_of}
-use Rattle.disk_memory.specs.declared.step.Step.{Step}
+use Rattle.disk_memory.specs.{Memory.disk_after, Memory.steps_of, declared.step.Step.Step}
 use Rattle.disk_memory.proofs.Effects.{nothing_done}
 use Rattle.disk_memory.proofs.files.MemoryDiskDisk.len.Goals as goal
 

@@ -1,5 +1,4 @@
-use Rattle.disk_memory.proofs.Gone.{none_durable}
-use Rattle.disk_memory.proofs.Settled.{folder_quiet, paths_durable}
+use Rattle.disk_memory.proofs.{Gone.none_durable, Settled.folder_quiet, Settled.paths_durable}
 use Rattle.disk_memory.proofs.files.MemoryDiskDisk.sync_folder.Goals as goal
 
 pub returns-clause-quiet : goal.returns-clause-quiet

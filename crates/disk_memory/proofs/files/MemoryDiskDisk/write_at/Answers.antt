@@ -1,6 +1,5 @@
 use Rattle.std.proofs.Common.{length}
-use Rattle.disk_io.specs.Disk.{bytes_in}
-use Rattle.disk_io.specs.Steps.{IsWrittenAt, TornWrite}
+use Rattle.disk_io.specs.{Disk.bytes_in, Steps.IsWrittenAt, Steps.TornWrite}
 use Rattle.disk_io.proofs.Tearing.{TornWrite-none}
 use Rattle.disk_memory.specs.Memory.{seen_at, kept_at}
 use Rattle.disk_memory.proofs.Rewritten.{whole_write, change_effect, change_seen}
