@@ -51,15 +51,6 @@ impl Base {
         })
     }
 
-    pub(crate) fn copy(&self, alloc: Global) -> Result<Base, AllocError> {
-        Ok(Base {
-            messages: self.messages.as_slice().to_vec(alloc)?,
-            keys: self.keys.as_slice().to_vec(alloc)?,
-            cursor: self.cursor,
-            mark: self.mark,
-        })
-    }
-
     pub(crate) fn is(&self, other: &Base) -> bool {
         self.messages.as_slice() == other.messages.as_slice()
             && self.keys.as_slice() == other.keys.as_slice()

@@ -1,3 +1,4 @@
+//! The lines of faults that no row of examples/cases shows.
 use base_file::BaseFault;
 use cmd_status::Fault;
 use disk_io::Watched;
@@ -7,7 +8,7 @@ use echo_packet::{Field, PacketFault};
 use echo_text::TextFault;
 use model_steps::{PostFault, ScanFault};
 
-/// The faults that no row of examples/cases shows, the line that reports each, and the status.
+/// Each of these faults, the line that reports it, and the status.
 const LINES: &[(Fault<'static>, &str, u8)] = &[
     (
         Fault::Packet(PacketFault::Read { at: 58 }),
