@@ -1,5 +1,5 @@
 #!/usr/bin/env bash
-# Tries the scripts of examples/net on a net of three systems whose mailer is `mv`: stopped scans; packets that are
+# Tries the scripts of station on a net of three systems whose mailer is `mv`: stopped scans; packets that are
 # cut, for another system or not filed; held links; runs at the same time; stopped readers; the log and the settings
 # of a station. Arguments: the program, and whether the bases are `files` or `folders`. The last station has a base of
 # the other kind.
@@ -9,11 +9,11 @@ cd "$(dirname "$0")/.."
 . scripts/net_calls.sh
 program=$(realpath "${1:-bin/echonet}")
 kind=${2:-files}
-scripts=$PWD/examples/net
+scripts=$PWD/station
 export ECHONET=$program
 place=$(mktemp -d)
 trap 'rm -rf "$place"' EXIT
-cp -r "$scripts"/{one,two,three} "$place"
+cp -r examples/net/{one,two,three} "$place"
 cd "$place"
 
 to_two=000a0002

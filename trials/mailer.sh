@@ -1,5 +1,5 @@
 #!/usr/bin/env bash
-# The scripts of examples/net in an unlucky world. A mailer may receive names that are not UTF-8, very long names, and
+# The scripts of station in an unlucky world. A mailer may receive names that are not UTF-8, very long names, and
 # names that would steer a terminal. It may receive a folder, a pipe, a link to nothing, and a packet that needs more
 # memory than there is. The packets after it are tossed. Also: a scan whose script alone is killed, a flow file that
 # cannot be written, and holds of processes that have ended. Also what a power cut leaves, and a log that cannot be
@@ -10,7 +10,7 @@ cd "$(dirname "$0")/.."
 export ECHONET=$program
 cp -r "$top"/examples/net/{one,two} "$work"
 cd "$work"
-scripts=$top/examples/net
+scripts=$top/station
 
 post() { echo "Body of $1" | "$scripts/post.sh" one TEST All Ann "$1" > said; }
 scan() { timeout 20 "$scripts/scan-outbound.sh" one; }
