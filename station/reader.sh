@@ -2,6 +2,7 @@
 # reader.sh STATION AREA DIR: lets a reader such as GoldED read and write an area in the folder DIR of stored messages
 # (N.msg).
 # reader.sh --jam STATION AREA PATH: the same in the JAM base PATH (PATH.jhr and so on).
+# reader.sh STATION FILE: the same for all areas of FILE (readers.sh).
 #
 # In a folder it posts what an editor wrote (Local, not Sent, and under no id of the base), and moves it to
 # DIR/posted. A refused message goes to DIR/refused, with the fault and the note on it in NAME.why. Then the new
@@ -33,9 +34,11 @@ if [ "${1:-}" = --jam ]; then
     unlocked=yes
     shift
   fi
+elif [ $# -eq 2 ]; then
+  exec "$here/readers.sh" "$@"
 fi
 if [ $# -ne 3 ]; then
-  echo "usage: reader.sh [--jam [--unlocked]] STATION AREA DIR" >&2
+  echo "usage: reader.sh [--jam [--unlocked]] STATION AREA DIR, or reader.sh STATION FILE" >&2
   exit 4
 fi
 work=
@@ -106,6 +109,7 @@ if [ $form = --jam ]; then
   fi
   if [ $posted -gt 2 ]; then exit $posted; fi
   add_new "$3" "$3.next"
+  if [ -e "$3.jhr" ]; then run_locked stat -c '%.Y %s' "$3.jhr" > "$3.seen"; fi
   exit $posted
 fi
 

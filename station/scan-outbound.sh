@@ -6,6 +6,10 @@
 # line in the flow file of its link. That is in STATION/outbound for links of the own zone, in STATION/outbound.00z
 # for those of zone z. STATION/settings may name other folders (station.sh).
 #
+# For a station with a file `peers`, `echonet-station` then packs letters, and writes passwords and points into the
+# packets. If that fails, nothing is handed over: a link would refuse a packet without its password. The flow file of a
+# point is that of its boss with `.pnt/` and the number of the point.
+#
 # If the mailer holds a link (NAME.bsy), its packets wait for the next run. If the link file names no own address,
 # nothing is handed over. STATION/log gets a line for each packet that was handed over. Runs may start at the same
 # time: each waits for the one before it, and for its scan, even if that run was killed. A run that cannot begin ends
@@ -62,14 +66,25 @@ new_name() {
     mv "$station/last-name.new" "$station/last-name" && sync "$station" && echo "$name"
 }
 
+# Whether a link is a point, which has a flow file of its own. Arguments: zone, net, node.
+is_point() {
+  [ $peered -eq 1 ] && grep -Eq "^[[:blank:]]*POINT[[:blank:]]+0*$1:0*$2/0*$3[[:blank:]]" "$station/peers"
+}
+
 # The flow file of a packet's link, without its ending. Its folder is on the disk then. Arguments: zone, net, node.
 flow_file() {
-  folder=$outbound
-  if [ "$1" -ne "${own%%:*}" ]; then folder=$folder.$(printf '%03x' "$1"); fi
+  if is_point "$@"; then
+    file=$("$tool" "$station" flow "$@") || return 1
+  else
+    file=$outbound
+    if [ "$1" -ne "${own%%:*}" ]; then file=$file.$(printf '%03x' "$1"); fi
+    file=$file/$(printf '%04x%04x' "$2" "$3")
+  fi
+  folder=${file%/*}
   if [ ! -d "$folder" ]; then
     if ! mkdir -p "$folder" || ! sync "${folder%/*}"; then return 1; fi
   fi
-  printf '%s/%04x%04x\n' "$folder" "$2" "$3"
+  printf '%s\n' "$file"
 }
 
 # A hold on a link is a file NAME.bsy with the number of the process that holds it. This tests whether another process
@@ -96,7 +111,8 @@ end_left() {
 # while it is held, and no other run holds a link at the same time. So the content of the file does not matter.
 second_name="~$(printf '%s' "$own" | tr ':/' '..')~.hold"
 release_left() {
-  for second in "$outbound"/*."$second_name" "$outbound".*/*."$second_name"; do
+  for second in "$outbound"/*."$second_name" "$outbound".*/*."$second_name" "$outbound"/*.pnt/*."$second_name" \
+    "$outbound".*/*.pnt/*."$second_name"; do
     if [ ! -e "$second" ]; then continue; fi
     left=${second%".$second_name"}.bsy
     # shellcheck disable=SC3013
@@ -188,6 +204,16 @@ status=0
 scanned=$("$program" scan --explain --at now "$station/links" "$station/base" "$station/scanned") || status=$?
 if [ -n "$scanned" ]; then printf '%s\n' "$scanned" || status=3; fi
 sync "$station"
+
+# Letters get packets of their own. Their status counts if the scan had none.
+undressed=0
+if [ $peered -eq 1 ] && [ -n "$own" ]; then
+  if is_any "$station"/netmail/*.[mM][sS][gG] "$station/letters/plan"; then
+    "$tool" "$station" letters --locked || { lettered=$?; if [ $status -eq 0 ]; then status=$lettered; fi; }
+  fi
+  if is_any "$station"/scanned/*.pkt; then "$tool" "$station" dress --locked || undressed=$?; fi
+fi
+if [ $undressed -ne 0 ]; then exit $undressed; fi
 for packet in "$station"/scanned/*.pkt; do
   if [ ! -e "$packet" ]; then continue; fi
   if [ -z "$own" ]; then

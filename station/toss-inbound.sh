@@ -9,11 +9,15 @@
 # note on it and a line for each refused message. The packets after it are tossed. The status is 1 then, and standard
 # error has a line. A NAME.why without its packet is removed by the next run. STATION/log gets a line for each packet
 # that was tossed or put aside. Other files stay in STATION/inbound. A line reports each that is there for ten minutes,
-# once, and the status is 1.
+# once. If it looks like mail, the status is 1.
+#
+# For a station with a file `peers`, `echonet-station STATION gate` takes the files in: packets and bundles. It checks
+# passwords and files letters. If it fails, the packets that it passed on before are tossed.
 #
 # If a disk fails, or the link file or the base is refused, the packets stay for the next run, and the status is that
-# of the program. A run that cannot begin ends with 3. STATION/settings may name another folder than STATION/inbound (station.sh). Runs may start at the
-# same time: each waits for the one before it. The program is `echonet` of the PATH, or the one that ECHONET names.
+# of the program. A run that cannot begin ends with 3. STATION/settings may name another folder than STATION/inbound
+# (station.sh). Runs may start at the same time: each waits for the one before it. The program is `echonet` of the
+# PATH, or the one that ECHONET names.
 set -eu
 LC_ALL=C
 export LC_ALL
@@ -24,13 +28,15 @@ if [ $# -ne 1 ]; then
 fi
 begun=0
 aside=0
+gated=0
 work=
 
 # Removes the files of this run. Status 1 reports a file that was put aside or left, and nothing else. A shell also ends
-# with 1 or 2 if a device fails before the run begins.
+# with 1 or 2 if a device fails before the run begins. A fault of the gate is the status.
 clean_up() {
   ended=$?
   if [ -n "$work" ]; then rm -rf "$work"; fi
+  if [ $gated -gt 1 ]; then exit $gated; fi
   if [ $ended -eq 1 ] && [ $aside -eq 0 ]; then exit 3; fi
   if [ $ended -ne 0 ] && [ $ended -ne 4 ] && [ $begun -eq 0 ]; then exit 3; fi
 }
@@ -225,25 +231,53 @@ report_left() {
       print second, $0 > ENVIRON["NEW"]
     }' "$station/left" "$list" > "$faults"
   while IFS= read -r name; do
+    kind='no packet' is_mail=1
     case $name in
       *.[mM][oO]? | *.[tT][uUhH]? | *.[wW][eE]? | *.[fF][rR]? | *.[sS][aAuU]?) kind='a bundle, which this station does not open' ;;
+      *.[pP][kK][tT]) kind='a packet for another station' ;;
       *.[bB][aA][dD]) kind='the mailer refused it' ;;
-      *) kind='no packet' ;;
+      *) is_mail=0 ;;
     esac
     show "$name"
     printf 'left %s: %s\n' "$shown" "$kind" >&2
     log "left $shown $kind"
-    aside=1
+    if [ $is_mail -eq 1 ]; then aside=1; fi
   done < "$faults"
   mv "$station/left.new" "$station/left"
 }
 
+# Whether the gate has anything to do. Most runs bring nothing, and start nothing.
+has_gate_work() {
+  is_any "$inbound"/*.[pP][kK][tT] "$inbound"/*.[mM][oO]? "$inbound"/*.[tT][uU]? "$inbound"/*.[wW][eE]? \
+    "$inbound"/*.[tT][hH]? "$inbound"/*.[fF][rR]? "$inbound"/*.[sS][aA]? "$inbound"/*.[sS][uU]? "$station"/gate/*.in
+}
+
+# The gate takes the files in. Its status is 1 if it put something aside.
+pass_gate() {
+  "$tool" "$station" gate --locked || gated=$?
+  case $gated in
+    0 | 2) ;;
+    1) aside=1 ;;
+    *) gated=3 ;;
+  esac
+}
+
+# Ends a run in which nothing failed but perhaps the log.
+end_run() {
+  if [ $unlogged -ne 0 ]; then exit $unlogged; fi
+  exit $aside
+}
+
 remove_reasons
-set -- "$inbound"/*.[pP][kK][tT]
-if is_there "$1"; then take_in "$@"; fi
+if [ $peered -eq 1 ]; then
+  if has_gate_work; then pass_gate; fi
+else
+  set -- "$inbound"/*.[pP][kK][tT]
+  if is_there "$1"; then take_in "$@"; fi
+fi
 report_left
 set -- "$station"/tossing/*.pkt
-if ! is_there "$1"; then exit $aside; fi
+if ! is_there "$1"; then end_run; fi
 
 # All packets at once, since each toss opens the base once. If anything goes wrong, one by one.
 printf '%s\0' "$@" > "$list"
@@ -257,5 +291,4 @@ if toss "$list" && all_filed $#; then
 else
   for packet in "$@"; do toss_one "$packet"; done
 fi
-if [ $unlogged -ne 0 ]; then exit $unlogged; fi
-exit $aside
+end_run

@@ -197,4 +197,113 @@ run env PATH="$work/tools" "$work/tools/sh" "$scripts/reader.sh" --jam one NEWS 
 expect "without Python the run is refused" [ "$status $(grep -c unlocked fault) $(last) $(cksum < one/jam.jhr)" = "3 1 $before" ]
 run env PATH="$work/tools" "$work/tools/sh" "$scripts/reader.sh" --jam --unlocked one NEWS one/jam
 expect "with --unlocked it posts" grep -q '^posted NEWS' said
+
+# All areas of a reader by one run: three areas, of which the last is in a folder with a blank in its name.
+rm -rf one/base one/msg one/jam*
+mkdir -p one/base one/read
+printf 'SYSTEM 1:10/1\nNAME Alpha\nAREA TEST 1:10/2\nAREA NEWS 1:10/2\nAREA ODD 1:10/2\n' > one/links
+printf '; the areas\n\nTest msg read/test/\r\n  NEWS  jam  %s/one/read/news\nODD msg read/an odd one  \n' "$work" > one/readers
+printf '#!/bin/sh\necho "$*" >> "%s/calls"\nexec "%s" "$@"\n' "$work" "$program" > counted
+chmod +x counted
+: > calls
+# File systems keep times to two seconds at worst, so a run looks at files again that changed shortly before it.
+all() {
+  sleep 2.1
+  : > calls
+  run env ECHONET="$work/counted" "$scripts/reader.sh" one one/readers
+}
+for area in TEST NEWS ODD; do post "First of $area" "$area"; done
+all
+expect "one run does all areas" [ "$status $(cat said | xargs)" = \
+  "0 TEST: exported 1 messages, next 3 NEWS: exported 1 messages, next 3 ODD: exported 1 messages, next 3" ]
+expect "where the file says" [ "$(ls one/read/test one/read/news.jhr 'one/read/an odd one' | grep -c 'msg$\|jhr$')" = 3 ]
+all
+all
+expect "without news it does nothing, and reads no base" [ "$status $(cat said fault calls)" = "0 " ]
+post 'Second' NEWS
+all
+expect "only the area with news is done" [ "$status $(cat said) $(grep -c export calls)" = "0 NEWS: exported 1 messages, next 4 1" ]
+stored 'one/read/an odd one/90.msg' Answer 0000
+all
+expect "so is one in which an editor wrote" [ "$status $(cut -d ' ' -f 1-3 said | xargs)" = "0 ODD: posted ODD ODD: exported 1" ]
+all
+add_to_jam one/read/news 6
+all
+expect "also in a JAM base" [ "$status $(cut -d ' ' -f 1-3 said | xargs)" = "0 NEWS: posted NEWS" ]
+all
+all
+expect "then nothing is left to do" [ "$status $(cat said fault calls)" = "0 " ]
+stored one/read/test/90.msg Unfinished 0000 ''
+all
+expect "an unfinished message waits" [ "$status $(cat said) $(grep -c '90.msg waits' fault)" = "0  1" ]
+printf '\0' >> one/read/test/90.msg
+all
+expect "and is posted once it is finished" [ "$status $(grep -c posted said)" = "0 1" ]
+run "$scripts/readers.sh" --areadef one one/readers
+expect "the lines for GoldED" [ "$status $(cat said)" = "0 AREADEF TEST \"TEST\" 0 Echo Opus $work/one/read/test
+AREADEF NEWS \"NEWS\" 0 Echo JAM $work/one/read/news
+AREADEF ODD \"ODD\" 0 Echo Opus $work/one/read/an odd one" ]
+
+# A fault of one area, and faulty files of areas.
+post 'Third' NEWS
+post 'Third' ODD
+mv one/read/news.jhr news.jhr
+echo none > one/read/news.jhr
+all
+expect "a fault of an area is the status" [ "$status $(grep -c 'ODD: exported' said)" = "3 1" ]
+all
+expect "the next run does that area again" [ "$status $(grep -c 'post.*news' calls)" = "3 1" ]
+mv news.jhr one/read/news.jhr
+all
+expect "until it is good" [ "$status $(cat said)" = "0 NEWS: exported 1 messages, next 9" ]
+for line in 'TEST msg' 'TEST' 'TEST squish read/test' $'TEST msg read/\033test' 'TEST jam /'; do
+  printf 'ODD msg read/fresh\n%s\n' "$line" > one/faulty
+  run "$scripts/readers.sh" one one/faulty
+  expect "a faulty line: $line" [ "$status $(cat fault) $(ls one/read | grep -c fresh)" = \
+    "2 one/faulty:2: expected TAG msg PATH or TAG jam PATH 0" ]
+done
+run "$scripts/readers.sh" one one/missing
+expect "a missing file of areas" [ $status = 3 ]
+run "$scripts/readers.sh" one
+expect "no file of areas" [ $status = 4 ]
+cp -r one/base kept
+truncate -s -1 one/base/messages.*
+next=$(cat one/read/test/next)
+all
+expect "a damaged base is the status" [ "$status $(cat one/read/test/next) $(grep -c 'F2 Truncated' fault)" = "2 $next 1" ]
+rm -rf one/base
+mv kept one/base
+
+# Runs at the same time, and killed ones: each message is in the folder and in the JAM base once.
+for number in {1..6}; do
+  post "At once $number" NEWS
+  post "At once $number" TEST
+  for _ in 1 2 3; do "$scripts/reader.sh" one one/readers > said 2> fault & done
+  setsid "$scripts/reader.sh" one one/readers > said 2> fault & killed=$!
+  sleep "0.$((number * 7))"
+  kill -9 -- -$killed 2> fault || true
+  { wait $killed || true; } 2> fault
+  wait
+done
+all
+for number in {1..6}; do
+  expect "message $number is in the folder once" [ "$(cat one/read/test/*.msg | grep -ac "Body of At once $number")" = 1 ]
+  expect "and in the JAM base" [ "$(grep -ao "Body of At once $number" one/read/news.jdt | wc -l)" = 1 ]
+done
+
+# A hundred areas without news.
+mkdir -p many/base
+{ printf 'SYSTEM 1:10/1\n'; printf 'AREA A%s 1:10/2\n' {1..100}; } > many/links
+for number in {1..100}; do echo "A$number $([ $((number % 2)) = 0 ] && echo msg || echo jam) read/$number"; done > many/readers
+mkdir many/read
+echo Body | "$scripts/post.sh" many A7 All Ann Hi > said
+for _ in 1 2 3; do run "$scripts/reader.sh" many many/readers; done
+best=99999
+for _ in 1 2 3 4 5; do
+  begin=$(date +%s%3N)
+  run "$scripts/reader.sh" many many/readers
+  taken=$(($(date +%s%3N) - begin))
+  if [ $taken -lt $best ]; then best=$taken; fi
+done
+expect "a hundred areas without news take $best ms" [ "$status $(cat said fault) $((best < 1000))" = "0  1" ]
 finish daily
