@@ -102,7 +102,7 @@ class Seen:
                 else:
                     self.no_addresses.add((net, node))
                     stops.append(0)
-        if own and stops:
+        if own:
             stops.append(own)
         for stop in stops:
             if before and stop and (before ^ stop) & 0xffffffff:

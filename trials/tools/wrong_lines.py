@@ -18,8 +18,7 @@ LINKS_SEEN = [
     ("seen.py", "        for line in path.split(b\"\\r\"):", "        for line in [path.replace(b\"\\r\", b\" \")]:"),
     # The own system.
     ("seen.py", "            stops.append(own)", "            stops.insert(0, own)"),
-    ("seen.py", "        if own and stops:", "        if own:"),
-    ("seen.py", "        if own and stops:", "        if False:"),
+    ("seen.py", "        if own:", "        if False:"),
     ("links-seen", "            self.given.append((self.owns[-1] if self.owns else None, source))",
      "            self.given.append((self.owns[0] if self.owns else None, source))"),
     ("seen.py", "        if own and len(own) == 1:", "        if False:"),
