@@ -13,7 +13,7 @@
 #
 # `make install` copies the program, its manual page, the scripts, the documents and the shell completions to PREFIX,
 # below DESTDIR if that is set. `make uninstall` removes them. `make deb` makes a Debian package of the same files.
-.PHONY: all quick test edits edit-table crate-table times seconds demo show-examples cases story net-test manual-test small-nets follow interop trials install uninstall deb toolchain clean
+.PHONY: all quick quick-test test edits edit-table crate-table times seconds demo show-examples cases story net-test manual-test small-nets follow interop trials install uninstall deb toolchain clean
 PREFIX = /usr/local
 
 # The program that these targets run. After the gate, that is the one in crates/echonet/out.
@@ -56,6 +56,9 @@ endif
 # This program is for trying a change. scripts/quick.py compiles it again only if its sources changed.
 .PHONY: bin/quick/echonet
 quick: bin/quick/echonet
+quick-test: bin/quick/echonet
+	@python3 scripts/quick_test.py bin/quick/echonet
+
 bin/quick/echonet: toolchain
 	@python3 scripts/quick.py
 
