@@ -1,7 +1,6 @@
 //! Writes whole files. The bytes go to a staging file (`staging`) and are flushed to the disk. Then the file
 //! gets its name at once. If a step fails, the temporary file is removed, and the old file is unchanged.
-ghost use Rattle.std.specs.Prelude.{◌≡◌, take, IfErr, OnOk};
-ghost use Rattle.std.specs.Io.KnownBytes.{Appends};
+ghost use Rattle.std.specs.{Prelude.◌≡◌, Prelude.take, Prelude.IfErr, Prelude.OnOk, Io.KnownBytes.Appends};
 ghost use Rattle.disk_io.specs.Device.{Failed};
 ghost use Rattle.disk_system.specs.declared.writing.OutputFault.TheVariants.{Device, Memory};
 

@@ -1,9 +1,7 @@
 //! Changes of a base folder, and the base found in it.
 ghost use Rattle.std.specs.Prelude.{◌≡◌, IfOk};
 ghost use Rattle.disk_io.specs.Disk.{Honestly};
-ghost use Rattle.base_log.specs.AtRest.{IsAtRest, IsStaged};
-ghost use Rattle.base_log.specs.Names.{AreNames, folder_of};
-ghost use Rattle.base_log.specs.Opening.{AreAlone};
+ghost use Rattle.base_log.specs.{AtRest.IsAtRest, AtRest.IsStaged, Names.AreNames, Names.folder_of, Opening.AreAlone};
 
 use base_log::{
     CommitRecord, End, FolderError, FolderIdentity, GrowingFile, Names, commit, judge, open,
