@@ -53,6 +53,9 @@ class Order:
                 "domain fidonet %s/outbound %d" % (place, own.zone),
                 "address %s@fidonet" % own,
                 'sysname "%s"' % self.name,
+                'sysop "%s"' % self.name,
+                'location "-"',
+                'nodeinfo 115200,TCP,BINKP',
                 "log %s/binkd.log" % place,
                 "pid-file %s/binkd.pid" % place,
                 "inbound %s/inbound" % place,
@@ -70,7 +73,7 @@ class Order:
     def next_steps(self) -> str:
         """What to do next."""
         toss, scan, place = script_path("toss-inbound.sh"), script_path("scan-outbound.sh"), self.folder
-        runs = '%s %s > /dev/null || echo "status $?"; %s %s > /dev/null' % (toss, place, scan, place)
+        runs = '%s %s > /dev/null || echo "toss: status $?"; %s %s > /dev/null || echo "scan: status $?"' % (toss, place, scan, place)
         cron = "*/5 * * * * %s%s" % (with_path(), runs)
         return "\n".join(
             (
