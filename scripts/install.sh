@@ -1,5 +1,5 @@
 #!/usr/bin/env bash
-# install.sh ROOT PREFIX: installs below ROOT and PREFIX. It copies the program, its manual page and shell
+# install.sh ROOT PREFIX: installs below ROOT and PREFIX. It copies both programs, their manual pages and shell
 # completions. It also copies the scripts of station, the tools of examples/move, the examples of packaging, and the
 # documents with their nets. The unit gets the paths below PREFIX. uninstall.sh removes the same files.
 set -eu
@@ -10,9 +10,13 @@ program=bin/echonet
 
 install -D -m 755 "$program" "$to/bin/echonet"
 install -D -m 644 docs/echonet.1 "$to/share/man/man1/echonet.1"
-install -d "$to/share/echonet/move" "$to/share/doc/echonet/pictures" "$to/share/doc/echonet/examples"
+install -m 644 docs/echonet-station.1 "$to/share/man/man1"
+install -d "$to/share/echonet/echonet_station" "$to/share/echonet/move" "$to/share/doc/echonet/pictures" "$to/share/doc/echonet/examples"
 install -m 755 station/*.sh station/jam-lock "$to/share/echonet"
 chmod 644 "$to/share/echonet/station.sh"
+install -m 755 station/echonet-station "$to/share/echonet"
+install -m 644 station/echonet_station/*.py "$to/share/echonet/echonet_station"
+ln -sfn ../share/echonet/echonet-station "$to/bin/echonet-station"
 install -m 644 station/printable.awk packaging/echonet.timer packaging/echonet.logrotate packaging/settings \
   "$to/share/echonet"
 install -m 755 examples/move/*-* "$to/share/echonet/move"
@@ -27,12 +31,19 @@ cp -R examples/net examples/nets "$to/share/doc/echonet/examples"
 ln -sfn ../../echonet "$to/share/doc/echonet/station"
 chmod -R u=rwX,go=rX "$to/share/doc/echonet/examples"
 
-# Arguments: the shell, the file that it reads.
+# Arguments: the program, the shell, the file that it reads.
 completions() {
-  install -d "$(dirname "$to/share/$2")"
-  scripts/completions.sh "$program" "$1" > "$to/share/$2"
-  chmod 644 "$to/share/$2"
+  install -d "$(dirname "$to/share/$3")"
+  scripts/completions.sh "$1" "$2" > "$to/share/$3"
+  chmod 644 "$to/share/$3"
 }
-completions bash bash-completion/completions/echonet
-completions zsh zsh/site-functions/_echonet
-completions fish fish/vendor_completions.d/echonet.fish
+completions "$program" bash bash-completion/completions/echonet
+completions "$program" zsh zsh/site-functions/_echonet
+completions "$program" fish fish/vendor_completions.d/echonet.fish
+if command -v python3 > /dev/null; then
+  completions station/echonet-station bash bash-completion/completions/echonet-station
+  completions station/echonet-station zsh zsh/site-functions/_echonet-station
+  completions station/echonet-station fish fish/vendor_completions.d/echonet-station.fish
+  # Compiled modules start sooner. A package compiles them where it is installed.
+  if [ -z "$1" ]; then python3 -m compileall -q "$to/share/echonet/echonet_station"; fi
+fi

@@ -47,7 +47,6 @@ each python3 trials/realnet.py &
 wait
 each python3 trials/mixed.py
 each python3 trials/stations.py 300 "$cores"
-each trials/stores.sh 100 "$cores"
 each python3 trials/hostile.py "$inputs" "$cores"
 each python3 trials/nets.py &
 each python3 trials/grown.py "$size" $(((cores + 1) / 2)) &
