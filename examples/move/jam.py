@@ -94,7 +94,7 @@ class Base:
         CrashMail 1.7 spoils headers when it links replies. Its headers and texts are stored one behind another, so the
         right numbers are those that lead from one message to the next. If none do, the numbers count as in the file.
         """
-        heads = map(self.head, self.places)
+        heads: Iterator[Optional[tuple[int, ...]]] = map(self.head, self.places)
         last = 0
         numbers: Optional[tuple[int, ...]] = next(heads, None)
         behind: tuple[int, ...] = (0,) * TEXT_AT + (self.text_end,) * 4
