@@ -13,7 +13,7 @@ root=$(mktemp -d)
 trap 'rm -rf "$root"' EXIT
 chmod 755 "$root"
 scripts/install.sh "$root" /usr
-gzip -9n "$root/usr/share/man/man1/echonet.1"
+gzip -9n "$root"/usr/share/man/man1/*.1
 mkdir "$root/DEBIAN"
 sed "s/VERSION/$version/; s/ARCHITECTURE/$architecture/; s/LIBC/$libc/; s/COMMIT/$commit/" packaging/control > "$root/DEBIAN/control"
 package=bin/echonet_${version}_$architecture.deb
