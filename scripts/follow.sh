@@ -2,8 +2,8 @@
 # Follows the sessions of a document from its first line to its last in an empty folder. It runs each line
 # `    $ COMMAND`, and compares the output with the lines below it. Serials of eight hexadecimal digits, timestamps, dates
 # and ages may differ. A document calls the empty folder /home/fido, and the folder of the scripts /usr/share/echonet.
-# Arguments: the document, the program, and the folder that has `examples` and `station`, by default the sources.
-# If headings follow, only the sessions right below these are run.
+# Arguments: the document, the program, and the folder that has `examples` and `station`, by default the sources. If
+# headings follow, only the sessions right below these are run.
 set -eu
 cd "$(dirname "$0")/.."
 document=$(realpath "${1:-docs/OPERATORS.md}")
