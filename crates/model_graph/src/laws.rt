@@ -4,7 +4,6 @@ ghost use Rattle.std.specs.Prelude.{◌≢◌, ◌↔◌, ℕ, ◌<◌, Bool, Is
 ghost use Rattle.model_graph.specs.Walk.{Simple, Walk, Reaches};
 ghost use Rattle.model_graph.specs.Cycle.{Cycle, IsCycle, NoCycle, Polygons};
 ghost use Rattle.model_graph.specs.Renaming.{IsRenaming};
-ghost use Rattle.model_graph.specs.Family.{IsFamily, KeepsToFamily};
 ghost use Rattle.model_graph.specs.Beyond.{AllParted, Beyond, Parted, IsWay, HasOneWay, FirstStep};
 
 /// Every cycle is fully linked exactly where each member parts those of its links that are not linked.
@@ -52,14 +51,6 @@ pub fn along_ways()
         (f : ℕ) (test : ℕ → Bool) → IsTrue (test f) →
         ((y u : ℕ) → y ≢ f → Reaches linked y f → IsWay linked f y u → IsTrue (test u) → IsTrue (test y)) →
         (y : ℕ) → Reaches linked y f → IsTrue (test y) }
-{}
-
-/// Let a search by levels give each member a parent. Links are parted exactly where two things
-/// hold: each link joins a member with its parent or a sibling, and siblings that are linked with
-/// one sibling are linked with each other.
-pub fn family_of_levels()
-    ensures { (linked : ℕ → ℕ → Bool) (level parent : ℕ → ℕ) → Simple linked → IsFamily linked level parent →
-        (Parted linked ↔ KeepsToFamily linked level parent) }
 {}
 
 /// A cycle may be written from any of its members on, and the other way round.
