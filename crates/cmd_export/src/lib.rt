@@ -4,13 +4,14 @@
 //!
 //! Begin with `bases` and `listing`, which have `list` and `export`, for a base file and for a folder. `files` reads a base
 //! file while a terminal shows the progress. `export --msg` is in `stored` (a file for each message). `resending` has
-//! `resend`, and `converting` has `convert`.
+//! `resend`, `repairing` the same with `--all` or `--has`, and `converting` has `convert`.
 #![tactic(auto)]
 
 mod bases;
 mod converting;
 mod files;
 mod listing;
+mod repairing;
 mod resending;
 mod stored;
 

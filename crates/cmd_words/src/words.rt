@@ -141,6 +141,7 @@ pub struct ReplyWords<'a> {
 pub struct ListWords<'a> {
     pub short: bool,
     pub areas: bool,
+    pub ids: bool,
     pub area: Option<&'a str>,
     pub from: Option<&'a str>,
     pub base: &'a str,
@@ -168,9 +169,11 @@ pub struct TossWords<'a> {
     pub packets: Paths<'a>,
 }
 
-/// The words of `resend`.
+/// The words of `resend`. With `all` it sends all messages, and those that the list `has` does not name.
 #[derive(Drop)]
 pub struct ResendWords<'a> {
+    pub all: bool,
+    pub has: Option<&'a str>,
     pub area: &'a str,
     pub to: &'a str,
     pub from: Option<&'a str>,
