@@ -1,4 +1,5 @@
-# `make` proves what has changed and builds bin/echonet. `make test` is the gate. `make demo` runs the first example.
+# `make quick` compiles bin/quick/echonet in minutes, without proofs. `make` proves what has changed and builds
+# bin/echonet. `make test` is the gate. `make demo` runs the first example.
 #
 # These compare the built program with what is expected:
 # - `make show-examples`: what `show` prints of the packets in examples/packets.
@@ -12,7 +13,7 @@
 #
 # `make install` copies the program, its manual page, the scripts, the documents and the shell completions to PREFIX,
 # below DESTDIR if that is set. `make uninstall` removes them. `make deb` makes a Debian package of the same files.
-.PHONY: all test edits edit-table crate-table times seconds demo show-examples cases story net-test manual-test small-nets follow interop trials install uninstall deb toolchain clean
+.PHONY: all quick quick-test test edits edit-table crate-table times seconds demo show-examples cases story net-test manual-test small-nets follow interop trials install uninstall deb toolchain clean
 PREFIX = /usr/local
 
 # The program that these targets run. After the gate, that is the one in crates/echonet/out.
@@ -52,6 +53,15 @@ bin/echonet: toolchain
 	$(call prove,echonet $(if $(filter trials,$(MAKECMDGOALS)),test_trials),bin/echonet)
 endif
 
+# This program is for trying a change. scripts/quick.py compiles it again only if its sources changed.
+.PHONY: bin/quick/echonet
+quick: bin/quick/echonet
+quick-test: bin/quick/echonet
+	@python3 scripts/quick_test.py bin/quick/echonet
+
+bin/quick/echonet: toolchain
+	@python3 scripts/quick.py
+
 # One process for each crate, since each process loads all crates below it. By default `rt ci` gives a crate up to
 # four. Then some crates wait for memory that nothing uses.
 test: toolchain
@@ -81,12 +91,7 @@ demo: bin/echonet
 	bin/echonet show --hex - < examples/packets/sixty-byte.hex
 
 show-examples: $(program)
-	@mkdir -p bin
-	@for packet in examples/packets/*.pkt; do \
-	  $(program) show $$packet > bin/shown.txt || exit 1; \
-	  diff $${packet%.pkt}.txt bin/shown.txt || exit 1; \
-	  echo "$$packet: as expected"; \
-	done
+	scripts/show_examples.sh $(program)
 
 cases: $(program)
 	scripts/cases.sh $(program)
@@ -104,11 +109,11 @@ manual-test: $(program)
 small-nets: $(program)
 	ECHONET=$(abspath $(program)) python3 trials/small_nets.py
 
-follow: bin/echonet
-	scripts/follow.sh docs/OPERATORS.md bin/echonet
+follow: $(program)
+	scripts/follow.sh docs/OPERATORS.md $(program)
 
-interop: bin/echonet
-	interop/run.sh bin/echonet
+interop: $(program)
+	interop/run.sh $(program)
 
 # This installs the files of an earlier build. It does not need the toolchain.
 install:
@@ -120,8 +125,8 @@ uninstall:
 deb:
 	scripts/package.sh
 
-trials: bin/echonet
-	trials/all.sh
+trials: $(program)
+	ECHONET=$(abspath $(program)) trials/all.sh
 
 clean:
 	rm -rf bin crates/*/out

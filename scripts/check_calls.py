@@ -38,11 +38,11 @@ READS = {
     "cmd_input/packets": "large packets of toss",
     "cmd_notes/file_notes": "files read again for a note on them",
     "cmd_export/files": "the files of commands that read",
+    "cmd_jam/contents": "the index of a JAM base, and where its texts end",
     "cmd_notes/notes": "the lists of files that a note is about",
     "cmd_notes/states": "what is found at a path, for a note",
     "cmd_station/posting_mail": "whether there is a base with an answered message",
-    "cmd_station/running": "the bound of RealDisk, no call",
-    "cmd_station/scanning": "the same",
+    "cmd_station/scanning": "the bound of RealDisk, no call",
 }
 # The functions that get the disk of the system, with their crates.
 OVER_ANY_DISK = {

@@ -2,11 +2,16 @@
 # Follows the sessions of a document from its first line to its last in an empty folder. It runs each line
 # `    $ COMMAND`, and compares the output with the lines below it. Serials of eight hexadecimal digits, timestamps and
 # dates may differ. Arguments: the document, the program, and the folder that has `examples`, by default the sources.
+# If headings follow, only the sessions right below these are run.
 set -eu
 cd "$(dirname "$0")/.."
 document=$(realpath "${1:-docs/OPERATORS.md}")
 program=$(realpath "${2:-bin/echonet}")
 sources=$(realpath "${3:-.}")
+headings=("${@:4}")
+for heading in "${headings[@]}"; do
+  grep -q "^##* $heading\$" "$document" || { echo "$document has no heading $heading" >&2; exit 1; }
+done
 place=$(mktemp -d)
 mkdir "$place/bin" "$place/empty"
 ln -s "$program" "$place/bin/echonet"
@@ -50,10 +55,26 @@ type_it() {
   expected=
 }
 
+# Whether the sessions below a heading are run.
+is_wanted() {
+  local heading
+  for heading in "${headings[@]}"; do
+    if [ "$heading" = "$1" ]; then return; fi
+  done
+  [ ${#headings[@]} -eq 0 ]
+}
+
+wanted=yes
 while IFS= read -r line; do
   case $line in
+    '#'*)
+      type_it
+      wanted=no
+      if is_wanted "${line##*# }"; then wanted=yes; fi
+      ;;
     '    $ '*)
       type_it
+      if [ $wanted = no ]; then continue; fi
       command=${line#    \$ }
       ;;
     '    '*) if [ -n "$command" ]; then expected=$expected${line#    }$'\n'; fi ;;

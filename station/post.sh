@@ -2,9 +2,9 @@
 # post.sh STATION AREA TO FROM SUBJECT [REPLY]: files a message. Its body is standard input. REPLY is the MSGID of the
 # message that it answers.
 #
-# The time is that of the clock (UTC). The serial is the clock's count of seconds, or the first number after it that
-# no message has. So a station that lost its base does not use old serials again. The program is `echonet` of the
-# PATH, or the one that ECHONET names.
+# The time is that of the clock in UTC, as a line TZUTC says. The serial is the clock's count of seconds, or the first
+# number after it that no message has. So a station that lost its base does not use old serials again. The program is
+# `echonet` of the PATH, or the one that ECHONET names.
 set -eu
 LC_ALL=C
 
@@ -20,7 +20,11 @@ case $1 in
 esac
 station=$1 area=$2 to=$3 from=$4 subject=$5 reply=${6:-}
 
+body=$(mktemp) || exit 3
+trap 'rm -f "$body"' EXIT
+trap 'exit 3' HUP INT TERM
+{ printf '\001TZUTC: 0000\n' && cat; } > "$body" || exit 3
 set -- "$station/links" "$station/base"
 if [ -n "$reply" ]; then set -- "--reply=$reply" "$@"; fi
-exec "${ECHONET:-echonet}" post --explain "--area=$area" "--to=$to" "--from=$from" \
-  "--subject=$subject" --serial auto --at now "$@"
+"${ECHONET:-echonet}" post --explain "--area=$area" "--to=$to" "--from=$from" \
+  "--subject=$subject" --serial auto --at now "$@" < "$body"

@@ -2,10 +2,12 @@
 # reader.sh STATION AREA DIR: lets a reader such as GoldED read and write an area in the folder DIR of stored messages
 # (N.msg).
 # reader.sh --jam STATION AREA PATH: the same in the JAM base PATH (PATH.jhr and so on).
+# reader.sh STATION FILE: the same for all areas of FILE (readers.sh).
 #
 # In a folder it posts what an editor wrote (Local, not Sent, and under no id of the base), and moves it to
 # DIR/posted. A refused message goes to DIR/refused, with the fault and the note on it in NAME.why. Then the new
-# messages of the base are added. DIR/next has the number of the message with which the next run begins.
+# messages of the base are added. DIR/next has the number of the message with which the next run begins. A file waits
+# that changed in the last two seconds or has no 00 at its end: an editor may still write it.
 #
 # Before a file is posted, DIR/posting names the file and its serial. If a run is stopped between posting a file and
 # moving it, the next run finds that posting in the base, and moves the file. If the base cannot be read, the run ends
@@ -13,24 +15,43 @@
 #
 # In a JAM base it posts what an editor wrote, and marks it as Sent. Then it adds the new messages of the base.
 # PATH.next has the number of the message with which the next run begins. A refused message stays, and the status is
-# 2. With Python 3 it also takes the lock of JAM programs (jam-lock), so that they may run at the same time.
+# 2. It takes the lock of JAM programs (jam-lock), so that they may run at the same time. Without Python 3 it cannot,
+# and the run is refused. With `--unlocked` behind `--jam` it runs without that lock: run no JAM program meanwhile.
 #
-# Runs may start at the same time: each waits for the one before it. The program is `echonet` of the PATH, or the one
-# that ECHONET names.
+# The time of a posting is that of the run, in the system's time zone. Runs may start at the same time: each waits for
+# the one before it. The program is `echonet` of the PATH, or the one that ECHONET names.
 set -eu
 LC_ALL=C
 export LC_ALL
 
+here=$(CDPATH='' cd -- "$(dirname "$0")" && pwd)
 form=--msg
+unlocked=
 if [ "${1:-}" = --jam ]; then
   form=--jam
   shift
+  if [ "${1:-}" = --unlocked ]; then
+    unlocked=yes
+    shift
+  fi
+elif [ $# -eq 2 ]; then
+  exec "$here/readers.sh" "$@"
 fi
 if [ $# -ne 3 ]; then
-  echo "usage: reader.sh [--jam] STATION AREA DIR" >&2
+  echo "usage: reader.sh [--jam [--unlocked]] STATION AREA DIR, or reader.sh STATION FILE" >&2
   exit 4
 fi
-station=$(CDPATH='' cd -- "$1" && pwd)
+work=
+
+# Removes the files of this run. A failed command of the shell ends it with 1, which then is the fault of a device.
+clean_up() {
+  ended=$?
+  if [ -n "$work" ]; then rm -rf "$work"; fi
+  if [ $ended -eq 1 ]; then exit 3; fi
+}
+trap clean_up EXIT
+trap 'exit 3' HUP INT TERM
+station=$(CDPATH='' cd -- "$1" && pwd) || exit 3
 case $1$station$3 in
   *[[:cntrl:]]*)
     echo "reader.sh: control byte in a path" >&2
@@ -39,25 +60,22 @@ case $1$station$3 in
 esac
 area=$2
 jam=$3
-here=$(CDPATH='' cd -- "$(dirname "$0")" && pwd)
 program=${ECHONET:-echonet}
-work=$(mktemp -d)
-trap 'rm -rf "$work"' EXIT
-trap 'exit 3' HUP INT TERM
+work=$(mktemp -d) || exit 3
 
-# Runs the program, on a JAM base under the lock of JAM programs.
+# Runs a command, on a JAM base under the lock of JAM programs.
 run_locked() {
-  if [ $form = --jam ] && [ -e "$jam.jhr" ] && command -v python3 > /dev/null; then
-    "$here/jam-lock" "$jam.jhr" "$program" "$@"
+  if [ $form = --jam ] && [ -z "$unlocked" ] && [ -e "$jam.jhr" ]; then
+    "$here/jam-lock" "$jam.jhr" "$@"
   else
-    "$program" "$@"
+    "$@"
   fi
 }
 
-# Runs it, and passes on its standard error, except the note that the area is still empty.
+# Runs the program, and passes on its standard error, except the note that the area is still empty.
 run_noted() {
   ended=0
-  run_locked "$@" 2> "$work/notes" || ended=$?
+  run_locked "$program" "$@" 2> "$work/notes" || ended=$?
   grep -v '^echonet: note: no message of area ' "$work/notes" >&2 || true
   return $ended
 }
@@ -78,14 +96,20 @@ add_new() {
 }
 
 if [ $form = --jam ]; then
+  if [ -z "$unlocked" ] && ! command -v python3 > /dev/null; then
+    echo "reader.sh: no python3, so no lock of JAM programs: if none of them runs, use --jam --unlocked" >&2
+    exit 3
+  fi
   exec 9> "$3.lock"
   flock 9
   posted=0
   if [ -e "$3.jhr" ]; then
-    run_locked post --jam "$3" --area "$area" --serial auto --at now "$station/links" "$station/base" || posted=$?
+    run_locked "$program" post --jam "$3" --area "$area" --serial auto --at local "$station/links" "$station/base" ||
+      posted=$?
   fi
   if [ $posted -gt 2 ]; then exit $posted; fi
   add_new "$3" "$3.next"
+  if [ -e "$3.jhr" ]; then run_locked stat -c '%.Y %s' "$3.jhr" > "$3.seen"; fi
   exit $posted
 fi
 
@@ -226,7 +250,7 @@ post_one() {
     next_serial
     mark "$1"
     status=0
-    "$program" post --explain --msg "$1" --area "$area" --serial "$serial" --at now "$station/links" \
+    "$program" post --explain --msg "$1" --area "$area" --serial "$serial" --at local "$station/links" \
       "$station/base" > "$work/told" 2>&1 || status=$?
   done
   case $status in
@@ -247,29 +271,52 @@ post_one() {
   unmark
 }
 
-# It looks only at files that changed since two seconds before the last run began, since file systems keep no finer
-# time. The next run looks again at what cannot be read.
-touch -d '2 seconds ago' "$folder/seen.new"
-read_base
-cut -f 3 "$work/heads" > "$work/ids"
-finish_posting
-if [ ! -e "$folder/seen" ]; then touch -d @0 "$folder/seen"; fi
-find "$folder" -ignore_readdir_race -maxdepth 1 -type f -iname '*.msg' ! -name '*[[:cntrl:]]*' \
-  -cnewer "$folder/seen" > "$work/found"
-sort -V "$work/found" > "$work/changed"
-unread=0
-while IFS= read -r file; do
-  wanted=0
-  is_to_post "$file" || wanted=$?
-  if [ $wanted -eq 1 ] || [ ! -e "$file" ]; then continue; fi
-  if [ $wanted -ne 0 ] || ! id=$(id_of "$file"); then
-    unread=3
-    continue
-  fi
-  if [ -n "$id" ] && has_id -xF -e "$id"; then continue; fi
-  post_one "$file"
-done < "$work/changed"
+# Writes the files that an editor wrote and finished to `wanted`. It looks only at files that changed since two seconds
+# before the last run began, since file systems keep no finer time. The next run looks again at what cannot be read,
+# and at what is not finished.
+find_wanted() {
+  find "$folder" -ignore_readdir_race -maxdepth 1 -type f -iname '*.msg' ! -name '*[[:cntrl:]]*' \
+    -cnewer "$folder/seen" \( -newer "$folder/seen.new" -fprintf "$work/young" '%p\n' -o -print \) > "$work/found"
+  sort -V "$work/found" > "$work/changed"
+  : > "$work/wanted"
+  if [ -s "$work/young" ]; then again=yes; fi
+  while IFS= read -r file; do
+    wanted=0
+    is_to_post "$file" || wanted=$?
+    if [ $wanted -eq 1 ] || [ ! -e "$file" ]; then continue; fi
+    if [ $wanted -ne 0 ]; then
+      unread=3
+    elif [ -n "$(tail -c 1 "$file" | tr -d '\0')" ]; then
+      printf 'reader.sh: %s waits: it has no 00 at its end\n' "$file" >&2
+      again=yes
+    else
+      printf '%s\n' "$file" >> "$work/wanted"
+    fi
+  done < "$work/changed"
+}
 
+# Posts the files of `wanted`, except for those with an id of the base.
+post_wanted() {
+  read_base
+  cut -f 3 "$work/heads" > "$work/ids"
+  finish_posting
+  while IFS= read -r file; do
+    if [ ! -e "$file" ]; then continue; fi
+    if ! id=$(id_of "$file"); then
+      unread=3
+      continue
+    fi
+    if [ -n "$id" ] && has_id -xF -e "$id"; then continue; fi
+    post_one "$file"
+  done < "$work/wanted"
+}
+
+unread=0
+again=
+touch -d '2 seconds ago' "$folder/seen.new"
+if [ ! -e "$folder/seen" ]; then touch -d @0 "$folder/seen"; fi
+find_wanted
+if [ -s "$work/wanted" ] || [ -e "$folder/posting" ]; then post_wanted; fi
 add_new "$folder" "$folder/next"
 if [ $unread -ne 0 ]; then exit $unread; fi
-mv "$folder/seen.new" "$folder/seen"
+if [ -z "$again" ]; then mv "$folder/seen.new" "$folder/seen"; fi

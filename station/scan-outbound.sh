@@ -6,10 +6,14 @@
 # line in the flow file of its link. That is in STATION/outbound for links of the own zone, in STATION/outbound.00z
 # for those of zone z. STATION/settings may name other folders (station.sh).
 #
+# For a station with a file `peers`, `echonet-station` then packs letters, and writes passwords and points into the
+# packets. If that fails, nothing is handed over: a link would refuse a packet without its password. The flow file of a
+# point is that of its boss with `.pnt/` and the number of the point.
+#
 # If the mailer holds a link (NAME.bsy), its packets wait for the next run. If the link file names no own address,
 # nothing is handed over. STATION/log gets a line for each packet that was handed over. Runs may start at the same
-# time: each waits for the one before it, and for its scan, even if that run was killed. The program is `echonet` of
-# the PATH, or the one that ECHONET names.
+# time: each waits for the one before it, and for its scan, even if that run was killed. A run that cannot begin ends
+# with 3. The program is `echonet` of the PATH, or the one that ECHONET names.
 set -eu
 LC_ALL=C
 export LC_ALL
@@ -18,18 +22,31 @@ if [ $# -ne 1 ]; then
   echo "usage: scan-outbound.sh STATION" >&2
   exit 4
 fi
+begun=0
+held=''
+
+# Frees the link that this run holds. A failed command of the shell ends the script with 1, and before the run begins
+# also with 2.
+clean_up() {
+  ended=$?
+  if [ -n "$held" ]; then release; fi
+  if [ $ended -eq 1 ]; then exit 3; fi
+  if [ $ended -ne 0 ] && [ $ended -ne 4 ] && [ $begun -eq 0 ]; then exit 3; fi
+}
+trap clean_up EXIT
+trap 'exit 3' HUP INT TERM
 here=$(CDPATH='' cd -- "$(dirname -- "$0")" && pwd)
 . "$here/station.sh"
 program=${ECHONET:-echonet}
 mkdir -p "$station/scanned" "$packets" "$outbound"
 exec 9> "$station/scan.lock"
 flock 9
-trap 'exit 3' HUP INT TERM
+begun=1
 
-# The own address, or nothing if the link file does not have exactly one.
+# The own address, or nothing if the link file cannot be read or does not have exactly one.
 own=$(awk '
   $1 == "SYSTEM" { sub(/\r$/, "", $2); address = $2; lines++ }
-  END { if (lines == 1 && address ~ /^[0-9]+:[0-9]+\/[0-9]+$/) print address }' "$station/links")
+  END { if (lines == 1 && address ~ /^[0-9]+:[0-9]+\/[0-9]+$/) print address }' "$station/links" 2> /dev/null || true)
 
 # A name that no packet of this station had before, in eight hexadecimal digits: the second, or the next one, plus a
 # number of the own address. Without that number two systems would give packets of one second the same name. A mailer
@@ -49,14 +66,25 @@ new_name() {
     mv "$station/last-name.new" "$station/last-name" && sync "$station" && echo "$name"
 }
 
+# Whether a link is a point, which has a flow file of its own. Arguments: zone, net, node.
+is_point() {
+  [ $peered -eq 1 ] && grep -Eq "^[[:blank:]]*POINT[[:blank:]]+0*$1:0*$2/0*$3[[:blank:]]" "$station/peers"
+}
+
 # The flow file of a packet's link, without its ending. Its folder is on the disk then. Arguments: zone, net, node.
 flow_file() {
-  folder=$outbound
-  if [ "$1" -ne "${own%%:*}" ]; then folder=$folder.$(printf '%03x' "$1"); fi
+  if is_point "$@"; then
+    file=$("$tool" "$station" flow "$@") || return 1
+  else
+    file=$outbound
+    if [ "$1" -ne "${own%%:*}" ]; then file=$file.$(printf '%03x' "$1"); fi
+    file=$file/$(printf '%04x%04x' "$2" "$3")
+  fi
+  folder=${file%/*}
   if [ ! -d "$folder" ]; then
     if ! mkdir -p "$folder" || ! sync "${folder%/*}"; then return 1; fi
   fi
-  printf '%s/%04x%04x\n' "$folder" "$2" "$3"
+  printf '%s\n' "$file"
 }
 
 # A hold on a link is a file NAME.bsy with the number of the process that holds it. This tests whether another process
@@ -83,7 +111,8 @@ end_left() {
 # while it is held, and no other run holds a link at the same time. So the content of the file does not matter.
 second_name="~$(printf '%s' "$own" | tr ':/' '..')~.hold"
 release_left() {
-  for second in "$outbound"/*."$second_name" "$outbound".*/*."$second_name"; do
+  for second in "$outbound"/*."$second_name" "$outbound".*/*."$second_name" "$outbound"/*.pnt/*."$second_name" \
+    "$outbound".*/*.pnt/*."$second_name"; do
     if [ ! -e "$second" ]; then continue; fi
     left=${second%".$second_name"}.bsy
     # shellcheck disable=SC3013
@@ -96,20 +125,23 @@ release_left() {
 # fails. The hold has its number when it gets its name, and has it on the disk. Argument: the flow file, without its
 # ending.
 hold() {
-  held=0
   second=$1.$second_name
   if [ -e "$1.bsy" ] && is_left "$1.bsy"; then rm -f "$1.bsy"; fi
+  refused=0
   if ! { echo $$ > "$second" && sync "$second"; }; then
-    held=3
+    refused=3
   elif ! ln "$second" "$1.bsy" 2> /dev/null; then
-    if [ -e "$1.bsy" ]; then held=1; else held=3; fi
+    if [ -e "$1.bsy" ]; then refused=1; else refused=3; fi
   fi
-  if [ $held -ne 0 ]; then rm -f "$second"; fi
-  return $held
+  if [ $refused -eq 0 ]; then held=$1; else rm -f "$second"; fi
+  return $refused
 }
 
 # Frees it.
-release() { rm -f "$flow.bsy" && rm -f "$second"; }
+release() {
+  rm -f "$held.bsy" && rm -f "$second"
+  held=
+}
 
 # Prints a flow file and then a line. A last line without an end gets one first. Arguments: the file, the line.
 with_line() {
@@ -147,19 +179,15 @@ hand_over() {
   rest=${rest#*.}
   node=${rest%%.*}
   flow=$(flow_file "$zone" "$net" "$node") || return 3
-  hold "$flow" || held=$?
-  case $held in
-    0) ;;
-    1) return 0 ;;
-    *) return 3 ;;
-  esac
-  trap release EXIT
+  hold "$flow" || {
+    if [ $refused -eq 1 ]; then return 0; fi
+    return 3
+  }
   counts=$(counts_of "$zone:$net/$node" "$1")
   failed=0
   name=$(new_name) && new=$packets/$name && chmod '=rw' "$1" &&
     add_line "$flow.flo" "^$new" && mv "$1" "$new" && sync "$packets" "${1%/*}" || failed=3
   release
-  trap - EXIT
   if [ $failed -eq 0 ]; then log "sent $name to $zone:$net/$node $counts"; fi
   return $failed
 }
@@ -176,6 +204,16 @@ status=0
 scanned=$("$program" scan --explain --at now "$station/links" "$station/base" "$station/scanned") || status=$?
 if [ -n "$scanned" ]; then printf '%s\n' "$scanned" || status=3; fi
 sync "$station"
+
+# Letters get packets of their own. Their status counts if the scan had none.
+undressed=0
+if [ $peered -eq 1 ] && [ -n "$own" ]; then
+  if is_any "$station"/netmail/*.[mM][sS][gG] "$station/letters/plan"; then
+    "$tool" "$station" letters --locked || { lettered=$?; if [ $status -eq 0 ]; then status=$lettered; fi; }
+  fi
+  if is_any "$station"/scanned/*.pkt; then "$tool" "$station" dress --locked || undressed=$?; fi
+fi
+if [ $undressed -ne 0 ]; then exit $undressed; fi
 for packet in "$station"/scanned/*.pkt; do
   if [ ! -e "$packet" ]; then continue; fi
   if [ -z "$own" ]; then

@@ -44,3 +44,25 @@ utc() { date -u +%Y-%m-%dT%H:%M:%SZ; }
 unlogged=0
 stamp=''
 log() { printf '%s %s\n' "${stamp:-$(utc)}" "$1" >> "$station/log" || unlogged=3; }
+
+# Whether any of these files is there. The arguments are patterns that the shell has replaced.
+is_any() {
+  for path in "$@"; do
+    if [ -e "$path" ] || [ -L "$path" ]; then return 0; fi
+  done
+  return 1
+}
+
+# Whether echonet-station has to run: the station has a file `peers`, or received files that an earlier run left. Such
+# a station does nothing without it, since packets have passwords.
+tool=$here/echonet-station
+if [ ! -x "$tool" ]; then tool=$(command -v echonet-station || true); fi
+needs_tool() {
+  if ! is_any "$station/peers" "$station"/gate/*.in; then return 1; fi
+  if [ -z "$tool" ] || ! command -v python3 > /dev/null; then
+    echo "${0##*/}: $station/peers needs echonet-station and python3" >&2
+    exit 3
+  fi
+}
+peered=0
+if needs_tool; then peered=1; fi

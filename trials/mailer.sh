@@ -42,7 +42,7 @@ expect "nothing in the log steers the terminal" [ -z "$(LC_ALL=C tr -d ' -~\n' <
 expect "nothing is left" [ -z "$(ls two/inbound two/tossing | grep pkt)" ]
 expect "what cannot lies apart" [ "$(ls two/bad | grep -c 'pkt$')" = 4 ]
 expect "with the reason" grep -q 'cannot use .*pkt' two/bad/6.pkt.why two/bad/8.pkt.why two/bad/A.pkt.why
-expect "nothing steers the terminal" [ -z "$(LC_ALL=C tr -d ' -~\n' < said)" ]
+expect "nothing steers the terminal" [ -z "$(cat said fault | LC_ALL=C tr -d ' -~\n')" ]
 rm -rf two/bad two/inbound/*
 
 # A packet that needs more memory than there is, and one after it.

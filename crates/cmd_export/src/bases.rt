@@ -16,7 +16,7 @@ use std::collections::hash_map::RandomState;
 
 /// `list [--short | --areas | --ids] [--area TAG] [--from I] BASE`: it judges the number first, then the base. Of a folder it
 /// reads only the messages asked for. A missing seed for the hasher is a failed read.
-pub fn run_list<'a, W: Sink>(
+pub(crate) fn run_list<'a, W: Sink>(
     rt: &HostRuntime,
     words: &ListWords<'a>,
     progress: &Progress<'_>,
@@ -124,7 +124,7 @@ fn export_file<'a, W: Sink>(
 }
 
 /// `export`, and on standard error how many characters were lost.
-pub fn run_export<W: Sink, E: Sink>(
+pub(crate) fn run_export<W: Sink, E: Sink>(
     rt: &HostRuntime,
     words: &ExportWords<'_>,
     out: &mut W,

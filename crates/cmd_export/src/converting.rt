@@ -21,7 +21,7 @@ const OWN: &str = "base";
 
 /// `convert FROM TO`: FROM is read first. TO is an empty folder, or a path that nothing has. If FROM is a folder, one
 /// message at a time is in memory. Before a folder TO is filled, FROM is read to its end, so a fault leaves TO empty.
-pub fn run_convert<'a, W: Sink>(
+pub(crate) fn run_convert<'a, W: Sink>(
     rt: &HostRuntime,
     from: &'a str,
     to: &'a str,

@@ -2,12 +2,13 @@
 //! name. `export --msg` writes files for readers, `resend` a packet, and `convert` another base. They are proved to be safe
 //! and to end, and no more. The crates that they call promise what they print and write.
 //!
-//! Begin with `bases` and `listing`, which have `list` and `export`, for a base file and for a folder. `files` reads a base
-//! file while a terminal shows the progress. `export --msg` is in `stored` (a file for each message). `resending` has
-//! `resend`, `repairing` the same with `--all` or `--has`, and `converting` has `convert`.
+//! Begin with `commands`, which picks the command. `bases` and `listing` have `list` and `export`, for a base file and for
+//! a folder. `files` reads a base file while a terminal shows the progress. `export --msg` is in `stored` (a file for each
+//! message). `resending` has `resend`, `repairing` the same with `--all` or `--has`, and `converting` has `convert`.
 #![tactic(auto)]
 
 mod bases;
+mod commands;
 mod converting;
 mod files;
 mod listing;
@@ -15,7 +16,4 @@ mod repairing;
 mod resending;
 mod stored;
 
-pub use bases::{run_export, run_list};
-pub use converting::run_convert;
-pub use resending::run_resend;
-pub use stored::run_export_stored;
+pub use commands::run_base;

@@ -91,7 +91,7 @@ fn repair<W: Sink, E: Sink>(
     errors: &mut E,
 ) -> Status {
     let mut disk = RealDisk::new(rt, Unknown);
-    let mut lock = LinkLock::ahead(rt, words.links);
+    let mut lock = LinkLock::ahead(rt, words.place.links);
     match links_judged(rt, &mut disk, &mut lock, words, repair.asked) {
         Ok(links) => send_base(rt, words, repair, &links, out, errors),
         Err(fault) => fault.report(errors),
@@ -108,10 +108,10 @@ fn links_judged<'a, D: Disk, L: FileLock>(
 ) -> Result<LinkFile, Fault<'a>>
     requires { L.held lock.old ≡ None }
 {
-    let links = links_at(rt.alloc(), disk, lock, words.links)?;
+    let links = links_at(rt.alloc(), disk, lock, words.place.links)?;
     let area = asked.area.to_ascii_uppercase(rt.alloc())?;
     check_linked(&links, &area, asked.to)?;
-    check_owner(rt, disk, words.base, links.system())?;
+    check_owner(rt, disk, words.place.base, links.system())?;
     Ok(links)
 }
 
@@ -124,13 +124,13 @@ fn send_base<W: Sink, E: Sink>(
     out: &mut W,
     errors: &mut E,
 ) -> Status {
-    if is_folder(rt, words.base) {
-        return match look_into(rt, words.base, repair.asked.first as u64, None) {
+    if is_folder(rt, words.place.base) {
+        return match look_into(rt, words.place.base, repair.asked.first as u64, None) {
             Ok(mut messages) => send_messages(rt, words, repair, links, &mut messages, out, errors),
             Err(fault) => fault.report(errors),
         };
     }
-    match load_base(rt, words.base) {
+    match load_base(rt, words.place.base) {
         Ok(mut messages) => send_messages(rt, words, repair, links, &mut messages, out, errors),
         Err(fault) => fault.report(errors),
     }
@@ -157,7 +157,7 @@ fn send_messages<M: MessageSource, W: Sink, E: Sink>(
         repair.asked,
         repair.held,
         links,
-        words.base,
+        words.place.base,
         messages,
         &mut nowhere,
     ) {
@@ -228,7 +228,7 @@ fn stage_packet<M: MessageSource, W: Sink, E: Sink>(
         repair.asked,
         repair.held,
         links,
-        words.base,
+        words.place.base,
         messages,
         &mut staged.device,
     ) {

@@ -30,7 +30,7 @@ const PACKET_KNOWN_BY: usize = 4;
 /// `resend --area TAG --to ADDRESS [--from I] --at STAMP LINKS BASE DIR`: the address, the number and the stamp are judged
 /// first, then the link file, then whether the address is a link of the area, then the base. The line is printed before the
 /// packet is written. Without messages there is neither.
-pub fn run_resend<W: Sink, E: Sink>(
+pub(crate) fn run_resend<W: Sink, E: Sink>(
     rt: &HostRuntime,
     words: &ResendWords<'_>,
     out: &mut W,
@@ -44,7 +44,7 @@ pub fn run_resend<W: Sink, E: Sink>(
         return run_repair(rt, words, asked, out, errors);
     }
     let mut disk = RealDisk::new(rt, Unknown);
-    let mut lock = LinkLock::ahead(rt, words.links);
+    let mut lock = LinkLock::ahead(rt, words.place.links);
     match packet_of(rt, &mut disk, &mut lock, words, asked) {
         Ok(packet) => send_packet(rt, words.folder, asked, &packet, out, errors),
         Err(fault) => fault.report(errors),
@@ -78,15 +78,15 @@ fn packet_of<'a, D: Disk, L: FileLock>(
     requires { L.held lock.old ≡ None }
 {
     let hasher = RandomState::new(rt).map_err(|_| Fault::Base(BaseFault::Read))?;
-    let links = links_at(rt.alloc(), disk, lock, words.links)?;
+    let links = links_at(rt.alloc(), disk, lock, words.place.links)?;
     let area = asked.area.to_ascii_uppercase(rt.alloc())?;
     check_linked(&links, &area, asked.to)?;
-    check_owner(rt, disk, words.base, links.system())?;
-    if is_folder(rt, words.base) {
-        let mut messages = look_into(rt, words.base, 0, None)?;
-        return resend_of(rt.alloc(), asked, &links, words.base, &mut messages);
+    check_owner(rt, disk, words.place.base, links.system())?;
+    if is_folder(rt, words.place.base) {
+        let mut messages = look_into(rt, words.place.base, 0, None)?;
+        return resend_of(rt.alloc(), asked, &links, words.place.base, &mut messages);
     }
-    let base = read_file(rt, words.base, usize::MAX)?;
+    let base = read_file(rt, words.place.base, usize::MAX)?;
     resend(rt.alloc(), asked, links, &base, hasher)
 }
 

@@ -11,7 +11,7 @@ use cmd_numbered::{
     tell_exported,
 };
 use cmd_status::{Fault, Status, ended, number_of};
-use cmd_words::ExportWords;
+use cmd_words::ExportStoredWords;
 use disk_io::Sink;
 use disk_system::{
     BY_UMASK, NewFile, OutputFault, create_file, flush_folder, folder_of, remove_left,
@@ -76,14 +76,13 @@ impl<E: Sink> FolderFiles<'_, '_, E> {
 
 /// `export --msg DIR --area TAG [--from I] BASE`: the number is judged first. The folder is locked before the base is
 /// read, and a fault of the base counts before one of the folder. Each file is made before the next message is read.
-pub fn run_export_stored<W: Sink, E: Sink>(
+pub(crate) fn run_export_stored<W: Sink, E: Sink>(
     rt: &HostRuntime,
-    words: &ExportWords<'_>,
-    folder: &str,
+    words: &ExportStoredWords<'_>,
     out: &mut W,
     errors: &mut E,
 ) -> Status {
-    let (locked, exported) = match export_into(rt, words, folder, errors) {
+    let (locked, exported) = match export_into(rt, words, errors) {
         Ok(exported) => exported,
         Err(fault) => return fault.report(errors),
     };
@@ -102,14 +101,14 @@ pub fn run_export_stored<W: Sink, E: Sink>(
 // Makes the files, and returns the folder under its lock.
 fn export_into<'a, E: Sink>(
     rt: &HostRuntime,
-    words: &ExportWords<'a>,
-    folder: &'a str,
+    words: &ExportStoredWords<'a>,
     errors: &mut E,
 ) -> Result<(File, Exported<'a>), Fault<'a>> {
     let first = match words.from {
         Some(word) => number_of(word)?,
         None => 0,
     };
+    let folder = words.folder;
     let locked = locked_folder(rt, folder);
     let mut files = FolderFiles { rt, folder, errors };
     if is_folder(rt, words.base) {
@@ -126,7 +125,7 @@ fn export_into<'a, E: Sink>(
 
 // Makes the files of these messages.
 fn export_messages<'a, M: MessageSource, E: Sink>(
-    words: &ExportWords<'a>,
+    words: &ExportStoredWords<'a>,
     first: u64,
     messages: &mut M,
     files: &mut FolderFiles<'_, 'a, E>,
@@ -138,7 +137,7 @@ fn export_messages<'a, M: MessageSource, E: Sink>(
         number,
         bytes: bytes.as_ref().map(|bytes| bytes.as_slice()),
     };
-    let area = words.area.unwrap_or("").as_bytes();
+    let area = words.area.as_bytes();
     export_files(
         files.rt.alloc(),
         area,

@@ -9,16 +9,17 @@
 //! messages, and no reader sees bytes after these. Until the next run the number of active messages may be too small, and
 //! earlier headers may not name the last replies.
 
+use crate::contents::{Contents, OtherFiles};
 use crate::locked::{begun_again, locked_headers};
-use crate::named::{bytes_of, jam_fault, open_file, open_or_make, write_at};
+use crate::named::{bytes_of, jam_fault, open_or_make, write_at};
 use crate::texts::{ROOM, Texts};
 use base_folder::MessageSource;
 use cmd_input::{is_folder, load_base, look_into};
 use cmd_numbered::{JamBase, JamEnd, JamExport, JamExportError, export_jam, tell_added, tell_cuts};
 use cmd_status::{Fault, Status, ended, number_of};
-use cmd_words::ExportWords;
+use cmd_words::ExportJamWords;
 use disk_io::{Sink, Watched};
-use echo_jam::{Last, Standing, counts_after, link_replies, standing_in};
+use echo_jam::{Last, Standing, counts_after, link_replies};
 use std::alloc::AllocError;
 use std::fs::File;
 use std::io;
@@ -39,8 +40,6 @@ struct JamFiles {
     index: File,
     found: Vec<u8>,
     entries: Vec<u8>,
-    index_end: u64,
-    index_len: u64,
     standing: Standing,
     end: JamEnd,
     text: Vec<u8>,
@@ -50,12 +49,11 @@ struct JamFiles {
 /// the JAM base, and last the messages of the base. The JAM base is locked before the base is read.
 pub fn run_export_jam<W: Sink, E: Sink>(
     rt: &HostRuntime,
-    words: &ExportWords<'_>,
-    path: &str,
+    words: &ExportJamWords<'_>,
     out: &mut W,
     errors: &mut E,
 ) -> Status {
-    let (files, exported, sent) = match jam_given(rt, words, path) {
+    let (files, exported, sent) = match jam_given(rt, words) {
         Ok(given) => given,
         Err(fault) => return fault.report(errors),
     };
@@ -73,7 +71,7 @@ pub fn run_export_jam<W: Sink, E: Sink>(
     };
     let _ = files.headers.unlock();
     match stopped {
-        Some(error) => jam_fault(&error, path).report(errors),
+        Some(error) => jam_fault(&error, words.jam).report(errors),
         None => {
             tell_cuts(rt.alloc(), exported.adding.jam.cuts, errors);
             ended(reported, errors)
@@ -84,31 +82,30 @@ pub fn run_export_jam<W: Sink, E: Sink>(
 // The JAM base, the additions to it, and whether their texts are in its file.
 fn jam_given<'a>(
     rt: &HostRuntime,
-    words: &ExportWords<'a>,
-    path: &'a str,
+    words: &ExportJamWords<'a>,
 ) -> Result<(JamFiles, JamExport, io::Result<()>), Fault<'a>> {
     let first = match words.from {
         Some(word) => number_of(word)?,
         None => 0,
     };
+    let path = words.jam;
     let headers = locked_headers(rt, path, words.base);
     if is_folder(rt, words.base) {
         let mut messages = look_into(rt, words.base, 0, None)?;
         let files = jam_files(rt, path, headers?)?;
-        let (exported, sent) = jam_under(rt, words, path, first, &files, &mut messages)?;
+        let (exported, sent) = jam_under(rt, words, first, &files, &mut messages)?;
         return Ok((files, exported, sent));
     }
     let mut messages = load_base(rt, words.base)?;
     let files = jam_files(rt, path, headers?)?;
-    let (exported, sent) = jam_under(rt, words, path, first, &files, &mut messages)?;
+    let (exported, sent) = jam_under(rt, words, first, &files, &mut messages)?;
     Ok((files, exported, sent))
 }
 
 // The additions of these messages, and whether their texts are in the file.
 fn jam_under<'a, M: MessageSource>(
     rt: &HostRuntime,
-    words: &ExportWords<'a>,
-    path: &'a str,
+    words: &ExportJamWords<'a>,
     first: u64,
     files: &JamFiles,
     messages: &mut M,
@@ -122,7 +119,7 @@ fn jam_under<'a, M: MessageSource>(
         text: files.text.as_slice(),
         end: files.end,
     };
-    let area = words.area.unwrap_or("").as_bytes();
+    let area = words.area.as_bytes();
     let mut texts = Watched::new(Texts {
         file: &files.texts,
         at: u64::from(files.end.texts),
@@ -145,7 +142,7 @@ fn jam_under<'a, M: MessageSource>(
     let fault = match exported {
         Ok(exported) => return Ok((exported, sent)),
         Err(JamExportError::Messages(fault)) => fault,
-        Err(JamExportError::Device) => Fault::CannotUse(path),
+        Err(JamExportError::Device) => Fault::CannotUse(words.jam),
     };
     cut_back(&files.texts, files.end.texts);
     Err(fault)
@@ -165,51 +162,52 @@ fn cut_back(file: &File, end: u32) {
 fn jam_files<'a>(rt: &HostRuntime, path: &'a str, headers: File) -> Result<JamFiles, Fault<'a>> {
     let found = bytes_of(rt, path, &headers)?;
     let found = begun_again(rt, path, &headers, found)?;
-    let texts = open_file(rt, path, ".jdt").map_err(|error| jam_fault(&error, path))?;
-    let index = open_file(rt, path, ".jdx").map_err(|error| jam_fault(&error, path))?;
+    let others = OtherFiles::open(rt, path)?;
     open_or_make(rt, path, ".jlr").map_err(|error| jam_fault(&error, path))?;
-    files_read(rt, path, headers, found, texts, index)
-}
-
-// The contents of the files.
-fn files_read<'a>(
-    rt: &HostRuntime,
-    path: &'a str,
-    headers: File,
-    found: Vec<u8>,
-    texts: File,
-    index: File,
-) -> Result<JamFiles, Fault<'a>> {
-    let entries = bytes_of(rt, path, &index)?;
-    let texts_end = match texts.metadata() {
-        Ok(found) => found.len(),
-        Err(error) => return Err(jam_fault(&error, path)),
-    };
-    let standing = match standing_in(found.as_slice(), entries.as_slice(), texts_end) {
-        Some(standing) => standing,
-        None => return Err(Fault::CannotUse(path)),
-    };
-    let text = last_text(rt, &texts, texts_end, standing.last).map_err(|error| jam_fault(
-        &error, path,
-    ))?;
-    let end = JamEnd {
-        number: standing.next,
-        headers: u32::try_from(found.len()).map_err(|_| Fault::CannotUse(path))?,
-        texts: u32::try_from(texts_end).map_err(|_| Fault::CannotUse(path))?,
-    };
-    let index_end = u64::from(standing.entries) * 8;
+    let contents = others.read(rt, path, &found)?;
+    let (end, text) = end_of(rt, path, &others.texts, &found, &contents)?;
+    let OtherFiles { texts, index } = others;
+    let Contents {
+        entries,
+        standing,
+        ..
+    } = contents;
     Ok(JamFiles {
         headers,
         texts,
         index,
         found,
-        index_end,
-        index_len: entries.len() as u64,
         entries,
         standing,
         end,
         text,
     })
+}
+
+// Where the next message goes, and the text of the last one.
+fn end_of<'a>(
+    rt: &HostRuntime,
+    path: &'a str,
+    texts: &File,
+    found: &[u8],
+    contents: &Contents,
+) -> Result<(JamEnd, Vec<u8>), Fault<'a>> {
+    let texts_end = contents.texts_end;
+    let text = match last_text(rt, texts, texts_end, contents.standing.last) {
+        Ok(text) => text,
+        Err(error) => return Err(jam_fault(&error, path)),
+    };
+    match (u32::try_from(found.len()), u32::try_from(texts_end)) {
+        (Ok(headers), Ok(texts)) => {
+            let end = JamEnd {
+                number: contents.standing.next,
+                headers,
+                texts,
+            };
+            Ok((end, text))
+        }
+        _ => Err(Fault::CannotUse(path)),
+    }
 }
 
 // The text of the last message, where it has one.
@@ -229,12 +227,20 @@ fn last_text(
     Ok(text)
 }
 
+impl JamFiles {
+    // The place after the entries of the index.
+    fn index_end(&self) -> u64 {
+        u64::from(self.standing.entries) * 8
+    }
+}
+
 // Writes the new headers, the index and the counts. No byte changes if nothing was added, the count of active messages
 // is right, and the index ends without an entry of zeros.
 fn write_jam(rt: &HostRuntime, files: &JamFiles, exported: &JamExport) -> io::Result<()> {
     let standing = files.standing;
     let added = exported.adding.messages.len();
-    let has_zeros = files.index_len.saturating_sub(files.index_end) >= 8;
+    let index_end = files.index_end();
+    let has_zeros = (files.entries.len() as u64).saturating_sub(index_end) >= 8;
     if added == 0 && standing.active == standing.counted && !has_zeros {
         return Ok(());
     }
@@ -244,10 +250,10 @@ fn write_jam(rt: &HostRuntime, files: &JamFiles, exported: &JamExport) -> io::Re
     let new = headers.get(files.found.len()..).unwrap_or(&[]);
     write_at(&files.headers, new, u64::from(files.end.headers))?;
     if has_zeros {
-        files.index.set_len(files.index_end)?;
+        files.index.set_len(index_end)?;
         files.index.sync_all()?;
     }
-    write_at(&files.index, jam.index.as_slice(), files.index_end)?;
+    write_at(&files.index, jam.index.as_slice(), index_end)?;
     write_replies(files, headers.as_slice())?;
     write_at(&files.headers, counts.as_slice(), COUNTS_AT)
 }
@@ -304,7 +310,7 @@ fn entries_made(files: &JamFiles, exported: &JamExport) -> usize {
     let Ok(found) = files.index.metadata() else {
         return 0;
     };
-    let entries = found.len().saturating_sub(files.index_end) / 8;
+    let entries = found.len().saturating_sub(files.index_end()) / 8;
     if entries == 0 {
         cut_back(&files.headers, files.end.headers);
         cut_back(&files.texts, files.end.texts);

@@ -2,9 +2,10 @@
 //! `post --jam` posts. Both are proved to be safe and to end, and no more. echo_jam promises the bytes of each file.
 //!
 //! Begin with `jam`, the export. `locked` begins a JAM base and locks it. `named` has its files, by the path of the base,
-//! and `texts` a writer of its texts. `outbox` reads the messages that are to be posted, and marks posted ones.
+//! `contents` reads them, and `texts` is a writer of its texts. `outbox` reads the messages that are to be posted, and marks posted ones.
 #![tactic(auto)]
 
+mod contents;
 mod jam;
 mod locked;
 mod named;

@@ -3,13 +3,11 @@
 //! The file of headers is locked from the first read until the last mark. A mark is one byte, flushed before the next
 //! message is posted. The count of changes comes last.
 
+use crate::contents::{Contents, OtherFiles};
 use crate::locked::locked_again;
-use crate::named::{bytes_of, jam_fault, open_file, write_at};
+use crate::named::{bytes_of, jam_fault, write_at};
 use cmd_status::Fault;
-use echo_jam::{
-    ATTRIBUTE_AT, JamDraft, Last, Standing, counts_after, read_jam, sent_attribute, standing_in,
-    unsent_at,
-};
+use echo_jam::{ATTRIBUTE_AT, JamDraft, Last, counts_after, read_jam, sent_attribute, unsent_at};
 use std::fs::File;
 use std::os::unix::fs::FileExt;
 
@@ -26,9 +24,7 @@ pub struct Outbox<'a> {
     headers: File,
     texts: File,
     found: Vec<u8>,
-    entries: Vec<u8>,
-    texts_end: u64,
-    standing: Standing,
+    contents: Contents,
     marked: bool,
 }
 
@@ -52,37 +48,27 @@ impl<'a> Outbox<'a> {
     pub fn open(rt: &HostRuntime, path: &'a str) -> Result<Outbox<'a>, Fault<'a>> {
         let headers = locked_again(rt, path)?;
         let found = bytes_of(rt, path, &headers)?;
-        let texts = open_file(rt, path, ".jdt").map_err(|error| jam_fault(&error, path))?;
-        let index = open_file(rt, path, ".jdx").map_err(|error| jam_fault(&error, path))?;
-        let entries = bytes_of(rt, path, &index)?;
-        let texts_end = match texts.metadata() {
-            Ok(found) => found.len(),
-            Err(error) => return Err(jam_fault(&error, path)),
-        };
-        match standing_in(found.as_slice(), entries.as_slice(), texts_end) {
-            Some(standing) => Ok(Outbox {
-                path,
-                headers,
-                texts,
-                found,
-                entries,
-                texts_end,
-                standing,
-                marked: false,
-            }),
-            None => Err(Fault::CannotUse(path)),
-        }
+        let others = OtherFiles::open(rt, path)?;
+        let contents = others.read(rt, path, &found)?;
+        Ok(Outbox {
+            path,
+            headers,
+            texts: others.texts,
+            found,
+            contents,
+            marked: false,
+        })
     }
 
     /// How many entries the index has.
     pub fn entries(&self) -> usize {
-        self.standing.entries as usize
+        self.contents.standing.entries as usize
     }
 
     /// The message of an entry, if it is to be posted.
     pub fn unsent(&self, rt: &HostRuntime, i: usize) -> Result<Option<OutboxMessage>, Fault<'a>> {
-        let (headers, index) = (self.found.as_slice(), self.entries.as_slice());
-        match unsent_at(headers, index, self.texts_end, i) {
+        let (headers, index) = (self.found.as_slice(), self.contents.entries.as_slice());
+        match unsent_at(headers, index, self.contents.texts_end, i) {
             Some(last) => Ok(Some(self.with_text(rt, last, i)?)),
             None => Ok(None),
         }
@@ -95,10 +81,10 @@ impl<'a> Outbox<'a> {
         last: Last,
         i: usize,
     ) -> Result<OutboxMessage, Fault<'a>> {
-        if u64::from(last.text) + u64::from(last.size) > self.texts_end {
+        if u64::from(last.text) + u64::from(last.size) > self.contents.texts_end {
             return Err(Fault::CannotUse(self.path));
         }
-        let standing = self.standing;
+        let standing = self.contents.standing;
         let first = u64::from(standing.next).saturating_sub(u64::from(standing.entries));
         let mut text = Vec::new(rt.alloc());
         text.resize(last.size as usize, 0)?;
@@ -153,7 +139,7 @@ impl<'a> Outbox<'a> {
         if !self.marked {
             return Ok(());
         }
-        let counts = counts_after(rt.alloc(), self.standing, 0)?;
+        let counts = counts_after(rt.alloc(), self.contents.standing, 0)?;
         write_at(&self.headers, counts.as_slice(), COUNTS_AT).map_err(|error| jam_fault(
             &error, self.path,
         ))

@@ -15,7 +15,7 @@ struct Files<'a> {
 
 /// `links [--areas] LINKS...`: the files that cannot be used are reported after the lines of the others. The
 /// status is the greatest of all files.
-pub fn run_links<W: Sink, E: Sink>(
+pub(crate) fn run_links<W: Sink, E: Sink>(
     rt: &HostRuntime,
     areas: bool,
     paths: &PathNames<'_>,

@@ -16,7 +16,7 @@ use std::alloc::AllocError;
 use std::collections::hash_map::RandomState;
 
 /// `check [--nodelist LIST] [--more] [--assume ADDRESS].. TAG LINKS...`, and `check --all` without a tag
-pub fn run_check<'a, W: Sink>(
+pub(crate) fn run_check<'a, W: Sink>(
     rt: &HostRuntime,
     words: &CheckWords<'a>,
     links: &'a PathNames<'a>,
@@ -90,7 +90,7 @@ fn paths_of(rt: &HostRuntime, links: &PathNames<'_>) -> Result<Vec<Items<u8>>, A
 }
 
 /// `why [--assume ADDRESS].. TAG LINKS...`
-pub fn run_why<'a, W: Sink>(
+pub(crate) fn run_why<'a, W: Sink>(
     rt: &HostRuntime,
     assumed: &[&'a str],
     tag: &'a str,
@@ -128,7 +128,7 @@ fn noted<'a, W: Sink>(
 }
 
 /// `picture [--why] [--assume ADDRESS].. TAG LINKS...`
-pub fn run_picture<'a, W: Sink>(
+pub(crate) fn run_picture<'a, W: Sink>(
     rt: &HostRuntime,
     with_why: bool,
     assumed: &[&'a str],
@@ -173,7 +173,7 @@ impl ReplayProgress for Events<'_, '_> {
 }
 
 /// `replay SCRIPT LINKS...`
-pub fn run_replay<'a, W: Sink>(
+pub(crate) fn run_replay<'a, W: Sink>(
     rt: &HostRuntime,
     script: &'a str,
     links: &'a PathNames<'a>,

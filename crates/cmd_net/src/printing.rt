@@ -6,7 +6,7 @@ use cmd_status::{Fault, Status, parse_address};
 use disk_io::Sink;
 
 /// `show [--hex] [--text] PACKET`
-pub fn run_show<'a, W: Sink>(
+pub(crate) fn run_show<'a, W: Sink>(
     rt: &HostRuntime,
     hex: bool,
     full: bool,
@@ -18,7 +18,7 @@ pub fn run_show<'a, W: Sink>(
 }
 
 /// `nodelist [--find ADDRESS] FILE`: the address is judged first, then the file.
-pub fn run_nodelist<'a, W: Sink>(
+pub(crate) fn run_nodelist<'a, W: Sink>(
     rt: &HostRuntime,
     find: Option<&'a str>,
     file: &'a str,

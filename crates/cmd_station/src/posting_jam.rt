@@ -1,8 +1,7 @@
 //! `post --jam`: the messages that an editor wrote into a JAM base are posted, and marked as sent.
 ghost use Rattle.std.specs.Prelude.{◌≡◌, None};
 
-use crate::changing::{BaseCommand, PostEnd, post_at};
-use crate::place::Place;
+use crate::changing::{BaseCommand, PostEnd, find_and_post};
 use base_file::BaseFault;
 use cmd_input::{LinkLock, is_folder, look_into, moment_of, read_file, serial_from};
 use cmd_jam::Outbox;
@@ -10,7 +9,7 @@ use cmd_numbered::{PostedWords, is_posted, is_posted_of, own_serial, tell_refuse
 use cmd_report::NewMessage;
 use cmd_status::{Fault, FileLock, Status};
 use cmd_store::Post;
-use cmd_words::PostJamWords;
+use cmd_words::{Place, PostJamWords};
 use disk_io::{Disk, Sink};
 use disk_system::{RealDisk, Unknown};
 use echo_addr::Address;
@@ -21,7 +20,7 @@ use std::collections::hash_map::RandomState;
 
 /// `post --jam PATH --area TAG`: the words are judged first, then the link file, then the JAM base. Each message is
 /// marked once it is posted. One that is refused stays as it is, and the next one follows.
-pub fn run_post_jam<W: Sink, E: Sink>(
+pub(crate) fn run_post_jam<W: Sink, E: Sink>(
     rt: &HostRuntime,
     words: &PostJamWords<'_>,
     out: &mut W,
@@ -100,14 +99,11 @@ impl<'a> JamPoster<'a> {
         let (serial, _) = serial_from(rt, words.serial)?;
         let stamp = moment_of(rt, words.at)?;
         let mut disk = RealDisk::new(rt, Unknown);
-        let mut lock = LinkLock::ahead(rt, words.links);
-        let own = own_address(rt, &mut disk, &mut lock, words.links)?;
+        let mut lock = LinkLock::ahead(rt, words.place.links);
+        let own = own_address(rt, &mut disk, &mut lock, words.place.links)?;
         Ok(JamPoster {
             rt,
-            place: Place {
-                links: words.links,
-                base: words.base,
-            },
+            place: words.place,
             tag: words.area,
             own,
             serial,
@@ -177,7 +173,7 @@ impl<'a> JamPoster<'a> {
             free,
             body: draft.body.as_slice(),
         };
-        post_at(
+        find_and_post(
             self.rt,
             self.place,
             &mut BaseCommand::Post(post),

@@ -212,7 +212,7 @@ module _ (stations : List Station) (packets : List (List ℕ)) (some : IsSomeNet
 
 pub headline-from-any-state : HeadlineFromAnyState
 headline-from-any-state nodelist more tag stations packets stopped old new good some key of_area is_new commands net happen =
-    let (files, are, tidy, orderly) = checked nodelist more tag (links_at stations) stopped old new good in
+    let (files, are, tidy) = checked nodelist more tag (links_at stations) stopped old new good in
     in-order stations packets some files are tidy.joined.one_file commands net happen (upper tag) tidy key of_area is_new
 
 -- and all packet files are packets
@@ -220,7 +220,7 @@ pub packets-read : (nodelist : Option (List ℕ)) (more : Bool) (tag : List ℕ)
     → CheckAnswers nodelist more tag (links_at stations) stopped old new (Ok Good) → IsSomeNet stations packets
     → (commands : List CommandEvent) (net : Net) → Happen commands (net_at stations packets) net → (ps : List Packet) × Paired ReadsAs net.packets ps
 packets-read nodelist more tag stations packets stopped old new good some commands net happen =
-    let (files, are, tidy, orderly) = checked nodelist more tag (links_at stations) stopped old new good in
+    let (files, are, tidy) = checked nodelist more tag (links_at stations) stopped old new good in
     let l = led stations packets some files are tidy.joined.one_file commands net happen in
     (ps-of net (run stations packets some files are tidy.joined.one_file commands net happen) l.agrees)
   where
