@@ -87,8 +87,8 @@ pub(crate) fn ids_of<'g>(
 {
     let mut all = Vec::with_capacity(alloc, gathered.lengths.len())?;
     let mut rest = gathered.bytes.as_slice();
-    'ids: for length in &gathered.lengths {
-        let (id, behind) = rest.split_at((*length).min(rest.len()));
+    'ids: for size in &gathered.lengths {
+        let (id, behind) = rest.split_at((*size).min(rest.len()));
         all.push(id)?;
         rest = behind;
     }

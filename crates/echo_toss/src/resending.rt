@@ -43,6 +43,7 @@ pub fn push_resent(
 }
 
 /// Adds the bytes of the message as a scan exports it, for this address, whoever sent it and whatever its SEEN-BY lists.
+#[tactic(auto, unfolding(model_steps::specs::Scanning::copy_to))]
 pub fn push_exported(
     alloc: Global,
     links: &LinkFile,
