@@ -1,5 +1,5 @@
 -- The output and the effect of `scan`, and the name of a packet made again.
-use Rattle.std.specs.Prelude.{ℕ, List, ◌++◌, length, codes, decimal}
+use Rattle.std.specs.Prelude.{ℕ, ◌==◌, List, ◌++◌, length, codes, decimal, if◌then◌else◌}
 use Rattle.echo_addr.specs.declared.address.Address.{Address}
 use Rattle.echo_packet.specs.Packet.{packet_bytes}
 use Rattle.model_steps.specs.{declared.packet.Packet.Packet, PacketFiles.PacketFile}
@@ -15,6 +15,12 @@ packet_name to before =
 abbrev pub resent_name : Address → ℕ → List ℕ
 resent_name to first =
     decimal to.zone ++ (codes "." ++ (decimal to.net ++ (codes "." ++ (decimal to.node ++ (codes ".r" ++ (decimal first ++ codes ".pkt"))))))
+
+-- The same, or `zone.net.node.rI-K.pkt` for a number K of other than 1.
+abbrev pub repair_name : Address → ℕ → ℕ → List ℕ
+repair_name to first number =
+    if number == 1 then resent_name to first
+    else decimal to.zone ++ (codes "." ++ (decimal to.net ++ (codes "." ++ (decimal to.node ++ (codes ".r" ++ (decimal first ++ (codes "-" ++ (decimal number ++ codes ".pkt"))))))))
 
 -- The file of a packet.
 abbrev pub file_sent : ℕ → Packet → PacketFile

@@ -23,6 +23,6 @@ pub use coming::PacketFiles;
 pub use lines::{MOST_TALLY, push_posted, push_purged, push_tally};
 pub use posting::{NewMessage, draft_of};
 pub use replying::{Answer, ReplyFields, found_in, is_id};
-pub use scanning::{packet_name, push_counted, push_packet, resent_name};
+pub use scanning::{packet_name, push_counted, push_packet, repair_name, resent_name};
 pub use storing::toss_noting_in;
 pub use tossing::fault_of;

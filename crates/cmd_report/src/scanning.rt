@@ -1,6 +1,6 @@
 //! The names of the packets of a scan, and their lines.
 ghost use Rattle.std.specs.{Prelude.◌≡◌, Prelude.◌++◌, Prelude.IfOk, Prelude.OnOk, List.flat_map};
-ghost use Rattle.cmd_report.specs.{Scanned.counted_line, Scanned.line_sent, Scanned.packet_name, Scanned.resent_name, Lines.named_receiver};
+ghost use Rattle.cmd_report.specs.{Scanned.counted_line, Scanned.line_sent, Scanned.packet_name, Scanned.repair_name, Scanned.resent_name, Lines.named_receiver};
 
 use crate::lines::push_sent;
 use echo_addr::Address;
@@ -49,6 +49,26 @@ pub fn resent_name(alloc: Global, to: Address, first: usize) -> Result<Vec<u8>, 
     let net = to.net;
     let node = to.node;
     let name = format!(in alloc; "{zone}.{net}.{node}.r{first}.pkt")?;
+    Ok(name.into_bytes())
+}
+
+/// The name of the file of a packet of all messages from this number on: for the number 1 that of a packet made again,
+/// else one with this number.
+pub fn repair_name(
+    alloc: Global,
+    to: Address,
+    first: usize,
+    number: u32,
+) -> Result<Vec<u8>, AllocError>
+    ensures { IfOk result (λ name. name.items ≡ repair_name to first number) }
+{
+    if number == 1 {
+        return resent_name(alloc, to, first);
+    }
+    let zone = to.zone;
+    let net = to.net;
+    let node = to.node;
+    let name = format!(in alloc; "{zone}.{net}.{node}.r{first}-{number}.pkt")?;
     Ok(name.into_bytes())
 }
 
