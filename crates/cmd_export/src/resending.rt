@@ -7,8 +7,8 @@ use cmd_input::{
     LinkLock, folder_path, is_folder, is_strange, look_into, moment_of, output_fault, read_file,
 };
 use cmd_numbered::{resend, resend_of};
-use cmd_report::{push_packet, resent_name};
 use cmd_status::{Fault, FileLock, Status, number_of, parse_address, print_rest};
+use cmd_store::{push_packet, resent_name};
 use cmd_words::ResendWords;
 use disk_io::{Disk, Sink};
 use disk_system::{
