@@ -19,7 +19,7 @@ stations   | station_scan | a scan with its packets
 commands   | cmd_store | those that change a base, on any store
            | cmd_check | those that judge a net, or try one out
            | cmd_show cmd_numbered cmd_repair | those that print, export or repair
-           | cmd_report cmd_print echo_export | words, lines, forms
+           | cmd_print echo_export | lines, forms
 verdicts   | echo_net model_replay model_plan model_why | check, replay and why, as functions
 tosser     | echo_toss | the steps of one system, on any store
 model      | model_run | runs of systems, tidy areas, any tossers, harm, the headline
