@@ -15,6 +15,7 @@ chmod 755 "$root"
 scripts/install.sh "$root" /usr
 gzip -9n "$root"/usr/share/man/man1/*.1
 mkdir "$root/DEBIAN"
+install -m 755 packaging/postinst packaging/prerm "$root/DEBIAN"
 sed "s/VERSION/$version/; s/ARCHITECTURE/$architecture/; s/LIBC/$libc/; s/COMMIT/$commit/" packaging/control > "$root/DEBIAN/control"
 package=bin/echonet_${version}_$architecture.deb
 dpkg-deb --build --root-owner-group "$root" "$package" > /dev/null
