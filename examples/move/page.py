@@ -144,7 +144,8 @@ class Section:
         """All faults."""
         faults = self.area.verdict.faults
         if not faults:
-            return '<p class="cost good">No fault: each message reaches each system once.</p>' + self.unseen()
+            words = "No fault in what was seen." if self.area.verdict.assumed else "No fault: each message reaches each system once."
+            return '<p class="cost good">%s</p>%s' % (words, self.unseen())
         more = "<p>And %d more: <code>echonet check --more %s</code> prints them.</p>" % (
             len(faults) - MOST_FAULTS, escape(self.area.tag)) if len(faults) > MOST_FAULTS else ""
         return '<ul class="faults">%s</ul>%s' % ("".join(map(self.fault, faults[:MOST_FAULTS])), more) + self.unseen()
