@@ -4,7 +4,7 @@
 # These compare the built program with what is expected:
 # - `make show-examples`: what `show` prints of the packets in examples/packets.
 # - `make cases`: what each command prints and leaves in the tables of examples/cases.
-# - `make story`: three systems on real files. `make net-test`: the scripts of examples/net.
+# - `make story`: three systems on real files. `make net-test`: the scripts of station.
 # - `make manual-test`: the manual page against the program's help.
 # - `make small-nets`: the verdicts on all small nets against the definitions.
 # - `make follow`: the sessions of docs/OPERATORS.md. It needs binkd.
@@ -48,7 +48,7 @@ bin/echonet: bin/proved/echonet
 	@cp crates/echonet/out/echonet bin/echonet
 else
 .PHONY: bin/echonet
-# For `make trials` this also proves a program that replays events, and crashes commands on a disk in memory.
+# For `make trials` this also proves a program that replays events.
 bin/echonet: toolchain
 	$(call prove,echonet $(if $(filter trials,$(MAKECMDGOALS)),test_trials),bin/echonet)
 endif

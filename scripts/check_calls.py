@@ -19,15 +19,14 @@ CHANGES = {
     "cmd_base/outbound_note": "the note of the folder of packets, in a base folder",
     "cmd_base/hard_links": "copies of files that a snapshot shares, before a base folder is opened",
     "cmd_base/scan_files": "calls of RealDisk, passed on; packets under temporary names",
-    "cmd_read/converting": "convert into a file",
-    "cmd_read/jam": "export into a JAM base",
-    "cmd_read/locked": "the same: a JAM base that is begun",
-    "cmd_read/making": "new files of export",
-    "cmd_read/named": "the files of a JAM base",
-    "cmd_read/outbox": "marks of posted messages in a JAM base",
-    "cmd_read/resending": "a packet that is made again",
-    "cmd_read/stored": "export into stored messages",
-    "cmd_read/texts": "export into a JAM base: the texts",
+    "cmd_export/converting": "convert into a file",
+    "cmd_export/resending": "a packet that is made again",
+    "cmd_export/stored": "export into stored messages",
+    "cmd_jam/jam": "export into a JAM base",
+    "cmd_jam/locked": "the same: a JAM base that is begun",
+    "cmd_jam/named": "the files of a JAM base",
+    "cmd_jam/outbox": "marks of posted messages in a JAM base",
+    "cmd_jam/texts": "export into a JAM base: the texts",
 }
 READS = {
     "disk_system/reading": "whole files",
@@ -38,12 +37,12 @@ READS = {
     "cmd_input/locks": "locks",
     "cmd_input/packets": "large packets of toss",
     "cmd_notes/file_notes": "files read again for a note on them",
-    "cmd_read/files": "the files of commands that read",
+    "cmd_export/files": "the files of commands that read",
+    "cmd_jam/contents": "the index of a JAM base, and where its texts end",
     "cmd_notes/notes": "the lists of files that a note is about",
     "cmd_notes/states": "what is found at a path, for a note",
     "cmd_station/posting_mail": "whether there is a base with an answered message",
-    "cmd_station/running": "the bound of RealDisk, no call",
-    "cmd_station/scanning": "the same",
+    "cmd_station/scanning": "the bound of RealDisk, no call",
 }
 # The functions that get the disk of the system, with their crates.
 OVER_ANY_DISK = {
@@ -56,11 +55,11 @@ OVER_ANY_DISK = {
     "read_folder": "base_folder",
     "fill": "base_folder",
 }
-CALLS = re.compile(r"\bfs::|\brt::Files\b|\bOpenOptions\b|\bFileExt\b|\bmake_new\b|\bcreate_file\b|\bbegin_file\b|\bmake_file\b")
+CALLS = re.compile(r"\bfs::|\brt::Files\b|\bOpenOptions\b|\bFileExt\b|\bmake_new\b|\bcreate_file\b|\bbegin_file\b")
 CHANGING = re.compile(
     r"\bfs::(?:rename|remove_\w+|hard_link|copy|write|create\w*|set_permissions)\b|\bOpenOptions::new\b|\bFile::create"
     r"|\.(?:set_len|set_permissions|write_all_at|set_owner|remove_file|hard_link)\(|\bfchown\("
-    r"|(?<![.\w])(?<!fn )(?<!system::)(?:make_new|create_file|begin_file|make_file|write_at|remove_left)\("
+    r"|(?<![.\w])(?<!fn )(?<!system::)(?:make_new|create_file|begin_file|write_at|remove_left)\("
 )
 # The words `disk` that only declare one.
 DECLARES = re.compile(r"\bdisk\s*:\s*(?:&mut )?D\b|\blet (?:mut )?disk\s*=\s*RealDisk::new\([\w.]+, Unknown\);")

@@ -1,7 +1,7 @@
 #!/usr/bin/env bash
 # install.sh ROOT PREFIX: installs below ROOT and PREFIX. It copies the program, its manual page and shell
-# completions. It also copies the scripts of examples/net, the tools of examples/move, the examples of packaging, and
-# the documents with their nets. The unit gets the paths below PREFIX. uninstall.sh removes the same files.
+# completions. It also copies the scripts of station, the tools of examples/move, the examples of packaging, and the
+# documents with their nets. The unit gets the paths below PREFIX. uninstall.sh removes the same files.
 set -eu
 cd "$(dirname "$0")/.."
 to=$1$2
@@ -11,9 +11,9 @@ program=bin/echonet
 install -D -m 755 "$program" "$to/bin/echonet"
 install -D -m 644 docs/echonet.1 "$to/share/man/man1/echonet.1"
 install -d "$to/share/echonet/move" "$to/share/doc/echonet/pictures" "$to/share/doc/echonet/examples"
-install -m 755 examples/net/*.sh examples/net/jam-lock "$to/share/echonet"
+install -m 755 station/*.sh station/jam-lock "$to/share/echonet"
 chmod 644 "$to/share/echonet/station.sh"
-install -m 644 examples/net/printable.awk packaging/echonet.timer packaging/echonet.logrotate packaging/settings \
+install -m 644 station/printable.awk packaging/echonet.timer packaging/echonet.logrotate packaging/settings \
   "$to/share/echonet"
 install -m 755 examples/move/*-* "$to/share/echonet/move"
 install -m 644 examples/move/packets.py "$to/share/echonet/move"
@@ -24,6 +24,7 @@ chmod 644 "$to/share/echonet/echonet.service"
 install -m 644 README.md docs/*.md "$to/share/doc/echonet"
 install -m 644 docs/pictures/* "$to/share/doc/echonet/pictures"
 cp -R examples/net examples/nets "$to/share/doc/echonet/examples"
+ln -sfn ../../echonet "$to/share/doc/echonet/station"
 chmod -R u=rwX,go=rX "$to/share/doc/echonet/examples"
 
 # Arguments: the shell, the file that it reads.

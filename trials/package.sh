@@ -17,7 +17,7 @@ files() { (cd "$1" && find . ! -type d | sort); }
 
 # Installed and removed.
 make -s install DESTDIR="$root/one" PREFIX=/usr > /dev/null || exit 1
-for file in bin/echonet share/man/man1/echonet.1 share/echonet/{post,reader,toss-inbound,scan-outbound,station}.sh \
+for file in bin/echonet share/man/man1/echonet.1 share/echonet/{post,reader,readers,toss-inbound,scan-outbound,station}.sh \
   share/echonet/{jam-lock,printable.awk,echonet.service,echonet.timer,echonet.logrotate,settings} share/doc/echonet/{README,OPERATORS,FORMATS}.md \
   share/bash-completion/completions/echonet share/zsh/site-functions/_echonet \
   share/fish/vendor_completions.d/echonet.fish share/echonet/move/{links-from,packets.py}; do

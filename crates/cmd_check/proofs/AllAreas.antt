@@ -1,26 +1,16 @@
 -- The answer of `check --all`, from those of its parts.
 use Rattle.std.proofs.Common.{◌≡◌, ◌+◌, ◌++◌, ◌<◌, ◌∙◌, ◌∷◌, [], ap, append-nil, append_assoc, arith, Bool, Contains, get_or, length, List, map, Ok, Option, refl, Result, subst, sym, take, ℕ}
+use Rattle.std.proofs.lemmas.{Bool.ne_eqb, List.get_or_default, List.map-append, List.take_more, List.Elements.All-from_recursion, List.Elements.recursion_from_All}
 use Rattle.std.specs.List.{AllByRecursion}
-use Rattle.std.proofs.lemmas.Bool.{ne_eqb}
-use Rattle.std.proofs.lemmas.List.{get_or_default, map-append, take_more}
-use Rattle.std.proofs.lemmas.List.Elements.{All-from_recursion, recursion_from_All}
-use Rattle.cmd_status.specs.Devices.{Output}
+use Rattle.cmd_status.specs.{Devices.Output, declared.fault.Fault.Fault, declared.status.Status.Status, declared.status.Status.TheVariants.Good, Inputs.AreLinkFiles, Inputs.IsNodelistGiven}
 use Rattle.echo_links.specs.Links.{LinkFile}
 use Rattle.echo_nodelist.specs.declared.line.Line.{Line}
 use Rattle.model_run.specs.Tidy.{Tidy}
-use Rattle.echo_net.specs.declared.verdict.Verdict.{Verdict}
-use Rattle.echo_net.specs.declared.verdict.Verdict.TheVariants.{Yes, No}
-use Rattle.echo_net.specs.Faults.{IsCarried, IsYes}
-use Rattle.cmd_status.specs.declared.fault.Fault.{Fault}
-use Rattle.cmd_status.specs.declared.status.Status.{Status}
-use Rattle.cmd_status.specs.declared.status.Status.TheVariants.{Good}
-use Rattle.cmd_status.specs.Inputs.{AreLinkFiles, IsNodelistGiven}
+use Rattle.echo_net.specs.{declared.verdict.Verdict.Verdict, declared.verdict.Verdict.TheVariants.Yes, declared.verdict.Verdict.TheVariants.No, Faults.IsCarried, Faults.IsYes}
 use Rattle.cmd_status.proofs.Lines.{alone}
 use Rattle.cmd_print.specs.Pushed.{Pushes}
-use Rattle.cmd_check.specs.AreaTags.{AreAllTags}
-use Rattle.cmd_check.specs.Checking.{IsCheckVerdict, RunsAreOrderly}
 use Rattle.cmd_check.specs.CheckingAll.{AreAreasChecked, CheckAllAnswers, IsAllChecked, IsAreaChecked, no_count, verdicts_status}
-use Rattle.cmd_check.specs.Further.{IsVerdictShown, areas_line}
+use Rattle.cmd_check.specs.{AreaTags.AreAllTags, Checking.IsCheckVerdict, Checking.RunsAreOrderly, Further.IsVerdictShown, Further.areas_line}
 use Rattle.cmd_check.proofs.Checks.{one_reading}
 
 -- a verdict that is not counted as a no is a yes

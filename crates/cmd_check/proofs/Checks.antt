@@ -1,18 +1,12 @@
 -- The answer of `check`, from those of its parts.
 use Rattle.std.proofs.Common.{◌≡◌, ℕ, Bool, List, [], ◌∷◌, Option, Result, Ok, refl, sym, ap, subst, ◌∙◌, arith}
-use Rattle.cmd_status.specs.Devices.{Output}
+use Rattle.cmd_status.specs.{Devices.Output, declared.fault.Fault.Fault, declared.status.Status.Status, declared.status.Status.TheVariants.Good, Inputs.AreLinkFiles, Inputs.IsNodelistGiven}
 use Rattle.echo_links.specs.Links.{LinkFile, upper}
 use Rattle.echo_nodelist.specs.declared.line.Line.{Line}
 use Rattle.model_run.specs.Tidy.{Tidy}
-use Rattle.echo_net.specs.declared.verdict.Verdict.{Verdict}
-use Rattle.echo_net.specs.declared.verdict.Verdict.TheVariants.{Yes, No}
-use Rattle.echo_net.specs.Faults.{IsYes}
-use Rattle.cmd_status.specs.declared.fault.Fault.{Fault}
-use Rattle.cmd_status.specs.declared.status.Status.{Status}
-use Rattle.cmd_status.specs.declared.status.Status.TheVariants.{Good}
-use Rattle.cmd_check.specs.Further.{IsVerdictShown}
+use Rattle.echo_net.specs.{declared.verdict.Verdict.Verdict, declared.verdict.Verdict.TheVariants.Yes, declared.verdict.Verdict.TheVariants.No, Faults.IsYes}
 use Rattle.cmd_check.specs.Checking.{CheckAnswers, IsChecked, IsCheckVerdict, RunsAreOrderly, verdict_status}
-use Rattle.cmd_status.specs.Inputs.{AreLinkFiles, IsNodelistGiven}
+use Rattle.cmd_check.specs.Further.{IsVerdictShown}
 use Rattle.cmd_print.specs.Pushed.{Pushes}
 use Rattle.cmd_status.proofs.Lines.{alone}
 

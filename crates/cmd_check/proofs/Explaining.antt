@@ -1,17 +1,11 @@
 -- A run found by the bytes of link files is a run found on these files.
 use Rattle.std.proofs.Common.{◌≡◌, ℕ, List, [], ◌∷◌, Option, refl, sym, ap, ◌∙◌, arith}
-use Rattle.echo_links.specs.Links.{LinkFile, upper}
-use Rattle.echo_links.specs.LinkLines.{file_of}
-use Rattle.echo_net.specs.declared.verdict.NetFault.{NetFault}
-use Rattle.echo_net.specs.declared.verdict.Verdict.{Verdict}
-use Rattle.echo_net.specs.declared.verdict.Verdict.TheVariants.{Yes, No}
-use Rattle.echo_net.specs.Faults.{IfNo}
-use Rattle.model_why.specs.declared.shown.Shown.{Shown}
-use Rattle.model_why.specs.Sources.{files_of}
+use Rattle.echo_links.specs.{Links.LinkFile, Links.upper, LinkLines.file_of}
+use Rattle.echo_net.specs.{declared.verdict.NetFault.NetFault, declared.verdict.Verdict.Verdict, declared.verdict.Verdict.TheVariants.Yes, declared.verdict.Verdict.TheVariants.No, Faults.IfNo}
+use Rattle.model_why.specs.{declared.shown.Shown.Shown, Sources.files_of}
 use Rattle.cmd_status.specs.Inputs.{AreLinkFiles}
-use Rattle.cmd_check.specs.Checking.{IsCheckVerdict}
+use Rattle.cmd_check.specs.{Checking.IsCheckVerdict, Explained.IsExplained, Explained.IsFoundFirst}
 use Rattle.cmd_check.proofs.Checks.{of_same}
-use Rattle.cmd_check.specs.Explained.{IsExplained, IsFoundFirst}
 
 -- the link files that were read are those of their bytes
 pub given_files : (inputs : List (List ℕ)) (files : List LinkFile) → AreLinkFiles inputs files → files_of inputs ≡ files

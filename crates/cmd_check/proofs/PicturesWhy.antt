@@ -1,21 +1,12 @@
 -- The answer of `picture --why`, from those of its parts.
 use Rattle.std.proofs.Common.{◌≡◌, ℕ, List, Option, refl, sym, ap, ◌∙◌}
 use Rattle.echo_links.specs.Links.{LinkFile, upper}
-use Rattle.echo_net.specs.declared.drawing.Crossing.{Crossing}
-use Rattle.echo_net.specs.declared.drawing.Drawing.{Drawing}
-use Rattle.echo_net.specs.declared.verdict.Verdict.{Verdict}
-use Rattle.echo_net.specs.Drawn.{IsDrawing}
-use Rattle.model_why.specs.declared.shown.Shown.{Shown}
-use Rattle.model_why.specs.Carrying.{found_crossings}
-use Rattle.model_why.specs.Sources.{files_of}
-use Rattle.cmd_status.specs.declared.status.Status.{Status}
-use Rattle.cmd_check.specs.Checking.{IsCheckVerdict, verdict_status}
-use Rattle.cmd_status.specs.Inputs.{AreLinkFiles}
+use Rattle.echo_net.specs.{declared.drawing.Crossing.Crossing, declared.drawing.Drawing.Drawing, declared.verdict.Verdict.Verdict, Drawn.IsDrawing}
+use Rattle.model_why.specs.{declared.shown.Shown.Shown, Carrying.found_crossings, Sources.files_of}
+use Rattle.cmd_status.specs.{declared.status.Status.Status, Inputs.AreLinkFiles}
+use Rattle.cmd_check.specs.{Checking.IsCheckVerdict, Checking.verdict_status, Explained.IsFoundFirst, PicturingWhy.IsPicturedWhy}
 use Rattle.cmd_print.specs.Pictured.{picture_lines}
-use Rattle.cmd_check.specs.Explained.{IsFoundFirst}
-use Rattle.cmd_check.specs.PicturingWhy.{IsPicturedWhy}
-use Rattle.cmd_check.proofs.Checks.{good_is_yes, of_same, yes_is_good}
-use Rattle.cmd_check.proofs.Explaining.{given_files, was_explained}
+use Rattle.cmd_check.proofs.{Checks.good_is_yes, Checks.of_same, Checks.yes_is_good, Explaining.given_files, Explaining.was_explained}
 
 -- the verdict, the picture and the run of link files that were read
 pub record IsDrawnWhy (inputs : List (List ℕ)) (files : List LinkFile) (t : List ℕ) (verdict : Verdict) (drawing : Drawing) (found : Option Shown) : Type 0 where

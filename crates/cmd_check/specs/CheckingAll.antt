@@ -1,20 +1,12 @@
 -- The answer of `check --all`.
 use Rattle.std.specs.Prelude.{◌≡◌, ◌↔◌, ◌+◌, ◌==◌, ℕ, Bool, List, [], ◌∷◌, ◌++◌, length, Option, None, Result, if◌then◌else◌}
-use Rattle.cmd_status.specs.Devices.{Output}
+use Rattle.cmd_status.specs.{Devices.Output, declared.fault.Fault.Fault, declared.status.Status.Status, declared.status.Status.TheVariants.Good, declared.status.Status.TheVariants.Differs}
+use Rattle.cmd_status.specs.{Ended.Answers, Inputs.AreLinkFiles, Inputs.IsFirstFaultGiven, Inputs.IsNodelistGiven}
 use Rattle.echo_links.specs.Links.{LinkFile}
 use Rattle.echo_nodelist.specs.declared.line.Line.{Line}
 use Rattle.model_run.specs.Tidy.{Tidy}
-use Rattle.echo_net.specs.declared.verdict.Verdict.{Verdict}
-use Rattle.echo_net.specs.declared.verdict.Verdict.TheVariants.{Yes, No}
-use Rattle.echo_net.specs.Faults.{IsCarried}
-use Rattle.cmd_status.specs.declared.fault.Fault.{Fault}
-use Rattle.cmd_status.specs.declared.status.Status.{Status}
-use Rattle.cmd_status.specs.declared.status.Status.TheVariants.{Good, Differs}
-use Rattle.cmd_status.specs.Ended.{Answers}
-use Rattle.cmd_status.specs.Inputs.{AreLinkFiles, IsFirstFaultGiven, IsNodelistGiven}
-use Rattle.cmd_check.specs.AreaTags.{AreAllTags}
-use Rattle.cmd_check.specs.Checking.{IsCheckVerdict, RunsAreOrderly}
-use Rattle.cmd_check.specs.Further.{IsVerdictShown, areas_line}
+use Rattle.echo_net.specs.{declared.verdict.Verdict.Verdict, declared.verdict.Verdict.TheVariants.Yes, declared.verdict.Verdict.TheVariants.No, Faults.IsCarried}
+use Rattle.cmd_check.specs.{AreaTags.AreAllTags, Checking.IsCheckVerdict, Checking.RunsAreOrderly, Further.IsVerdictShown, Further.areas_line}
 
 -- 1 for a no, 0 for a yes.
 abbrev pub no_count : Verdict → ℕ

@@ -4,13 +4,8 @@ use Rattle.std.specs.List.{flat_map}
 use Rattle.echo_addr.specs.declared.address.Address.{Address}
 use Rattle.echo_links.specs.Links.{LinkFile, upper}
 use Rattle.model_run.specs.Tidy.{Tidy}
-use Rattle.cmd_status.specs.Devices.{Output}
-use Rattle.cmd_status.specs.declared.fault.Fault.{Fault}
-use Rattle.cmd_status.specs.declared.status.Status.{Status}
-use Rattle.cmd_status.specs.Ended.{Answers}
-use Rattle.cmd_status.specs.Inputs.{AreLinkFiles, IsFirstFaultGiven, IsLinkFault}
-use Rattle.cmd_check.specs.Assuming.{AreAssumed, assumed_line}
-use Rattle.cmd_check.specs.Checking.{IsChecked, RunsAreOrderly}
+use Rattle.cmd_status.specs.{Devices.Output, declared.fault.Fault.Fault, declared.status.Status.Status, Ended.Answers, Inputs.AreLinkFiles, Inputs.IsFirstFaultGiven, Inputs.IsLinkFault}
+use Rattle.cmd_check.specs.{Assuming.AreAssumed, Assuming.assumed_line, Checking.IsChecked, Checking.RunsAreOrderly}
 
 -- The lines of `check` on these files, and then a line for each assumed system.
 pub record IsCheckedWith (nodelist : Option (List ℕ)) (more : Bool) (tag : List ℕ) (inputs : List (List ℕ)) (assumed : List Address) (lines : List ℕ) (status : Status) : Type 0 where

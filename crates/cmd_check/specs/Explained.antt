@@ -1,11 +1,8 @@
 -- The run that shows the harm of an area.
 use Rattle.std.specs.Prelude.{ℕ, List, Option, IfSome}
 use Rattle.echo_links.specs.Links.{LinkFile}
-use Rattle.echo_net.specs.declared.verdict.Verdict.{Verdict}
-use Rattle.echo_net.specs.Faults.{IfNo, IsFirstFault}
-use Rattle.model_why.specs.declared.shown.Shown.{Shown}
-use Rattle.model_why.specs.Exact.{AlwaysHarms, LeadsNowhere}
-use Rattle.model_why.specs.Found.{FindsHarm, FindsSome, IsShown}
+use Rattle.echo_net.specs.{declared.verdict.Verdict.Verdict, Faults.IfNo, Faults.IsFirstFault}
+use Rattle.model_why.specs.{declared.shown.Shown.Shown, Exact.AlwaysHarms, Exact.LeadsNowhere, Found.FindsHarm, Found.FindsSome, Found.IsShown}
 
 -- It is a run on these files that has its harm. If the fault of a no always does harm, a run is found that breaks the
 -- promise. If it is a link to an address that no file has, a run of any kind is found.

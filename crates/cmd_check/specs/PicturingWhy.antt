@@ -1,23 +1,13 @@
 -- The answer of `picture --why`.
 use Rattle.std.specs.Prelude.{◌≡◌, ℕ, ◌↔◌, List, Option, None, Result}
-use Rattle.cmd_status.specs.Devices.{Output}
+use Rattle.cmd_status.specs.{Devices.Output, declared.fault.Fault.Fault, declared.status.Status.Status, declared.status.Status.TheVariants.Good, Ended.Answers}
+use Rattle.cmd_status.specs.Inputs.{AreLinkFiles, IsFirstFaultGiven}
 use Rattle.echo_links.specs.Links.{LinkFile, upper}
 use Rattle.model_run.specs.Tidy.{Tidy}
-use Rattle.echo_net.specs.declared.drawing.Crossing.{Crossing}
-use Rattle.echo_net.specs.declared.drawing.Drawing.{Drawing}
-use Rattle.echo_net.specs.declared.verdict.Verdict.{Verdict}
-use Rattle.echo_net.specs.Drawn.{IsDrawing}
-use Rattle.model_why.specs.declared.shown.Shown.{Shown}
-use Rattle.model_why.specs.Carrying.{found_crossings}
-use Rattle.model_why.specs.Sources.{files_of}
-use Rattle.cmd_status.specs.declared.fault.Fault.{Fault}
-use Rattle.cmd_status.specs.declared.status.Status.{Status}
-use Rattle.cmd_status.specs.declared.status.Status.TheVariants.{Good}
-use Rattle.cmd_status.specs.Ended.{Answers}
-use Rattle.cmd_status.specs.Inputs.{AreLinkFiles, IsFirstFaultGiven}
+use Rattle.echo_net.specs.{declared.drawing.Crossing.Crossing, declared.drawing.Drawing.Drawing, declared.verdict.Verdict.Verdict, Drawn.IsDrawing}
+use Rattle.model_why.specs.{declared.shown.Shown.Shown, Carrying.found_crossings, Sources.files_of}
 use Rattle.cmd_print.specs.Pictured.{picture_lines}
-use Rattle.cmd_check.specs.Explained.{IsExplained, IsFoundFirst}
-use Rattle.cmd_check.specs.Checking.{IsCheckVerdict, verdict_status}
+use Rattle.cmd_check.specs.{Explained.IsExplained, Explained.IsFoundFirst, Checking.IsCheckVerdict, Checking.verdict_status}
 
 -- The link files have no fault. These lines draw the area of the tag in upper case, with the parts of the verdict
 -- marked. If a run is found that does harm, the links are labelled by which its message reaches the system of the

@@ -1,13 +1,10 @@
 //! What `check` answers.
 ghost use Rattle.std.specs.Prelude.{◌≡◌, ℕ, List, None, Ok, OnOk, Option, option_copied};
-ghost use Rattle.cmd_status.specs.Devices.{output_of};
+ghost use Rattle.cmd_status.specs.{Devices.output_of, declared.status.Status.TheVariants.Good, Inputs.AreLinkFiles, Inputs.IsNodelistGiven};
 ghost use Rattle.echo_links.specs.Links.{LinkFile, upper};
 ghost use Rattle.model_run.specs.Tidy.{Tidy};
-ghost use Rattle.cmd_status.specs.declared.status.Status.TheVariants.{Good};
 ghost use Rattle.echo_net.specs.Faults.{IfNo, IsFirstFault};
-ghost use Rattle.cmd_check.specs.Checking.{CheckAnswers, RunsAreOrderly, verdict_status};
-ghost use Rattle.cmd_check.specs.Further.{IsVerdictShown};
-ghost use Rattle.cmd_status.specs.Inputs.{AreLinkFiles, IsNodelistGiven};
+ghost use Rattle.cmd_check.specs.{Checking.CheckAnswers, Checking.RunsAreOrderly, Checking.verdict_status, Further.IsVerdictShown};
 ghost use Rattle.cmd_print.specs.Pushed.{Pushes};
 
 use crate::further_text::push_further;

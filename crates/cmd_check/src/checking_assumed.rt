@@ -1,10 +1,7 @@
 //! What `check --assume` answers.
 ghost use Rattle.std.specs.Prelude.{◌≡◌, ◌⊎◌, ℕ, IfErr, List, None, Ok, OnOk, Option, option_copied};
-ghost use Rattle.cmd_status.specs.Devices.{output_of};
+ghost use Rattle.cmd_status.specs.{Devices.output_of, declared.status.Status.TheVariants.Good, Ended.IsOutOfMemory, Inputs.AreLinkFiles, Inputs.IsLinkFault, Inputs.IsNodelistGiven};
 ghost use Rattle.echo_links.specs.Links.{LinkFile, upper};
-ghost use Rattle.cmd_status.specs.declared.status.Status.TheVariants.{Good};
-ghost use Rattle.cmd_status.specs.Ended.{IsOutOfMemory};
-ghost use Rattle.cmd_status.specs.Inputs.{AreLinkFiles, IsLinkFault, IsNodelistGiven};
 ghost use Rattle.cmd_check.specs.CheckingAssumed.{CheckAssumingAnswers, IsPromisedAssuming, PrintsChecked, ReadsMore};
 
 use crate::assuming::{push_assumed, push_assumed_lines};

@@ -3,13 +3,9 @@ use Rattle.std.proofs.Common.{◌≡◌, ℕ, zero, suc, ◌+◌, ◌-◌, ◌%�
 use Rattle.std.proofs.lemmas.Bool.{cases_Bool, cases_order}
 use Rattle.echo_filed.specs.Filed.{Filed}
 use Rattle.echo_links.specs.Links.{LinkFile}
-use Rattle.model_steps.specs.declared.draft.Draft.{Draft}
-use Rattle.model_steps.specs.declared.fault.PostFault.{PostFault}
+use Rattle.model_steps.specs.{declared.draft.Draft.Draft, declared.fault.PostFault.PostFault, declared.stamp.Stamp.Stamp, Posting.IsPostFault, Posting.post_refusal}
 use Rattle.model_steps.specs.declared.fault.PostFault.TheVariants as post
-use Rattle.model_steps.specs.declared.stamp.Stamp.{Stamp}
-use Rattle.model_steps.specs.Posting.{IsPostFault, post_refusal}
-use Rattle.model_steps.proofs.FirstRefusals.{refusal_first}
-use Rattle.model_steps.proofs.Posted.{allowed}
+use Rattle.model_steps.proofs.{FirstRefusals.refusal_first, Posted.allowed}
 use Rattle.cmd_report.specs.FreeSerial.{IsFirstFree, is_taken, serial_after}
 
 -- the serials of the first steps are in use

@@ -1,22 +1,15 @@
 -- Notes on messages tossed in order.
 use Rattle.std.proofs.Common.{◌≡◌, ℕ, ◌+◌, List, [], ◌∷◌, ◌++◌, length, refl, sym, ap, ◌∙◌, arith, append_assoc, append-nil, length-append, Option}
-use Rattle.std.specs.Prelude.{option_to_list}
 use Rattle.std.proofs.KnownBytes.{Consumes-nil}
+use Rattle.std.specs.Prelude.{option_to_list}
 use Rattle.echo_addr.specs.declared.address.Address.{Address}
-use Rattle.echo_packet.specs.declared.limits.Limits.{Limits}
-use Rattle.echo_packet.specs.Fault.{place_of}
-use Rattle.echo_packet.specs.Message.{Message, message_bytes, messages_bytes}
+use Rattle.echo_packet.specs.{declared.limits.Limits.Limits, Fault.place_of, Message.Message, Message.message_bytes, Message.messages_bytes}
 use Rattle.echo_text.specs.Echo.{EchoOf, EchoText}
 use Rattle.echo_links.specs.Links.{LinkFile}
-use Rattle.echo_filed.specs.Filed.{Filed as FiledMessage}
-use Rattle.echo_filed.specs.Written.{echo_of}
+use Rattle.echo_filed.specs.{Filed.Filed as FiledMessage, Written.echo_of}
 use Rattle.echo_filed.proofs.Texts.{says_accepted, says_one}
-use Rattle.model_steps.specs.declared.outcome.Outcome.{Outcome}
-use Rattle.model_steps.specs.SystemState.{SystemState}
-use Rattle.model_steps.specs.Tossing.{toss_outcome, tossed, tossing}
-use Rattle.echo_toss.specs.declared.tally.Tally.{Tally}
-use Rattle.echo_toss.specs.Messages.{HasTaken, IsOpened}
-use Rattle.echo_toss.specs.Tallies.{tally_of}
+use Rattle.model_steps.specs.{declared.outcome.Outcome.Outcome, SystemState.SystemState, Tossing.toss_outcome, Tossing.tossed, Tossing.tossing}
+use Rattle.echo_toss.specs.{declared.tally.Tally.Tally, Messages.HasTaken, Messages.IsOpened, Tallies.tally_of}
 use Rattle.echo_toss.proofs.Stops.{some_tossed}
 use Rattle.cmd_report.specs.Notes.{area_said, note_of, notes_of, said_unless, text_said}
 use Rattle.cmd_report.specs.NotedPacket.{NotesSome, NotesTaken}

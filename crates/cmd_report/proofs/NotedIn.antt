@@ -7,9 +7,7 @@ use Rattle.echo_links.specs.Links.{LinkFile}
 use Rattle.echo_packet.specs.declared.limits.Limits.{Limits}
 use Rattle.base_store.specs.Store.{CommitsNothing, GoesOn, StoreState}
 use Rattle.base_store.proofs.Runs.{looks_commit, looks_go_on, no_look}
-use Rattle.echo_toss.specs.declared.tally.Tally.{Tally}
-use Rattle.echo_toss.specs.PacketsIn.{state_in}
-use Rattle.echo_toss.specs.Tallies.{all_counted, tally_of}
+use Rattle.echo_toss.specs.{declared.tally.Tally.Tally, PacketsIn.state_in, Tallies.all_counted, Tallies.tally_of}
 use Rattle.cmd_report.proofs.Noted.{HasNoted, none_noted}
 
 -- the store took the messages with their notes and goes on, no read failed, and there is room

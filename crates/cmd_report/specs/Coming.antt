@@ -1,8 +1,6 @@
 -- Packet files that a run opens in order.
 use Rattle.std.specs.Prelude.{◌≡◌, ℕ, ◌⊎◌, List, [], ◌∷◌, Option, Some, None, Result, Ok, Err}
-use Rattle.cmd_status.specs.declared.fault.Fault.{Fault}
-use Rattle.cmd_status.specs.declared.fault.Fault.TheVariants.{OutOfMemory}
-use Rattle.cmd_status.specs.Ended.{IsCannotUse}
+use Rattle.cmd_status.specs.{declared.fault.Fault.Fault, declared.fault.Fault.TheVariants.OutOfMemory, Ended.IsCannotUse}
 
 -- The fact known about a packet file before it is opened: its bytes, or that this path cannot be used, or neither.
 pub data Coming : Type 0 where

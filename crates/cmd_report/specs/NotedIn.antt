@@ -6,15 +6,10 @@ use Rattle.base_file.specs.Base.{Base}
 use Rattle.echo_links.specs.Links.{LinkFile}
 use Rattle.echo_packet.specs.declared.limits.Limits.{Limits}
 use Rattle.base_store.specs.Store.{StoreState}
-use Rattle.echo_toss.specs.declared.step_error.StoppedToss.{StoppedToss}
-use Rattle.echo_toss.specs.declared.step_error.TossStepError.{TossStepError}
-use Rattle.echo_toss.specs.declared.tally.Tally.{Tally}
-use Rattle.echo_toss.specs.Messages.{TossesMessages}
-use Rattle.echo_toss.specs.PacketSteps.{PacketStep}
-use Rattle.echo_toss.specs.Tallies.{tally_of}
 use Rattle.echo_toss.specs.PacketsIn.{HoldsUnlessFailed, messages_answer, packet_answer, state_in, stop_in}
-use Rattle.cmd_report.specs.Lines.{HasTallyRoom}
-use Rattle.cmd_report.specs.NotedPacket.{NotesPacket, NotesTaken}
+use Rattle.echo_toss.specs.{declared.step_error.StoppedToss.StoppedToss, declared.step_error.TossStepError.TossStepError, declared.tally.Tally.Tally, Messages.TossesMessages, PacketSteps.PacketStep}
+use Rattle.echo_toss.specs.Tallies.{tally_of}
+use Rattle.cmd_report.specs.{Lines.HasTallyRoom, NotedPacket.NotesPacket, NotedPacket.NotesTaken}
 
 -- The packet at the front of a reader's bytes is tossed, from this base to the one that the store then holds. The notes
 -- on its messages follow the text.

@@ -1,14 +1,9 @@
 -- Tossing a packet with notes.
 use Rattle.std.specs.Prelude.{◌≡◌, ℕ, ◌⊎◌, List, ◌++◌, Option, Result, Ok, Err}
 use Rattle.echo_addr.specs.declared.address.Address.{Address}
-use Rattle.echo_packet.specs.declared.limits.Limits.{Limits}
-use Rattle.echo_packet.specs.Message.{Message}
-use Rattle.model_steps.specs.SystemState.{SystemState}
-use Rattle.model_steps.specs.Tossing.{sender_of}
-use Rattle.echo_toss.specs.declared.fault.TossFault.{TossFault}
-use Rattle.echo_toss.specs.declared.tally.Tally.{Tally}
-use Rattle.echo_toss.specs.Messages.{HasTaken}
-use Rattle.echo_toss.specs.PacketSteps.{HasTossedNone, TossesSome}
+use Rattle.echo_packet.specs.{declared.limits.Limits.Limits, Message.Message}
+use Rattle.model_steps.specs.{SystemState.SystemState, Tossing.sender_of}
+use Rattle.echo_toss.specs.{declared.fault.TossFault.TossFault, declared.tally.Tally.Tally, Messages.HasTaken, PacketSteps.HasTossedNone, PacketSteps.TossesSome}
 use Rattle.cmd_report.specs.Notes.{notes_of}
 
 -- The call read and tossed messages, and the notes on them follow the text.

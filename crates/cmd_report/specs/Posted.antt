@@ -1,9 +1,6 @@
 -- The output and the effect of `post`.
 use Rattle.std.specs.Prelude.{ℕ, ◌==◌, List, [], ◌∷◌, ◌++◌, if◌then◌else◌, Option}
-use Rattle.model_steps.specs.declared.draft.Draft.{Draft}
-use Rattle.model_steps.specs.declared.fault.PostFault.{PostFault}
-use Rattle.model_steps.specs.Posting.{post_refusal}
-use Rattle.model_steps.specs.SystemState.{SystemState}
+use Rattle.model_steps.specs.{declared.draft.Draft.Draft, declared.fault.PostFault.PostFault, Posting.post_refusal, SystemState.SystemState}
 use Rattle.cmd_report.specs.declared.posting.NewMessage.{NewMessage}
 
 -- The bytes of the draft for a byte of the body: 0A becomes 0D, or nothing after a 0D.

@@ -3,11 +3,8 @@ use Rattle.std.specs.Prelude.{◌≡◌, ℕ, ◌-◌, ◌++◌, ◌==◌, ◌&&
 use Rattle.std.specs.Char.{eq_ignore_ascii_case}
 use Rattle.echo_filed.specs.Filed.{Filed}
 use Rattle.echo_packet.specs.Message.{max_subject}
-use Rattle.echo_text.specs.Echo.{msgid_of}
-use Rattle.echo_text.specs.Ids.{is_id}
-use Rattle.cmd_report.specs.declared.posting.NewMessage.{NewMessage}
-use Rattle.cmd_report.specs.declared.replying.Answer.{Answer}
-use Rattle.cmd_report.specs.declared.replying.ReplyFields.{ReplyFields}
+use Rattle.echo_text.specs.{Echo.msgid_of, Ids.is_id}
+use Rattle.cmd_report.specs.declared.{posting.NewMessage.NewMessage, replying.Answer.Answer, replying.ReplyFields.ReplyFields}
 
 -- The subject of an answer: it begins with `Re:`, in letters of either case.
 abbrev pub is_answer : List ℕ → Bool

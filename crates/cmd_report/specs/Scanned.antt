@@ -2,8 +2,7 @@
 use Rattle.std.specs.Prelude.{ℕ, List, ◌++◌, length, codes, decimal}
 use Rattle.echo_addr.specs.declared.address.Address.{Address}
 use Rattle.echo_packet.specs.Packet.{packet_bytes}
-use Rattle.model_steps.specs.declared.packet.Packet.{Packet}
-use Rattle.model_steps.specs.PacketFiles.{PacketFile}
+use Rattle.model_steps.specs.{declared.packet.Packet.Packet, PacketFiles.PacketFile}
 use Rattle.echo_toss.specs.declared.counting.CountedPacket.{CountedPacket}
 use Rattle.cmd_report.specs.Lines.{named_receiver, sent_line}
 

@@ -1,17 +1,12 @@
 -- The effect of `toss` on one packet.
 use Rattle.std.specs.Prelude.{◌≡◌, ℕ, ◌⊎◌, Bool, true, false, List, ◌++◌, Option, Some, None, Result, Ok, Err}
 use Rattle.echo_packet.specs.declared.limits.Limits.{Limits}
-use Rattle.cmd_status.specs.Devices.{Device}
-use Rattle.model_steps.specs.SystemState.{SystemState}
-use Rattle.echo_toss.specs.declared.fault.TossCause.{TossCause}
-use Rattle.echo_toss.specs.declared.fault.TossCause.TheVariants as stop
-use Rattle.echo_toss.specs.declared.fault.TossFault.{TossFault}
-use Rattle.echo_toss.specs.declared.tally.Tally.{Tally}
-use Rattle.echo_toss.specs.PacketSteps.{CountsToss, PacketStep}
-use Rattle.cmd_status.specs.declared.fault.Fault.{Fault}
+use Rattle.cmd_status.specs.{Devices.Device, declared.fault.Fault.Fault}
 use Rattle.cmd_status.specs.declared.fault.Fault.TheVariants.{NotForUs, OutOfMemory, Packet, TossMemory}
-use Rattle.cmd_report.specs.NotedPacket.{NotesPacket}
-use Rattle.cmd_report.specs.Lines.{tally_line}
+use Rattle.model_steps.specs.SystemState.{SystemState}
+use Rattle.echo_toss.specs.{declared.fault.TossCause.TossCause, declared.fault.TossFault.TossFault, declared.tally.Tally.Tally, PacketSteps.CountsToss, PacketSteps.PacketStep}
+use Rattle.echo_toss.specs.declared.fault.TossCause.TheVariants as stop
+use Rattle.cmd_report.specs.{NotedPacket.NotesPacket, Lines.tally_line}
 
 -- A run of `toss`: the limits of packets, the current system, and the lines until now.
 pub record TossRun : Type 0 where

@@ -2,18 +2,13 @@
 ghost use Rattle.std.specs.Prelude.{◌≡◌, ◌≢◌, ◌++◌, IfErr, IsErr, IsErrOf, OnErr, OnOk};
 ghost use Rattle.base_file.specs.Base.{Base};
 ghost use Rattle.disk_io.specs.Disk.{Honestly};
-ghost use Rattle.base_store.specs.Store.{CommitsNothing, HasStoreCause};
+ghost use Rattle.base_store.specs.{Store.CommitsNothing, Store.HasStoreCause, declared.store_error.StoreError.TheVariants.TooMany};
 ghost use Rattle.model_steps.specs.declared.outcome.Outcome.TheVariants.{Filed};
 ghost use Rattle.echo_toss.specs.declared.fault.TossCause.TheVariants as cause;
 ghost use Rattle.echo_toss.specs.declared.step_error.TossStepError.TheVariants as toss;
-ghost use Rattle.base_store.specs.declared.store_error.StoreError.TheVariants.{TooMany};
-ghost use Rattle.echo_toss.specs.Bounds.{AddsReceived, IsPastBound};
-ghost use Rattle.echo_toss.specs.Messages.{CountsStop};
-ghost use Rattle.echo_toss.specs.PacketSteps.{CountsToss};
 ghost use Rattle.echo_toss.specs.PacketsIn.{GoesOnUnlessFailed, messages_answer, packet_answer, stop_in, toss_answer};
-ghost use Rattle.cmd_report.specs.Lines.{HasTallyRoom};
-ghost use Rattle.cmd_report.specs.Notes.{note_of};
-ghost use Rattle.cmd_report.specs.NotedIn.{CanBegin, NotesMessagesIn, NotesPacketIn};
+ghost use Rattle.echo_toss.specs.{Bounds.AddsReceived, Bounds.IsPastBound, Messages.CountsStop, PacketSteps.CountsToss};
+ghost use Rattle.cmd_report.specs.{Lines.HasTallyRoom, Notes.note_of, NotedIn.CanBegin, NotedIn.NotesMessagesIn, NotedIn.NotesPacketIn};
 
 use crate::lines::MOST_TALLY;
 use crate::note::note_line;

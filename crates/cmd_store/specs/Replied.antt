@@ -3,16 +3,10 @@ use Rattle.std.specs.Prelude.{◌≡◌, ℕ, ◌⊎◌, List, Option, Some, Non
 use Rattle.base_file.specs.Base.{Base}
 use Rattle.echo_filed.specs.Filed.{Filed}
 use Rattle.echo_links.specs.Links.{LinkFile}
-use Rattle.cmd_report.specs.declared.posting.NewMessage.{NewMessage}
-use Rattle.cmd_report.specs.declared.replying.Answer.{Answer}
-use Rattle.cmd_report.specs.declared.replying.ReplyFields.{ReplyFields}
-use Rattle.cmd_report.specs.Replied.{IsFound, IsReply}
-use Rattle.cmd_status.specs.declared.fault.Fault.TheVariants.{BadNumber}
-use Rattle.cmd_status.specs.Devices.{Output}
-use Rattle.cmd_status.specs.Ended.{IsOutOfMemory}
+use Rattle.cmd_report.specs.{declared.posting.NewMessage.NewMessage, declared.replying.Answer.Answer, declared.replying.ReplyFields.ReplyFields, Replied.IsFound, Replied.IsReply}
+use Rattle.cmd_status.specs.{declared.fault.Fault.TheVariants.BadNumber, Devices.Output, Ended.IsOutOfMemory}
 use Rattle.model_steps.specs.SystemState.{SystemState}
-use Rattle.cmd_store.specs.declared.command_error.CommandError.{CommandError}
-use Rattle.cmd_store.specs.declared.command_error.CommandError.TheVariants.{Met, Store}
+use Rattle.cmd_store.specs.declared.command_error.CommandError.{CommandError, TheVariants.Met, TheVariants.Store}
 use Rattle.cmd_store.specs.Answered.{StopsFirst}
 pub use Rattle.cmd_store.specs.FreeSerial.{PostsAs, PostsAsOn}
 

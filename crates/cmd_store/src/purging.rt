@@ -3,13 +3,9 @@ ghost use Rattle.std.specs.Prelude.{true, IfErr, IsErrOf, OnOk};
 ghost use Rattle.disk_io.specs.Disk.{Honestly};
 ghost use Rattle.base_file.specs.Base.{Base};
 ghost use Rattle.cmd_status.specs.Devices.{output_of};
-ghost use Rattle.base_store.specs.Store.{HasStoreCause};
-ghost use Rattle.base_store.specs.declared.store_error.StoreError.TheVariants.{TooMany};
-ghost use Rattle.cmd_store.specs.Answered.{HasCommitted, MayCommitWhereMet, MayMake};
+ghost use Rattle.base_store.specs.{Store.HasStoreCause, declared.store_error.StoreError.TheVariants.TooMany};
+ghost use Rattle.cmd_store.specs.{Answered.HasCommitted, Answered.MayCommitWhereMet, Answered.MayMake, Bounded.IsStoppedHeld, Purged.HoldsOrPurges, Purged.Purges, Purged.PurgesOn, Stops.store_answer};
 ghost use Rattle.echo_toss.specs.Bounds.{AddsNone};
-ghost use Rattle.cmd_store.specs.Bounded.{IsStoppedHeld};
-ghost use Rattle.cmd_store.specs.Purged.{HoldsOrPurges, Purges, PurgesOn};
-ghost use Rattle.cmd_store.specs.Stops.{store_answer};
 
 use crate::command::StoreCommand;
 use crate::command_error::CommandError;

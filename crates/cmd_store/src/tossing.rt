@@ -2,15 +2,12 @@
 ghost use Rattle.std.specs.Prelude.{◌≡◌, false, IfErr, IsErrOf, OnOk};
 ghost use Rattle.disk_io.specs.Disk.{Honestly};
 ghost use Rattle.base_file.specs.Base.{Base};
-ghost use Rattle.cmd_report.specs.Lines.{HasTallyRoom};
-ghost use Rattle.cmd_report.specs.TossedPacket.{TossRun};
+ghost use Rattle.cmd_report.specs.{Lines.HasTallyRoom, TossedPacket.TossRun};
 ghost use Rattle.cmd_status.specs.Devices.{device_of, output_of};
 ghost use Rattle.base_store.specs.Store.{CommitsNothing, GoesOn, HasStoreCause};
-ghost use Rattle.cmd_store.specs.Answered.{CommitsNoneWhereMet, MayMake};
-ghost use Rattle.echo_toss.specs.Bounds.{AddsReceived, IsPastBound};
-ghost use Rattle.cmd_store.specs.Bounded.{IsStoppedFull};
-ghost use Rattle.cmd_store.specs.Stops.{store_answer};
 ghost use Rattle.cmd_store.specs.Tossed.{PrintsRun, ReportsIn, Tosses, TossesFiles, TossesIn, TossesNext, TossesOn, TossesTo};
+ghost use Rattle.cmd_store.specs.{Answered.CommitsNoneWhereMet, Answered.MayMake, Bounded.IsStoppedFull, Stops.store_answer};
+ghost use Rattle.echo_toss.specs.Bounds.{AddsReceived, IsPastBound};
 
 use crate::command::StoreCommand;
 use crate::command_error::CommandError;

@@ -1,35 +1,22 @@
 -- The drawing of an area: the contents of its lists, and the facts of each member.
-use Rattle.std.specs.Prelude.{Contains}
+use Rattle.std.specs.{Prelude.Contains, List.Sorted.IsStrictlySortedBy, Ordering.is_lt, List.list_any}
 use Rattle.std.proofs.Common.{◌≡◌, ◌<◌, ◌+◌, ◌↔◌, inl, inr, ℕ, Bool, true, false, IsTrue, if◌then◌else◌, List, [], ◌∷◌, ◌++◌, length, map, take, get_or, refl, sym, ap, subst, ◌∙◌, arith}
-use Rattle.std.specs.List.Sorted.{IsStrictlySortedBy}
-use Rattle.std.specs.Ordering.{is_lt}
-use Rattle.std.proofs.lemmas.Bool.{and_from, and_parts, cases_Bool, cases_lt}
-use Rattle.std.proofs.lemmas.List.{take_more, get_or-map, length-map}
+use Rattle.std.proofs.lemmas.{Bool.and_from, Bool.and_parts, Bool.cases_Bool, Bool.cases_lt, List.take_more, List.get_or-map, List.length-map}
 use Rattle.std.proofs.lemmas.List.Elements.{Contains-append_cases, Contains-append_left, Contains-append_right, Contains-get_or}
 use Rattle.echo_addr.specs.declared.address.Address.{Address}
 use Rattle.echo_links.specs.Links.{LinkFile, same_address, has_area}
 use Rattle.echo_filed.specs.Sets.{address_before}
-use Rattle.model_graph.proofs.Members.{Among-from_Contains, Contains-from_Among, Reaches-trans}
+use Rattle.model_graph.proofs.{Members.Among-from_Contains, Members.Contains-from_Among, Members.Reaches-trans, Renaming.Among-of_names, Renaming.Among-map}
 use Rattle.model_run.proofs.Lists.{any-from, any-to, Among-map_to, Among-map_from}
 use Rattle.model_run.specs.Tidy.{carries, lists, Carries}
-use Rattle.echo_net.specs.declared.drawing.Drawing.{Drawing}
-use Rattle.echo_net.specs.declared.link.Link.{Link}
-use Rattle.echo_net.specs.declared.verdict.Verdict.{Verdict}
 use Rattle.echo_net.specs.Drawn.{AreLinksInOrder, IsDrawing, IsDrawn, IsDrawnPair, back, has_address, has_link, link_drawn, link_from, loop_links, loop_named, same_link, steps_from, system_drawn, system_from, systems_named, upward}
-use Rattle.echo_net.specs.Nets.{link, systems}
-use Rattle.echo_net.proofs.Orders.{address_order, link_order, link_total, pair_before_is, same_exact, same_itself, same_where_neither, not_before_itself, at_place, earlier_less}
-use Rattle.std.specs.List.{list_any}
-use Rattle.model_graph.specs.Reach.{StartsPart}
-use Rattle.model_graph.specs.Rows.{IsAscending}
-use Rattle.model_graph.specs.Walk.{Reaches}
-use Rattle.model_graph.proofs.Renaming.{Among-of_names, Among-map}
-use Rattle.echo_net.specs.declared.verdict.NetFault.{NetFault}
-use Rattle.echo_net.specs.declared.verdict.NetFault.TheVariants.{Apart}
 use Rattle.echo_net.specs.AllFaults.{AppliesTo, AreLinkFaults, IsApart, fault_of, fault_where}
-use Rattle.echo_net.specs.Faults.{AreInOrder, AreSoundLinks, IsFirstFault, numbered}
-use Rattle.echo_net.specs.Firsts.{IsSmallest, pair_before}
+use Rattle.echo_net.specs.{declared.drawing.Drawing.Drawing, declared.link.Link.Link, declared.verdict.Verdict.Verdict, Nets.link, Nets.systems, declared.verdict.NetFault.NetFault}
+use Rattle.echo_net.specs.{declared.verdict.NetFault.TheVariants.Apart, Faults.AreInOrder, Faults.AreSoundLinks, Faults.IsFirstFault, Faults.numbered, Firsts.IsSmallest, Firsts.pair_before}
 use Rattle.echo_net.specs.Rows.{system_at}
+use Rattle.echo_net.proofs.Orders.{address_order, link_order, link_total, pair_before_is, same_exact, same_itself, same_where_neither, not_before_itself, at_place, earlier_less}
 use Rattle.echo_net.proofs.Owned.{Different-from_places, in_order_from_sorted, before_back as before_not_after, carried, no_later, number, reaches, reaches_back}
+use Rattle.model_graph.specs.{Reach.StartsPart, Rows.IsAscending, Walk.Reaches}
 use Rattle.echo_net.specs.declared.each_fault.Kind.TheVariants as kinds
 
 -- the tests for members pass exactly for members

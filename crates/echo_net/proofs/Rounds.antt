@@ -1,33 +1,21 @@
 -- The loops of the blocks of an area, by the indexes of its carriers, and the loop that a verdict names.
 use Rattle.std.proofs.Common.{◌≡◌, ◌≢◌, ◌<◌, ◌⊎◌, ℕ, Bool, true, IsTrue, List, [], ◌∷◌, length, map, get_or, refl, sym, ap, subst, ◌∙◌, arith, inl, inr}
-use Rattle.std.specs.Prelude.{Contains}
-use Rattle.std.specs.List.{All}
 use Rattle.std.proofs.lemmas.Bool.{and_from, and_parts, cases_Bool, cases_lt, or_cases, or_left, or_right}
-use Rattle.std.proofs.lemmas.List.{get_or-map, length-map}
-use Rattle.std.proofs.lemmas.List.Elements.{Contains-get_or}
+use Rattle.std.proofs.lemmas.List.{get_or-map, length-map, Elements.Contains-get_or}
+use Rattle.std.specs.{Prelude.Contains, List.All}
 use Rattle.echo_addr.specs.declared.address.Address.{Address}
 use Rattle.echo_links.specs.Links.{LinkFile, same_address}
 use Rattle.echo_filed.specs.Sets.{address_before}
-use Rattle.model_blocks.specs.declared.block_loops.BlockLoop.{BlockLoop}
-use Rattle.model_blocks.specs.BlockLoops.{AreBlockLoops, AreInOneBlock, FirstInBlockBy, IsLoopOfBlockBy}
-use Rattle.model_graph.specs.Loops.{NamedLoopBy}
-use Rattle.model_graph.specs.Pinches.{FirstPinchBy, IsPinchBy, NotAfter}
-use Rattle.model_graph.specs.Walk.{Simple}
-use Rattle.model_graph.proofs.Members.{Around-itself, Among-from_Contains, Contains-from_Among}
+use Rattle.model_blocks.specs.{declared.block_loops.BlockLoop.BlockLoop, BlockLoops.AreBlockLoops, BlockLoops.AreInOneBlock, BlockLoops.FirstInBlockBy, BlockLoops.IsLoopOfBlockBy}
+use Rattle.model_graph.specs.{Loops.NamedLoopBy, Pinches.FirstPinchBy, Pinches.IsPinchBy, Pinches.NotAfter, Walk.Simple}
+use Rattle.model_graph.proofs.{Members.Around-itself, Members.Among-from_Contains, Members.Contains-from_Among, Renaming.Among-of_names, Renaming.Among-map, Renaming.IsRenaming-swap}
 use Rattle.model_blocks.proofs.RenamedBlocks.{FirstInBlock-renamed, LoopOfBlock-renamed}
-use Rattle.model_graph.proofs.Renaming.{Among-of_names, Among-map, IsRenaming-swap}
 use Rattle.model_run.specs.Tidy.{Carries, lists}
-use Rattle.echo_net.specs.declared.link.Link.{Link}
-use Rattle.echo_net.specs.declared.verdict.NetFault.{NetFault}
-use Rattle.echo_net.specs.AllFaults.{AreRounds, Round, loop_fault, round_of}
-use Rattle.echo_net.specs.Faults.{AreInOrder, AreSoundLinks, numbered}
-use Rattle.echo_net.specs.Firsts.{pair_before}
-use Rattle.echo_net.specs.Nets.{link}
-use Rattle.echo_net.specs.Rows.{system_at}
-use Rattle.echo_net.proofs.Orders.{not_before_itself, same_exact, same_itself}
-use Rattle.model_run.proofs.Places.{lister-carries as lister_carries}
-use Rattle.echo_net.proofs.Collected.{loop_within}
+use Rattle.echo_net.specs.{declared.link.Link.Link, declared.verdict.NetFault.NetFault, AllFaults.AreRounds, AllFaults.Round, AllFaults.loop_fault, AllFaults.round_of}
+use Rattle.echo_net.specs.{Faults.AreInOrder, Faults.AreSoundLinks, Faults.numbered, Firsts.pair_before, Nets.link, Rows.system_at}
 use Rattle.echo_net.proofs.Owned.{back, before_back, keeps, keeps_back, name, name_back, parts, renaming, simple, simple_numbers}
+use Rattle.echo_net.proofs.{Orders.not_before_itself, Orders.same_exact, Orders.same_itself, Collected.loop_within}
+use Rattle.model_run.proofs.Places.{lister-carries as lister_carries}
 
 -- an item of a nonempty list
 item_of : {X : Type 0} (xs : List X) (i : ℕ) → i < length xs → X

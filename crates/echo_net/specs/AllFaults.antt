@@ -4,22 +4,14 @@ use Rattle.std.specs.List.{list_any}
 use Rattle.echo_addr.specs.declared.address.Address.{Address}
 use Rattle.echo_links.specs.Links.{LinkFile, has_area, same_address}
 use Rattle.echo_filed.specs.Sets.{address_before}
-use Rattle.model_blocks.specs.declared.block_loops.BlockLoop.{BlockLoop}
-use Rattle.model_blocks.specs.BlockLoops.{FirstInBlockBy, IsLoopOfBlockBy}
+use Rattle.model_blocks.specs.{declared.block_loops.BlockLoop.BlockLoop, BlockLoops.FirstInBlockBy, BlockLoops.IsLoopOfBlockBy}
 use Rattle.model_graph.specs.Walk.{Reaches}
 use Rattle.model_run.specs.Tidy.{Carries, lists}
-use Rattle.echo_net.specs.declared.each_fault.Kind.{Kind}
-use Rattle.echo_net.specs.declared.each_fault.Kind.TheVariants as kinds
-use Rattle.echo_net.specs.declared.link.Link.{Link}
-use Rattle.echo_net.specs.declared.verdict.NetFault.{NetFault}
 use Rattle.echo_net.specs.declared.verdict.NetFault.TheVariants.{NoSuchArea, TwoFiles, SelfLink, Unknown, OneSided, SameNetNode, Apart, Loop}
-use Rattle.echo_net.specs.declared.verdict.Verdict.{Verdict}
-use Rattle.echo_net.specs.declared.verdict.Verdict.TheVariants.{Yes, No}
-use Rattle.echo_net.specs.Drawn.{AreLinksInOrder, back, has_address, has_link}
-use Rattle.echo_net.specs.Faults.{AreSoundLinks, IsCarried, IsNamedLoop}
-use Rattle.echo_net.specs.Firsts.{HasTwin, IsSmallest, OccursTwice, pair_before}
-use Rattle.echo_net.specs.Nets.{link, systems}
-use Rattle.echo_net.specs.Rows.{system_at}
+use Rattle.echo_net.specs.declared.{each_fault.Kind.Kind, link.Link.Link, verdict.NetFault.NetFault, verdict.Verdict.Verdict, verdict.Verdict.TheVariants.Yes, verdict.Verdict.TheVariants.No}
+use Rattle.echo_net.specs.{Drawn.AreLinksInOrder, Drawn.back, Drawn.has_address, Drawn.has_link, Faults.AreSoundLinks, Faults.IsCarried, Faults.IsNamedLoop}
+use Rattle.echo_net.specs.{Firsts.HasTwin, Firsts.IsSmallest, Firsts.OccursTwice, Firsts.pair_before, Nets.link, Nets.systems, Rows.system_at}
+use Rattle.echo_net.specs.declared.each_fault.Kind.TheVariants as kinds
 
 -- Files and links have no fault. The address a is the smallest carrier, and b the smallest carrier of another part: no walk
 -- from a smaller carrier reaches b.

@@ -1,10 +1,7 @@
 //! Is an area of a net in order?
 
 ghost use Rattle.std.specs.Prelude.{◌≡◌, ◌↔◌, IfOk, List};
-ghost use Rattle.model_run.specs.Event.{RunEvent};
-ghost use Rattle.model_run.specs.Orderly.{Orderly};
-ghost use Rattle.model_run.specs.Run.{run_of};
-ghost use Rattle.model_run.specs.Tidy.{Tidy};
+ghost use Rattle.model_run.specs.{Event.RunEvent, Orderly.Orderly, Run.run_of, Tidy.Tidy};
 ghost use Rattle.echo_net.specs.Faults.{IfNo, IfYes, IsFirstFault, IsSharedSystem, IsYes};
 ghost use Rattle.echo_net.specs.Nets.{carrier_count, linked_pairs};
 

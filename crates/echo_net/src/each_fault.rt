@@ -7,10 +7,9 @@ ghost use Rattle.echo_links.specs.Links.{LinkFile};
 ghost use Rattle.model_graph.specs.Rows.{linked};
 ghost use Rattle.model_run.specs.Tidy.{Carries, carries, lists};
 ghost use Rattle.echo_net.specs.declared.each_fault.Kind.TheVariants as kinds;
-ghost use Rattle.echo_net.specs.declared.link.Link.{Link};
-ghost use Rattle.echo_net.specs.declared.verdict.NetFault.{NetFault};
 ghost use Rattle.echo_net.specs.AllFaults.{AddsApart, AddsLinkFaults, AddsRounds, AddsTwoFiles, AreAllFaults, AreFurther, AreLinkFaults, fault_of, fault_where, is_one_sided, is_self_link, is_unknown, names_fault};
 ghost use Rattle.echo_net.specs.Faults.{AreInOrder, AreSoundLinks, IfNo, IsFirstFault, numbered};
+ghost use Rattle.echo_net.specs.declared.{link.Link.Link, verdict.NetFault.NetFault};
 
 use crate::area::{Area, area_of};
 use crate::carriers::systems;

@@ -1,19 +1,14 @@
 //! The faults of an area's graph: systems apart, and cycles that are not fully linked.
 
 ghost use Rattle.std.specs.Prelude.{◌≡◌, ◌<◌, ◌++◌, ◌↔◌, IsTrue, IfOk, OnOk, MatchOption, Contains, length, map};
-ghost use Rattle.std.specs.List.{All};
-ghost use Rattle.std.specs.List.Sorted.{IsStrictlySortedBy};
+ghost use Rattle.std.specs.List.{All, Sorted.IsStrictlySortedBy};
 ghost use Rattle.echo_addr.specs.declared.address.Address.{Address};
 ghost use Rattle.model_blocks.specs.declared.block_loops.BlockLoop.{BlockLoop};
 ghost use Rattle.model_graph.specs.Rows.{linked};
 ghost use Rattle.model_run.specs.Tidy.{Carries, Tidy, carries, lists};
 ghost use Rattle.echo_net.specs.declared.each_fault.Kind.TheVariants as kinds;
-ghost use Rattle.echo_net.specs.declared.link.Link.{Link};
-ghost use Rattle.echo_net.specs.AllFaults.{AddsRounds, AppliesTo, loop_fault, round_of};
-ghost use Rattle.echo_net.specs.Drawn.{AreLinksInOrder};
-ghost use Rattle.echo_net.specs.Faults.{AreInOrder, AreSoundLinks, IsFirstFault, numbered};
-ghost use Rattle.echo_net.specs.Nets.{link};
-ghost use Rattle.echo_net.specs.Rows.{system_at};
+ghost use Rattle.echo_net.specs.{declared.link.Link.Link, AllFaults.AddsRounds, AllFaults.AppliesTo, AllFaults.loop_fault, AllFaults.round_of, Drawn.AreLinksInOrder};
+ghost use Rattle.echo_net.specs.{Faults.AreInOrder, Faults.AreSoundLinks, Faults.IsFirstFault, Faults.numbered, Nets.link, Rows.system_at};
 
 use crate::link::Link;
 use crate::rows::rows;

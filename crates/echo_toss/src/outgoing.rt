@@ -4,14 +4,12 @@ ghost use Rattle.std.specs.List.{list_any};
 ghost use Rattle.echo_addr.specs.Address.{net_node_of};
 ghost use Rattle.echo_packet.specs.Message.{HasNoZero};
 ghost use Rattle.echo_links.specs.Links.{links_of, same_address};
-ghost use Rattle.echo_filed.specs.Sets.{address_set, entry_set, same_entry};
-ghost use Rattle.echo_filed.specs.Written.{text_of};
+ghost use Rattle.echo_filed.specs.{Sets.address_set, Sets.entry_set, Sets.same_entry, Written.text_of};
 ghost use Rattle.disk_io.specs.Disk.{Honestly};
 ghost use Rattle.base_file.specs.Base.{Base};
 ghost use Rattle.base_store.specs.Store.{HasStoreCause, LooksOn};
 ghost use Rattle.model_steps.specs.Scanning.{exported, message_out, targets};
-ghost use Rattle.echo_toss.specs.Bounds.{IsFullWhenRead};
-ghost use Rattle.echo_toss.specs.Exports.{GrowsByMessageAt, nowhere, outgoing_of, sent_of};
+ghost use Rattle.echo_toss.specs.{Bounds.IsFullWhenRead, Exports.GrowsByMessageAt, Exports.nowhere, Exports.outgoing_of, Exports.sent_of};
 
 use crate::sets::{address_set, entry_set};
 use base_store::{Store, StoreError};

@@ -1,7 +1,6 @@
 //! A packet that is made again of scanned messages: which copies it has.
 ghost use Rattle.std.specs.Prelude.{◌≡◌, [], ◌∷◌, ◌++◌, map, filter, OnOk};
-ghost use Rattle.model_steps.specs.Resending.{is_resent, is_whole_in};
-ghost use Rattle.model_steps.specs.Scanning.{copy_to};
+ghost use Rattle.model_steps.specs.{Resending.is_resent, Resending.is_whole_in, Scanning.copy_to};
 
 use crate::outgoing::prepared;
 use crate::packing::push_copy;

@@ -2,10 +2,8 @@
 use Rattle.std.specs.Prelude.{◌≡◌, ◌≢◌, ◌⊎◌, ℕ, List, [], ◌∷◌, ◌++◌, map, length, None, Ok}
 use Rattle.echo_addr.specs.declared.address.Address.{Address}
 use Rattle.model_graph.specs.Walk.{Among, Different}
-use Rattle.echo_packet.specs.Packet.{PacketOf}
-use Rattle.echo_packet.specs.declared.limits.Limits.{Limits}
-use Rattle.echo_links.specs.Links.{LinkFile}
-use Rattle.echo_links.specs.LinkLines.{LinksOf}
+use Rattle.echo_packet.specs.{Packet.PacketOf, declared.limits.Limits.Limits}
+use Rattle.echo_links.specs.{Links.LinkFile, LinkLines.LinksOf}
 use Rattle.echo_filed.specs.Filed.{Filed}
 use Rattle.base_file.specs.Base.{Base, IsBase}
 use Rattle.model_steps.specs.declared.packet.Packet.{Packet}

@@ -1,9 +1,7 @@
 //! Each command, run on a station of a net: it does on the disk what its command event may do.
 ghost use Rattle.disk_io.specs.Disk.{Honestly};
 ghost use Rattle.station.specs.Opening.{AreFree, HaveFailed};
-ghost use Rattle.law_stations.specs.Kinds.{IsPurge};
-ghost use Rattle.law_stations.specs.DiskKinds.{IsMail, IsPostAs, IsReplyAs};
-ghost use Rattle.law_stations.specs.OnDisks.{AsMay, StaysWhereMet, TossesAsMay};
+ghost use Rattle.law_stations.specs.{Kinds.IsPurge, DiskKinds.IsMail, DiskKinds.IsPostAs, DiskKinds.IsReplyAs, OnDisks.AsMay, OnDisks.StaysWhereMet, OnDisks.TossesAsMay};
 
 use cmd_report::PacketFiles;
 use cmd_status::{Fault, FileLock};

@@ -1,22 +1,15 @@
 -- The findings in blocks, and the loops of all links in turn.
 use Rattle.std.proofs.Common.{◌≡◌, ◌+◌, ◌<◌, ◌≤◌, ◌&&◌, ◌⊎◌, ◌↔◌, ◌++◌, ℕ, zero, suc, Bool, true, IsTrue, Option, Some, None, List, [], ◌∷◌, length, map, get_or, refl, sym, ap, ◌∙◌, subst, arith, inl, inr, ◌≢◌}
-use Rattle.std.specs.Prelude.{Contains}
-use Rattle.std.proofs.lemmas.Bool.{cases_eq, cases_lt}
-use Rattle.std.proofs.lemmas.List.{get_or_append_left, get_or_push, length_push}
+use Rattle.std.proofs.lemmas.{Bool.cases_eq, Bool.cases_lt, List.get_or_append_left, List.get_or_push, List.length_push}
 use Rattle.std.proofs.lemmas.List.Elements.{Contains-append_left, Contains-get_or, Contains-push, Contains-push_cases}
-use Rattle.model_blocks.specs.declared.block_loops.BlockLoop.{BlockLoop}
-use Rattle.model_graph.specs.Walk.{Different, Simple, Among}
-use Rattle.model_graph.specs.Blocks.{AreBlocks, AreFull, IsBlockOfLink, IsInFull}
+use Rattle.std.specs.Prelude.{Contains}
 use Rattle.model_blocks.specs.BlockLoops.{AreBlockLoops, AreFoundIn, AreInOneBlock, AreLoopsBefore, AreWithin, FirstInBlock, HaveOneTop, IsBefore, IsFoundIn, IsLoopOfBlock, IsWhole, comes_before, placed, AreNumbers}
-use Rattle.model_graph.specs.Loops.{FirstWalk, IsWritten}
-use Rattle.model_graph.specs.Pinches.{FirstPinch, IsPinch}
-use Rattle.model_graph.specs.Rows.{IsAscending, IsGraph, linked, links_at}
+use Rattle.model_blocks.specs.declared.block_loops.BlockLoop.{BlockLoop}
+use Rattle.model_graph.specs.{Walk.Different, Walk.Simple, Walk.Among, Blocks.AreBlocks, Blocks.AreFull, Blocks.IsBlockOfLink, Blocks.IsInFull, Loops.FirstWalk, Loops.IsWritten}
+use Rattle.model_graph.specs.{Pinches.FirstPinch, Pinches.IsPinch, Rows.IsAscending, Rows.IsGraph, Rows.linked, Rows.links_at, Beyond.Around}
 use Rattle.model_graph.proofs.Members.{Around-sym, Around-itself, Around-step, Around-trans, walk_ends}
+use Rattle.model_graph.proofs.{BlockWalks.no_pinch_in_full, PinchSearch.Simple-from_graph, PinchSearch.row_place, PinchSearch.row_rises, Rows.linked_within}
 use Rattle.model_blocks.proofs.BlockView.{block_is, inner_ends, inside, inside_from, inside_to, loop_out, of_link, pinch_in, t_within, whole_out}
-use Rattle.model_graph.proofs.BlockWalks.{no_pinch_in_full}
-use Rattle.model_graph.proofs.PinchSearch.{Simple-from_graph, row_place, row_rises}
-use Rattle.model_graph.proofs.Rows.{linked_within}
-use Rattle.model_graph.specs.Beyond.{Around}
 use Rattle.model_blocks.proofs.BlockLists.{none_named, pinch_named, walk_named, whole_named}
 
 -- the findings in the first blocks

@@ -1,22 +1,15 @@
 -- The members of a block, walked from the last one back, and its top among them.
 use Rattle.std.proofs.Common.{◌≡◌, ◌+◌, ◌-◌, ◌<◌, ◌≤◌, ◌⊎◌, ◌↔◌, ◌++◌, ℕ, Bool, true, false, IsTrue, Option, Some, None, List, [], ◌∷◌, length, take, reverse, get_or, refl, sym, ap, ◌∙◌, subst, arith, inl, inr, ◌≢◌, ◌&&◌, ◌==◌, nat_lt, map}
-use Rattle.std.specs.Prelude.{Contains}
 use Rattle.std.proofs.lemmas.Bool.{cases_eq, cases_lt, and_from, and_parts, cases_Bool, eq-eqb, eqb-true, lt-ltb, ltb-true}
-use Rattle.std.proofs.lemmas.Grind.{get_or_default_zero}
 use Rattle.std.proofs.lemmas.List.{get_or-reverse, get_or_append_left, get_or_push, length-reverse, length_push, take_all, take_more, get_or-take, length-take-le}
-use Rattle.std.proofs.lemmas.List.Elements.{Contains-append_left, Contains-get_or, Contains-push, Contains-push_cases}
-use Rattle.model_graph.specs.Blocks.{IsLastBefore}
-use Rattle.model_graph.specs.Rows.{IsAscending}
-use Rattle.model_graph.proofs.PartStarts.{push_ascending}
-use Rattle.std.specs.List.{position_or_len}
+use Rattle.std.proofs.lemmas.{Grind.get_or_default_zero, List.Elements.Contains-append_left, List.Elements.Contains-get_or, List.Elements.Contains-push, List.Elements.Contains-push_cases}
 use Rattle.std.proofs.lemmas.List.Sums.{position_or_len_is}
-use Rattle.model_graph.specs.Walk.{Among, Simple, Walk}
-use Rattle.model_graph.specs.Beyond.{Around}
-use Rattle.model_blocks.specs.BlockLoops.{IsWhole, placed}
-use Rattle.model_graph.specs.Loops.{FirstWalk}
-use Rattle.model_graph.specs.Pinches.{FirstPinch, IsPinch}
+use Rattle.std.specs.{Prelude.Contains, List.position_or_len}
+use Rattle.model_graph.specs.{Blocks.IsLastBefore, Rows.IsAscending, Walk.Among, Walk.Simple, Walk.Walk, Beyond.Around, Loops.FirstWalk, Pinches.FirstPinch, Pinches.IsPinch}
 use Rattle.model_graph.specs.Renaming.{IsRenaming, KeepsOrder}
 use Rattle.model_graph.proofs.Renaming.{Among-from_map, IsRenaming-swap, Walk-renamed, Among-of_names, FirstPinch-renamed, FirstWalk-renamed, IsPinch-renamed}
+use Rattle.model_graph.proofs.PartStarts.{push_ascending}
+use Rattle.model_blocks.specs.BlockLoops.{IsWhole, placed}
 
 -- the findings so far, from the last member down to the bound, and the next
 pub record Walked (block : ℕ → ℕ) (k members : ℕ) (found : List ℕ) (next : Option ℕ) : Type 0 where

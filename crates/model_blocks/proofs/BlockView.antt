@@ -2,14 +2,10 @@
 -- enter the block.
 use Rattle.std.proofs.Common.{◌≡◌, ◌≢◌, ◌<◌, ◌≤◌, ◌&&◌, ◌||◌, ◌==◌, ◌⊎◌, ℕ, zero, suc, Bool, true, false, cond, IsTrue, List, [], ◌∷◌, length, refl, sym, ap, ◌∙◌, subst, arith, inl, inr}
 use Rattle.std.proofs.lemmas.Bool.{and_from, and_parts, cases_Bool, cases_eq, eq-eqb, eqb-true, or_cases, or_left, or_right, cases_lt}
-use Rattle.model_graph.specs.Walk.{Among, Simple, Walk}
-use Rattle.model_graph.specs.Beyond.{Around}
-use Rattle.model_graph.specs.Blocks.{AreBlocks, IsBlockOfLink}
-use Rattle.model_blocks.specs.BlockLoops.{AreInOneBlock, AreWithin, FirstInBlock, HaveOneTop, InBlock, IsLoopOfBlock, AreJoinedWithout, HasEarlier}
-use Rattle.model_graph.specs.Loops.{FirstWalk, IsWritten, NoLater}
+use Rattle.model_graph.specs.{Walk.Among, Walk.Simple, Walk.Walk, Beyond.Around, Blocks.AreBlocks, Blocks.IsBlockOfLink, Loops.FirstWalk, Loops.IsWritten, Loops.NoLater}
 use Rattle.model_graph.specs.Pinches.{FirstPinch, IsPinch, FirstOther}
-use Rattle.model_graph.proofs.Rings.{loop_cycle}
-use Rattle.model_graph.proofs.Members.{linked_differ, walk_ends, Around-step}
+use Rattle.model_blocks.specs.BlockLoops.{AreInOneBlock, AreWithin, FirstInBlock, HaveOneTop, InBlock, IsLoopOfBlock, AreJoinedWithout, HasEarlier}
+use Rattle.model_graph.proofs.{Rings.loop_cycle, Members.linked_differ, Members.walk_ends, Members.Around-step}
 
 module _ (links : ℕ → ℕ → Bool) (simple : Simple links) (members : ℕ) (within : (a b : ℕ) → IsTrue (links a b) → b < members)
     (block top rank : ℕ → ℕ) (are : AreBlocks links members block top rank) (one_top : HaveOneTop members block top)

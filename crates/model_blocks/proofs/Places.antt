@@ -1,15 +1,12 @@
 -- Indexes of some members in an ascending list of names, found link by link or name by name.
 use Rattle.std.proofs.Common.{◌≡◌, ◌+◌, ◌<◌, ◌≤◌, ◌↔◌, ◌++◌, nat_lt, ℕ, Bool, IsTrue, List, [], ◌∷◌, length, get_or, sym, ap, ◌∙◌, subst, arith, inl, inr}
-use Rattle.std.specs.Prelude.{Contains}
 use Rattle.std.proofs.lemmas.Bool.{cases_eq, cases_lt, and_from, and_parts, lt-ltb, ltb-true}
-use Rattle.std.proofs.lemmas.Grind.{get_or_default_zero}
-use Rattle.std.proofs.lemmas.List.Elements.{Contains-append_left, Contains-push, Contains-push_cases}
-use Rattle.std.specs.Cmp.{both_ways}
+use Rattle.std.proofs.lemmas.{Grind.get_or_default_zero, List.Elements.Contains-append_left, List.Elements.Contains-push, List.Elements.Contains-push_cases}
 use Rattle.std.proofs.lemmas.List.{get_or_append_left, get_or_past, get_or_push, length_push}
+use Rattle.std.specs.{Prelude.Contains, Cmp.both_ways}
 use Rattle.model_blocks.specs.BlockLoops.{placed}
 use Rattle.model_graph.specs.Rows.{IsAscending, IsGraph, linked, links_at}
-use Rattle.model_graph.proofs.Rows.{holds_at, linked_within, place_of}
-use Rattle.model_graph.proofs.PartStarts.{push_ascending}
+use Rattle.model_graph.proofs.{Rows.holds_at, Rows.linked_within, Rows.place_of, PartStarts.push_ascending}
 
 -- the indexes of those first names that have the property
 pub record PlacesBefore (Has : ℕ → Type 0) (before : ℕ) (places : List ℕ) : Type 0 where

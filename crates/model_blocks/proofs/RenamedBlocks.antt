@@ -1,8 +1,7 @@
 -- The loops of blocks, after a renaming that keeps the order of the members.
 use Rattle.std.proofs.Common.{inl, inr, sym, ap, subst, ◌∙◌, Bool, IsTrue, List, ◌∷◌, map}
-use Rattle.model_graph.specs.Walk.{Among, Simple}
+use Rattle.model_graph.specs.{Walk.Among, Walk.Simple, Renaming.IsRenaming, Renaming.KeepsOrder}
 use Rattle.model_blocks.specs.BlockLoops.{AreInOneBlock, FirstInBlockBy, IsLoopOfBlockBy}
-use Rattle.model_graph.specs.Renaming.{IsRenaming, KeepsOrder}
 use Rattle.model_graph.proofs.Renaming.{Among-of_names, FirstWalk-renamed, HasUnlinked-renamed, IsCycle-renamed, IsPinch-renamed, IsWritten-renamed, earlier_named, walk_owns, IsRenaming-swap, Walk-renamed}
 use Rattle.model_graph.proofs.Members.{link_from}
 

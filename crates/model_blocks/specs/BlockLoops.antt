@@ -1,12 +1,7 @@
 -- The loops of a graph's blocks: one of each block with a cycle that is not fully linked.
 use Rattle.std.specs.Prelude.{◌≡◌, ◌≢◌, ◌&&◌, ◌<◌, ◌⊎◌, nat_lt, ℕ, Bool, IsTrue, Option, Some, None, List, ◌∷◌, Contains, length, slice_index, slice_index_or}
-use Rattle.model_blocks.specs.declared.block_loops.BlockLoop.{BlockLoop}
-use Rattle.model_blocks.specs.declared.block_loops.Judge.{Judge}
-use Rattle.model_blocks.specs.declared.block_loops.Judge.TheVariants.{ByBlock, ByPairs}
-use Rattle.model_graph.specs.Beyond.{Around}
-use Rattle.model_graph.specs.Cycle.{IsCycle}
-use Rattle.model_graph.specs.Loops.{FirstWalkBy, HasUnlinked, IsWrittenBy}
-use Rattle.model_graph.specs.Blocks.{AreBlocks, block_of, rank_of, top_of}
+use Rattle.model_blocks.specs.declared.block_loops.{BlockLoop.BlockLoop, Judge.Judge, Judge.TheVariants.ByBlock, Judge.TheVariants.ByPairs}
+use Rattle.model_graph.specs.{Beyond.Around, Cycle.IsCycle, Loops.FirstWalkBy, Loops.HasUnlinked, Loops.IsWrittenBy, Blocks.AreBlocks, Blocks.block_of, Blocks.rank_of, Blocks.top_of}
 use Rattle.model_graph.specs.Pinches.{IsPinch, IsPinchBy, NotAfter}
 
 -- A walk around this member joins an end of the first link, b or a, with an end of the second, d or c.

@@ -1,8 +1,7 @@
 //! The loops of a graph's blocks: one of each block with a cycle that is not fully linked.
 
 ghost use Rattle.std.specs.Prelude.{◌+◌, ◌<◌, ℕ, IfOk, IsTrue, MatchOption, OnOk, length};
-ghost use Rattle.model_graph.specs.Rows.{linked, IsGraph};
-ghost use Rattle.model_graph.specs.Blocks.{block_of, top_of, rank_of, AreBlocks};
+ghost use Rattle.model_graph.specs.{Rows.linked, Rows.IsGraph, Blocks.block_of, Blocks.top_of, Blocks.rank_of, Blocks.AreBlocks};
 ghost use Rattle.model_blocks.specs.BlockLoops.{AreBlockLoops, AreFoundIn, AreLoopsBefore, CanJudge, FirstInBlock, IsLoopOfBlock};
 
 use crate::by_block::loops_by_block;

@@ -2,8 +2,8 @@
 
 ghost use Rattle.std.specs.Prelude.{◌≡◌, ◌<◌, None, IfOk, IfSome, length, map, slice_index};
 ghost use Rattle.std.specs.List.{All};
-ghost use Rattle.model_graph.specs.Rows.{linked, IsGraph};
 ghost use Rattle.model_graph.specs.Blocks.{block_of, top_of, rank_of, full_of, AreBlocks, AreFull, LastMembers};
+ghost use Rattle.model_graph.specs.Rows.{linked, IsGraph};
 ghost use Rattle.model_blocks.specs.BlockLoops.{AreFoundIn, HaveOneTop, IsFoundIn};
 
 use crate::block_loops::BlockLoop;

@@ -2,9 +2,7 @@
 //! depth has found its blocks.
 
 ghost use Rattle.std.specs.Prelude.{◌<◌, ◌⊎◌, ◌↔◌, ℕ, IfOk, IsTrue, MatchOption, length};
-ghost use Rattle.model_graph.specs.Beyond.{Around};
-ghost use Rattle.model_graph.specs.Rows.{linked, IsGraph};
-ghost use Rattle.model_graph.specs.Pinches.{FirstOther, IsPinch};
+ghost use Rattle.model_graph.specs.{Beyond.Around, Rows.linked, Rows.IsGraph, Pinches.FirstOther, Pinches.IsPinch};
 ghost use Rattle.model_blocks.specs.BlockLoops.{AreInOneBlock, BeginsEarlier, FirstInBlock, HasEarlier, HasEarlierAt, IsLoopOfBlock};
 
 use model_graph::{Graph, Pinch, first_other, levels_around, ring_of, written};

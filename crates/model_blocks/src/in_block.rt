@@ -1,8 +1,7 @@
 //! The members of each block, ascending.
 
 ghost use Rattle.std.specs.Prelude.{◌≡◌, ◌<◌, ◌⊎◌, ◌↔◌, ℕ, Contains, IfOk, IsTrue, length};
-ghost use Rattle.model_graph.specs.Rows.{IsAscending};
-ghost use Rattle.model_graph.specs.Blocks.{block_of, top_of, LastMembers};
+ghost use Rattle.model_graph.specs.{Rows.IsAscending, Blocks.block_of, Blocks.top_of, Blocks.LastMembers};
 ghost use Rattle.model_blocks.specs.BlockLoops.{HaveOneTop};
 
 use model_graph::{BlockLists, Blocks};

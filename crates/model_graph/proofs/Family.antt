@@ -1,12 +1,9 @@
 -- If links are parted, they keep to the family that a search by levels gives.
 use Rattle.std.proofs.Common.{◌≡◌, ◌≢◌, ◌⊎◌, inl, inr, refl, sym, subst, ap, ℕ, zero, suc, ◌<◌, ◌≤◌, arith, Bool, IsTrue, [], ◌∷◌, ◌∙◌, Option, List, length, get_or, ◌+◌}
 use Rattle.std.proofs.lemmas.Bool.{cases_Bool, cases_order, both_ways, cases_eq, cases_lt}
-use Rattle.model_graph.specs.Walk.{Simple, Reaches}
-use Rattle.model_graph.specs.Beyond.{Around, Parted}
-use Rattle.model_graph.specs.Family.{IsFamily, IsParent, AreSiblings, KeepsToFamily}
+use Rattle.model_graph.specs.{Walk.Simple, Walk.Reaches, Beyond.Around, Beyond.Parted, Family.IsFamily, Family.IsParent, Family.AreSiblings, Family.KeepsToFamily}
+use Rattle.model_graph.specs.{Rows.links_at, Rows.linked, Rows.IsGraph, Forest.Siblings, Forest.FirstSibling}
 use Rattle.model_graph.proofs.Members.{CanTell, link_to, linked_differ, Reaches-trans, Reaches-sym, Around-itself, Around-step, Around-trans, Around-sym, no_around-from_Beyond, link_from, Around-keeps, Beyond-from_no_around}
-use Rattle.model_graph.specs.Rows.{links_at, linked, IsGraph}
-use Rattle.model_graph.specs.Forest.{Siblings, FirstSibling}
 use Rattle.model_graph.proofs.PinchSearch.{row_link, row_place, row_rises}
 
 -- members of different levels differ

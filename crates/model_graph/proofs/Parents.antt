@@ -1,17 +1,9 @@
 -- The parents from a forest make a family, and links keep to it exactly if the tests pass.
 use Rattle.std.proofs.Common.{◌≡◌, ◌≢◌, ◌-◌, ◌<◌, ◌≤◌, ◌⊎◌, ℕ, zero, suc, Bool, IsTrue, Option, Some, None, unwrap_or, List, [], ◌∷◌, length, sym, ap, ◌∙◌, subst, arith, inl, inr}
-use Rattle.std.proofs.lemmas.Bool.{cases_eq, cases_lt, cases_Bool, both_ways}
-use Rattle.std.proofs.lemmas.List.{get_or_past}
-use Rattle.std.proofs.lemmas.Option.{none-some, same_Some}
-use Rattle.model_graph.specs.Walk.{Reaches, Simple}
-use Rattle.model_graph.specs.Family.{IsFamily, IsParent, AreSiblings, KeepsToFamily}
-use Rattle.model_graph.specs.Rows.{linked, IsGraph}
-use Rattle.model_graph.specs.Levels.{level_of}
+use Rattle.std.proofs.lemmas.{Bool.cases_eq, Bool.cases_lt, Bool.cases_Bool, Bool.both_ways, List.get_or_past, Option.none-some, Option.same_Some}
 use Rattle.model_graph.specs.Forest.{IsForest, parent_of, IsParentAt, Siblings, LinkedSiblings, AgreesWithFirst, KeepsHere}
-use Rattle.model_graph.proofs.Rows.{linked_within}
-use Rattle.model_graph.proofs.PinchSearch.{Simple-from_graph}
-use Rattle.model_graph.proofs.Members.{Reaches-sym}
-use Rattle.model_graph.proofs.Floods.{level_cases}
+use Rattle.model_graph.specs.{Walk.Reaches, Walk.Simple, Family.IsFamily, Family.IsParent, Family.AreSiblings, Family.KeepsToFamily, Rows.linked, Rows.IsGraph, Levels.level_of}
+use Rattle.model_graph.proofs.{Rows.linked_within, PinchSearch.Simple-from_graph, Members.Reaches-sym, Floods.level_cases}
 
 -- the level as a number; 0 without a level
 abbrev pub height : List (Option ℕ) → ℕ → ℕ

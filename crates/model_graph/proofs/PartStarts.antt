@@ -1,19 +1,10 @@
 -- Roots of a forest begin the parts of its graph.
 use Rattle.std.proofs.Common.{◌≡◌, ◌+◌, ◌<◌, ◌≤◌, ◌↔◌, ◌++◌, ℕ, zero, suc, Bool, Option, Some, None, List, [], ◌∷◌, length, get_or, refl, sym, ap, ◌∙◌, subst, arith, inl, inr, ◌⊎◌}
+use Rattle.std.proofs.lemmas.{Bool.cases_eq, Bool.cases_lt, Grind.get_or_default_zero, List.length_push, List.get_or_past, List.get_or_push, List.get_or_append_left}
+use Rattle.std.proofs.lemmas.{List.Elements.Contains-push, List.Elements.Contains-push_cases, List.Elements.Contains-append_left, Option.none-some}
 use Rattle.std.specs.Prelude.{Contains}
-use Rattle.std.proofs.lemmas.Bool.{cases_eq, cases_lt}
-use Rattle.std.proofs.lemmas.Grind.{get_or_default_zero}
-use Rattle.std.proofs.lemmas.List.{length_push, get_or_past, get_or_push, get_or_append_left}
-use Rattle.std.proofs.lemmas.List.Elements.{Contains-push, Contains-push_cases, Contains-append_left}
-use Rattle.std.proofs.lemmas.Option.{none-some}
-use Rattle.model_graph.specs.Walk.{Reaches, Walk}
-use Rattle.model_graph.specs.Rows.{linked, IsAscending, IsGraph}
-use Rattle.model_graph.specs.Levels.{level_of}
-use Rattle.model_graph.specs.Forest.{IsForest}
-use Rattle.model_graph.specs.Reach.{StartsPart}
-use Rattle.model_graph.proofs.PinchSearch.{Simple-from_graph}
-use Rattle.model_graph.proofs.Members.{Reaches-sym, Reaches-trans}
-use Rattle.model_graph.specs.Floods.{Flooded, IsSettledFlood}
+use Rattle.model_graph.specs.{Walk.Reaches, Walk.Walk, Rows.linked, Rows.IsAscending, Rows.IsGraph, Levels.level_of, Forest.IsForest, Reach.StartsPart, Floods.Flooded, Floods.IsSettledFlood}
+use Rattle.model_graph.proofs.{PinchSearch.Simple-from_graph, Members.Reaches-sym, Members.Reaches-trans}
 
 -- the roots after member 0 and before this one
 pub record RootsBefore (levels : List (Option ℕ)) (before : ℕ) (roots : List ℕ) : Type 0 where

@@ -1,8 +1,6 @@
 -- A search by levels through a whole graph, and the parents that it gives.
 use Rattle.std.specs.Prelude.{◌≡◌, ◌≢◌, ◌<◌, ◌≤◌, ◌⊎◌, ℕ, suc, Bool, IsTrue, Option, Some, None, List, slice_index_or}
-use Rattle.model_graph.specs.Walk.{Reaches}
-use Rattle.model_graph.specs.Levels.{level_of}
-use Rattle.model_graph.specs.Floods.{IsSettledFlood}
+use Rattle.model_graph.specs.{Walk.Reaches, Levels.level_of, Floods.IsSettledFlood}
 
 -- The members before `upto` have levels. All that a walk joins have one root: the first of them.
 pub record IsForest (linked : ℕ → ℕ → Bool) (members upto : ℕ) (levels : List (Option ℕ)) : Type 0 where

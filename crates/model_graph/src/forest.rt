@@ -1,8 +1,7 @@
 //! A search by levels through the whole graph, and the parents that it gives.
 
 ghost use Rattle.std.specs.Prelude.{◌≡◌, ◌<◌, ℕ, IfOk, length, vec_len};
-ghost use Rattle.model_graph.specs.Rows.{linked, IsGraph};
-ghost use Rattle.model_graph.specs.Forest.{IsForest, IsParentAt, parent_of};
+ghost use Rattle.model_graph.specs.{Rows.linked, Rows.IsGraph, Forest.IsForest, Forest.IsParentAt, Forest.parent_of};
 
 use crate::graph::Graph;
 use crate::levels::flood;

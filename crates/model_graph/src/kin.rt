@@ -1,9 +1,8 @@
 //! The quick test: do all links keep to the family that a search by levels gives?
 
 ghost use Rattle.std.specs.Prelude.{◌≡◌, ◌<◌, ◌↔◌, ℕ, IsTrue, IfOk, IfSome, Some, MatchOption, length};
-ghost use Rattle.model_graph.specs.Rows.{linked, IsGraph};
-ghost use Rattle.model_graph.specs.Beyond.{Parted};
 ghost use Rattle.model_graph.specs.Forest.{parent_of, Siblings, LinkedSiblings, IsKin, FirstSibling, Covers, AgreesWithFirst, KeepsHere};
+ghost use Rattle.model_graph.specs.{Rows.linked, Rows.IsGraph, Beyond.Parted};
 
 use crate::forest::{forest, parents};
 use crate::graph::Graph;

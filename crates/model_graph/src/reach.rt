@@ -1,10 +1,7 @@
 //! Is there a walk between any two members, and which parts are there?
 
 ghost use Rattle.std.specs.Prelude.{◌≡◌, ◌≢◌, ◌<◌, ◌↔◌, ℕ, Contains, IfOk, MatchOption, None, Some, length};
-ghost use Rattle.model_graph.specs.Walk.{Connected};
-ghost use Rattle.model_graph.specs.Rows.{linked, IsAscending};
-ghost use Rattle.model_graph.specs.Levels.{level_of};
-ghost use Rattle.model_graph.specs.Reach.{FirstUnreached, StartsPart};
+ghost use Rattle.model_graph.specs.{Walk.Connected, Rows.linked, Rows.IsAscending, Levels.level_of, Reach.FirstUnreached, Reach.StartsPart};
 
 use crate::forest::forest;
 use crate::graph::Graph;

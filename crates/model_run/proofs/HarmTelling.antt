@@ -1,31 +1,19 @@
 -- Observations on a run that show that a posting does no harm.
 use Rattle.std.proofs.Common.{◌≡◌, inl, inr, refl, sym, subst, ap, ◌∙◌, ℕ, ◌≤◌, arith, List, [], ◌∷◌, Some}
-use Rattle.std.specs.Prelude.{Bool, true, bytes_eq, if◌then◌else◌, slice_get}
-use Rattle.std.specs.List.{AllByRecursion}
 use Rattle.std.proofs.lemmas.List.Sums.{sum_by-cons}
-use Rattle.std.specs.Cmp.Lexicographic.{bytes_decides}
+use Rattle.std.specs.Prelude.{Bool, true, bytes_eq, if◌then◌else◌, slice_get}
+use Rattle.std.specs.{List.AllByRecursion, Cmp.Lexicographic.bytes_decides}
 use Rattle.model_graph.specs.Walk.{Among}
 use Rattle.echo_text.specs.Ids.{id_of}
 use Rattle.echo_links.specs.Links.{LinkFile, has_area}
-use Rattle.echo_filed.specs.declared.key.Key.{Key}
-use Rattle.echo_filed.specs.declared.key.Key.TheVariants.{ById}
-use Rattle.echo_filed.specs.Filed.{Filed, key_of}
-use Rattle.model_run.specs.Event.{RunEvent}
+use Rattle.echo_filed.specs.{declared.key.Key.Key, declared.key.Key.TheVariants.ById, Filed.Filed, Filed.key_of}
 use Rattle.model_run.specs.Run.{Run, System, filing, fresh, nth, run_of}
-use Rattle.model_run.specs.Orderly.{IsPosting, Settled, count, sent_count}
-use Rattle.model_run.specs.World.{area_count}
-use Rattle.model_run.proofs.TosserLaws.{the_laws}
-use Rattle.model_run.proofs.Lists.{nth-among, yes_or_no, not_both, nth-cases}
-use Rattle.model_run.specs.Grave.{AllAreCarriers, HaveOwnAddresses, GraveFault}
-use Rattle.model_run.specs.LawsOfRuns.{LawsOfRuns}
 use Rattle.model_run.specs.Postings.{IsMove, trial_draft, trial_moment, trial_posting, ComesToRest}
-use Rattle.model_run.proofs.Holders.{Unharmed, posting-own}
-use Rattle.model_run.proofs.HarmLists.{among-nth}
+use Rattle.model_run.specs.{Event.RunEvent, Orderly.IsPosting, Orderly.Settled, Orderly.count, Orderly.sent_count, World.area_count, Grave.AllAreCarriers, Grave.HaveOwnAddresses, Grave.GraveFault}
+use Rattle.model_run.specs.LawsOfRuns.{LawsOfRuns}
 use Rattle.model_run.proofs.OneMessage.{only-posted, post_of, post_of-tag, posted-at, poster, has-one}
-use Rattle.model_run.proofs.Areas.{upper-same}
-use Rattle.model_run.proofs.Faults.{not_grave}
-use Rattle.model_run.proofs.Resting.{runs-settle}
-use Rattle.model_run.proofs.Targets.{some_same, none_some}
+use Rattle.model_run.proofs.{TosserLaws.the_laws, Lists.nth-among, Lists.yes_or_no, Lists.not_both, Lists.nth-cases, Holders.Unharmed, Holders.posting-own, HarmLists.among-nth, Areas.upper-same}
+use Rattle.model_run.proofs.{Faults.not_grave, Resting.runs-settle, Targets.some_same, Targets.none_some}
 
 some_of-area : (tag : List ℕ) (ms : List Filed) → 1 ≤ area_count tag ms → (m : Filed) × Among m ms × (m.echo.tag ≡ tag)
 some_of-area tag [] h = absurd (omega (arith, h))

@@ -47,12 +47,7 @@ mod Nowhere
 mod Posters
 pub mod Rounds
 pub mod HarmTelling
-pub mod Examples
-mod LinkExamples
-mod PostExamples
-pub mod BaseExamples
 pub mod NetExamples
 mod TidyExamples
 mod VainExamples
-mod EpochExamples
 mod RepairExamples

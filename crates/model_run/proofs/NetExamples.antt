@@ -1,34 +1,15 @@
 -- Worked runs, by computation.
-use Rattle.std.proofs.Common.{◌≡◌, Some, None, ℕ, List, [], ◌∷◌, ◌++◌, refl, codes, length, drop, map, arith}
-use Rattle.std.specs.Prelude.{Bool, true, false}
-use Rattle.std.specs.Fmt.{digits}
-use Rattle.echo_addr.specs.declared.address.Address.{Address}
-use Rattle.echo_addr.specs.Entries.{entries, pair_of, tokens}
-use Rattle.echo_text.specs.Lines.{lines, trimmed, begins, after_word}
-use Rattle.echo_text.specs.Tail.{kept_of, path_lists, seen_lists}
-use Rattle.echo_text.specs.Echo.{msgid_of}
-use Rattle.echo_text.specs.Ids.{id_of}
-use Rattle.echo_text.specs.Refusal.{text_refusal}
-use Rattle.model_steps.specs.declared.draft.Draft.{Draft}
-use Rattle.echo_filed.specs.declared.key.Key.{Key}
-use Rattle.echo_filed.specs.declared.key.Key.TheVariants.{ById}
-use Rattle.model_steps.specs.declared.stamp.Stamp.{Stamp}
-use Rattle.echo_filed.specs.Sets.{address_set, entry_set}
-use Rattle.model_steps.specs.Stamps.{date_of}
-use Rattle.echo_links.specs.Links.{LinkFile, links_of}
-use Rattle.echo_filed.specs.Written.{echo_of, short_lines, text_of}
-use Rattle.echo_filed.specs.Filed.{Filed, key_of}
-use Rattle.base_file.specs.Base.{is_known}
-use Rattle.model_steps.specs.Posting.{post_refusal, posted, posted_lines, posting}
-use Rattle.echo_filed.specs.Stubs.{stub_of}
-use Rattle.model_steps.specs.Purging.{purged}
+use Rattle.std.proofs.Common.{◌≡◌, ℕ, List, [], ◌∷◌, codes, length, drop, map, arith}
+use Rattle.std.specs.{Prelude.Bool, Prelude.true, Fmt.digits}
+use Rattle.echo_addr.specs.{declared.address.Address.Address, Entries.entries, Entries.pair_of, Entries.tokens}
+use Rattle.echo_text.specs.{Lines.lines, Lines.trimmed, Lines.begins, Lines.after_word, Tail.kept_of, Tail.path_lists, Tail.seen_lists, Echo.msgid_of, Ids.id_of, Refusal.text_refusal}
 use Rattle.model_steps.specs.Scanning.{copy_to, exported, header_to, packet_to, packets_of, recipients, scanned, targets}
+use Rattle.model_steps.specs.{declared.draft.Draft.Draft, declared.stamp.Stamp.Stamp, Stamps.date_of, Posting.post_refusal, Posting.posted, Posting.posted_lines, Posting.posting, Purging.purged}
 use Rattle.model_steps.specs.Tossing.{received, toss_outcome, tossing}
-use Rattle.model_run.specs.declared.event.Event.TheVariants.{Deliver, Post, Purge, Scan}
-use Rattle.model_run.specs.Event.{RunEvent, Posting, Scanning, Delivery, PartDelivery, Purging, run_event}
-use Rattle.model_run.specs.Run.{Run, run_of}
-use Rattle.model_run.specs.Orderly.{sent_count}
-use Rattle.model_run.specs.World.{filed_at, area_count, is_settled, undelivered, waiting_at}
+use Rattle.echo_filed.specs.{declared.key.Key.Key, declared.key.Key.TheVariants.ById, Sets.address_set, Sets.entry_set, Written.echo_of, Written.short_lines, Written.text_of, Filed.key_of}
+use Rattle.echo_filed.specs.Stubs.{stub_of}
+use Rattle.echo_links.specs.Links.{LinkFile, links_of}
+use Rattle.model_run.specs.{Event.RunEvent, Event.Posting, Event.Scanning, Event.Delivery, Run.Run, Run.run_of, Orderly.sent_count, World.area_count, World.is_settled, World.undelivered}
 
 abbrev pub address : ℕ → Address
 address node = record { zone = 1; net = 10; node = node }
@@ -79,20 +60,11 @@ shown run = record {
 abbrev pub chain : List LinkFile
 chain = file 1 (2 ∷ []) ∷ (file 2 (1 ∷ 3 ∷ []) ∷ (file 3 (2 ∷ []) ∷ []))
 
-abbrev star : List LinkFile
-star = file 1 (2 ∷ (3 ∷ (4 ∷ []))) ∷ (file 2 (1 ∷ []) ∷ (file 3 (1 ∷ []) ∷ (file 4 (1 ∷ []) ∷ [])))
-
 abbrev pub triangle : List LinkFile
 triangle = file 1 (2 ∷ 3 ∷ []) ∷ (file 2 (1 ∷ 3 ∷ []) ∷ (file 3 (1 ∷ 2 ∷ []) ∷ []))
 
 abbrev pub ring : List LinkFile
 ring = file 1 (3 ∷ 4 ∷ []) ∷ (file 2 (3 ∷ 4 ∷ []) ∷ (file 3 (1 ∷ 2 ∷ []) ∷ (file 4 (1 ∷ 2 ∷ []) ∷ [])))
-
-abbrev chain_run : Run
-chain_run = run_of chain (post 0 ∷ (scan 0 ∷ (Delivery 0 ∷ (scan 1 ∷ (Delivery 1 ∷ (Delivery 1 ∷ (scan 2 ∷ [])))))))
-
-abbrev star_run : Run
-star_run = run_of star (post 0 ∷ (scan 0 ∷ (Delivery 0 ∷ (Delivery 2 ∷ (scan 1 ∷ (scan 3 ∷ []))))))
 
 abbrev pub triangle_run : Run
 triangle_run = run_of triangle (post 0 ∷ (scan 0 ∷ (Delivery 0 ∷ (Delivery 1 ∷ (scan 1 ∷ (scan 2 ∷ []))))))
@@ -101,68 +73,37 @@ abbrev ring_run : Run
 ring_run =
     run_of ring (post 0 ∷ (scan 0 ∷ (Delivery 0 ∷ (Delivery 1 ∷ (scan 2 ∷ (scan 3 ∷ (Delivery 2 ∷ (Delivery 3 ∷ (scan 1 ∷ [])))))))))
 
-abbrev purged_run : Run
-purged_run = run_of chain (
-    post 0 ∷ (scan 0 ∷ (Purging 0 ∷ (Delivery 0 ∷ (Purging 1 ∷ (scan 1 ∷ (Purging 1 ∷ (Delivery 1 ∷ (Delivery 0 ∷ (post 0 ∷ [])))))))))
-    )
-
--- two messages in one packet; the toss stops after the first, and then the whole packet comes
-abbrev two_posted : List RunEvent
-two_posted = post 0 ∷ (Posting 0 (codes "TEST") draft 2 stamp ∷ (scan 0 ∷ []))
-
-abbrev stopped_run : Run
-stopped_run = run_of chain (two_posted ++ PartDelivery 0 1 ∷ [])
-
-abbrev tossed_again_run : Run
-tossed_again_run = run_of chain (two_posted ++ PartDelivery 0 1 ∷ (Delivery 0 ∷ []))
-
 -- the id of the one posting
 abbrev pub first_key : Key
 first_key = ById (codes "TEST") (codes "1:10/1 00000001")
 
--- On the chain and on the triangle all have the message, and nothing waits; on the star the packet to 1:10/3 was lost.
--- On the ring, which is not tidy, each filed the message once. On the purged chain only ids are left: a repeated message
--- is known, and a known serial is refused.
+-- On the triangle each has the message, and was sent it once; nothing waits.
 record Runs : Type 0 where
-  chain_shown : shown chain_run ≡ line (1 ∷ (1 ∷ (1 ∷ []))) (0 ∷ (0 ∷ (0 ∷ []))) 2 0 true
-  came_twice : chain_run.delivered ≡ 1 ∷ (0 ∷ [])
-  star_shown : shown star_run ≡ line (1 ∷ (1 ∷ (0 ∷ (1 ∷ [])))) (0 ∷ (0 ∷ (0 ∷ (0 ∷ [])))) 3 1 false
   triangle_shown : shown triangle_run ≡ line (1 ∷ (1 ∷ (1 ∷ []))) (0 ∷ (0 ∷ (0 ∷ []))) 2 0 true
-  triangle_once : sent_count (address 2) first_key triangle_run.packets ≡ 1
-  ring_shown : shown ring_run ≡ line (1 ∷ (1 ∷ (1 ∷ (1 ∷ [])))) (0 ∷ (0 ∷ (0 ∷ (0 ∷ [])))) 4 0 true
-  stopped_shown : shown stopped_run ≡ line (2 ∷ (1 ∷ (0 ∷ []))) (0 ∷ (1 ∷ (0 ∷ []))) 1 1 false
-  tossed_again_shown : shown tossed_again_run ≡ line (2 ∷ (2 ∷ (0 ∷ []))) (0 ∷ (2 ∷ (0 ∷ []))) 1 0 false
-  purged_at : (filed_at purged_run 2 (codes "TEST") ≡ 1) × (waiting_at purged_run 2 (codes "TEST") ≡ 1) × (filed_at purged_run 3 (codes "TEST") ≡ 0) × (filed_at purged_run 2 (codes "OTHER") ≡ 0)
-  purged_shown : shown purged_run ≡ line (1 ∷ (1 ∷ (1 ∷ []))) (0 ∷ (0 ∷ (1 ∷ []))) 2 0 false
+  triangle_once : (sent_count (address 1) first_key triangle_run.packets ≡ 0) × (sent_count (address 2) first_key triangle_run.packets ≡ 1)
 
 runs : Runs
 unfolding posted posted_lines posting post_refusal id_of trimmed lines digits date_of scanned packets_of recipients packet_to targets links_of address_set header_to copy_to exported entry_set text_of short_lines received toss_outcome tossing text_refusal echo_of kept_of path_lists seen_lists begins after_word entries tokens pair_of key_of msgid_of purged stub_of
 runs = grind arith
 
--- the same events in the program's form
-program_events : map run_event (
-    Post 0 (codes "TEST") draft 1 stamp ∷ (Scan 0 stamp ∷ (Deliver 0 ∷ (Purge 0 ∷ [])))
-    ) ≡ post 0 ∷ (scan 0 ∷ (Delivery 0 ∷ (Purging 0 ∷ [])))
-program_events = refl
-
 -- nets that miss one clause of `Tidy`
-abbrev pub two_files : List LinkFile
+abbrev two_files : List LinkFile
 two_files = file 1 (2 ∷ []) ∷ (file 2 (1 ∷ []) ∷ (file 2 (1 ∷ []) ∷ []))
 
-abbrev pub own_link : List LinkFile
+abbrev own_link : List LinkFile
 own_link = file 1 (1 ∷ []) ∷ []
 
-abbrev pub one_sided : List LinkFile
+abbrev one_sided : List LinkFile
 one_sided = file 1 (2 ∷ []) ∷ (file 2 [] ∷ [])
 
 -- in another zone, with the net and node of 1:10/1
 abbrev pub far : Address
 far = record { zone = 2; net = 10; node = 1 }
 
-abbrev pub over_zones : List LinkFile
+abbrev over_zones : List LinkFile
 over_zones = file 1 (5 ∷ []) ∷ (carrier (address 5) (address 1 ∷ (far ∷ [])) ∷ (carrier far (address 5 ∷ []) ∷ []))
 
-abbrev pub beside : List LinkFile
+abbrev beside : List LinkFile
 beside = file 4 [] ∷ triangle
 
 -- a posting at the first system, and then all scans and deliveries
@@ -187,37 +128,3 @@ record Untidy : Type 0 where
 untidy : Untidy
 unfolding posted posted_lines posting post_refusal id_of trimmed lines digits date_of scanned packets_of recipients packet_to targets links_of address_set header_to copy_to exported entry_set text_of short_lines received toss_outcome tossing text_refusal echo_of kept_of path_lists seen_lists begins after_word entries tokens pair_of key_of msgid_of purged stub_of
 untidy = grind arith
-
--- cases that no run of these systems has, since their ids differ and SEEN-BY lists the sender
-abbrev two_areas : LinkFile
-two_areas = record {
-  system = address 1;
-  name = codes "echonet";
-  areas = record { tag = codes "TEST"; links = [] } ∷ (record { tag = codes "OTHER"; links = [] } ∷ []);
-}
-
-abbrev posted_in : List ℕ → Filed
-posted_in tag = posted two_areas tag draft 1 stamp
-
--- a message from 1:10/2 with an empty SEEN-BY
-abbrev unlisted : Filed
-unlisted = record {
-  sender = Some (address 2);
-  date = [];
-  to_name = [];
-  from_name = [];
-  subject = [];
-  echo = record { tag = codes "TEST"; kept = []; seen = []; path = [] };
-}
-
-record Steps : Type 0 where
-  -- a known serial is refused in another area too
-  known_serial : posting two_areas (posted_in (codes "TEST") ∷ []) (codes "OTHER") draft 1 stamp ≡ None
-  -- one id in two areas names two messages
-  other_area : is_known (posted_in (codes "TEST") ∷ []) (key_of (posted_in (codes "OTHER"))) ≡ false
-  -- a message does not go back to its sender, for any SEEN-BY
-  sender_left_out : targets (file 1 (2 ∷ (3 ∷ []))) unlisted ≡ address 3 ∷ []
-
-steps : Steps
-unfolding posted posted_lines posting post_refusal id_of trimmed lines digits date_of targets links_of begins after_word key_of msgid_of
-steps = grind arith

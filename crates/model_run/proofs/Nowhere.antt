@@ -1,32 +1,19 @@
 -- A packet to an address without a file never comes.
 use Rattle.std.proofs.Common.{◌≡◌, ◌≢◌, inl, inr, refl, sym, subst, ap, ◌∙◌, ℕ, IsTrue, List, [], ◌∷◌, ◌++◌, length, Option, Some, None, arith}
-use Rattle.std.specs.Prelude.{Bool, true, false, if◌then◌else◌}
-use Rattle.std.specs.List.{AllByRecursion, list_any}
+use Rattle.std.specs.{Prelude.Bool, Prelude.true, Prelude.false, Prelude.if◌then◌else◌, List.AllByRecursion, List.list_any}
 use Rattle.model_graph.specs.Walk.{Among}
 use Rattle.model_graph.proofs.Members.{Among-append_left}
-use Rattle.model_steps.specs.declared.packet.Packet.{Packet}
-use Rattle.model_steps.specs.declared.stamp.Stamp.{Stamp}
+use Rattle.model_steps.specs.{declared.packet.Packet.Packet, declared.stamp.Stamp.Stamp, Scanning.scanned, Stamps.is_stamp}
 use Rattle.echo_links.specs.Links.{LinkFile, has_area, is_link, same_address}
 use Rattle.echo_links.proofs.Addresses.{same_address_decides}
 use Rattle.echo_filed.specs.Filed.{Filed, key_of}
-use Rattle.model_steps.specs.Scanning.{scanned}
-use Rattle.model_steps.specs.Stamps.{is_stamp}
 use Rattle.model_run.specs.Event.{RunEvent, Posting, Scanning, Delivery, PartDelivery, Purging}
 use Rattle.model_run.specs.Run.{Run, System, after_event, change, changing, coming, delivery, destination, nth, part_delivery, posting_at, purging_at, receiver, run_of, scanning, scanning_at, taking}
-use Rattle.model_run.specs.Orderly.{Orderly, Settled, copies, tag_of}
-use Rattle.model_run.proofs.Lists.{any-to, first_passes, nth-among, with_index-from, nth-append as nth-more, Among-map_to}
-use Rattle.model_run.specs.Grave.{ListsNobody}
-use Rattle.model_run.specs.Harms.{NeverSettles}
-use Rattle.model_run.specs.LawsOfRuns.{LawsOfRuns}
+use Rattle.model_run.specs.{Orderly.Orderly, Orderly.Settled, Orderly.copies, Orderly.tag_of, Grave.ListsNobody, Harms.NeverSettles, LawsOfRuns.LawsOfRuns}
 use Rattle.model_run.specs.Postings.{post_and_scan, trial_posting}
-use Rattle.model_run.proofs.Holders.{sent-to_link}
-use Rattle.model_run.proofs.OneMessage.{post_of, post_of-tag, sent-packet}
-use Rattle.model_run.proofs.Places.{lists-file}
-use Rattle.model_run.proofs.HarmLists.{among-nth, nth-middle}
-use Rattle.model_run.proofs.Resting.{file-there}
-use Rattle.model_run.proofs.HarmSteps.{after_one_more, along, run-files}
-use Rattle.model_run.proofs.Targets.{some_same}
-use Rattle.model_run.proofs.Areas.{link-area, link-among, key-tag}
+use Rattle.model_run.proofs.Lists.{any-to, first_passes, nth-among, with_index-from, nth-append as nth-more, Among-map_to}
+use Rattle.model_run.proofs.{Holders.sent-to_link, OneMessage.post_of, OneMessage.post_of-tag, OneMessage.sent-packet, Places.lists-file, HarmLists.among-nth, HarmLists.nth-middle, Resting.file-there}
+use Rattle.model_run.proofs.{HarmSteps.after_one_more, HarmSteps.along, HarmSteps.run-files, Targets.some_same, Areas.link-area, Areas.link-among, Areas.key-tag}
 
 -- an area that no file has is orderly
 pub nobody-orderly : (files : List LinkFile) (tag : List ℕ) → ¬ IsTrue (list_any (λ (file : LinkFile). has_area file tag) files) →

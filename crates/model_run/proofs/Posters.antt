@@ -5,16 +5,11 @@ use Rattle.echo_addr.specs.declared.address.Address.{Address}
 use Rattle.model_graph.specs.Walk.{Among, Reaches, Simple}
 use Rattle.echo_links.specs.Links.{LinkFile}
 use Rattle.echo_filed.specs.Filed.{Filed}
-use Rattle.model_run.specs.Tidy.{Carries, Joined, lists}
-use Rattle.model_run.proofs.Lists.{nth-among}
-use Rattle.model_run.specs.Grave.{AllAreCarriers, AreTwins, HaveOwnAddresses, IsListedAlone}
-use Rattle.model_run.specs.LawsOfRuns.{LawsOfRuns}
+use Rattle.model_run.specs.{Tidy.Carries, Tidy.Joined, Tidy.lists, Grave.AllAreCarriers, Grave.AreTwins, Grave.HaveOwnAddresses, Grave.IsListedAlone, LawsOfRuns.LawsOfRuns}
 use Rattle.model_run.specs.Shown.{IsPinched, ShowsHarm, Trial}
-use Rattle.model_run.proofs.Branches.{Touches, closed-by, no_way_around}
-use Rattle.model_run.proofs.Holders.{Holds, harm-or_none, spread}
-use Rattle.model_run.proofs.Places.{carrier-area, lister-carries}
 use Rattle.model_run.proofs.Spreads.{IsNear, Spread, answered, from_poster, no_kite, not_hidden, reached}
-use Rattle.model_run.proofs.Targets.{none_some}
+use Rattle.model_run.proofs.{Lists.nth-among, Branches.Touches, Branches.closed-by, Branches.no_way_around, Holders.Holds, Holders.harm-or_none, Holders.spread}
+use Rattle.model_run.proofs.{Places.carrier-area, Places.lister-carries, Targets.none_some}
 
 module _ (files : List LinkFile) (known : LawsOfRuns files) (tag : List ℕ) (one_file : HaveOwnAddresses files) (all_known : AllAreCarriers files tag) where
   abbrev linked : Address → Address → Bool

@@ -1,39 +1,23 @@
 -- Rounds bring one message to rest: each round brings it to a new system, or is the last.
 use Rattle.std.proofs.Common.{◌≡◌, ◌⊎◌, inl, inr, refl, sym, subst, ap, ◌∙◌, ℕ, zero, suc, ◌+◌, ◌<◌, ◌≤◌, ◌==◌, arith, List, [], ◌∷◌, ◌++◌, length, take, drop, Option, Some, None}
+use Rattle.std.proofs.lemmas.{Bool.cases_eq, Bool.Decides.nat_tests, List.append_assoc, List.append-nil, List.length-drop, List.length-map}
 use Rattle.std.specs.Prelude.{Bool, true, false, ◌&&◌, if◌then◌else◌, nat_le}
 use Rattle.std.specs.List.{flat_map, list_all, list_any}
-use Rattle.std.proofs.lemmas.Bool.{cases_eq}
-use Rattle.std.proofs.lemmas.Bool.Decides.{nat_tests}
-use Rattle.std.proofs.lemmas.List.{append_assoc, append-nil, length-drop, length-map}
 use Rattle.echo_addr.specs.declared.address.Address.{Address}
 use Rattle.model_graph.specs.Walk.{Among}
 use Rattle.model_graph.proofs.Members.{Among-append_cases}
-use Rattle.model_steps.specs.declared.packet.Packet.{Packet}
+use Rattle.model_steps.specs.{declared.packet.Packet.Packet, Scanning.recipients, Scanning.scanned, Scanning.targets, Tossing.sender_of}
 use Rattle.echo_links.specs.Links.{LinkFile, has_area, is_link}
 use Rattle.echo_links.proofs.Addresses.{same_address_decides}
-use Rattle.echo_filed.specs.declared.key.Key.{Key}
-use Rattle.echo_filed.specs.Filed.{Filed, key_of}
-use Rattle.model_steps.specs.Scanning.{recipients, scanned, targets}
-use Rattle.model_steps.specs.Tossing.{sender_of}
-use Rattle.model_run.specs.Event.{RunEvent, Delivery, Scanning}
+use Rattle.echo_filed.specs.{declared.key.Key.Key, Filed.Filed, Filed.key_of}
 use Rattle.model_run.specs.Run.{Run, System, coming, delivery, destination, nth, receiver, run_of, scanning, taking, with_index}
-use Rattle.model_run.specs.Orderly.{tag_of}
-use Rattle.model_run.specs.World.{is_settled, missing, undelivered}
-use Rattle.model_run.proofs.Copies.{packet-destination}
+use Rattle.model_run.specs.{Event.RunEvent, Event.Delivery, Event.Scanning, Orderly.tag_of, World.is_settled, World.missing, World.undelivered, Grave.AllAreCarriers, LawsOfRuns.LawsOfRuns}
+use Rattle.model_run.specs.{Postings.trial_moment, Postings.trial_posting, Rounds.deliveries, Rounds.round_after, Rounds.scans}
 use Rattle.model_run.proofs.Lists.{Among-drop, Among-take, any-to, not_both, nth-among, Among-flat_map_from}
-use Rattle.model_run.proofs.TosserLaws.{the_laws}
-use Rattle.model_run.specs.Grave.{AllAreCarriers}
-use Rattle.model_run.specs.LawsOfRuns.{LawsOfRuns}
-use Rattle.model_run.specs.Postings.{trial_moment, trial_posting}
-use Rattle.model_run.specs.Rounds.{deliveries, round_after, scans}
-use Rattle.model_run.proofs.HarmLists.{among-nth, none_passes, nth-below, nth-index}
-use Rattle.model_run.proofs.OneMessage.{only-posted, post_of, post_of-tag}
-use Rattle.model_run.proofs.Places.{carrier-file, file-lists}
 use Rattle.model_run.proofs.Resting.{Scanned, Within, file-there, new-key, packed-within, scanned-more, system-there, taken-within, with_index-new, with_index-old, all_lacking, change-fewer, lacking, tossing-fewer}
-use Rattle.model_run.proofs.HarmSteps.{after_one_more, run-files}
-use Rattle.model_run.proofs.Targets.{none_some}
-use Rattle.model_run.proofs.Areas.{among-link, target-link, key-tag}
-use Rattle.model_run.proofs.Bases.{scanned-from}
+use Rattle.model_run.proofs.{Copies.packet-destination, TosserLaws.the_laws, HarmLists.among-nth, HarmLists.none_passes, HarmLists.nth-below, HarmLists.nth-index}
+use Rattle.model_run.proofs.{OneMessage.only-posted, OneMessage.post_of, OneMessage.post_of-tag, Places.carrier-file, Places.file-lists, HarmSteps.after_one_more, HarmSteps.run-files}
+use Rattle.model_run.proofs.{Targets.none_some, Areas.among-link, Areas.target-link, Areas.key-tag, Bases.scanned-from}
 
 -- a packet of a scan goes to a target of a waiting message
 recipient-target : (file : LinkFile) (waiting : List Filed) (a : Address) → Among a (recipients file waiting) →

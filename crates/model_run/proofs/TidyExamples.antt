@@ -1,17 +1,12 @@
--- A net that is tidy, and for each clause of `Tidy` a net that breaks it.
+-- A net that is tidy: a triangle.
 use Rattle.std.proofs.Common.{◌≡◌, ◌≢◌, ◌⊎◌, inl, inr, refl, sym, subst, ap, ◌∙◌, ℕ, arith, IsTrue, List, [], ◌∷◌, codes}
 use Rattle.std.specs.Prelude.{true, false}
-use Rattle.echo_addr.specs.declared.address.Address.{Address}
-use Rattle.echo_addr.specs.Address.{net_node_of}
-use Rattle.echo_addr.specs.declared.address.NetNode.{NetNode}
-use Rattle.model_graph.specs.Walk.{Among, Reaches, Walk}
-use Rattle.model_graph.specs.Cycle.{Cycle}
+use Rattle.echo_addr.specs.{declared.address.Address.Address, Address.net_node_of, declared.address.NetNode.NetNode}
+use Rattle.model_graph.specs.Walk.{Among, Walk}
 use Rattle.echo_links.specs.Links.{LinkFile, links_of}
 use Rattle.model_run.specs.Tidy.{Carries, Tidy, lists}
-use Rattle.model_run.proofs.TosserLaws.{the_laws}
+use Rattle.model_run.proofs.{TosserLaws.the_laws, Lists.and-parts, Lists.any-from, Lists.not_both, Lists.Among-map_to, NetExamples.address, NetExamples.file, NetExamples.triangle}
 use Rattle.model_graph.proofs.Members.{Among-at}
-use Rattle.model_run.proofs.Lists.{and-parts, any-from, not_both, Among-map_to}
-use Rattle.model_run.proofs.NetExamples.{address, beside, far, file, one_sided, over_zones, own_link, ring, triangle, two_files}
 
 abbrev pub test : List ℕ
 test = codes "TEST"
@@ -21,68 +16,6 @@ is_false e = not_both false e refl
 
 one_node : (i j : ℕ) → address i ≡ address j → i ≡ j
 one_node i j e = ap (λ (a : Address). a.node) e
-
--- clause 1: no file has the area
-no_carrier : ¬ Tidy (file 1 [] ∷ []) (codes "OTHER")
-no_carrier t = is_false t.joined.some
-
--- clause 2: two files with one address
-same_address_twice : ¬ Tidy two_files test
-same_address_twice t = t.joined.one_file.1.0 (inl refl)
-
--- clause 3: a system that lists itself
-lists_itself : ¬ Tidy own_link test
-unfolding links_of
-lists_itself t = t.joined.no_self (address 1) refl
-
--- clause 4: a link without a file
-unknown_link : ¬ Tidy (file 1 (9 ∷ []) ∷ []) test
-unfolding links_of
-unknown_link t = is_false (t.joined.known (address 1) (address 9) refl)
-
--- clause 5: a link in just one file
-in_one_file : ¬ Tidy one_sided test
-unfolding links_of
-in_one_file t = is_false (t.joined.both (address 1) (address 2) refl)
-
--- clause 6: a chain over two zones; its ends have one net and node
-same_net_node : ¬ Tidy over_zones test
-same_net_node t =
-    let e = t.joined.apart (address 1) far refl refl refl in
-    absurd (omega (arith, ap (λ (a : Address). a.zone) e))
-
--- clause 7: a triangle and a lone system
-no_walk : ¬ Tidy beside test
-unfolding links_of
-no_walk t = stuck (t.joined.connected (address 4) (address 1) refl refl)
-  where
-    stuck : ¬ Reaches (lists beside test) (address 4) (address 1)
-    stuck ([], e) = absurd (omega (arith, one_node 4 1 e))
-    stuck (c ∷ rest, walk) = is_false walk.0
-
--- clause 8: the ring 1, 3, 2, 4, in which 1 and 2 are not linked
-no_polygon : ¬ Tidy ring test
-unfolding links_of
-no_polygon t = is_false (t.cycles (address 1) (address 3 ∷ (address 2 ∷ (address 4 ∷ []))) around (address 1) (address 2) (inl refl) (inr (inr (inl refl))) (differ 1 2 (omega arith)))
-  where
-    differ : (i j : ℕ) → i ≢ j → address i ≢ address j
-    differ i j other e = other (one_node i j e)
-
-    around : Cycle (lists ring test) (address 1) (address 3 ∷ (address 2 ∷ (address 4 ∷ [])))
-    around = record {
-      long = omega arith;
-      different = (
-        λ h. elim h [
-          | inl e ↦ differ 1 3 (omega arith) e
-          | inr k ↦ elim k [ inl e ↦ differ 1 2 (omega arith) e | inr l ↦ elim l [ inl e ↦ differ 1 4 (omega arith) e | inr n ↦ n ] ]
-        ],
-        (
-          λ h. elim h [ inl e ↦ differ 3 2 (omega arith) e | inr k ↦ elim k [ inl e ↦ differ 3 4 (omega arith) e | inr l ↦ l ] ],
-          (λ h. elim h [ inl e ↦ differ 2 4 (omega arith) e | inr k ↦ k ], (λ h. h, tt)),
-        ),
-      );
-      closed = (address 4, (refl, (refl, (refl, refl))), refl);
-    }
 
 -- the triangle is tidy
 module _ (files : List LinkFile) (tag : List ℕ) where

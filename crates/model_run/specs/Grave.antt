@@ -1,13 +1,9 @@
 -- The grave faults of an area: with one of them, some run breaks the promise.
 use Rattle.std.specs.Prelude.{◌≡◌, ◌≢◌, ◌<◌, ◌⊎◌, ℕ, IsTrue, List, map, Some}
-use Rattle.echo_addr.specs.declared.address.Address.{Address}
-use Rattle.echo_addr.specs.Address.{net_node_of}
-use Rattle.model_graph.specs.Walk.{Among, Different, Reaches}
-use Rattle.model_graph.specs.Cycle.{IsCycle}
-use Rattle.model_graph.specs.Loops.{HasUnlinked}
+use Rattle.echo_addr.specs.{declared.address.Address.Address, Address.net_node_of}
+use Rattle.model_graph.specs.{Walk.Among, Walk.Different, Walk.Reaches, Cycle.IsCycle, Loops.HasUnlinked}
 use Rattle.echo_links.specs.Links.{LinkFile, has_area}
-use Rattle.model_run.specs.Run.{nth}
-use Rattle.model_run.specs.Tidy.{Carries, Joined, lists}
+use Rattle.model_run.specs.{Run.nth, Tidy.Carries, Tidy.Joined, Tidy.lists}
 
 -- No two files have one address.
 abbrev pub HaveOwnAddresses : List LinkFile → Type 0

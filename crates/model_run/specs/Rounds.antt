@@ -1,9 +1,7 @@
 -- Rounds: all systems scan, and then all packets come.
 use Rattle.std.specs.Prelude.{ℕ, zero, suc, List, [], ◌∷◌, ◌++◌, length}
 use Rattle.echo_links.specs.Links.{LinkFile}
-use Rattle.model_run.specs.Event.{RunEvent, Delivery, Scanning}
-use Rattle.model_run.specs.Run.{run_of}
-use Rattle.model_run.specs.Postings.{trial_moment}
+use Rattle.model_run.specs.{Event.RunEvent, Event.Delivery, Event.Scanning, Run.run_of, Postings.trial_moment}
 
 -- A scan of each of the first `count` systems.
 abbrev pub scans : ℕ → List RunEvent

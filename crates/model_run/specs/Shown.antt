@@ -3,11 +3,7 @@ use Rattle.std.specs.Prelude.{◌≡◌, ◌≢◌, ℕ, IsTrue, List, ◌∷◌
 use Rattle.echo_addr.specs.declared.address.Address.{Address}
 use Rattle.model_graph.specs.Beyond.{Around}
 use Rattle.echo_links.specs.Links.{LinkFile}
-use Rattle.model_run.specs.Event.{RunEvent}
-use Rattle.model_run.specs.Run.{nth, run_of}
-use Rattle.model_run.specs.Tidy.{lists}
-use Rattle.model_run.specs.Harms.{Harm}
-use Rattle.model_run.specs.Postings.{ComesToRest, trial_posting}
+use Rattle.model_run.specs.{Event.RunEvent, Run.nth, Run.run_of, Tidy.lists, Harms.Harm, Postings.ComesToRest, Postings.trial_posting}
 
 -- A posting of the system of this address, and the events until the area was at rest.
 pub record Trial (files : List LinkFile) (tag : List ℕ) (a : Address) : Type 0 where

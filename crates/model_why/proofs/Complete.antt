@@ -2,18 +2,13 @@
 use Rattle.std.proofs.Common.{◌≡◌, ◌∙◌, refl, sym, ℕ, ◌<◌, ◌≤◌, arith, List, Option, Some, None}
 use Rattle.std.specs.Prelude.{Bool, true, false, ◌&&◌, MatchOption, bytes_eq, option_map, unwrap_or}
 use Rattle.echo_addr.specs.declared.address.Address.{Address}
-use Rattle.echo_text.specs.Echo.{msgid_of}
-use Rattle.echo_text.specs.Ids.{id_of}
+use Rattle.echo_text.specs.{Echo.msgid_of, Ids.id_of}
 use Rattle.echo_links.specs.Links.{LinkFile}
-use Rattle.echo_filed.specs.declared.key.Key.TheVariants.{ById}
-use Rattle.echo_filed.specs.Filed.{Filed, key_of}
+use Rattle.echo_filed.specs.{declared.key.Key.TheVariants.ById, Filed.Filed, Filed.key_of}
 use Rattle.echo_filed.proofs.Keys.{same_key_decides}
-use Rattle.model_run.specs.Run.{Run, System, nth}
-use Rattle.model_run.specs.Orderly.{IsPosting, sent_count}
-use Rattle.model_run.specs.World.{area_count, filed_at}
+use Rattle.model_run.specs.{Run.Run, Run.System, Run.nth, Orderly.IsPosting, Orderly.sent_count, World.area_count, World.filed_at}
 use Rattle.model_replay.specs.Worlds.{message_at}
-use Rattle.model_why.specs.Found.{CarriesAt, PostedAt}
-use Rattle.model_why.specs.Resting.{PostsFirst}
+use Rattle.model_why.specs.{Found.CarriesAt, Found.PostedAt, Resting.PostsFirst}
 use Rattle.model_why.proofs.Counting.{has_key}
 
 pub not_there : (b : Bool) → b ≡ true → b ≡ false → ⊥

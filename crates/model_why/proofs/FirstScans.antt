@@ -6,21 +6,10 @@ use Rattle.model_graph.specs.Walk.{Among}
 use Rattle.echo_links.specs.Links.{LinkFile, is_link, same_address}
 use Rattle.echo_links.proofs.Addresses.{same_address_decides}
 use Rattle.echo_filed.specs.declared.key.Key.{Key}
-use Rattle.model_run.specs.Event.{RunEvent}
-use Rattle.model_run.specs.Run.{System, nth, run_of, start}
-use Rattle.model_run.specs.Orderly.{sent_count}
-use Rattle.model_run.specs.Tidy.{lists}
-use Rattle.model_run.proofs.Lists.{any-from, Among-map_to}
-use Rattle.model_run.proofs.WholeRuns.{along, event-files, fresh-files}
-use Rattle.model_run.specs.LawsOfRuns.{LawsOfRuns}
-use Rattle.model_run.specs.Postings.{post_and_scan}
-use Rattle.model_run.proofs.Areas.{link-among, link-area}
-use Rattle.model_run.proofs.HarmLists.{among-nth, nth-index as nth-within}
-use Rattle.model_run.proofs.Places.{lists-file}
-use Rattle.model_run.proofs.Holders.{scanned-poster, scanned-there, sent-to_link}
-use Rattle.model_run.proofs.HarmTelling.{posting-key}
-use Rattle.model_plan.specs.declared.plan.Guess.{Guess}
-use Rattle.model_plan.specs.declared.plan.Guess.TheVariants.{Nobody, Own}
+use Rattle.model_run.specs.{Event.RunEvent, Run.System, Run.nth, Run.run_of, Run.start, Orderly.sent_count, Tidy.lists, LawsOfRuns.LawsOfRuns, Postings.post_and_scan}
+use Rattle.model_run.proofs.{Lists.any-from, Lists.Among-map_to, WholeRuns.along, WholeRuns.event-files, WholeRuns.fresh-files, Areas.link-among, Areas.link-area}
+use Rattle.model_run.proofs.{HarmLists.among-nth, HarmLists.nth-index as nth-within, Places.lists-file, Holders.scanned-poster, Holders.scanned-there, Holders.sent-to_link, HarmTelling.posting-key}
+use Rattle.model_plan.specs.declared.plan.Guess.{Guess, TheVariants.Nobody, TheVariants.Own}
 use Rattle.model_why.specs.Guesses.{IsWrongAtOnce, guessed_link}
 
 -- the file of a system of a run is one of the files

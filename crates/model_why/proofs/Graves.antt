@@ -2,12 +2,10 @@
 use Rattle.std.proofs.Common.{IsTrue, ℕ, List}
 use Rattle.echo_addr.specs.declared.address.Address.{Address}
 use Rattle.echo_links.specs.Links.{LinkFile}
-use Rattle.echo_net.specs.declared.verdict.NetFault.{NetFault}
 use Rattle.echo_net.specs.declared.verdict.NetFault.TheVariants.{NoSuchArea, TwoFiles, SelfLink, Unknown, OneSided, SameNetNode, Apart, Loop}
-use Rattle.echo_net.specs.Faults.{IsFirstFault}
-use Rattle.model_run.specs.Tidy.{lists}
+use Rattle.echo_net.specs.{declared.verdict.NetFault.NetFault, Faults.IsFirstFault}
+use Rattle.model_run.specs.{Tidy.lists, Grave.AllAreCarriers, Grave.GraveFault, Grave.HaveOwnAddresses}
 use Rattle.model_run.specs.Grave as grave
-use Rattle.model_run.specs.Grave.{AllAreCarriers, GraveFault, HaveOwnAddresses}
 
 -- V5, V7 and V8 apply only if each link of a carrier is a carrier
 abbrev pub ComesAfterCarriers : NetFault → Type 0

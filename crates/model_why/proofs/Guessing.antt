@@ -3,9 +3,7 @@ use Rattle.std.proofs.Common.{◌≡◌, ℕ, ◌≤◌, arith, List, Some}
 use Rattle.std.specs.Prelude.{true, IfOk, Result, Ok, Err}
 use Rattle.echo_filed.specs.declared.key.Key.TheVariants.{ById}
 use Rattle.echo_links.specs.Links.{has_area}
-use Rattle.model_run.specs.Run.{Run, System, nth}
-use Rattle.model_run.specs.Orderly.{sent_count}
-use Rattle.model_run.specs.World.{area_count, is_settled}
+use Rattle.model_run.specs.{Run.Run, Run.System, Run.nth, Orderly.sent_count, World.area_count, World.is_settled}
 use Rattle.model_why.specs.Guesses.{IsAgain, IsLacking, IsOwn}
 
 -- a weaker property holds of the answer too

@@ -4,16 +4,11 @@ use Rattle.std.specs.Prelude.{true, option_map, slice_get, unwrap_or}
 use Rattle.echo_text.specs.Ids.{id_of}
 use Rattle.echo_links.specs.Links.{LinkFile, has_area}
 use Rattle.echo_filed.specs.declared.key.Key.TheVariants.{ById}
-use Rattle.model_run.specs.Run.{Run, System, nth}
-use Rattle.model_run.specs.Orderly.{Settled}
-use Rattle.model_run.specs.World.{is_settled}
-use Rattle.model_run.specs.Grave.{AllAreCarriers, GraveFault, HaveOwnAddresses}
-use Rattle.model_run.specs.LawsOfRuns.{LawsOfRuns}
-use Rattle.model_run.proofs.OneMessage.{post_of}
+use Rattle.model_run.specs.{Run.Run, Run.System, Run.nth, Orderly.Settled, World.is_settled, Grave.AllAreCarriers, Grave.GraveFault, Grave.HaveOwnAddresses, LawsOfRuns.LawsOfRuns}
 use Rattle.model_run.proofs.HarmTelling.{posting-first, posting-is, posting-key, unharmed-by, no_fault}
+use Rattle.model_run.proofs.OneMessage.{post_of}
 use Rattle.model_plan.specs.declared.plan.Move.{Move}
-use Rattle.model_why.specs.Resting.{IsHarmlessAt, PostsFirst}
-use Rattle.model_why.specs.Shown.{run_move, shown_run}
+use Rattle.model_why.specs.{Resting.IsHarmlessAt, Resting.PostsFirst, Shown.run_move, Shown.shown_run}
 use Rattle.model_why.proofs.Rested.{only-moves}
 
 pub posts-first : (files : List LinkFile) → LawsOfRuns files → (tag : List ℕ) (i : ℕ) (file : LinkFile) → nth i files ≡ Some file → has_area file tag ≡ true →

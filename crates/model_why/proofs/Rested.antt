@@ -1,23 +1,13 @@
 -- Rounds after a posting, as moves of the program.
 use Rattle.std.proofs.Common.{◌≡◌, inl, inr, sym, subst, ◌∙◌, ℕ, ◌+◌, ◌<◌, arith, List, [], ◌∷◌, ◌++◌, length, map, Some}
-use Rattle.std.specs.Prelude.{true, false}
-use Rattle.std.specs.List.{AllByRecursion}
 use Rattle.std.proofs.lemmas.List.{append_assoc, map-append}
+use Rattle.std.specs.{Prelude.true, Prelude.false, List.AllByRecursion}
 use Rattle.echo_text.specs.Ids.{id_of}
 use Rattle.echo_links.specs.Links.{LinkFile, has_area}
-use Rattle.model_run.specs.Event.{RunEvent}
-use Rattle.model_run.specs.Run.{nth}
-use Rattle.model_run.specs.World.{is_settled}
-use Rattle.model_run.specs.Grave.{AllAreCarriers}
-use Rattle.model_run.specs.LawsOfRuns.{LawsOfRuns}
-use Rattle.model_run.specs.Postings.{IsMove}
-use Rattle.model_run.specs.Rounds.{deliveries, round_after, scans}
-use Rattle.model_run.proofs.Rounds.{Progress, first-progress, round-progress, rounds-settle}
-use Rattle.model_run.proofs.HarmTelling.{posting-key}
-use Rattle.model_plan.specs.declared.plan.Move.{Move}
-use Rattle.model_plan.specs.declared.plan.Move.TheVariants.{Deliver, Scan}
-use Rattle.model_why.specs.Resting.{IsAtRest, RestsWith}
-use Rattle.model_why.specs.Shown.{posting_and_moves, run_move, shown_run}
+use Rattle.model_run.specs.{Event.RunEvent, Run.nth, World.is_settled, Grave.AllAreCarriers, LawsOfRuns.LawsOfRuns, Postings.IsMove, Rounds.deliveries, Rounds.round_after, Rounds.scans}
+use Rattle.model_run.proofs.{Rounds.Progress, Rounds.first-progress, Rounds.round-progress, Rounds.rounds-settle, HarmTelling.posting-key}
+use Rattle.model_plan.specs.declared.plan.Move.{Move, TheVariants.Deliver, TheVariants.Scan}
+use Rattle.model_why.specs.{Resting.IsAtRest, Resting.RestsWith, Shown.posting_and_moves, Shown.run_move, Shown.shown_run}
 
 -- the moves of the program are moves of a run
 pub only-moves : (moves : List Move) → AllByRecursion IsMove (map run_move moves)

@@ -2,8 +2,8 @@
 use Rattle.std.specs.Prelude.{◌≢◌, List}
 use Rattle.model_graph.specs.Walk.{Among}
 use Rattle.echo_links.specs.Links.{LinkFile}
-use Rattle.echo_net.specs.declared.verdict.NetFault.{NetFault}
 use Rattle.echo_net.specs.declared.verdict.NetFault.TheVariants.{Apart, Loop, OneSided, SelfLink, Unknown}
+use Rattle.echo_net.specs.declared.verdict.NetFault.{NetFault}
 
 -- V3, V5, V7 and V8 always do harm.
 abbrev pub AlwaysHarms : NetFault → Type 0

@@ -5,12 +5,8 @@ use Rattle.model_graph.specs.Walk.{Among}
 use Rattle.echo_text.specs.Ids.{id_of}
 use Rattle.echo_links.specs.Links.{LinkFile, has_area}
 use Rattle.echo_filed.specs.declared.key.Key.TheVariants.{ById}
-use Rattle.model_run.specs.Run.{Run, System, nth, run_of}
-use Rattle.model_run.specs.Orderly.{sent_count}
-use Rattle.model_run.specs.World.{area_count, is_settled}
-use Rattle.model_run.specs.Postings.{post_and_scan}
-use Rattle.model_plan.specs.declared.plan.Guess.{Guess}
-use Rattle.model_plan.specs.declared.plan.Guess.TheVariants.{Again, Lacking, Nobody, Own}
+use Rattle.model_run.specs.{Run.Run, Run.System, Run.nth, Run.run_of, Orderly.sent_count, World.area_count, World.is_settled, Postings.post_and_scan}
+use Rattle.model_plan.specs.declared.plan.Guess.{Guess, TheVariants.Again, TheVariants.Lacking, TheVariants.Nobody, TheVariants.Own}
 
 -- The system of this index has the area, and is sent the message more than once.
 pub record IsAgain (run : Run) (tag id : List ℕ) (i : ℕ) : Type 0 where

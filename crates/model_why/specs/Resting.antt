@@ -3,13 +3,9 @@ use Rattle.std.specs.Prelude.{◌≡◌, ◌≤◌, ℕ, IsTrue, List, Some}
 use Rattle.model_graph.specs.Walk.{Among}
 use Rattle.echo_text.specs.Ids.{id_of}
 use Rattle.echo_links.specs.Links.{LinkFile, has_area}
-use Rattle.echo_filed.specs.declared.key.Key.TheVariants.{ById}
-use Rattle.echo_filed.specs.Filed.{Filed, key_of}
-use Rattle.model_run.specs.Orderly.{IsPosting, sent_count}
-use Rattle.model_run.specs.Run.{Run, System, nth}
-use Rattle.model_run.specs.World.{area_count, is_settled}
+use Rattle.echo_filed.specs.{declared.key.Key.TheVariants.ById, Filed.Filed, Filed.key_of}
+use Rattle.model_run.specs.{Orderly.IsPosting, Orderly.sent_count, Run.Run, Run.System, Run.nth, World.area_count, World.is_settled, Grave.AllAreCarriers}
 use Rattle.model_replay.specs.Worlds.{message_at}
-use Rattle.model_run.specs.Grave.{AllAreCarriers}
 use Rattle.model_plan.specs.declared.plan.Move.{Move}
 use Rattle.model_why.specs.Shown.{shown_run}
 

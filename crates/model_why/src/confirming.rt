@@ -2,12 +2,9 @@
 
 ghost use Rattle.std.specs.Prelude.{◌≡◌, IfOk, IfSome, IsTrue, MatchOption, None, Some};
 ghost use Rattle.echo_links.specs.Links.{LinkFile as File, has_area};
-ghost use Rattle.model_run.specs.Fits.{FilesFit};
-ghost use Rattle.model_run.specs.Run.{nth};
+ghost use Rattle.model_run.specs.{Fits.FilesFit, Run.nth};
 ghost use Rattle.echo_text.specs.Ids.{id_of};
-ghost use Rattle.model_why.specs.Found.{BreaksIt, IsShown};
-ghost use Rattle.model_why.specs.Guesses.{GuessBreaks, IsRight};
-ghost use Rattle.model_why.specs.Shown.{shown_run};
+ghost use Rattle.model_why.specs.{Found.BreaksIt, Found.IsShown, Guesses.GuessBreaks, Guesses.IsRight, Shown.shown_run};
 
 use crate::events::{SERIAL, events_of};
 use crate::judging::judge;

@@ -4,9 +4,7 @@ ghost use Rattle.std.specs.Prelude.{IfOk, IfSome, IsTrue, List, option_copied};
 ghost use Rattle.echo_links.specs.Links.{LinkFile as File};
 ghost use Rattle.echo_net.specs.Faults.{IfNo, IsFirstFault};
 ghost use Rattle.model_run.specs.Fits.{FilesFit};
-ghost use Rattle.model_why.specs.Exact.{AlwaysHarms, LeadsNowhere};
-ghost use Rattle.model_why.specs.Found.{FindsHarm, FindsSome, IsShown};
-ghost use Rattle.model_why.specs.Sources.{files_of};
+ghost use Rattle.model_why.specs.{Exact.AlwaysHarms, Exact.LeadsNowhere, Found.FindsHarm, Found.FindsSome, Found.IsShown, Sources.files_of};
 
 use crate::finding::find_harm;
 use crate::first_scans::by_first_scans;

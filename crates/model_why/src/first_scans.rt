@@ -5,12 +5,8 @@ ghost use Rattle.std.specs.List.{list_any};
 ghost use Rattle.echo_addr.specs.declared.address.Address.{Address};
 ghost use Rattle.model_graph.specs.Walk.{Among};
 ghost use Rattle.echo_links.specs.Links.{LinkFile as File, is_link, same_address};
-ghost use Rattle.model_run.specs.Fits.{FilesFit};
-ghost use Rattle.model_run.specs.Run.{nth};
-ghost use Rattle.model_run.specs.Tidy.{lists};
-ghost use Rattle.model_why.specs.Found.{BreaksIt, FindsHarm, FindsSome, IsShown};
-ghost use Rattle.model_why.specs.Guesses.{GuessBreaks, IsWrongAtOnce, guessed_link};
-ghost use Rattle.model_why.specs.Sources.{files_of};
+ghost use Rattle.model_run.specs.{Fits.FilesFit, Run.nth, Tidy.lists};
+ghost use Rattle.model_why.specs.{Found.BreaksIt, Found.FindsHarm, Found.FindsSome, Found.IsShown, Guesses.GuessBreaks, Guesses.IsWrongAtOnce, Guesses.guessed_link, Sources.files_of};
 ghost use Rattle.model_plan.specs.declared.plan.Guess.TheVariants.{Nobody, Own};
 
 use crate::confirming::confirmed;

@@ -4,12 +4,9 @@ ghost use Rattle.std.specs.Prelude.{◌≡◌, ◌≢◌, ◌≤◌, IfOk, IfSom
 ghost use Rattle.model_graph.specs.Walk.{Among};
 ghost use Rattle.echo_filed.specs.declared.key.Key.TheVariants.{ById};
 ghost use Rattle.echo_links.specs.Links.{has_area, same_address};
-ghost use Rattle.model_run.specs.Orderly.{sent_count};
-ghost use Rattle.model_run.specs.Run.{Run, System, nth};
-ghost use Rattle.model_run.specs.World.{area_count, is_settled};
+ghost use Rattle.model_run.specs.{Orderly.sent_count, Run.Run, Run.System, Run.nth, World.area_count, World.is_settled};
 ghost use Rattle.model_replay.specs.Worlds.{IsWorldOf};
-ghost use Rattle.model_why.specs.Found.{BreaksIt, CarriesAt, HasHarm, PostedAt};
-ghost use Rattle.model_why.specs.Guesses.{GuessBreaks, IsRight, IsToNobody};
+ghost use Rattle.model_why.specs.{Found.BreaksIt, Found.CarriesAt, Found.HasHarm, Found.PostedAt, Guesses.GuessBreaks, Guesses.IsRight, Guesses.IsToNobody};
 ghost use Rattle.model_why.specs.Resting.{DoesNoHarm, IsWell, PostsFirst};
 
 use crate::copies::{is_posting, sent_times};

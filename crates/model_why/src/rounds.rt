@@ -1,12 +1,9 @@
 //! A system posts, and rounds follow until nothing moves any more.
 
 ghost use Rattle.std.specs.Prelude.{◌≡◌, ◌++◌, ◌+◌, ◌<◌, map, IfOk, OnOk};
-ghost use Rattle.model_run.specs.Rounds.{deliveries, round_after, scans};
+ghost use Rattle.model_run.specs.{Rounds.deliveries, Rounds.round_after, Rounds.scans, Fits.FilesFit};
 ghost use Rattle.model_replay.specs.Worlds.{IsWorldOf};
-ghost use Rattle.model_run.specs.Fits.{FilesFit};
-ghost use Rattle.model_why.specs.Resting.{RestsWith};
-ghost use Rattle.model_why.specs.Shown.{posting_and_moves, run_move, shown_run};
-ghost use Rattle.model_why.specs.Sources.{files_of};
+ghost use Rattle.model_why.specs.{Resting.RestsWith, Shown.posting_and_moves, Shown.run_move, Shown.shown_run, Sources.files_of};
 
 use crate::events::events_of;
 use crate::sources::read_files;

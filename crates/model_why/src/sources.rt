@@ -1,8 +1,7 @@
 //! Link files, read from their bytes as often as they are needed.
 
 ghost use Rattle.std.specs.Prelude.{◌≡◌, IfOk};
-ghost use Rattle.echo_links.specs.LinkLines.{file_of};
-ghost use Rattle.echo_links.specs.Links.{IsFile};
+ghost use Rattle.echo_links.specs.{LinkLines.file_of, Links.IsFile};
 ghost use Rattle.model_run.specs.Fits.{FilesFit};
 ghost use Rattle.model_why.specs.Sources.{files_of};
 

@@ -1,11 +1,8 @@
 //! Each system posts in turn, and the harm is searched in all results.
 
 ghost use Rattle.std.specs.Prelude.{◌≡◌, IfOk, IfSome, None};
-ghost use Rattle.model_run.specs.Grave.{AllAreCarriers, GraveFault, HaveOwnAddresses};
-ghost use Rattle.model_run.specs.Fits.{FilesFit};
-ghost use Rattle.model_why.specs.Found.{BreaksIt, FindsHarm, IsShown};
-ghost use Rattle.model_why.specs.Resting.{IsHarmlessAt};
-ghost use Rattle.model_why.specs.Sources.{files_of};
+ghost use Rattle.model_run.specs.{Grave.AllAreCarriers, Grave.GraveFault, Grave.HaveOwnAddresses, Fits.FilesFit};
+ghost use Rattle.model_why.specs.{Found.BreaksIt, Found.FindsHarm, Found.IsShown, Resting.IsHarmlessAt, Sources.files_of};
 
 use crate::confirming::id_of_posting;
 use crate::events::events_of;

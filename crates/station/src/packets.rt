@@ -1,12 +1,8 @@
 //! The packet files of `toss` on a disk: each is opened when its turn comes.
 ghost use Rattle.std.specs.Prelude.{◌≡◌, ◌≤◌, Some, map, IfOk};
-ghost use Rattle.disk_io.specs.Disk.{Honestly};
-ghost use Rattle.disk_io.specs.Runs.{ChangesNothing, HasCause};
+ghost use Rattle.disk_io.specs.{Disk.Honestly, Runs.ChangesNothing, Runs.HasCause};
 ghost use Rattle.cmd_report.specs.Coming.{Opens};
-ghost use Rattle.station.specs.PacketReader.{held_remaining};
-ghost use Rattle.station.specs.PacketsFound.{IsFound};
-ghost use Rattle.station.specs.Faults.{HasSize};
-ghost use Rattle.station.specs.PacketsOnDisk.{coming_at, most_held};
+ghost use Rattle.station.specs.{PacketReader.held_remaining, PacketsFound.IsFound, Faults.HasSize, PacketsOnDisk.coming_at, PacketsOnDisk.most_held};
 
 use crate::held_bytes::HeldBytes;
 use crate::packet_reader::PacketReader;

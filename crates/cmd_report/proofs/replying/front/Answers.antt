@@ -1,5 +1,4 @@
-use Rattle.std.proofs.Common.{arith, sym}
-use Rattle.std.proofs.lemmas.List.{length-take-le, take_all}
+use Rattle.std.proofs.{Common.arith, Common.sym, lemmas.List.length-take-le, lemmas.List.take_all}
 use Rattle.cmd_report.proofs.replying.front.Goals as goal
 
 pub slice_bounds-result-end : goal.slice_bounds-result-end

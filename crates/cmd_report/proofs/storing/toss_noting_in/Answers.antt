@@ -1,9 +1,8 @@
 use Rattle.std.proofs.Common.{inl}
 use Rattle.echo_toss.specs.PacketsIn.{state_in}
-use Rattle.echo_toss.proofs.Stops.{tossed_part}
+use Rattle.echo_toss.proofs.{Stops.tossed_part, PacketsIn.tossed_all as tossed_whole}
 use Rattle.cmd_report.proofs.Noted.{noted_some}
 use Rattle.cmd_report.proofs.storing.toss_noting_in.Goals as goal
-use Rattle.echo_toss.proofs.PacketsIn.{tossed_all as tossed_whole}
 
 pub returns-in-Ok-note_messages_in-clause-tossed : goal.returns-in-Ok-note_messages_in-clause-tossed
 returns-in-Ok-note_messages_in-clause-tossed g c = λ honest base kept.

@@ -1,11 +1,9 @@
 use Rattle.std.proofs.Common.{◌≡◌, List, [], ◌∷◌, arith, length, refl, vec_len}
 use Rattle.std.proofs.lemmas.Bool.{eq-eqb, eqb-true}
-use Rattle.echo_net.specs.declared.verdict.NetFault.{NetFault}
-use Rattle.echo_net.specs.AllFaults.{AreLinkFaults}
-use Rattle.echo_net.proofs.AllFaults.{with_graph, without_graph}
-use Rattle.echo_net.proofs.Drawings.{sound_where_none}
-use Rattle.echo_net.proofs.each_fault.all_faults.Goals as goal
+use Rattle.echo_net.specs.{declared.verdict.NetFault.NetFault, AllFaults.AreLinkFaults}
+use Rattle.echo_net.proofs.{AllFaults.with_graph, AllFaults.without_graph, Drawings.sound_where_none}
 use Rattle.echo_net.proofs.each_fault.all_faults.Goals.{then-is_empty+in_ok-push_graph_faults, else-is_empty}
+use Rattle.echo_net.proofs.each_fault.all_faults.Goals as goal
 
 no_items : (all : List NetFault) → length all ≡ 0 → all ≡ []
 no_items [] none = refl

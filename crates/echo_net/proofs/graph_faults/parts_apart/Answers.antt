@@ -1,15 +1,11 @@
 use Rattle.std.proofs.Common.{◌≡◌, ◌<◌, ◌↔◌, ℕ, Bool, List, arith, length, map, subst, sym}
-use Rattle.std.specs.Prelude.{Contains}
-use Rattle.std.specs.List.{All}
-use Rattle.std.proofs.lemmas.List.Elements.{Contains-get_or}
-use Rattle.std.proofs.lemmas.Result.{IfOk-weaker}
+use Rattle.std.proofs.lemmas.{List.Elements.Contains-get_or, Result.IfOk-weaker}
+use Rattle.std.specs.{Prelude.Contains, List.All}
 use Rattle.echo_addr.specs.declared.address.Address.{Address}
 use Rattle.model_graph.specs.Reach.{StartsPart}
 use Rattle.model_run.specs.Tidy.{lists}
 use Rattle.echo_net.specs.declared.each_fault.Kind.TheVariants as kinds
-use Rattle.echo_net.specs.AllFaults.{AppliesTo}
-use Rattle.echo_net.specs.Drawn.{AreLinksInOrder}
-use Rattle.echo_net.specs.Faults.{numbered}
+use Rattle.echo_net.specs.{AllFaults.AppliesTo, Drawn.AreLinksInOrder, Faults.numbered}
 use Rattle.echo_net.proofs.Drawings.{pair, parts_in_order}
 use Rattle.echo_net.proofs.graph_faults.parts_apart.Goals as goal
 

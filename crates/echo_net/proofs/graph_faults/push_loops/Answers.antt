@@ -1,12 +1,9 @@
 use Rattle.std.proofs.Common.{◌∙◌, ◌++◌, ℕ, Bool, List, ap, map, subst, arith}
 use Rattle.std.proofs.lemmas.Result.{on_ok_weaker}
 use Rattle.echo_addr.specs.declared.address.Address.{Address}
-use Rattle.model_blocks.specs.declared.block_loops.BlockLoop.{BlockLoop}
-use Rattle.model_blocks.specs.BlockLoops.{AreBlockLoops}
+use Rattle.model_blocks.specs.{declared.block_loops.BlockLoop.BlockLoop, BlockLoops.AreBlockLoops}
 use Rattle.model_run.specs.Tidy.{lists}
-use Rattle.echo_net.specs.declared.verdict.NetFault.{NetFault}
-use Rattle.echo_net.specs.AllFaults.{loop_fault, round_of}
-use Rattle.echo_net.specs.Faults.{numbered}
+use Rattle.echo_net.specs.{declared.verdict.NetFault.NetFault, AllFaults.loop_fault, AllFaults.round_of, Faults.numbered}
 use Rattle.echo_net.proofs.Rounds.{faults_of, rounds_in_order, rounds_within}
 use Rattle.echo_net.proofs.graph_faults.push_loops.Goals as goal
 

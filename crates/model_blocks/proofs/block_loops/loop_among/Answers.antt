@@ -1,14 +1,11 @@
 use Rattle.std.proofs.Common.{◌≡◌, ◌<◌, ◌∙◌, ℕ, Option, Some, None, List, ap, arith, length, get_or, subst, sym}
-use Rattle.std.proofs.lemmas.List.{get_or_read}
-use Rattle.std.proofs.lemmas.Option.{same_Some}
-use Rattle.model_blocks.specs.declared.block_loops.BlockLoop.{BlockLoop}
-use Rattle.model_graph.specs.Blocks.{block_of, rank_of, top_of}
-use Rattle.model_blocks.specs.BlockLoops.{IsFoundIn, IsLoopOfBlock}
-use Rattle.model_graph.specs.Rows.{linked}
+use Rattle.std.proofs.lemmas.{List.get_or_read, Option.same_Some}
+use Rattle.model_blocks.specs.{declared.block_loops.BlockLoop.BlockLoop, BlockLoops.IsFoundIn, BlockLoops.IsLoopOfBlock}
+use Rattle.model_graph.specs.{Blocks.block_of, Blocks.rank_of, Blocks.top_of, Rows.linked}
 use Rattle.model_blocks.proofs.BlockJudged.{block_within, first_is_found}
+use Rattle.model_blocks.proofs.block_loops.loop_among.Goals.{in_default-via-in-Some+then-found-at+else-found-one, in_default-via-in-Some+else-found-at, in_default-via-in_default}
 use Rattle.model_graph.proofs.Rows.{linked_within}
 use Rattle.model_blocks.proofs.block_loops.loop_among.Goals as goal
-use Rattle.model_blocks.proofs.block_loops.loop_among.Goals.{in_default-via-in-Some+then-found-at+else-found-one, in_default-via-in-Some+else-found-at, in_default-via-in_default}
 
 pub returns-in_ok-from_slice-in-Some : goal.returns-in_ok-from_slice-in-Some
 returns-in_ok-from_slice-in-Some c =

@@ -1,6 +1,5 @@
 use Rattle.std.proofs.Common.{List, arith, subst, sym}
-use Rattle.model_blocks.specs.declared.block_loops.BlockLoop.{BlockLoop}
-use Rattle.model_blocks.specs.BlockLoops.{AreLoopsBefore}
+use Rattle.model_blocks.specs.{declared.block_loops.BlockLoop.BlockLoop, BlockLoops.AreLoopsBefore}
 use Rattle.model_graph.specs.Rows.{linked}
 use Rattle.model_blocks.proofs.BlockJudged.{loops_begun, loops_done}
 use Rattle.model_blocks.proofs.block_loops.loops_by.Goals as goal

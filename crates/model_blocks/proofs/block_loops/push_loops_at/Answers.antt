@@ -1,11 +1,10 @@
 use Rattle.std.proofs.Common.{◌≡◌, ◌+◌, ◌∙◌, ◌++◌, ℕ, suc, List, [], ◌∷◌, ap, arith, get_or, refl, subst, sym}
 use Rattle.std.proofs.lemmas.Option.{MatchOption-at_none, MatchOption-at_some}
-use Rattle.model_blocks.specs.declared.block_loops.BlockLoop.{BlockLoop}
-use Rattle.model_blocks.specs.BlockLoops.{AreLoopsBefore, FirstInBlock, IsLoopOfBlock}
+use Rattle.model_blocks.specs.{declared.block_loops.BlockLoop.BlockLoop, BlockLoops.AreLoopsBefore, BlockLoops.FirstInBlock, BlockLoops.IsLoopOfBlock}
 use Rattle.model_graph.specs.Rows.{linked}
 use Rattle.model_blocks.proofs.BlockJudged.{loops_passed, loops_pushed, member_done, passed}
-use Rattle.model_blocks.proofs.block_loops.push_loops_at.Goals as goal
 use Rattle.model_blocks.proofs.block_loops.push_loops_at.Goals.{in-Some+in_ok-push, in_default}
+use Rattle.model_blocks.proofs.block_loops.push_loops_at.Goals as goal
 
 pub links-preserved : goal.links-preserved
 links-preserved c =

@@ -1,19 +1,11 @@
 use Rattle.std.proofs.Common.{◌≡◌, ◌<◌, ◌⊎◌, ◌∙◌, ◌↔◌, ℕ, Bool, Option, None, Some, List, ◌∷◌, MatchOption, ap, arith, get_or, length, map, subst, sym, inl, inr}
+use Rattle.std.proofs.lemmas.{List.get_or_read, Option.MatchOption-at_none, Option.MatchOption-at_some}
 use Rattle.std.specs.Prelude.{Contains}
-use Rattle.std.proofs.lemmas.List.{get_or_read}
-use Rattle.std.proofs.lemmas.Option.{MatchOption-at_none, MatchOption-at_some}
-use Rattle.model_blocks.specs.declared.block_loops.BlockLoop.{BlockLoop}
-use Rattle.model_graph.specs.declared.pinching.Pinch.{Pinch}
-use Rattle.model_graph.specs.Blocks.{block_of, full_of, rank_of, top_of}
-use Rattle.model_blocks.specs.BlockLoops.{IsWhole, placed}
-use Rattle.model_graph.specs.Loops.{FirstWalk, IsWritten}
-use Rattle.model_graph.specs.Pinches.{FirstPinch, IsPinch}
-use Rattle.model_graph.specs.Rows.{linked}
-use Rattle.model_graph.specs.Walk.{Among, Different}
-use Rattle.model_blocks.proofs.BlockJudged.{full_none, loop_found, none_found, ring_differs}
-use Rattle.model_blocks.proofs.BlockView.{on_walk}
-use Rattle.model_graph.proofs.Members.{Among-get_or}
-use Rattle.model_graph.proofs.Rows.{linked_within}
+use Rattle.model_blocks.specs.{declared.block_loops.BlockLoop.BlockLoop, BlockLoops.IsWhole, BlockLoops.placed}
+use Rattle.model_graph.specs.{declared.pinching.Pinch.Pinch, Blocks.block_of, Blocks.full_of, Blocks.rank_of, Blocks.top_of, Loops.FirstWalk, Loops.IsWritten, Pinches.FirstPinch, Pinches.IsPinch}
+use Rattle.model_graph.specs.{Rows.linked, Walk.Among, Walk.Different}
+use Rattle.model_blocks.proofs.{BlockJudged.full_none, BlockJudged.loop_found, BlockJudged.none_found, BlockJudged.ring_differs, BlockView.on_walk}
+use Rattle.model_graph.proofs.{Members.Among-get_or, Rows.linked_within}
 use Rattle.model_blocks.proofs.by_block.loop_in.Goals as goal
 
 pub returns-then-is_full : goal.returns-then-is_full

@@ -1,9 +1,7 @@
 use Rattle.std.proofs.Common.{◌+◌, ℕ, Option, subst, sym}
 use Rattle.std.specs.Prelude.{IfSome}
-use Rattle.model_blocks.specs.declared.block_loops.BlockLoop.{BlockLoop}
-use Rattle.model_graph.specs.Blocks.{block_of, top_of}
-use Rattle.model_blocks.specs.BlockLoops.{IsFoundIn}
-use Rattle.model_graph.specs.Rows.{linked}
+use Rattle.model_blocks.specs.{declared.block_loops.BlockLoop.BlockLoop, BlockLoops.IsFoundIn}
+use Rattle.model_graph.specs.{Blocks.block_of, Blocks.top_of, Rows.linked}
 use Rattle.model_blocks.proofs.BlockJudged.{FoundBefore, FoundBefore-more}
 use Rattle.model_blocks.proofs.by_block.loops_by_block.Goals as goal
 

@@ -1,5 +1,4 @@
-use Rattle.model_graph.specs.Blocks.{block_of, top_of}
-use Rattle.model_graph.specs.Rows.{linked}
+use Rattle.model_graph.specs.{Blocks.block_of, Blocks.top_of, Rows.linked}
 use Rattle.model_blocks.proofs.BlockJudged.{FoundBefore}
 use Rattle.model_blocks.proofs.by_block.loops_by_block.Given as goal
 

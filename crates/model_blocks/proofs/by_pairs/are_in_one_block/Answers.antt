@@ -1,14 +1,12 @@
 use Rattle.std.proofs.Common.{◌<◌, ◌⊎◌, ◌↔◌, ℕ, IsTrue, arith, below_more, length, subst, inl, inr}
+use Rattle.std.proofs.lemmas.{Bool.both_ways, Bool.false≢true, Result.IfOk-weaker}
 use Rattle.std.specs.Prelude.{IfOk}
-use Rattle.std.proofs.lemmas.Bool.{both_ways, false≢true}
-use Rattle.std.proofs.lemmas.Result.{IfOk-weaker}
-use Rattle.model_graph.specs.Beyond.{Around}
+use Rattle.model_graph.specs.{Beyond.Around, Rows.linked}
 use Rattle.model_blocks.specs.BlockLoops.{AreInOneBlock, AreJoinedWithout}
-use Rattle.model_graph.specs.Rows.{linked}
 use Rattle.model_blocks.proofs.BlockView.{all_joined, joined_by, joined_last, joined_one, joined_other}
+use Rattle.model_blocks.proofs.by_pairs.are_in_one_block.Goals.{else-not-branch-via-then-not-branch+in_ok-joined_from-2+else-not-branch-2, else-not-branch-via-else-not-branch}
 use Rattle.model_graph.proofs.Rows.{linked_within}
 use Rattle.model_blocks.proofs.by_pairs.are_in_one_block.Goals as goal
-use Rattle.model_blocks.proofs.by_pairs.are_in_one_block.Goals.{else-not-branch-via-then-not-branch+in_ok-joined_from-2+else-not-branch-2, else-not-branch-via-else-not-branch}
 
 pub returns-then-not-branch-2 : goal.returns-then-not-branch-2
 returns-then-not-branch-2 c = (

@@ -1,5 +1,4 @@
-use Rattle.std.proofs.Common.{arith, below_more}
-use Rattle.std.proofs.lemmas.Bool.{both_ways, false≢true}
+use Rattle.std.proofs.{Common.arith, Common.below_more, lemmas.Bool.both_ways, lemmas.Bool.false≢true}
 use Rattle.model_blocks.specs.BlockLoops.{HasEarlierAt}
 use Rattle.model_graph.specs.Rows.{linked}
 use Rattle.model_blocks.proofs.by_pairs.has_earlier.Goals as goal

@@ -1,13 +1,8 @@
 use Rattle.std.proofs.Common.{◌∙◌, ℕ, List, ◌∷◌, length, refl, subst}
-use Rattle.std.proofs.lemmas.Bool.{both_ways}
-use Rattle.std.proofs.lemmas.Option.{MatchOption-at_some}
-use Rattle.model_graph.specs.Loops.{IsWritten}
-use Rattle.model_graph.specs.Pinches.{FirstOther, IsPinch}
-use Rattle.model_graph.specs.Rows.{linked}
+use Rattle.std.proofs.lemmas.{Bool.both_ways, Option.MatchOption-at_some}
+use Rattle.model_graph.specs.{Loops.IsWritten, Pinches.FirstOther, Pinches.IsPinch, Rows.linked}
 use Rattle.model_blocks.proofs.BlockView.{first_here}
-use Rattle.model_graph.proofs.PinchSearch.{Simple-from_graph}
-use Rattle.model_graph.proofs.Rings.{loop_cycle}
-use Rattle.model_graph.proofs.Rows.{linked_within}
+use Rattle.model_graph.proofs.{PinchSearch.Simple-from_graph, Rings.loop_cycle, Rows.linked_within}
 use Rattle.model_blocks.proofs.by_pairs.loop_from.Goals as goal
 
 pub returns : goal.returns

@@ -1,8 +1,7 @@
 use Rattle.std.proofs.Common.{◌≡◌, ◌↔◌, ◌<◌, ℕ, Option, Some, None, List, arith, length, get_or, subst, sym}
-use Rattle.std.specs.Prelude.{Contains}
 use Rattle.std.proofs.lemmas.List.{get_or_read}
-use Rattle.model_graph.specs.Blocks.{IsLastBefore, block_of}
-use Rattle.model_graph.specs.Rows.{IsAscending}
+use Rattle.std.specs.Prelude.{Contains}
+use Rattle.model_graph.specs.{Blocks.IsLastBefore, Blocks.block_of, Rows.IsAscending}
 use Rattle.model_blocks.proofs.BlockLists.{Walked, Walked-begun, Walked-next, Walked-turned}
 use Rattle.model_blocks.proofs.in_block.members_of.Goals as goal
 

@@ -1,6 +1,6 @@
 use Rattle.std.proofs.Common.{◌≡◌, ◌<◌, ◌⊎◌, ◌↔◌, ℕ, List, length, subst, inl, inr}
-use Rattle.std.specs.Prelude.{Contains, IfOk}
 use Rattle.std.proofs.lemmas.Result.{IfOk-weaker}
+use Rattle.std.specs.Prelude.{Contains, IfOk}
 use Rattle.model_graph.specs.Blocks.{block_of, top_of}
 use Rattle.model_blocks.proofs.in_block.names_of.Goals as goal
 

@@ -1,9 +1,9 @@
 use Rattle.std.proofs.Common.{◌≡◌, ◌+◌, ◌<◌, ◌≤◌, ◌∙◌, ◌++◌, ◌↔◌, ◌⊎◌, ℕ, Bool, true, false, List, [], ◌∷◌, ap, length, get_or, refl, subst, sym, inl, inr}
 use Rattle.std.specs.Prelude.{Contains}
 use Rattle.model_graph.specs.Rows.{IsAscending}
+use Rattle.model_blocks.proofs.in_block.with_top.Goals.{then-not-added+then-top-member+in_ok-push, else-not-added, else-not-added-via-then-not-added+else-top-member, else-not-added-via-else-not-added, then-top-member-2, else-top-member-2, then-not-added-2+in_ok-push-3, else-not-added-2}
 use Rattle.model_blocks.proofs.BlockLists.{TopAdded, TopAdded-done, TopAdded-last, TopAdded-step}
 use Rattle.model_blocks.proofs.in_block.with_top.Goals as goal
-use Rattle.model_blocks.proofs.in_block.with_top.Goals.{then-not-added+then-top-member+in_ok-push, else-not-added, else-not-added-via-then-not-added+else-top-member, else-not-added-via-else-not-added, then-top-member-2, else-top-member-2, then-not-added-2+in_ok-push-3, else-not-added-2}
 
 pub members-preserved : goal.members-preserved
 members-preserved c =

@@ -1,8 +1,8 @@
 use Rattle.std.proofs.Common.{◌+◌, ◌∙◌, ℕ, IsTrue, ap, arith, get_or, subst, sym}
 use Rattle.model_graph.specs.Rows.{linked}
 use Rattle.model_blocks.proofs.Places.{PlacesBefore, PlacesBefore-passed, PlacesBefore-pushed}
-use Rattle.model_blocks.proofs.subgraph.linked_places.Goals as goal
 use Rattle.model_blocks.proofs.subgraph.linked_places.Goals.{then-is_linked+in_ok-push, else-is_linked}
+use Rattle.model_blocks.proofs.subgraph.linked_places.Goals as goal
 
 pub names-preserved : goal.names-preserved
 names-preserved c =

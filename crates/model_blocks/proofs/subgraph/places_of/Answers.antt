@@ -1,10 +1,8 @@
 use Rattle.std.proofs.Common.{◌≡◌, ◌+◌, ◌<◌, ◌≤◌, ◌∙◌, ℕ, List, Ok, Result, MatchResult, ap, arith, get_or, length, subst, sym}
-use Rattle.std.proofs.lemmas.Bool.{cases_lt}
-use Rattle.std.proofs.lemmas.List.Sorted.{searched}
-use Rattle.model_blocks.proofs.Places.{PlacesOf, PlacesOf-done, PlacesOf-passed, PlacesOf-pushed}
+use Rattle.std.proofs.lemmas.{Bool.cases_lt, List.Sorted.searched}
+use Rattle.model_blocks.proofs.{Places.PlacesOf, Places.PlacesOf-done, Places.PlacesOf-passed, Places.PlacesOf-pushed, subgraph.places_of.Goals.in-Ok+in_ok-push, subgraph.places_of.Goals.in_default}
 use Rattle.model_graph.proofs.Rows.{rising}
 use Rattle.model_blocks.proofs.subgraph.places_of.Goals as goal
-use Rattle.model_blocks.proofs.subgraph.places_of.Goals.{in-Ok+in_ok-push, in_default}
 
 abbrev Reported : List ℕ → ℕ → Result ℕ ℕ → Type 0
 Reported row x r = MatchResult r (λ i. (i < length row) × (get_or row i 0 ≡ x)) (λ i. (i ≤ length row) × ((k : ℕ) → k < i → get_or row k 0 < x) × ((k : ℕ) → i ≤ k → k < length row → x < get_or row k 0))

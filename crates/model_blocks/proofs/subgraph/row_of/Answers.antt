@@ -1,6 +1,6 @@
 use Rattle.std.proofs.Common.{◌<◌, ◌↔◌, ℕ, IsTrue, List, get_or, length, subst}
-use Rattle.std.specs.Prelude.{Contains, IfOk}
 use Rattle.std.proofs.lemmas.Result.{IfOk-weaker}
+use Rattle.std.specs.Prelude.{Contains, IfOk}
 use Rattle.model_graph.specs.Rows.{linked, links_at}
 use Rattle.model_blocks.proofs.Places.{from_row, in_row}
 use Rattle.model_blocks.proofs.subgraph.row_of.Goals as goal

@@ -1,11 +1,9 @@
 use Rattle.std.proofs.Common.{◌+◌, ◌<◌, ℕ, Option, None, List, length, vec_len, false, not, is_some, sym, ◌∙◌, ap, subst, arith}
 use Rattle.std.proofs.lemmas.List.{get_or_read}
-use Rattle.model_graph.specs.Rows.{linked}
-use Rattle.model_graph.specs.Forest.{IsForest}
-use Rattle.model_graph.proofs.Floods.{none_from, some_from}
-use Rattle.model_graph.proofs.PartStarts.{IsForest-passed, IsForest-flooded}
-use Rattle.model_graph.proofs.forest.forest.Goals as goal
+use Rattle.model_graph.specs.{Rows.linked, Forest.IsForest}
+use Rattle.model_graph.proofs.{Floods.none_from, Floods.some_from, PartStarts.IsForest-passed, PartStarts.IsForest-flooded}
 use Rattle.model_graph.proofs.forest.forest.Goals.{then-is_none+in_ok-flood, else-is_none}
+use Rattle.model_graph.proofs.forest.forest.Goals as goal
 
 pub roots-preserved : goal.roots-preserved
 roots-preserved c =

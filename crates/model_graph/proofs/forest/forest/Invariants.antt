@@ -1,6 +1,5 @@
 use Rattle.std.proofs.Common.{◌≡◌, length, vec_len}
-use Rattle.model_graph.specs.Rows.{linked}
-use Rattle.model_graph.specs.Forest.{IsForest}
+use Rattle.model_graph.specs.{Rows.linked, Forest.IsForest}
 use Rattle.model_graph.proofs.forest.forest.Given as goal
 
 abbrev pub invariant-roots : goal.invariant-roots

@@ -1,6 +1,5 @@
 use Rattle.std.proofs.Common.{◌≡◌, ◌<◌, ℕ, vec_len}
-use Rattle.model_graph.specs.Rows.{linked}
-use Rattle.model_graph.specs.Forest.{IsParentAt, parent_of}
+use Rattle.model_graph.specs.{Rows.linked, Forest.IsParentAt, Forest.parent_of}
 use Rattle.model_graph.proofs.forest.parents.Given as goal
 
 abbrev pub invariant-members : goal.invariant-members

@@ -1,6 +1,5 @@
 use Rattle.std.proofs.Common.{◌≢◌, IsTrue, refl, arith}
-use Rattle.model_graph.specs.Rows.{linked}
-use Rattle.model_graph.specs.Forest.{Siblings}
+use Rattle.model_graph.specs.{Rows.linked, Forest.Siblings}
 use Rattle.model_graph.proofs.Family.{for_each_link, link_within}
 use Rattle.model_graph.proofs.kin.covers.Goals as goal
 

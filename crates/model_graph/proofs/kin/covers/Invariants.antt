@@ -1,6 +1,5 @@
 use Rattle.std.proofs.Common.{◌<◌, ◌≢◌, ℕ, IsTrue, get_or}
-use Rattle.model_graph.specs.Rows.{linked}
-use Rattle.model_graph.specs.Forest.{Siblings}
+use Rattle.model_graph.specs.{Rows.linked, Forest.Siblings}
 use Rattle.model_graph.proofs.kin.covers.Given as goal
 
 abbrev pub invariant-links : goal.invariant-links

@@ -1,5 +1,4 @@
-use Rattle.std.proofs.Common.{below_more, arith}
-use Rattle.std.proofs.lemmas.Bool.{both_ways}
+use Rattle.std.proofs.{Common.below_more, Common.arith, lemmas.Bool.both_ways}
 use Rattle.model_graph.specs.Forest.{Siblings}
 use Rattle.model_graph.proofs.Family.{for_each_link, link_within, FirstSibling-here}
 use Rattle.model_graph.proofs.kin.first_sibling.Goals as goal

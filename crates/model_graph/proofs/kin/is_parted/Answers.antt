@@ -1,10 +1,7 @@
 use Rattle.std.proofs.Common.{◌≡◌, ◌<◌, ◌↔◌, ℕ, IsTrue, Option, List, length, subst, arith}
-use Rattle.model_graph.specs.Rows.{linked, IsGraph}
-use Rattle.model_graph.specs.Forest.{IsForest, IsParentAt, parent_of, KeepsHere}
-use Rattle.model_graph.proofs.Members.{ℕ-can_tell}
-use Rattle.model_graph.proofs.Family.{KeepsToFamily-from_Parted, Parted-from_KeepsToFamily}
-use Rattle.model_graph.proofs.PinchSearch.{Simple-from_graph}
+use Rattle.model_graph.specs.{Rows.linked, Rows.IsGraph, Forest.IsForest, Forest.IsParentAt, Forest.parent_of, Forest.KeepsHere}
 use Rattle.model_graph.proofs.Parents.{height, parent_or_self, IsFamily-from_forest, KeepsToFamily-from_here, KeepsHere-from_family}
+use Rattle.model_graph.proofs.{Members.ℕ-can_tell, Family.KeepsToFamily-from_Parted, Family.Parted-from_KeepsToFamily, PinchSearch.Simple-from_graph}
 use Rattle.model_graph.proofs.kin.is_parted.Goals as goal
 
 pub returns-clause-parted : goal.returns-clause-parted

@@ -1,7 +1,5 @@
-use Rattle.std.proofs.Common.{refl, below_more, arith}
-use Rattle.std.proofs.lemmas.Bool.{both_ways, false≢true}
-use Rattle.model_graph.specs.Rows.{linked}
-use Rattle.model_graph.specs.Forest.{KeepsHere}
+use Rattle.std.proofs.{Common.refl, Common.below_more, Common.arith, lemmas.Bool.both_ways, lemmas.Bool.false≢true}
+use Rattle.model_graph.specs.{Rows.linked, Forest.KeepsHere}
 use Rattle.model_graph.proofs.kin.keeps_to_family.Goals as goal
 
 pub returns-then-not-keeps_here : goal.returns-then-not-keeps_here

@@ -1,5 +1,4 @@
-use Rattle.model_graph.proofs.Members.{ℕ-can_tell}
-use Rattle.model_graph.proofs.Family.{KeepsToFamily-from_Parted, Parted-from_KeepsToFamily}
+use Rattle.model_graph.proofs.{Members.ℕ-can_tell, Family.KeepsToFamily-from_Parted, Family.Parted-from_KeepsToFamily}
 use Rattle.model_graph.proofs.laws.family_of_levels.Goals as goal
 
 pub returns : goal.returns

@@ -1,7 +1,7 @@
 use Rattle.std.proofs.Common.{◌+◌, ◌<◌, ◌∙◌, ℕ, List, Option, ap, arith, sym, subst}
 use Rattle.model_graph.proofs.PartStarts.{RootsBefore, RootsBefore-passed, RootsBefore-pushed, all_roots}
-use Rattle.model_graph.proofs.reach.later_roots.Goals as goal
 use Rattle.model_graph.proofs.reach.later_roots.Goals.{then-has_level+in_ok-push, else-has_level}
+use Rattle.model_graph.proofs.reach.later_roots.Goals as goal
 
 pub members-preserved : goal.members-preserved
 members-preserved c =

@@ -1,9 +1,7 @@
 use Rattle.std.proofs.Common.{◌≡◌, ◌<◌, ◌↔◌, ℕ, List, Option, Some, arith, length, subst}
-use Rattle.std.specs.Prelude.{Contains, IfOk}
 use Rattle.std.proofs.lemmas.Result.{IfOk-weaker}
-use Rattle.model_graph.specs.Levels.{level_of}
-use Rattle.model_graph.specs.Reach.{StartsPart}
-use Rattle.model_graph.specs.Rows.{linked}
+use Rattle.std.specs.Prelude.{Contains, IfOk}
+use Rattle.model_graph.specs.{Levels.level_of, Reach.StartsPart, Rows.linked}
 use Rattle.model_graph.proofs.PartStarts.{roots_start}
 use Rattle.model_graph.proofs.reach.other_parts.Goals as goal
 

@@ -1,5 +1,4 @@
-use Rattle.model_run.proofs.TosserLaws.{the_laws}
-use Rattle.model_run.proofs.Changes.{orderly-on}
+use Rattle.model_run.proofs.{TosserLaws.the_laws, Changes.orderly-on}
 use Rattle.model_run.proofs.epoch_laws.new_messages_are_in_order.Goals as goal
 
 pub returns : goal.returns

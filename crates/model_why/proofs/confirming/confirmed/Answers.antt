@@ -2,15 +2,9 @@ use Rattle.std.proofs.Common.{◌≡◌, ◌∙◌, sym, subst, ap, ℕ, List, m
 use Rattle.std.specs.Prelude.{IfSome}
 use Rattle.echo_text.specs.Ids.{id_of}
 use Rattle.model_replay.specs.Worlds.{IsWorldOf}
-use Rattle.model_run.specs.Event.{RunEvent, run_event}
-use Rattle.model_run.specs.Run.{run_of}
-use Rattle.model_why.specs.declared.shown.Harm.{Harm}
-use Rattle.model_why.specs.Found.{BreaksIt}
-use Rattle.model_why.specs.Guesses.{IsRight}
-use Rattle.model_why.specs.Resting.{PostsFirst}
-use Rattle.model_why.specs.Shown.{posting_and_moves, shown_run}
-use Rattle.model_why.proofs.Complete.{at_none, named_as}
-use Rattle.model_why.proofs.Harmless.{posts-first}
+use Rattle.model_run.specs.{Event.RunEvent, Event.run_event, Run.run_of}
+use Rattle.model_why.specs.{declared.shown.Harm.Harm, Found.BreaksIt, Guesses.IsRight, Resting.PostsFirst, Shown.posting_and_moves, Shown.shown_run}
+use Rattle.model_why.proofs.{Complete.at_none, Complete.named_as, Harmless.posts-first}
 use Rattle.model_why.proofs.confirming.confirmed.Goals as goal
 
 pub returns-in_default-clause-none : goal.returns-in_default-clause-none

@@ -1,8 +1,7 @@
 use Rattle.std.proofs.Common.{◌∙◌, ap, sym}
 use Rattle.echo_filed.specs.Filed.{Filed}
 use Rattle.echo_text.specs.Echo.{EchoText, msgid_of}
-use Rattle.model_why.proofs.Complete.{passes}
-use Rattle.model_why.proofs.Judged.{is_posted}
+use Rattle.model_why.proofs.{Complete.passes, Judged.is_posted}
 use Rattle.model_why.proofs.copies.is_posting.Goals as goal
 
 pub returns-in-None : goal.returns-in-None

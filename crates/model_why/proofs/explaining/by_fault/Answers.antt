@@ -1,10 +1,7 @@
 use Rattle.std.proofs.Common.{inl, inr, refl, sym, subst, arith}
-use Rattle.echo_net.specs.declared.verdict.NetFault.{NetFault}
-use Rattle.echo_net.specs.Faults.{IsFirstFault}
-use Rattle.model_why.specs.Exact.{LeadsNowhere}
-use Rattle.model_why.specs.Sources.{files_of}
-use Rattle.model_why.proofs.Graves.{ComesAfterCarriers, grave_of, own_link, unknown_link}
-use Rattle.model_why.proofs.Guessing.{ok_more}
+use Rattle.echo_net.specs.{declared.verdict.NetFault.NetFault, Faults.IsFirstFault}
+use Rattle.model_why.specs.{Exact.LeadsNowhere, Sources.files_of}
+use Rattle.model_why.proofs.{Graves.ComesAfterCarriers, Graves.grave_of, Graves.own_link, Graves.unknown_link, Guessing.ok_more}
 use Rattle.model_why.proofs.explaining.by_fault.Goals as goal
 
 pub returns-in-SelfLink-clause-exact : goal.returns-in-SelfLink-clause-exact

@@ -1,13 +1,8 @@
 use Rattle.std.proofs.Common.{subst, sym, List, Option}
 use Rattle.echo_links.specs.Links.{LinkFile}
-use Rattle.echo_net.specs.declared.verdict.NetFault.{NetFault}
-use Rattle.echo_net.specs.declared.verdict.Verdict.{Verdict}
-use Rattle.echo_net.specs.Faults.{IfNo, IsFirstFault}
+use Rattle.echo_net.specs.{declared.verdict.NetFault.NetFault, declared.verdict.Verdict.Verdict, Faults.IfNo, Faults.IsFirstFault}
 use Rattle.model_run.specs.Fits.{FilesFit}
-use Rattle.model_why.specs.declared.shown.Shown.{Shown}
-use Rattle.model_why.specs.Exact.{AlwaysHarms, LeadsNowhere}
-use Rattle.model_why.specs.Found.{FindsHarm, FindsSome}
-use Rattle.model_why.specs.Sources.{files_of}
+use Rattle.model_why.specs.{declared.shown.Shown.Shown, Exact.AlwaysHarms, Exact.LeadsNowhere, Found.FindsHarm, Found.FindsSome, Sources.files_of}
 use Rattle.model_why.proofs.explaining.explain.Goals as goal
 
 pub returns-then-is_enough-clause-nowhere : goal.returns-then-is_enough-clause-nowhere

@@ -1,12 +1,10 @@
 use Rattle.std.proofs.Common.{◌≢◌, ◌∙◌, List, arith, below_more, sym, subst}
 use Rattle.std.proofs.lemmas.List.{length-map}
 use Rattle.model_graph.specs.Walk.{Among}
-use Rattle.echo_links.specs.Links.{LinkFile}
-use Rattle.echo_links.specs.LinkLines.{file_of}
+use Rattle.echo_links.specs.{Links.LinkFile, LinkLines.file_of}
 use Rattle.model_plan.specs.declared.plan.Guess.{Guess}
 use Rattle.model_why.specs.Sources.{files_of}
-use Rattle.model_why.proofs.Complete.{none_left}
-use Rattle.model_why.proofs.FirstScans.{IsAlwaysWrong, nobody_shows, own_shows}
+use Rattle.model_why.proofs.{Complete.none_left, FirstScans.IsAlwaysWrong, FirstScans.nobody_shows, FirstScans.own_shows}
 use Rattle.model_why.proofs.first_scans.by_first_scans.Goals as goal
 
 pub posters-preserved : goal.posters-preserved

@@ -2,8 +2,7 @@ use Rattle.std.proofs.Common.{◌≡◌, ℕ, ◌<◌, Some}
 use Rattle.std.specs.Prelude.{true}
 use Rattle.echo_links.specs.Links.{has_area}
 use Rattle.model_replay.specs.Worlds.{IsWorldOf}
-use Rattle.model_run.specs.Run.{Run, System, nth}
-use Rattle.model_run.specs.World.{is_settled}
+use Rattle.model_run.specs.{Run.Run, Run.System, Run.nth, World.is_settled}
 use Rattle.model_why.specs.Resting.{IsWell, PostsFirst}
 use Rattle.model_why.proofs.judging.at_carriers.Given as goal
 

@@ -1,8 +1,7 @@
 use Rattle.std.proofs.Common.{◌∙◌, refl, sym, arith}
 use Rattle.echo_links.specs.Links.{has_area}
 use Rattle.model_run.specs.World.{is_settled}
-use Rattle.model_why.proofs.Complete.{filed-here, not_there}
-use Rattle.model_why.proofs.Judged.{lacking-at}
+use Rattle.model_why.proofs.{Complete.filed-here, Complete.not_there, Judged.lacking-at}
 use Rattle.model_why.proofs.judging.never_got.Goals as goal
 
 pub returns-in_err-poster_at-clause-none : goal.returns-in_err-poster_at-clause-none

@@ -1,7 +1,6 @@
 use Rattle.std.proofs.Common.{◌∙◌, refl, arith}
 use Rattle.echo_links.specs.Links.{has_area}
-use Rattle.model_why.proofs.Complete.{no_message, not_posted, not_there}
-use Rattle.model_why.proofs.Judged.{posted-at}
+use Rattle.model_why.proofs.{Complete.no_message, Complete.not_posted, Complete.not_there, Judged.posted-at}
 use Rattle.model_why.proofs.judging.poster_at.Goals as goal
 
 pub returns-in_err-address-clause-none : goal.returns-in_err-address-clause-none

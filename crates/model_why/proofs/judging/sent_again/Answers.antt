@@ -1,7 +1,6 @@
 use Rattle.std.proofs.Common.{refl, sym, arith}
 use Rattle.echo_links.specs.Links.{has_area}
-use Rattle.model_why.proofs.Complete.{few-at, not_there}
-use Rattle.model_why.proofs.Judged.{again-at}
+use Rattle.model_why.proofs.{Complete.few-at, Complete.not_there, Judged.again-at}
 use Rattle.model_why.proofs.judging.sent_again.Goals as goal
 
 pub returns-in_default-clause-none : goal.returns-in_default-clause-none

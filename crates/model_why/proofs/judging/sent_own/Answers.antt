@@ -1,6 +1,5 @@
 use Rattle.std.proofs.Common.{refl, arith}
-use Rattle.model_why.proofs.Complete.{none-at}
-use Rattle.model_why.proofs.Judged.{own-at}
+use Rattle.model_why.proofs.{Complete.none-at, Judged.own-at}
 use Rattle.model_why.proofs.judging.sent_own.Goals as goal
 
 pub returns-in_default-clause-none : goal.returns-in_default-clause-none

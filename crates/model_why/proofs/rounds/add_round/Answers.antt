@@ -1,5 +1,4 @@
-use Rattle.std.proofs.Common.{arith}
-use Rattle.std.proofs.lemmas.List.{length-map}
+use Rattle.std.proofs.{Common.arith, lemmas.List.length-map}
 use Rattle.model_why.proofs.Rested.{added_round}
 use Rattle.model_why.proofs.rounds.add_round.Goals as goal
 

@@ -3,8 +3,7 @@ use Rattle.std.proofs.lemmas.List.{length-map}
 use Rattle.echo_links.specs.LinkLines.{file_of}
 use Rattle.model_replay.specs.Worlds.{IsWorldOf}
 use Rattle.model_plan.specs.declared.plan.Move.{Move}
-use Rattle.model_why.specs.Shown.{shown_run}
-use Rattle.model_why.specs.Sources.{files_of}
+use Rattle.model_why.specs.{Shown.shown_run, Sources.files_of}
 use Rattle.model_why.proofs.Rested.{all_rounds-rest, before_rounds, one_round, settled-rests}
 use Rattle.model_why.proofs.rounds.moves_to_rest.Goals as goal
 

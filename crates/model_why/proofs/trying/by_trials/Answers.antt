@@ -1,12 +1,8 @@
-use Rattle.std.proofs.Common.{subst, arith, below_more, Option}
+use Rattle.std.proofs.{Common.subst, Common.arith, Common.below_more, Common.Option, lemmas.List.length-map}
 use Rattle.std.specs.Prelude.{IfSome}
-use Rattle.std.proofs.lemmas.List.{length-map}
 use Rattle.echo_links.specs.LinkLines.{file_of}
-use Rattle.model_why.specs.declared.shown.Shown.{Shown}
-use Rattle.model_why.specs.Found.{BreaksIt}
-use Rattle.model_why.specs.Sources.{files_of}
-use Rattle.model_why.proofs.Complete.{none_left}
-use Rattle.model_why.proofs.Harmless.{no_grave_fault}
+use Rattle.model_why.specs.{declared.shown.Shown.Shown, Found.BreaksIt, Sources.files_of}
+use Rattle.model_why.proofs.{Complete.none_left, Harmless.no_grave_fault}
 use Rattle.model_why.proofs.trying.by_trials.Goals as goal
 use Rattle.model_run.proofs.HarmLists.{nth-index as nth-within}
 

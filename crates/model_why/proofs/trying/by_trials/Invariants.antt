@@ -1,7 +1,6 @@
 use Rattle.std.proofs.Common.{ℕ, ◌<◌}
 use Rattle.model_run.specs.Fits.{FilesFit}
-use Rattle.model_why.specs.Resting.{IsHarmlessAt}
-use Rattle.model_why.specs.Sources.{files_of}
+use Rattle.model_why.specs.{Resting.IsHarmlessAt, Sources.files_of}
 use Rattle.model_why.proofs.trying.by_trials.Given as goal
 
 -- no posting so far does harm
