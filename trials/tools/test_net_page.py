@@ -49,6 +49,7 @@ class Page(html.parser.HTMLParser):
         return [element for element in self.elements if element[0] == tag and (name is None or element[1].get(name) == value)]
 
 
+@unittest.skipIf(shutil.which("dot") is None, "there is no Graphviz")
 class Case(unittest.TestCase):
     """A test in a folder of its own."""
 
@@ -187,7 +188,7 @@ class Safety(Case):
         self.assertFalse(os.path.exists(self.page))
 
 
-@unittest.skipIf(browser.NAME is None, "there is no Chromium")
+@unittest.skipIf(browser.NAME is None or shutil.which("dot") is None, "there is no Chromium or no Graphviz")
 class InBrowser(Case):
     """The pages in a headless browser."""
 
