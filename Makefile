@@ -1,18 +1,21 @@
-# `make` proves what has changed and builds bin/echonet. `make test` is the gate. `make demo` runs the first example.
+# `make quick` compiles bin/quick/echonet in minutes, without proofs. `make` proves what has changed and builds
+# bin/echonet. `make test` is the gate. `make demo` runs the first example.
 #
 # These compare the built program with what is expected:
 # - `make show-examples`: what `show` prints of the packets in examples/packets.
 # - `make cases`: what each command prints and leaves in the tables of examples/cases.
-# - `make story`: three systems on real files. `make net-test`: the scripts of examples/net.
+# - `make story`: three systems on real files. `make net-test`: the scripts of station.
+# - `make station-test`: the program echonet-station, and what it does with files. It needs Python 3.9.
 # - `make manual-test`: the manual page against the program's help.
 # - `make small-nets`: the verdicts on all small nets against the definitions.
+# - `make tools-test`: the tools of examples/move. Some of it needs graphviz and chromium.
 # - `make follow`: the sessions of docs/OPERATORS.md. It needs binkd.
 # - `make interop`: a net with another tosser, and the rules of docs/INTEROP.md. It needs binkd and crashmail.
 # - `make trials` tries the program from outside (docs/TRIALS.md).
 #
 # `make install` copies the program, its manual page, the scripts, the documents and the shell completions to PREFIX,
 # below DESTDIR if that is set. `make uninstall` removes them. `make deb` makes a Debian package of the same files.
-.PHONY: all test edits edit-table crate-table times seconds demo show-examples cases story net-test manual-test small-nets follow interop trials install uninstall deb toolchain clean
+.PHONY: all quick quick-test test edits edit-table crate-table times seconds demo show-examples cases story net-test station-test manual-test small-nets tools-test follow interop trials install uninstall deb toolchain clean
 PREFIX = /usr/local
 
 # The program that these targets run. After the gate, that is the one in crates/echonet/out.
@@ -47,10 +50,19 @@ bin/echonet: bin/proved/echonet
 	@cp crates/echonet/out/echonet bin/echonet
 else
 .PHONY: bin/echonet
-# For `make trials` this also proves a program that replays events, and crashes commands on a disk in memory.
+# For `make trials` this also proves a program that replays events.
 bin/echonet: toolchain
 	$(call prove,echonet $(if $(filter trials,$(MAKECMDGOALS)),test_trials),bin/echonet)
 endif
+
+# This program is for trying a change. scripts/quick.py compiles it again only if its sources changed.
+.PHONY: bin/quick/echonet
+quick: bin/quick/echonet
+quick-test: bin/quick/echonet
+	@python3 scripts/quick_test.py bin/quick/echonet
+
+bin/quick/echonet: toolchain
+	@python3 scripts/quick.py
 
 # One process for each crate, since each process loads all crates below it. By default `rt ci` gives a crate up to
 # four. Then some crates wait for memory that nothing uses.
@@ -81,12 +93,7 @@ demo: bin/echonet
 	bin/echonet show --hex - < examples/packets/sixty-byte.hex
 
 show-examples: $(program)
-	@mkdir -p bin
-	@for packet in examples/packets/*.pkt; do \
-	  $(program) show $$packet > bin/shown.txt || exit 1; \
-	  diff $${packet%.pkt}.txt bin/shown.txt || exit 1; \
-	  echo "$$packet: as expected"; \
-	done
+	scripts/show_examples.sh $(program)
 
 cases: $(program)
 	scripts/cases.sh $(program)
@@ -98,17 +105,20 @@ net-test: $(program)
 	scripts/net-test.sh $(program)
 	scripts/net-test.sh $(program) folders
 
+station-test: $(program)
+	cd station/tests && ECHONET=$(abspath $(program)) python3 -m unittest
+
 manual-test: $(program)
 	scripts/manual.sh docs/echonet.1 $(program)
 
 small-nets: $(program)
 	ECHONET=$(abspath $(program)) python3 trials/small_nets.py
 
-follow: bin/echonet
-	scripts/follow.sh docs/OPERATORS.md bin/echonet
+follow: $(program)
+	scripts/follow.sh docs/OPERATORS.md $(program)
 
-interop: bin/echonet
-	interop/run.sh bin/echonet
+interop: $(program)
+	interop/run.sh $(program)
 
 # This installs the files of an earlier build. It does not need the toolchain.
 install:
@@ -120,8 +130,8 @@ uninstall:
 deb:
 	scripts/package.sh
 
-trials: bin/echonet
-	trials/all.sh
+trials: $(program)
+	ECHONET=$(abspath $(program)) trials/all.sh
 
 clean:
 	rm -rf bin crates/*/out

@@ -14,7 +14,7 @@ for command in binkd crashmail crashwrite python3 perl flock setsid; do
 done
 program=$(realpath "${1:-$here/../bin/echonet}")
 export ECHONET=$program
-scripts=$here/../examples/net
+scripts=$here/../station
 port=${PORT:-24570}
 . "$here/stations.sh"
 . "$here/checks.sh"

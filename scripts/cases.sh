@@ -1,12 +1,14 @@
 #!/usr/bin/env bash
 # Runs each row of the tables in examples/cases. It compares what the program prints, its status and the files that it
-# leaves with the row (examples/cases/README.md). Argument: the program.
+# leaves with the row (examples/cases/README.md). Arguments: the program, and the tables, by default all.
 set -eu
 cd "$(dirname "$0")/.."
 program=$(realpath "${1:-bin/echonet}")
 cases=$PWD/examples/cases
 place=$(mktemp -d)
 trap 'rm -rf "$place"' EXIT
+tables=("${@:2}")
+[ ${#tables[@]} -gt 0 ] || tables=($(cd "$cases" && ls ./*.cases))
 passed=0
 failed=0
 
@@ -108,6 +110,8 @@ run_row() {
     cp -r files run
   fi
   (run_words "$2" "$3") || status=$?
+  # A program of `make quick` adds this to its version.
+  if [ "$2" = --version ]; then sed -i 's/ not proved$//' printed; fi
   [ $status = "$4" ] || wrong+=" status $status"
   has printed "$5" || wrong+=" output: $(head -c 200 printed)"
   if [ "$6" = '*' ]; then
@@ -156,12 +160,12 @@ read_cases() {
 }
 
 cd "$place"
-for path in "$cases"/*.cases; do
-  table=$(basename "$path" .cases)
+for table in "${tables[@]}"; do
+  table=$(basename "$table" .cases)
   rm -rf files
   mkdir -p files/outbound
   read_cases "$cases/files.txt"
-  read_cases "$path"
+  read_cases "$cases/$table.cases"
 done
 echo "$passed passed, $failed failed"
 [ $failed -eq 0 ]

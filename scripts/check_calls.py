@@ -19,15 +19,15 @@ CHANGES = {
     "cmd_base/outbound_note": "the note of the folder of packets, in a base folder",
     "cmd_base/hard_links": "copies of files that a snapshot shares, before a base folder is opened",
     "cmd_base/scan_files": "calls of RealDisk, passed on; packets under temporary names",
-    "cmd_read/converting": "convert into a file",
-    "cmd_read/jam": "export into a JAM base",
-    "cmd_read/locked": "the same: a JAM base that is begun",
-    "cmd_read/making": "new files of export",
-    "cmd_read/named": "the files of a JAM base",
-    "cmd_read/outbox": "marks of posted messages in a JAM base",
-    "cmd_read/resending": "a packet that is made again",
-    "cmd_read/stored": "export into stored messages",
-    "cmd_read/texts": "export into a JAM base: the texts",
+    "cmd_export/converting": "convert into a file",
+    "cmd_export/repairing": "a packet of all that a link is to get",
+    "cmd_export/resending": "a packet that is made again",
+    "cmd_export/stored": "export into stored messages",
+    "cmd_jam/jam": "export into a JAM base",
+    "cmd_jam/locked": "the same: a JAM base that is begun",
+    "cmd_jam/named": "the files of a JAM base",
+    "cmd_jam/outbox": "marks of posted messages in a JAM base",
+    "cmd_jam/texts": "export into a JAM base: the texts",
 }
 READS = {
     "disk_system/reading": "whole files",
@@ -38,12 +38,12 @@ READS = {
     "cmd_input/locks": "locks",
     "cmd_input/packets": "large packets of toss",
     "cmd_notes/file_notes": "files read again for a note on them",
-    "cmd_read/files": "the files of commands that read",
+    "cmd_export/files": "the files of commands that read",
+    "cmd_jam/contents": "the index of a JAM base, and where its texts end",
     "cmd_notes/notes": "the lists of files that a note is about",
     "cmd_notes/states": "what is found at a path, for a note",
     "cmd_station/posting_mail": "whether there is a base with an answered message",
-    "cmd_station/running": "the bound of RealDisk, no call",
-    "cmd_station/scanning": "the same",
+    "cmd_station/scanning": "the bound of RealDisk, no call",
 }
 # The functions that get the disk of the system, with their crates.
 OVER_ANY_DISK = {
@@ -55,12 +55,13 @@ OVER_ANY_DISK = {
     "log_end": "base_folder",
     "read_folder": "base_folder",
     "fill": "base_folder",
+    "check_owner": "cmd_export",
 }
-CALLS = re.compile(r"\bfs::|\brt::Files\b|\bOpenOptions\b|\bFileExt\b|\bmake_new\b|\bcreate_file\b|\bbegin_file\b|\bmake_file\b")
+CALLS = re.compile(r"\bfs::|\brt::Files\b|\bOpenOptions\b|\bFileExt\b|\bmake_new\b|\bcreate_file\b|\bbegin_file\b")
 CHANGING = re.compile(
     r"\bfs::(?:rename|remove_\w+|hard_link|copy|write|create\w*|set_permissions)\b|\bOpenOptions::new\b|\bFile::create"
     r"|\.(?:set_len|set_permissions|write_all_at|set_owner|remove_file|hard_link)\(|\bfchown\("
-    r"|(?<![.\w])(?<!fn )(?<!system::)(?:make_new|create_file|begin_file|make_file|write_at|remove_left)\("
+    r"|(?<![.\w])(?<!fn )(?<!system::)(?:make_new|create_file|begin_file|write_at|remove_left)\("
 )
 # The words `disk` that only declare one.
 DECLARES = re.compile(r"\bdisk\s*:\s*(?:&mut )?D\b|\blet (?:mut )?disk\s*=\s*RealDisk::new\([\w.]+, Unknown\);")
@@ -100,7 +101,7 @@ def check_disks(path, text):
 
 for name, crate in OVER_ANY_DISK.items():
     sources = "".join(open(it).read() for it in glob.glob(f"crates/{crate}/src/*.rt"))
-    if not re.search(rf"\bpub fn {name}\s*<[^()]*\bD: Disk\b", sources):
+    if not re.search(rf"\bpub(?:\(crate\))? fn {name}\s*<[^()]*\bD: Disk\b", sources):
         wrong.append(f"{crate} has no `{name}` over any disk")
 for path in sorted(glob.glob("crates/*/src/**/*.rt", recursive=True)):
     crate = path.split("/")[1]

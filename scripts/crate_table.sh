@@ -8,18 +8,18 @@ cd "$(dirname "$0")/.."
 # A line for each row: the group, the crates, and their purpose. A row without a group belongs to the group of the row
 # before.
 rows='
-tests      | test_calls test_disks test_trials |
+tests      | test_calls test_trials |
 program    | echonet cmd_words | picks the command; the command line
-           | cmd_station cmd_read cmd_notes | the commands on the files of the system
-           | cmd_base cmd_input | bases opened; files, locks, clock, progress
+           | cmd_station cmd_net cmd_export cmd_notes | the commands on the files of the system
+           | cmd_jam cmd_base cmd_input | JAM bases; bases opened; files, locks, clock, progress
 laws       | law_stations | nets of stations, crashes, sequences on disks
 stations   | station_scan | a scan with its packets
            | station_bases | two kinds of base
            | station | lock, open, run one command
 commands   | cmd_store | those that change a base, on any store
            | cmd_check | those that judge a net, or try one out
-           | cmd_show cmd_numbered | those that print or export
-           | cmd_report cmd_print echo_export | words, lines, forms
+           | cmd_show cmd_numbered cmd_repair | those that print, export or repair
+           | cmd_print echo_export | lines, forms
 verdicts   | echo_net model_replay model_plan model_why | check, replay and why, as functions
 tosser     | echo_toss | the steps of one system, on any store
 model      | model_run | runs of systems, tidy areas, any tossers, harm, the headline
@@ -27,7 +27,7 @@ model      | model_run | runs of systems, tidy areas, any tossers, harm, the hea
 stores     | base_folder base_folder_store | a base folder
            | base_store | the trait, a base in memory, keys
 disks      | disk_atomic base_log | whole files; the log of a base folder
-           | disk_system disk_memory | the files of the system; a disk for tests
+           | disk_system | the files of the system
 steps      | model_steps cmd_status | the steps as definitions; faults and statuses
 formats    | base_file echo_filed echo_packet echo_text echo_links echo_nodelist |
            | echo_jam echo_stored echo_mail echo_charset echo_addr disk_io |'

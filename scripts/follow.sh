@@ -1,21 +1,29 @@
 #!/usr/bin/env bash
 # Follows the sessions of a document from its first line to its last in an empty folder. It runs each line
-# `    $ COMMAND`, and compares the output with the lines below it. Serials of eight hexadecimal digits, timestamps and
-# dates may differ. Arguments: the document, the program, and the folder that has `examples`, by default the sources.
+# `    $ COMMAND`, and compares the output with the lines below it. Serials of eight hexadecimal digits, timestamps, dates
+# and ages may differ. A document calls the empty folder /home/fido, and the folder of the scripts /usr/share/echonet.
+# Arguments: the document, the program, and the folder that has `examples` and `station`, by default the sources. If
+# headings follow, only the sessions right below these are run.
 set -eu
 cd "$(dirname "$0")/.."
 document=$(realpath "${1:-docs/OPERATORS.md}")
 program=$(realpath "${2:-bin/echonet}")
 sources=$(realpath "${3:-.}")
+headings=("${@:4}")
+for heading in "${headings[@]}"; do
+  grep -q "^##* $heading\$" "$document" || { echo "$document has no heading $heading" >&2; exit 1; }
+done
 place=$(mktemp -d)
 mkdir "$place/bin" "$place/empty"
 ln -s "$program" "$place/bin/echonet"
 ln -s "$sources" "$place/echonet"
+scripts=$(realpath "$sources/station")
+ln -s "$scripts/echonet-station" "$place/bin/echonet-station"
 export HOME=$place PATH=$place/bin:$PATH:/usr/sbin LC_ALL=C
 
 # Ends the mailers of a session that did not end them.
 end_mailers() {
-  for file in "$place"/empty/*/binkd.pid; do
+  for file in "$place"/empty/*/binkd.pid "$place"/empty/*/*/binkd.pid; do
     if [ -e "$file" ]; then kill "$(cat "$file")" || true; fi
   done
   rm -rf "$place"
@@ -25,7 +33,8 @@ cd "$place/empty"
 
 # Replaces what differs from day to day.
 alike() {
-  sed -E 's/\b[0-9a-f]{8}\b/SERIAL/g; s/[0-9]{4}-[0-9]{2}-[0-9]{2}[T ][0-9:]{8}/MOMENT/g
+  sed -E "s,$place/empty,/home/fido,g; s,$scripts,/usr/share/echonet,g; s,PATH=[^;]*; ,," |
+    sed -E 's/\b[0-9a-f]{8}\b/SERIAL/g; s/ [0-9]+s( ago)?$/ AGE/; s/[0-9]{4}-[0-9]{2}-[0-9]{2}[T ][0-9:]{8}/MOMENT/g
     s/[0-9]{2} [A-Z][a-z]{2} [0-9]{2}  [0-9:]{8}/DATE/g'
 }
 
@@ -50,10 +59,26 @@ type_it() {
   expected=
 }
 
+# Whether the sessions below a heading are run.
+is_wanted() {
+  local heading
+  for heading in "${headings[@]}"; do
+    if [ "$heading" = "$1" ]; then return; fi
+  done
+  [ ${#headings[@]} -eq 0 ]
+}
+
+wanted=yes
 while IFS= read -r line; do
   case $line in
+    '#'*)
+      type_it
+      wanted=no
+      if is_wanted "${line##*# }"; then wanted=yes; fi
+      ;;
     '    $ '*)
       type_it
+      if [ $wanted = no ]; then continue; fi
       command=${line#    \$ }
       ;;
     '    '*) if [ -n "$command" ]; then expected=$expected${line#    }$'\n'; fi ;;

@@ -81,6 +81,7 @@ same "check: its form without an area" "echonet check [OPTIONS] --all <LINKS>...
 same "the statuses of the program" "$(help_statuses "$help")" "$(page_statuses)"
 same "the word that any command takes" 1 "$(part_of_help "$help" Options | grep -c -e ' --explain ')"
 
-same "the version" "$("$program" --version)" "$(sed -nE 's/^\.TH .* "(echonet [0-9.]+)" .*/\1/p' "$place/page")"
+# A program of `make quick` adds to its version that it is not proved.
+same "the version" "$("$program" --version | sed 's/ not proved$//')" "$(sed -nE 's/^\.TH .* "(echonet [0-9.]+)" .*/\1/p' "$place/page")"
 echo "$passed checks passed, $failed failed"
 [ $failed -eq 0 ]

@@ -1,5 +1,5 @@
 #!/usr/bin/env bash
-# Tries the scripts of examples/net on a net of three systems whose mailer is `mv`: stopped scans; packets that are
+# Tries the scripts of station on a net of three systems whose mailer is `mv`: stopped scans; packets that are
 # cut, for another system or not filed; held links; runs at the same time; stopped readers; the log and the settings
 # of a station. Arguments: the program, and whether the bases are `files` or `folders`. The last station has a base of
 # the other kind.
@@ -9,11 +9,11 @@ cd "$(dirname "$0")/.."
 . scripts/net_calls.sh
 program=$(realpath "${1:-bin/echonet}")
 kind=${2:-files}
-scripts=$PWD/examples/net
+scripts=$PWD/station
 export ECHONET=$program
 place=$(mktemp -d)
 trap 'rm -rf "$place"' EXIT
-cp -r "$scripts"/{one,two,three} "$place"
+cp -r examples/net/{one,two,three} "$place"
 cd "$place"
 
 to_two=000a0002
@@ -21,16 +21,16 @@ to_three=000a0003
 mkdir -p two/inbound three/inbound four
 if [ "$kind" = folders ]; then mkdir {one,two,three}/base; else mkdir four/base; fi
 
-# A posting, and how its packet is handed over. The text has 10 + 24 + 14 + 12 + 26 + 16 + 12 = 114 bytes, the packet
-# 58 + 14 + 20 + 4 + 4 + 6 + 115 + 2.
+# A posting, and how its packet is handed over. The text has 10 + 24 + 13 + 14 + 12 + 26 + 16 + 12 = 127 bytes, the
+# packet 58 + 14 + 20 + 4 + 4 + 6 + 128 + 2.
 printed=$(post one Ann First)
 same "post.sh prints what post prints" yes "$([[ $printed =~ ^posted\ TEST\ 1:10/1\ [0-9a-f]{8}$ ]] && echo yes)"
-same "scan-outbound.sh prints what scan prints" "packet 1:10/2 1 messages 223 bytes" "$(scan one)"
+same "scan-outbound.sh prints what scan prints" "packet 1:10/2 1 messages 236 bytes" "$(scan one)"
 same "one packet" 1 "$(ls one/packets | wc -l)"
 same "its name" yes "$([[ $(ls one/packets) =~ ^[0-9a-f]{8}\.pkt$ ]] && echo yes)"
 same "the line of the flow file" "^$place/one/packets/$(ls one/packets)" "$(cat one/outbound/$to_two.flo)"
 same "no lock is left" "" "$(ls one/outbound | grep bsy || true)"
-same "the log of Alpha" "MOMENT sent $(ls one/packets) to 1:10/2 1 messages 223 bytes" "$(last_log one)"
+same "the log of Alpha" "MOMENT sent $(ls one/packets) to 1:10/2 1 messages 236 bytes" "$(last_log one)"
 same "nothing waits" 0 "$(scan one; echo $?)"
 same "the flow file has one line" 1 "$(wc -l < one/outbound/$to_two.flo)"
 
@@ -63,7 +63,7 @@ echonet: note: packet 1 of 1, $place/three/tossing/00000001.pkt: it is for 1:10/
 head -c 98 kept.pkt > two/inbound/cut.pkt
 toss_some two
 same "two of one name lie apart" \
-  "cut.pkt cut.pkt.1 cut.pkt.1.why cut.pkt.why" "$(ls two/bad | tr '\n' ' ' | sed 's/ $//')"
+  "cut.1.pkt cut.1.pkt.why cut.pkt cut.pkt.why" "$(LC_ALL=C ls two/bad | tr '\n' ' ' | sed 's/ $//')"
 rm two/bad/* three/bad/*
 
 # Messages that are not filed: first the link is missing, then it is restored.
@@ -110,10 +110,10 @@ put_back
 same "the stopped scan left its packet" 1.10.3.0.pkt.~1.10.2~.new "$(ls two/scanned)"
 same "and its cursor stood" "$before" "$(counts two)"
 post two Bob Third > /dev/null
-# The text of Third has 10 + 24 + 14 + 12 + 25 + 18 + 12 = 115 bytes. First and Second grow to 118 and 119. The
-# packets have 58 + (14 + 20 + 4 + 4 + 6 + 116) + 2 and 58 + (48 + 119) + (49 + 120) + 164 + 2.
-same "the next scan" "packet 1:10/1 1 messages 224 bytes
-packet 1:10/3 3 messages 560 bytes" "$(scan two)"
+# The text of Third has 10 + 24 + 13 + 14 + 12 + 25 + 18 + 12 = 128 bytes. First and Second grow to 131 and 132. The
+# packets have 58 + (14 + 20 + 4 + 4 + 6 + 129) + 2 and 58 + (48 + 132) + (49 + 133) + 177 + 2.
+same "the next scan" "packet 1:10/1 1 messages 237 bytes
+packet 1:10/3 3 messages 599 bytes" "$(scan two)"
 same "one packet for each link" 2 "$(ls two/packets | wc -l)"
 same "nothing of the stopped one is left" "" "$(ls two/scanned)"
 
@@ -238,6 +238,7 @@ field() { { printf '%s' "$1"; head -c "$2" /dev/zero; } | head -c "$2"; }
 stored() {
   { field "$2" 36; field "$3" 36; field "$4" 72; field '26 Nov 26  12:00:00' 20; field '' 22
     printf "$5\\0\\0%s\\r\\0" "$6"; } > "$1"
+  touch -d '3 seconds ago' "$1"
 }
 reader() { "$scripts/reader.sh" four "$1" "$2"; }
 told_id='posted TEST 1:10/1 ????????'
@@ -260,7 +261,7 @@ same "the message in the base" "subject Written line From the editor." \
 same "a second run does nothing" "exported 0 messages, next 22" "$(reader TEST four/read)"
 stored four/read/27.msg Ann Bob 'No such area' '\0\1' 'For nobody.'
 reader OTHER four/other > /dev/null
-cp four/read/27.msg four/other/
+cp -p four/read/27.msg four/other/
 same "an area that is not there" "put aside 27.msg: echonet: B1 NoArea" "$(reader OTHER four/other | head -n 1)"
 same "with the note on it" "echonet: note: no area OTHER in $place/four/links" \
   "$(tail -n 1 four/other/refused/27.msg.why)"
@@ -296,6 +297,7 @@ chmod +x stand-in
 export PROGRAM=$program
 how_many() { "$program" list "$1" | grep -c ^message; }
 reader TEST four/again > /dev/null
+stored four/again/89.msg Ann Bob Waits '\0\1' 'It waits for its base.'
 files=$(ls four/again)
 many=$(how_many four/base)
 status=0
@@ -310,7 +312,7 @@ status=0
 reader TEST four/again > told.txt 2> fault.txt || status=$?
 same "so does a damaged base" "2  echonet: F2 Truncated record $((many - 1)) $files" \
   "$status $(cat told.txt) $(cat fault.txt) $(ls four/again | grep -v '^seen.new$')"
-rm -rf four/base
+rm -rf four/base four/again/89.msg
 cp -r four.base four/base
 
 # A reader that is stopped after a posting, and one that is stopped before it.

@@ -5,10 +5,10 @@ post() { echo "Body of $3" | "$scripts/post.sh" "$1" TEST All "$2" "$3" "${@:4}"
 scan() { "$scripts/scan-outbound.sh" "$1"; }
 toss() { "$scripts/toss-inbound.sh" "$1"; }
 
-# Tosses, and sets the status. Its output goes to printed.txt.
+# Tosses, and sets the status. All that it prints goes to printed.txt.
 toss_some() {
   status=0
-  toss "$1" > printed.txt || status=$?
+  toss "$1" > printed.txt 2>&1 || status=$?
 }
 
 # The last line of the log of a station, with its timestamp as MOMENT.

@@ -24,7 +24,7 @@ each() {
   } 9> "$told/lock"
 }
 
-for name in kept package keys kills crowds beside mailer debian full_disk devices pieces refusals valgrind; do each trials/$name.sh & done
+for name in kept package keys kills crowds beside mailer daily debian full_disk devices pieces refusals valgrind; do each trials/$name.sh & done
 for name in kills crowds beside full_disk devices pieces refusals; do each trials/$name.sh folders & done
 for name in folders folder_kills folder_damage snapshots; do each python3 trials/$name.py & done
 for name in power_cuts unlucky odd_folders; do each python3 trials/$name.py & done
@@ -40,10 +40,13 @@ each python3 trials/readers.py &
 each python3 trials/moving.py &
 each python3 trials/answers.py &
 each python3 trials/terminal.py &
+each python3 trials/dressed.py &
+each python3 trials/station_full.py &
+each python3 trials/station_kills.py &
+each python3 trials/realnet.py &
 wait
 each python3 trials/mixed.py
 each python3 trials/stations.py 300 "$cores"
-each trials/stores.sh 100 "$cores"
 each python3 trials/hostile.py "$inputs" "$cores"
 each python3 trials/nets.py &
 each python3 trials/grown.py "$size" $(((cores + 1) / 2)) &

@@ -21,6 +21,7 @@ as_ftn() { if [ "$(id -u)" = 0 ]; then setpriv --reuid ftn --regid ftn --clear-g
 
 # The neighbour is Alpha of the installed examples, the station is Beta in binkd's folder.
 cp -r "$share/doc/echonet/examples/net" "$work/net"
+cp "$share"/echonet/*.sh "$work/net"
 cd "$work/net"
 mkdir -p one/{base,inbound,outbound,strangers,partly} "$ftn"/{inb,outb,strangers,base}
 sed -i "s,24561,$port,; s,24562,$((port + 1))," one/binkd.conf

@@ -19,7 +19,7 @@ import time
 import jam
 from contents import TOP
 
-READER = os.path.join(TOP, "examples", "net", "reader.sh")
+READER = os.path.join(TOP, "station", "reader.sh")
 OWN = 1 << 24
 
 

@@ -1,5 +1,5 @@
 #!/usr/bin/env bash
-# The scripts of examples/net in an unlucky world. A mailer may receive names that are not UTF-8, very long names, and
+# The scripts of station in an unlucky world. A mailer may receive names that are not UTF-8, very long names, and
 # names that would steer a terminal. It may receive a folder, a pipe, a link to nothing, and a packet that needs more
 # memory than there is. The packets after it are tossed. Also: a scan whose script alone is killed, a flow file that
 # cannot be written, and holds of processes that have ended. Also what a power cut leaves, and a log that cannot be
@@ -10,7 +10,7 @@ cd "$(dirname "$0")/.."
 export ECHONET=$program
 cp -r "$top"/examples/net/{one,two} "$work"
 cd "$work"
-scripts=$top/examples/net
+scripts=$top/station
 
 post() { echo "Body of $1" | "$scripts/post.sh" one TEST All Ann "$1" > said; }
 scan() { timeout 20 "$scripts/scan-outbound.sh" one; }
@@ -42,7 +42,7 @@ expect "nothing in the log steers the terminal" [ -z "$(LC_ALL=C tr -d ' -~\n' <
 expect "nothing is left" [ -z "$(ls two/inbound two/tossing | grep pkt)" ]
 expect "what cannot lies apart" [ "$(ls two/bad | grep -c 'pkt$')" = 4 ]
 expect "with the reason" grep -q 'cannot use .*pkt' two/bad/6.pkt.why two/bad/8.pkt.why two/bad/A.pkt.why
-expect "nothing steers the terminal" [ -z "$(LC_ALL=C tr -d ' -~\n' < said)" ]
+expect "nothing steers the terminal" [ -z "$(cat said fault | LC_ALL=C tr -d ' -~\n')" ]
 rm -rf two/bad two/inbound/*
 
 # A packet that needs more memory than there is, and one after it.

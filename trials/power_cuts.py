@@ -1,4 +1,4 @@
-"""Cuts the power under the program and the scripts of examples/net, and judges what the disk has then.
+"""Cuts the power under the program and the scripts of station, and judges what the disk has then.
 
 Stations on one disk post, toss, scan, purge, convert and export, on base files and base folders, or by the scripts.
 At the same time another program flushes files of its own. At each cut (power.py) the file system is mounted again.
@@ -212,7 +212,7 @@ def look_at_stored(judge, what, folder, wanted, may):
 
 
 class Scripts(Plain):
-    """A station that the scripts of examples/net run, with a mailer and an editor that flush their files."""
+    """A station that the scripts of station run, with a mailer and an editor that flush their files."""
     chances = {"arrive": 4, "toss": 3, "scan": 3, "mail": 2, "write": 3, "read": 3}
     comes = {"arrive": "toss", "write": "write"}
     passing = [("inbound", ".pkt"), ("tossing", ""), ("scanned", ""), ("bad", ""), ("outbound", (".bsy", ".hold")),
@@ -226,7 +226,7 @@ class Scripts(Plain):
     def do(self, judge, folder, step, wanted=0):
         if step.what in self.words:
             script, *others = self.words[step.what]
-            return judge.run(folder, join(TOP, "examples", "net", script), *others)
+            return judge.run(folder, join(TOP, "station", script), *others)
         if step.what == "arrive":
             make(join(folder, "inbound", "%d.pkt" % step.messages[0].serial), packet_of(step.messages))
         elif step.what == "write":

@@ -5,6 +5,8 @@ is an area of the same systems, and `check --all --more` judges thousands of the
 - each graph of at most five systems
 - two polygons of four with a common system, with up to one of their links left out, under three numberings
 - random graphs of seven systems
+
+Arguments: a part from 0 on and the number of parts, to try only the nets of this part.
 """
 import itertools
 import os
@@ -200,13 +202,15 @@ def differ(areas, folder):
 
 
 def main():
-    """Tries all. Prints a line for each kind, and a last one with the counts."""
+    """Tries all nets of the part. Prints a line for each kind, and a last one with the counts."""
     kinds = [("four systems", list(all_files(FOUR, 4))), ("twins and an address without a file", list(all_files(TWINS, 3))),
              ("graphs of at most five", list(all_graphs())), ("polygons in a chain", list(chained_polygons())),
              ("graphs of seven", list(chance_graphs(2000)))]
+    part, parts = (int(word) for word in sys.argv[1:] or ("0", "1"))
     tried = wrong = 0
     with tempfile.TemporaryDirectory() as folder:
         for name, areas in kinds:
+            areas = areas[part::parts]
             failed = differ(areas, folder)
             print("%s: %d nets, %d answered otherwise" % (name, len(areas), failed))
             tried, wrong = tried + len(areas), wrong + failed

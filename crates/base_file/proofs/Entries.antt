@@ -1,23 +1,14 @@
 -- The invariant of a base with look-ups by key, and the answers of its look-ups.
 use Rattle.std.proofs.Common.{◌≡◌, ℕ, zero, suc, ◌≤◌, length, take, ◌||◌, Bool, true, false, cond, List, [], ◌∷◌, ◌++◌, map, refl, sym, ap, subst, ◌∙◌, Option, Some, None, is_some, Result, Ok, Err, not, if◌then◌else◌, arith, inl, inr}
-use Rattle.std.specs.Prelude.{IfOk, OnErr, bytes_eq, option_map, slice_get, unwrap_or}
-use Rattle.std.specs.Cmp.Lexicographic.{bytes_decides}
-use Rattle.std.specs.List.{AllByRecursion, list_any}
-use Rattle.std.specs.Map.{keys_of, lookup, values_of}
 use Rattle.std.proofs.lemmas.Bool.{and_from, and_right, cases_Bool, false_from_ne_true, or_from, or_parts, true≢false}
-use Rattle.std.proofs.lemmas.List.Folds.{list_any_at}
-use Rattle.std.proofs.lemmas.Option.{get_or_from_slice_get, slice_get_within}
-use Rattle.std.proofs.lemmas.List.{append-nil, append_assoc, length-append, map-append}
+use Rattle.std.proofs.lemmas.{List.Folds.list_any_at, Option.get_or_from_slice_get, Option.slice_get_within, List.append-nil, List.append_assoc, List.length-append, List.map-append}
+use Rattle.std.specs.Prelude.{IfOk, OnErr, bytes_eq, option_map, slice_get, unwrap_or}
+use Rattle.std.specs.{Cmp.Lexicographic.bytes_decides, List.AllByRecursion, List.list_any, Map.keys_of, Map.lookup, Map.values_of}
 use Rattle.echo_text.specs.Echo.{msgid_of}
-use Rattle.echo_filed.specs.declared.key.Key.{Key}
-use Rattle.echo_filed.specs.declared.key.Key.TheVariants.{ById}
 use Rattle.echo_filed.specs.Filed.{Filed, IsFiled, has_id, key_of, key_with, same_key}
-use Rattle.echo_filed.specs.Stubs.{is_stub}
-use Rattle.echo_filed.proofs.DerivedKeys.{derived, derived_is_same}
-use Rattle.echo_filed.proofs.Keys.{same_key_decides}
-use Rattle.echo_filed.proofs.Plain.{all_append}
-use Rattle.base_file.specs.Base.{AreNew, IsBase, is_known}
-use Rattle.base_file.specs.Entries.{AreEntries, ArePurged, HasTagIn}
+use Rattle.echo_filed.specs.{declared.key.Key.Key, declared.key.Key.TheVariants.ById, Stubs.is_stub}
+use Rattle.echo_filed.proofs.{DerivedKeys.derived, DerivedKeys.derived_is_same, Keys.same_key_decides, Plain.all_append}
+use Rattle.base_file.specs.{Base.AreNew, Base.IsBase, Base.is_known, Entries.AreEntries, Entries.ArePurged, Entries.HasTagIn}
 
 -- one more message that is new
 one_more_new : (earlier base : List Filed) (m : Filed) → AreNew earlier base → is_known (earlier ++ base) (key_of m) ≡ false → AreNew earlier (base ++ m ∷ [])

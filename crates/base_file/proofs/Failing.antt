@@ -1,26 +1,19 @@
 -- Why a call did not load a base, by the bytes that it consumed.
 use Rattle.std.proofs.Common.{◌≡◌, false, ℕ, ◌^◌, ◌<◌, ◌≤◌, List, [], ◌∷◌, ◌++◌, length, map, take, refl, sym, ap, subst, ◌∙◌, Option, Some, None, Result, Ok, Err, arith, inl, inr}
-use Rattle.std.specs.Prelude.{IfErr, IfOk, IfSome}
-use Rattle.std.specs.Io.KnownBytes.{Consumes}
-use Rattle.std.specs.List.{AllByRecursion, flat_map}
-use Rattle.std.proofs.KnownBytes.{Consumes-trans, Consumes-whole}
-use Rattle.std.proofs.lemmas.Grind.{flat_map-append}
 use Rattle.std.proofs.lemmas.List.{append-nil, append_assoc, length-append, length-map, take_at}
+use Rattle.std.proofs.{KnownBytes.Consumes-trans, KnownBytes.Consumes-whole, lemmas.Grind.flat_map-append}
+use Rattle.std.specs.{Prelude.IfErr, Prelude.IfOk, Prelude.IfSome, Io.KnownBytes.Consumes, List.AllByRecursion, List.flat_map}
 use Rattle.echo_packet.specs.Header.{AreBytes}
 use Rattle.disk_io.specs.declared.fixed.Broken.{Broken}
 use Rattle.disk_io.specs.declared.fixed.Broken.TheVariants as broken
-use Rattle.echo_filed.specs.Filed.{Filed}
-use Rattle.echo_filed.specs.declared.stored.Version.{Version}
-use Rattle.echo_filed.specs.declared.stored.Version.TheVariants.{First, Second}
 use Rattle.echo_filed.specs.Stored.{IsStored, Stored, long, message_in, stored_bytes}
+use Rattle.echo_filed.specs.{Filed.Filed, declared.stored.Version.Version, declared.stored.Version.TheVariants.First, declared.stored.Version.TheVariants.Second}
 use Rattle.echo_filed.specs.Fields.{Breaks, EndsIn, IsLong, StopsIn}
 use Rattle.echo_filed.proofs.Plain.{all_append}
-use Rattle.base_file.specs.declared.base.loading.Head.{Head}
-use Rattle.base_file.specs.declared.fault.BaseFault.{BaseFault}
-use Rattle.base_file.specs.declared.fault.BaseFault.TheVariants as fault
-use Rattle.base_file.specs.Base.{Base}
 use Rattle.base_file.specs.BaseFile.{AreSound, BaseFaultOf, BaseOf, Begins, IsDamagedAt, LoadOf, Loaded, head_bytes, is_damaged, magic}
 use Rattle.base_file.specs.Loading.{AnswersLoad, FailsToLoad, LoadFault, TakesAll, TakesBase, TakesDamaged, TakesHead, TakesStored, TakesNextStored, fault_behind}
+use Rattle.base_file.specs.{declared.base.loading.Head.Head, declared.fault.BaseFault.BaseFault, Base.Base}
+use Rattle.base_file.specs.declared.fault.BaseFault.TheVariants as fault
 use Rattle.base_file.proofs.Loading.{only_outcome, say_more, sound_more}
 
 if_any : {X : Type 0} (o : Option X) → IfSome o (λ _. Unit {0})

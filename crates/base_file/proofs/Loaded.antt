@@ -1,26 +1,15 @@
 -- A base file gives a base.
 use Rattle.std.proofs.Common.{◌≡◌, ◌≢◌, ℕ, ◌^◌, ◌<◌, ◌≤◌, ◌==◌, ◌||◌, not, nat_lt, Bool, true, false, cond, List, [], ◌∷◌, ◌++◌, length, map, refl, Option, Some, None, arith}
-use Rattle.std.specs.Prelude.{bytes_eq, is_none}
-use Rattle.std.specs.List.{AllByRecursion, list_all, list_any}
-use Rattle.std.proofs.lemmas.Bool.{ltb-false, not-false, or_parts}
-use Rattle.std.proofs.lemmas.List.{length-map}
-use Rattle.std.proofs.lemmas.List.Elements.{All-from_recursion}
+use Rattle.std.proofs.lemmas.{Bool.ltb-false, Bool.not-false, Bool.or_parts, List.length-map, List.Elements.All-from_recursion}
+use Rattle.std.specs.{Prelude.bytes_eq, Prelude.is_none, List.AllByRecursion, List.list_all, List.list_any}
 use Rattle.echo_packet.specs.Message.{HasNoZero}
-use Rattle.echo_text.specs.Lines.{is_tag, trimmed}
-use Rattle.echo_text.specs.Echo.{EchoText, IsEcho}
-use Rattle.echo_text.specs.Ids.{is_line_byte, is_zero}
-use Rattle.echo_text.specs.Refusal.{text_refusal}
+use Rattle.echo_text.specs.{Lines.is_tag, Lines.trimmed, Echo.EchoText, Echo.IsEcho, Ids.is_line_byte, Ids.is_zero, Refusal.text_refusal}
 use Rattle.echo_text.proofs.Reread.{read_is_echo}
-use Rattle.echo_filed.specs.Written.{echo_of, text_of}
-use Rattle.echo_filed.specs.Filed.{Filed, HasSmallSender, IsFiled, key_of}
-use Rattle.echo_filed.specs.Stubs.{bare}
-use Rattle.echo_filed.specs.declared.stored.Version.{Version}
 use Rattle.echo_filed.specs.Stored.{IsStored, Stored, echo_in, has_tag, message_in, sender_in}
-use Rattle.echo_filed.proofs.Plain.{no_zero, plain_if, some_bytes}
-use Rattle.echo_filed.proofs.Stubs.{bare_echo}
-use Rattle.echo_filed.proofs.Texts.{says_read}
-use Rattle.base_file.specs.Base.{AreNew, IsBase, is_known}
+use Rattle.echo_filed.specs.{Written.echo_of, Written.text_of, Filed.Filed, Filed.HasSmallSender, Filed.IsFiled, Filed.key_of, Stubs.bare, declared.stored.Version.Version}
+use Rattle.echo_filed.proofs.{Plain.no_zero, Plain.plain_if, Plain.some_bytes, Stubs.bare_echo, Texts.says_read}
 use Rattle.base_file.specs.BaseFile.{AreSound, BaseOf, has_wrong_form, has_wrong_last, has_wrong_sender, has_wrong_string, is_damaged, is_no_string, is_other_kind, is_wrong_id, is_wrong_text}
+use Rattle.base_file.specs.Base.{AreNew, IsBase, is_known}
 
 -- the sender of a stored message
 small_of : (posted : Bool) (s : Stored) → s.zone < 2 ^ 16 → s.net < 2 ^ 16 → s.node < 2 ^ 16

@@ -1,24 +1,18 @@
 -- Bytes are a base or have a fault, and only one of these.
 use Rattle.std.proofs.Common.{◌≡◌, ℕ, zero, suc, ◌+◌, ◌-◌, ◌^◌, ◌<◌, ◌≤◌, nat_lt, Bool, true, false, cond, List, [], ◌∷◌, ◌++◌, length, map, take, drop, refl, sym, ap, subst, ◌∙◌, Option, Some, None, Result, Ok, Err, arith, inl, inr}
-use Rattle.std.specs.Prelude.{nat_eq}
-use Rattle.std.specs.Cmp.Lexicographic.{bytes_decides}
-use Rattle.std.specs.List.{AllByRecursion, flat_map, starts_with}
 use Rattle.std.proofs.lemmas.Bool.{cases_Bool, cond-false, cond-true, le-ltb, lt-ltb, ltb-false, ltb-true}
-use Rattle.std.proofs.Math.Seq.{drop-append_seam}
 use Rattle.std.proofs.lemmas.List.{append-nil, append_assoc, drop-drop, get_or-drop, length-append, length-drop, length-map, length-take-le, take-append-drop, take_at}
+use Rattle.std.proofs.Math.Seq.{drop-append_seam}
+use Rattle.std.specs.{Prelude.nat_eq, Cmp.Lexicographic.bytes_decides, List.AllByRecursion, List.flat_map, List.starts_with}
 use Rattle.echo_packet.specs.Header.{AreBytes}
 use Rattle.echo_packet.proofs.Headers.{AreBytes-drop}
-use Rattle.echo_filed.specs.Filed.{Filed}
-use Rattle.echo_filed.specs.declared.stored.Version.{Version}
-use Rattle.echo_filed.specs.declared.stored.Version.TheVariants.{First, Second}
 use Rattle.echo_filed.specs.Stored.{IsStored, Stored, long, long_at, message_in, stored_bytes}
-use Rattle.echo_filed.proofs.Layouts.{long_front, long_value}
-use Rattle.echo_filed.proofs.Plain.{all_append}
-use Rattle.echo_filed.specs.Fields.{StopsIn}
+use Rattle.echo_filed.specs.{Filed.Filed, declared.stored.Version.Version, declared.stored.Version.TheVariants.First, declared.stored.Version.TheVariants.Second, Fields.StopsIn}
 use Rattle.echo_filed.proofs.StoredFields.{Stands, stopped_unread, stored_again, stored_in, stored_stands, stored_stops}
+use Rattle.echo_filed.proofs.{Layouts.long_front, Layouts.long_value, Plain.all_append}
+use Rattle.base_file.specs.BaseFile.{AreSound, BaseOf, Begins, EndsInside, IsDamagedAt, IsNoBase, LoadOf, Loaded, head_bytes, is_damaged, is_front, magic}
 use Rattle.base_file.specs.declared.fault.BaseFault.{BaseFault}
 use Rattle.base_file.specs.declared.fault.BaseFault.TheVariants as fault
-use Rattle.base_file.specs.BaseFile.{AreSound, BaseOf, Begins, EndsInside, IsDamagedAt, IsNoBase, LoadOf, Loaded, head_bytes, is_damaged, is_front, magic}
 
 -- the messages and the bytes after them, or a fault
 abbrev Messages : Type 0

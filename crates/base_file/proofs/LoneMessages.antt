@@ -3,17 +3,11 @@ use Rattle.std.proofs.Common.{◌≡◌, ℕ, ◌<◌, not, nat_lt, Bool, true, 
 use Rattle.std.proofs.lemmas.Bool.{and_parts, cond-false, cond-true, or_from, or_parts, true≢false}
 use Rattle.std.proofs.lemmas.List.{append-nil}
 use Rattle.echo_packet.specs.Header.{AreBytes}
-use Rattle.echo_filed.specs.Filed.{Filed, IsFiled}
-use Rattle.echo_filed.specs.Fields.{StopsIn}
 use Rattle.echo_filed.specs.Stored.{IsStored, Stored, has_tag, is_short_enough, message_in, stored_bytes}
-use Rattle.echo_filed.specs.declared.stored.Version.TheVariants.{Second}
+use Rattle.echo_filed.specs.{Filed.Filed, Filed.IsFiled, Fields.StopsIn, declared.stored.Version.TheVariants.Second}
 use Rattle.echo_filed.proofs.StoredFields.{stopped_unread, stored_again, stored_in}
-use Rattle.base_file.specs.Alone.{IsStoredAlone, MayStandAlone, cursor_alone}
-use Rattle.base_file.specs.BaseFile.{has_wrong_form, is_damaged, stored_at}
-use Rattle.base_file.specs.Loading.{is_wrong}
-use Rattle.base_file.proofs.Saved.{not_damaged, size_at, stored_says}
-use Rattle.base_file.proofs.SavedAgain.{stored_at_back}
-use Rattle.base_file.proofs.Verdicts.{known_damaged, wrong_damaged}
+use Rattle.base_file.specs.{Alone.IsStoredAlone, Alone.MayStandAlone, Alone.cursor_alone, BaseFile.has_wrong_form, BaseFile.is_damaged, BaseFile.stored_at, Loading.is_wrong}
+use Rattle.base_file.proofs.{Saved.not_damaged, Saved.size_at, Saved.stored_says, SavedAgain.stored_at_back, Verdicts.known_damaged, Verdicts.wrong_damaged}
 
 -- a message at the front of bytes is unique, and so are the bytes after it
 only_front : (s t : Stored) (rest more : List ℕ) → IsStored Second s → IsStored Second t → stored_bytes Second s ++ rest ≡ stored_bytes Second t ++ more → (s ≡ t) × (rest ≡ more)

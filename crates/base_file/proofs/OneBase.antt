@@ -3,8 +3,7 @@ use Rattle.std.proofs.Common.{◌≡◌, ℕ, ◌≤◌, List, length, take, ref
 use Rattle.std.proofs.lemmas.List.{take_all}
 use Rattle.echo_packet.specs.Header.{AreBytes}
 use Rattle.echo_filed.specs.Filed.{Filed}
-use Rattle.base_file.specs.declared.fault.BaseFault.{BaseFault}
-use Rattle.base_file.specs.BaseFile.{BaseFaultOf, BaseOf, LoadOf, Loaded}
+use Rattle.base_file.specs.{declared.fault.BaseFault.BaseFault, BaseFile.BaseFaultOf, BaseFile.BaseOf, BaseFile.LoadOf, BaseFile.Loaded}
 use Rattle.base_file.proofs.Loading.{only_outcome}
 
 -- two bases in front of the same bytes

@@ -1,21 +1,14 @@
 -- Judging a base file in pieces, and the result for all its bytes.
 use Rattle.std.proofs.Common.{◌≡◌, ℕ, ◌-◌, ◌≤◌, Bool, false, List, [], ◌∷◌, ◌++◌, length, map, take, drop, refl, sym, ap, ◌∙◌, Result, Ok, Err, arith}
-use Rattle.std.specs.Prelude.{IfOk}
 use Rattle.std.proofs.lemmas.List.{append_assoc, drop-append-le, length-append, length-map, take-append-drop, take-append-le, take_at}
+use Rattle.std.specs.Prelude.{IfOk}
 use Rattle.echo_packet.specs.Header.{AreBytes}
-use Rattle.echo_filed.specs.Filed.{key_of}
-use Rattle.echo_filed.specs.declared.key.Key.{Key}
-use Rattle.echo_filed.specs.declared.stored.Version.{Version}
-use Rattle.echo_filed.specs.declared.stored.Version.TheVariants.{First, Second}
 use Rattle.echo_filed.specs.Stored.{IsStored, Stored, long_at, message_in, stored_bytes}
-use Rattle.base_file.specs.declared.base.loading.Head.{Head}
-use Rattle.base_file.specs.declared.piece.Next.{Next}
-use Rattle.base_file.specs.declared.piece.Next.TheVariants as next
-use Rattle.base_file.specs.Base.{is_known}
-use Rattle.base_file.specs.BaseFile.{Begins, head_bytes, magic}
+use Rattle.echo_filed.specs.{Filed.key_of, declared.key.Key.Key, declared.stored.Version.Version, declared.stored.Version.TheVariants.First, declared.stored.Version.TheVariants.Second}
+use Rattle.base_file.specs.{declared.base.loading.Head.Head, declared.piece.Next.Next, Base.is_known, BaseFile.Begins, BaseFile.head_bytes, BaseFile.magic}
 use Rattle.base_file.specs.Pieces.{BeginsWith, IsJudged, IsNext, JudgesOne}
-use Rattle.base_file.proofs.Loading.{begins_more, has_head}
-use Rattle.base_file.proofs.Verdicts.{known_damaged}
+use Rattle.base_file.specs.declared.piece.Next.TheVariants as next
+use Rattle.base_file.proofs.{Loading.begins_more, Loading.has_head, Verdicts.known_damaged}
 
 -- the bytes of a message are in front
 judged_here : (version : Version) (cursor place : ℕ) (bytes rest : List ℕ) (s : Stored) (j : Next) → IsStored version s → bytes ≡ stored_bytes version s ++ rest

@@ -1,18 +1,11 @@
 -- A purge of the messages before the cursor, from the last of them to the first.
 use Rattle.std.proofs.Common.{◌≡◌, ℕ, zero, suc, ◌+◌, ◌-◌, ◌<◌, ◌≤◌, not, Bool, true, false, cond, List, [], ◌∷◌, ◌++◌, length, map, take, drop, get_or, set, Some, refl, sym, ap, ◌∙◌, arith, add-one, count_by}
-use Rattle.std.specs.Prelude.{filter, slice_get}
-use Rattle.std.specs.Map.{values_of}
-use Rattle.std.specs.List.{AllByRecursion}
-use Rattle.std.proofs.lemmas.Bool.{cond-false}
 use Rattle.std.proofs.lemmas.List.{append-nil, append_assoc, get_or-take, length-take, length-append, length-map, map-append, take-append-drop, take_more}
-use Rattle.std.proofs.lemmas.List.Elements.{filter-append}
-use Rattle.std.proofs.lemmas.Option.{get_or_from_slice_get, slice_get-get_or, slice_get_within}
-use Rattle.std.proofs.lemmas.List.Sums.{length-filter}
-use Rattle.std.proofs.Math.ListN.{get_or-append}
-use Rattle.std.proofs.Math.Seq.{drop-cons, set-append_seam}
+use Rattle.std.proofs.lemmas.{Bool.cond-false, List.Elements.filter-append, Option.get_or_from_slice_get, Option.slice_get-get_or, Option.slice_get_within, List.Sums.length-filter}
+use Rattle.std.proofs.Math.{ListN.get_or-append, Seq.drop-cons, Seq.set-append_seam}
+use Rattle.std.specs.{Prelude.filter, Prelude.slice_get, Map.values_of, List.AllByRecursion}
 use Rattle.indexmap.specs.IndexMap.{set_value_at}
-use Rattle.echo_filed.specs.Filed.{Filed}
-use Rattle.echo_filed.specs.Stubs.{is_stub, lines_left, stub_of}
+use Rattle.echo_filed.specs.{Filed.Filed, Stubs.is_stub, Stubs.lines_left, Stubs.stub_of}
 use Rattle.echo_filed.proofs.StubTests.{stays}
 
 -- a value written at a place

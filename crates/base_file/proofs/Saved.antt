@@ -1,30 +1,18 @@
 -- The saved bytes of a base are a base file of it.
 use Rattle.std.proofs.Common.{◌≡◌, ◌≢◌, ℕ, suc, codes, ◌+◌, ◌^◌, ◌<◌, ◌≤◌, ◌==◌, ◌&&◌, ◌||◌, not, nat_lt, nat_le, Bool, true, false, cond, List, [], ◌∷◌, ◌++◌, length, map, refl, sym, ap, subst, ◌∙◌, Option, Some, None, Ok, arith, lit<}
-use Rattle.std.specs.Prelude.{bytes_eq, is_some, is_none, ⊤}
-use Rattle.std.specs.Cmp.Lexicographic.{pointwise, bytes_decides}
-use Rattle.std.specs.List.{AllByRecursion, list_all, list_any}
 use Rattle.std.proofs.lemmas.Bool.{and_from, and_parts, cond-false, cond-true, eqb-true, le-ltb, leb-true, ltb-true, true≢false, ne_eqb, not_from_true, not_from_false, or_from}
-use Rattle.std.proofs.lemmas.List.Elements.{recursion_from_All}
-use Rattle.std.proofs.lemmas.List.{append-nil, length-append, nil_from_length, take_at}
+use Rattle.std.proofs.lemmas.List.{Elements.recursion_from_All, append-nil, length-append, nil_from_length, take_at}
+use Rattle.std.specs.{Prelude.bytes_eq, Prelude.is_some, Prelude.is_none, Prelude.⊤, Cmp.Lexicographic.pointwise, Cmp.Lexicographic.bytes_decides, List.AllByRecursion, List.list_all, List.list_any}
 use Rattle.echo_addr.specs.declared.address.Address.{Address}
 use Rattle.echo_packet.specs.Message.{HasNoZero}
-use Rattle.echo_text.specs.Lines.{is_tag, msgid_word, trimmed}
-use Rattle.echo_text.specs.Echo.{EchoText, IsEcho, IsLine, msgid_of}
-use Rattle.echo_text.specs.Refusal.{text_refusal}
-use Rattle.echo_text.specs.Ids.{is_line_byte, is_zero}
-use Rattle.echo_filed.specs.Written.{echo_of, text_of}
+use Rattle.echo_text.specs.{Lines.is_tag, Lines.msgid_word, Lines.trimmed, Echo.EchoText, Echo.IsEcho, Echo.IsLine, Echo.msgid_of, Refusal.text_refusal, Ids.is_line_byte, Ids.is_zero}
 use Rattle.echo_filed.specs.Filed.{Filed, HasSmallSender, IsFiled, id_line, key_of}
-use Rattle.echo_filed.specs.Stubs.{bare, is_stub, is_stub_with}
-use Rattle.echo_filed.specs.declared.stored.Version.TheVariants.{Second}
 use Rattle.echo_filed.specs.Stored.{IsStored, echo_in, has_tag, is_posted, is_short, is_short_enough, kind_of, message_in, sender_or_zeros, stored_as}
-use Rattle.echo_filed.proofs.Keys.{lines_decide, msgid_is_id}
-use Rattle.echo_filed.proofs.Trims.{trimmed_same}
-use Rattle.echo_filed.proofs.Plain.{IsLineByte, Plain}
-use Rattle.echo_filed.proofs.Bytes.{none_zero, text_no_zero}
-use Rattle.echo_filed.proofs.Texts.{written_accepted, written_back}
+use Rattle.echo_filed.specs.{Written.echo_of, Written.text_of, Stubs.bare, Stubs.is_stub, Stubs.is_stub_with, declared.stored.Version.TheVariants.Second}
+use Rattle.echo_filed.proofs.{Keys.lines_decide, Keys.msgid_is_id, Trims.trimmed_same, Plain.IsLineByte, Plain.Plain, Bytes.none_zero, Bytes.text_no_zero, Texts.written_accepted, Texts.written_back}
 use Rattle.echo_filed.proofs.Sendings.{tagged}
-use Rattle.base_file.specs.Base.{AreNew, IsBase, is_known}
 use Rattle.base_file.specs.BaseFile.{AreSound, BaseOf, LoadOf, has_wrong_form, has_wrong_last, has_wrong_sender, has_wrong_string, is_countable, is_damaged, is_no_string, is_other_kind, is_wrong_id, is_wrong_text, saved_bytes, stored_at, stored_from}
+use Rattle.base_file.specs.Base.{AreNew, IsBase, is_known}
 
 known_kind : (short : Bool) (sender : Option Address) → is_other_kind Second (kind_of short sender) ≡ false
 known_kind h1 h2 = grind arith

@@ -1,21 +1,12 @@
 -- A base file of version 2 that was read is saved as the same bytes.
 use Rattle.std.proofs.Common.{◌≡◌, ℕ, ◌+◌, ◌^◌, ◌<◌, ◌≤◌, ◌==◌, ◌&&◌, ◌||◌, not, nat_lt, Bool, true, false, cond, List, [], ◌∷◌, ◌++◌, length, get_or, map, take, refl, sym, ap, subst, ◌∙◌, Option, Some, None, arith, eqb-true}
-use Rattle.std.specs.Prelude.{bytes_eq, is_none, unwrap_or}
-use Rattle.std.specs.Cmp.Lexicographic.{bytes_decides}
-use Rattle.std.specs.List.{AllByRecursion, flat_map, list_all, list_any}
 use Rattle.std.proofs.lemmas.Bool.{and_from, and_parts, lt-ltb, ltb-false, not-false, or_parts}
 use Rattle.std.proofs.lemmas.List.{append-nil, length-append, length-map}
+use Rattle.std.specs.{Prelude.bytes_eq, Prelude.is_none, Prelude.unwrap_or, Cmp.Lexicographic.bytes_decides, List.AllByRecursion, List.flat_map, List.list_all, List.list_any}
 use Rattle.echo_addr.specs.declared.address.Address.{Address}
-use Rattle.echo_text.specs.Lines.{is_tag}
-use Rattle.echo_text.specs.Echo.{EchoText, msgid_of}
-use Rattle.echo_text.specs.Ids.{is_zero}
-use Rattle.echo_text.specs.Refusal.{text_refusal}
-use Rattle.echo_filed.specs.Written.{echo_of, text_of}
-use Rattle.echo_filed.specs.Filed.{Filed}
-use Rattle.echo_filed.specs.Stubs.{bare}
-use Rattle.echo_filed.specs.declared.stored.Version.{Version}
-use Rattle.echo_filed.specs.declared.stored.Version.TheVariants.{Second}
+use Rattle.echo_text.specs.{Lines.is_tag, Echo.EchoText, Echo.msgid_of, Ids.is_zero, Refusal.text_refusal}
 use Rattle.echo_filed.specs.Stored.{IsStored, Stored, has_tag, is_posted, is_short, is_short_enough, kind_of, message_in, sender_or_zeros, stored_as, stored_bytes}
+use Rattle.echo_filed.specs.{Written.echo_of, Written.text_of, Filed.Filed, Stubs.bare, declared.stored.Version.Version, declared.stored.Version.TheVariants.Second}
 use Rattle.base_file.proofs.ShortForms.{id_reported}
 use Rattle.base_file.specs.BaseFile.{AreSound, BaseOf, has_wrong_form, has_wrong_last, has_wrong_sender, has_wrong_string, head_bytes, is_countable, is_damaged, is_other_kind, is_wrong_id, is_wrong_text, magic, saved_bytes, stored_at, stored_from}
 

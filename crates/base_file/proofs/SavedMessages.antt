@@ -1,16 +1,9 @@
 -- The messages of a base as they are stored, one after the other.
 use Rattle.std.proofs.Common.{◌≡◌, ℕ, suc, ◌+◌, ◌^◌, ◌<◌, ◌≤◌, ◌&&◌, nat_lt, Bool, true, false, List, [], ◌∷◌, ◌++◌, length, take, drop, refl, sym, ap, ◌∙◌, Some, arith}
-use Rattle.std.specs.Prelude.{slice_get}
-use Rattle.std.specs.List.{flat_map, list_all}
-use Rattle.std.proofs.lemmas.Bool.{and_from, and_parts, lt-ltb, le-ltb}
-use Rattle.std.proofs.lemmas.Grind.{flat_map-append}
-use Rattle.std.proofs.lemmas.List.{append-nil, length-take-le, take-append-drop}
-use Rattle.std.proofs.lemmas.List.Folds.{list_all-append}
-use Rattle.std.proofs.lemmas.Option.{get_or_from_slice_get, slice_get_within}
-use Rattle.std.proofs.Math.Seq.{drop-cons}
-use Rattle.echo_filed.specs.Filed.{Filed}
-use Rattle.echo_filed.specs.declared.stored.Version.TheVariants.{Second}
-use Rattle.echo_filed.specs.Stored.{is_short, is_short_enough, stored_as, stored_bytes}
+use Rattle.std.proofs.lemmas.{Bool.and_from, Bool.and_parts, Bool.lt-ltb, Bool.le-ltb, Grind.flat_map-append, List.append-nil, List.length-take-le, List.take-append-drop, List.Folds.list_all-append}
+use Rattle.std.proofs.{lemmas.Option.get_or_from_slice_get, lemmas.Option.slice_get_within, Math.Seq.drop-cons}
+use Rattle.std.specs.{Prelude.slice_get, List.flat_map, List.list_all}
+use Rattle.echo_filed.specs.{Filed.Filed, declared.stored.Version.TheVariants.Second, Stored.is_short, Stored.is_short_enough, Stored.stored_as, Stored.stored_bytes}
 use Rattle.base_file.specs.BaseFile.{head_bytes, is_countable, saved_bytes, stored_at, stored_from}
 use Rattle.base_file.proofs.Purges.{front_more}
 

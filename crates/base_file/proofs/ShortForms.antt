@@ -1,23 +1,12 @@
 -- A message with tag and id instead of the text.
 use Rattle.std.proofs.Common.{◌≡◌, ℕ, ◌<◌, ◌==◌, ◌&&◌, ◌||◌, not, nat_lt, Bool, true, false, List, [], ◌∷◌, length, refl, sym, ap, subst, ◌∙◌, Some, arith}
-use Rattle.std.specs.Prelude.{bytes_eq}
-use Rattle.std.specs.Cmp.Lexicographic.{bytes_decides, pointwise}
-use Rattle.std.specs.List.{list_all}
 use Rattle.std.proofs.lemmas.Bool.{cond-true, not-false, or_parts, true≢false}
-use Rattle.echo_text.specs.Lines.{msgid_word, trimmed}
-use Rattle.echo_text.specs.Echo.{EchoText, msgid_of}
-use Rattle.echo_text.specs.Ids.{is_line_byte}
-use Rattle.echo_filed.specs.declared.key.Key.TheVariants.{ById}
-use Rattle.echo_filed.specs.Filed.{Filed, id_line, key_of, key_with}
-use Rattle.echo_filed.specs.Stubs.{bare, is_stub}
-use Rattle.echo_filed.specs.Written.{echo_of}
-use Rattle.echo_filed.specs.declared.stored.Version.{Version}
+use Rattle.std.specs.{Prelude.bytes_eq, Cmp.Lexicographic.bytes_decides, Cmp.Lexicographic.pointwise, List.list_all}
+use Rattle.echo_text.specs.{Lines.msgid_word, Lines.trimmed, Echo.EchoText, Echo.msgid_of, Ids.is_line_byte}
+use Rattle.echo_filed.specs.{declared.key.Key.TheVariants.ById, Filed.Filed, Filed.id_line, Filed.key_of, Filed.key_with, Stubs.bare, Stubs.is_stub, Written.echo_of, declared.stored.Version.Version}
 use Rattle.echo_filed.specs.Stored.{Stored, has_tag, message_in}
-use Rattle.echo_filed.proofs.Keys.{lines_decide, msgid_first}
-use Rattle.echo_filed.proofs.Left.{is_stub_reported}
-use Rattle.echo_filed.proofs.Trims.{IsTrim, trimmed_trim}
-use Rattle.base_file.specs.BaseFile.{is_wrong_id}
-use Rattle.base_file.specs.Loading.{IsShortOnceScanned, UnlessWrong, has_wrong_field}
+use Rattle.echo_filed.proofs.{Keys.lines_decide, Keys.msgid_first, Left.is_stub_reported, Trims.IsTrim, Trims.trimmed_trim}
+use Rattle.base_file.specs.{BaseFile.is_wrong_id, Loading.IsShortOnceScanned, Loading.UnlessWrong, Loading.has_wrong_field}
 
 some : (l : List ℕ) → (length l == 0) ≡ false → 0 < length l
 some [] h = absurd (true≢false h)

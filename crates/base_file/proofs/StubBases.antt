@@ -1,19 +1,11 @@
 -- The first messages of a base as stubs.
 use Rattle.std.proofs.Common.{◌≡◌, ℕ, zero, suc, ◌||◌, true, false, List, [], ◌∷◌, ◌++◌, map, take, drop, Option, Some, None, refl, sym, ap, subst, ◌∙◌, arith}
-use Rattle.std.specs.Prelude.{bytes_eq}
-use Rattle.std.specs.List.{AllByRecursion, list_any}
-use Rattle.std.specs.Map.{keys_of, values_of}
 use Rattle.std.proofs.lemmas.List.{length-append, length-drop, length-map, length-take}
+use Rattle.std.specs.{Prelude.bytes_eq, List.AllByRecursion, List.list_any, Map.keys_of, Map.values_of}
 use Rattle.echo_text.specs.Echo.{msgid_of}
-use Rattle.echo_filed.specs.declared.key.Key.{Key}
-use Rattle.echo_filed.specs.Filed.{Filed, IsFiled, key_of, same_key}
-use Rattle.echo_filed.specs.Stubs.{is_stub, stub_of, stub_with}
-use Rattle.echo_filed.proofs.Keys.{stub_keeps_key, stub_of_stub}
-use Rattle.echo_filed.proofs.Plain.{all_append}
-use Rattle.echo_filed.proofs.Stubs.{stub_filed}
-use Rattle.echo_filed.proofs.StubTests.{stub_reported}
-use Rattle.base_file.specs.Base.{AreNew, IsBase, is_known}
-use Rattle.base_file.specs.Entries.{AreEntries, HasTagIn}
+use Rattle.echo_filed.specs.{declared.key.Key.Key, Filed.Filed, Filed.IsFiled, Filed.key_of, Filed.same_key, Stubs.is_stub, Stubs.stub_of, Stubs.stub_with}
+use Rattle.echo_filed.proofs.{Keys.stub_keeps_key, Keys.stub_of_stub, Plain.all_append, Stubs.stub_filed, StubTests.stub_reported}
+use Rattle.base_file.specs.{Base.AreNew, Base.IsBase, Base.is_known, Entries.AreEntries, Entries.HasTagIn}
 
 stubs_filed : (base : List Filed) → AllByRecursion IsFiled base → AllByRecursion IsFiled (map stub_of base)
 stubs_filed [] h = tt

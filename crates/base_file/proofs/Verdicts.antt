@@ -1,23 +1,14 @@
 -- The tests that decide if a stored message may be next in a base.
 use Rattle.std.proofs.Common.{◌≡◌, ◌==◌, ℕ, ◌||◌, not, Bool, true, false, List, [], ◌∷◌, length, sym, ap, subst, ◌∙◌, Option, Some, arith}
-use Rattle.std.specs.Prelude.{bytes_eq}
-use Rattle.std.specs.List.{list_all, list_any}
 use Rattle.std.proofs.lemmas.Bool.{not-false, or_parts}
-use Rattle.echo_addr.specs.declared.address.Address.{Address}
-use Rattle.echo_addr.specs.declared.address.NetNode.{NetNode}
-use Rattle.echo_text.specs.Lines.{is_tag, msgid_word, trimmed}
-use Rattle.echo_text.specs.Echo.{EchoOf, EchoText, IsEcho}
-use Rattle.echo_text.specs.Ids.{is_line_byte, is_zero}
-use Rattle.echo_filed.specs.Filed.{Filed, IsFiled, id_line, key_of}
-use Rattle.echo_filed.specs.Written.{text_of}
-use Rattle.echo_filed.specs.declared.stored.Version.{Version}
+use Rattle.std.specs.{Prelude.bytes_eq, List.list_all, List.list_any}
+use Rattle.echo_addr.specs.declared.address.{Address.Address, NetNode.NetNode}
+use Rattle.echo_text.specs.{Lines.is_tag, Lines.msgid_word, Lines.trimmed, Echo.EchoOf, Echo.EchoText, Echo.IsEcho, Ids.is_line_byte, Ids.is_zero}
 use Rattle.echo_filed.specs.Stored.{IsStored, Stored, has_tag, message_in, sender_in}
-use Rattle.echo_filed.proofs.Plain.{plain_if}
-use Rattle.echo_filed.proofs.Stubs.{bare_echo}
-use Rattle.echo_filed.proofs.Texts.{says_accepted, says_one}
-use Rattle.base_file.specs.Base.{is_known}
+use Rattle.echo_filed.specs.{Filed.Filed, Filed.IsFiled, Filed.id_line, Filed.key_of, Written.text_of, declared.stored.Version.Version}
+use Rattle.echo_filed.proofs.{Plain.plain_if, Stubs.bare_echo, Texts.says_accepted, Texts.says_one}
 use Rattle.base_file.specs.BaseFile.{has_wrong_form, has_wrong_last, has_wrong_sender, has_wrong_string, is_damaged, is_other_kind, is_wrong_id, is_wrong_text}
-use Rattle.base_file.specs.Loading.{UnlessWrong, is_wrong, said_last, wrong_last}
+use Rattle.base_file.specs.{Base.is_known, Loading.UnlessWrong, Loading.is_wrong, Loading.said_last, Loading.wrong_last}
 use Rattle.base_file.proofs.Loaded.{filed_with, right_last}
 
 -- a text that parses is wrong if the tosser writes it in another way

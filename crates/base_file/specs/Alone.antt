@@ -1,8 +1,7 @@
 -- A single message.
 use Rattle.std.specs.Prelude.{◌≡◌, ℕ, false, List, [], if◌then◌else◌, Option, Some, None}
-use Rattle.echo_filed.specs.Filed.{Filed}
 use Rattle.echo_filed.specs.Stored.{IsStored, Stored, has_tag, message_in, stored_bytes}
-use Rattle.echo_filed.specs.declared.stored.Version.TheVariants.{Second}
+use Rattle.echo_filed.specs.{Filed.Filed, declared.stored.Version.TheVariants.Second}
 use Rattle.base_file.specs.BaseFile.{is_damaged}
 
 -- The cursor of a base file with only this message: 1 if it has tag and id instead of the text, since then it was scanned.

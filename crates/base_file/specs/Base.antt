@@ -1,8 +1,7 @@
 -- Bases: filed messages in order, and a cursor.
 use Rattle.std.specs.Prelude.{◌≡◌, ◌≤◌, ⊤, ℕ, ◌∷◌, ◌++◌, length, Bool, false, List, []}
 use Rattle.std.specs.List.{AllByRecursion, list_any}
-use Rattle.echo_filed.specs.declared.key.Key.{Key}
-use Rattle.echo_filed.specs.Filed.{Filed, IsFiled, key_of, same_key}
+use Rattle.echo_filed.specs.{declared.key.Key.Key, Filed.Filed, Filed.IsFiled, Filed.key_of, Filed.same_key}
 
 -- A message of the base has the key.
 abbrev pub is_known : List Filed → Key → Bool

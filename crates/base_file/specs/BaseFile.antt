@@ -2,17 +2,12 @@
 use Rattle.std.specs.Prelude.{◌≡◌, ℕ, ◌+◌, ◌^◌, ◌<◌, ◌≤◌, ◌⊎◌, ⊤, ◌==◌, ◌||◌, ◌&&◌, not, nat_eq, nat_lt, Bool, true, false, List, [], ◌∷◌, ◌++◌, map, length, take, codes, if◌then◌else◌, is_none, Result, Ok, Err, bytes_eq}
 use Rattle.std.specs.List.{AllByRecursion, flat_map, list_all, list_any, starts_with}
 use Rattle.echo_packet.specs.Message.{max_name, max_subject}
-use Rattle.echo_text.specs.Lines.{is_tag, trimmed}
-use Rattle.echo_text.specs.Refusal.{text_refusal}
-use Rattle.echo_text.specs.Ids.{is_line_byte, is_zero}
-use Rattle.echo_filed.specs.Written.{echo_of, text_of}
-use Rattle.echo_filed.specs.Filed.{Filed, key_of}
-use Rattle.echo_filed.specs.declared.stored.Version.{Version}
-use Rattle.echo_filed.specs.declared.stored.Version.TheVariants.{First, Second}
+use Rattle.echo_text.specs.{Lines.is_tag, Lines.trimmed, Refusal.text_refusal, Ids.is_line_byte, Ids.is_zero}
 use Rattle.echo_filed.specs.Stored.{IsStored, Stored, has_tag, is_posted, is_short, is_short_enough, long, long_at, message_in, stored_as, stored_bytes}
-use Rattle.base_file.specs.declared.fault.BaseFault.{BaseFault}
+use Rattle.echo_filed.specs.{Written.echo_of, Written.text_of, Filed.Filed, Filed.key_of, declared.stored.Version.Version}
+use Rattle.echo_filed.specs.declared.stored.Version.TheVariants.{First, Second}
+use Rattle.base_file.specs.{declared.fault.BaseFault.BaseFault, Base.is_known}
 use Rattle.base_file.specs.declared.fault.BaseFault.TheVariants as fault
-use Rattle.base_file.specs.Base.{is_known}
 
 -- The first bytes of a base file.
 abbrev pub magic : Version → List ℕ

@@ -1,12 +1,7 @@
 -- A base in memory: its messages by their keys, and their tags.
 use Rattle.std.specs.Prelude.{◌≡◌, ◌≤◌, ℕ, true, List, map, take, bytes_eq}
-use Rattle.std.specs.List.{AllByRecursion, list_any}
-use Rattle.std.specs.Ordering.{is_eq, nat_cmp}
-use Rattle.std.specs.Cmp.Lexicographic.{slice_cmp}
-use Rattle.std.specs.Map.{keys_of, values_of}
-use Rattle.echo_filed.specs.declared.key.Key.{Key}
-use Rattle.echo_filed.specs.Filed.{Filed, key_of}
-use Rattle.echo_filed.specs.Stubs.{is_stub}
+use Rattle.std.specs.{List.AllByRecursion, List.list_any, Ordering.is_eq, Ordering.nat_cmp, Cmp.Lexicographic.slice_cmp, Map.keys_of, Map.values_of}
+use Rattle.echo_filed.specs.{declared.key.Key.Key, Filed.Filed, Filed.key_of, Stubs.is_stub}
 use Rattle.base_file.specs.Base.{IsBase}
 
 -- The tag of the message is in the list.

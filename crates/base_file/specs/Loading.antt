@@ -1,25 +1,15 @@
 -- The answers of loading a base.
 use Rattle.std.specs.Prelude.{◌≡◌, ℕ, ◌^◌, ◌<◌, ◌≤◌, ◌⊎◌, ◌||◌, not, nat_lt, Bool, true, false, List, [], ◌∷◌, ◌++◌, length, if◌then◌else◌, Option, Some, None, IfSome, Result, Ok, Err, map}
-use Rattle.std.specs.List.{AllByRecursion, flat_map}
-use Rattle.std.specs.Io.KnownBytes.{Consumes, IsAtEnd}
-use Rattle.disk_io.specs.Device.{Failed}
+use Rattle.std.specs.{List.AllByRecursion, List.flat_map, Io.KnownBytes.Consumes, Io.KnownBytes.IsAtEnd}
+use Rattle.disk_io.specs.{Device.Failed, declared.fixed.Broken.Broken}
 use Rattle.echo_packet.specs.Field.{Consumed}
-use Rattle.echo_text.specs.Lines.{is_tag}
-use Rattle.echo_text.specs.Echo.{EchoText}
-use Rattle.disk_io.specs.declared.fixed.Broken.{Broken}
+use Rattle.echo_text.specs.{Lines.is_tag, Echo.EchoText}
 use Rattle.disk_io.specs.declared.fixed.Broken.TheVariants as broken
-use Rattle.echo_filed.specs.declared.key.Key.{Key}
-use Rattle.echo_filed.specs.Filed.{Filed, key_of}
-use Rattle.echo_filed.specs.Stubs.{bare}
-use Rattle.echo_filed.specs.Written.{echo_of}
-use Rattle.echo_filed.specs.declared.stored.Version.{Version}
 use Rattle.echo_filed.specs.Stored.{IsStored, Stored, is_short, message_in, stored_bytes}
-use Rattle.echo_filed.specs.Fields.{StopsIn}
-use Rattle.base_file.specs.declared.fault.BaseFault.{BaseFault}
-use Rattle.base_file.specs.declared.fault.BaseFault.TheVariants as fault
-use Rattle.base_file.specs.declared.base.loading.Head.{Head}
-use Rattle.base_file.specs.Base.{Base}
+use Rattle.echo_filed.specs.{declared.key.Key.Key, Filed.Filed, Filed.key_of, Stubs.bare, Written.echo_of, declared.stored.Version.Version, Fields.StopsIn}
 use Rattle.base_file.specs.BaseFile.{AreSound, BaseFaultOf, BaseOf, Loaded, has_wrong_form, has_wrong_last, has_wrong_sender, has_wrong_string, head_bytes, is_damaged, is_front, is_other_kind, is_wrong_id, is_wrong_text, magic}
+use Rattle.base_file.specs.{declared.fault.BaseFault.BaseFault, declared.base.loading.Head.Head, Base.Base}
+use Rattle.base_file.specs.declared.fault.BaseFault.TheVariants as fault
 
 -- The value, or `None` if it is wrong.
 abbrev pub UnlessWrong : {X : Type 0} → Bool → X → Option X → Type 0

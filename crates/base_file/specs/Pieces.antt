@@ -1,18 +1,10 @@
 -- Judging a base file in pieces.
 use Rattle.std.specs.Prelude.{◌≡◌, ℕ, ◌^◌, ◌<◌, ◌≤◌, Bool, true, false, List, ◌++◌, length, take, drop}
-use Rattle.echo_filed.specs.declared.key.Key.{Key}
-use Rattle.echo_filed.specs.declared.stored.Version.{Version}
-use Rattle.echo_filed.specs.declared.stored.Version.TheVariants.{Second}
-use Rattle.echo_filed.specs.Fields.{StopsIn}
-use Rattle.echo_filed.specs.Filed.{key_of}
 use Rattle.echo_filed.specs.Stored.{IsStored, Stored, is_short, message_in, stored_bytes}
-use Rattle.base_file.specs.declared.fault.BaseFault.{BaseFault}
+use Rattle.echo_filed.specs.{declared.key.Key.Key, declared.stored.Version.Version, declared.stored.Version.TheVariants.Second, Fields.StopsIn, Filed.key_of}
+use Rattle.base_file.specs.{declared.fault.BaseFault.BaseFault, declared.base.loading.Head.Head, declared.piece.Next.Next, BaseFile.IsNoBase, BaseFile.head_bytes, BaseFile.is_front, Loading.is_wrong}
 use Rattle.base_file.specs.declared.fault.BaseFault.TheVariants as fault
-use Rattle.base_file.specs.declared.base.loading.Head.{Head}
-use Rattle.base_file.specs.declared.piece.Next.{Next}
 use Rattle.base_file.specs.declared.piece.Next.TheVariants as next
-use Rattle.base_file.specs.BaseFile.{IsNoBase, head_bytes, is_front}
-use Rattle.base_file.specs.Loading.{is_wrong}
 
 -- The bytes begin with this head.
 pub record BeginsWith (head : Head) (bytes : List ℕ) : Type 0 where

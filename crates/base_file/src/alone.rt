@@ -1,7 +1,6 @@
 //! One message by itself, read from its own bytes.
 ghost use Rattle.std.specs.Prelude.{◌≡◌, if◌then◌else◌, IfOk};
-ghost use Rattle.echo_filed.specs.Stored.{has_tag};
-ghost use Rattle.echo_filed.specs.declared.stored.Version.TheVariants.{Second};
+ghost use Rattle.echo_filed.specs.{Stored.has_tag, declared.stored.Version.TheVariants.Second};
 ghost use Rattle.base_file.specs.Alone.{IsReadAlone};
 
 use crate::judging::sound_message;

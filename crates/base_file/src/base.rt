@@ -1,10 +1,7 @@
 ghost use Rattle.std.specs.Prelude.{◌≡◌, ℕ, List, not, [], ◌∷◌, ◌++◌, false, true, bytes_eq, length, map, take, drop, count_by, slice_get, option_copied, if◌then◌else◌, IsTrue, IfOk, OnOk, OnErr};
-ghost use Rattle.std.specs.List.{AllByRecursion, list_any};
-ghost use Rattle.std.specs.Map.{keys_of, values_of};
-ghost use Rattle.echo_filed.specs.Filed.{has_id, key_of};
-ghost use Rattle.echo_filed.specs.Stubs.{is_stub, stub_of};
-ghost use Rattle.base_file.specs.Entries.{HasTagIn};
-ghost use Rattle.base_file.specs.Base.{IsBase, is_known};
+ghost use Rattle.std.specs.{List.AllByRecursion, List.list_any, Map.keys_of, Map.values_of};
+ghost use Rattle.echo_filed.specs.{Filed.has_id, Filed.key_of, Stubs.is_stub, Stubs.stub_of};
+ghost use Rattle.base_file.specs.{Entries.HasTagIn, Base.IsBase, Base.is_known};
 
 mod loading;
 mod saving;

@@ -1,14 +1,8 @@
 //! Decides whether a stored message may be in a base, and which message it is.
 ghost use Rattle.std.specs.Prelude.{◌≡◌, ◌||◌, not, bytes_eq, false, None, Some, if◌then◌else◌, IfOk, IsTrue};
 ghost use Rattle.std.specs.List.{list_all};
-ghost use Rattle.echo_text.specs.Lines.{is_tag};
-ghost use Rattle.echo_text.specs.Echo.{IsEcho};
-ghost use Rattle.echo_text.specs.Ids.{is_line_byte};
-ghost use Rattle.echo_filed.specs.Written.{echo_of, text_of};
-ghost use Rattle.echo_filed.specs.declared.key.Key.TheVariants.{ById};
-ghost use Rattle.echo_filed.specs.Filed.{key_of};
-ghost use Rattle.echo_filed.specs.Stubs.{bare};
-ghost use Rattle.echo_filed.specs.Stored.{IsStored, is_posted, message_in};
+ghost use Rattle.echo_text.specs.{Lines.is_tag, Echo.IsEcho, Ids.is_line_byte};
+ghost use Rattle.echo_filed.specs.{Written.echo_of, Written.text_of, declared.key.Key.TheVariants.ById, Filed.key_of, Stubs.bare, Stored.IsStored, Stored.is_posted, Stored.message_in};
 ghost use Rattle.base_file.specs.BaseFile.{has_wrong_last, has_wrong_sender, has_wrong_string, is_no_string, is_other_kind, is_wrong_id, is_wrong_text};
 ghost use Rattle.base_file.specs.Loading.{IsShortOnceScanned, Judges, UnlessWrong, has_wrong_field, has_wrong_front, is_wrong, said_last, wrong_form, wrong_last};
 

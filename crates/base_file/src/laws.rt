@@ -2,11 +2,9 @@
 
 ghost use Rattle.std.specs.Prelude.{◌≡◌, ℕ, ◌≤◌, List, ◌++◌, length, take, Result, Ok, true};
 ghost use Rattle.echo_packet.specs.Header.{AreBytes};
-ghost use Rattle.echo_filed.specs.Filed.{Filed};
-ghost use Rattle.echo_filed.specs.declared.stored.Version.TheVariants.{Second};
-ghost use Rattle.base_file.specs.declared.fault.BaseFault.{BaseFault};
-ghost use Rattle.base_file.specs.Base.{IsBase};
+ghost use Rattle.echo_filed.specs.{Filed.Filed, declared.stored.Version.TheVariants.Second};
 ghost use Rattle.base_file.specs.BaseFile.{BaseFaultOf, BaseOf, LoadOf, Loaded, is_countable, magic, saved_bytes};
+ghost use Rattle.base_file.specs.{declared.fault.BaseFault.BaseFault, Base.IsBase};
 
 /// The saved bytes of a base are a base file of it, if its counts fit into four bytes: its messages
 /// and the bytes of each text and id. It is read back as this base, whatever follows it.

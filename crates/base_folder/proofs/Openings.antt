@@ -1,39 +1,20 @@
 -- A folder that is opened after looks that change nothing.
 use Rattle.std.proofs.Common.{◌≡◌, ◌≢◌, ◌≤◌, ◌<◌, ◌∙◌, ℕ, Bool, List, Result, Ok, Err, inr, sym, ap, subst, arith}
-use Rattle.std.specs.Result.{IsErrAnd}
-use Rattle.std.specs.Prelude.{◌⊎◌}
-use Rattle.echo_addr.specs.declared.address.Address.{Address}
 use Rattle.std.proofs.lemmas.Bool.{cases_lt}
+use Rattle.std.specs.{Result.IsErrAnd, Prelude.◌⊎◌}
+use Rattle.echo_addr.specs.declared.address.Address.{Address}
 use Rattle.base_file.specs.Base.{Base}
-use Rattle.disk_io.specs.Disk.{DiskState, Files, Honestly, bytes_in}
-use Rattle.disk_io.specs.Runs.{ChangesNothing, LeavesOnly}
+use Rattle.disk_io.specs.{Disk.DiskState, Disk.Files, Disk.Honestly, Disk.bytes_in, Runs.ChangesNothing, Runs.LeavesOnly}
 use Rattle.disk_io.proofs.Moments.{then_run, weaker_run}
-use Rattle.base_log.specs.Names.{keys_of, log_of, messages_of}
-use Rattle.base_log.specs.Standing.{BaseBytes, Represents, base_at}
-use Rattle.base_log.specs.declared.log.End.{End}
-use Rattle.base_log.specs.declared.log.FolderIdentity.{FolderIdentity}
-use Rattle.base_log.specs.declared.log.CommitRecord.{CommitRecord}
-use Rattle.base_log.specs.Opening.{RepresentsOrWasLeft}
-use Rattle.base_log.specs.Reading.{IsLogIn, IsRead}
-use Rattle.base_log.specs.declared.log.Log.{Log}
-use Rattle.base_log.specs.Moments.{KeepsOutside}
-use Rattle.base_log.proofs.Empty.{represented_quiet}
-use Rattle.base_log.proofs.Keeping.{outside_quiet, outside_twice}
-use Rattle.base_log.proofs.Opened.{base_found}
-use Rattle.base_log.proofs.Quiet.{base_quiet}
-use Rattle.base_folder_store.specs.Held.{HoldsBase, RepresentsBase, RepresentsBaseOrWasLeft}
+use Rattle.base_log.specs.{Names.keys_of, Names.log_of, Names.messages_of, Standing.BaseBytes, Standing.Represents, Standing.base_at, declared.log.End.End, declared.log.FolderIdentity.FolderIdentity}
+use Rattle.base_log.specs.{declared.log.CommitRecord.CommitRecord, Opening.RepresentsOrWasLeft, Reading.IsLogIn, Reading.IsRead, declared.log.Log.Log, Moments.KeepsOutside}
+use Rattle.base_log.proofs.{Empty.represented_quiet, Keeping.outside_quiet, Keeping.outside_twice, Opened.base_found, Quiet.base_quiet}
 use Rattle.base_folder_store.specs.Opened.{IsLogOfBase, IsNamed, IsOpen, IsWritten, committed_by, held_by}
-use Rattle.base_folder_store.specs.Owned.{with_mark}
-use Rattle.base_folder_store.specs.declared.folder.Folder.{Folder}
-use Rattle.base_folder_store.proofs.Claimed.{claimed_holds, claimed_open}
-use Rattle.base_folder_store.proofs.Bases.{opened_run}
-use Rattle.base_folder_store.proofs.Waits.{written_held}
+use Rattle.base_folder_store.specs.{Held.HoldsBase, Held.RepresentsBase, Held.RepresentsBaseOrWasLeft, Owned.with_mark, declared.folder.Folder.Folder}
+use Rattle.base_folder_store.proofs.{Claimed.claimed_holds, Claimed.claimed_open, Bases.opened_run, Waits.written_held}
 use Rattle.base_folder.specs.Ours.{IsLeftAlone, IsMarkOfOther, IsNotOurs, IsOfOther, IsOtherOwner, SameKey, number_of}
-use Rattle.base_folder.specs.OpenError.{HasUnreadCause}
-use Rattle.base_folder.specs.declared.open_error.OpenError.{OpenError}
+use Rattle.base_folder.specs.{OpenError.HasUnreadCause, declared.open_error.OpenError.OpenError, Unopened.HaveRoom, Unopened.OpensOnly, Wrong.IsRecordedBy}
 use Rattle.base_folder.specs.declared.open_error.OpenError.TheVariants as unread
-use Rattle.base_folder.specs.Unopened.{HaveRoom, OpensOnly}
-use Rattle.base_folder.specs.Wrong.{IsRecordedBy}
 use Rattle.base_folder.proofs.Wrongs.{one_end}
 
 -- the files that a crash leaves after the looks

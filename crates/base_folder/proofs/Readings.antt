@@ -1,24 +1,14 @@
 -- A message that is read of a base folder is one of the base that the folder holds.
 use Rattle.std.proofs.Common.{◌≡◌, ◌∙◌, ◌<◌, ◌≤◌, ℕ, List, length, get_or, refl, sym, ap, subst, arith, ⊎_elim}
-use Rattle.std.proofs.lemmas.Bool.{cases_lt}
-use Rattle.std.proofs.lemmas.List.{length-take}
-use Rattle.disk_io.specs.Disk.{DiskState, Honestly, bytes_in}
-use Rattle.disk_io.specs.Runs.{ChangesNothing}
-use Rattle.echo_filed.specs.Filed.{Filed}
-use Rattle.echo_filed.specs.declared.stored.Version.TheVariants.{Second}
-use Rattle.echo_filed.specs.Stored.{Stored, message_in}
+use Rattle.std.proofs.lemmas.{Bool.cases_lt, List.length-take}
+use Rattle.disk_io.specs.{Disk.DiskState, Disk.Honestly, Disk.bytes_in, Runs.ChangesNothing}
+use Rattle.echo_filed.specs.{Filed.Filed, declared.stored.Version.TheVariants.Second, Stored.Stored, Stored.message_in}
 use Rattle.base_file.specs.Base.{Base}
-use Rattle.base_log.specs.Names.{keys_of}
-use Rattle.base_log.specs.Standing.{BaseBytes, base_at}
+use Rattle.base_log.specs.{Names.keys_of, Standing.BaseBytes, Standing.base_at}
 use Rattle.base_store.specs.Keys.{digested}
 use Rattle.base_store.proofs.Recorded.{recorded_base_each}
-use Rattle.base_folder_store.specs.Held.{HoldsBase, digest_by}
-use Rattle.base_folder_store.specs.Opened.{held_by, path_of}
-use Rattle.base_folder_store.specs.Vouched.{HasDigest, IsLookedAt, IsThere}
-use Rattle.base_folder_store.specs.declared.folder.Folder.{Folder}
-use Rattle.base_folder_store.proofs.Bases.{recorded_where}
-use Rattle.base_folder_store.proofs.Legible.{held_quiet, keys_all, legible_quiet}
-use Rattle.base_folder_store.proofs.Waits.{written_held}
+use Rattle.base_folder_store.specs.{Held.HoldsBase, Held.digest_by, Opened.held_by, Opened.path_of, Vouched.HasDigest, Vouched.IsLookedAt, Vouched.IsThere, declared.folder.Folder.Folder}
+use Rattle.base_folder_store.proofs.{Bases.recorded_where, Legible.held_quiet, Legible.keys_all, Legible.legible_quiet, Waits.written_held}
 use Rattle.base_folder.specs.Source.{LooksAt, SeesBase, SourceState}
 
 -- the message of this number

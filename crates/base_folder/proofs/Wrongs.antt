@@ -2,13 +2,8 @@
 use Rattle.std.proofs.Common.{◌≡◌, ◌∙◌, ℕ, Bool, List, length, sym, ap, ⊎_elim}
 use Rattle.std.proofs.lemmas.Bool.{true≢false}
 use Rattle.disk_io.specs.Disk.{Files, bytes_in}
-use Rattle.base_log.specs.Names.{log_of}
-use Rattle.base_log.specs.Log.{last_recorded, opened}
-use Rattle.base_log.specs.Reading.{ReadsAll}
-use Rattle.base_log.specs.Standing.{BaseBytes, Represents}
-use Rattle.base_log.specs.declared.log.End.{End}
-use Rattle.base_log.proofs.Logs.{one_log}
-use Rattle.base_log.proofs.Opened.{lost_none, read_log}
+use Rattle.base_log.specs.{Names.log_of, Log.last_recorded, Log.opened, Reading.ReadsAll, Standing.BaseBytes, Standing.Represents, declared.log.End.End}
+use Rattle.base_log.proofs.{Logs.one_log, Opened.lost_none, Opened.read_log}
 use Rattle.base_folder.specs.Wrong.{IsFolderLog, IsSound, is_foreign}
 
 -- a log has one end

@@ -1,9 +1,7 @@
 -- The base file of the messages of a base folder.
 use Rattle.std.specs.Prelude.{◌≡◌, ℕ, false}
 use Rattle.disk_io.specs.Device.{Failed}
-use Rattle.base_file.specs.Base.{Base}
-use Rattle.base_file.specs.BaseFile.{is_countable}
-use Rattle.base_file.specs.declared.fault.BaseFault.{BaseFault}
+use Rattle.base_file.specs.{Base.Base, BaseFile.is_countable, declared.fault.BaseFault.BaseFault}
 use Rattle.base_file.specs.declared.fault.BaseFault.TheVariants as fault
 use Rattle.base_store.specs.declared.store_error.StoreError.{StoreError}
 use Rattle.base_store.specs.declared.store_error.StoreError.TheVariants as error

@@ -1,31 +1,17 @@
 -- Filling a base folder with messages.
 use Rattle.std.specs.Prelude.{◌≡◌, ◌≤◌, ◌⊎◌, ℕ, ◌+◌, Bool, List, [], false, length, take, Some, slice_get, Result, IfErr, IsErrOf, OnOk}
 use Rattle.std.specs.List.{AllByRecursion, flat_map}
-use Rattle.base_file.specs.Base.{Base, IsBase, is_known}
-use Rattle.base_file.specs.Alone.{MayStandAlone}
-use Rattle.echo_filed.specs.Filed.{Filed, key_of}
-use Rattle.echo_filed.specs.Stored.{IsStored, Stored, stored_bytes}
-use Rattle.echo_filed.specs.declared.stored.Version.TheVariants.{Second}
-use Rattle.base_log.specs.Moments.{SameOutside}
-use Rattle.base_log.specs.Standing.{BaseBytes, Represents}
-use Rattle.disk_io.specs.Device.{Failed}
-use Rattle.disk_io.specs.Disk.{DiskState, Files, Honestly}
-use Rattle.disk_io.specs.Runs.{LeavesOnly}
-use Rattle.base_folder_store.specs.Added.{HasRoomFor, IsFull}
-use Rattle.base_folder_store.specs.Calls.{StagesOnly}
-use Rattle.base_folder_store.specs.Held.{HoldsBase, RepresentsBase, digest_by}
+use Rattle.base_file.specs.{Base.Base, Base.IsBase, Base.is_known, Alone.MayStandAlone}
+use Rattle.echo_filed.specs.{Filed.Filed, Filed.key_of, Stored.IsStored, Stored.Stored, Stored.stored_bytes, declared.stored.Version.TheVariants.Second}
+use Rattle.base_log.specs.{Moments.SameOutside, Standing.BaseBytes, Standing.Represents}
+use Rattle.disk_io.specs.{Device.Failed, Disk.DiskState, Disk.Files, Disk.Honestly, Runs.LeavesOnly}
 use Rattle.base_folder_store.specs.Opened.{IsNamed, IsOpen, committed_by, held_by, path_of}
-use Rattle.base_folder_store.specs.declared.folder.Folder.{Folder}
+use Rattle.base_folder_store.specs.{Added.HasRoomFor, Added.IsFull, Calls.StagesOnly, Held.HoldsBase, Held.RepresentsBase, Held.digest_by, declared.folder.Folder.Folder}
 use Rattle.base_file.specs.declared.fault.BaseFault.TheVariants as fault
-use Rattle.base_store.specs.Keys.{keys_from}
-use Rattle.base_store.specs.Store.{with_message}
-use Rattle.base_store.specs.declared.store_error.StoreError.{StoreError}
+use Rattle.base_store.specs.{Keys.keys_from, Store.with_message, declared.store_error.StoreError.StoreError}
 use Rattle.base_store.specs.declared.store_error.StoreError.TheVariants as error
-use Rattle.base_folder.specs.OpenError.{IsWrong}
-use Rattle.base_folder.specs.Source.{LooksAt, SourceState}
-use Rattle.base_folder.specs.declared.open_error.OpenError.{OpenError}
+use Rattle.base_folder.specs.{OpenError.IsWrong, Source.LooksAt, Source.SourceState, declared.open_error.OpenError.OpenError, declared.fill_error.FillError.FillError}
 use Rattle.base_folder.specs.declared.open_error.OpenError.TheVariants as unread
-use Rattle.base_folder.specs.declared.fill_error.FillError.{FillError}
 use Rattle.base_folder.specs.declared.fill_error.FillError.TheVariants as unfilled
 
 -- If the old bytes hold a base without the message's key, the new bytes hold it with the message at its end.

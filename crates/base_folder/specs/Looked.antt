@@ -2,17 +2,9 @@
 use Rattle.std.specs.Prelude.{◌≡◌, ◌≤◌, ◌<◌, ◌/◌, ℕ, Bool, List, length, take}
 use Rattle.disk_io.specs.Disk.{DiskState, Files, bytes_in}
 use Rattle.base_file.specs.declared.fault.BaseFault.TheVariants as base
-use Rattle.base_log.specs.Names.{log_of}
-use Rattle.base_log.specs.Standing.{BaseBytes, Represents}
-use Rattle.base_log.specs.Reading.{IsRead, ReadsAll}
-use Rattle.base_log.specs.declared.log.End.{End}
-use Rattle.base_log.specs.declared.log.Log.{Log}
-use Rattle.base_folder_store.specs.Opened.{held_by}
-use Rattle.base_folder_store.specs.Vouched.{HasNone, IsVouched}
-use Rattle.base_folder_store.specs.declared.folder.Folder.{Folder}
-use Rattle.base_folder.specs.OpenError.{IsWrong}
-use Rattle.base_folder.specs.declared.looking.LookedFolder.{LookedFolder}
-use Rattle.base_folder.specs.declared.open_error.OpenError.{OpenError}
+use Rattle.base_log.specs.{Names.log_of, Standing.BaseBytes, Standing.Represents, Reading.IsRead, Reading.ReadsAll, declared.log.End.End, declared.log.Log.Log}
+use Rattle.base_folder_store.specs.{Opened.held_by, Vouched.HasNone, Vouched.IsVouched, declared.folder.Folder.Folder}
+use Rattle.base_folder.specs.{OpenError.IsWrong, declared.looking.LookedFolder.LookedFolder, declared.open_error.OpenError.OpenError}
 use Rattle.base_folder.specs.declared.open_error.OpenError.TheVariants as unread
 
 -- The log was read to the end of its last record, and the bytes include that record.

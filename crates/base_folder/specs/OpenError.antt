@@ -3,14 +3,11 @@ use Rattle.std.specs.Prelude.{◌≡◌, ◌≤◌, ℕ, Bool, List, Result, IsE
 use Rattle.base_file.specs.declared.fault.BaseFault.TheVariants as base
 use Rattle.base_store.specs.declared.store_error.StoreError.{StoreError}
 use Rattle.base_store.specs.declared.store_error.StoreError.TheVariants as store
-use Rattle.disk_io.specs.Device.{Failed}
-use Rattle.disk_io.specs.Disk.{Files}
-use Rattle.disk_io.specs.declared.disk_error.DiskError.{DiskError}
+use Rattle.disk_io.specs.{Device.Failed, Disk.Files, declared.disk_error.DiskError.DiskError}
 use Rattle.disk_io.specs.declared.disk_error.DiskError.TheVariants as disk
 use Rattle.cmd_status.specs.declared.fault.Fault.{Fault}
 use Rattle.cmd_status.specs.declared.fault.Fault.TheVariants as fault
-use Rattle.base_folder.specs.Wrong.{IsCutShort, IsNoFolder}
-use Rattle.base_folder.specs.declared.open_error.OpenError.{OpenError}
+use Rattle.base_folder.specs.{Wrong.IsCutShort, Wrong.IsNoFolder, declared.open_error.OpenError.OpenError}
 use Rattle.base_folder.specs.declared.open_error.OpenError.TheVariants as unread
 
 -- The error for a fault of the disk.

@@ -3,10 +3,7 @@ use Rattle.std.specs.Prelude.{◌≡◌, ◌/◌, ℕ, List, length, Option}
 use Rattle.disk_io.specs.Disk.{DiskState}
 use Rattle.base_file.specs.Base.{Base}
 use Rattle.echo_filed.specs.Filed.{Filed}
-use Rattle.base_folder_store.specs.Held.{HoldsBase}
-use Rattle.base_folder_store.specs.Opened.{held_by}
-use Rattle.base_folder_store.specs.Vouched.{IsLookedAt}
-use Rattle.base_folder_store.specs.declared.folder.Folder.{Folder}
+use Rattle.base_folder_store.specs.{Held.HoldsBase, Opened.held_by, Vouched.IsLookedAt, declared.folder.Folder.Folder}
 
 -- A source: whether its answers were honest and it may be read, the number of messages, their base, the current
 -- message, and the failures of the device.

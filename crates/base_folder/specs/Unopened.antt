@@ -2,12 +2,9 @@
 use Rattle.std.specs.Prelude.{◌≡◌, ◌<◌, ◌^◌, ℕ, List}
 use Rattle.base_file.specs.Base.{Base}
 use Rattle.base_log.specs.Moments.{KeepsOutside}
-use Rattle.disk_io.specs.Disk.{DiskState, Honestly}
-use Rattle.disk_io.specs.Runs.{LeavesOnly}
+use Rattle.disk_io.specs.{Disk.DiskState, Disk.Honestly, Runs.LeavesOnly}
 use Rattle.echo_addr.specs.declared.address.Address.{Address}
-use Rattle.base_folder_store.specs.Held.{HoldsBase, RepresentsBase, RepresentsBaseOrWasLeft}
-use Rattle.base_folder_store.specs.Opened.{committed_by, held_by, path_of}
-use Rattle.base_folder_store.specs.State.{IsUsable}
+use Rattle.base_folder_store.specs.{Held.HoldsBase, Held.RepresentsBase, Held.RepresentsBaseOrWasLeft, Opened.committed_by, Opened.held_by, Opened.path_of, State.IsUsable}
 use Rattle.base_folder_store.specs.declared.folder.Folder.{Folder}
 use Rattle.base_folder.specs.Ours.{HasGivenKey, number_of}
 

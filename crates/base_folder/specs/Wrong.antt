@@ -1,11 +1,7 @@
 -- The faults of a folder that is no base folder, or is cut short.
 use Rattle.std.specs.Prelude.{◌≡◌, ◌≤◌, ◌<◌, ◌⊎◌, ℕ, ◌+◌, ◌/◌, ◌%◌, ◌==◌, ◌&&◌, ◌||◌, not, nat_lt, Bool, true, false, List, length, take, None}
 use Rattle.disk_io.specs.Disk.{Files, IsIn, bytes_in}
-use Rattle.base_log.specs.Names.{keys_of, log_of, messages_of}
-use Rattle.base_log.specs.Reading.{ReadsAll}
-use Rattle.base_log.specs.Standing.{IsBroken, IsLost}
-use Rattle.base_log.specs.declared.log.End.{End}
-use Rattle.base_log.specs.declared.log.CommitRecord.{CommitRecord}
+use Rattle.base_log.specs.{Names.keys_of, Names.log_of, Names.messages_of, Reading.ReadsAll, Standing.IsBroken, Standing.IsLost, declared.log.End.End, declared.log.CommitRecord.CommitRecord}
 use Rattle.base_store.specs.Keys.{place_behind}
 
 -- Even after a crash, no base folder has such a log. Its number is no digit, its keys are not sixteen bytes a message,

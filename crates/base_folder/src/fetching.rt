@@ -1,8 +1,7 @@
 //! Messages of a base, fetched one by one for a command.
 ghost use Rattle.std.specs.Prelude.{◌≡◌, ◌≤◌, ◌<◌, slice_get, IfErr, OnOk};
 ghost use Rattle.base_file.specs.Base.{Base};
-ghost use Rattle.base_folder.specs.Source.{LooksAt};
-ghost use Rattle.base_folder.specs.Fetching.{IsUnread};
+ghost use Rattle.base_folder.specs.{Source.LooksAt, Fetching.IsUnread};
 
 use crate::source::MessageSource;
 use base_file::BaseFault;

@@ -2,14 +2,9 @@
 ghost use Rattle.std.specs.Prelude.{◌≡◌, ◌≢◌, ◌≤◌, ◌<◌, ◌+◌, ◌-◌, ℕ, IfErr, IsErrOf, OnOk, Some, slice_get};
 ghost use Rattle.base_file.specs.Base.{Base};
 ghost use Rattle.disk_io.specs.Disk.{Honestly};
-ghost use Rattle.base_log.specs.Moments.{KeepsOutside};
-ghost use Rattle.base_log.specs.Opening.{AreAlone};
+ghost use Rattle.base_log.specs.{Moments.KeepsOutside, Opening.AreAlone};
 ghost use Rattle.echo_filed.specs.Filed.{Filed as TheMessage};
-ghost use Rattle.base_folder_store.specs.Added.{HasRoomFor};
-ghost use Rattle.base_folder_store.specs.Answers.{HasReadCause};
-ghost use Rattle.base_folder_store.specs.Held.{HoldsBase, RepresentsBase};
-ghost use Rattle.base_folder_store.specs.Opened.{committed_by, held_by, path_of};
-ghost use Rattle.base_folder_store.specs.Owned.{with_mark};
+ghost use Rattle.base_folder_store.specs.{Added.HasRoomFor, Answers.HasReadCause, Held.HoldsBase, Held.RepresentsBase, Opened.committed_by, Opened.held_by, Opened.path_of, Owned.with_mark};
 ghost use Rattle.base_folder_store.specs.State.{IsUsable};
 ghost use Rattle.base_folder.specs.Filled.{AddsOnly, FillsAllOrNothing, FillsOnly, HasFillCause, HasUnfilledCause, HoldsFront, HoldsMany, HoldsMore, IsFilledFull, IsKept, IsUnfilled, ReadsFor, ShowsBase, RepresentsNoneOr, RepresentsNoneOrWasLeft, no_messages};
 ghost use Rattle.base_folder.specs.Ours.{SameKey};

@@ -1,12 +1,8 @@
 //! The contents of a base folder's log, and the faults of a folder.
 ghost use Rattle.std.specs.Prelude.{◌≡◌, ◌≤◌, ◌<◌, ◌/◌, length, take, drop, IfErr, IfOk, OnOk};
-ghost use Rattle.disk_io.specs.Disk.{Honestly, bytes_in};
-ghost use Rattle.disk_io.specs.Runs.{ChangesNothing, HasCause};
-ghost use Rattle.base_log.specs.Names.{keys_of, log_of, messages_of};
-ghost use Rattle.base_log.specs.Reading.{IsLogIn, IsRead};
-ghost use Rattle.base_log.specs.Standing.{Represents, base_at};
-ghost use Rattle.base_folder.specs.OpenError.{HasUnreadCause, IsWrong};
-ghost use Rattle.base_folder.specs.Wrong.{AreWhole, IsFolderLog, is_foreign, is_no_log};
+ghost use Rattle.disk_io.specs.{Disk.Honestly, Disk.bytes_in, Runs.ChangesNothing, Runs.HasCause};
+ghost use Rattle.base_log.specs.{Names.keys_of, Names.log_of, Names.messages_of, Reading.IsLogIn, Reading.IsRead, Standing.Represents, Standing.base_at};
+ghost use Rattle.base_folder.specs.{OpenError.HasUnreadCause, OpenError.IsWrong, Wrong.AreWhole, Wrong.IsFolderLog, Wrong.is_foreign, Wrong.is_no_log};
 
 use crate::open_error::OpenError;
 use base_file::BaseFault;

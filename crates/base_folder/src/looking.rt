@@ -1,14 +1,10 @@
 //! A base folder read without a change, so that no lock is needed.
 ghost use Rattle.std.specs.Prelude.{◌≡◌, ◌++◌, ℕ, List, length, take, true, IfErr, IfOk, IfSome, IsSome, OnOk};
-ghost use Rattle.disk_io.specs.Disk.{Honestly};
-ghost use Rattle.disk_io.specs.Runs.{ChangesNothing};
-ghost use Rattle.base_log.specs.Reading.{IsLogIn};
-ghost use Rattle.base_log.specs.Standing.{BaseBytes, Represents, base_at};
-ghost use Rattle.base_folder_store.specs.Opened.{held_by};
-ghost use Rattle.base_folder_store.specs.Vouched.{IsLookedAt};
+ghost use Rattle.disk_io.specs.{Disk.Honestly, Runs.ChangesNothing};
+ghost use Rattle.base_log.specs.{Reading.IsLogIn, Standing.BaseBytes, Standing.Represents, Standing.base_at};
+ghost use Rattle.base_folder_store.specs.{Opened.held_by, Vouched.IsLookedAt};
 ghost use Rattle.base_folder.specs.Looked.{AreVouched, GoesOn, HasLogs, IsReadWhole, IsUnseen};
-ghost use Rattle.base_folder.specs.OpenError.{HasUnreadCause};
-ghost use Rattle.base_folder.specs.Wrong.{IsSound};
+ghost use Rattle.base_folder.specs.{OpenError.HasUnreadCause, Wrong.IsSound};
 
 use crate::judging::judge_by;
 use crate::open_error::OpenError;

@@ -4,12 +4,9 @@ ghost use Rattle.base_file.specs.Base.{Base};
 ghost use Rattle.disk_io.specs.Disk.{Honestly};
 ghost use Rattle.echo_addr.specs.declared.address.Address.{Address};
 ghost use Rattle.base_log.specs.Opening.{AreAlone};
-ghost use Rattle.base_folder_store.specs.Held.{HoldsBase, RepresentsBase};
-ghost use Rattle.base_folder_store.specs.Opened.{IsFresh, IsOpen, held_by};
-ghost use Rattle.base_folder.specs.Ours.{IsLeftAlone, IsNotOurs, IsOfOther};
-ghost use Rattle.base_folder.specs.Unopened.{HasOpened, HaveRoom, IsOpenedFor, OpensOnly};
-ghost use Rattle.base_folder.specs.OpenError.{HasUnreadCause, IsWrong};
-ghost use Rattle.base_folder.specs.Wrong.{IsSound};
+ghost use Rattle.base_folder_store.specs.{Held.HoldsBase, Held.RepresentsBase, Opened.IsFresh, Opened.IsOpen, Opened.held_by};
+ghost use Rattle.base_folder.specs.{Ours.IsLeftAlone, Ours.IsNotOurs, Ours.IsOfOther, Unopened.HasOpened, Unopened.HaveRoom, Unopened.IsOpenedFor, Unopened.OpensOnly};
+ghost use Rattle.base_folder.specs.{OpenError.HasUnreadCause, OpenError.IsWrong, Wrong.IsSound};
 
 use crate::judging::judged;
 use crate::open_error::OpenError;

@@ -1,11 +1,8 @@
 //! The messages of a base folder that is looked at, read one by one.
 ghost use Rattle.std.specs.Prelude.{◌≡◌, ◌≤◌, ◌<◌, ◌/◌, IfErr, OnOk};
-ghost use Rattle.disk_io.specs.Disk.{Honestly};
-ghost use Rattle.disk_io.specs.Runs.{ChangesNothing};
-ghost use Rattle.base_folder_store.specs.Opened.{held_by};
-ghost use Rattle.base_folder_store.specs.Vouched.{IsLookedAt, IsVouched};
-ghost use Rattle.base_folder.specs.Looked.{AreVouched, IsUnvouched};
-ghost use Rattle.base_folder.specs.OpenError.{HasUnreadCause, unread_message};
+ghost use Rattle.disk_io.specs.{Disk.Honestly, Runs.ChangesNothing};
+ghost use Rattle.base_folder_store.specs.{Opened.held_by, Vouched.IsLookedAt, Vouched.IsVouched};
+ghost use Rattle.base_folder.specs.{Looked.AreVouched, Looked.IsUnvouched, OpenError.HasUnreadCause, OpenError.unread_message};
 
 use crate::open_error::OpenError;
 use base_file::{BaseFault, MessageRoom};

@@ -2,8 +2,7 @@
 use Rattle.std.proofs.Common.{◌≡◌, ◌≤◌, ◌+◌, ◌-◌, ◌++◌, ℕ, List, [], length, take, drop, sym, ap, subst, ◌∙◌, arith, append_assoc, length-append, length-drop}
 use Rattle.std.proofs.lemmas.List.{append-nil, drop-append-le, drop-drop, drop-take, length-take-le, take-append-drop, take-append-le, take-take}
 use Rattle.disk_io.specs.Disk.{DiskState, bytes_in}
-use Rattle.base_folder_store.specs.Ahead.{Covers, IsPartOf}
-use Rattle.base_folder_store.specs.declared.read_ahead.ReadAhead.{ReadAhead}
+use Rattle.base_folder_store.specs.{Ahead.Covers, Ahead.IsPartOf, declared.read_ahead.ReadAhead.ReadAhead}
 
 -- A part of some bytes is a part of them with more at their end.
 pub part_grows : (bytes more : List ℕ) (ahead : ReadAhead) → IsPartOf bytes ahead → IsPartOf (bytes ++ more) ahead

@@ -1,23 +1,13 @@
 -- A base folder while a call makes new files that replace its own.
 use Rattle.std.proofs.Common.{◌≡◌, ◌/◌, ℕ, List, length, sym, ap, subst, ◌∙◌, arith}
-use Rattle.disk_io.specs.Disk.{DiskState}
-use Rattle.disk_io.specs.Runs.{ChangesNothing}
-use Rattle.base_log.specs.AtRest.{IsAtRest}
-use Rattle.base_log.specs.Names.{keys_of, messages_of}
-use Rattle.base_log.specs.Standing.{BaseBytes, base_at}
-use Rattle.base_log.specs.declared.log.CommitRecord.{CommitRecord}
+use Rattle.disk_io.specs.{Disk.DiskState, Runs.ChangesNothing}
+use Rattle.base_log.specs.{AtRest.IsAtRest, Names.keys_of, Names.messages_of, Standing.BaseBytes, Standing.base_at, declared.log.CommitRecord.CommitRecord}
 use Rattle.base_log.proofs.Paths.{keys_not_messages, keys_of-injective, messages_not_keys, messages_of-injective}
 use Rattle.base_file.specs.Base.{Base}
 use Rattle.base_store.specs.Keys.{AreWhereRecorded}
-use Rattle.base_folder_store.specs.Added.{SameOthersThanBoth}
-use Rattle.base_folder_store.specs.Held.{HoldsBase}
-use Rattle.base_folder_store.specs.Left.{IsStagedIn, IsReadable}
 use Rattle.base_folder_store.specs.Opened.{IsOpen, IsWritten, committed_by, held_by, path_of}
-use Rattle.base_folder_store.specs.declared.folder.Folder.{Folder}
-use Rattle.base_folder_store.proofs.Bases.{recorded_where}
-use Rattle.base_folder_store.proofs.Legible.{keys_all, legible_open, legible_same}
-use Rattle.base_folder_store.proofs.Staged.{committed_staged}
-use Rattle.base_folder_store.proofs.Waits.{written_held}
+use Rattle.base_folder_store.specs.{Added.SameOthersThanBoth, Held.HoldsBase, Left.IsStagedIn, Left.IsReadable, declared.folder.Folder.Folder}
+use Rattle.base_folder_store.proofs.{Bases.recorded_where, Legible.keys_all, Legible.legible_open, Legible.legible_same, Staged.committed_staged, Waits.written_held}
 
 -- the committed base is the same
 pub committed_others : (d : DiskState) (f g : Folder) → IsStagedIn f g → committed_by d g ≡ committed_by d f

@@ -3,17 +3,9 @@ use Rattle.std.proofs.Common.{◌≡◌, ℕ, List, length, Result, Ok, Err, sym
 use Rattle.std.specs.Prelude.{OnOk}
 use Rattle.disk_io.specs.Disk.{DiskState, Honestly}
 use Rattle.base_log.specs.Standing.{BaseBytes}
-use Rattle.base_store.specs.Index.{IsIndexOf}
-use Rattle.base_store.specs.Keys.{entry}
-use Rattle.base_store.specs.declared.index.Index.{Index}
+use Rattle.base_store.specs.{Index.IsIndexOf, Keys.entry, declared.index.Index.Index, declared.store_error.StoreError.StoreError}
 use Rattle.base_store.proofs.Found.{index_stays}
-use Rattle.base_store.specs.declared.store_error.StoreError.{StoreError}
-use Rattle.base_folder_store.specs.Added.{with_stored}
-use Rattle.base_folder_store.specs.Ahead.{AreParts}
-use Rattle.base_folder_store.specs.Opened.{held_by}
-use Rattle.base_folder_store.specs.State.{IsCached}
-use Rattle.base_folder_store.specs.declared.folder.Folder.{Folder}
-use Rattle.base_folder_store.specs.declared.read_ahead.Buffers.{Buffers}
+use Rattle.base_folder_store.specs.{Added.with_stored, Ahead.AreParts, Opened.held_by, State.IsCached, declared.folder.Folder.Folder, declared.read_ahead.Buffers.Buffers}
 use Rattle.base_folder_store.proofs.Ahead.{part_grows}
 
 -- an index of the folder's bytes is one of equal bytes

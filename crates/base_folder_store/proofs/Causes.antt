@@ -6,9 +6,7 @@ use Rattle.base_file.specs.Base.{Base}
 use Rattle.base_log.specs.Standing.{BaseBytes}
 use Rattle.base_store.specs.declared.store_error.StoreError.{StoreError}
 use Rattle.base_store.specs.declared.store_error.StoreError.TheVariants as error
-use Rattle.base_folder_store.specs.Answers.{Answers, HasReadCause}
-use Rattle.base_folder_store.specs.Held.{HoldsBase}
-use Rattle.base_folder_store.specs.Left.{HasPurgeCause}
+use Rattle.base_folder_store.specs.{Answers.Answers, Answers.HasReadCause, Held.HoldsBase, Left.HasPurgeCause}
 
 -- the call passes on an error
 pub answers_error : {T U : Type 0} (P : T → Type 0) (Q : U → Type 0) (e : StoreError) (r : Result U StoreError) → IsErrAnd r (λ x. x ≡ e) → Answers {T = T} P (Err e) → Answers Q r

@@ -2,22 +2,13 @@
 use Rattle.std.proofs.Common.{◌≡◌, ◌<◌, ◌^◌, ℕ, List, [], ◌∷◌, Bool, true, false, Option, length, refl, sym, ap, subst, ◌∙◌, arith}
 use Rattle.disk_io.specs.Disk.{DiskState}
 use Rattle.base_log.specs.declared.log.FolderIdentity.{FolderIdentity}
-use Rattle.echo_filed.specs.Stored.{Stored}
+use Rattle.echo_filed.specs.{Stored.Stored, Filed.Filed}
 use Rattle.base_file.specs.Base.{Base}
-use Rattle.echo_filed.specs.Filed.{Filed}
-use Rattle.base_store.specs.Keys.{keys_from}
-use Rattle.base_store.specs.declared.index.Index.{Index}
+use Rattle.base_store.specs.{Keys.keys_from, declared.index.Index.Index, Store.CommitsNothing, Store.GoesOn}
 use Rattle.base_store.proofs.Placed.{keys_long}
-use Rattle.base_store.specs.Store.{CommitsNothing, GoesOn}
-use Rattle.base_folder_store.specs.Held.{HoldsBase, digest_by}
-use Rattle.base_folder_store.specs.Opened.{IsOpen, held_by}
-use Rattle.base_folder_store.specs.Owned.{IsUnclaimed, with_mark}
-use Rattle.base_folder_store.specs.State.{IsCached, IsUsable, state_of}
-use Rattle.base_folder_store.specs.declared.folder.Folder.{Folder}
-use Rattle.base_folder_store.specs.declared.read_ahead.Buffers.{Buffers}
-use Rattle.base_folder_store.proofs.Legible.{keys_all, legible_open}
-use Rattle.base_folder_store.proofs.Runs.{run_none}
-use Rattle.base_folder_store.proofs.Stated.{stages}
+use Rattle.base_folder_store.specs.{Held.HoldsBase, Held.digest_by, Opened.IsOpen, Opened.held_by, Owned.IsUnclaimed, Owned.with_mark, State.IsCached, State.IsUsable, State.state_of}
+use Rattle.base_folder_store.specs.declared.{folder.Folder.Folder, read_ahead.Buffers.Buffers}
+use Rattle.base_folder_store.proofs.{Legible.keys_all, Legible.legible_open, Runs.run_none, Stated.stages}
 
 -- no keys are those of no messages
 no_entries : (digest : List ℕ → ℕ) (all : List Stored) → length (keys_from digest 0 all) ≡ 0 → all ≡ []

@@ -1,21 +1,15 @@
 -- A purged base has room in a folder that had room for the base.
 use Rattle.std.proofs.Common.{◌≡◌, ◌+◌, ◌*◌, ◌^◌, ◌<◌, ◌≤◌, ℕ, nat_lt, List, [], ◌∷◌, ◌++◌, length, inl, inr, arith, length-append}
+use Rattle.std.proofs.lemmas.{Bool.cond-true, Bool.lt-ltb, List.length-drop, List.length-map, List.length-take-le}
 use Rattle.std.specs.List.{AllByRecursion, flat_map}
-use Rattle.std.proofs.lemmas.Bool.{cond-true, lt-ltb}
-use Rattle.std.proofs.lemmas.List.{length-drop, length-map, length-take-le}
 use Rattle.echo_packet.specs.Header.{word}
-use Rattle.echo_filed.specs.Filed.{Filed}
 use Rattle.echo_filed.specs.Stored.{IsStored, Stored, after_length, last_bytes, stored_bytes}
-use Rattle.echo_filed.specs.declared.stored.Version.TheVariants.{Second}
+use Rattle.echo_filed.specs.{Filed.Filed, declared.stored.Version.TheVariants.Second}
 use Rattle.base_file.specs.Base.{Base}
 use Rattle.base_log.specs.Standing.{BaseBytes}
 use Rattle.base_store.specs.Keys.{HasBytesOf, AreWhereRecorded, place_at, place_behind}
-use Rattle.base_folder_store.specs.Added.{LacksRoom, next_place, with_stored}
-use Rattle.base_folder_store.specs.Held.{HoldsBase}
-use Rattle.base_folder_store.specs.Left.{HoldsLeft, first_left}
-use Rattle.base_folder_store.specs.declared.folder.Folder.{Folder}
-use Rattle.base_folder_store.proofs.Bases.{recorded_where}
-use Rattle.base_folder_store.proofs.Stubbed.{first_many}
+use Rattle.base_folder_store.specs.{Added.LacksRoom, Added.next_place, Added.with_stored, Held.HoldsBase, Left.HoldsLeft, Left.first_left, declared.folder.Folder.Folder}
+use Rattle.base_folder_store.proofs.{Bases.recorded_where, Stubbed.first_many}
 
 fourth : (k : ℕ) (a b c d e : List ℕ) → length d ≤ length (k ∷ (a ++ (b ++ (c ++ (d ++ e)))))
 fourth k a b c d e = omega (arith, length-append a (b ++ (c ++ (d ++ e))), length-append b (c ++ (d ++ e)), length-append c (d ++ e), length-append d e)

@@ -3,11 +3,9 @@ use Rattle.std.proofs.Common.{◌≡◌, ℕ, ◌≤◌, ◌<◌, ◌+◌, ◌-�
 use Rattle.std.proofs.lemmas.Bool.{cases_lt, cond-false, cond-true, le-ltb, lt-ltb}
 use Rattle.std.proofs.lemmas.List.{drop-append-le, drop-drop, length-take-le, take-append-drop, take-append-le}
 use Rattle.std.specs.Int.{w64, from_le_bytes}
-use Rattle.echo_filed.specs.Stored.{Stored, stored_bytes}
-use Rattle.echo_filed.specs.declared.stored.Version.TheVariants.{Second}
-use Rattle.base_store.specs.Index.{IsIndexOf, entries_of}
-use Rattle.base_store.specs.declared.index.Index.{Index}
+use Rattle.echo_filed.specs.{Stored.Stored, Stored.stored_bytes, declared.stored.Version.TheVariants.Second}
 use Rattle.base_store.specs.Keys.{HasBytesOf, IsPieceOf, digest_at, place_at, place_behind}
+use Rattle.base_store.specs.{Index.IsIndexOf, Index.entries_of, declared.index.Index.Index}
 use Rattle.base_store.proofs.Found.{piece_digest}
 
 module _ (file keys : List ℕ) (place begins ends : ℕ) (s : Stored) (recorded : HasBytesOf file keys place s) (at : begins ≡ place_at keys place)

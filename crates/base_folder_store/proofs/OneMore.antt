@@ -1,20 +1,14 @@
 -- One message more in a base folder.
 use Rattle.std.proofs.Common.{◌≡◌, ℕ, ◌+◌, ◌<◌, ◌^◌, false, List, [], ◌∷◌, ◌++◌, length, sym, ap, ◌∙◌, arith}
-use Rattle.std.proofs.lemmas.Grind.{flat_map-append}
-use Rattle.std.proofs.lemmas.List.{append-nil, map-append}
-use Rattle.echo_filed.specs.Filed.{Filed, IsFiled, key_of}
-use Rattle.echo_filed.specs.Stored.{IsStored, Stored, message_in, stored_bytes}
-use Rattle.echo_filed.specs.declared.stored.Version.TheVariants.{Second}
+use Rattle.std.proofs.lemmas.{Grind.flat_map-append, List.append-nil, List.map-append}
+use Rattle.echo_filed.specs.{Filed.Filed, Filed.IsFiled, Filed.key_of, Stored.IsStored, Stored.Stored, Stored.message_in, Stored.stored_bytes, declared.stored.Version.TheVariants.Second}
 use Rattle.echo_filed.proofs.Plain.{all_append}
 use Rattle.base_log.specs.Standing.{BaseBytes}
-use Rattle.base_file.specs.Alone.{IsStoredAlone, MayStandAlone}
-use Rattle.base_file.specs.Base.{Base, is_known}
+use Rattle.base_file.specs.{Alone.IsStoredAlone, Alone.MayStandAlone, Base.Base, Base.is_known}
 use Rattle.base_file.proofs.Entries.{one_more}
-use Rattle.base_store.specs.Keys.{FolderRepresents, digested, entry, keys_from}
+use Rattle.base_store.specs.{Keys.FolderRepresents, Keys.digested, Keys.entry, Keys.keys_from, Store.with_message}
 use Rattle.base_store.proofs.Placed.{bytes_of, keys_append}
-use Rattle.base_store.specs.Store.{with_message}
-use Rattle.base_folder_store.specs.Added.{with_stored}
-use Rattle.base_folder_store.specs.Held.{HoldsBase, digest_by}
+use Rattle.base_folder_store.specs.{Added.with_stored, Held.HoldsBase, Held.digest_by}
 
 pub files_more : (digest : List ℕ → ℕ) (base : List Filed) (cursor : ℕ) (messages keys : List ℕ) (m : Filed) (bytes : List ℕ) (number : ℕ) → FolderRepresents digest base cursor messages keys → IsStoredAlone m bytes → IsFiled m
     → is_known base (key_of m) ≡ false → number ≡ digest (digested m) → length (messages ++ bytes) < 2 ^ 64 → FolderRepresents digest (base ++ m ∷ []) cursor (messages ++ bytes) (keys ++ entry (length messages) number)

@@ -1,20 +1,13 @@
 -- The facts that the first two lines of a text give without parsing.
 use Rattle.std.proofs.Common.{◌≡◌, ℕ, ◌<◌, ◌≤◌, nat_lt, true, false, List, ◌∷◌, ◌++◌, length, take, drop, get_or, Option, Some, refl, sym, ap, ◌∙◌, arith}
-use Rattle.std.specs.List.{find}
 use Rattle.std.proofs.lemmas.Bool.{and_from, cond-false, cond-true, lt-ltb, ne_eqb, or_from}
-use Rattle.std.proofs.lemmas.List.{drop_at, take-append-drop}
-use Rattle.std.proofs.lemmas.Slice.Eq.{bytes_eq-Decides}
-use Rattle.std.specs.Prelude.{bytes_eq, option_map, unwrap_or}
-use Rattle.echo_text.specs.Echo.{EchoText, msgid_of}
+use Rattle.std.proofs.lemmas.{List.drop_at, List.take-append-drop, Slice.Eq.bytes_eq-Decides}
+use Rattle.std.specs.{List.find, Prelude.bytes_eq, Prelude.option_map, Prelude.unwrap_or}
 use Rattle.echo_text.specs.Lines.{after_word, area_tag, area_word, begins, first_line, is_tag, later_lines, lines, msgid_word, trimmed}
-use Rattle.echo_text.specs.Tail.{kept_of}
-use Rattle.echo_text.proofs.KeptLines.{msgids_kept}
-use Rattle.echo_text.proofs.Tags.{area_tag_back}
-use Rattle.echo_filed.specs.Filed.{Filed, has_id, key_of, same_key}
+use Rattle.echo_text.specs.{Echo.EchoText, Echo.msgid_of, Tail.kept_of}
+use Rattle.echo_text.proofs.{KeptLines.msgids_kept, Tags.area_tag_back}
 use Rattle.echo_filed.specs.Stored.{IsStored, Stored, after_length, after_long_length, has_tag, last_bytes, message_in, stored_bytes}
-use Rattle.echo_filed.specs.Written.{echo_of}
-use Rattle.echo_filed.specs.declared.key.Key.TheVariants.{ById}
-use Rattle.echo_filed.specs.declared.stored.Version.TheVariants.{Second}
+use Rattle.echo_filed.specs.{Filed.Filed, Filed.has_id, Filed.key_of, Filed.same_key, Written.echo_of, declared.key.Key.TheVariants.ById, declared.stored.Version.TheVariants.Second}
 
 -- the AREA line that is written for a tag has that tag
 pub plain_tag : (line tag : List ℕ) → is_tag tag ≡ true → take 5 line ≡ area_word → drop 5 line ≡ tag → area_tag line ≡ tag

@@ -1,29 +1,18 @@
 -- The answers of a store over a base folder about its base.
 use Rattle.std.proofs.Common.{◌≡◌, ◌<◌, ◌/◌, ◌^◌, ℕ, false, true, List, length, get_or, Option, Some, None, sym, ap, ◌∙◌, arith}
-use Rattle.std.specs.Prelude.{bytes_eq, option_map, slice_get, unwrap_or}
-use Rattle.std.specs.Cmp.Lexicographic.{bytes_decides}
 use Rattle.std.proofs.lemmas.Option.{slice_get-get_or}
+use Rattle.std.specs.{Prelude.bytes_eq, Prelude.option_map, Prelude.slice_get, Prelude.unwrap_or, Cmp.Lexicographic.bytes_decides}
 use Rattle.disk_io.specs.Disk.{DiskState}
 use Rattle.base_log.specs.Standing.{BaseBytes}
 use Rattle.echo_text.specs.Echo.{msgid_of}
 use Rattle.echo_filed.specs.Filed.{Filed, IsFiled, has_id, key_of, same_key}
 use Rattle.echo_filed.specs.declared.key.Key.{Key}
 use Rattle.echo_filed.proofs.Keys.{same_key_decides}
-use Rattle.base_file.specs.Alone.{IsStoredAlone}
-use Rattle.base_file.specs.Base.{Base, IsBase, is_known}
-use Rattle.base_store.specs.Keys.{digested_key, digested_with}
-use Rattle.base_store.proofs.Digests.{of_key}
-use Rattle.base_store.proofs.Recorded.{recorded_base_each}
-use Rattle.base_store.specs.Store.{all_scanned, with_message}
-use Rattle.base_folder_store.specs.Added.{with_stored}
-use Rattle.base_folder_store.specs.Answers.{HaveDigest}
-use Rattle.base_folder_store.specs.Held.{HoldsBase, digest_by}
-use Rattle.base_folder_store.specs.Opened.{IsOpen, held_by}
-use Rattle.base_folder_store.specs.declared.folder.Folder.{Folder}
-use Rattle.base_folder_store.proofs.Bases.{recorded_where}
-use Rattle.base_folder_store.proofs.Legible.{keys_all, legible_open}
-use Rattle.base_folder_store.proofs.Looked.{some_message}
-use Rattle.base_folder_store.proofs.OneMore.{holds_more}
+use Rattle.base_file.specs.{Alone.IsStoredAlone, Base.Base, Base.IsBase, Base.is_known}
+use Rattle.base_store.specs.{Keys.digested_key, Keys.digested_with, Store.all_scanned, Store.with_message}
+use Rattle.base_store.proofs.{Digests.of_key, Recorded.recorded_base_each}
+use Rattle.base_folder_store.specs.{Added.with_stored, Answers.HaveDigest, Held.HoldsBase, Held.digest_by, Opened.IsOpen, Opened.held_by, declared.folder.Folder.Folder}
+use Rattle.base_folder_store.proofs.{Bases.recorded_where, Legible.keys_all, Legible.legible_open, Looked.some_message, OneMore.holds_more}
 
 -- messages with this key have its digest
 pub key_digest : (keyed : ℕ → ℕ → List ℕ → ℕ) (bytes : BaseBytes) (base : Base) (key : Key) (number : ℕ) → HoldsBase keyed bytes base → number ≡ digest_by keyed bytes.mark (digested_key key)

@@ -1,23 +1,16 @@
 -- The messages of a base folder after a purge, in order.
 use Rattle.std.proofs.Common.{◌≡◌, ◌<◌, ◌≤◌, ◌+◌, ◌^◌, ℕ, zero, suc, not, nat_lt, ◌&&◌, Bool, true, false, List, [], ◌∷◌, ◌++◌, length, map, take, drop, get_or, refl, sym, ap, subst, ◌∙◌, arith, count_by, append_assoc, if◌then◌else◌}
-use Rattle.std.specs.List.{AllByRecursion}
-use Rattle.std.proofs.lemmas.Bool.{ltb-false, ltb-true}
 use Rattle.std.proofs.lemmas.List.{append-nil, get_or-take, length-append, length-drop, length-map, length-take, length-take-le, take_all, take_more}
-use Rattle.std.proofs.lemmas.List.Sums.{count_by_more_no, count_by_more_yes}
-use Rattle.echo_filed.specs.Filed.{Filed, IsFiled, key_of}
-use Rattle.echo_filed.specs.Stubs.{is_stub, stub_of}
+use Rattle.std.proofs.lemmas.{Bool.ltb-false, Bool.ltb-true, List.Sums.count_by_more_no, List.Sums.count_by_more_yes}
+use Rattle.std.specs.List.{AllByRecursion}
+use Rattle.echo_filed.specs.{Filed.Filed, Filed.IsFiled, Filed.key_of, Stubs.is_stub, Stubs.stub_of}
 use Rattle.echo_filed.proofs.Keys.{stub_keeps_key}
 use Rattle.base_log.specs.Standing.{BaseBytes}
-use Rattle.base_file.specs.Alone.{IsStoredAlone}
-use Rattle.base_file.specs.Base.{AreNew, Base, IsBase, is_known}
+use Rattle.base_file.specs.{Alone.IsStoredAlone, Base.AreNew, Base.Base, Base.IsBase, Base.is_known}
 use Rattle.base_file.proofs.StubBases.{stubs_keep}
-use Rattle.base_store.specs.Keys.{digest_at, digested}
-use Rattle.base_store.proofs.Digests.{of_key}
-use Rattle.base_store.proofs.Recorded.{recorded_base_each}
-use Rattle.base_store.specs.Store.{purged}
-use Rattle.base_folder_store.specs.Added.{with_stored}
-use Rattle.base_folder_store.specs.Held.{HoldsBase, digest_by}
-use Rattle.base_folder_store.specs.Left.{changed_in, first_left, left_if}
+use Rattle.base_store.specs.{Keys.digest_at, Keys.digested, Store.purged}
+use Rattle.base_store.proofs.{Digests.of_key, Recorded.recorded_base_each}
+use Rattle.base_folder_store.specs.{Added.with_stored, Held.HoldsBase, Held.digest_by, Left.changed_in, Left.first_left, Left.left_if}
 use Rattle.base_folder_store.proofs.OneMore.{holds_more}
 
 -- whether a number is below another

@@ -1,7 +1,7 @@
 -- A message that was read alone, and its digest.
 use Rattle.std.proofs.Common.{◌≡◌, ◌∙◌, ℕ, nat_eq, sym}
-use Rattle.std.specs.Prelude.{◌↔◌, IsTrue}
 use Rattle.std.proofs.lemmas.Bool.{eq-eqb, eqb-true}
+use Rattle.std.specs.Prelude.{◌↔◌, IsTrue}
 
 -- a test of two numbers decides equality of their values
 pub same_number : (a b x y : ℕ) → a ≡ x → b ≡ y → IsTrue (nat_eq a b) ↔ (x ≡ y)

@@ -1,12 +1,10 @@
 -- The written bytes, and the waiting bytes after them.
 use Rattle.std.proofs.Common.{◌≡◌, ◌<◌, ◌≤◌, ◌+◌, ◌-◌, ◌++◌, ℕ, min, List, [], length, take, drop, sym, ap, ◌∙◌, arith, length-append, ⊎_elim}
-use Rattle.std.proofs.lemmas.Bool.{cases_lt}
 use Rattle.std.proofs.lemmas.List.{append-nil, drop-append-le, drop_all, length-take-le, take-append-le, take_all}
-use Rattle.std.proofs.Math.Seq.{drop-append-add, take-append-add}
+use Rattle.std.proofs.{lemmas.Bool.cases_lt, Math.Seq.drop-append-add, Math.Seq.take-append-add}
 use Rattle.disk_io.specs.Disk.{DiskState}
 use Rattle.base_log.specs.Standing.{BaseBytes, and_keys, and_messages, base_at}
-use Rattle.base_folder_store.specs.Opened.{IsWritten, held_by, path_of}
-use Rattle.base_folder_store.specs.declared.folder.Folder.{Folder}
+use Rattle.base_folder_store.specs.{Opened.IsWritten, Opened.held_by, Opened.path_of, declared.folder.Folder.Folder}
 
 nothing_more : (b : BaseBytes) → and_keys (and_messages b []) [] ≡ b
 nothing_more b = λ i. record { messages = append-nil b.messages i; keys = append-nil b.keys i; cursor = b.cursor; mark = b.mark }

@@ -1,11 +1,8 @@
 -- A message added to a base folder.
 use Rattle.std.specs.Prelude.{◌≡◌, ◌≢◌, ◌⊎◌, ℕ, ◌+◌, ◌<◌, ◌≤◌, ◌^◌, false, true, List, ◌++◌, length}
 use Rattle.disk_io.specs.Disk.{Files}
-use Rattle.echo_filed.specs.Filed.{Filed}
-use Rattle.echo_filed.specs.Stored.{is_short_enough, stored_as, stored_bytes}
-use Rattle.echo_filed.specs.declared.stored.Version.TheVariants.{Second}
-use Rattle.base_log.specs.Names.{keys_of, messages_of}
-use Rattle.base_log.specs.Standing.{BaseBytes, and_keys, and_messages}
+use Rattle.echo_filed.specs.{Filed.Filed, Stored.is_short_enough, Stored.stored_as, Stored.stored_bytes, declared.stored.Version.TheVariants.Second}
+use Rattle.base_log.specs.{Names.keys_of, Names.messages_of, Standing.BaseBytes, Standing.and_keys, Standing.and_messages}
 use Rattle.base_store.specs.Keys.{entry}
 use Rattle.base_folder_store.specs.declared.folder.Folder.{Folder}
 

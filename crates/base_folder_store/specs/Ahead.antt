@@ -1,7 +1,6 @@
 -- Parts of files that were read ahead.
 use Rattle.std.specs.Prelude.{◌≡◌, ◌≤◌, ◌+◌, ◌++◌, ℕ, List, drop, length}
-use Rattle.base_folder_store.specs.declared.read_ahead.Buffers.{Buffers}
-use Rattle.base_folder_store.specs.declared.read_ahead.ReadAhead.{ReadAhead}
+use Rattle.base_folder_store.specs.declared.read_ahead.{Buffers.Buffers, ReadAhead.ReadAhead}
 
 -- The buffer is a part of these bytes.
 pub record IsPartOf (bytes : List ℕ) (ahead : ReadAhead) : Type 0 where

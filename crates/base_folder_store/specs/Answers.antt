@@ -2,11 +2,8 @@
 use Rattle.std.specs.Prelude.{◌≡◌, ◌≤◌, ◌<◌, ℕ, Bool, true, List, length, slice_index_or, Result, Ok, Err, IsErrOf}
 use Rattle.disk_io.specs.Device.{Failed}
 use Rattle.base_file.specs.Alone.{MayStandAlone}
-use Rattle.echo_filed.specs.Filed.{Filed}
-use Rattle.echo_filed.specs.Stored.{IsStored, Stored, message_in, stored_bytes}
-use Rattle.echo_filed.specs.declared.stored.Version.TheVariants.{Second}
-use Rattle.base_store.specs.Keys.{digest_at}
-use Rattle.base_store.specs.declared.store_error.StoreError.{StoreError}
+use Rattle.echo_filed.specs.{Filed.Filed, Stored.IsStored, Stored.Stored, Stored.message_in, Stored.stored_bytes, declared.stored.Version.TheVariants.Second}
+use Rattle.base_store.specs.{Keys.digest_at, declared.store_error.StoreError.StoreError}
 use Rattle.base_store.specs.declared.store_error.StoreError.TheVariants as error
 
 -- The value has P, or the device failed, or memory ran out. The answer is never damage.

@@ -1,19 +1,14 @@
 -- The effects of calls on an open base folder.
 use Rattle.std.specs.Prelude.{◌≡◌, ◌≤◌, ℕ, List, Result, IsErrOf, OnOk}
-use Rattle.disk_io.specs.Device.{Failed}
-use Rattle.disk_io.specs.Disk.{DiskState, Files, Honestly}
-use Rattle.disk_io.specs.Runs.{LeavesOnly}
+use Rattle.disk_io.specs.{Device.Failed, Disk.DiskState, Disk.Files, Disk.Honestly, Runs.LeavesOnly}
 use Rattle.base_log.specs.AtRest.{IsAtRest, IsStaged}
 pub use Rattle.base_log.specs.Moments.{StagesOnly}
-use Rattle.base_log.specs.Moments.{IsBeforeOrAfter, KeepsOutside}
-use Rattle.base_log.specs.Standing.{BaseBytes, and_keys, and_messages, base_at}
-use Rattle.base_log.specs.declared.log.CommitRecord.{CommitRecord}
+use Rattle.base_log.specs.{Moments.IsBeforeOrAfter, Moments.KeepsOutside, Standing.BaseBytes, Standing.and_keys, Standing.and_messages, Standing.base_at, declared.log.CommitRecord.CommitRecord}
 use Rattle.base_log.specs.declared.log.End.{End}
 use Rattle.base_store.specs.declared.store_error.StoreError.{StoreError}
 use Rattle.base_store.specs.declared.store_error.StoreError.TheVariants as error
-use Rattle.base_folder_store.specs.Added.{SameOthersThanBoth}
 use Rattle.base_folder_store.specs.Opened.{IsNamed, IsOpen, IsWritten, committed_by, held_by, path_of}
-use Rattle.base_folder_store.specs.declared.folder.Folder.{Folder}
+use Rattle.base_folder_store.specs.{Added.SameOthersThanBoth, declared.folder.Folder.Folder}
 
 -- The folder keeps its path, its owner and its key. It is still open, unless the call failed.
 pub record StaysOpen {T : Type 0} (old new : Folder) (disk : DiskState) (result : Result T StoreError) : Type 0 where

@@ -1,9 +1,7 @@
 -- The base that a base folder holds.
 use Rattle.std.specs.Prelude.{◌≡◌, ◌⊎◌, ℕ, List}
 use Rattle.disk_io.specs.Disk.{DiskState, Files}
-use Rattle.base_log.specs.Moments.{SameOutside}
-use Rattle.base_log.specs.Standing.{BaseBytes, Represents}
-use Rattle.base_log.specs.declared.log.FolderIdentity.{FolderIdentity}
+use Rattle.base_log.specs.{Moments.SameOutside, Standing.BaseBytes, Standing.Represents, declared.log.FolderIdentity.FolderIdentity}
 use Rattle.base_file.specs.Base.{Base}
 use Rattle.base_store.specs.Keys.{FolderRepresents}
 

@@ -1,23 +1,13 @@
 -- A purge of a base folder, message by message.
 use Rattle.std.specs.Prelude.{◌≡◌, ◌≢◌, ◌≤◌, ◌<◌, ◌^◌, ℕ, Bool, true, false, not, ◌&&◌, List, length, take, count_by, Result, IsErrOf}
-use Rattle.disk_io.specs.Device.{Failed}
-use Rattle.disk_io.specs.Disk.{DiskState, Honestly}
-use Rattle.base_file.specs.Alone.{IsStoredAlone}
-use Rattle.base_file.specs.Base.{Base}
-use Rattle.echo_filed.specs.Filed.{Filed}
-use Rattle.echo_filed.specs.Stored.{Stored, message_in, stored_bytes}
-use Rattle.echo_filed.specs.declared.stored.Version.TheVariants.{Second}
-use Rattle.echo_filed.specs.Stubs.{is_stub, stub_of}
+use Rattle.disk_io.specs.{Device.Failed, Disk.DiskState, Disk.Honestly}
+use Rattle.base_file.specs.{Alone.IsStoredAlone, Base.Base}
+use Rattle.echo_filed.specs.{Filed.Filed, Stored.Stored, Stored.message_in, Stored.stored_bytes, declared.stored.Version.TheVariants.Second, Stubs.is_stub, Stubs.stub_of}
 use Rattle.base_log.specs.Standing.{BaseBytes}
-use Rattle.base_store.specs.Keys.{place_at}
-use Rattle.base_store.specs.Store.{purged}
-use Rattle.base_store.specs.declared.store_error.StoreError.{StoreError}
+use Rattle.base_store.specs.{Keys.place_at, Store.purged, declared.store_error.StoreError.StoreError}
 use Rattle.base_store.specs.declared.store_error.StoreError.TheVariants as error
-use Rattle.base_folder_store.specs.Added.{next_place, with_stored}
-use Rattle.base_folder_store.specs.Held.{HoldsBase}
 use Rattle.base_folder_store.specs.Opened.{IsLegible, IsNamed, IsOpen, IsWritten, committed_by, held_by, path_of}
-use Rattle.base_folder_store.specs.declared.folder.Folder.{Folder}
-use Rattle.base_folder_store.specs.declared.leaving.Left.{Left}
+use Rattle.base_folder_store.specs.{Added.next_place, Added.with_stored, Held.HoldsBase, declared.folder.Folder.Folder, declared.leaving.Left.Left}
 
 -- A scanned message becomes its stub, and any other message stays.
 abbrev pub left_if : Bool → Filed → Filed

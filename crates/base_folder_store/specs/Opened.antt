@@ -1,13 +1,9 @@
 -- An open base folder.
 use Rattle.std.specs.Prelude.{◌≡◌, ◌≤◌, ◌<◌, ◌+◌, ℕ, List, [], length, IsSome}
 use Rattle.disk_io.specs.Disk.{DiskState, Honestly, bytes_in}
-use Rattle.base_log.specs.Names.{AreNames, folder_of, keys_of, messages_of}
-use Rattle.base_log.specs.AtRest.{IsStaged}
-use Rattle.base_log.specs.Reading.{IsLogIn, IsRead}
 use Rattle.base_log.specs.Standing.{BaseBytes, Represents, and_keys, and_messages, base_at}
-use Rattle.base_log.specs.declared.log.Log.{Log}
-use Rattle.base_folder_store.specs.declared.folder.Folder.{Folder}
-use Rattle.base_folder_store.specs.declared.waiting.Waiting.{Waiting}
+use Rattle.base_log.specs.{Names.AreNames, Names.folder_of, Names.keys_of, Names.messages_of, AtRest.IsStaged, Reading.IsLogIn, Reading.IsRead, declared.log.Log.Log}
+use Rattle.base_folder_store.specs.declared.{folder.Folder.Folder, waiting.Waiting.Waiting}
 
 -- The path of the folder.
 abbrev pub path_of : Folder → List ℕ

@@ -2,15 +2,9 @@
 use Rattle.std.specs.Prelude.{ℕ, List, Option}
 use Rattle.disk_io.specs.Disk.{DiskState, Honestly, IsIn}
 use Rattle.echo_filed.specs.Filed.{Filed}
-use Rattle.base_store.specs.Index.{IsIndexOf}
-use Rattle.base_store.specs.declared.index.Index.{Index}
-use Rattle.base_store.specs.Store.{StoreState}
-use Rattle.base_folder_store.specs.Added.{HasRoomFor, IsFull}
-use Rattle.base_folder_store.specs.Ahead.{AreParts}
-use Rattle.base_folder_store.specs.Held.{HoldsBase, RepresentsBase}
+use Rattle.base_store.specs.{Index.IsIndexOf, declared.index.Index.Index, Store.StoreState}
 use Rattle.base_folder_store.specs.Opened.{IsNamed, IsOpen, committed_by, held_by, path_of}
-use Rattle.base_folder_store.specs.declared.folder.Folder.{Folder}
-use Rattle.base_folder_store.specs.declared.read_ahead.Buffers.{Buffers}
+use Rattle.base_folder_store.specs.{Added.HasRoomFor, Added.IsFull, Ahead.AreParts, Held.HoldsBase, Held.RepresentsBase, declared.folder.Folder.Folder, declared.read_ahead.Buffers.Buffers}
 
 -- The folder has the paths of its files, and if the disk was honest, these agree with its record of them.
 pub record IsUsable (disk : DiskState) (folder : Folder) : Type 0 where

@@ -1,14 +1,11 @@
 -- A message that is read by its number, and the digest in its entry.
 use Rattle.std.specs.Prelude.{◌≡◌, ◌<◌, ℕ, List}
 use Rattle.disk_io.specs.Disk.{DiskState, Honestly}
-use Rattle.echo_filed.specs.Stored.{IsStored, Stored, message_in}
-use Rattle.echo_filed.specs.declared.stored.Version.TheVariants.{Second}
+use Rattle.echo_filed.specs.{Stored.IsStored, Stored.Stored, Stored.message_in, declared.stored.Version.TheVariants.Second}
 use Rattle.base_log.specs.Standing.{BaseBytes}
 use Rattle.base_file.specs.Alone.{MayStandAlone}
 use Rattle.base_store.specs.Keys.{HasBytesOf, digest_at, digested}
-use Rattle.base_folder_store.specs.Held.{digest_by}
-use Rattle.base_folder_store.specs.Opened.{IsLegible, IsWritten}
-use Rattle.base_folder_store.specs.declared.folder.Folder.{Folder}
+use Rattle.base_folder_store.specs.{Held.digest_by, Opened.IsLegible, Opened.IsWritten, declared.folder.Folder.Folder}
 
 -- The folder is only read: no bytes wait, and if the disk was honest its messages are readable.
 pub record IsLookedAt (disk : DiskState) (folder : Folder) : Type 0 where

@@ -1,16 +1,10 @@
 //! Messages are added to a base folder, and committed.
 ghost use Rattle.std.specs.Prelude.{◌≡◌, ◌≢◌, ◌≤◌, ◌<◌, ◌⊎◌, ◌+◌, ◌^◌, ◌/◌, length, IfNone, IfOk, IfSome, OnOk, IsErrOf};
-ghost use Rattle.disk_io.specs.Disk.{Honestly};
-ghost use Rattle.disk_io.specs.Runs.{HasCause, LeavesOnly};
-ghost use Rattle.base_log.specs.AtRest.{IsAtRest, IsStaged};
-ghost use Rattle.base_log.specs.Moments.{LeavesOutside, RepresentsAlone};
-ghost use Rattle.base_log.specs.Opening.{AreGone};
-ghost use Rattle.base_log.specs.Names.{AreNames, folder_of};
-ghost use Rattle.base_log.specs.Standing.{base_at};
+ghost use Rattle.disk_io.specs.{Disk.Honestly, Runs.HasCause, Runs.LeavesOnly};
+ghost use Rattle.base_log.specs.{AtRest.IsAtRest, AtRest.IsStaged, Moments.LeavesOutside, Moments.RepresentsAlone, Opening.AreGone, Names.AreNames, Names.folder_of, Standing.base_at};
 ghost use Rattle.base_folder_store.specs.Added.{IsFull, LacksRoom, OneMoreWaits, SameOthersThanBoth, next_place, with_stored};
 ghost use Rattle.base_folder_store.specs.Calls.{CommitsOnly, HasWriteCause, IsAcknowledged, IsWrittenOut, StagesBoth, StagesOnly, StaysInFiles, StaysOpen};
-ghost use Rattle.base_folder_store.specs.Opened.{IsWritten, committed_by, held_by, path_of};
-ghost use Rattle.base_folder_store.specs.State.{IsUsable};
+ghost use Rattle.base_folder_store.specs.{Opened.IsWritten, Opened.committed_by, Opened.held_by, Opened.path_of, State.IsUsable};
 
 use crate::folder::{ENTRY, Folder};
 use base_log::{CommitRecord, End, GrowingFile, Names, commit, remove_files, stage_bytes};

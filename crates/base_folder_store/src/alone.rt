@@ -1,10 +1,7 @@
 //! One message by itself, as it is stored: read and written.
 ghost use Rattle.std.specs.Prelude.{◌≡◌, false, true, IfOk, IsErrOf};
-ghost use Rattle.echo_filed.specs.declared.stored.Version.TheVariants.{Second};
-ghost use Rattle.echo_filed.specs.Filed.{Filed, IsFiled};
-ghost use Rattle.echo_filed.specs.Stored.{is_short_enough, stored_as, stored_bytes};
-ghost use Rattle.base_file.specs.Alone.{IsStoredAlone};
-ghost use Rattle.base_file.specs.BaseFile.{stored_at};
+ghost use Rattle.echo_filed.specs.{declared.stored.Version.TheVariants.Second, Filed.Filed, Filed.IsFiled, Stored.is_short_enough, Stored.stored_as, Stored.stored_bytes};
+ghost use Rattle.base_file.specs.{Alone.IsStoredAlone, BaseFile.stored_at};
 ghost use Rattle.base_folder_store.specs.Answers.{Answers};
 
 use base_file::{MessageRoom, read_message};

@@ -1,14 +1,10 @@
 //! A message looked up by its digest: only those that have it are read, and keys are compared whole.
 ghost use Rattle.std.specs.Prelude.{◌≡◌, ◌≤◌, ◌/◌, ◌^◌, List, IsErrOf, OnOk};
 ghost use Rattle.std.specs.List.{list_any};
-ghost use Rattle.disk_io.specs.Disk.{Honestly};
-ghost use Rattle.disk_io.specs.Runs.{ChangesNothing};
+ghost use Rattle.disk_io.specs.{Disk.Honestly, Runs.ChangesNothing};
 ghost use Rattle.echo_filed.specs.Filed.{Filed};
-ghost use Rattle.base_store.specs.Index.{IsIndexOf, covered};
-ghost use Rattle.base_store.specs.Keys.{AreWhereRecorded};
-ghost use Rattle.base_folder_store.specs.Added.{next_place};
-ghost use Rattle.base_folder_store.specs.Answers.{Answers, HasReadCause, HaveDigest};
-ghost use Rattle.base_folder_store.specs.Opened.{IsLegible, held_by};
+ghost use Rattle.base_store.specs.{Index.IsIndexOf, Index.covered, Keys.AreWhereRecorded};
+ghost use Rattle.base_folder_store.specs.{Added.next_place, Answers.Answers, Answers.HasReadCause, Answers.HaveDigest, Opened.IsLegible, Opened.held_by};
 
 use crate::folder::Folder;
 use crate::sought::{Sought, is_stored};

@@ -1,10 +1,7 @@
 //! An open base folder: the facts known of its files.
 ghost use Rattle.std.specs.Prelude.{◌≡◌, ◌/◌, IfOk};
-ghost use Rattle.disk_io.specs.Disk.{Honestly};
-ghost use Rattle.disk_io.specs.Runs.{HasCause, LeavesOnly};
-ghost use Rattle.base_log.specs.Moments.{KeepsOutside};
-ghost use Rattle.base_log.specs.Opening.{AreAlone, RepresentsOrWasLeft};
-ghost use Rattle.base_log.specs.Standing.{base_at};
+ghost use Rattle.disk_io.specs.{Disk.Honestly, Runs.HasCause, Runs.LeavesOnly};
+ghost use Rattle.base_log.specs.{Moments.KeepsOutside, Opening.AreAlone, Opening.RepresentsOrWasLeft, Standing.base_at};
 ghost use Rattle.base_folder_store.specs.Opened.{IsFresh, IsLogOfBase, IsOpen, held_by};
 
 use crate::waiting::Waiting;

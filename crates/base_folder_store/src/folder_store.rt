@@ -2,9 +2,7 @@
 ghost use Rattle.std.specs.Prelude.{◌≡◌, true, false};
 ghost use Rattle.disk_io.specs.Disk.{Honestly};
 ghost use Rattle.base_file.specs.Base.{Base};
-ghost use Rattle.base_folder_store.specs.Held.{HoldsBase};
-ghost use Rattle.base_folder_store.specs.Opened.{IsNamed, IsOpen, committed_by, held_by};
-ghost use Rattle.base_folder_store.specs.Owned.{IsUnclaimed, owner_of, with_mark};
+ghost use Rattle.base_folder_store.specs.{Held.HoldsBase, Opened.IsNamed, Opened.IsOpen, Opened.committed_by, Opened.held_by, Owned.IsUnclaimed, Owned.owner_of, Owned.with_mark};
 ghost use Rattle.base_folder_store.specs.State.{IsCached, state_of, where_so};
 ghost use Rattle.base_store.specs.Store.{CommitsNothing, GoesOn, LooksOn};
 

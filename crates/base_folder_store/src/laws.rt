@@ -1,13 +1,10 @@
 //! What holds of the definitions. Each law is the contract of a function that does nothing.
 ghost use Rattle.std.specs.Prelude.{◌≡◌, ◌<◌, ◌^◌, ◌++◌, ℕ, List, false, length};
-ghost use Rattle.base_file.specs.Alone.{IsStoredAlone};
-ghost use Rattle.base_file.specs.Base.{Base, is_known};
+ghost use Rattle.base_file.specs.{Alone.IsStoredAlone, Base.Base, Base.is_known};
 ghost use Rattle.echo_filed.specs.Filed.{Filed, IsFiled, key_of};
 ghost use Rattle.base_log.specs.Standing.{BaseBytes};
-ghost use Rattle.base_store.specs.Keys.{digested};
-ghost use Rattle.base_store.specs.Store.{with_message};
-ghost use Rattle.base_folder_store.specs.Added.{with_stored};
-ghost use Rattle.base_folder_store.specs.Held.{HoldsBase, digest_by};
+ghost use Rattle.base_store.specs.{Keys.digested, Store.with_message};
+ghost use Rattle.base_folder_store.specs.{Added.with_stored, Held.HoldsBase, Held.digest_by};
 
 /// With the bytes of a new message, and its entry, a folder holds the base with that message at its end.
 pub fn one_message_more()

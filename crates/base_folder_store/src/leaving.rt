@@ -1,11 +1,8 @@
 //! What a purge leaves of one message.
 ghost use Rattle.std.specs.Prelude.{◌≡◌, not, false, true, IfOk, OnOk, IsErrOf};
-ghost use Rattle.echo_filed.specs.Stored.{IsStored, Stored, stored_bytes};
-ghost use Rattle.echo_filed.specs.declared.stored.Version.TheVariants.{Second};
-ghost use Rattle.echo_filed.specs.Stubs.{is_stub, stub_of};
+ghost use Rattle.echo_filed.specs.{Stored.IsStored, Stored.Stored, Stored.stored_bytes, declared.stored.Version.TheVariants.Second, Stubs.is_stub, Stubs.stub_of};
 ghost use Rattle.base_file.specs.Alone.{MayStandAlone};
-ghost use Rattle.base_folder_store.specs.Answers.{Answers};
-ghost use Rattle.base_folder_store.specs.Left.{IsLeftOf};
+ghost use Rattle.base_folder_store.specs.{Answers.Answers, Left.IsLeftOf};
 
 use crate::alone::{bytes_scanned, read_alone};
 use base_file::MessageRoom;

@@ -1,8 +1,7 @@
 //! The owner of a base folder, and the digests by its key.
 ghost use Rattle.std.specs.Prelude.{◌≡◌, true, false, IfOk};
 ghost use Rattle.base_store.specs.Keys.{digested_key};
-ghost use Rattle.base_folder_store.specs.Held.{digest_by};
-ghost use Rattle.base_folder_store.specs.Owned.{IsUnclaimed, owner_of, with_mark, with_owner};
+ghost use Rattle.base_folder_store.specs.{Held.digest_by, Owned.IsUnclaimed, Owned.owner_of, Owned.with_mark, Owned.with_owner};
 
 use crate::folder::Folder;
 use base_log::FolderIdentity;

@@ -5,13 +5,9 @@ ghost use Rattle.base_file.specs.Base.{Base};
 ghost use Rattle.echo_filed.specs.Stubs.{is_stub};
 ghost use Rattle.base_log.specs.AtRest.{IsAtRest};
 ghost use Rattle.base_store.specs.Store.{purged};
-ghost use Rattle.base_folder_store.specs.Added.{IsFull, LacksRoom};
-ghost use Rattle.base_folder_store.specs.Answers.{HasReadCause};
 ghost use Rattle.base_folder_store.specs.Calls.{CommitsOnly, HasWriteCause, StagesOnly, StaysInFiles, StaysOpen};
-ghost use Rattle.base_folder_store.specs.Held.{HoldsBase};
 ghost use Rattle.base_folder_store.specs.Left.{ArePaired, HasPurgeCause, IsPurgedTo, IsReadable, IsStagedFew, changed_in};
-ghost use Rattle.base_folder_store.specs.Opened.{IsOpen, committed_by, held_by, path_of};
-ghost use Rattle.base_folder_store.specs.State.{IsUsable};
+ghost use Rattle.base_folder_store.specs.{Added.IsFull, Added.LacksRoom, Answers.HasReadCause, Held.HoldsBase, Opened.IsOpen, Opened.committed_by, Opened.held_by, Opened.path_of, State.IsUsable};
 
 use crate::folder::Folder;
 use crate::leaving::left_of;

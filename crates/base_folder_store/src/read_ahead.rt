@@ -1,7 +1,6 @@
 //! A part of a file in memory: one call reads many messages that follow one another.
 ghost use Rattle.std.specs.Prelude.{◌≡◌, ◌≤◌, ◌-◌, ◌++◌, true, false, ℕ, List, length, take, drop, IfSome, IsSome, OnOk};
-ghost use Rattle.disk_io.specs.Disk.{Honestly, bytes_in};
-ghost use Rattle.disk_io.specs.Runs.{ChangesNothing, HasCause};
+ghost use Rattle.disk_io.specs.{Disk.Honestly, Disk.bytes_in, Runs.ChangesNothing, Runs.HasCause};
 ghost use Rattle.base_folder_store.specs.Ahead.{AreParts, Covers, IsPartOf};
 
 use base_file::MessageRoom;

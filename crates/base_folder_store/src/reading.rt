@@ -1,17 +1,10 @@
 //! Messages and keys of an open base folder, read from its files and from what waits to be written.
 ghost use Rattle.std.specs.Prelude.{◌≡◌, ◌≤◌, ◌<◌, ◌+◌, ◌-◌, ◌*◌, ◌^◌, ◌/◌, ◌++◌, ℕ, List, length, min, IfOk, IsErrOf, IfSome, IsSome, Some, drop, slice_get, take};
-ghost use Rattle.disk_io.specs.Disk.{Honestly, bytes_in};
-ghost use Rattle.disk_io.specs.Runs.{ChangesNothing, HasCause};
-ghost use Rattle.echo_filed.specs.Filed.{Filed};
-ghost use Rattle.echo_filed.specs.Stored.{IsStored, Stored, message_in, stored_bytes};
-ghost use Rattle.echo_filed.specs.declared.stored.Version.TheVariants.{Second};
+ghost use Rattle.disk_io.specs.{Disk.Honestly, Disk.bytes_in, Runs.ChangesNothing, Runs.HasCause};
+ghost use Rattle.echo_filed.specs.{Filed.Filed, Stored.IsStored, Stored.Stored, Stored.message_in, Stored.stored_bytes, declared.stored.Version.TheVariants.Second};
 ghost use Rattle.base_file.specs.Alone.{MayStandAlone};
-ghost use Rattle.base_store.specs.Index.{IsIndexOf};
-ghost use Rattle.base_store.specs.Keys.{HasBytesOf, IsPieceOf, AreWhereRecorded, digest_at};
-ghost use Rattle.base_folder_store.specs.Added.{next_place};
-ghost use Rattle.base_folder_store.specs.Ahead.{AreParts, IsPartOf};
-ghost use Rattle.base_folder_store.specs.Answers.{Answers, HasReadCause, IsStoredOf};
-ghost use Rattle.base_folder_store.specs.Opened.{IsLegible, held_by};
+ghost use Rattle.base_store.specs.{Index.IsIndexOf, Keys.HasBytesOf, Keys.IsPieceOf, Keys.AreWhereRecorded, Keys.digest_at};
+ghost use Rattle.base_folder_store.specs.{Added.next_place, Ahead.AreParts, Ahead.IsPartOf, Answers.Answers, Answers.HasReadCause, Answers.IsStoredOf, Opened.IsLegible, Opened.held_by};
 
 use crate::alone::read_alone;
 use crate::folder::{ENTRY, Folder};

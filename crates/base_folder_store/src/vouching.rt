@@ -1,13 +1,9 @@
 //! A folder that is read and never changed: its messages, each with the digest of its entry.
 ghost use Rattle.std.specs.Prelude.{◌≡◌, ◌<◌, ◌/◌, ◌↔◌, IfOk, IsErrOf, IsTrue, OnOk};
-ghost use Rattle.disk_io.specs.Disk.{Honestly};
-ghost use Rattle.disk_io.specs.Runs.{ChangesNothing};
-ghost use Rattle.echo_filed.specs.Stored.{Stored, message_in};
-ghost use Rattle.echo_filed.specs.declared.stored.Version.TheVariants.{Second};
+ghost use Rattle.disk_io.specs.{Disk.Honestly, Runs.ChangesNothing};
+ghost use Rattle.echo_filed.specs.{Stored.Stored, Stored.message_in, declared.stored.Version.TheVariants.Second};
 ghost use Rattle.base_store.specs.Keys.{digested};
-ghost use Rattle.base_folder_store.specs.Answers.{Answers, HasReadCause};
-ghost use Rattle.base_folder_store.specs.Held.{digest_by};
-ghost use Rattle.base_folder_store.specs.Opened.{IsFresh, IsLegible, IsWritten, held_by};
+ghost use Rattle.base_folder_store.specs.{Answers.Answers, Answers.HasReadCause, Held.digest_by, Opened.IsFresh, Opened.IsLegible, Opened.IsWritten, Opened.held_by};
 ghost use Rattle.base_folder_store.specs.Vouched.{HasDigest, IsThere, IsVouched};
 
 use crate::alone::read_alone;

@@ -1,10 +1,7 @@
 -- Calls that change one file, and the facts that they keep.
 use Rattle.std.proofs.Common.{◌≤◌, ℕ, List, Result, ⊎_elim, arith}
 use Rattle.std.proofs.lemmas.Bool.{cases_lt}
-use Rattle.disk_io.specs.Disk.{DiskState, Files}
-use Rattle.disk_io.specs.Runs.{ChangesAt, HasCause, NoPath, ThisPath}
-use Rattle.disk_io.specs.Steps.{ChangesFile, TornMaking, TornWrite}
-use Rattle.disk_io.specs.Synced.{KeepsOthers}
+use Rattle.disk_io.specs.{Disk.DiskState, Disk.Files, Runs.ChangesAt, Runs.HasCause, Runs.NoPath, Runs.ThisPath, Steps.ChangesFile, Steps.TornMaking, Steps.TornWrite, Synced.KeepsOthers}
 use Rattle.disk_io.specs.declared.disk_error.DiskError.{DiskError}
 use Rattle.base_log.specs.Opening.{KeepsButOne}
 

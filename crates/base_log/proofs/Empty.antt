@@ -1,19 +1,13 @@
 -- A log without records represents no message, with any other files.
 use Rattle.std.proofs.Common.{◌≡◌, ◌≢◌, ◌≤◌, inl, inr, ⊎_elim, ℕ, List, [], ◌∷◌, length, Option, refl, sym, ◌∙◌, ap, subst, arith}
-use Rattle.disk_io.specs.Disk.{DiskState, Files, bytes_in, IsIn}
-use Rattle.disk_io.specs.Steps.{TornMaking, TornWrite, ChangesFile}
-use Rattle.disk_io.specs.Runs.{OneStepOn, LeavesOnly, ChangesNothing}
+use Rattle.disk_io.specs.{Disk.DiskState, Disk.Files, Disk.bytes_in, Disk.IsIn, Steps.TornMaking, Steps.TornWrite, Steps.ChangesFile, Runs.OneStepOn, Runs.LeavesOnly, Runs.ChangesNothing}
 use Rattle.disk_io.specs.Synced.{IsOnDisk}
 use Rattle.disk_io.proofs.Moments.{no_call, then_nothing, then_run, then_call, left_now, weaker_run}
-use Rattle.base_log.specs.Names.{log_of, messages_of, keys_of}
-use Rattle.base_log.specs.Log.{IsLog, IsShutAt}
 use Rattle.base_log.specs.Standing.{BaseBytes, IsEnded, IsFrontOf, IsNew, Represents}
-use Rattle.base_log.specs.Moments.{RepresentsAlone, SameOutside, KeepsOutside}
+use Rattle.base_log.specs.{Names.log_of, Names.messages_of, Names.keys_of, Log.IsLog, Log.IsShutAt, Moments.RepresentsAlone, Moments.SameOutside, Moments.KeepsOutside}
 use Rattle.base_log.specs.Opening.{AreFlushed, AreNamed, RepresentsOrWasLeft}
-use Rattle.base_log.proofs.Calls.{Made}
-use Rattle.base_log.proofs.Same.{recorded_base_by}
-use Rattle.base_log.proofs.Gates.{outside_log}
 use Rattle.base_log.proofs.Paths.{log_in, messages_in, keys_in, messages_not_log, keys_not_log}
+use Rattle.base_log.proofs.{Calls.Made, Same.recorded_base_by, Gates.outside_log}
 
 -- ---- no record
 

@@ -1,20 +1,13 @@
 -- The files that a crash leaves at each time of a commit.
 use Rattle.std.proofs.Common.{◌≡◌, ◌≢◌, ◌≤◌, ◌⊎◌, inl, inr, ℕ, ◌+◌, List, [], ◌∷◌, ◌++◌, length, get_or, drop, sym, ◌∙◌, ap, subst, arith, append_assoc, length-append}
-use Rattle.std.proofs.lemmas.Bool.{cases_eq}
-use Rattle.std.proofs.lemmas.Nat.{from_le_bytes-to_le_bytes_8}
+use Rattle.std.proofs.lemmas.{Bool.cases_eq, Nat.from_le_bytes-to_le_bytes_8}
 use Rattle.std.specs.Prelude.{IsSome}
-use Rattle.disk_io.specs.Disk.{DiskState, Files, bytes_in, IsIn}
-use Rattle.disk_io.specs.Steps.{IsWrittenAt, TornWrite, ChangesFile}
-use Rattle.disk_io.specs.Runs.{OneStepOn, LeavesOnly, ChangesNothing}
+use Rattle.disk_io.specs.{Disk.DiskState, Disk.Files, Disk.bytes_in, Disk.IsIn, Steps.IsWrittenAt, Steps.TornWrite, Steps.ChangesFile, Runs.OneStepOn, Runs.LeavesOnly, Runs.ChangesNothing}
 use Rattle.disk_io.specs.Synced.{IsOnDisk, KeepsOthers}
 use Rattle.disk_io.proofs.Moments.{no_call, nothing_twice, then_run, then_nothing, left_now}
-use Rattle.base_log.specs.Names.{log_of, messages_of, keys_of}
 use Rattle.base_log.specs.Log.{opened, recorded_by, body_of, FitsRecord, last_recorded}
-use Rattle.base_log.specs.Standing.{BaseBytes, Represents, RecordsBase, base_at}
-use Rattle.base_log.specs.AtRest.{IsAtRest, IsStaged}
-use Rattle.base_log.specs.Moments.{SameOutside, KeepsOutside, IsBeforeOrAfter}
-use Rattle.base_log.specs.declared.log.CommitRecord.{CommitRecord}
-use Rattle.base_log.specs.declared.log.End.{End}
+use Rattle.base_log.specs.{Names.log_of, Names.messages_of, Names.keys_of, Standing.BaseBytes, Standing.Represents, Standing.RecordsBase, Standing.base_at, AtRest.IsAtRest, AtRest.IsStaged}
+use Rattle.base_log.specs.{Moments.SameOutside, Moments.KeepsOutside, Moments.IsBeforeOrAfter, declared.log.CommitRecord.CommitRecord, declared.log.End.End}
 use Rattle.base_log.proofs.Keeping.{on_disk_kept, on_disk_quiet, outside_kept, outside_quiet, outside_twice, settled_on}
 use Rattle.base_log.proofs.Logs.{opened-snoc, AreBodies-snoc, last_recorded-snoc, shut_log, shut_at, torn_record, whole_record, torn_gate, whole_gate}
 use Rattle.base_log.proofs.Paths.{log_in, messages_in, keys_in, messages_not_log, keys_not_log}

@@ -1,30 +1,17 @@
 -- More bytes after the counted ones in one of the two files that grow, and the files that a crash leaves meanwhile.
 use Rattle.std.proofs.Common.{◌≡◌, ◌≢◌, ◌≤◌, inl, inr, ℕ, ◌+◌, min, List, [], ◌∷◌, ◌++◌, length, take, drop, Option, refl, sym, ◌∙◌, ap, subst, arith, append_assoc, length-append, length-take}
-use Rattle.std.proofs.lemmas.Bool.{cases_eq}
-use Rattle.std.proofs.lemmas.List.{take_at, take-take, take-append-le}
+use Rattle.std.proofs.lemmas.{Bool.cases_eq, List.take_at, List.take-take, List.take-append-le}
 use Rattle.std.specs.Prelude.{IsSome}
-use Rattle.disk_io.specs.Disk.{DiskState, Files, bytes_in, IsIn}
-use Rattle.disk_io.specs.Steps.{IsWrittenAt, TornWrite, ChangesFile}
-use Rattle.disk_io.specs.Runs.{OneStepOn, LeavesOnly}
-use Rattle.disk_io.specs.Synced.{KeepsOthers}
-use Rattle.disk_io.proofs.Moments.{one_call, weaker_run}
-use Rattle.disk_io.proofs.Tearing.{TornWrite-none, ChangesFile-none}
+use Rattle.disk_io.specs.{Disk.DiskState, Disk.Files, Disk.bytes_in, Disk.IsIn, Steps.IsWrittenAt, Steps.TornWrite, Steps.ChangesFile, Runs.OneStepOn, Runs.LeavesOnly, Synced.KeepsOthers}
+use Rattle.disk_io.proofs.{Moments.one_call, Moments.weaker_run, Tearing.TornWrite-none, Tearing.ChangesFile-none}
 use Rattle.base_log.specs.Names.{AreNames, folder_of, log_of, messages_of, keys_of}
-use Rattle.base_log.specs.Log.{IsLog, last_recorded, opened}
 use Rattle.base_log.specs.Standing.{BaseBytes, IsFrontOf, AreThere, Represents, RecordsBase, base_at}
-use Rattle.base_log.specs.AtRest.{HoldsNext, IsLogAt, IsStaged}
 use Rattle.base_log.specs.Growing.{and_bytes, counted, file_of, path_in, with_more}
-use Rattle.base_log.specs.Moments.{RepresentsAlone}
-use Rattle.base_log.specs.declared.log.CommitRecord.{CommitRecord}
-use Rattle.base_log.specs.declared.log.End.{End}
-use Rattle.base_log.specs.declared.names.Names.{Names}
-use Rattle.base_log.specs.declared.staging.GrowingFile.{GrowingFile}
+use Rattle.base_log.specs.{Log.IsLog, Log.last_recorded, Log.opened, AtRest.HoldsNext, AtRest.IsLogAt, AtRest.IsStaged, Moments.RepresentsAlone, declared.log.CommitRecord.CommitRecord}
+use Rattle.base_log.specs.declared.{log.End.End, names.Names.Names, staging.GrowingFile.GrowingFile}
 use Rattle.base_log.specs.declared.staging.GrowingFile.TheVariants as file
-use Rattle.base_log.proofs.Keeping.{log_moved, on_disk_kept}
-use Rattle.base_log.proofs.Calls.{Wrote, others_kept}
-use Rattle.base_log.proofs.Logs.{shut_log, shut_at}
 use Rattle.base_log.proofs.Paths.{log_not_messages, log_not_keys, messages_not_keys, keys_not_messages, messages_of-injective, keys_of-injective, messages_in, keys_in}
-use Rattle.base_log.proofs.Same.{front_long, recorded_base_by}
+use Rattle.base_log.proofs.{Keeping.log_moved, Keeping.on_disk_kept, Calls.Wrote, Calls.others_kept, Logs.shut_log, Logs.shut_at, Same.front_long, Same.recorded_base_by}
 
 -- ---- bytes
 

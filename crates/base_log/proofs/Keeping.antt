@@ -1,14 +1,8 @@
 -- Calls that keep files: their paths, their bytes on the disk, and the log.
 use Rattle.std.proofs.Common.{◌≡◌, ◌≢◌, List, ℕ, arith}
 use Rattle.std.specs.Prelude.{IsSome}
-use Rattle.disk_io.specs.Disk.{DiskState, IsIn}
-use Rattle.disk_io.specs.Runs.{ChangesNothing}
-use Rattle.disk_io.specs.Synced.{IsOnDisk, KeepsOthers}
-use Rattle.base_log.specs.Names.{log_of}
-use Rattle.base_log.specs.AtRest.{IsLogAt}
-use Rattle.base_log.specs.Moments.{KeepsOutside}
-use Rattle.base_log.specs.Opening.{AreNamed, KeepsButOne}
-use Rattle.base_log.specs.declared.log.End.{End}
+use Rattle.disk_io.specs.{Disk.DiskState, Disk.IsIn, Runs.ChangesNothing, Synced.IsOnDisk, Synced.KeepsOthers}
+use Rattle.base_log.specs.{Names.log_of, AtRest.IsLogAt, Moments.KeepsOutside, Opening.AreNamed, Opening.KeepsButOne, declared.log.End.End}
 
 -- a call without a change keeps all other files
 pub but_one_quiet : (d e : DiskState) (file : List ℕ) → ChangesNothing d e → KeepsButOne d e file

@@ -1,10 +1,7 @@
 -- The files outside a folder that a crash leaves while its files change.
 use Rattle.std.proofs.Common.{◌≢◌, ℕ, List, Option, inr, refl, sym, ◌∙◌, subst}
-use Rattle.disk_io.specs.Disk.{DiskState, IsIn}
-use Rattle.disk_io.specs.Runs.{ChangesAt, ChangesNothing, LeavesOnly, OneStepOn}
-use Rattle.disk_io.specs.Steps.{ChangesFile}
+use Rattle.disk_io.specs.{Disk.DiskState, Disk.IsIn, Runs.ChangesAt, Runs.ChangesNothing, Runs.LeavesOnly, Runs.OneStepOn, Steps.ChangesFile, Synced.KeepsOthers}
 use Rattle.disk_io.proofs.Moments.{left_now, no_call, one_call, then_run, weaker_run}
-use Rattle.disk_io.specs.Synced.{KeepsOthers}
 use Rattle.base_log.specs.Moments.{KeepsOutside, LeavesOutside, SameNamedOutside}
 use Rattle.base_log.proofs.Keeping.{outside_kept, outside_quiet, outside_twice}
 

@@ -1,18 +1,9 @@
 -- A file of a base folder is made.
 use Rattle.std.proofs.Common.{◌≢◌, ℕ, List, arith}
-use Rattle.disk_io.specs.Disk.{DiskState}
-use Rattle.disk_io.specs.Runs.{LeavesOnly}
-use Rattle.disk_io.specs.Steps.{TornMaking}
-use Rattle.disk_io.specs.Synced.{IsOnDisk}
-use Rattle.base_log.specs.Names.{keys_of, log_of, messages_of}
-use Rattle.base_log.specs.AtRest.{IsAtRest}
-use Rattle.base_log.specs.Moments.{KeepsOutside}
-use Rattle.base_log.specs.Opening.{AreNamed}
-use Rattle.base_log.specs.declared.log.End.{End}
-use Rattle.base_log.proofs.Keeping.{outside_but_one, outside_twice}
-use Rattle.base_log.proofs.Calls.{Made, but_one_call}
-use Rattle.base_log.proofs.Empty.{LogAlone, log_alone_first, log_alone_made}
+use Rattle.disk_io.specs.{Disk.DiskState, Runs.LeavesOnly, Steps.TornMaking, Synced.IsOnDisk}
+use Rattle.base_log.specs.{Names.keys_of, Names.log_of, Names.messages_of, AtRest.IsAtRest, Moments.KeepsOutside, Opening.AreNamed, declared.log.End.End}
 use Rattle.base_log.proofs.Paths.{keys_others, keys_in, keys_not_messages, log_not_keys, log_not_messages, messages_others, messages_in}
+use Rattle.base_log.proofs.{Keeping.outside_but_one, Keeping.outside_twice, Calls.Made, Calls.but_one_call, Empty.LogAlone, Empty.log_alone_first, Empty.log_alone_made}
 use Rattle.base_log.proofs.Renewed.{FilesAlone, alone_changed, alone_first}
 
 -- the two files of a number are made

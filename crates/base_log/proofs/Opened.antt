@@ -2,22 +2,12 @@
 use Rattle.std.proofs.Common.{◌≡◌, ◌≢◌, ◌≤◌, ◌<◌, ◌⊎◌, inl, inr, ⊎_elim, ℕ, List, [], ◌∷◌, ◌++◌, length, get_or, Option, Some, None, refl, sym, ◌∙◌, ap, subst, arith, length-append}
 use Rattle.std.proofs.lemmas.List.{get_or_at}
 use Rattle.std.specs.Prelude.{IsSome}
-use Rattle.disk_io.specs.Disk.{DiskState, Files, bytes_in}
-use Rattle.disk_io.specs.Synced.{IsOnDisk}
-use Rattle.disk_io.specs.Runs.{ChangesNothing}
-use Rattle.base_log.specs.AtRest.{IsAtRest, IsLogAt}
-use Rattle.base_log.specs.Names.{log_of, messages_of, keys_of}
+use Rattle.disk_io.specs.{Disk.DiskState, Disk.Files, Disk.bytes_in, Synced.IsOnDisk, Runs.ChangesNothing}
 use Rattle.base_log.specs.Log.{opened, AreBodies, IsLog, IsShutAt, last_recorded, nothing_recorded}
-use Rattle.base_log.specs.Opening.{AreNamed, HasFiles, KeepsButOne}
 use Rattle.base_log.specs.Standing.{BaseBytes, AreThere, IsBroken, IsLost, IsNew, RecordsBase, Represents, base_at}
-use Rattle.base_log.specs.Reading.{ReadsAll}
-use Rattle.base_log.specs.declared.log.CommitRecord.{CommitRecord}
-use Rattle.base_log.specs.declared.log.End.{End}
-use Rattle.base_log.proofs.Keeping.{settled_on}
-use Rattle.base_log.proofs.Empty.{new_log}
-use Rattle.base_log.proofs.Logs.{shut_log, shut_at}
-use Rattle.base_log.proofs.Paths.{messages_in, keys_in, messages_not_log, keys_not_log}
-use Rattle.base_log.proofs.Quiet.{log_quiet}
+use Rattle.base_log.specs.{AtRest.IsAtRest, AtRest.IsLogAt, Names.log_of, Names.messages_of, Names.keys_of, Opening.AreNamed, Opening.HasFiles, Opening.KeepsButOne, Reading.ReadsAll}
+use Rattle.base_log.specs.declared.log.{CommitRecord.CommitRecord, End.End}
+use Rattle.base_log.proofs.{Keeping.settled_on, Empty.new_log, Logs.shut_log, Logs.shut_at, Paths.messages_in, Paths.keys_in, Paths.messages_not_log, Paths.keys_not_log, Quiet.log_quiet}
 use Rattle.base_log.proofs.Same.{RecordsBase-seen, ended_by, front_long, recorded_base_by}
 
 no_bodies : (bodies : List (List ℕ)) → AreBodies bodies → length (opened bodies) < 50 → bodies ≡ []

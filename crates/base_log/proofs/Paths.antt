@@ -1,13 +1,9 @@
 -- The files of a folder are in it, and their paths differ.
 use Rattle.std.proofs.Common.{◌==◌, ◌&&◌, not, true, ◌≡◌, ◌≢◌, ℕ, ◌+◌, List, [], ◌∷◌, ◌++◌, get_or, refl, sym, ap, arith, All}
-use Rattle.std.proofs.lemmas.List.{append_cancel_left}
-use Rattle.std.proofs.lemmas.List.Elements.{All-weaker}
-use Rattle.std.proofs.lemmas.List.Sums.{AllPass-from_list_all}
-use Rattle.std.proofs.lemmas.Bool.{eqb-false, ne_eqb, not-true}
+use Rattle.std.proofs.lemmas.{List.append_cancel_left, List.Elements.All-weaker, List.Sums.AllPass-from_list_all, Bool.eqb-false, Bool.ne_eqb, Bool.not-true}
 use Rattle.std.specs.List.{list_all}
 use Rattle.disk_io.specs.Disk.{IsIn}
-use Rattle.base_log.specs.Names.{IsOtherNumber, log_of, messages_of, keys_of}
-use Rattle.base_log.specs.declared.names.TheConstants.{LOG, MESSAGES, KEYS}
+use Rattle.base_log.specs.{Names.IsOtherNumber, Names.log_of, Names.messages_of, Names.keys_of, declared.names.TheConstants.LOG, declared.names.TheConstants.MESSAGES, declared.names.TheConstants.KEYS}
 
 pub log_not_messages : (path : List ℕ) (n : ℕ) → log_of path ≢ messages_of path n
 log_not_messages path n is = absurd (omega (arith, ap (λ (l : List ℕ). get_or l 0 0) (append_cancel_left path LOG.now (MESSAGES.now ++ (48 + n) ∷ []) is)))

@@ -1,13 +1,7 @@
 -- A base folder on a disk that has not changed.
 use Rattle.std.proofs.Common.{◌≡◌, ℕ, List, sym, ◌∙◌, subst, arith}
-use Rattle.disk_io.specs.Disk.{DiskState, Files}
-use Rattle.disk_io.specs.Runs.{ChangesNothing}
-use Rattle.base_log.specs.Names.{log_of}
-use Rattle.base_log.specs.Standing.{IsNew, base_at}
-use Rattle.base_log.specs.AtRest.{IsLogAt, IsStaged}
-use Rattle.base_log.specs.Opening.{StayGone}
-use Rattle.base_log.specs.declared.log.CommitRecord.{CommitRecord}
-use Rattle.base_log.specs.declared.log.End.{End}
+use Rattle.disk_io.specs.{Disk.DiskState, Disk.Files, Runs.ChangesNothing}
+use Rattle.base_log.specs.{Names.log_of, Standing.IsNew, Standing.base_at, AtRest.IsLogAt, AtRest.IsStaged, Opening.StayGone, declared.log.CommitRecord.CommitRecord, declared.log.End.End}
 use Rattle.base_log.proofs.Keeping.{log_moved, on_disk_quiet}
 
 -- the same bytes are seen

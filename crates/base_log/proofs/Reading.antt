@@ -2,11 +2,7 @@
 use Rattle.std.proofs.Common.{◌≡◌, ◌≤◌, ℕ, ◌+◌, List, [], ◌∷◌, ◌++◌, length, get_or, take, drop, sym, ◌∙◌, ap, arith, length-append, length-take, length-drop, take-append-drop, add-zero}
 use Rattle.std.proofs.lemmas.List.{drop_more, drop-drop, drop-take, take-take, get_or-drop, get_or-take}
 use Rattle.std.specs.Int.{w64, from_le_bytes}
-use Rattle.base_log.specs.Log.{opened, mark_by, recorded_by}
-use Rattle.base_log.specs.Reading.{ReadsTo}
-use Rattle.base_log.specs.declared.log.FolderIdentity.{FolderIdentity}
-use Rattle.base_log.specs.declared.log.CommitRecord.{CommitRecord}
-use Rattle.base_log.specs.declared.log.End.{End}
+use Rattle.base_log.specs.{Log.opened, Log.mark_by, Log.recorded_by, Reading.ReadsTo, declared.log.FolderIdentity.FolderIdentity, declared.log.CommitRecord.CommitRecord, declared.log.End.End}
 use Rattle.base_log.proofs.Logs.{opened-snoc, AreBodies-snoc, last_recorded-snoc}
 
 -- ---- fields

@@ -1,18 +1,11 @@
 -- A base folder at rest, from which a call removes a file that does not count.
 use Rattle.std.proofs.Common.{◌≡◌, ◌≢◌, ℕ, List, Option, Some, None, refl, arith}
 use Rattle.std.specs.Prelude.{IsSome}
-use Rattle.disk_io.specs.Disk.{DiskState, IsIn}
-use Rattle.disk_io.specs.Runs.{ChangesAt, ChangesNothing, LeavesOnly, ThisPath}
-use Rattle.disk_io.specs.Steps.{ChangesFile, TornRemoval}
-use Rattle.base_log.specs.Names.{IsOtherNumber, messages_of, keys_of}
-use Rattle.base_log.specs.AtRest.{IsAtRest}
-use Rattle.base_log.specs.Moments.{RepresentsAlone}
-use Rattle.base_log.specs.Opening.{KeepsButOne}
-use Rattle.base_log.specs.Standing.{base_at}
-use Rattle.base_log.specs.declared.log.End.{End}
+use Rattle.disk_io.specs.{Disk.DiskState, Disk.IsIn, Runs.ChangesAt, Runs.ChangesNothing, Runs.LeavesOnly, Runs.ThisPath, Steps.ChangesFile, Steps.TornRemoval}
+use Rattle.base_log.specs.{Names.IsOtherNumber, Names.messages_of, Names.keys_of, AtRest.IsAtRest, Moments.RepresentsAlone, Opening.KeepsButOne, Standing.base_at, declared.log.End.End}
 use Rattle.disk_io.proofs.Moments.{then_nothing}
-use Rattle.base_log.proofs.Keeping.{log_moved, on_disk_but_one}
 use Rattle.base_log.proofs.Renewed.{FilesAlone, alone_changed, alone_first, alone_run, same_base}
+use Rattle.base_log.proofs.Keeping.{log_moved, on_disk_but_one}
 
 -- no file, or there would be some
 pub not_there : (f : Option (List ℕ)) → (IsSome f → ⊥) → f ≡ None

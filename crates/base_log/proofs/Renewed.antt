@@ -1,14 +1,8 @@
 -- A base folder at rest, in which a call makes other files.
 use Rattle.std.proofs.Common.{◌≡◌, inl, ℕ, List, Option, take, sym, ◌∙◌, subst, arith}
-use Rattle.disk_io.specs.Disk.{DiskState, Files, bytes_in, IsIn}
-use Rattle.disk_io.specs.Steps.{ChangesFile}
-use Rattle.disk_io.specs.Runs.{ChangesAt, LeavesOnly}
+use Rattle.disk_io.specs.{Disk.DiskState, Disk.Files, Disk.bytes_in, Disk.IsIn, Steps.ChangesFile, Runs.ChangesAt, Runs.LeavesOnly}
 use Rattle.disk_io.proofs.Moments.{no_call, then_call, weaker_run}
-use Rattle.base_log.specs.Names.{IsOtherNumber, log_of, messages_of, keys_of}
-use Rattle.base_log.specs.Standing.{base_at}
-use Rattle.base_log.specs.AtRest.{IsAtRest}
-use Rattle.base_log.specs.Moments.{SameOutside, RepresentsAlone}
-use Rattle.base_log.specs.declared.log.End.{End}
+use Rattle.base_log.specs.{Names.IsOtherNumber, Names.log_of, Names.messages_of, Names.keys_of, Standing.base_at, AtRest.IsAtRest, Moments.SameOutside, Moments.RepresentsAlone, declared.log.End.End}
 use Rattle.base_log.proofs.Rested.{rest_same}
 
 module _ (d0 : DiskState) (path : List ℕ) (end : End) (rest : IsAtRest d0 path end) where

@@ -1,13 +1,9 @@
 -- A base folder at rest: nothing is staged yet.
 use Rattle.std.proofs.Common.{◌≡◌, List, ℕ, arith}
 use Rattle.disk_io.specs.Disk.{DiskState, Files}
-use Rattle.base_log.specs.Names.{log_of, messages_of, keys_of}
-use Rattle.base_log.specs.Standing.{Represents, base_at}
-use Rattle.base_log.specs.AtRest.{IsAtRest, IsStaged}
-use Rattle.base_log.specs.declared.log.FolderIdentity.{FolderIdentity}
+use Rattle.base_log.specs.{Names.log_of, Names.messages_of, Names.keys_of, Standing.Represents, Standing.base_at, AtRest.IsAtRest, AtRest.IsStaged, declared.log.FolderIdentity.FolderIdentity}
 use Rattle.base_log.specs.declared.log.End.{End}
-use Rattle.base_log.proofs.Logs.{shut_log, shut_at}
-use Rattle.base_log.proofs.Same.{AreThere-both, RecordsBase-seen}
+use Rattle.base_log.proofs.{Logs.shut_log, Logs.shut_at, Same.AreThere-both, Same.RecordsBase-seen}
 
 -- files that are as they are seen in the folder
 pub rest_same : (d : DiskState) (path : List ℕ) (end : End) → IsAtRest d path end → (c : Files) → c (log_of path) ≡ d.seen (log_of path)

@@ -2,12 +2,9 @@
 use Rattle.std.proofs.Common.{◌≡◌, ◌≢◌, ◌≤◌, ◌<◌, ℕ, List, [], ◌∷◌, length, take, sym, ap, subst, arith, length-take}
 use Rattle.std.specs.Prelude.{IsSome}
 use Rattle.disk_io.specs.Disk.{DiskState, Files, bytes_in}
-use Rattle.base_log.specs.Names.{log_of, messages_of, keys_of}
-use Rattle.base_log.specs.Log.{IsLog, IsShutAt, last_recorded, opened}
 use Rattle.base_log.specs.Standing.{BaseBytes, IsFrontOf, AreThere, IsEnded, RecordsBase, Represents, base_at}
-use Rattle.base_log.specs.declared.log.CommitRecord.{CommitRecord}
-use Rattle.base_log.proofs.Logs.{one_log}
-use Rattle.base_log.proofs.Paths.{messages_not_log, keys_not_log}
+use Rattle.base_log.specs.{Names.log_of, Names.messages_of, Names.keys_of, Log.IsLog, Log.IsShutAt, Log.last_recorded, Log.opened, declared.log.CommitRecord.CommitRecord}
+use Rattle.base_log.proofs.{Logs.one_log, Paths.messages_not_log, Paths.keys_not_log}
 
 pub AreThere-same : (path : List ℕ) (bodies : List (List ℕ)) (a c : Files) → c (messages_of path (last_recorded bodies).number) ≡ a (messages_of path (last_recorded bodies).number)
     → c (keys_of path (last_recorded bodies).number) ≡ a (keys_of path (last_recorded bodies).number) → AreThere path bodies a → AreThere path bodies c

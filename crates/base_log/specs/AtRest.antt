@@ -3,10 +3,7 @@ use Rattle.std.specs.Prelude.{◌≡◌, ◌≢◌, ◌<◌, ◌≤◌, ℕ, Lis
 use Rattle.disk_io.specs.Disk.{DiskState, Files, Honestly, bytes_in, IsIn}
 use Rattle.disk_io.specs.Synced.{IsOnDisk}
 use Rattle.base_log.specs.Names.{AreNames, folder_of, log_of, messages_of, keys_of}
-use Rattle.base_log.specs.Log.{opened, AreBodies, last_recorded}
-use Rattle.base_log.specs.Standing.{BaseBytes, Represents, base_at}
-use Rattle.base_log.specs.declared.log.CommitRecord.{CommitRecord}
-use Rattle.base_log.specs.declared.log.End.{End}
+use Rattle.base_log.specs.{Log.opened, Log.AreBodies, Log.last_recorded, Standing.BaseBytes, Standing.Represents, Standing.base_at, declared.log.CommitRecord.CommitRecord, declared.log.End.End}
 use Rattle.base_log.specs.declared.names.Names.{Names}
 
 -- The log has a closed gate at this place, after records that end with this one, and is on the disk.

@@ -1,9 +1,6 @@
 -- The two files of a number, which only grow.
 use Rattle.std.specs.Prelude.{◌+◌, ℕ, List}
-use Rattle.base_log.specs.Names.{keys_of, messages_of}
-use Rattle.base_log.specs.Standing.{BaseBytes, and_keys, and_messages}
-use Rattle.base_log.specs.declared.log.CommitRecord.{CommitRecord}
-use Rattle.base_log.specs.declared.names.Names.{Names}
+use Rattle.base_log.specs.{Names.keys_of, Names.messages_of, Standing.BaseBytes, Standing.and_keys, Standing.and_messages, declared.log.CommitRecord.CommitRecord, declared.names.Names.Names}
 use Rattle.base_log.specs.declared.staging.GrowingFile.{GrowingFile}
 use Rattle.base_log.specs.declared.staging.GrowingFile.TheVariants as file
 

@@ -1,8 +1,7 @@
 -- The log of a base folder: its records, and their end.
 use Rattle.std.specs.Prelude.{◌≡◌, ◌≢◌, ◌<◌, ◌⊎◌, ◌^◌, ℕ, List, [], ◌∷◌, ◌++◌, length, take, drop, slice_index}
 use Rattle.std.specs.Int.{w64, from_le_bytes, to_le_bytes}
-use Rattle.base_log.specs.declared.log.FolderIdentity.{FolderIdentity}
-use Rattle.base_log.specs.declared.log.CommitRecord.{CommitRecord}
+use Rattle.base_log.specs.declared.log.{FolderIdentity.FolderIdentity, CommitRecord.CommitRecord}
 
 -- The bytes of records in order. Each one is an open gate and the body of the record.
 abbrev pub opened : List (List ℕ) → List ℕ

@@ -1,7 +1,6 @@
 -- The files that a crash may leave during a commit.
 use Rattle.std.specs.Prelude.{◌≡◌, ◌⊎◌, ℕ, List}
-use Rattle.disk_io.specs.Disk.{DiskState, Files, Honestly, IsIn}
-use Rattle.disk_io.specs.Runs.{LeavesOnly, OneStepOn}
+use Rattle.disk_io.specs.{Disk.DiskState, Disk.Files, Disk.Honestly, Disk.IsIn, Runs.LeavesOnly, Runs.OneStepOn}
 use Rattle.base_log.specs.Standing.{BaseBytes, Represents}
 
 -- The files outside the folder that were on the disk are unchanged.

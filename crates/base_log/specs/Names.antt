@@ -1,8 +1,7 @@
 -- The files of a base folder. The path of a folder ends with a slash, or is empty.
 use Rattle.std.specs.Prelude.{◌≡◌, ◌≢◌, ℕ, ◌+◌, List, [], ◌∷◌, ◌++◌}
 use Rattle.disk_io.specs.Disk.{IsIn}
-use Rattle.base_log.specs.declared.names.TheConstants.{LOG, MESSAGES, KEYS}
-use Rattle.base_log.specs.declared.names.Names.{Names}
+use Rattle.base_log.specs.declared.names.{TheConstants.LOG, TheConstants.MESSAGES, TheConstants.KEYS, Names.Names}
 
 abbrev pub log_of : List ℕ → List ℕ
 log_of path = path ++ LOG.now

@@ -1,17 +1,10 @@
 -- The premises and effects of opening a base folder.
 use Rattle.std.specs.Prelude.{◌≡◌, ◌≢◌, ◌≤◌, ◌<◌, ◌⊎◌, ℕ, List, [], length, None, Result, IsErrOf, IsSome}
-use Rattle.disk_io.specs.Device.{Failed}
-use Rattle.disk_io.specs.Disk.{DiskState, Files, IsIn, bytes_in}
-use Rattle.disk_io.specs.Synced.{IsOnDisk}
-use Rattle.disk_io.specs.declared.disk_error.DiskError.{DiskError}
+use Rattle.disk_io.specs.{Device.Failed, Disk.DiskState, Disk.Files, Disk.IsIn, Disk.bytes_in, Synced.IsOnDisk, declared.disk_error.DiskError.DiskError}
 use Rattle.disk_io.specs.declared.disk_error.DiskError.TheVariants as disk
-use Rattle.base_log.specs.declared.log.CommitRecord.{CommitRecord}
-use Rattle.base_log.specs.declared.folder_error.FolderError.{FolderError}
+use Rattle.base_log.specs.{declared.log.CommitRecord.CommitRecord, declared.folder_error.FolderError.FolderError, Log.IsLog, Log.IsShutAt, Names.log_of, Names.messages_of, Names.keys_of}
+use Rattle.base_log.specs.{Standing.BaseBytes, Standing.IsNew, Moments.RepresentsAlone}
 use Rattle.base_log.specs.declared.folder_error.FolderError.TheVariants as folder
-use Rattle.base_log.specs.Log.{IsLog, IsShutAt}
-use Rattle.base_log.specs.Names.{log_of, messages_of, keys_of}
-use Rattle.base_log.specs.Standing.{BaseBytes, IsNew}
-use Rattle.base_log.specs.Moments.{RepresentsAlone}
 
 -- A fault of the disk as a fault of a folder.
 abbrev pub folder_cause : DiskError → FolderError

@@ -1,10 +1,7 @@
 -- Reading a log.
 use Rattle.std.specs.Prelude.{◌≡◌, ℕ, List, ◌++◌, length}
 use Rattle.disk_io.specs.Disk.{DiskState, Files, Honestly, bytes_in}
-use Rattle.base_log.specs.Names.{log_of}
-use Rattle.base_log.specs.Log.{opened, AreBodies, EndsHere, last_recorded}
-use Rattle.base_log.specs.declared.log.End.{End}
-use Rattle.base_log.specs.declared.log.Log.{Log}
+use Rattle.base_log.specs.{Names.log_of, Log.opened, Log.AreBodies, Log.EndsHere, Log.last_recorded, declared.log.End.End, declared.log.Log.Log}
 
 -- The records of a log up to a place, and the bytes after it.
 pub record ReadsTo (bytes : List ℕ) (end : End) (rest : List ℕ) : Type 0 where

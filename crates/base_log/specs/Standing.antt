@@ -1,9 +1,7 @@
 -- The base that the files of a base folder represent.
 use Rattle.std.specs.Prelude.{◌≡◌, ◌<◌, ◌≤◌, ◌⊎◌, ℕ, List, [], ◌∷◌, ◌++◌, length, take, IsSome}
 use Rattle.disk_io.specs.Disk.{DiskState, Files, bytes_in}
-use Rattle.base_log.specs.Names.{log_of, messages_of, keys_of}
-use Rattle.base_log.specs.Log.{IsLog, IsShutAt, last_recorded, opened}
-use Rattle.base_log.specs.declared.log.FolderIdentity.{FolderIdentity}
+use Rattle.base_log.specs.{Names.log_of, Names.messages_of, Names.keys_of, Log.IsLog, Log.IsShutAt, Log.last_recorded, Log.opened, declared.log.FolderIdentity.FolderIdentity}
 use Rattle.base_log.specs.declared.log.CommitRecord.{CommitRecord}
 
 -- The bytes of the messages, those of their keys, the cursor, and the mark.

@@ -1,11 +1,7 @@
 //! Files of another number, for a purge.
 ghost use Rattle.std.specs.Prelude.{◌≡◌, ◌≢◌, ℕ, List, IfOk};
-ghost use Rattle.disk_io.specs.Disk.{Honestly};
-ghost use Rattle.disk_io.specs.Runs.{HasCause};
-ghost use Rattle.base_log.specs.Names.{AreNames, folder_of, keys_of, messages_of};
-ghost use Rattle.base_log.specs.Standing.{base_at};
-ghost use Rattle.base_log.specs.AtRest.{IsAtRest, IsFreeNumber, IsStaged};
-ghost use Rattle.base_log.specs.Moments.{StagesOnly};
+ghost use Rattle.disk_io.specs.{Disk.Honestly, Runs.HasCause};
+ghost use Rattle.base_log.specs.{Names.AreNames, Names.folder_of, Names.keys_of, Names.messages_of, Standing.base_at, AtRest.IsAtRest, AtRest.IsFreeNumber, AtRest.IsStaged, Moments.StagesOnly};
 
 use crate::log::{CommitRecord, End};
 use crate::names::Names;

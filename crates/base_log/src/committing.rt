@@ -1,11 +1,7 @@
 //! A commit: the staged bytes are synced, a record is written after the closed gate, and its gate is opened.
 ghost use Rattle.std.specs.Prelude.{◌≡◌, ◌<◌, ◌+◌, ◌^◌, ◌++◌, ◌∷◌, [], IfOk};
-ghost use Rattle.disk_io.specs.Disk.{Honestly};
-ghost use Rattle.disk_io.specs.Runs.{LeavesOnly, HasCause};
-ghost use Rattle.base_log.specs.Names.{folder_of};
-ghost use Rattle.base_log.specs.Log.{body_of, FitsRecord};
-ghost use Rattle.base_log.specs.Standing.{base_at};
-ghost use Rattle.base_log.specs.AtRest.{IsAtRest, IsStagedBy};
+ghost use Rattle.disk_io.specs.{Disk.Honestly, Runs.LeavesOnly, Runs.HasCause};
+ghost use Rattle.base_log.specs.{Names.folder_of, Log.body_of, Log.FitsRecord, Standing.base_at, AtRest.IsAtRest, AtRest.IsStagedBy};
 ghost use Rattle.base_log.specs.Moments.{IsBeforeOrAfter, KeepsOutside, LeavesOutside};
 
 use crate::log::{CommitRecord, End};

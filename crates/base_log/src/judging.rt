@@ -1,12 +1,8 @@
 //! The contents of a folder's files, and whether they hold a base. Nothing is changed.
 ghost use Rattle.std.specs.Prelude.{◌≡◌, ◌≤◌, ◌<◌, ◌↔◌, length, IfOk, IsErrOf, IsSome, IsTrue, OnOk};
-ghost use Rattle.disk_io.specs.Disk.{Honestly, bytes_in};
-ghost use Rattle.disk_io.specs.Runs.{ChangesNothing, HasCause};
-ghost use Rattle.base_log.specs.Log.{IsShutAt};
-ghost use Rattle.base_log.specs.Names.{AreNames, folder_of};
-ghost use Rattle.base_log.specs.Opening.{HasFiles, HasFolderCause};
-ghost use Rattle.base_log.specs.Reading.{IsLogIn, IsRead};
+ghost use Rattle.disk_io.specs.{Disk.Honestly, Disk.bytes_in, Runs.ChangesNothing, Runs.HasCause};
 ghost use Rattle.base_log.specs.Standing.{HasNoBytes, IsBroken, IsLost, Represents, base_at};
+ghost use Rattle.base_log.specs.{Log.IsShutAt, Names.AreNames, Names.folder_of, Opening.HasFiles, Opening.HasFolderCause, Reading.IsLogIn, Reading.IsRead};
 
 use crate::folder_error::FolderError;
 use crate::log::{CommitRecord, Log, last_record};

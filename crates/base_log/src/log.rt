@@ -1,8 +1,7 @@
 //! The log of commits: its records, and the last of them.
 ghost use Rattle.std.specs.Prelude.{◌≡◌, ◌≤◌, ◌+◌, ◌↔◌, length, take, drop, slice_index, IsTrue, MatchBool};
 ghost use Rattle.std.specs.Int.{w64, from_le_bytes};
-ghost use Rattle.base_log.specs.Log.{EndsHere, IsShutAt, mark_by, recorded_by};
-ghost use Rattle.base_log.specs.Reading.{ReadsAll};
+ghost use Rattle.base_log.specs.{Log.EndsHere, Log.IsShutAt, Log.mark_by, Log.recorded_by, Reading.ReadsAll};
 
 /// The owner of a base folder, and the two halves of the key of its digests: numbers that the folder keeps and does
 /// not judge. All are 0 before the first commit.

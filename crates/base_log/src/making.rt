@@ -1,12 +1,9 @@
 //! The log of a folder that is new, and the first files of messages and of keys.
 ghost use Rattle.std.specs.Prelude.{◌≡◌, ◌∷◌, [], None, OnOk};
-ghost use Rattle.disk_io.specs.Disk.{Honestly, bytes_in};
-ghost use Rattle.disk_io.specs.Runs.{ChangesNothing, LeavesOnly, HasCause};
-ghost use Rattle.disk_io.specs.Synced.{IsOnDisk};
+ghost use Rattle.disk_io.specs.{Disk.Honestly, Disk.bytes_in, Runs.ChangesNothing, Runs.LeavesOnly, Runs.HasCause, Synced.IsOnDisk};
 ghost use Rattle.base_log.specs.Names.{AreNames, folder_of, log_of, messages_of, keys_of};
-ghost use Rattle.base_log.specs.Moments.{RepresentsAlone, KeepsOutside};
-ghost use Rattle.base_log.specs.Standing.{BaseBytes, Represents};
 ghost use Rattle.base_log.specs.Opening.{AreFlushed, AreNamed, HasBareLog, HasFirstFiles, IsNewFolder, KeepsButOne, RepresentsOrWasLeft, StayGone};
+ghost use Rattle.base_log.specs.{Moments.RepresentsAlone, Moments.KeepsOutside, Standing.BaseBytes, Standing.Represents};
 
 use crate::names::Names;
 use disk_io::{Disk, DiskError, sync_folder_of, write_synced};

@@ -1,14 +1,8 @@
 //! Opens a base folder that a crash, or a stopped program, may have left.
 ghost use Rattle.std.specs.Prelude.{◌≡◌, ◌⊎◌, IsSome, OnOk};
-ghost use Rattle.disk_io.specs.Disk.{Honestly};
-ghost use Rattle.disk_io.specs.Runs.{ChangesNothing, LeavesOnly, HasCause};
-ghost use Rattle.base_log.specs.Log.{IsShutAt};
-ghost use Rattle.base_log.specs.Names.{AreNames, folder_of, log_of};
-ghost use Rattle.base_log.specs.Standing.{BaseBytes, IsNew, Represents, base_at};
-ghost use Rattle.base_log.specs.Reading.{IsLogRead};
-ghost use Rattle.base_log.specs.AtRest.{IsAtRest, IsLogAt};
-ghost use Rattle.base_log.specs.Moments.{KeepsOutside};
-ghost use Rattle.base_log.specs.Opening.{AreAlone, RepresentsOrWasLeft, KeepsButOne};
+ghost use Rattle.disk_io.specs.{Disk.Honestly, Runs.ChangesNothing, Runs.LeavesOnly, Runs.HasCause};
+ghost use Rattle.base_log.specs.{Log.IsShutAt, Names.AreNames, Names.folder_of, Names.log_of, Standing.BaseBytes, Standing.IsNew, Standing.Represents, Standing.base_at, Reading.IsLogRead};
+ghost use Rattle.base_log.specs.{AtRest.IsAtRest, AtRest.IsLogAt, Moments.KeepsOutside, Opening.AreAlone, Opening.RepresentsOrWasLeft, Opening.KeepsButOne};
 
 use crate::log::Log;
 use crate::making::{make_files, make_log};

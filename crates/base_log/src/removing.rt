@@ -1,12 +1,7 @@
 //! Files that no longer count, removed.
 ghost use Rattle.std.specs.Prelude.{◌≡◌, ◌≢◌, ℕ, List, None, OnOk};
-ghost use Rattle.disk_io.specs.Disk.{Honestly};
-ghost use Rattle.disk_io.specs.Runs.{HasCause};
-ghost use Rattle.base_log.specs.Names.{AreNames, IsOtherNumber, folder_of};
-ghost use Rattle.base_log.specs.Standing.{base_at};
-ghost use Rattle.base_log.specs.AtRest.{IsAtRest};
-ghost use Rattle.base_log.specs.Opening.{AreGone};
-ghost use Rattle.base_log.specs.Moments.{LeavesOutside, StagesOnly};
+ghost use Rattle.disk_io.specs.{Disk.Honestly, Runs.HasCause};
+ghost use Rattle.base_log.specs.{Names.AreNames, Names.IsOtherNumber, Names.folder_of, Standing.base_at, AtRest.IsAtRest, Opening.AreGone, Moments.LeavesOutside, Moments.StagesOnly};
 
 use crate::log::End;
 use crate::names::Names;

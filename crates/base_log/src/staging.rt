@@ -1,14 +1,9 @@
 //! Messages and keys written after those that count, before a commit. However many are written so, a crash leaves the
 //! base as it was.
 ghost use Rattle.std.specs.Prelude.{◌≡◌, ◌<◌, ◌+◌, ◌^◌, length, IfOk};
-ghost use Rattle.disk_io.specs.Disk.{Honestly};
-ghost use Rattle.disk_io.specs.Runs.{HasCause};
-ghost use Rattle.disk_io.specs.Steps.{SameOthers};
+ghost use Rattle.disk_io.specs.{Disk.Honestly, Runs.HasCause, Steps.SameOthers};
 ghost use Rattle.base_log.specs.Growing.{and_bytes, counted, file_of, path_in, with_more};
-ghost use Rattle.base_log.specs.Names.{folder_of};
-ghost use Rattle.base_log.specs.Standing.{base_at};
-ghost use Rattle.base_log.specs.AtRest.{HoldsNext, IsAtRest, IsStaged, IsStagedBy};
-ghost use Rattle.base_log.specs.Moments.{LeavesOutside, StagesOnly};
+ghost use Rattle.base_log.specs.{Names.folder_of, Standing.base_at, AtRest.HoldsNext, AtRest.IsAtRest, AtRest.IsStaged, AtRest.IsStagedBy, Moments.LeavesOutside, Moments.StagesOnly};
 
 use crate::log::{CommitRecord, End, FolderIdentity};
 use crate::names::Names;

@@ -1,11 +1,9 @@
 -- Why a sequence of calls of a store failed.
 use Rattle.std.proofs.Common.{◌≡◌, ◌≤◌, ℕ, Result, Ok, Err, arith}
 use Rattle.std.proofs.Math.Nat.{eq-or-lt_of_le}
-use Rattle.disk_io.specs.Device.{Failed}
-use Rattle.disk_io.specs.Disk.{Honestly}
+use Rattle.disk_io.specs.{Device.Failed, Disk.Honestly}
 use Rattle.base_file.specs.Base.{Base}
-use Rattle.base_store.specs.Store.{StoreState, HasStoreCause}
-use Rattle.base_store.specs.declared.store_error.StoreError.{StoreError}
+use Rattle.base_store.specs.{Store.StoreState, Store.HasStoreCause, declared.store_error.StoreError.StoreError}
 
 -- a call without a failure
 pub no_cause : {T : Type 0} (old new : StoreState) (before now : ℕ) (value : T) → before ≤ now → HasStoreCause old new before now (Ok value)

@@ -1,17 +1,10 @@
 -- Messages found for digests that are expected.
 use Rattle.std.proofs.Common.{◌≡◌, ℕ, Bool, true, false, ◌+◌, ◌*◌, ◌/◌, ◌<◌, ◌≤◌, ◌-◌, ◌⊎◌, inr, List, [], ◌∷◌, ◌++◌, length, take, drop, get_or, sym, ap, subst, ◌∙◌, arith, ⊎_elim, append_assoc, length-append, length-drop, Option, Some, None, Result, Ok, Err, if◌then◌else◌}
+use Rattle.std.proofs.lemmas.{Bool.cases_lt, List.drop-drop, List.drop_at, List.get_or_default, List.Elements.Contains-append_left, List.Elements.Contains-push, List.Elements.Contains-push_cases}
 use Rattle.std.specs.Prelude.{Contains, IfNone, IfSome, OnOk, is_ok}
 use Rattle.std.specs.Int.{w64, from_le_bytes}
-use Rattle.std.proofs.lemmas.Bool.{cases_lt}
-use Rattle.std.proofs.lemmas.List.{drop-drop, drop_at, get_or_default}
-use Rattle.std.proofs.lemmas.List.Elements.{Contains-append_left, Contains-push, Contains-push_cases}
 use Rattle.base_store.specs.Expected.{AreFound, IsLastSeen, IsPlaceIn, are_set, is_expected, place_in}
-use Rattle.base_store.specs.Chains.{AreChains}
-use Rattle.base_store.specs.Index.{IsIndexOf}
-use Rattle.base_store.specs.Keys.{IsPieceOf, digest_at}
-use Rattle.base_store.specs.declared.chains.Chains.{Chains}
-use Rattle.base_store.specs.declared.expected.Expected.{Expected}
-use Rattle.base_store.specs.declared.expected.Place.{Place}
+use Rattle.base_store.specs.{Chains.AreChains, Index.IsIndexOf, Keys.IsPieceOf, Keys.digest_at, declared.chains.Chains.Chains, declared.expected.Expected.Expected, declared.expected.Place.Place}
 use Rattle.base_store.specs.declared.index.Index.{Index}
 use Rattle.base_store.proofs.Indexed.{chains_stay, entry_stays}
 

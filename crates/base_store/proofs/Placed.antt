@@ -1,15 +1,9 @@
 -- Each message is at the place in its entry.
 use Rattle.std.proofs.Common.{◌≡◌, ◌<◌, ◌≤◌, ◌+◌, ◌*◌, ◌/◌, ◌^◌, nat_lt, ℕ, zero, suc, List, [], ◌∷◌, ◌++◌, length, map, take, drop, get_or, refl, sym, ◌∙◌, ap, subst, arith, append_assoc, length-append}
-use Rattle.std.proofs.Math.Seq.{drop-append_seam, take-append_seam, take-append-add}
-use Rattle.std.proofs.lemmas.Bool.{cond-false, cond-true, le-ltb, lt-ltb}
-use Rattle.std.proofs.lemmas.List.{append-nil, length-map, take_at}
-use Rattle.std.proofs.lemmas.Grind.{flat_map-append}
-use Rattle.std.proofs.lemmas.Nat.{from_le_bytes-to_le_bytes_8}
-use Rattle.std.specs.Int.{w64, from_le_bytes}
-use Rattle.std.specs.List.{AllByRecursion, flat_map}
-use Rattle.echo_filed.specs.Filed.{Filed}
-use Rattle.echo_filed.specs.Stored.{Stored, IsStored, message_in, stored_bytes}
-use Rattle.echo_filed.specs.declared.stored.Version.TheVariants.{Second}
+use Rattle.std.proofs.{Math.Seq.drop-append_seam, Math.Seq.take-append_seam, Math.Seq.take-append-add, lemmas.Bool.cond-false, lemmas.Bool.cond-true, lemmas.Bool.le-ltb, lemmas.Bool.lt-ltb}
+use Rattle.std.proofs.lemmas.{List.append-nil, List.length-map, List.take_at, Grind.flat_map-append, Nat.from_le_bytes-to_le_bytes_8}
+use Rattle.std.specs.{Int.w64, Int.from_le_bytes, List.AllByRecursion, List.flat_map}
+use Rattle.echo_filed.specs.{Filed.Filed, Stored.Stored, Stored.IsStored, Stored.message_in, Stored.stored_bytes, declared.stored.Version.TheVariants.Second}
 use Rattle.base_file.specs.Alone.{MayStandAlone}
 use Rattle.base_store.specs.Keys.{FolderRepresents, HasBytesOf, RepresentsSeat, AreWhereRecorded, digested, entry, keys_from, place_at, place_behind}
 

@@ -1,7 +1,6 @@
 -- Sequences of calls of a store.
 use Rattle.std.proofs.Common.{arith}
-use Rattle.disk_io.specs.Disk.{DiskState, Files}
-use Rattle.disk_io.specs.Runs.{ChangesNothing}
+use Rattle.disk_io.specs.{Disk.DiskState, Disk.Files, Runs.ChangesNothing}
 use Rattle.disk_io.proofs.Moments.{no_call, nothing_twice, then_run, weaker_run}
 use Rattle.base_file.specs.Base.{Base}
 use Rattle.base_store.specs.Store.{StoreState, CommitsNothing, GoesOn, IsSameStore, KeepsOthers, LooksOn, LeavesCommitted}

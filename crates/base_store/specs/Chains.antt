@@ -1,7 +1,6 @@
 -- Chains of the messages with the same low bits of digests.
 use Rattle.std.specs.Prelude.{◌≡◌, ◌≢◌, ℕ, ◌+◌, ◌-◌, ◌/◌, ◌<◌, ◌≤◌, List, length, bit_and, slice_index}
-use Rattle.base_store.specs.Keys.{digest_at}
-use Rattle.base_store.specs.declared.chains.Chains.{Chains}
+use Rattle.base_store.specs.{Keys.digest_at, declared.chains.Chains.Chains}
 
 -- The head of a digest, among this many.
 abbrev pub head_of : ℕ → ℕ → ℕ

@@ -1,8 +1,6 @@
 -- The messages with a digest that a run expects to look up.
 use Rattle.std.specs.Prelude.{◌≡◌, ℕ, ◌+◌, ◌/◌, ◌%◌, ◌<◌, ◌≤◌, ◌&&◌, Bool, true, false, Contains, List, length, slice_index_or}
-use Rattle.base_store.specs.Keys.{digest_at}
-use Rattle.base_store.specs.declared.expected.Expected.{Expected}
-use Rattle.base_store.specs.declared.expected.Place.{Place}
+use Rattle.base_store.specs.{Keys.digest_at, declared.expected.Expected.Expected, declared.expected.Place.Place}
 
 -- Both flags of a digest are set: that of its low 16 bits, and that of the 16 bits above them.
 abbrev pub are_set : List Bool → List Bool → ℕ → Bool

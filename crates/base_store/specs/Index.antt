@@ -1,8 +1,6 @@
 -- An index of the keys of a base folder by the low bits of digests.
 use Rattle.std.specs.Prelude.{◌≡◌, ℕ, ◌*◌, ◌/◌, List, ◌++◌, length, if◌then◌else◌}
-use Rattle.base_store.specs.Chains.{AreChains}
-use Rattle.base_store.specs.Expected.{AreFound, is_expected}
-use Rattle.base_store.specs.declared.index.Index.{Index}
+use Rattle.base_store.specs.{Chains.AreChains, Expected.AreFound, Expected.is_expected, declared.index.Index.Index}
 
 -- The entries in the index.
 abbrev pub entries_of : Index → List ℕ

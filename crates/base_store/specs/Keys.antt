@@ -1,15 +1,10 @@
 -- The keys of a base folder: the place of each message, and a digest of its key.
 use Rattle.std.specs.Prelude.{◌≡◌, ℕ, ◌+◌, ◌*◌, ◌/◌, ◌<◌, ◌≤◌, ◌^◌, nat_lt, List, [], ◌∷◌, ◌++◌, length, map, take, drop, if◌then◌else◌, Option, Some, None, slice_index_or}
-use Rattle.std.specs.Int.{w64, from_le_bytes, to_le_bytes}
-use Rattle.std.specs.List.{AllByRecursion, flat_map}
+use Rattle.std.specs.{Int.w64, Int.from_le_bytes, Int.to_le_bytes, List.AllByRecursion, List.flat_map}
 use Rattle.echo_text.specs.Echo.{ended, msgid_of}
-use Rattle.echo_filed.specs.declared.key.Key.{Key}
-use Rattle.echo_filed.specs.declared.key.Key.TheVariants.{ByContent, ById}
-use Rattle.echo_filed.specs.Filed.{Filed}
-use Rattle.echo_filed.specs.Stored.{Stored, IsStored, message_in, stored_bytes}
-use Rattle.echo_filed.specs.declared.stored.Version.TheVariants.{Second}
-use Rattle.base_file.specs.Base.{IsBase}
-use Rattle.base_file.specs.Alone.{MayStandAlone}
+use Rattle.echo_filed.specs.{declared.key.Key.Key, declared.key.Key.TheVariants.ByContent, declared.key.Key.TheVariants.ById, Filed.Filed}
+use Rattle.echo_filed.specs.{Stored.Stored, Stored.IsStored, Stored.message_in, Stored.stored_bytes, declared.stored.Version.TheVariants.Second}
+use Rattle.base_file.specs.{Base.IsBase, Alone.MayStandAlone}
 
 -- The bytes that the digest covers: the id, which is the same in every area, or else all parts of the key.
 abbrev pub digested_with : Filed → Option (List ℕ) → List ℕ

@@ -1,6 +1,5 @@
 -- A digest by SipHash.
-use Rattle.std.specs.Prelude.{ℕ, ◌%◌, ◌^◌, List}
-use Rattle.std.specs.Int.{w64, to_le_bytes}
+use Rattle.std.specs.{Prelude.ℕ, Prelude.◌%◌, Prelude.◌^◌, Prelude.List, Int.w64, Int.to_le_bytes}
 use Rattle.std.specs.Hash.DefaultHasher as sip
 
 -- The digest of the bytes under the two halves of a key, low byte first: a number of eight bytes.

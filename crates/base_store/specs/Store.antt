@@ -1,14 +1,10 @@
 -- The messages of a store, and the effects of its calls on them.
 use Rattle.std.specs.Prelude.{◌≡◌, ◌≤◌, ◌⊎◌, ◌↔◌, ℕ, List, [], ◌∷◌, ◌++◌, length, map, take, drop, Option, None, Result, IsErrOf}
-use Rattle.disk_io.specs.Device.{Failed}
-use Rattle.disk_io.specs.Disk.{DiskState, Files, Honestly}
-use Rattle.disk_io.specs.Runs.{LeavesOnly, ChangesNothing}
+use Rattle.disk_io.specs.{Device.Failed, Disk.DiskState, Disk.Files, Disk.Honestly, Runs.LeavesOnly, Runs.ChangesNothing, declared.disk_error.DiskError.DiskError}
 use Rattle.base_file.specs.Base.{Base}
-use Rattle.echo_filed.specs.Filed.{Filed}
-use Rattle.echo_filed.specs.Stubs.{stub_of}
+use Rattle.echo_filed.specs.{Filed.Filed, Stubs.stub_of}
 use Rattle.base_store.specs.declared.store_error.StoreError.{StoreError}
 use Rattle.base_store.specs.declared.store_error.StoreError.TheVariants as error
-use Rattle.disk_io.specs.declared.disk_error.DiskError.{DiskError}
 use Rattle.disk_io.specs.declared.disk_error.DiskError.TheVariants as disk_error
 
 -- The fault of a disk as a fault of a store.

@@ -1,7 +1,6 @@
 //! Chains over the keys: a look-up goes only to the messages with the low bits of a digest.
 ghost use Rattle.std.specs.Prelude.{◌≡◌, ◌≢◌, ◌<◌, ◌≤◌, ◌+◌, ◌/◌, ◌⊎◌, ℕ, List, length, min, slice_index, IfSome, IfNone, OnOk};
-ghost use Rattle.base_store.specs.Keys.{digest_at};
-ghost use Rattle.base_store.specs.Chains.{AreChains, count_of, head_of};
+ghost use Rattle.base_store.specs.{Keys.digest_at, Chains.AreChains, Chains.count_of, Chains.head_of};
 
 use crate::entries::{ENTRY, digest_of, has_digest, last_from};
 use std::alloc::{AllocError, Global};

@@ -1,7 +1,6 @@
 //! An index of the keys: a look-up goes only to the messages with a digest.
 ghost use Rattle.std.specs.Prelude.{◌≡◌, ◌≢◌, ◌<◌, ◌≤◌, ◌+◌, ◌*◌, ◌/◌, ◌^◌, ℕ, List, drop, length, take, IfSome, IfNone, OnOk};
-ghost use Rattle.base_store.specs.Keys.{IsPieceOf, digest_at};
-ghost use Rattle.base_store.specs.Index.{IsIndexOf, covered, entries_of};
+ghost use Rattle.base_store.specs.{Keys.IsPieceOf, Keys.digest_at, Index.IsIndexOf, Index.covered, Index.entries_of};
 
 use crate::chains::Chains;
 use crate::entries::ENTRY;

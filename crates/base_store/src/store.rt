@@ -1,11 +1,9 @@
 //! Messages and a cursor, wherever they are kept.
 ghost use Rattle.std.specs.Prelude.{◌≡◌, ◌<◌, ℕ, not, false, length, take, count_by, slice_get, option_copied, IfOk, IsErrOf, OnOk, OnErr};
 ghost use Rattle.std.specs.List.{list_any};
-ghost use Rattle.disk_io.specs.Disk.{Honestly};
-ghost use Rattle.disk_io.specs.Runs.{ChangesNothing};
+ghost use Rattle.disk_io.specs.{Disk.Honestly, Runs.ChangesNothing};
 ghost use Rattle.base_file.specs.Base.{Base, IsBase, is_known};
-ghost use Rattle.echo_filed.specs.Filed.{has_id, key_of};
-ghost use Rattle.echo_filed.specs.Stubs.{is_stub};
+ghost use Rattle.echo_filed.specs.{Filed.has_id, Filed.key_of, Stubs.is_stub};
 ghost use Rattle.base_store.specs.Store.{StoreState, LooksOn, CommitsNothing, MayCommit, GoesOn, KeepsOrCommits, Undoes, Commits, HasStoreCause, with_message, all_scanned, purged};
 
 use crate::store_error::StoreError;

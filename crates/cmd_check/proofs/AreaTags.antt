@@ -1,18 +1,11 @@
 -- Tags gathered in order from the areas of link files.
 use Rattle.std.proofs.Common.{◌≡◌, ◌+◌, ◌<◌, ◌∙◌, ◌||◌, ◌↔◌, ◌∷◌, [], arith, Bool, Contains, Err, IfOk, IsTrue, List, None, Ok, Result, Some, ℕ, ap, false, inl, inr, length, map, refl, sym, take, true}
-use Rattle.std.specs.Prelude.{bytes_eq, find, is_some, option_map, slice_get}
-use Rattle.std.specs.List.{AllByRecursion, list_any}
-use Rattle.std.specs.List.Sorted.{IsStrictlySortedBy}
-use Rattle.std.specs.declared.cmp.Ordering.{Ordering}
-use Rattle.std.specs.declared.cmp.Ordering.TheVariants.{Less, Equal, Greater}
-use Rattle.std.specs.Ordering.{is_eq, match_ordering, nat_cmp}
-use Rattle.std.specs.BTreeSet.{insert_key}
-use Rattle.std.specs.Cmp.Lexicographic.{bytes_decides, nat_list_eq_equiv, slice_cmp}
-use Rattle.std.proofs.lemmas.Bool.{cases_Bool, cond-false, cond-true}
-use Rattle.std.proofs.lemmas.List.Folds.{list_any_more}
-use Rattle.std.proofs.lemmas.Map.Text.{is_eq-slice_cmp}
-use Rattle.std.proofs.lemmas.Map.Views.{Contains-from_any, list_any-from_Contains}
+use Rattle.std.proofs.lemmas.{Bool.cases_Bool, Bool.cond-false, Bool.cond-true, List.Folds.list_any_more, Map.Text.is_eq-slice_cmp, Map.Views.Contains-from_any, Map.Views.list_any-from_Contains}
 use Rattle.std.proofs.lemmas.Option.{slice_get_cases}
+use Rattle.std.specs.Prelude.{bytes_eq, find, is_some, option_map, slice_get}
+use Rattle.std.specs.{List.AllByRecursion, List.list_any, List.Sorted.IsStrictlySortedBy, declared.cmp.Ordering.Ordering}
+use Rattle.std.specs.declared.cmp.Ordering.TheVariants.{Less, Equal, Greater}
+use Rattle.std.specs.{Ordering.is_eq, Ordering.match_ordering, Ordering.nat_cmp, BTreeSet.insert_key, Cmp.Lexicographic.bytes_decides, Cmp.Lexicographic.nat_list_eq_equiv, Cmp.Lexicographic.slice_cmp}
 use Rattle.echo_links.specs.Links.{Area, LinkFile, has_area}
 use Rattle.echo_links.proofs.Found.{bytes_turned}
 use Rattle.cmd_check.specs.AreaTags.{AreAllTags, has_tag, tag_order}

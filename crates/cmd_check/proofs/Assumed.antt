@@ -2,16 +2,10 @@
 use Rattle.std.proofs.Common.{◌≡◌, ℕ, ◌+◌, ◌<◌, ◌++◌, ◌∙◌, ◌∷◌, ◌⊎◌, [], ap, append-nil, append_assoc, Bool, Err, false, get_or, length, List, None, Ok, Option, refl, Result, subst, sym, take, true, arith}
 use Rattle.std.proofs.lemmas.List.{take_more}
 use Rattle.echo_addr.specs.declared.address.Address.{Address}
-use Rattle.echo_links.specs.declared.fault.LinkFault.{LinkFault}
+use Rattle.echo_links.specs.{declared.fault.LinkFault.LinkFault, LinkLines.LinksOf, Links.LinkFile, Links.upper}
 use Rattle.echo_links.specs.declared.fault.LinkFault.TheVariants as link
-use Rattle.echo_links.specs.LinkLines.{LinksOf}
-use Rattle.echo_links.specs.Links.{LinkFile, upper}
 use Rattle.echo_net.specs.Faults.{IsCarried}
-use Rattle.cmd_status.specs.Devices.{Output}
-use Rattle.cmd_status.specs.declared.fault.Fault.{Fault}
-use Rattle.cmd_status.specs.declared.status.Status.{Status}
-use Rattle.cmd_status.specs.declared.status.Status.TheVariants.{Good}
-use Rattle.cmd_status.specs.Ended.{IsOutOfMemory}
+use Rattle.cmd_status.specs.{Devices.Output, declared.fault.Fault.Fault, declared.status.Status.Status, declared.status.Status.TheVariants.Good, Ended.IsOutOfMemory}
 use Rattle.cmd_status.specs.Inputs.{AreLinkFiles, IsFirstFaultGiven, IsLinkFault}
 use Rattle.cmd_status.proofs.Giving.{read_more}
 use Rattle.cmd_check.specs.Assuming.{AddsAssumed, AddsEach, AreAssumed, AreEachAssumed, IsAssumed}

@@ -1,13 +1,10 @@
 -- A run found by the bytes of link files is a run found on these files.
 use Rattle.std.proofs.Common.{◌≡◌, ℕ, List, [], ◌∷◌, Option, refl, sym, ap, ◌∙◌}
 use Rattle.std.specs.Prelude.{IfSome}
-use Rattle.echo_links.specs.Links.{LinkFile, upper}
-use Rattle.echo_links.specs.LinkLines.{file_of}
-use Rattle.model_why.specs.declared.shown.Shown.{Shown}
-use Rattle.model_why.specs.Sources.{files_of}
+use Rattle.echo_links.specs.{Links.LinkFile, Links.upper, LinkLines.file_of}
+use Rattle.model_why.specs.{declared.shown.Shown.Shown, Sources.files_of, Found.IsShown}
 use Rattle.cmd_status.specs.Inputs.{AreLinkFiles}
 use Rattle.cmd_check.proofs.Checks.{of_same}
-use Rattle.model_why.specs.Found.{IsShown}
 
 -- the link files that were read are those of their bytes
 pub given_files : (inputs : List (List ℕ)) (files : List LinkFile) → AreLinkFiles inputs files → files_of inputs ≡ files

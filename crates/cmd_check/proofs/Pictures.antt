@@ -1,13 +1,9 @@
 -- The answer of `picture`, from those of its parts.
 use Rattle.std.proofs.Common.{◌≡◌, ℕ, List, [], arith}
 use Rattle.echo_links.specs.Links.{LinkFile, upper}
-use Rattle.echo_net.specs.declared.drawing.Drawing.{Drawing}
-use Rattle.echo_net.specs.declared.verdict.Verdict.{Verdict}
-use Rattle.echo_net.specs.Drawn.{IsDrawing}
-use Rattle.cmd_status.specs.declared.status.Status.{Status}
-use Rattle.cmd_check.specs.Checking.{IsCheckVerdict, verdict_status}
-use Rattle.cmd_status.specs.Inputs.{AreLinkFiles}
-use Rattle.cmd_check.specs.Picturing.{IsPictured}
+use Rattle.echo_net.specs.{declared.drawing.Drawing.Drawing, declared.verdict.Verdict.Verdict, Drawn.IsDrawing}
+use Rattle.cmd_status.specs.{declared.status.Status.Status, Inputs.AreLinkFiles}
+use Rattle.cmd_check.specs.{Checking.IsCheckVerdict, Checking.verdict_status, Picturing.IsPictured}
 use Rattle.cmd_print.specs.Pictured.{picture_lines}
 use Rattle.cmd_check.proofs.Checks.{good_is_yes, of_same, yes_is_good}
 

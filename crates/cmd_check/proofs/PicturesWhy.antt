@@ -2,21 +2,12 @@
 use Rattle.std.proofs.Common.{◌≡◌, ℕ, List, Option, refl, sym, ap, ◌∙◌}
 use Rattle.std.specs.Prelude.{IfSome}
 use Rattle.echo_links.specs.Links.{LinkFile, upper}
-use Rattle.echo_net.specs.declared.drawing.Crossing.{Crossing}
-use Rattle.echo_net.specs.declared.drawing.Drawing.{Drawing}
-use Rattle.echo_net.specs.declared.verdict.Verdict.{Verdict}
-use Rattle.echo_net.specs.Drawn.{IsDrawing}
-use Rattle.model_why.specs.declared.shown.Shown.{Shown}
-use Rattle.model_why.specs.Carrying.{found_crossings}
-use Rattle.model_why.specs.Found.{IsShown}
-use Rattle.model_why.specs.Sources.{files_of}
-use Rattle.cmd_status.specs.declared.status.Status.{Status}
-use Rattle.cmd_check.specs.Checking.{IsCheckVerdict, verdict_status}
-use Rattle.cmd_status.specs.Inputs.{AreLinkFiles}
+use Rattle.echo_net.specs.{declared.drawing.Crossing.Crossing, declared.drawing.Drawing.Drawing, declared.verdict.Verdict.Verdict, Drawn.IsDrawing}
+use Rattle.model_why.specs.{declared.shown.Shown.Shown, Carrying.found_crossings, Found.IsShown, Sources.files_of}
+use Rattle.cmd_status.specs.{declared.status.Status.Status, Inputs.AreLinkFiles}
+use Rattle.cmd_check.specs.{Checking.IsCheckVerdict, Checking.verdict_status, PicturingWhy.IsPicturedWhy}
 use Rattle.cmd_print.specs.Pictured.{picture_lines}
-use Rattle.cmd_check.specs.PicturingWhy.{IsPicturedWhy}
-use Rattle.cmd_check.proofs.Checks.{good_is_yes, of_same, yes_is_good}
-use Rattle.cmd_check.proofs.Explaining.{given_files, was_shown}
+use Rattle.cmd_check.proofs.{Checks.good_is_yes, Checks.of_same, Checks.yes_is_good, Explaining.given_files, Explaining.was_shown}
 
 -- the verdict, the picture and the run of link files that were read
 pub record IsDrawnWhy (inputs : List (List ℕ)) (files : List LinkFile) (t : List ℕ) (verdict : Verdict) (drawing : Drawing) (found : Option Shown) : Type 0 where

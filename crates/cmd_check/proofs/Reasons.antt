@@ -1,24 +1,15 @@
 -- The answer of `why`, from those of its parts.
-use Rattle.std.specs.Prelude.{codes, Contains, IfSome, ◌↔◌}
-use Rattle.std.specs.List.{flat_map}
-use Rattle.std.specs.List.Sorted.{IsStrictlySortedBy}
-use Rattle.std.specs.Ordering.{nat_cmp}
+use Rattle.std.specs.{Prelude.codes, Prelude.Contains, Prelude.IfSome, Prelude.◌↔◌, List.flat_map, List.Sorted.IsStrictlySortedBy, Ordering.nat_cmp}
 use Rattle.std.proofs.Common.{◌≡◌, ◌++◌, ℕ, List, [], Option, refl, sym, subst, append_assoc, ◌∙◌, arith}
 use Rattle.echo_links.specs.Links.{LinkFile, upper}
 use Rattle.echo_net.specs.declared.verdict.Verdict.{Verdict}
-use Rattle.model_why.specs.declared.shown.Shown.{Shown}
-use Rattle.model_why.specs.Found.{IsShown}
-use Rattle.model_why.specs.Sources.{files_of}
-use Rattle.cmd_status.specs.declared.status.Status.{Status}
-use Rattle.cmd_check.specs.Checking.{IsCheckVerdict, verdict_status}
-use Rattle.cmd_status.specs.Inputs.{AreLinkFiles}
-use Rattle.cmd_check.specs.Reasoning.{IsReasoned}
-use Rattle.cmd_print.specs.Checked.{verdict_line}
-use Rattle.cmd_print.specs.Pushed.{Pushes}
-use Rattle.cmd_status.proofs.Lines.{alone}
+use Rattle.model_why.specs.{declared.shown.Shown.Shown, Found.IsShown, Sources.files_of}
+use Rattle.cmd_status.specs.{declared.status.Status.Status, Inputs.AreLinkFiles}
 use Rattle.cmd_check.specs.Whys.{AreNamed, AreWhyLines, found_lines, named_in, who_line}
-use Rattle.cmd_check.proofs.Checks.{good_is_yes, of_same, yes_is_good}
-use Rattle.cmd_check.proofs.Explaining.{was_shown}
+use Rattle.cmd_check.specs.{Checking.IsCheckVerdict, Checking.verdict_status, Reasoning.IsReasoned}
+use Rattle.cmd_print.specs.{Checked.verdict_line, Pushed.Pushes}
+use Rattle.cmd_status.proofs.Lines.{alone}
+use Rattle.cmd_check.proofs.{Checks.good_is_yes, Checks.of_same, Checks.yes_is_good, Explaining.was_shown}
 use Rattle.echo_net.proofs.Drawings.{held_again}
 
 -- lines added to none

@@ -2,16 +2,10 @@
 use Rattle.std.proofs.Common.{◌≡◌, ℕ, List, [], ◌++◌, length, map, sym, ap, ◌∙◌, Ok}
 use Rattle.std.proofs.lemmas.List.{length-map}
 use Rattle.echo_links.specs.Links.{LinkFile}
-use Rattle.model_run.specs.Event.{RunEvent, run_event}
-use Rattle.model_run.specs.Run.{Run, System, run_of}
-use Rattle.model_run.specs.declared.event.Event.{Event}
-use Rattle.model_replay.specs.Script.{ScriptOf}
-use Rattle.model_replay.specs.Worlds.{IsWorldOf, WorldState}
-use Rattle.cmd_status.specs.declared.status.Status.{Status}
-use Rattle.cmd_status.specs.declared.status.Status.TheVariants.{Good}
-use Rattle.cmd_status.specs.Inputs.{AreLinkFiles}
-use Rattle.cmd_check.specs.Replaying.{AreWorldLines, IsReplayed}
-use Rattle.cmd_check.specs.Replayed.{replay_lines}
+use Rattle.model_run.specs.{Event.RunEvent, Event.run_event, Run.Run, Run.System, Run.run_of, declared.event.Event.Event}
+use Rattle.model_replay.specs.{Script.ScriptOf, Worlds.IsWorldOf, Worlds.WorldState}
+use Rattle.cmd_status.specs.{declared.status.Status.Status, declared.status.Status.TheVariants.Good, Inputs.AreLinkFiles}
+use Rattle.cmd_check.specs.{Replaying.AreWorldLines, Replaying.IsReplayed, Replayed.replay_lines}
 use Rattle.cmd_status.proofs.Lines.{alone}
 use Rattle.model_run.proofs.HarmSteps.{run-files as run_files}
 

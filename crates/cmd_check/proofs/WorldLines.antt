@@ -1,12 +1,9 @@
 -- The printed form of a replayed net.
 use Rattle.std.proofs.Common.{◌≡◌, ℕ, ◌+◌, ◌<◌, List, [], ◌∷◌, ◌++◌, length, map, take, get_or, sym, ap, ◌∙◌, arith, append_assoc, append-nil, inl, inr, Bool, Some}
+use Rattle.std.proofs.{Math.ListN.get_or-map, lemmas.List.length-map, lemmas.List.length-take-le, lemmas.List.take_more, lemmas.Option.slice_get_cases}
 use Rattle.std.specs.List.{flat_map}
-use Rattle.std.proofs.Math.ListN.{get_or-map}
-use Rattle.std.proofs.lemmas.List.{length-map, length-take-le, take_more}
-use Rattle.std.proofs.lemmas.Option.{slice_get_cases}
 use Rattle.echo_links.specs.Links.{LinkFile}
-use Rattle.model_run.specs.Run.{Run, System, nth}
-use Rattle.model_run.specs.World.{is_settled, undelivered}
+use Rattle.model_run.specs.{Run.Run, Run.System, Run.nth, World.is_settled, World.undelivered}
 use Rattle.model_replay.proofs.Exports.{nth-slice_get}
 use Rattle.cmd_check.specs.Replayed.{area_state_line, packets_line, replay_lines, settled_line, systems_from}
 

@@ -1,10 +1,6 @@
 -- The tags of the areas that the link files of a net have.
 use Rattle.std.specs.Prelude.{ℕ, ◌↔◌, Bool, Contains, List}
-use Rattle.std.specs.declared.cmp.Ordering.{Ordering}
-use Rattle.std.specs.Ordering.{is_eq, nat_cmp}
-use Rattle.std.specs.Cmp.Lexicographic.{slice_cmp}
-use Rattle.std.specs.List.{list_any}
-use Rattle.std.specs.List.Sorted.{IsStrictlySortedBy}
+use Rattle.std.specs.{declared.cmp.Ordering.Ordering, Ordering.is_eq, Ordering.nat_cmp, Cmp.Lexicographic.slice_cmp, List.list_any, List.Sorted.IsStrictlySortedBy}
 use Rattle.echo_links.specs.Links.{LinkFile}
 use Rattle.echo_net.specs.Faults.{IsCarried}
 

@@ -1,16 +1,10 @@
 -- Systems without a link file, judged as if they listed exactly the systems that list them.
 use Rattle.std.specs.Prelude.{◌≡◌, ◌↔◌, ℕ, Contains, List, [], ◌∷◌, ◌++◌, codes, filter, map, Result}
-use Rattle.std.specs.List.{flat_map}
-use Rattle.std.specs.List.Sorted.{IsStrictlySortedBy}
-use Rattle.echo_addr.specs.declared.address.Address.{Address}
-use Rattle.echo_addr.specs.Address.{address_text}
-use Rattle.echo_links.specs.Found.{address_order}
-use Rattle.echo_links.specs.Links.{LinkFile, is_link}
+use Rattle.std.specs.List.{flat_map, Sorted.IsStrictlySortedBy}
+use Rattle.echo_addr.specs.{declared.address.Address.Address, Address.address_text}
+use Rattle.echo_links.specs.{Found.address_order, Links.LinkFile, Links.is_link}
 use Rattle.echo_net.specs.Faults.{IsCarried}
-use Rattle.cmd_status.specs.Devices.{Output}
-use Rattle.cmd_status.specs.declared.fault.Fault.{Fault}
-use Rattle.cmd_status.specs.Ended.{Answers}
-use Rattle.cmd_status.specs.Inputs.{AreLinkFiles}
+use Rattle.cmd_status.specs.{Devices.Output, declared.fault.Fault.Fault, Ended.Answers, Inputs.AreLinkFiles}
 
 -- The systems that list the address in the area, in order of the files.
 abbrev pub listing : List LinkFile → List ℕ → Address → List Address

@@ -3,10 +3,7 @@ use Rattle.std.specs.Prelude.{◌≡◌, ℕ, ◌-◌, Bool, true, false, List, 
 use Rattle.std.specs.List.{flat_map}
 use Rattle.echo_links.specs.Links.{LinkFile}
 use Rattle.echo_nodelist.specs.declared.line.Line.{Line}
-use Rattle.echo_net.specs.declared.verdict.NetFault.{NetFault}
-use Rattle.echo_net.specs.declared.verdict.Verdict.{Verdict}
-use Rattle.echo_net.specs.AllFaults.{AreFurther}
-use Rattle.echo_net.specs.Printed.{fault_text}
+use Rattle.echo_net.specs.{declared.verdict.NetFault.NetFault, declared.verdict.Verdict.Verdict, AllFaults.AreFurther, Printed.fault_text}
 use Rattle.cmd_print.specs.Checked.{AbsencesShown, CheckShown, verdict_line}
 
 -- The line of a further fault.

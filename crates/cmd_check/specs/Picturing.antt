@@ -1,18 +1,11 @@
 -- The answer of `picture`.
 use Rattle.std.specs.Prelude.{◌≡◌, ℕ, ◌↔◌, List, [], Option, None, Result}
-use Rattle.cmd_status.specs.Devices.{Output}
+use Rattle.cmd_status.specs.{Devices.Output, declared.fault.Fault.Fault, declared.status.Status.Status, declared.status.Status.TheVariants.Good, Ended.Answers}
+use Rattle.cmd_status.specs.Inputs.{AreLinkFiles, IsFirstFaultGiven}
 use Rattle.echo_links.specs.Links.{LinkFile, upper}
 use Rattle.model_run.specs.Tidy.{Tidy}
-use Rattle.echo_net.specs.declared.drawing.Crossing.{Crossing}
-use Rattle.echo_net.specs.declared.drawing.Drawing.{Drawing}
-use Rattle.echo_net.specs.declared.verdict.Verdict.{Verdict}
-use Rattle.echo_net.specs.Drawn.{IsDrawing}
-use Rattle.cmd_status.specs.declared.fault.Fault.{Fault}
-use Rattle.cmd_status.specs.declared.status.Status.{Status}
-use Rattle.cmd_status.specs.declared.status.Status.TheVariants.{Good}
+use Rattle.echo_net.specs.{declared.drawing.Crossing.Crossing, declared.drawing.Drawing.Drawing, declared.verdict.Verdict.Verdict, Drawn.IsDrawing}
 use Rattle.cmd_check.specs.Checking.{IsCheckVerdict, verdict_status}
-use Rattle.cmd_status.specs.Ended.{Answers}
-use Rattle.cmd_status.specs.Inputs.{AreLinkFiles, IsFirstFaultGiven}
 use Rattle.cmd_print.specs.Pictured.{picture_lines}
 
 -- The link files have no fault. These lines draw the area of the tag in upper case, with the parts of the verdict

@@ -1,19 +1,10 @@
 -- The answer of `replay`.
 use Rattle.std.specs.Prelude.{◌≡◌, ℕ, ◌⊎◌, List, length, map, Option, Some, None, Result, Ok, Err}
-use Rattle.cmd_status.specs.Devices.{Output}
+use Rattle.cmd_status.specs.{Devices.Output, declared.fault.Fault.Fault, declared.fault.Fault.TheVariants.ScriptLine, declared.status.Status.Status, declared.status.Status.TheVariants.Good}
+use Rattle.cmd_status.specs.{Ended.Answers, Inputs.AreLinkFiles, Inputs.IsLinkFault}
 use Rattle.echo_links.specs.Links.{LinkFile}
-use Rattle.model_run.specs.declared.event.Event.{Event}
-use Rattle.model_run.specs.Event.{run_event}
-use Rattle.model_run.specs.Run.{Run, System, run_of}
-use Rattle.model_replay.specs.declared.script.ScriptFault.TheVariants.{Line}
-use Rattle.model_replay.specs.Script.{ScriptOf}
-use Rattle.model_replay.specs.Worlds.{IsWorldOf, WorldState}
-use Rattle.cmd_status.specs.declared.fault.Fault.{Fault}
-use Rattle.cmd_status.specs.declared.fault.Fault.TheVariants.{ScriptLine}
-use Rattle.cmd_status.specs.declared.status.Status.{Status}
-use Rattle.cmd_status.specs.declared.status.Status.TheVariants.{Good}
-use Rattle.cmd_status.specs.Ended.{Answers}
-use Rattle.cmd_status.specs.Inputs.{AreLinkFiles, IsLinkFault}
+use Rattle.model_run.specs.{declared.event.Event.Event, Event.run_event, Run.Run, Run.System, Run.run_of}
+use Rattle.model_replay.specs.{declared.script.ScriptFault.TheVariants.Line, Script.ScriptOf, Worlds.IsWorldOf, Worlds.WorldState}
 use Rattle.cmd_check.specs.Replayed.{replay_lines}
 
 -- Neither the script nor a link file has a fault. These are the lines for the run of its events on them.

@@ -1,19 +1,12 @@
 -- The lines of `why`.
 use Rattle.std.specs.Prelude.{◌≡◌, ℕ, ◌↔◌, Contains, List, [], ◌∷◌, ◌++◌, codes, decimal, slice_get, Option, Some, None}
-use Rattle.std.specs.List.{flat_map}
-use Rattle.std.specs.List.Sorted.{IsStrictlySortedBy}
-use Rattle.std.specs.Ordering.{nat_cmp}
-use Rattle.echo_addr.specs.declared.address.Address.{Address}
-use Rattle.echo_addr.specs.Address.{address_text}
+use Rattle.std.specs.{List.flat_map, List.Sorted.IsStrictlySortedBy, Ordering.nat_cmp}
+use Rattle.echo_addr.specs.{declared.address.Address.Address, Address.address_text}
 use Rattle.echo_charset.specs.Words.{printed_word}
 use Rattle.echo_links.specs.Links.{LinkFile}
-use Rattle.echo_net.specs.declared.verdict.Verdict.{Verdict}
-use Rattle.echo_net.specs.declared.verdict.Verdict.TheVariants.{Yes, No}
-use Rattle.model_why.specs.declared.shown.Harm.{Harm}
-use Rattle.model_why.specs.declared.shown.Harm.TheVariants.{NeverGets, NeverSettles, SentAgain, SentOwn}
-use Rattle.model_plan.specs.declared.plan.Move.{Move}
-use Rattle.model_plan.specs.declared.plan.Move.TheVariants.{Deliver, Scan}
-use Rattle.model_why.specs.declared.shown.Shown.{Shown}
+use Rattle.echo_net.specs.declared.verdict.Verdict.{Verdict, TheVariants.Yes, TheVariants.No}
+use Rattle.model_why.specs.declared.shown.{Harm.Harm, Harm.TheVariants.NeverGets, Harm.TheVariants.NeverSettles, Harm.TheVariants.SentAgain, Harm.TheVariants.SentOwn, Shown.Shown}
+use Rattle.model_plan.specs.declared.plan.Move.{Move, TheVariants.Deliver, TheVariants.Scan}
 use Rattle.cmd_print.specs.Checked.{verdict_line}
 
 -- The line of the posting: its serial is 1, and its body is empty.

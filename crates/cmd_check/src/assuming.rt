@@ -1,12 +1,8 @@
 //! Systems without a link file: each gets the text of a link file with exactly those who list it.
 ghost use Rattle.std.specs.Prelude.{◌≡◌, ◌++◌, ◌⊎◌, ◌↔◌, Contains, IfErr, IfOk, OnOk};
-ghost use Rattle.std.specs.List.{flat_map, list_any};
-ghost use Rattle.std.specs.List.Sorted.{IsStrictlySortedBy};
-ghost use Rattle.echo_links.specs.Found.{address_order};
-ghost use Rattle.echo_links.specs.Links.{has_area, upper};
-ghost use Rattle.cmd_status.specs.Devices.{output_of};
-ghost use Rattle.cmd_status.specs.Ended.{IsOutOfMemory};
-ghost use Rattle.cmd_status.specs.Inputs.{IsLinkFault};
+ghost use Rattle.std.specs.List.{flat_map, list_any, Sorted.IsStrictlySortedBy};
+ghost use Rattle.echo_links.specs.{Found.address_order, Links.has_area, Links.upper};
+ghost use Rattle.cmd_status.specs.{Devices.output_of, Ended.IsOutOfMemory, Inputs.IsLinkFault};
 ghost use Rattle.cmd_check.specs.Assuming.{AddsAssumed, AddsEach, Assumes, IsAssumed, PrintsAssumed, assumed_line, assumed_note, assumed_text, link_word, listing};
 
 use cmd_status::{Fault, link_files, print_rest};

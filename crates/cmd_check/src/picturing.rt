@@ -1,8 +1,7 @@
 //! What `picture` answers.
 ghost use Rattle.std.specs.Prelude.{◌≡◌, ℕ, List, None};
 ghost use Rattle.echo_links.specs.Links.{upper};
-ghost use Rattle.cmd_status.specs.Devices.{output_of};
-ghost use Rattle.cmd_status.specs.Inputs.{AreLinkFiles};
+ghost use Rattle.cmd_status.specs.{Devices.output_of, Inputs.AreLinkFiles};
 ghost use Rattle.cmd_check.specs.Picturing.{PictureAnswers, PrintsPicture};
 
 use crate::checking::status_of;

@@ -1,8 +1,7 @@
 //! What `picture --why` answers.
 ghost use Rattle.std.specs.Prelude.{◌≡◌, ℕ, IfOk, List, None};
 ghost use Rattle.echo_links.specs.Links.{upper};
-ghost use Rattle.cmd_status.specs.Devices.{output_of};
-ghost use Rattle.cmd_status.specs.Inputs.{AreLinkFiles};
+ghost use Rattle.cmd_status.specs.{Devices.output_of, Inputs.AreLinkFiles};
 ghost use Rattle.cmd_check.specs.PicturingWhy.{AreCrossings, PictureWhyAnswers};
 
 use crate::print_picture;

@@ -1,8 +1,6 @@
 //! What `replay` answers.
 ghost use Rattle.std.specs.Prelude.{◌⊎◌, ℕ, List, None, Ok, IfErr, IfOk};
-ghost use Rattle.cmd_status.specs.Devices.{output_of};
-ghost use Rattle.cmd_status.specs.Ended.{IsOutOfMemory};
-ghost use Rattle.cmd_status.specs.Inputs.{AreLinkFiles};
+ghost use Rattle.cmd_status.specs.{Devices.output_of, Ended.IsOutOfMemory, Inputs.AreLinkFiles};
 ghost use Rattle.cmd_check.specs.Replaying.{IsScriptFault, PrintsWorld, ReplayAnswers};
 ghost use Rattle.model_replay.specs.Script.{ScriptOf};
 

@@ -3,8 +3,7 @@ ghost use Rattle.std.specs.Prelude.{◌≡◌, ◌++◌, codes, OnOk, option_cop
 ghost use Rattle.std.specs.List.{flat_map};
 ghost use Rattle.echo_addr.specs.Address.{address_text};
 ghost use Rattle.model_why.specs.declared.shown.Harm.TheVariants.{NeverSettles, SentAgain};
-ghost use Rattle.cmd_print.specs.Checked.{verdict_line};
-ghost use Rattle.cmd_print.specs.Pushed.{Pushes};
+ghost use Rattle.cmd_print.specs.{Checked.verdict_line, Pushed.Pushes};
 ghost use Rattle.cmd_check.specs.Whys.{AreWhyLines, found_lines, harm_line, move_line, post_line, shown_lines};
 
 use crate::who_text::{named, push_systems};

@@ -30,5 +30,5 @@ pub use inputs::{
 pub use locks::{BaseLock, LinkLock, folder_fault, lead_to_one, lock_file, locked_folder};
 pub use moment::{shown_at, stamp_at};
 pub use packets::{PacketInput, PacketStreams, Tossing};
-pub use paths::{PathName, PathNames, folder_of, folder_path, names_of, text_path};
+pub use paths::{PathName, PathNames, folder_path, names_of, text_path};
 pub use progress::{ErasingOutput, Messages, Progress};

@@ -1,11 +1,11 @@
 //! Locks of files and folders, and the line that says that this run waits for one.
 ghost use Rattle.std.specs.Prelude.{◌≡◌, ◌≤◌, None};
-ghost use Rattle.disk_io.specs.Device.{Failed};
-ghost use Rattle.disk_io.specs.declared.disk_error.DiskError.TheVariants.{Device};
+ghost use Rattle.disk_io.specs.{Device.Failed, declared.disk_error.DiskError.TheVariants.Device};
 
-use crate::paths::{folder_of, text_path};
+use crate::paths::text_path;
 use cmd_status::{Fault, FileLock, print_rest};
 use disk_io::{DiskError, Watched};
+use disk_system::folder_of;
 use echo_addr::Items;
 use echo_charset::push_word;
 use std::alloc::AllocError;

@@ -1,7 +1,6 @@
 //! Seconds since 1970 began, as a date and a time of day.
 ghost use Rattle.std.specs.Prelude.{◌≡◌, ℕ, Some, IfSome, MatchOption, pos};
-ghost use Rattle.jiff_core.specs.Calendar.{IsEpochDay};
-ghost use Rattle.jiff_core.specs.Date.{epoch_day};
+ghost use Rattle.jiff_core.specs.{Calendar.IsEpochDay, Date.epoch_day};
 ghost use Rattle.model_steps.specs.declared.stamp.Stamp as model;
 ghost use Rattle.cmd_input.specs.Moment.{IsMomentAt, IsShownAt};
 

@@ -140,15 +140,6 @@ pub fn text_path(path: &[u8]) -> &str {
     str::from_utf8(path).unwrap_or("")
 }
 
-/// The folder of the file with this path.
-pub fn folder_of(path: &str) -> &str {
-    match path.rsplit_once('/') {
-        Some(("", _)) => "/",
-        Some((folder, _)) => folder,
-        None => ".",
-    }
-}
-
 /// The path of a folder, ended by a slash.
 pub fn folder_path(rt: &HostRuntime, folder: &str) -> Result<String, AllocError> {
     let mut path = String::from_str(rt.alloc(), folder)?;

@@ -4,23 +4,14 @@ use Rattle.echo_addr.specs.Address.{address_text}
 use Rattle.echo_charset.specs.Words.{printed_word}
 use Rattle.echo_links.specs.declared.fault.LinkFault.{LinkFault}
 use Rattle.echo_links.specs.declared.fault.LinkFault.TheVariants as fault
-use Rattle.echo_packet.specs.declared.fault.Field.{Field}
+use Rattle.echo_packet.specs.declared.fault.{Field.Field, PacketFault.PacketFault}
 use Rattle.echo_packet.specs.declared.fault.Field.TheVariants as field
-use Rattle.echo_packet.specs.declared.fault.PacketFault.{PacketFault}
 use Rattle.echo_packet.specs.declared.fault.PacketFault.TheVariants as packet
-use Rattle.cmd_notes.specs.declared.reasons.FaultyPacket.{FaultyPacket}
-use Rattle.cmd_notes.specs.declared.reasons.LongField.{LongField}
-use Rattle.cmd_notes.specs.declared.reasons.Misdelivered.{Misdelivered}
-use Rattle.cmd_notes.specs.declared.reasons.PacketPlace.{PacketPlace}
-use Rattle.cmd_notes.specs.declared.reasons.PathState.{PathState}
-use Rattle.cmd_notes.specs.declared.reasons.Reason.{Reason}
+use Rattle.cmd_notes.specs.declared.reasons.{FaultyPacket.FaultyPacket, LongField.LongField, Misdelivered.Misdelivered, PacketPlace.PacketPlace, PathState.PathState, Reason.Reason, State.State}
+use Rattle.cmd_notes.specs.declared.reasons.{WordForm.WordForm, WrongLine.WrongLine, WrongWord.WrongWord}
 use Rattle.cmd_notes.specs.declared.reasons.Reason.TheVariants as reason
-use Rattle.cmd_notes.specs.declared.reasons.State.{State}
 use Rattle.cmd_notes.specs.declared.reasons.State.TheVariants as state
-use Rattle.cmd_notes.specs.declared.reasons.WordForm.{WordForm}
 use Rattle.cmd_notes.specs.declared.reasons.WordForm.TheVariants as form
-use Rattle.cmd_notes.specs.declared.reasons.WrongLine.{WrongLine}
-use Rattle.cmd_notes.specs.declared.reasons.WrongWord.{WrongWord}
 use Rattle.cmd_show.specs.LinksShown.{fault_number}
 
 -- The fault of a word in a line of a link file.

@@ -6,7 +6,7 @@ use crate::states::{Usage, state_at};
 use cmd_input::{MAX_TEXT_FILE, folder_path, lead_to_one, names_of, read_file};
 use cmd_show::{FaultyLine, Judged, judge};
 use cmd_status::Fault;
-use cmd_words::Paths;
+use cmd_words::{Paths, Place};
 use disk_io::Sink;
 use echo_links::LinkFault;
 use std::{fs, str};
@@ -24,9 +24,9 @@ pub(crate) fn explain_path<E: Sink>(met: FaultLine<'_>, path: &str, usage: Usage
 }
 
 /// The link file and the base of a system.
-pub(crate) fn explain_files<E: Sink>(met: FaultLine<'_>, links: &str, base: &str, errors: &mut E) {
-    let _ = explain_links(met, links, errors);
-    explain_path(met, base, Usage::Changed, errors);
+pub(crate) fn explain_files<E: Sink>(met: FaultLine<'_>, place: Place<'_>, errors: &mut E) {
+    let _ = explain_links(met, place.links, errors);
+    explain_path(met, place.base, Usage::Changed, errors);
 }
 
 /// A link file. The answer is whether it has a line that is explained.

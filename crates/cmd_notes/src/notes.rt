@@ -13,8 +13,8 @@ use crate::word_notes::{
 use cmd_input::{MAX_TEXT_FILE, names_of, read_file};
 use cmd_status::{Fault, print_rest};
 use cmd_words::{
-    CheckWords, ExportWords, ParsedLine, PostStoredWords, PostWords, ReplyWords, ResendWords,
-    TossWords, Words,
+    BaseWords, CheckWords, NetWords, ParsedLine, PostStoredWords, PostWords, ReplyWords,
+    ResendWords, StationWords, TossWords, Words,
 };
 use disk_io::Sink;
 use echo_stored::read_stored;
@@ -76,8 +76,8 @@ impl<'a> ExplainedCommand<'a> {
             return None;
         }
         let base = match &asked.words {
-            Words::Toss(words) => Some(words.base),
-            Words::Scan { base, .. } => Some(*base),
+            Words::Station(StationWords::Toss(words)) => Some(words.place.base),
+            Words::Station(StationWords::Scan(words)) => Some(words.place.base),
             _ => None,
         };
         Some(ExplainedCommand {
@@ -108,9 +108,9 @@ impl<'a> ExplainedCommand<'a> {
 
     // Says that a scan found no folder: one without packets needs none.
     fn tell_no_folder<E: Sink>(&self, errors: &mut E) {
-        if let Words::Scan { folder, .. } = self.words {
-            if !is_there(self.rt, *folder) {
-                tell_state(self.rt, *folder, State::NoFolder, errors);
+        if let Words::Station(StationWords::Scan(words)) = self.words {
+            if !is_there(self.rt, words.folder) {
+                tell_state(self.rt, words.folder, State::NoFolder, errors);
             }
         }
     }
@@ -124,8 +124,10 @@ pub(crate) fn is_there(rt: &HostRuntime, path: &str) -> bool {
 // Says that a command that ended well had no message of its area to print.
 fn tell_none_of_area<E: Sink>(rt: &HostRuntime, words: &Words<'_>, errors: &mut E) {
     let (area, base) = match words {
-        Words::List(words) => (words.area, words.base),
-        Words::Export(words) => (words.area, words.base),
+        Words::Base(BaseWords::List(words)) => (words.area, words.base),
+        Words::Base(BaseWords::Export(words)) => (words.area, words.base),
+        Words::Base(BaseWords::ExportStored(words)) => (Some(words.area), words.base),
+        Words::ExportJam(words) => (Some(words.area), words.base),
         _ => return,
     };
     if let Some(tag) = area {
@@ -145,61 +147,73 @@ fn missing<'a>(rt: &HostRuntime, path: Option<&'a str>) -> Option<&'a str> {
 
 fn explain<E: Sink>(met: FaultLine<'_>, words: &Words<'_>, errors: &mut E) {
     match words {
-        Words::Show { packet, .. } => explain_path(met, *packet, Usage::File, errors),
-        Words::Nodelist { find, file } => {
+        Words::Net(words) => explain_net_words(met, words, errors),
+        Words::Base(words) => explain_base_words(met, words, errors),
+        Words::ExportJam(words) => explain_read(met, words.from, words.base, errors),
+        Words::Station(words) => explain_station_words(met, words, errors),
+    }
+}
+
+// The same of a command that reads no base.
+fn explain_net_words<E: Sink>(met: FaultLine<'_>, words: &NetWords<'_>, errors: &mut E) {
+    match words {
+        NetWords::Show { packet, .. } => explain_path(met, *packet, Usage::File, errors),
+        NetWords::Nodelist { find, file } => {
             explain_word(met, Fault::BadAddress, WordForm::NodeAddress, *find, errors);
             explain_path(met, *file, Usage::File, errors);
         }
-        Words::Check(words) => explain_check(met, words, errors),
-        Words::Links { links, .. } => explain_paths(met, links, errors),
-        Words::Why { links, .. } | Words::Picture { links, .. } => explain_net(met, links, errors),
-        Words::Replay { script, links } => {
+        NetWords::Check(words) => explain_check(met, words, errors),
+        NetWords::Links { links, .. } => explain_paths(met, links, errors),
+        NetWords::Why { links, .. } | NetWords::Picture { links, .. } => {
+            explain_net(met, links, errors)
+        }
+        NetWords::Replay { script, links } => {
             explain_path(met, *script, Usage::File, errors);
             explain_net(met, links, errors);
         }
-        Words::List(words) => {
-            explain_word(met, Fault::BadNumber, WordForm::Number, words.from, errors);
-            explain_path(met, words.base, Usage::Base, errors);
+    }
+}
+
+// The same of a command that reads a base.
+fn explain_base_words<E: Sink>(met: FaultLine<'_>, words: &BaseWords<'_>, errors: &mut E) {
+    match words {
+        BaseWords::List(words) => explain_read(met, words.from, words.base, errors),
+        BaseWords::Export(words) => explain_read(met, words.from, words.base, errors),
+        BaseWords::ExportStored(words) => {
+            explain_read(met, words.from, words.base, errors);
+            explain_path(met, words.folder, Usage::Folder, errors);
         }
-        Words::Export(words) => explain_export(met, words, errors),
-        Words::Convert { from, to } => {
+        BaseWords::Convert { from, to } => {
             explain_path(met, *from, Usage::Base, errors);
             explain_path(met, *to, Usage::New, errors);
         }
-        _ => explain_station(met, words, errors),
+        BaseWords::Resend(words) => explain_resend(met, words, errors),
     }
 }
 
 // The same of a command that changes a base.
-fn explain_station<E: Sink>(met: FaultLine<'_>, words: &Words<'_>, errors: &mut E) {
+fn explain_station_words<E: Sink>(met: FaultLine<'_>, words: &StationWords<'_>, errors: &mut E) {
     match words {
-        Words::Post(words) => explain_post(met, words, errors),
-        Words::PostMail(words) => {
+        StationWords::Post(words) => explain_post(met, words, errors),
+        StationWords::PostMail(words) => {
             explain_moment(met, words.at, Some(words.serial), errors);
-            explain_files(met, words.links, words.base, errors);
+            explain_files(met, words.place, errors);
         }
-        Words::PostStored(words) => explain_stored(met, words, errors),
-        Words::PostJam(words) => {
+        StationWords::PostStored(words) => explain_stored(met, words, errors),
+        StationWords::PostJam(words) => {
             explain_moment(met, words.at, Some(words.serial), errors);
-            explain_files(met, words.links, words.base, errors);
-            explain_area(met, words.area, words.links, errors);
+            explain_files(met, words.place, errors);
+            explain_area(met, words.area, words.place.links, errors);
         }
-        Words::Reply(words) => explain_reply(met, words, errors),
-        Words::Toss(words) => explain_toss(met, words, errors),
-        Words::Scan {
-            at,
-            links,
-            base,
-            folder,
-        } => {
-            explain_moment(met, *at, None, errors);
-            explain_files(met, *links, *base, errors);
-            explain_path(met, *folder, Usage::Folder, errors);
-            explain_outbound(met, *base, *folder, errors);
+        StationWords::Reply(words) => explain_reply(met, words, errors),
+        StationWords::Toss(words) => explain_toss(met, words, errors),
+        StationWords::Scan(words) => {
+            explain_moment(met, words.at, None, errors);
+            explain_files(met, words.place, errors);
+            explain_path(met, words.folder, Usage::Folder, errors);
+            explain_outbound(met, words.place.base, words.folder, errors);
         }
-        Words::Resend(words) => explain_resend(met, words, errors),
-        Words::Purge { links, base } => explain_files(met, *links, *base, errors),
-        _ => {}
+        StationWords::Purge(place) => explain_files(met, *place, errors),
     }
 }
 
@@ -210,18 +224,15 @@ fn explain_check<E: Sink>(met: FaultLine<'_>, words: &CheckWords<'_>, errors: &m
     explain_net(met, &words.links, errors);
 }
 
-fn explain_export<E: Sink>(met: FaultLine<'_>, words: &ExportWords<'_>, errors: &mut E) {
-    explain_word(met, Fault::BadNumber, WordForm::Number, words.from, errors);
-    explain_path(met, words.base, Usage::Base, errors);
-    if let Some(folder) = words.msg {
-        explain_path(met, folder, Usage::Folder, errors);
-    }
+fn explain_read<E: Sink>(met: FaultLine<'_>, from: Option<&str>, base: &str, errors: &mut E) {
+    explain_word(met, Fault::BadNumber, WordForm::Number, from, errors);
+    explain_path(met, base, Usage::Base, errors);
 }
 
 fn explain_post<E: Sink>(met: FaultLine<'_>, words: &PostWords<'_>, errors: &mut E) {
     explain_moment(met, words.at, Some(words.serial), errors);
-    explain_files(met, words.links, words.base, errors);
-    explain_area(met, words.area, words.links, errors);
+    explain_files(met, words.place, errors);
+    explain_area(met, words.area, words.place.links, errors);
     let (to, from) = (words.to.len(), words.from.len());
     explain_fields(met, to, from, words.subject.len(), errors);
 }
@@ -229,8 +240,8 @@ fn explain_post<E: Sink>(met: FaultLine<'_>, words: &PostWords<'_>, errors: &mut
 fn explain_stored<E: Sink>(met: FaultLine<'_>, words: &PostStoredWords<'_>, errors: &mut E) {
     explain_moment(met, words.at, Some(words.serial), errors);
     explain_path(met, words.message, Usage::File, errors);
-    explain_files(met, words.links, words.base, errors);
-    explain_area(met, words.area, words.links, errors);
+    explain_files(met, words.place, errors);
+    explain_area(met, words.area, words.place.links, errors);
     let Ok(bytes) = read_file(met.rt, words.message, MAX_TEXT_FILE) else {
         return;
     };
@@ -242,7 +253,7 @@ fn explain_stored<E: Sink>(met: FaultLine<'_>, words: &PostStoredWords<'_>, erro
 
 fn explain_reply<E: Sink>(met: FaultLine<'_>, words: &ReplyWords<'_>, errors: &mut E) {
     explain_moment(met, words.at, Some(words.serial), errors);
-    explain_files(met, words.links, words.base, errors);
+    explain_files(met, words.place, errors);
     explain_fields(met, 0, words.from.len(), 0, errors);
     explain_index(met, words, errors);
 }
@@ -252,8 +263,11 @@ fn explain_resend<E: Sink>(met: FaultLine<'_>, words: &ResendWords<'_>, errors: 
     explain_word(met, Fault::BadAddress, form, Some(words.to), errors);
     explain_word(met, Fault::BadNumber, WordForm::Number, words.from, errors);
     explain_moment(met, words.at, None, errors);
-    let _ = explain_links(met, words.links, errors);
-    explain_path(met, words.base, Usage::Base, errors);
+    if let Some(list) = words.has {
+        explain_path(met, list, Usage::File, errors);
+    }
+    let _ = explain_links(met, words.place.links, errors);
+    explain_path(met, words.place.base, Usage::Base, errors);
     explain_path(met, words.folder, Usage::Folder, errors);
 }
 
@@ -265,10 +279,10 @@ fn explain_toss<E: Sink>(met: FaultLine<'_>, words: &TossWords<'_>, errors: &mut
         words.text_limit,
         errors,
     );
-    if explain_links(met, words.links, errors) {
+    if explain_links(met, words.place.links, errors) {
         return;
     }
-    explain_path(met, words.base, Usage::Changed, errors);
+    explain_path(met, words.place.base, Usage::Changed, errors);
     explain_paths(met, &words.packets, errors);
     if met.is_of_packet() {
         let found = names_of(met.rt, &words.packets);

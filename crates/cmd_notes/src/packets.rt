@@ -31,7 +31,7 @@ pub(crate) fn explain_packets<E: Sink>(
     names: &[PathName],
     errors: &mut E,
 ) {
-    let Ok(bytes) = read_file(met.rt, words.links, MAX_TEXT_FILE) else {
+    let Ok(bytes) = read_file(met.rt, words.place.links, MAX_TEXT_FILE) else {
         return;
     };
     let Ok(links) = LinkFile::read(met.rt.alloc(), &bytes) else {

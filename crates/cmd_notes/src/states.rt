@@ -1,7 +1,7 @@
 //! The state of a path that a command could not use.
 
 use crate::reasons::{PathState, State};
-use cmd_input::folder_of;
+use disk_system::folder_of;
 use std::fs::Metadata;
 use std::io::ErrorKind;
 use std::{fs, io};

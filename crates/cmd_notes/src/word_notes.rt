@@ -81,7 +81,7 @@ pub(crate) fn explain_index<E: Sink>(met: FaultLine<'_>, words: &ReplyWords<'_>,
         return;
     }
     match number_of(words.index) {
-        Ok(number) => match count_of(met.rt, words.base) {
+        Ok(number) => match count_of(met.rt, words.place.base) {
             Some(count) if number >= count => {
                 tell(met.rt, Reason::NoMessage(number, count), errors)
             }

@@ -1,14 +1,11 @@
 -- The files of messages, and why they were not made.
 use Rattle.std.proofs.Common.{◌≡◌, ◌≤◌, ℕ, Bool, true, List, [], ◌∷◌, ◌∙◌, ap, sym, Option, Some, Result, arith}
-use Rattle.std.specs.Prelude.{if◌then◌else◌}
-use Rattle.std.specs.Result.{IfErr}
+use Rattle.std.specs.{Prelude.if◌then◌else◌, Result.IfErr}
 use Rattle.echo_filed.specs.Filed.{Filed}
 use Rattle.base_file.specs.Base.{Base}
 use Rattle.base_folder.proofs.Fetchings.{unread_since}
 use Rattle.cmd_numbered.specs.Numbered.{EndsAt, IsMadeFrom, IsUnexported, IsUnmade, file_at, file_of, is_exported}
-use Rattle.cmd_numbered.specs.declared.folder.MessageFile.{MessageFile}
-use Rattle.cmd_numbered.specs.declared.numbering.Exported.{Exported}
-use Rattle.cmd_numbered.specs.declared.numbering.ExportError.{ExportError}
+use Rattle.cmd_numbered.specs.declared.{folder.MessageFile.MessageFile, numbering.Exported.Exported, numbering.ExportError.ExportError}
 
 -- the one file of a message that is exported
 pub one_file : (area : List ℕ) (first cursor number i : ℕ) (m : Filed) (found : Option Filed) (is : Bool) → Some m ≡ found → is ≡ is_exported area first cursor i m → is ≡ true

@@ -2,8 +2,7 @@
 use Rattle.std.proofs.Common.{ℕ, List, Result, Ok, Err, Some, inl, inr}
 use Rattle.base_file.specs.Base.{Base}
 use Rattle.base_folder.proofs.Fetchings.{never_read}
-use Rattle.cmd_status.specs.declared.fault.Fault.{Fault}
-use Rattle.cmd_status.specs.Inputs.{IsBaseGiven}
+use Rattle.cmd_status.specs.{declared.fault.Fault.Fault, Inputs.IsBaseGiven}
 use Rattle.cmd_numbered.specs.Reading.{AnswersFile, AnswersReading}
 
 pub of_file : {A : Type 0} (IsRight : Base → A → Type 0) (path file : List ℕ) (base : Base) (result : Result A Fault) → IsBaseGiven (Some file) base.messages base.cursor

@@ -6,10 +6,8 @@ use Rattle.echo_addr.specs.declared.address.Address.{Address}
 use Rattle.echo_filed.specs.Filed.{Filed}
 use Rattle.echo_links.specs.Links.{LinkFile}
 use Rattle.echo_packet.specs.Message.{Message}
-use Rattle.model_steps.specs.declared.packet.Packet.{Packet}
-use Rattle.model_steps.specs.declared.stamp.Stamp.{Stamp}
-use Rattle.cmd_status.specs.declared.fault.Fault.{Fault}
-use Rattle.cmd_status.specs.Inputs.{IsBaseGiven}
+use Rattle.model_steps.specs.declared.{packet.Packet.Packet, stamp.Stamp.Stamp}
+use Rattle.cmd_status.specs.{declared.fault.Fault.Fault, Inputs.IsBaseGiven}
 use Rattle.echo_toss.specs.Exports.{IsResentAt}
 use Rattle.cmd_numbered.specs.Resending.{IsMadeOf, ResendAnswers, ResendsReading, copies_at}
 

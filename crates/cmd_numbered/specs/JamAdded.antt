@@ -3,22 +3,14 @@ use Rattle.std.specs.Prelude.{◌≡◌, ℕ, zero, suc, ◌+◌, ◌&&◌, not,
 use Rattle.std.specs.Io.KnownBytes.{Appends}
 use Rattle.echo_filed.specs.Filed.{Filed}
 use Rattle.echo_links.specs.Links.{upper}
-use Rattle.echo_jam.specs.Fields.{body_of, cuts_of}
-use Rattle.echo_jam.specs.JamMessage.{entry_of, header_of}
-use Rattle.echo_jam.specs.Same.{is_same}
-use Rattle.echo_jam.specs.Unsent.{has_id}
+use Rattle.echo_jam.specs.{Fields.body_of, Fields.cuts_of, JamMessage.entry_of, JamMessage.header_of, Same.is_same, Unsent.has_id}
 use Rattle.echo_text.specs.Echo.{msgid_of}
 use Rattle.cmd_status.specs.Ended.{IsOutOfMemory}
 use Rattle.disk_io.specs.Device.{Failed}
 use Rattle.base_file.specs.Base.{Base}
-use Rattle.base_folder.specs.Fetching.{IsUnread}
-use Rattle.base_folder.specs.Source.{SourceState}
-use Rattle.cmd_numbered.specs.declared.adding.Adding.{Adding}
-use Rattle.cmd_numbered.specs.declared.adding.JamEnd.{JamEnd}
-use Rattle.cmd_numbered.specs.declared.adding.JamExport.{JamExport}
-use Rattle.cmd_numbered.specs.declared.jam_export_error.JamExportError.{JamExportError}
-use Rattle.cmd_numbered.specs.declared.jam_export_error.JamExportError.TheVariants.{Messages, Device}
-use Rattle.cmd_numbered.specs.Numbered.{is_exported}
+use Rattle.base_folder.specs.{Fetching.IsUnread, Source.SourceState}
+use Rattle.cmd_numbered.specs.declared.{adding.Adding.Adding, adding.JamEnd.JamEnd, adding.JamExport.JamExport, jam_export_error.JamExportError.JamExportError}
+use Rattle.cmd_numbered.specs.{declared.jam_export_error.JamExportError.TheVariants.Messages, declared.jam_export_error.JamExportError.TheVariants.Device, Numbered.is_exported}
 
 -- The bytes added to headers, texts and index; the numbers of the messages in their base; the number of cut subfields.
 pub record Added : Type 0 where

@@ -2,9 +2,7 @@
 use Rattle.std.specs.Prelude.{◌⊎◌, ℕ, List, Some, Result, Ok, Err}
 use Rattle.base_file.specs.Base.{Base}
 use Rattle.base_folder.specs.Fetching.{IsUnread}
-use Rattle.cmd_status.specs.declared.fault.Fault.{Fault}
-use Rattle.cmd_status.specs.Ended.{IsOutOfMemory}
-use Rattle.cmd_status.specs.Inputs.{IsBaseFault, IsBaseGiven}
+use Rattle.cmd_status.specs.{declared.fault.Fault.Fault, Ended.IsOutOfMemory, Inputs.IsBaseFault, Inputs.IsBaseGiven}
 
 -- A right answer, or a message of the base with this path could not be read.
 abbrev pub AnswersReading : {A : Type 0} → (A → Type 0) → List ℕ → ℕ → ℕ → Result A Fault → Type 0

@@ -1,7 +1,6 @@
 -- The line with the number of messages made into files, and with the number from which the next export begins.
 use Rattle.std.specs.Prelude.{ℕ, ◌==◌, List, [], ◌++◌, codes, decimal, if◌then◌else◌, slice_get, unwrap_or}
-use Rattle.cmd_numbered.specs.declared.adding.JamExport.{JamExport}
-use Rattle.cmd_numbered.specs.declared.numbering.Exported.{Exported}
+use Rattle.cmd_numbered.specs.declared.{adding.JamExport.JamExport, numbering.Exported.Exported}
 
 -- The line with the number of exported messages and the next number.
 abbrev pub reported_line : ℕ → ℕ → List ℕ

@@ -6,16 +6,9 @@ use Rattle.echo_addr.specs.declared.address.Address.{Address}
 use Rattle.echo_filed.specs.Filed.{Filed}
 use Rattle.echo_packet.specs.Message.{Message}
 use Rattle.echo_links.specs.Links.{LinkFile, upper}
-use Rattle.model_steps.specs.declared.fault.ScanFault.TheVariants.{BadStamp}
-use Rattle.model_steps.specs.declared.packet.Packet.{Packet}
-use Rattle.model_steps.specs.declared.stamp.Stamp.{Stamp}
-use Rattle.model_steps.specs.Resending.{is_resent, resent_packet}
-use Rattle.model_steps.specs.Scanning.{copy_to}
+use Rattle.model_steps.specs.{declared.fault.ScanFault.TheVariants.BadStamp, declared.packet.Packet.Packet, declared.stamp.Stamp.Stamp, Resending.is_resent, Resending.resent_packet, Scanning.copy_to}
 use Rattle.model_steps.specs.Stamps.{is_stamp}
-use Rattle.cmd_status.specs.declared.fault.Fault.{Fault}
-use Rattle.cmd_status.specs.declared.fault.Fault.TheVariants.{Scan}
-use Rattle.cmd_status.specs.Ended.{IsOutOfMemory}
-use Rattle.cmd_status.specs.Inputs.{IsBaseFault, IsBaseGiven}
+use Rattle.cmd_status.specs.{declared.fault.Fault.Fault, declared.fault.Fault.TheVariants.Scan, Ended.IsOutOfMemory, Inputs.IsBaseFault, Inputs.IsBaseGiven}
 
 -- The base file has no fault, and this is the packet made again from its messages. The requested area may have letters of
 -- either case.

@@ -1,8 +1,7 @@
 //! Which messages are added to a JAM base, and what that adds.
 ghost use Rattle.std.specs.Prelude.{◌≡◌, ◌≤◌, ◌+◌, ◌++◌, ◌&&◌, ℕ, List, Option, [], IfErr, IfOk, OnErr, OnOk, length, option_copied};
 ghost use Rattle.base_file.specs.Base.{Base};
-ghost use Rattle.base_folder.specs.Fetching.{IsUnread};
-ghost use Rattle.base_folder.specs.Source.{LooksAt};
+ghost use Rattle.base_folder.specs.{Fetching.IsUnread, Source.LooksAt};
 ghost use Rattle.cmd_status.specs.Lines.{WritesFront};
 ghost use Rattle.cmd_numbered.specs.JamAdded.{Added, HasAdded, HasBegun, IsJamExport, IsUnadded, IsUnsent, added_at, added_in, added_of, is_added, is_last_jam, is_written_there, jam_texts, nothing_added, resumed_jam, with_message};
 ghost use Rattle.echo_jam.specs.Fields.{body_of};

@@ -1,7 +1,6 @@
 //! A folder that gets a file for each message.
 ghost use Rattle.std.specs.Prelude.{List, Option, [], ◌∷◌, OnErr, OnOk};
-ghost use Rattle.cmd_numbered.specs.Folders.{Gets};
-ghost use Rattle.cmd_numbered.specs.declared.folder.MessageFile.{MessageFile as TheFile};
+ghost use Rattle.cmd_numbered.specs.{Folders.Gets, declared.folder.MessageFile.MessageFile as TheFile};
 
 use cmd_status::Status;
 use echo_addr::Items;

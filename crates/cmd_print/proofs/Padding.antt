@@ -1,9 +1,7 @@
 -- A number printed with leading zeros.
 use Rattle.std.proofs.Common.{◌≡◌, ℕ, ◌-◌, ◌^◌, [], decimal}
-use Rattle.std.proofs.Math.Nat.{sub-zero}
-use Rattle.std.proofs.lemmas.List.{append-nil}
-use Rattle.std.specs.Fmt.{padded_integral, format_spec, char_count}
-use Rattle.std.specs.Prelude.{false}
+use Rattle.std.proofs.{Math.Nat.sub-zero, lemmas.List.append-nil}
+use Rattle.std.specs.{Fmt.padded_integral, Fmt.format_spec, Fmt.char_count, Prelude.false}
 use Rattle.cmd_print.specs.Shown.{zero_padded}
 
 -- the result of `{:02}`

@@ -1,19 +1,14 @@
 -- The lines of `check`.
 use Rattle.std.specs.Prelude.{◌≡◌, ℕ, ◌↔◌, true, AllPairs, Contains, List, [], ◌++◌, codes, decimal, Option, Some, None}
 use Rattle.std.specs.List.{flat_map}
-use Rattle.echo_addr.specs.declared.address.Address.{Address}
-use Rattle.echo_addr.specs.Address.{address_text}
+use Rattle.echo_addr.specs.{declared.address.Address.Address, Address.address_text}
 use Rattle.echo_charset.specs.Words.{printed_word}
 use Rattle.echo_links.specs.Links.{LinkFile}
 use Rattle.echo_filed.specs.Sets.{address_before}
 use Rattle.echo_nodelist.specs.declared.line.Line.{Line}
 use Rattle.model_run.specs.Tidy.{Carries}
-use Rattle.echo_net.specs.declared.presence.Absence.{Absence}
-use Rattle.echo_net.specs.declared.presence.Absence.TheVariants.{Missing, Down}
-use Rattle.echo_net.specs.declared.verdict.Verdict.{Verdict}
-use Rattle.echo_net.specs.declared.verdict.Verdict.TheVariants.{Yes, No}
-use Rattle.echo_net.specs.Absent.{IsAbsent}
-use Rattle.echo_net.specs.Printed.{fault_text}
+use Rattle.echo_net.specs.declared.{presence.Absence.Absence, presence.Absence.TheVariants.Missing, presence.Absence.TheVariants.Down, verdict.Verdict.Verdict}
+use Rattle.echo_net.specs.{declared.verdict.Verdict.TheVariants.Yes, declared.verdict.Verdict.TheVariants.No, Absent.IsAbsent, Printed.fault_text}
 
 -- The line of an area in order, with its numbers of systems and links; the tag is printed as a word.
 abbrev pub yes_text : List ℕ → ℕ → ℕ → List ℕ

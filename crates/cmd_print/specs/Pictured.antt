@@ -4,15 +4,9 @@ use Rattle.std.specs.List.{flat_map}
 use Rattle.echo_addr.specs.Address.{address_text}
 use Rattle.echo_charset.specs.Words.{printed_word}
 use Rattle.echo_links.specs.Links.{same_address}
-use Rattle.echo_net.specs.declared.drawing.Crossing.{Crossing}
-use Rattle.echo_net.specs.declared.drawing.DrawnLink.{DrawnLink}
-use Rattle.echo_net.specs.declared.drawing.DrawnSystem.{DrawnSystem}
-use Rattle.echo_net.specs.declared.drawing.Drawing.{Drawing}
-use Rattle.echo_net.specs.declared.drawing.Mark.{Mark}
-use Rattle.echo_net.specs.declared.drawing.Mark.TheVariants.{Plain, Named, OnLoop}
-use Rattle.echo_net.specs.declared.drawing.Sides.{Sides}
-use Rattle.echo_net.specs.declared.drawing.Sides.TheVariants.{Both, First, Second}
-use Rattle.echo_net.specs.declared.verdict.Verdict.{Verdict}
+use Rattle.echo_net.specs.declared.drawing.{Crossing.Crossing, DrawnLink.DrawnLink, DrawnSystem.DrawnSystem, Drawing.Drawing, Mark.Mark}
+use Rattle.echo_net.specs.declared.drawing.{Mark.TheVariants.Plain, Mark.TheVariants.Named, Mark.TheVariants.OnLoop, Sides.Sides}
+use Rattle.echo_net.specs.declared.{drawing.Sides.TheVariants.Both, drawing.Sides.TheVariants.First, drawing.Sides.TheVariants.Second, verdict.Verdict.Verdict}
 use Rattle.cmd_print.specs.Checked.{verdict_text}
 
 -- A byte between double quotes: these and the backslash after a backslash.

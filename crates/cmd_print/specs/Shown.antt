@@ -1,11 +1,9 @@
 -- The lines of `show` for a packet.
 use Rattle.std.specs.Prelude.{◌≡◌, ℕ, ◌+◌, ◌-◌, Bool, List, [], ◌∷◌, ◌++◌, length, replicate, codes, decimal, if◌then◌else◌}
 use Rattle.std.specs.List.{flat_map}
-use Rattle.echo_addr.specs.declared.address.Address.{Address}
-use Rattle.echo_addr.specs.Address.{address_text}
+use Rattle.echo_addr.specs.{declared.address.Address.Address, Address.address_text}
 use Rattle.hex.specs.Hex.{encode_lower}
-use Rattle.echo_packet.specs.declared.header.Header.{Header}
-use Rattle.echo_packet.specs.Message.{Message, message_bytes}
+use Rattle.echo_packet.specs.{declared.header.Header.Header, Message.Message, Message.message_bytes}
 use Rattle.echo_charset.specs.Escaped.{escaped_line}
 use Rattle.echo_text.specs.Lines as text_lines
 use Rattle.cmd_print.specs.Said.{TextShown}

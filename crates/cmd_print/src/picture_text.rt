@@ -1,6 +1,5 @@
 //! The lines of an area as a graph, in the language DOT of Graphviz.
-ghost use Rattle.std.specs.Prelude.{◌≡◌, ◌++◌, IfOk, OnOk};
-ghost use Rattle.std.specs.List.{flat_map};
+ghost use Rattle.std.specs.{Prelude.◌≡◌, Prelude.◌++◌, Prelude.IfOk, Prelude.OnOk, List.flat_map};
 ghost use Rattle.cmd_print.specs.Pictured.{carrier_marks, ends_text, head_lines, is_at, later_step, link_line, loop_marks, picture_lines, quoted, quoted_byte, side_marks, steps_at, steps_label, system_line, system_marks};
 
 use crate::verdict_text::push_verdict_text;

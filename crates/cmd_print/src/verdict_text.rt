@@ -1,6 +1,5 @@
 //! The lines of a verdict, and of the systems that a nodelist does not hold.
-ghost use Rattle.std.specs.Prelude.{◌≡◌, ◌++◌, OnOk, option_copied};
-ghost use Rattle.std.specs.List.{flat_map};
+ghost use Rattle.std.specs.{Prelude.◌≡◌, Prelude.◌++◌, Prelude.OnOk, Prelude.option_copied, List.flat_map};
 ghost use Rattle.cmd_print.specs.Checked.{AbsencesShown, absence_line, absence_word, verdict_line, verdict_text, yes_text};
 ghost use Rattle.cmd_print.specs.Pushed.{Pushes};
 

@@ -1,34 +1,19 @@
 -- The counts of areas, message by message, and their lines.
 use Rattle.std.proofs.Common.{◌≡◌, ℕ, ◌+◌, ◌-◌, ◌<◌, ◌∙◌, ◌||◌, ◌&&◌, Bool, true, false, cond, List, [], ◌∷◌, ◌++◌, Option, None, Some, Result, length, map, take, drop, take_all, refl, sym, ap, subst, arith}
-use Rattle.std.specs.Prelude.{bytes_eq, count_by, is_some, nat_le, slice_get, unwrap_or}
-use Rattle.std.specs.declared.cmp.Ordering.{Ordering}
-use Rattle.std.specs.declared.cmp.Ordering.TheVariants.{Less}
-use Rattle.std.specs.Ordering.{is_eq, nat_cmp}
-use Rattle.std.specs.List.{AllByRecursion, flat_map, list_any}
-use Rattle.std.specs.List.Sorted.{IsStrictlySortedBy}
-use Rattle.std.specs.Map.{keys_of, lookup}
-use Rattle.std.specs.BTreeMap.{insert_entry}
-use Rattle.std.specs.Cmp.Lexicographic.{bytes_decides, slice_cmp}
-use Rattle.std.proofs.Math.Bool.{or_comm}
-use Rattle.std.proofs.lemmas.Bool.{cases_lt, le-leb, lt-leb}
 use Rattle.std.proofs.lemmas.List.{drop-append-le, drop_all, length-append, take-append-le, take_more}
-use Rattle.std.proofs.lemmas.List.Folds.{list_any-append}
-use Rattle.std.proofs.lemmas.List.Sums.{sum_by-append, sum_by-cons}
-use Rattle.std.proofs.lemmas.Map.Text.{is_eq-slice_cmp}
-use Rattle.std.proofs.lemmas.Option.{slice_get-get_or, slice_get_cases}
+use Rattle.std.proofs.{Math.Bool.or_comm, lemmas.Bool.cases_lt, lemmas.Bool.le-leb, lemmas.Bool.lt-leb, lemmas.List.Folds.list_any-append, lemmas.List.Sums.sum_by-append, lemmas.List.Sums.sum_by-cons}
+use Rattle.std.proofs.lemmas.{Map.Text.is_eq-slice_cmp, Option.slice_get-get_or, Option.slice_get_cases}
+use Rattle.std.specs.Prelude.{bytes_eq, count_by, is_some, nat_le, slice_get, unwrap_or}
+use Rattle.std.specs.{declared.cmp.Ordering.Ordering, declared.cmp.Ordering.TheVariants.Less, Ordering.is_eq, Ordering.nat_cmp, List.AllByRecursion, List.flat_map, List.list_any}
+use Rattle.std.specs.{List.Sorted.IsStrictlySortedBy, Map.keys_of, Map.lookup, BTreeMap.insert_entry, Cmp.Lexicographic.bytes_decides, Cmp.Lexicographic.slice_cmp}
 use Rattle.base_file.specs.Base.{Base}
 use Rattle.echo_export.specs.declared.json_line.State.{State}
 use Rattle.echo_filed.specs.Filed.{Filed}
 use Rattle.echo_links.proofs.Found.{bytes_turned, lookup_inserted}
 use Rattle.cmd_print.specs.BaseListed.{total_text}
-use Rattle.cmd_status.specs.declared.fault.Fault.{Fault}
-use Rattle.cmd_status.specs.declared.status.Status.{Status}
-use Rattle.cmd_status.specs.declared.status.Status.TheVariants.{Good}
-use Rattle.cmd_status.specs.Devices.{Output}
-use Rattle.cmd_status.specs.Ended.{Answers}
-use Rattle.cmd_show.specs.declared.area_counts.AreaCounts.{AreaCounts}
+use Rattle.cmd_status.specs.{declared.fault.Fault.Fault, declared.status.Status.Status, declared.status.Status.TheVariants.Good, Devices.Output, Ended.Answers}
 use Rattle.cmd_show.specs.AreasListed.{AreListed, AreWithin, Ascend, HaveCounts, area_counts, area_line, areas_text, counted_more, counts_of, counts_text, is_in, no_counts}
-use Rattle.cmd_show.specs.Exporting.{state_by, state_of}
+use Rattle.cmd_show.specs.{declared.area_counts.AreaCounts.AreaCounts, Exporting.state_by, Exporting.state_of}
 
 -- 1 for yes
 abbrev one : Bool → ℕ

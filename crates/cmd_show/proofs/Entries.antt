@@ -1,27 +1,15 @@
 -- The lines and the answer of `nodelist`, from those of its parts.
 use Rattle.std.proofs.Common.{◌≡◌, ℕ, ◌+◌, ◌<◌, ◌≤◌, ◌⊎◌, List, [], ◌∷◌, ◌++◌, length, get_or, map, Option, None, Result, Ok, Err, IfErr, OnErr, refl, sym, ap, subst, ◌∙◌, append_assoc, append-nil, arith, inl, inr}
-use Rattle.std.specs.List.{range_with_len}
-use Rattle.std.specs.Io.KnownBytes.{Appends}
-use Rattle.std.proofs.lemmas.Grind.{flat_map-append}
-use Rattle.std.proofs.lemmas.List.{get_or_default}
-use Rattle.std.proofs.lemmas.List.FromFn.{map-range_with_len_more}
+use Rattle.std.proofs.lemmas.{Grind.flat_map-append, List.get_or_default, List.FromFn.map-range_with_len_more}
+use Rattle.std.specs.{List.range_with_len, Io.KnownBytes.Appends}
 use Rattle.echo_addr.specs.declared.address.Address.{Address}
-use Rattle.echo_nodelist.specs.declared.fault.NodeFault.{NodeFault}
-use Rattle.echo_nodelist.specs.declared.line.Line.{Line}
-use Rattle.echo_nodelist.specs.declared.stated.CrcLine.{CrcLine}
-use Rattle.echo_nodelist.specs.Back.{address_at}
-use Rattle.echo_nodelist.specs.CrcLine.{crc_line_of}
+use Rattle.echo_nodelist.specs.{declared.fault.NodeFault.NodeFault, declared.line.Line.Line, declared.stated.CrcLine.CrcLine, Back.address_at, CrcLine.crc_line_of}
 use Rattle.echo_nodelist.specs.Nodelist.{NodelistAnswered, NodelistOf}
-use Rattle.cmd_status.specs.declared.fault.Fault.TheVariants.{Nodelist}
-use Rattle.cmd_status.specs.declared.status.Status.{Status}
-use Rattle.cmd_status.specs.declared.fault.Fault.{Fault}
-use Rattle.cmd_status.specs.Devices.{Output}
-use Rattle.cmd_status.specs.Ended.{CannotPrint, PassesAll, IsOutOfMemory, Stops}
-use Rattle.cmd_status.specs.Lines.{PassesOn, WritesFront}
+use Rattle.cmd_status.specs.{declared.fault.Fault.TheVariants.Nodelist, declared.status.Status.Status, declared.fault.Fault.Fault, Devices.Output}
+use Rattle.cmd_status.specs.{Ended.CannotPrint, Ended.PassesAll, Ended.IsOutOfMemory, Ended.Stops, Lines.PassesOn, Lines.WritesFront}
 use Rattle.cmd_status.proofs.Lines.{begun_after, begun_more, front_more, passed_more, sent_after}
-use Rattle.cmd_show.specs.Nodelists.{IsListed, NodelistAnswers, crc_status}
+use Rattle.cmd_show.specs.{Nodelists.IsListed, Nodelists.NodelistAnswers, Nodelists.crc_status, Written.AddsLines, Written.BeginsMore}
 use Rattle.cmd_print.specs.Listed.{Listed, RestListed, addressed_text, crc_text, listed_entries, line_at, total_line}
-use Rattle.cmd_show.specs.Written.{AddsLines, BeginsMore}
 use Rattle.cmd_show.proofs.Pushed.{added, begun_within}
 
 same_map : (xs : List ℕ) → map (λ x. x) xs ≡ xs

@@ -1,16 +1,12 @@
 -- The lines and the answer of `export`, from those of its parts.
 use Rattle.std.proofs.Common.{◌≡◌, ℕ, zero, suc, ◌+◌, ◌≤◌, ◌<◌, List, [], ◌++◌, length, Option, option_map, Err, refl, sym, ap, subst, ◌∙◌, add-one, arith, inl}
-use Rattle.std.specs.Prelude.{Bool, slice_get}
-use Rattle.std.specs.Io.KnownBytes.{Appends}
 use Rattle.std.proofs.lemmas.Bool.{lt-leb}
+use Rattle.std.specs.{Prelude.Bool, Prelude.slice_get, Io.KnownBytes.Appends}
 use Rattle.base_file.specs.Base.{Base}
 use Rattle.echo_export.specs.declared.form.Form.{Form}
 use Rattle.echo_links.specs.Links.{upper}
 use Rattle.echo_filed.specs.Filed.{Filed}
-use Rattle.cmd_status.specs.declared.fault.Fault.{Fault}
-use Rattle.cmd_status.specs.Devices.{Output}
-use Rattle.cmd_status.specs.Ended.{CannotPrint, IsBegun, IsDone, PassesAll}
-use Rattle.cmd_status.specs.Lines.{PassesOn, WritesFront}
+use Rattle.cmd_status.specs.{declared.fault.Fault.Fault, Devices.Output, Ended.CannotPrint, Ended.IsBegun, Ended.IsDone, Ended.PassesAll, Lines.PassesOn, Lines.WritesFront}
 use Rattle.cmd_status.proofs.Lines.{begun_after, begun_more, none_added, passed_more, sent_after}
 use Rattle.cmd_show.specs.Exporting.{IsExported, sought_count, sought_lost, sought_text, sought_texts}
 use Rattle.cmd_show.specs.Fetching.{PrintsReading}

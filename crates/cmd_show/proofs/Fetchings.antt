@@ -2,9 +2,7 @@
 use Rattle.std.proofs.Common.{◌≡◌, ℕ, ◌≤◌, List, Result, inl, inr, arith}
 use Rattle.base_folder.specs.Fetching.{CannotRead, IsUnread}
 use Rattle.base_folder.proofs.Fetchings.{never_read, read_since}
-use Rattle.cmd_status.specs.declared.fault.Fault.{Fault}
-use Rattle.cmd_status.specs.Devices.{Output}
-use Rattle.cmd_status.specs.Ended.{Answers, AnswersInPieces}
+use Rattle.cmd_status.specs.{declared.fault.Fault.Fault, Devices.Output, Ended.Answers, Ended.AnswersInPieces}
 use Rattle.cmd_show.specs.Fetching.{PrintsReading, StopsReading}
 
 -- a failed read stops the command, if standard output did not fail

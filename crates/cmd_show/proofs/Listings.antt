@@ -1,24 +1,17 @@
 -- The lines and the answer of `list`, from those of its parts.
 use Rattle.std.proofs.Common.{◌≡◌, ℕ, zero, suc, ◌+◌, ◌-◌, ◌≤◌, ◌<◌, List, [], ◌++◌, length, Option, None, Some, option_map, Err, refl, sym, ap, subst, ◌∙◌, append-nil, arith, inl}
-use Rattle.std.specs.Prelude.{slice_get, if◌then◌else◌, ◌&&◌}
-use Rattle.std.specs.Io.KnownBytes.{Appends}
-use Rattle.std.proofs.lemmas.Bool.{lt-leb}
-use Rattle.std.proofs.lemmas.Grind.{flat_map-append}
+use Rattle.std.proofs.lemmas.{Bool.lt-leb, Grind.flat_map-append}
+use Rattle.std.specs.{Prelude.slice_get, Prelude.if◌then◌else◌, Prelude.◌&&◌, Io.KnownBytes.Appends}
 use Rattle.base_file.specs.Base.{Base}
 use Rattle.echo_links.specs.Links.{upper}
 use Rattle.echo_filed.specs.Filed.{Filed}
-use Rattle.cmd_status.specs.declared.fault.Fault.{Fault}
-use Rattle.cmd_status.specs.declared.status.Status.TheVariants.{Good}
-use Rattle.cmd_status.specs.Devices.{Output}
-use Rattle.cmd_status.specs.Ended.{CannotPrint, IsBegun, IsDone, PassesAll}
+use Rattle.cmd_status.specs.{declared.fault.Fault.Fault, declared.status.Status.TheVariants.Good, Devices.Output, Ended.CannotPrint, Ended.IsBegun, Ended.IsDone, Ended.PassesAll}
 use Rattle.cmd_status.specs.Lines.{PassesOn, WritesFront}
 use Rattle.cmd_status.proofs.Lines.{begun_after, begun_more, front_more, none_added, passed_more, sent_after}
-use Rattle.cmd_print.specs.declared.list_form.ListForm.{ListForm}
-use Rattle.cmd_show.specs.Fetching.{PrintsReading}
-use Rattle.cmd_show.specs.Listing.{IsListed}
 use Rattle.cmd_print.specs.BaseListed.{asked_text, base_text, is_of_area, listed_text, messages_text, total_text}
-use Rattle.cmd_show.proofs.Entries.{range_more}
-use Rattle.cmd_show.proofs.Pushed.{added, begun_within}
+use Rattle.cmd_print.specs.declared.list_form.ListForm.{ListForm}
+use Rattle.cmd_show.specs.{Fetching.PrintsReading, Listing.IsListed}
+use Rattle.cmd_show.proofs.{Entries.range_more, Pushed.added, Pushed.begun_within}
 
 -- one message more
 pub messages_more : (form : ListForm) (area : Option (List ℕ)) (first : ℕ) (base : List Filed) (cursor n : ℕ)

@@ -1,27 +1,17 @@
 -- A packet has one printing.
-use Rattle.std.specs.Prelude.{IsErr}
+use Rattle.std.specs.{Prelude.IsErr, Io.KnownBytes.Appends}
 use Rattle.std.proofs.Common.{◌≡◌, ℕ, ◌+◌, Bool, true, false, List, [], ◌∷◌, ◌++◌, length, Option, Some, None, Result, Ok, Err, refl, sym, ap, subst, ◌∙◌, inl, inr, arith}
-use Rattle.std.specs.Io.KnownBytes.{Appends}
-use Rattle.echo_packet.specs.declared.header.Header.{Header}
-use Rattle.echo_packet.specs.Message.{Message, message_bytes}
-use Rattle.echo_packet.specs.Answer.{Answer, Describes, Found}
+use Rattle.echo_packet.specs.{declared.header.Header.Header, Message.Message, Message.message_bytes, Answer.Answer, Answer.Describes, Answer.Found}
 use Rattle.echo_packet.proofs.Outcome.{only_one, outcome}
-use Rattle.echo_text.specs.declared.fault.TextFault.{TextFault}
-use Rattle.echo_text.specs.Refusal.{text_refusal}
+use Rattle.echo_text.specs.{declared.fault.TextFault.TextFault, Refusal.text_refusal}
 use Rattle.echo_text.proofs.OneReading.{one_count, one_echo}
-use Rattle.cmd_status.specs.Devices.{Output}
-use Rattle.hex.specs.Hex.{decode_of}
-use Rattle.hex.specs.declared.error.FromHexError.{FromHexError}
-use Rattle.cmd_status.specs.declared.fault.Fault.{Fault}
-use Rattle.cmd_status.specs.declared.fault.Fault.TheVariants.{BadHex, Packet}
-use Rattle.cmd_status.specs.declared.status.Status.{Status}
-use Rattle.cmd_status.specs.declared.status.Status.TheVariants.{Good}
-use Rattle.cmd_status.specs.Ended.{IsOfInput, Stops}
+use Rattle.cmd_status.specs.{Devices.Output, declared.fault.Fault.Fault, declared.fault.Fault.TheVariants.BadHex, declared.fault.Fault.TheVariants.Packet, declared.status.Status.Status}
+use Rattle.cmd_status.specs.{declared.status.Status.TheVariants.Good, Ended.IsOfInput, Ended.Stops, Limits.show_limits}
+use Rattle.hex.specs.{Hex.decode_of, declared.error.FromHexError.FromHexError}
+use Rattle.cmd_print.specs.Shown.{MessageShown, MessagesShown, Shown, message_lines, whole_text}
 use Rattle.cmd_print.specs.Said.{LinesFor}
 use Rattle.cmd_show.specs.Showing.{AllShown, IsCutShort, IsShown, PacketStops, ShowAnswers, IsInputOf, hex_text}
 use Rattle.cmd_show.specs.Written.{WritesLines}
-use Rattle.cmd_status.specs.Limits.{show_limits}
-use Rattle.cmd_print.specs.Shown.{MessageShown, MessagesShown, Shown, message_lines, whole_text}
 
 one_said : (r : Option TextFault) (text a b : List ℕ) → LinesFor r text a → LinesFor r text b → a ≡ b
 one_said r text a b h1 h2 = grind (arith, one_echo, one_count)

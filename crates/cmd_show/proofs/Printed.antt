@@ -1,32 +1,18 @@
 -- The lines printed for a packet.
 use Rattle.std.proofs.Common.{◌≡◌, ℕ, ◌+◌, ◌^◌, ◌<◌, ◌⊎◌, inl, inr, Bool, List, [], ◌∷◌, ◌++◌, Option, Result, Ok, Err, OnOk, OnErr, length, refl, sym, ap, ◌∙◌, subst, arith, append_assoc, append-nil, add-zero}
-use Rattle.std.specs.Prelude.{IfErr}
 use Rattle.std.proofs.lemmas.List.{length-append}
+use Rattle.std.specs.Prelude.{IfErr}
 use Rattle.disk_io.proofs.Devices.{Failed-never}
-use Rattle.echo_packet.specs.declared.header.Header.{Header}
-use Rattle.echo_packet.specs.declared.reader.Stage.{Stage}
-use Rattle.echo_packet.specs.declared.limits.Limits.{Limits}
-use Rattle.echo_packet.specs.Message.{Message, message_bytes, messages_bytes}
-use Rattle.echo_packet.specs.Answer.{Describes}
-use Rattle.echo_packet.specs.declared.fault.PacketFault.{PacketFault}
-use Rattle.echo_packet.specs.declared.fault.PacketFault.TheVariants as fault
-use Rattle.echo_packet.specs.Fault.{FaultOf}
-use Rattle.echo_packet.specs.Next.{CountsFailures, NextFault}
-use Rattle.echo_packet.specs.Reader.{FrontFault, IsDropped}
+use Rattle.echo_packet.specs.{declared.header.Header.Header, declared.reader.Stage.Stage, declared.limits.Limits.Limits, Message.Message, Message.message_bytes, Message.messages_bytes}
+use Rattle.echo_packet.specs.{Answer.Describes, declared.fault.PacketFault.PacketFault, Fault.FaultOf, Next.CountsFailures, Next.NextFault, Reader.FrontFault, Reader.IsDropped}
 use Rattle.echo_packet.specs.Run.{IsOfCall, SoFar}
-use Rattle.echo_packet.proofs.MessageByMessage.{run-fails}
-use Rattle.echo_packet.proofs.Headers.{length-header_bytes}
-use Rattle.echo_packet.proofs.Slices.{HasGiven}
-use Rattle.cmd_status.specs.declared.fault.Fault.TheVariants.{Packet}
-use Rattle.cmd_status.specs.declared.fault.Fault.{Fault}
-use Rattle.cmd_status.specs.Devices.{Output}
-use Rattle.cmd_status.specs.Ended.{CannotPrint, IsOutOfMemory}
-use Rattle.cmd_status.specs.Limits.{show_limits}
+use Rattle.echo_packet.specs.declared.fault.PacketFault.TheVariants as fault
+use Rattle.echo_packet.proofs.{MessageByMessage.run-fails, Headers.length-header_bytes, Slices.HasGiven}
+use Rattle.cmd_status.specs.{declared.fault.Fault.TheVariants.Packet, declared.fault.Fault.Fault, Devices.Output, Ended.CannotPrint, Ended.IsOutOfMemory, Limits.show_limits}
 use Rattle.cmd_status.specs.Lines.{PassesOn, WritesFront}
 use Rattle.cmd_status.proofs.Lines.{none_added, none_passed, passed_more}
-use Rattle.cmd_show.specs.Showing.{AllShown, FrontShown, MessagePasses, PacketPasses}
+use Rattle.cmd_show.specs.{Showing.AllShown, Showing.FrontShown, Showing.MessagePasses, Showing.PacketPasses, Written.AddsLines}
 use Rattle.cmd_print.specs.Shown.{MessageShown, MessagesShown, header_lines, end_line}
-use Rattle.cmd_show.specs.Written.{AddsLines}
 
 -- the lines of the header and of the given messages are on their way; the next message begins at this place
 pub record HasPrinted (full : Bool) (bytes rest : List ℕ) (header : Header) (own : Limits) (given at : ℕ) (next : Stage) (kept behind : List ℕ) (old new : Option (List ℕ)) (count place : ℕ) : Type 0 where

@@ -1,19 +1,13 @@
 -- The faulty lines of a file, and its first fault.
 use Rattle.std.proofs.Common.{◌≡◌, ℕ, ◌+◌, Bool, true, false, cond, List, [], ◌∷◌, ◌++◌, refl, sym, ap, ◌∙◌, Option, Some, None, Result, Err, ◌⊎◌, append_assoc, append-nil, arith}
-use Rattle.std.specs.Prelude.{option_map, slice_get}
-use Rattle.std.specs.Option.{option_or}
-use Rattle.std.specs.List.{list_any}
 use Rattle.std.proofs.lemmas.Bool.{cases_Bool, true≢false}
-use Rattle.echo_links.specs.declared.fault.LinkFault.{LinkFault}
-use Rattle.echo_links.specs.declared.fault.LinkFault.TheVariants as fault
-use Rattle.echo_links.specs.Links.{LinkFile}
+use Rattle.std.specs.{Prelude.option_map, Prelude.slice_get, Option.option_or, List.list_any}
 use Rattle.echo_links.specs.LinkLines.{LinksOf, file_fault, file_lines, first_fault, is_system_line, line_fault, read_lines}
+use Rattle.echo_links.specs.{declared.fault.LinkFault.LinkFault, Links.LinkFile}
+use Rattle.echo_links.specs.declared.fault.LinkFault.TheVariants as fault
 use Rattle.echo_links.proofs.LinkBytes.{no_lines_left}
-use Rattle.cmd_show.specs.declared.faulty.FaultyLine.{FaultyLine}
-use Rattle.cmd_show.specs.declared.words.FaultyWord.{FaultyWord}
 use Rattle.cmd_show.specs.FaultyLines.{faults_of, faulty_among, faulty_lines, good_with, reported_lines, reported_with}
-use Rattle.cmd_show.specs.declared.judged.Judged.TheVariants.{Faulty}
-use Rattle.cmd_show.specs.Judging.{IsJudged, is_memory}
+use Rattle.cmd_show.specs.{declared.faulty.FaultyLine.FaultyLine, declared.words.FaultyWord.FaultyWord, declared.judged.Judged.TheVariants.Faulty, Judging.IsJudged, Judging.is_memory}
 use Rattle.cmd_show.specs.Before.{IsBefore, JudgesLine, SaidBefore, line_reported}
 
 -- ---- line by line

@@ -2,11 +2,7 @@
 use Rattle.std.proofs.Common.{ℕ, ◌≤◌, Bool, List, Result, arith}
 use Rattle.disk_io.proofs.Devices.{Failed-le}
 use Rattle.base_store.proofs.Causes.{failed_since}
-use Rattle.cmd_status.specs.declared.fault.Fault.{Fault}
-use Rattle.cmd_status.specs.declared.fault.Fault.TheVariants.{CannotUse}
-use Rattle.cmd_status.specs.declared.status.Status.{Status}
-use Rattle.cmd_status.specs.Devices.{Output}
-use Rattle.cmd_status.specs.Ended.{CannotPrint}
+use Rattle.cmd_status.specs.{declared.fault.Fault.Fault, declared.fault.Fault.TheVariants.CannotUse, declared.status.Status.Status, Devices.Output, Ended.CannotPrint}
 use Rattle.cmd_show.specs.Showing.{PacketPasses}
 
 -- the count never falls

@@ -1,18 +1,11 @@
 -- The wrong word in a line, found word by word.
 use Rattle.std.proofs.Common.{◌≡◌, ℕ, ◌||◌, Bool, true, false, cond, List, [], ◌∷◌, map, sym, ap, ◌∙◌, Some, None, arith}
-use Rattle.std.specs.Prelude.{is_err}
-use Rattle.std.specs.List.{list_any}
-use Rattle.std.specs.Ordering.{is_eq}
 use Rattle.std.proofs.lemmas.Bool.{cond-false, cond-true}
-use Rattle.echo_addr.specs.declared.address.Address.{Address}
-use Rattle.echo_addr.specs.Address.{address_in, outcome}
-use Rattle.echo_links.specs.Links.{same_address}
+use Rattle.std.specs.{Prelude.is_err, List.list_any, Ordering.is_eq}
+use Rattle.echo_addr.specs.{declared.address.Address.Address, Address.address_in, Address.outcome}
+use Rattle.echo_links.specs.{Links.same_address, LinkLines.links_fault, LinkReading.IsWordOf, Found.HaveTheSame, Found.address_order}
 use Rattle.echo_links.specs.declared.fault.LinkFault.TheVariants as fault
-use Rattle.echo_links.specs.LinkLines.{links_fault}
-use Rattle.echo_links.specs.LinkReading.{IsWordOf}
-use Rattle.echo_links.specs.Found.{HaveTheSame, address_order}
-use Rattle.echo_links.proofs.Found.{link_found}
-use Rattle.echo_links.proofs.LinkLoops.{any_last}
+use Rattle.echo_links.proofs.{Found.link_found, LinkLoops.any_last}
 use Rattle.cmd_show.specs.FaultyLines.{link_again, no_address}
 
 -- ---- after SYSTEM

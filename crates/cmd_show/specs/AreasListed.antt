@@ -1,22 +1,12 @@
 -- The lines and the answer of `list --areas`.
 use Rattle.std.specs.Prelude.{◌≡◌, ◌≤◌, ℕ, ◌+◌, ◌-◌, ◌&&◌, Bool, List, ◌++◌, length, take, drop, codes, decimal, bytes_eq, count_by, is_some, Option, Some, unwrap_or, Result}
-use Rattle.std.specs.Ordering.{is_eq, nat_cmp}
-use Rattle.std.specs.Cmp.Lexicographic.{slice_cmp}
-use Rattle.std.specs.List.{flat_map, list_any}
-use Rattle.std.specs.List.Sorted.{IsStrictlySortedBy}
-use Rattle.std.specs.Map.{keys_of, lookup}
-use Rattle.echo_export.specs.declared.json_line.State.{State}
-use Rattle.echo_export.specs.declared.json_line.State.TheVariants.{Purged, Scanned, Waiting}
+use Rattle.std.specs.{Ordering.is_eq, Ordering.nat_cmp, Cmp.Lexicographic.slice_cmp, List.flat_map, List.list_any, List.Sorted.IsStrictlySortedBy, Map.keys_of, Map.lookup}
+use Rattle.echo_export.specs.declared.json_line.State.{State, TheVariants.Purged, TheVariants.Scanned, TheVariants.Waiting}
 use Rattle.base_file.specs.Base.{Base}
 use Rattle.echo_filed.specs.Filed.{Filed}
 use Rattle.cmd_print.specs.BaseListed.{is_purged, total_text}
 use Rattle.cmd_show.specs.declared.area_counts.AreaCounts.{AreaCounts}
-use Rattle.cmd_status.specs.declared.fault.Fault.{Fault}
-use Rattle.cmd_status.specs.declared.status.Status.{Status}
-use Rattle.cmd_status.specs.declared.status.Status.TheVariants.{Good}
-use Rattle.cmd_status.specs.Devices.{Output}
-use Rattle.cmd_status.specs.Ended.{Answers}
-use Rattle.cmd_status.specs.Inputs.{IsBaseFault, IsBaseGiven}
+use Rattle.cmd_status.specs.{declared.fault.Fault.Fault, declared.status.Status.Status, declared.status.Status.TheVariants.Good, Devices.Output, Ended.Answers, Inputs.IsBaseFault, Inputs.IsBaseGiven}
 
 -- Whether a message belongs to the area.
 abbrev pub is_in : List ℕ → Filed → Bool

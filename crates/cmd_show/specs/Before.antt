@@ -2,12 +2,10 @@
 use Rattle.std.specs.Prelude.{◌≡◌, ◌||◌, not, Bool, ℕ, List, [], ◌∷◌, map, if◌then◌else◌, Option, Some, None, MatchOption, bytes_eq, filter}
 use Rattle.std.specs.List.{list_any}
 use Rattle.echo_text.specs.Lines.{is_tag}
-use Rattle.echo_links.specs.declared.fault.LinkFault.{LinkFault}
-use Rattle.echo_links.specs.declared.fault.LinkFault.TheVariants as fault
-use Rattle.echo_links.specs.Links.{upper}
 use Rattle.echo_links.specs.LinkLines.{after_first_of, first_of, is_area_line, is_name_line, is_system_line, line_fault, links_fault, tag_in}
-use Rattle.cmd_show.specs.declared.faulty.FaultyLine.{FaultyLine}
-use Rattle.cmd_show.specs.declared.words.FaultyWord.{FaultyWord}
+use Rattle.echo_links.specs.{declared.fault.LinkFault.LinkFault, Links.upper}
+use Rattle.echo_links.specs.declared.fault.LinkFault.TheVariants as fault
+use Rattle.cmd_show.specs.declared.{faulty.FaultyLine.FaultyLine, words.FaultyWord.FaultyWord}
 use Rattle.cmd_show.specs.FaultyLines.{link_again, no_address, not_one_address, wrong_word}
 
 -- The parts of earlier lines: whether one has the system's address, whether one has the name, and the tags of areas.

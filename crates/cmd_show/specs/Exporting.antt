@@ -1,17 +1,12 @@
 -- The lines of `export` for the messages of a base, and its answer.
 use Rattle.std.specs.Prelude.{◌≡◌, ℕ, zero, suc, ◌+◌, ◌==◌, ◌&&◌, nat_le, Bool, true, false, List, [], ◌++◌, length, codes, decimal, if◌then◌else◌, slice_get, Option, Some, None, option_map, Result}
-use Rattle.echo_export.specs.declared.json_line.State.{State}
-use Rattle.echo_export.specs.declared.json_line.State.TheVariants.{Purged, Scanned, Waiting}
-use Rattle.echo_export.specs.declared.form.Form.{Form}
+use Rattle.echo_export.specs.declared.{json_line.State.State, json_line.State.TheVariants.Purged, json_line.State.TheVariants.Scanned, json_line.State.TheVariants.Waiting, form.Form.Form}
 use Rattle.echo_export.specs.Forms.{message_lost, message_text}
 use Rattle.base_file.specs.Base.{Base}
 use Rattle.echo_filed.specs.Filed.{Filed}
 use Rattle.echo_links.specs.Links.{upper}
 use Rattle.cmd_print.specs.BaseListed.{is_asked, is_purged}
-use Rattle.cmd_status.specs.declared.fault.Fault.{Fault}
-use Rattle.cmd_status.specs.Devices.{Output}
-use Rattle.cmd_status.specs.Ended.{AnswersInPieces}
-use Rattle.cmd_status.specs.Inputs.{IsBaseFault, IsBaseGiven}
+use Rattle.cmd_status.specs.{declared.fault.Fault.Fault, Devices.Output, Ended.AnswersInPieces, Inputs.IsBaseFault, Inputs.IsBaseGiven}
 
 -- The state of a message, by whether it waits for a scan and whether only the id of its text is left.
 abbrev pub state_by : Bool → Bool → State

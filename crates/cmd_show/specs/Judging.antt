@@ -1,11 +1,8 @@
 -- A link file judged as a whole.
 use Rattle.std.specs.Prelude.{◌≡◌, ℕ, Bool, true, false, List, Ok, Err}
-use Rattle.echo_links.specs.declared.fault.LinkFault.{LinkFault}
+use Rattle.echo_links.specs.{declared.fault.LinkFault.LinkFault, LinkLines.LinksOf}
 use Rattle.echo_links.specs.declared.fault.LinkFault.TheVariants as fault
-use Rattle.echo_links.specs.LinkLines.{LinksOf}
-use Rattle.cmd_show.specs.declared.judged.Judged.{Judged}
-use Rattle.cmd_show.specs.declared.judged.Judged.TheVariants.{Good, Faulty}
-use Rattle.cmd_show.specs.FaultyLines.{faults_of}
+use Rattle.cmd_show.specs.{declared.judged.Judged.Judged, declared.judged.Judged.TheVariants.Good, declared.judged.Judged.TheVariants.Faulty, FaultyLines.faults_of}
 
 -- Whether memory ran out, which is no fault of the bytes.
 abbrev pub is_memory : LinkFault → Bool

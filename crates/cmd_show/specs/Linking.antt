@@ -2,13 +2,9 @@
 use Rattle.std.specs.Prelude.{◌≡◌, Bool, List, is_none, if◌then◌else◌, Result}
 use Rattle.std.specs.List.{list_all}
 use Rattle.echo_links.specs.LinkLines.{file_fault}
-use Rattle.cmd_status.specs.Devices.{Output}
-use Rattle.cmd_status.specs.declared.fault.Fault.{Fault}
-use Rattle.cmd_status.specs.declared.status.Status.{Status}
-use Rattle.cmd_status.specs.declared.status.Status.TheVariants.{Good, Refused}
+use Rattle.cmd_status.specs.{Devices.Output, declared.fault.Fault.Fault, declared.status.Status.Status, declared.status.Status.TheVariants.Good, declared.status.Status.TheVariants.Refused}
 use Rattle.cmd_status.specs.Ended.{Answers}
-use Rattle.cmd_show.specs.declared.linking.NamedFile.{NamedFile}
-use Rattle.cmd_show.specs.LinksShown.{files_text}
+use Rattle.cmd_show.specs.{declared.linking.NamedFile.NamedFile, LinksShown.files_text}
 
 -- Whether a link file has no fault.
 abbrev pub is_good_file : NamedFile → Bool

@@ -2,15 +2,10 @@
 use Rattle.std.specs.Prelude.{ℕ, Bool, List, [], ◌++◌, codes, decimal, length, map, sum, if◌then◌else◌, Option, Some, None}
 use Rattle.std.specs.List.{flat_map}
 use Rattle.echo_addr.specs.Address.{address_text}
-use Rattle.echo_charset.specs.Escaped.{escaped_line}
-use Rattle.echo_charset.specs.Words.{printed_word}
-use Rattle.echo_links.specs.declared.fault.LinkFault.{LinkFault}
+use Rattle.echo_charset.specs.{Escaped.escaped_line, Words.printed_word}
+use Rattle.echo_links.specs.{declared.fault.LinkFault.LinkFault, Links.Area, Links.LinkFile, Links.links_of, LinkLines.file_fault, LinkLines.file_of}
 use Rattle.echo_links.specs.declared.fault.LinkFault.TheVariants as fault
-use Rattle.echo_links.specs.Links.{Area, LinkFile, links_of}
-use Rattle.echo_links.specs.LinkLines.{file_fault, file_of}
-use Rattle.cmd_show.specs.declared.faulty.FaultyLine.{FaultyLine}
-use Rattle.cmd_show.specs.FaultyLines.{faults_of}
-use Rattle.cmd_show.specs.declared.linking.NamedFile.{NamedFile}
+use Rattle.cmd_show.specs.{declared.faulty.FaultyLine.FaultyLine, FaultyLines.faults_of, declared.linking.NamedFile.NamedFile}
 
 -- The number of links of an area.
 abbrev pub area_links : LinkFile → Area → ℕ

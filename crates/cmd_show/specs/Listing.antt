@@ -1,15 +1,10 @@
 -- The answer of `list`.
 use Rattle.std.specs.Prelude.{◌≡◌, ℕ, List, Option, Some, option_map, Result}
-use Rattle.cmd_status.specs.Devices.{Output}
+use Rattle.cmd_status.specs.{Devices.Output, declared.fault.Fault.Fault, declared.status.Status.Status, declared.status.Status.TheVariants.Good, Ended.AnswersInPieces}
+use Rattle.cmd_status.specs.Inputs.{IsBaseFault, IsBaseGiven}
 use Rattle.echo_links.specs.Links.{upper}
 use Rattle.base_file.specs.Base.{Base}
-use Rattle.cmd_status.specs.declared.fault.Fault.{Fault}
-use Rattle.cmd_status.specs.declared.status.Status.{Status}
-use Rattle.cmd_status.specs.declared.status.Status.TheVariants.{Good}
-use Rattle.cmd_status.specs.Ended.{AnswersInPieces}
-use Rattle.cmd_status.specs.Inputs.{IsBaseFault, IsBaseGiven}
-use Rattle.cmd_print.specs.declared.list_form.ListForm.{ListForm}
-use Rattle.cmd_print.specs.BaseListed.{base_text}
+use Rattle.cmd_print.specs.{declared.list_form.ListForm.ListForm, BaseListed.base_text}
 
 -- These are the lines of a base in a form. The requested area may have letters of either case.
 pub record IsListed (form : ListForm) (area : Option (List ℕ)) (first : ℕ) (base : Base) (lines : List ℕ) (status : Status) : Type 0 where

@@ -1,21 +1,11 @@
 -- The bytes that an input of `show` encodes, and the result of `show`.
 use Rattle.std.specs.Prelude.{◌≡◌, ℕ, ◌⊎◌, ◌++◌, Bool, true, List, [], Option, Result, Ok, Err, IsErr, Vec, length, filter, ◌≤◌, take, not, false, ◌||◌, ◌==◌}
 use Rattle.std.specs.declared.alloc.Global.{Global}
-use Rattle.cmd_status.specs.Devices.{Output}
+use Rattle.cmd_status.specs.{Devices.Output, declared.fault.Fault.Fault, declared.fault.Fault.TheVariants.BadHex, declared.fault.Fault.TheVariants.OutOfMemory, declared.fault.Fault.TheVariants.Packet}
+use Rattle.cmd_status.specs.{declared.status.Status.Status, declared.status.Status.TheVariants.Good, Ended.CannotPrint, Ended.PassesAll, Ended.IsOutOfMemory, Limits.show_limits}
 use Rattle.hex.specs.Hex.{decode_of}
-use Rattle.echo_packet.specs.declared.header.Header.{Header}
-use Rattle.echo_packet.specs.declared.fault.PacketFault.{PacketFault}
-use Rattle.echo_packet.specs.Header.{IsHeader, header_bytes}
-use Rattle.echo_packet.specs.Fault.{FaultOf}
-use Rattle.echo_packet.specs.Message.{AreMessages, Message, messages_bytes}
-use Rattle.echo_packet.specs.Reader.{FrontFault}
-use Rattle.cmd_status.specs.declared.fault.Fault.{Fault}
-use Rattle.cmd_status.specs.declared.fault.Fault.TheVariants.{BadHex, OutOfMemory, Packet}
-use Rattle.cmd_status.specs.declared.status.Status.{Status}
-use Rattle.cmd_status.specs.declared.status.Status.TheVariants.{Good}
-use Rattle.cmd_status.specs.Ended.{CannotPrint, PassesAll, IsOutOfMemory}
-use Rattle.echo_packet.specs.Packet.{PacketOf}
-use Rattle.cmd_status.specs.Limits.{show_limits}
+use Rattle.echo_packet.specs.{declared.header.Header.Header, declared.fault.PacketFault.PacketFault, Header.IsHeader, Header.header_bytes, Fault.FaultOf}
+use Rattle.echo_packet.specs.{Message.AreMessages, Message.Message, Message.messages_bytes, Reader.FrontFault, Packet.PacketOf}
 use Rattle.cmd_print.specs.Shown.{MessageShown, MessagesShown, Shown, header_lines}
 use Rattle.cmd_show.specs.Written.{AddsLines, BeginsLines, BeginsMore, WritesLines}
 

@@ -1,6 +1,5 @@
 -- Lines that a command wrote.
-use Rattle.std.specs.Prelude.{ℕ, List, ◌++◌, Option}
-use Rattle.std.specs.Io.KnownBytes.{Appends}
+use Rattle.std.specs.{Prelude.ℕ, Prelude.List, Prelude.◌++◌, Prelude.Option, Io.KnownBytes.Appends}
 use Rattle.cmd_status.specs.Lines.{PassesOn, WritesFront}
 
 -- Lines of this kind were written.

@@ -4,9 +4,7 @@ ghost use Rattle.std.specs.List.{flat_map};
 ghost use Rattle.base_file.specs.Base as model;
 ghost use Rattle.cmd_show.specs.AreasListed.{AreListed, Ascend, AreWithin, HaveCounts, ListAreasAnswers, area_line, counted_more, counts_of, counts_text};
 ghost use Rattle.base_folder.specs.Fetching.{CannotRead, IsUnread};
-ghost use Rattle.cmd_status.specs.declared.status.Status.TheVariants.{Good};
-ghost use Rattle.cmd_status.specs.Devices.{output_of};
-ghost use Rattle.cmd_status.specs.Ended.{Answers};
+ghost use Rattle.cmd_status.specs.{declared.status.Status.TheVariants.Good, Devices.output_of, Ended.Answers};
 ghost use Rattle.echo_filed.specs.Filed as filed;
 
 use crate::exporting::state_of;

@@ -2,11 +2,9 @@
 ghost use Rattle.std.specs.Prelude.{◌≡◌, ◌++◌, ℕ, List, true, IfOk, OnOk};
 ghost use Rattle.echo_addr.specs.Entries.{tokens};
 ghost use Rattle.echo_text.specs.Lines.{trimmed};
-ghost use Rattle.echo_links.specs.Links.{upper};
-ghost use Rattle.echo_links.specs.LinkLines.{first_of};
-ghost use Rattle.echo_links.specs.LinkReading.{name_refusal, system_refusal};
-ghost use Rattle.cmd_show.specs.FaultyLines.{faulty_lines};
+ghost use Rattle.echo_links.specs.{Links.upper, LinkLines.first_of, LinkReading.name_refusal, LinkReading.system_refusal};
 ghost use Rattle.cmd_show.specs.Before.{HasTagAdded, IsBefore, JudgesLine, Tells, area_refused, area_says, line_reported, name_says, system_says};
+ghost use Rattle.cmd_show.specs.FaultyLines.{faulty_lines};
 
 use crate::faulty::FaultyLine;
 use crate::tags::Tags;

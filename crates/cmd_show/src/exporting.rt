@@ -1,9 +1,7 @@
 //! The command `export`: the messages of a base for other programs.
 ghost use Rattle.std.specs.Prelude.{◌≡◌, ◌<◌, ◌^◌, ◌++◌, IfErr, IfOk, OnOk, OnErr, length, option_copied};
 ghost use Rattle.base_file.specs.Base as model;
-ghost use Rattle.cmd_status.specs.Devices.{output_of};
-ghost use Rattle.cmd_status.specs.Ended.{Stops};
-ghost use Rattle.cmd_status.specs.Lines.{PassesOn, WritesFront};
+ghost use Rattle.cmd_status.specs.{Devices.output_of, Ended.Stops, Lines.PassesOn, Lines.WritesFront};
 ghost use Rattle.cmd_show.specs.Exporting.{ExportAnswers, IsExported, is_exported, is_sought, lost_line, sought_count, sought_lost, sought_text, sought_texts, state_of};
 ghost use Rattle.cmd_show.specs.Fetching.{PrintsReading, StopsReading};
 

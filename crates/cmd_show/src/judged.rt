@@ -1,7 +1,6 @@
 //! A link file judged as a whole.
 ghost use Rattle.std.specs.Prelude.{◌≡◌, false, IfOk, Some};
-ghost use Rattle.cmd_show.specs.FaultyLines.{is_homeless, reported_lines};
-ghost use Rattle.cmd_show.specs.Judging.{IsJudged, is_memory};
+ghost use Rattle.cmd_show.specs.{FaultyLines.is_homeless, FaultyLines.reported_lines, Judging.IsJudged, Judging.is_memory};
 
 use crate::before::faulty_lines;
 use crate::faulty::FaultyLine;

@@ -1,12 +1,8 @@
 //! What holds of the definitions. Each law is the contract of a function that does nothing.
 
 ghost use Rattle.std.specs.Prelude.{◌≡◌, ℕ, Bool, List, Option, Some, Result};
-ghost use Rattle.cmd_status.specs.Devices.{Output};
-ghost use Rattle.echo_packet.specs.declared.header.Header.{Header};
-ghost use Rattle.echo_packet.specs.Message.{Message};
-ghost use Rattle.cmd_status.specs.declared.fault.Fault.{Fault};
-ghost use Rattle.cmd_status.specs.declared.status.Status.{Status};
-ghost use Rattle.cmd_status.specs.Ended.{IsOfInput};
+ghost use Rattle.cmd_status.specs.{Devices.Output, declared.fault.Fault.Fault, declared.status.Status.Status, Ended.IsOfInput};
+ghost use Rattle.echo_packet.specs.{declared.header.Header.Header, Message.Message};
 ghost use Rattle.cmd_show.specs.Showing.{ShowAnswers, IsShown};
 ghost use Rattle.cmd_print.specs.Shown.{Shown};
 

@@ -1,10 +1,7 @@
 ghost use Rattle.std.specs.Prelude.{◌≡◌, ◌⊎◌, ◌++◌, IfErr, None, OnOk, OnErr};
-ghost use Rattle.cmd_status.specs.Devices.{output_of};
-ghost use Rattle.cmd_status.specs.Ended.{IsOutOfMemory, Stops};
-ghost use Rattle.cmd_status.specs.Lines.{PassesOn, WritesFront};
-ghost use Rattle.cmd_show.specs.Nodelists.{NodelistAnswers, crc_status};
+ghost use Rattle.cmd_status.specs.{Devices.output_of, Ended.IsOutOfMemory, Ended.Stops, Lines.PassesOn, Lines.WritesFront};
+ghost use Rattle.cmd_show.specs.{Nodelists.NodelistAnswers, Nodelists.crc_status, Written.AddsLines, Written.BeginsMore};
 ghost use Rattle.cmd_print.specs.Listed.{Listed, RestListed, addressed_text};
-ghost use Rattle.cmd_show.specs.Written.{AddsLines, BeginsMore};
 
 use cmd_print::{push_crc, push_entry, push_found, push_list_total};
 use cmd_status::{Fault, Status, pass_on, print_rest};

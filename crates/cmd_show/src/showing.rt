@@ -1,14 +1,10 @@
 ghost use Rattle.std.specs.Prelude.{◌≡◌, ◌++◌, ◌<◌, ◌^◌, length, OnErr, OnOk, IfErr};
-ghost use Rattle.cmd_status.specs.Devices.{output_of};
-ghost use Rattle.echo_packet.specs.Header.{IsHeader, header_bytes};
+ghost use Rattle.cmd_status.specs.{Devices.output_of, Ended.IsOutOfMemory, Limits.show_limits};
 ghost use Rattle.echo_packet.specs.Reader.{IsReading, reader_given, reader_header, reader_limits, reader_place, reader_source};
+ghost use Rattle.echo_packet.specs.Header.{IsHeader, header_bytes};
 ghost use Rattle.echo_text.specs.Echo.{HasNoZero};
-ghost use Rattle.cmd_status.specs.Ended.{IsOutOfMemory};
-ghost use Rattle.cmd_status.specs.Limits.{show_limits};
-ghost use Rattle.cmd_print.specs.Said.{TextShown};
+ghost use Rattle.cmd_print.specs.{Said.TextShown, Shown.MessageShown, Shown.end_line, Shown.header_lines, Pushed.Pushes};
 ghost use Rattle.cmd_show.specs.Showing.{DecodeAnswers, MessagePasses, PacketAnswers, PacketPasses, ShowAnswers};
-ghost use Rattle.cmd_print.specs.Shown.{MessageShown, end_line, header_lines};
-ghost use Rattle.cmd_print.specs.Pushed.{Pushes};
 
 use cmd_print::{push_echo, push_end, push_fields, push_header, push_text};
 use cmd_status::{Fault, LIMITS, Status, pass_on, print_rest};

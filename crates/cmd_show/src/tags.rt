@@ -1,6 +1,5 @@
 //! The tags of the areas before a line.
-ghost use Rattle.std.specs.Prelude.{◌≡◌, [], OnOk, bytes_eq};
-ghost use Rattle.std.specs.List.{list_any};
+ghost use Rattle.std.specs.{Prelude.◌≡◌, Prelude.[], Prelude.OnOk, Prelude.bytes_eq, List.list_any};
 ghost use Rattle.cmd_show.specs.Before.{HasTagAdded};
 
 use std::alloc::{AllocError, Global};

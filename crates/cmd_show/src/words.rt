@@ -1,10 +1,8 @@
 //! The word that is wrong in a line.
 ghost use Rattle.std.specs.Prelude.{◌≡◌, [], true, false, IfOk, MatchOption};
 ghost use Rattle.echo_addr.specs.Entries.{tokens};
-ghost use Rattle.echo_links.specs.LinkLines.{is_one_address, links_fault};
-ghost use Rattle.echo_links.specs.LinkReading.{IsWordOf};
-ghost use Rattle.cmd_show.specs.FaultyLines.{not_one_address, word_with_control};
-ghost use Rattle.cmd_show.specs.Before.{Tells, links_say};
+ghost use Rattle.echo_links.specs.{LinkLines.is_one_address, LinkLines.links_fault, LinkReading.IsWordOf};
+ghost use Rattle.cmd_show.specs.{FaultyLines.not_one_address, FaultyLines.word_with_control, Before.Tells, Before.links_say};
 
 use echo_addr::{Address, next_token};
 use echo_links::{LinkFault, has_control_byte};

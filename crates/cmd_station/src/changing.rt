@@ -3,15 +3,14 @@
 ghost use Rattle.std.specs.Prelude.{◌≡◌, None, OnOk};
 ghost use Rattle.station.specs.Opening.{AreFree};
 
-use crate::place::{Place, Station, find_base, locks_of};
+use crate::place::{Station, find_base, locks_of};
 use crate::posting::new_message;
-use crate::running::{Before, run_on};
+use crate::running::{Before, run_at_station};
 use cmd_input::{MAX_TEXT_FILE, moment_of, read_file, read_standard_input, serial_from};
 use cmd_numbered::refuse_message;
-use cmd_report::{Answer, NewMessage};
 use cmd_status::{Fault, FileLock, Status, number_of};
-use cmd_store::{Post, PostMail, Purge, Reply};
-use cmd_words::{PostStoredWords, PostWords, ReplyWords};
+use cmd_store::{Answer, NewMessage, Post, PostMail, Purge, Reply};
+use cmd_words::{Place, PostStoredWords, PostWords, ReplyWords};
 use disk_io::Sink;
 use echo_stored::{StoredFault, read_stored};
 use model_steps::{PostFault, Stamp};
@@ -26,8 +25,9 @@ pub(crate) enum BaseCommand<'w> {
     Purge(Purge),
 }
 
-/// Runs a command on a station. Faults of its files precede the fault of an earlier input, `unread`.
-pub(crate) fn change<W: Sink, E: Sink>(
+/// Finds the base of a station, and runs a command on it. Faults of its files precede the fault of an earlier input,
+/// `unread`.
+pub(crate) fn find_and_change<W: Sink, E: Sink>(
     rt: &HostRuntime,
     place: Place<'_>,
     asked: &mut BaseCommand<'_>,
@@ -40,14 +40,14 @@ pub(crate) fn change<W: Sink, E: Sink>(
         Ok(found) => found,
         Err(fault) => return fault.report(errors),
     };
-    match change_at(found.at(rt, place), &mut locks, asked, unread, out) {
+    match change_found(found.at(rt, place), &mut locks, asked, unread, out) {
         Ok(()) => Status::Good,
         Err(fault) => fault.report(errors),
     }
 }
 
 // Runs it on a station with a found base.
-fn change_at<'a, L: FileLock, K: FileLock, W: Sink>(
+fn change_found<'a, L: FileLock, K: FileLock, W: Sink>(
     at: Station<'a>,
     locks: &mut Locks<L, K>,
     asked: &mut BaseCommand<'_>,
@@ -63,23 +63,23 @@ fn change_at<'a, L: FileLock, K: FileLock, W: Sink>(
         unread,
     };
     match asked {
-        BaseCommand::Post(post) => run_on(at, locks, before, post, out),
-        BaseCommand::PostMail(post) => run_on(at, locks, before, post, out),
-        BaseCommand::Reply(reply) => run_on(at, locks, before, reply, out),
-        BaseCommand::Purge(purge) => run_on(at, locks, before, purge, out),
+        BaseCommand::Post(post) => run_at_station(at, locks, before, post, out),
+        BaseCommand::PostMail(post) => run_at_station(at, locks, before, post, out),
+        BaseCommand::Reply(reply) => run_at_station(at, locks, before, reply, out),
+        BaseCommand::Purge(purge) => run_at_station(at, locks, before, purge, out),
     }
 }
 
 /// How the posting of one message ended. A fault that stops all of them was reported.
 #[derive(Clone, Copy, Debug)]
-pub enum PostEnd {
+pub(crate) enum PostEnd {
     Posted,
     Refused(PostFault),
     Stopped(Status),
 }
 
-/// Posts a message, as it was asked, at the station of these paths.
-pub(crate) fn post_at<'a, W: Sink, E: Sink>(
+/// Finds the base of a station, and posts a message there, as it was asked.
+pub(crate) fn find_and_post<'a, W: Sink, E: Sink>(
     rt: &'a HostRuntime,
     place: Place<'a>,
     asked: &mut BaseCommand<'_>,
@@ -91,7 +91,7 @@ pub(crate) fn post_at<'a, W: Sink, E: Sink>(
         Ok(found) => found,
         Err(fault) => return PostEnd::Stopped(fault.report(errors)),
     };
-    match change_at(found.at(rt, place), &mut locks, asked, None, out) {
+    match change_found(found.at(rt, place), &mut locks, asked, None, out) {
         Ok(()) => PostEnd::Posted,
         Err(Fault::Post(why)) => PostEnd::Refused(why),
         Err(fault) => PostEnd::Stopped(fault.report(errors)),
@@ -100,7 +100,7 @@ pub(crate) fn post_at<'a, W: Sink, E: Sink>(
 
 /// `post`: the serial and the stamp are judged first, then the files, then standard input. Standard input is read before
 /// the lock is taken, since that may take long.
-pub fn run_post<W: Sink, E: Sink>(
+pub(crate) fn run_post<W: Sink, E: Sink>(
     rt: &HostRuntime,
     words: &PostWords<'_>,
     out: &mut W,
@@ -111,16 +111,19 @@ pub fn run_post<W: Sink, E: Sink>(
         Err(fault) => return fault.report(errors),
     };
     let (body, unread) = read_body(rt);
-    let place = Place {
-        links: words.links,
-        base: words.base,
-    };
     let post = Post {
         words: posting,
         free,
         body: &body,
     };
-    change(rt, place, &mut BaseCommand::Post(post), unread, out, errors)
+    find_and_change(
+        rt,
+        words.place,
+        &mut BaseCommand::Post(post),
+        unread,
+        out,
+        errors,
+    )
 }
 
 // The body of a message, from standard input, and the fault that stopped its reading.
@@ -142,7 +145,7 @@ fn posting_of<'a>(
 }
 
 /// `reply`: the serial, the stamp and the number are judged first, then as for `post`.
-pub fn run_reply<W: Sink, E: Sink>(
+pub(crate) fn run_reply<W: Sink, E: Sink>(
     rt: &HostRuntime,
     words: &ReplyWords<'_>,
     out: &mut W,
@@ -153,18 +156,14 @@ pub fn run_reply<W: Sink, E: Sink>(
         Err(fault) => return fault.report(errors),
     };
     let (body, unread) = read_body(rt);
-    let place = Place {
-        links: words.links,
-        base: words.base,
-    };
     let reply = Reply {
         index,
         answer,
         body: &body,
     };
-    change(
+    find_and_change(
         rt,
-        place,
+        words.place,
         &mut BaseCommand::Reply(reply),
         unread,
         out,
@@ -187,7 +186,7 @@ fn answer_of<'a>(rt: &HostRuntime, words: &ReplyWords<'a>) -> Result<(Answer<'a>
 }
 
 /// `post --msg`: the serial and the stamp are judged first, then the stored message, then the files.
-pub fn run_post_stored<W: Sink, E: Sink>(
+pub(crate) fn run_post_stored<W: Sink, E: Sink>(
     rt: &HostRuntime,
     words: &PostStoredWords<'_>,
     out: &mut W,
@@ -211,16 +210,19 @@ pub fn run_post_stored<W: Sink, E: Sink>(
         serial,
         stamp,
     };
-    let place = Place {
-        links: words.links,
-        base: words.base,
-    };
     let post = Post {
         words: posting,
         free,
         body: draft.body.as_slice(),
     };
-    change(rt, place, &mut BaseCommand::Post(post), None, out, errors)
+    find_and_change(
+        rt,
+        words.place,
+        &mut BaseCommand::Post(post),
+        None,
+        out,
+        errors,
+    )
 }
 
 // A stored message to post: its serial, whether it gets the first free one from that on, its stamp, and its bytes.
@@ -235,13 +237,11 @@ fn stored_given<'a>(
 }
 
 /// `purge`.
-pub fn run_purge<W: Sink, E: Sink>(
+pub(crate) fn run_purge<W: Sink, E: Sink>(
     rt: &HostRuntime,
-    links: &str,
-    base: &str,
+    place: Place<'_>,
     out: &mut W,
     errors: &mut E,
 ) -> Status {
-    let place = Place { links, base };
-    change(rt, place, &mut BaseCommand::Purge(Purge), None, out, errors)
+    find_and_change(rt, place, &mut BaseCommand::Purge(Purge), None, out, errors)
 }

@@ -1,15 +1,16 @@
 //! The commands that change the base of a station, on the files of the system: `post`, `reply`, `toss`, `scan` and
 //! `purge`. Promise: each word of `post` is the field of the message that it names (`new_message`). The rest is proved to
 //! be safe and to end, and no more: the crates `station` and `station_scan` promise what a command reads and writes on any
-//! disk. Begin with `place`, the paths, the locks and the base of a station.
+//! disk. Begin with `commands`, which picks the command, then `place`, the locks and the base of a station.
 //!
 //! `found` is the state of a base folder before it is opened, and `opened` is work on the open folder. `running` runs a
-//! command on a station. `posting` has the words of `post`, `posting_jam` posts a message of a JAM base, and `posting_mail` a
-//! mail. `changing`, `tossing` and `scanning` are the commands by their words. `unplaced`
-//! reports the path at which a scan failed.
+//! command on a station. `posting` has the words of `post`, `posting_jam` posts the messages of a JAM base, and `posting_mail` a
+//! mail. `changing`, `tossing` and `scanning` are the commands by their words. `unplaced` reports the path at which a scan
+//! failed.
 #![tactic(auto)]
 
 mod changing;
+mod commands;
 mod found;
 mod opened;
 mod place;
@@ -21,9 +22,5 @@ mod scanning;
 mod tossing;
 mod unplaced;
 
-pub use changing::{PostEnd, run_post, run_post_stored, run_purge, run_reply};
+pub use commands::run_station;
 pub use posting::new_message;
-pub use posting_jam::JamPoster;
-pub use posting_mail::run_post_mail;
-pub use scanning::{ScanWords, run_scan};
-pub use tossing::run_toss;

@@ -1,4 +1,4 @@
-//! The paths of a station, and the state of its base before it is opened.
+//! A station before it is opened: its locks, and the state of its base.
 ghost use Rattle.std.specs.Prelude.{OnOk};
 ghost use Rattle.station.specs.Opening.{AreFree};
 
@@ -6,17 +6,11 @@ use crate::found::{FolderState, found_in};
 use cmd_base::BaseFiles;
 use cmd_input::{BaseLock, LinkLock, is_folder};
 use cmd_status::{Fault, FileLock};
+use cmd_words::Place;
 use disk_io::Disk;
 use disk_system::{OutputFault, RealDisk, Unknown, target_of};
 use station::{Locks, links_at, lock_at};
 use station_bases::FolderProbe;
-
-/// The paths of the link file and of the base of a station.
-#[derive(Clone, Copy)]
-pub struct Place<'a> {
-    pub links: &'a str,
-    pub base: &'a str,
-}
 
 /// The state of a base, and the files of the system for it. `path` is that of a base file, or the one before the names of
 /// the files in a base folder.

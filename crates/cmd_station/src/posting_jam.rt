@@ -1,15 +1,14 @@
-//! A message that an editor wrote into a JAM base, posted.
+//! `post --jam`: the messages that an editor wrote into a JAM base are posted, and marked as sent.
 ghost use Rattle.std.specs.Prelude.{◌≡◌, None};
 
-use crate::changing::{BaseCommand, PostEnd, post_at};
-use crate::place::Place;
+use crate::changing::{BaseCommand, PostEnd, find_and_post};
 use base_file::BaseFault;
 use cmd_input::{LinkLock, is_folder, look_into, moment_of, read_file, serial_from};
-use cmd_numbered::{PostedWords, is_posted, is_posted_of, own_serial};
-use cmd_report::NewMessage;
-use cmd_status::{Fault, FileLock};
-use cmd_store::Post;
-use cmd_words::PostJamWords;
+use cmd_jam::Outbox;
+use cmd_numbered::{PostedWords, is_posted, is_posted_of, own_serial, tell_refused};
+use cmd_status::{Fault, FileLock, Status};
+use cmd_store::{NewMessage, Post};
+use cmd_words::{Place, PostJamWords};
 use disk_io::{Disk, Sink};
 use disk_system::{RealDisk, Unknown};
 use echo_addr::Address;
@@ -18,10 +17,73 @@ use model_steps::{PostFault, Stamp};
 use station::links_at;
 use std::collections::hash_map::RandomState;
 
-/// A station that posts messages of a JAM base: its own address, the serial from which the first free one is taken, and
-/// the stamp.
+/// `post --jam PATH --area TAG`: the words are judged first, then the link file, then the JAM base. Each message is
+/// marked once it is posted. One that is refused stays as it is, and the next one follows.
+pub(crate) fn run_post_jam<W: Sink, E: Sink>(
+    rt: &HostRuntime,
+    words: &PostJamWords<'_>,
+    out: &mut W,
+    errors: &mut E,
+) -> Status {
+    let poster = match JamPoster::new(rt, words) {
+        Ok(poster) => poster,
+        Err(fault) => return fault.report(errors),
+    };
+    let mut outbox = match Outbox::open(rt, words.jam) {
+        Ok(outbox) => outbox,
+        Err(fault) => return fault.report(errors),
+    };
+    let mut status = Status::Good;
+    for i in 0..outbox.entries() {
+        match post_entry(rt, poster, &mut outbox, i, out, errors) {
+            PostEnd::Posted => {}
+            PostEnd::Refused(_) => status = Status::Refused,
+            PostEnd::Stopped(stopped) => {
+                status = stopped;
+                break;
+            }
+        }
+    }
+    match outbox.close(rt) {
+        Ok(()) => status,
+        Err(fault) => fault.report(errors),
+    }
+}
+
+// Posts the message of an entry of the index, if it is to be posted. A fault of the message alone is reported with its
+// number.
+fn post_entry<W: Sink, E: Sink>(
+    rt: &HostRuntime,
+    poster: JamPoster<'_>,
+    outbox: &mut Outbox<'_>,
+    i: usize,
+    out: &mut W,
+    errors: &mut E,
+) -> PostEnd {
+    let unsent = match outbox.unsent(rt, i) {
+        Ok(Some(unsent)) => unsent,
+        Ok(None) => return PostEnd::Posted,
+        Err(fault) => return PostEnd::Stopped(fault.report(errors)),
+    };
+    let ended = match outbox.draft(rt, &unsent) {
+        Ok(draft) => poster.post_or_refuse(&draft, out, errors),
+        Err(fault) => return PostEnd::Stopped(fault.report(errors)),
+    };
+    let reported = match ended {
+        PostEnd::Posted => outbox.mark(&unsent),
+        PostEnd::Refused(_) => tell_refused(rt.alloc(), unsent.number(), out),
+        PostEnd::Stopped(_) => Ok(()),
+    };
+    match reported {
+        Ok(()) => ended,
+        Err(fault) => PostEnd::Stopped(fault.report(errors)),
+    }
+}
+
+// A station that posts messages of a JAM base: its own address, the serial from which the first free one is taken, and
+// the stamp.
 #[derive(Clone, Copy)]
-pub struct JamPoster<'a> {
+struct JamPoster<'a> {
     rt: &'a HostRuntime,
     place: Place<'a>,
     tag: &'a str,
@@ -31,19 +93,16 @@ pub struct JamPoster<'a> {
 }
 
 impl<'a> JamPoster<'a> {
-    /// The station of these words: the serial and the stamp are judged first, then the link file.
-    pub fn new(rt: &'a HostRuntime, words: &PostJamWords<'a>) -> Result<JamPoster<'a>, Fault<'a>> {
+    // The station of these words: the serial and the stamp are judged first, then the link file.
+    fn new(rt: &'a HostRuntime, words: &PostJamWords<'a>) -> Result<JamPoster<'a>, Fault<'a>> {
         let (serial, _) = serial_from(rt, words.serial)?;
         let stamp = moment_of(rt, words.at)?;
         let mut disk = RealDisk::new(rt, Unknown);
-        let mut lock = LinkLock::ahead(rt, words.links);
-        let own = own_address(rt, &mut disk, &mut lock, words.links)?;
+        let mut lock = LinkLock::ahead(rt, words.place.links);
+        let own = own_address(rt, &mut disk, &mut lock, words.place.links)?;
         Ok(JamPoster {
             rt,
-            place: Place {
-                links: words.links,
-                base: words.base,
-            },
+            place: words.place,
             tag: words.area,
             own,
             serial,
@@ -51,8 +110,8 @@ impl<'a> JamPoster<'a> {
         })
     }
 
-    /// Posts the message, and reports a fault. One that is not of the message alone stops all postings.
-    pub fn post_or_refuse<W: Sink, E: Sink>(
+    // Posts the message, and reports a fault. One that is not of the message alone stops all postings.
+    fn post_or_refuse<W: Sink, E: Sink>(
         &self,
         draft: &JamDraft<'_>,
         out: &mut W,
@@ -113,7 +172,7 @@ impl<'a> JamPoster<'a> {
             free,
             body: draft.body.as_slice(),
         };
-        post_at(
+        find_and_post(
             self.rt,
             self.place,
             &mut BaseCommand::Post(post),

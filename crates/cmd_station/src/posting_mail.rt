@@ -2,8 +2,7 @@
 //! words.
 ghost use Rattle.std.specs.Prelude.{◌≡◌, None};
 
-use crate::changing::{BaseCommand, change};
-use crate::place::Place;
+use crate::changing::{BaseCommand, find_and_change};
 use base_file::BaseFault;
 use cmd_input::{
     LinkLock, MAX_TEXT_FILE, is_folder, look_into, moment_of, read_file, read_standard_input,
@@ -39,7 +38,7 @@ struct MailDraft {
 
 /// `post --mail`: the charset, the serial and the stamp are judged first, then whether the files can be read, then the
 /// mail. The contents of the files come last.
-pub fn run_post_mail<W: Sink, E: Sink>(
+pub(crate) fn run_post_mail<W: Sink, E: Sink>(
     rt: &HostRuntime,
     words: &PostMailWords<'_>,
     out: &mut W,
@@ -54,7 +53,7 @@ pub fn run_post_mail<W: Sink, E: Sink>(
     };
     match answered_message(rt, words, &given) {
         Ok(found) => post_given(rt, words, &given, found.as_ref(), out, errors),
-        Err(fault) => match links_fault(rt, words.links, errors) {
+        Err(fault) => match links_fault(rt, words.place.links, errors) {
             Some(status) => status,
             None => fault.report(errors),
         },
@@ -98,17 +97,25 @@ fn answered_message<'a>(
     let Some(id) = wanted_id(rt.alloc(), words, given)? else {
         return Ok(None);
     };
-    let base = words.base;
+    message_of_id(rt, words.place.base, id.as_slice())
+}
+
+// The message of this id, if the base has it.
+fn message_of_id<'a>(
+    rt: &HostRuntime,
+    base: &'a str,
+    id: &[u8],
+) -> Result<Option<Answered>, Fault<'a>> {
     if !fs::exists(rt, base).unwrap_or(true) {
         return Ok(None);
     }
     if is_folder(rt, base) {
         let mut messages = look_into(rt, base, 0, None)?;
-        return find_answered_of(rt.alloc(), id.as_slice(), base, &mut messages);
+        return find_answered_of(rt.alloc(), id, base, &mut messages);
     }
     let hasher = RandomState::new(rt).map_err(|_| Fault::Base(BaseFault::Read))?;
     let bytes = read_file(rt, base, usize::MAX)?;
-    find_answered(rt.alloc(), id.as_slice(), &bytes, hasher)
+    find_answered(rt.alloc(), id, &bytes, hasher)
 }
 
 // The id of the message that the mail answers, if no area is named or the charset of that message is asked for. A mail
@@ -143,7 +150,7 @@ fn post_given<W: Sink, E: Sink>(
     errors: &mut E,
 ) -> Status {
     let Some(charset) = charset_of(given, found) else {
-        return refuse_mail(rt, words.links, LetterFault::BadCharset, errors);
+        return refuse_mail(rt, words.place.links, LetterFault::BadCharset, errors);
     };
     let asked = MailWords {
         spare: defaults_of(words, found),
@@ -152,20 +159,16 @@ fn post_given<W: Sink, E: Sink>(
         free: given.free,
         stamp: given.stamp,
     };
-    let place = Place {
-        links: words.links,
-        base: words.base,
-    };
     match PostMail::read(rt.alloc(), &given.mail, asked) {
-        Ok(post) => change(
+        Ok(post) => find_and_change(
             rt,
-            place,
+            words.place,
             &mut BaseCommand::PostMail(post),
             None,
             out,
             errors,
         ),
-        Err(fault) => refuse_mail(rt, words.links, fault, errors),
+        Err(fault) => refuse_mail(rt, words.place.links, fault, errors),
     }
 }
 

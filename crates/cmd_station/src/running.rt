@@ -1,8 +1,6 @@
 //! Runs a command on a station of either kind, on the files of the system. The contract of `run_command` says what it reads
 //! and writes on any disk. The locks are held until its staging file is gone, and a damaged message was found.
 ghost use Rattle.std.specs.Prelude.{◌≡◌, None, OnOk};
-ghost use Rattle.disk_io.specs.Disk.{Honestly};
-ghost use Rattle.base_log.specs.Opening.{AreAlone};
 ghost use Rattle.station.specs.Opening.{AreFree};
 
 use crate::opened::Opened;
@@ -12,25 +10,24 @@ use base_store::{SipDigest, StoreError};
 use cmd_input::{Messages, Progress, Tossing, look_into};
 use cmd_status::{Fault, FileLock};
 use cmd_store::{CommandError, StoreCommand};
-use disk_io::{Disk, Sink};
+use disk_io::Sink;
 use disk_system::{RealDisk, Unknown};
-use station::{Locks, Nothing, OpenStation, Unread, run_command};
+use station::{Locks, Nothing, Unread, run_command};
 use station_bases::{FileStation, FolderPlace, FolderProbe, FolderStation};
 use std::collections::hash_map::RandomState;
 use std::marker::PhantomData;
-use std::rt::Files;
 
 /// What the program knows before a command: how packets are tossed, if they are, and the progress line for the reading of
 /// a base file. `unread` is the fault of an earlier input.
 #[derive(Clone, Copy)]
-pub struct Before<'a> {
+pub(crate) struct Before<'a> {
     pub toss: Option<Tossing<'a>>,
     pub progress: Option<&'a Progress<'a>>,
     pub unread: Option<Fault<'a>>,
 }
 
 /// Opens the station and runs a command on it. The command does not end well if there is an `unread` fault.
-pub fn run_on<'a, C: StoreCommand<'a>, L: FileLock, K: FileLock, W: Sink>(
+pub(crate) fn run_at_station<'a, C: StoreCommand<'a>, L: FileLock, K: FileLock, W: Sink>(
     at: Station<'a>,
     locks: &mut Locks<L, K>,
     before: Before<'a>,
@@ -42,7 +39,7 @@ pub fn run_on<'a, C: StoreCommand<'a>, L: FileLock, K: FileLock, W: Sink>(
 {
     let done = match at.folder {
         Some(found) => run_on_folder(at, locks, found, before, command, out),
-        None => run_on_file(at, locks, before, command, out),
+        None => run_on_file(at, locks, before.progress, before.unread, command, out),
     };
     match done {
         Ok(answer) => Ok(answer),
@@ -54,60 +51,19 @@ pub fn run_on<'a, C: StoreCommand<'a>, L: FileLock, K: FileLock, W: Sink>(
 fn run_on_file<'a, C: StoreCommand<'a>, L: FileLock, K: FileLock, W: Sink>(
     at: Station<'a>,
     locks: &mut Locks<L, K>,
-    before: Before<'a>,
+    progress: Option<&'a Progress<'a>>,
+    unread: Option<Fault<'a>>,
     command: &mut C,
     out: &mut W,
 ) -> Result<C::Answer, CommandError<'a>>
     requires { AreFree (L.held locks.old.links) (K.held locks.old.base) }
-    ensures passed { OnOk result (before.entry.unread ≡ None) }
+    ensures passed { OnOk result (unread.entry ≡ None) }
 {
-    let done = match file_station(at, before.progress) {
-        Ok(station) => run_over(at, at.files, locks, station, before.unread, command, out),
-        Err(fault) => Err(CommandError::Met(fault)),
+    let station = match file_station(at, progress) {
+        Ok(station) => station,
+        Err(fault) => return Err(CommandError::Met(fault)),
     };
-    at.files.tidy();
-    done
-}
-
-// The same over these files.
-fn run_over<'a, F: Files + Drop + 'a, C: StoreCommand<'a>, L: FileLock, K: FileLock, W: Sink>(
-    at: Station<'a>,
-    files: F,
-    locks: &mut Locks<L, K>,
-    station: FileStation<'a, RandomState, Messages<'a, 'a>>,
-    unread: Option<Fault<'a>>,
-    command: &mut C,
-    out: &mut W,
-) -> Result<C::Answer, CommandError<'a>>
-    requires { AreFree (L.held locks.old.links) (K.held locks.old.base) }
-    ensures passed { OnOk result (unread.entry ≡ None) }
-{
-    let disk = RealDisk::new(files, Unknown);
-    run_unprepared(at, disk, locks, station, unread, command, out)
-}
-
-// Runs a command on a station that needs no work before it.
-fn run_unprepared<
-    'a,
-    D: Disk + Drop,
-    P: OpenStation<'a, D>,
-    C: StoreCommand<'a>,
-    L: FileLock,
-    K: FileLock,
-    W: Sink,
->(
-    at: Station<'a>,
-    disk: D,
-    locks: &mut Locks<L, K>,
-    station: P,
-    unread: Option<Fault<'a>>,
-    command: &mut C,
-    out: &mut W,
-) -> Result<C::Answer, CommandError<'a>>
-    requires free { AreFree (L.held locks.old.links) (K.held locks.old.base) }
-    requires can { Honestly (D.state disk) (P.can_open station (D.state disk)) }
-    ensures passed { OnOk result (unread.entry ≡ None) }
-{
+    let disk = RealDisk::new(at.files, Unknown);
     let mut before = Unread {
         first: Nothing,
         fault: unread,
@@ -121,24 +77,8 @@ fn run_unprepared<
         command,
         out,
     );
+    at.files.tidy();
     ended.done
-}
-
-/// A station with a base file, and the progress line for its reading. If the system gives no seed for look-ups, that is
-/// a failed read.
-pub fn file_station<'a>(
-    at: Station<'a>,
-    progress: Option<&'a Progress<'a>>,
-) -> Result<FileStation<'a, RandomState, Messages<'a, 'a>>, Fault<'a>> {
-    match RandomState::new(at.rt) {
-        Ok(hasher) => Ok(FileStation {
-            links: at.place.links,
-            base: at.path,
-            hasher,
-            watch: Messages { progress },
-        }),
-        Err(_) => Err(Fault::Base(BaseFault::Read)),
-    }
 }
 
 // The same if the base is a folder.
@@ -154,32 +94,7 @@ fn run_on_folder<'a, C: StoreCommand<'a>, L: FileLock, K: FileLock, W: Sink>(
     ensures passed { OnOk result (before.entry.unread ≡ None) }
 {
     let disk = RealDisk::new(at.rt, Unknown);
-    run_opened(
-        at,
-        disk,
-        locks,
-        folder_station(at, found),
-        before,
-        command,
-        out,
-    )
-}
-
-// The same over any disk.
-fn run_opened<'a, D: Disk + Drop, C: StoreCommand<'a>, L: FileLock, K: FileLock, W: Sink>(
-    at: Station<'a>,
-    disk: D,
-    locks: &mut Locks<L, K>,
-    station: FolderStation<'a, SipDigest>,
-    before: Before<'a>,
-    command: &mut C,
-    out: &mut W,
-) -> Result<C::Answer, CommandError<'a>>
-    requires free { AreFree (L.held locks.old.links) (K.held locks.old.base) }
-    requires alone { Honestly (D.state disk) (AreAlone station.at.path.now (D.state disk)) }
-    ensures passed { OnOk result (before.entry.unread ≡ None) }
-{
-    let mut before = Unread {
+    let mut opened = Unread {
         first: Opened::new(at.rt, at.place.base, before.toss),
         fault: before.unread,
     };
@@ -187,16 +102,36 @@ fn run_opened<'a, D: Disk + Drop, C: StoreCommand<'a>, L: FileLock, K: FileLock,
         at.rt.alloc(),
         disk,
         locks,
-        station,
-        &mut before,
+        folder_station(at, found),
+        &mut opened,
         command,
         out,
     );
     ended.done
 }
 
+/// A station with a base file, and the progress line for its reading. If the system gives no seed for look-ups, that is
+/// a failed read.
+pub(crate) fn file_station<'a>(
+    at: Station<'a>,
+    progress: Option<&'a Progress<'a>>,
+) -> Result<FileStation<'a, RandomState, Messages<'a, 'a>>, Fault<'a>> {
+    match RandomState::new(at.rt) {
+        Ok(hasher) => Ok(FileStation {
+            links: at.place.links,
+            base: at.path,
+            hasher,
+            watch: Messages { progress },
+        }),
+        Err(_) => Err(Fault::Base(BaseFault::Read)),
+    }
+}
+
 /// A station with a base folder in this state.
-pub fn folder_station<'a>(at: Station<'a>, found: FolderProbe) -> FolderStation<'a, SipDigest> {
+pub(crate) fn folder_station<'a>(
+    at: Station<'a>,
+    found: FolderProbe,
+) -> FolderStation<'a, SipDigest> {
     FolderStation {
         at: FolderPlace {
             links: at.place.links,
@@ -209,7 +144,7 @@ pub fn folder_station<'a>(at: Station<'a>, found: FolderProbe) -> FolderStation<
 }
 
 /// Why a command on a station stopped. If a message of a base folder is damaged, the fault names the first such message.
-pub fn fault_of<'a>(at: Station<'a>, stop: CommandError<'a>) -> Fault<'a> {
+pub(crate) fn fault_of<'a>(at: Station<'a>, stop: CommandError<'a>) -> Fault<'a> {
     match stop {
         CommandError::Store(StoreError::Damaged) if at.folder.is_some() => damaged_in(
             at.rt,
@@ -220,7 +155,7 @@ pub fn fault_of<'a>(at: Station<'a>, stop: CommandError<'a>) -> Fault<'a> {
 }
 
 /// A fault of a station, with the base file as the operator named it.
-pub fn by_name<'a>(at: Station<'a>, fault: Fault<'a>) -> Fault<'a> {
+pub(crate) fn by_name<'a>(at: Station<'a>, fault: Fault<'a>) -> Fault<'a> {
     match fault {
         Fault::CannotUse(path) if at.folder.is_none() && path == at.path => Fault::CannotUse(
             at.place.base,

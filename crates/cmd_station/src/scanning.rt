@@ -1,39 +1,28 @@
 //! `scan` by its words, on the files of the system. The contract of `run_scan` in `station_scan` says what it reads and
 //! writes on any disk.
-ghost use Rattle.disk_io.specs.Disk.{Honestly};
-ghost use Rattle.base_log.specs.Opening.{AreAlone};
 ghost use Rattle.station.specs.Opening.{AreFree};
 
 use crate::opened::Opened;
-use crate::place::{Place, Station, find_base, locks_of};
+use crate::place::{Station, find_base, locks_of};
 use crate::running::{fault_of, file_station, folder_station};
 use crate::unplaced::report_unplaced;
-use base_store::{SipDigest, StoreError};
+use base_store::StoreError;
 use cmd_base::{LeftFiles, ScanFiles};
-use cmd_input::{Messages, Progress, folder_path, moment_of};
+use cmd_input::{Progress, folder_path, moment_of};
 use cmd_status::{Fault, FileLock, MessageProgress, Status};
 use cmd_store::CommandError;
+use cmd_words::ScanWords;
 use disk_atomic::PlacingError;
-use disk_io::{Disk, Sink};
+use disk_io::Sink;
 use disk_system::{RealDisk, Unknown};
 use model_steps::Stamp;
-use station::{LendStation, Locks, Nothing, OpenStation};
-use station_bases::{FileStation, FolderProbe, FolderStation};
+use station::{Locks, Nothing};
+use station_bases::FolderProbe;
 use station_scan::{Scan as Wanted, ScanError, run_scan as scan_station};
-use std::collections::hash_map::RandomState;
 use std::rt::Files;
 
 /// How many messages are scanned between two looks at the clock.
 const SOME: usize = 1_000;
-
-/// The words of `scan`.
-#[derive(Clone, Copy)]
-pub struct ScanWords<'a> {
-    pub at: &'a str,
-    pub links: &'a str,
-    pub base: &'a str,
-    pub folder: &'a str,
-}
 
 /// A scan: its station, its stamp, and its folder. `folder` is the folder as the operator named it, and `slashed` the
 /// path before the names of its files.
@@ -46,7 +35,7 @@ pub struct Scan<'a> {
 }
 
 /// `scan`: the stamp is judged first. The packets get their names once the base is written.
-pub fn run_scan<W: Sink, E: Sink>(
+pub(crate) fn run_scan<W: Sink, E: Sink>(
     rt: &HostRuntime,
     words: ScanWords<'_>,
     progress: &Progress<'_>,
@@ -57,53 +46,39 @@ pub fn run_scan<W: Sink, E: Sink>(
         Ok(stamp) => stamp,
         Err(fault) => return fault.report(errors),
     };
-    let place = Place {
-        links: words.links,
-        base: words.base,
-    };
     match folder_path(rt, words.folder) {
-        Ok(slashed) => {
-            let to = Outbound {
-                stamp,
-                folder: words.folder,
-                slashed: slashed.as_str(),
-            };
-            scan_into(rt, place, to, progress, out, errors)
-        }
+        Ok(slashed) => find_and_scan(rt, words, stamp, slashed.as_str(), progress, out, errors),
         Err(_) => Fault::OutOfMemory.report(errors),
     }
 }
 
-// The stamp of a scan, and its folder in both forms.
-#[derive(Clone, Copy)]
-struct Outbound<'a> {
-    stamp: Stamp,
-    folder: &'a str,
-    slashed: &'a str,
-}
-
 // Finds the base and scans it, and reports the fault.
-fn scan_into<'a, W: Sink, E: Sink>(
+fn find_and_scan<'a, W: Sink, E: Sink>(
     rt: &'a HostRuntime,
-    place: Place<'a>,
-    to: Outbound<'a>,
+    words: ScanWords<'a>,
+    stamp: Stamp,
+    slashed: &'a str,
     progress: &'a Progress<'a>,
     out: &mut W,
     errors: &mut E,
 ) -> Status {
-    let mut locks = locks_of(rt, place);
-    let found = match find_base(rt, place, &mut locks) {
+    let mut locks = locks_of(rt, words.place);
+    let found = match find_base(rt, words.place, &mut locks) {
         Ok(found) => found,
         Err(fault) => return fault.report(errors),
     };
-    let at = found.at(rt, place);
-    scan_at(at, to, &mut locks, progress, out, errors)
+    let scan = Scan {
+        at: found.at(rt, words.place),
+        stamp,
+        folder: words.folder,
+        slashed,
+    };
+    scan_found(scan, &mut locks, progress, out, errors)
 }
 
 // Scans a station with a found base, and reports the fault.
-fn scan_at<'a, L: FileLock, K: FileLock, W: Sink, E: Sink>(
-    at: Station<'a>,
-    to: Outbound<'a>,
+fn scan_found<'a, L: FileLock, K: FileLock, W: Sink, E: Sink>(
+    scan: Scan<'a>,
     locks: &mut Locks<L, K>,
     progress: &'a Progress<'a>,
     out: &mut W,
@@ -111,17 +86,6 @@ fn scan_at<'a, L: FileLock, K: FileLock, W: Sink, E: Sink>(
 ) -> Status
     requires { AreFree (L.held locks.old.links) (K.held locks.old.base) }
 {
-    let Outbound {
-        stamp,
-        folder,
-        slashed,
-    } = to;
-    let scan = Scan {
-        at,
-        stamp,
-        folder,
-        slashed,
-    };
     let files = ScanFiles::new(scan.at.rt, scan.at.path, scan.slashed, progress);
     let done = match scan.at.folder {
         Some(found) => scan_folder(scan, progress, &files, locks, found, out),
@@ -134,7 +98,7 @@ fn scan_at<'a, L: FileLock, K: FileLock, W: Sink, E: Sink>(
     report_scanned(scan, &files, done, errors)
 }
 
-// Scans a base file, over these files.
+// Scans a station with a base file, over these files.
 fn scan_file<'a, F: Files + Drop + 'a, L: FileLock, K: FileLock, W: Sink>(
     scan: Scan<'a>,
     progress: &'a Progress<'a>,
@@ -144,25 +108,47 @@ fn scan_file<'a, F: Files + Drop + 'a, L: FileLock, K: FileLock, W: Sink>(
 ) -> Result<(), ScanError<'a>>
     requires { AreFree (L.held locks.old.links) (K.held locks.old.base) }
 {
-    match file_station(scan.at, Some(progress)) {
-        Ok(station) => scan_over(scan, progress, files, locks, station, out),
-        Err(fault) => Err(ScanError::Command(CommandError::Met(fault))),
-    }
+    let station = match file_station(scan.at, Some(progress)) {
+        Ok(station) => station,
+        Err(fault) => return Err(ScanError::Command(CommandError::Met(fault))),
+    };
+    let disk = RealDisk::new(files, Unknown);
+    let scanned = scan_station(
+        scan.at.rt.alloc(),
+        disk,
+        locks,
+        station,
+        &mut Nothing,
+        &mut wanted(scan, progress),
+        out,
+    );
+    scanned.done
 }
 
-// Scans a station with a base file, over these files.
-fn scan_over<'a, F: Files + Drop + 'a, L: FileLock, K: FileLock, W: Sink>(
+// The same with a base folder. The folder of packets must be another one.
+fn scan_folder<'a, F: Files + Drop + 'a, L: FileLock, K: FileLock, W: Sink>(
     scan: Scan<'a>,
     progress: &'a Progress<'a>,
     files: F,
     locks: &mut Locks<L, K>,
-    station: FileStation<'a, RandomState, Messages<'a, 'a>>,
+    found: FolderProbe,
     out: &mut W,
 ) -> Result<(), ScanError<'a>>
     requires { AreFree (L.held locks.old.links) (K.held locks.old.base) }
 {
+    let at = scan.at;
     let disk = RealDisk::new(files, Unknown);
-    scan_unprepared(scan, progress, disk, locks, station, out)
+    let mut opened = Opened::new(at.rt, at.place.base, None).apart_from(scan.folder);
+    let scanned = scan_station(
+        at.rt.alloc(),
+        disk,
+        locks,
+        folder_station(at, found),
+        &mut opened,
+        &mut wanted(scan, progress),
+        out,
+    );
+    scanned.done
 }
 
 // Reports how a scan ended.
@@ -184,78 +170,6 @@ fn report_scanned<E: Sink>(
             report_unplaced(scan, files, PlacingError::from(cause), errors)
         }
     }
-}
-
-// Scans a station that needs no work before it.
-fn scan_unprepared<'a, D: Disk + Drop, P: LendStation<'a, D>, L: FileLock, K: FileLock, W: Sink>(
-    scan: Scan<'a>,
-    progress: &'a Progress<'a>,
-    disk: D,
-    locks: &mut Locks<L, K>,
-    station: P,
-    out: &mut W,
-) -> Result<(), ScanError<'a>>
-    requires free { AreFree (L.held locks.old.links) (K.held locks.old.base) }
-    requires can { Honestly (D.state disk) (P.can_open station (D.state disk)) }
-{
-    let scanned = scan_station(
-        scan.at.rt.alloc(),
-        disk,
-        locks,
-        station,
-        &mut Nothing,
-        &mut wanted(scan, progress),
-        out,
-    );
-    scanned.done
-}
-
-// Scans a base folder, over these files. The folder of packets must be another one.
-fn scan_folder<'a, F: Files + Drop + 'a, L: FileLock, K: FileLock, W: Sink>(
-    scan: Scan<'a>,
-    progress: &'a Progress<'a>,
-    files: F,
-    locks: &mut Locks<L, K>,
-    found: FolderProbe,
-    out: &mut W,
-) -> Result<(), ScanError<'a>>
-    requires { AreFree (L.held locks.old.links) (K.held locks.old.base) }
-{
-    let disk = RealDisk::new(files, Unknown);
-    scan_opened(
-        scan,
-        progress,
-        disk,
-        locks,
-        folder_station(scan.at, found),
-        out,
-    )
-}
-
-// Scans a station with a base folder.
-fn scan_opened<'a, D: Disk + Drop, L: FileLock, K: FileLock, W: Sink>(
-    scan: Scan<'a>,
-    progress: &'a Progress<'a>,
-    disk: D,
-    locks: &mut Locks<L, K>,
-    station: FolderStation<'a, SipDigest>,
-    out: &mut W,
-) -> Result<(), ScanError<'a>>
-    requires free { AreFree (L.held locks.old.links) (K.held locks.old.base) }
-    requires alone { Honestly (D.state disk) (AreAlone station.at.path.now (D.state disk)) }
-{
-    let at = scan.at;
-    let mut opened = Opened::new(at.rt, at.place.base, None).apart_from(scan.folder);
-    let scanned = scan_station(
-        at.rt.alloc(),
-        disk,
-        locks,
-        station,
-        &mut opened,
-        &mut wanted(scan, progress),
-        out,
-    );
-    scanned.done
 }
 
 // The scan in the form of station_scan.

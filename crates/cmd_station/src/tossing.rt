@@ -2,12 +2,12 @@
 ghost use Rattle.std.specs.Prelude.{◌≡◌, None, OnOk};
 ghost use Rattle.station.specs.Opening.{AreFree};
 
-use crate::place::{Place, Station, find_base, locks_of};
-use crate::running::{Before, by_name, run_on};
+use crate::place::{Station, find_base, locks_of};
+use crate::running::{Before, by_name, run_at_station};
 use cmd_input::{PacketStreams, PathNames, Progress, Tossing, names_of};
 use cmd_status::{Fault, FileLock, LIMITS, Status, limits_for, number_of};
 use cmd_store::Toss;
-use cmd_words::TossWords;
+use cmd_words::{Place, TossWords};
 use disk_io::Sink;
 use disk_system::{RealDisk, Unknown};
 use echo_packet::Limits;
@@ -15,7 +15,7 @@ use station::{Locks, packets_on_disk};
 
 /// `toss`: the limit of a text is judged first. A list of packets is read before the lock is taken, and each packet file
 /// is opened when its turn comes. A fault of a packet is reported once the base is committed.
-pub fn run_toss<W: Sink, E: Sink>(
+pub(crate) fn run_toss<W: Sink, E: Sink>(
     rt: &HostRuntime,
     words: &TossWords<'_>,
     progress: &Progress<'_>,
@@ -27,20 +27,16 @@ pub fn run_toss<W: Sink, E: Sink>(
         Err(fault) => return fault.report(errors),
     };
     let PathNames { names, stopped } = names_of(rt, &words.packets);
-    let place = Place {
-        links: words.links,
-        base: words.base,
-    };
     let by = Tossing {
         names: names.as_slice(),
         limits,
         each: words.each,
     };
-    toss_in(rt, place, by, stopped, progress, out, errors)
+    find_and_toss(rt, words.place, by, stopped, progress, out, errors)
 }
 
 // Finds the base and tosses packets into it.
-fn toss_in<'a, W: Sink, E: Sink>(
+fn find_and_toss<'a, W: Sink, E: Sink>(
     rt: &'a HostRuntime,
     place: Place<'a>,
     by: Tossing<'a>,
@@ -55,15 +51,15 @@ fn toss_in<'a, W: Sink, E: Sink>(
         Err(fault) => return fault.report(errors),
     };
     let at = found.at(rt, place);
-    match toss_at(at, &mut locks, by, unread, progress, out) {
+    match toss_found(at, &mut locks, by, unread, progress, out) {
         Ok(None) => Status::Good,
         Ok(Some(fault)) => by_name(at, fault).report(errors),
         Err(fault) => fault.report(errors),
     }
 }
 
-// Tosses packets at a station. If the list of them was not read, none is expected.
-fn toss_at<'a, L: FileLock, K: FileLock, W: Sink>(
+// Tosses packets at a station with a found base. If the list of them was not read, none is expected.
+fn toss_found<'a, L: FileLock, K: FileLock, W: Sink>(
     at: Station<'a>,
     locks: &mut Locks<L, K>,
     by: Tossing<'a>,
@@ -87,7 +83,7 @@ fn toss_at<'a, L: FileLock, K: FileLock, W: Sink>(
         unread,
     };
     let mut toss = Toss::new(by.limits, by.each, packets);
-    run_on(at, locks, before, &mut toss, out)
+    run_at_station(at, locks, before, &mut toss, out)
 }
 
 // The limits of packets. A number above the greatest limit is refused.

@@ -1,9 +1,9 @@
 //! The path at which the packets of a scan could not be put in place.
 
-use crate::place::Place;
 use crate::scanning::Scan;
 use cmd_base::ScanFiles;
 use cmd_status::{Fault, Status};
+use cmd_words::Place;
 use disk_atomic::PlacingError;
 use disk_io::Sink;
 

@@ -1,13 +1,9 @@
 -- Reading link files in order.
 use Rattle.std.proofs.Common.{◌≡◌, ℕ, ◌+◌, ◌<◌, ◌⊎◌, inl, inr, List, [], ◌∷◌, ◌++◌, length, take, drop, get_or, Result, Ok, Err, refl, sym, ap, subst, ◌∙◌, suc, add-one, drop-cons}
 use Rattle.std.proofs.lemmas.List.{take-append-drop, take_more}
-use Rattle.echo_links.specs.declared.fault.LinkFault.{LinkFault}
+use Rattle.echo_links.specs.{declared.fault.LinkFault.LinkFault, Links.LinkFile, LinkLines.LinksOf}
 use Rattle.echo_links.specs.declared.fault.LinkFault.TheVariants as link
-use Rattle.echo_links.specs.Links.{LinkFile}
-use Rattle.echo_links.specs.LinkLines.{LinksOf}
-use Rattle.cmd_status.specs.declared.fault.Fault.TheVariants.{Link}
-use Rattle.cmd_status.specs.Ended.{IsOutOfMemory}
-use Rattle.cmd_status.specs.Inputs.{AreLinkFiles, IsLinkFault}
+use Rattle.cmd_status.specs.{declared.fault.Fault.TheVariants.Link, Ended.IsOutOfMemory, Inputs.AreLinkFiles, Inputs.IsLinkFault}
 
 one_more : (inputs : List (List ℕ)) (files : List LinkFile) (bytes : List ℕ) (file : LinkFile) → AreLinkFiles inputs files → LinksOf bytes (Ok file)
     → AreLinkFiles (inputs ++ bytes ∷ []) (files ++ file ∷ [])

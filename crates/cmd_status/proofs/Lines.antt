@@ -1,12 +1,7 @@
 -- Lines on their way to standard output.
 use Rattle.std.proofs.Common.{◌≡◌, ℕ, ◌+◌, ◌<◌, List, [], ◌∷◌, ◌++◌, Option, Some, length, take, drop, refl, sym, ap, subst, ◌∙◌, arith, append_assoc, append-nil, inl, inr}
-use Rattle.std.specs.List.{flat_map}
-use Rattle.std.specs.Prelude.{slice_get}
-use Rattle.std.proofs.lemmas.Grind.{flat_map-append}
-use Rattle.std.proofs.lemmas.List.{take-append-drop, take_more}
-use Rattle.std.proofs.lemmas.Option.{slice_get_cases}
-use Rattle.std.specs.Io.KnownBytes.{Appends}
-use Rattle.std.proofs.KnownBytes.{Appends-nil, Appends-trans}
+use Rattle.std.proofs.{lemmas.Grind.flat_map-append, lemmas.List.take-append-drop, lemmas.List.take_more, lemmas.Option.slice_get_cases, KnownBytes.Appends-nil, KnownBytes.Appends-trans}
+use Rattle.std.specs.{List.flat_map, Prelude.slice_get, Io.KnownBytes.Appends}
 use Rattle.disk_io.specs.Device.{SendsFront}
 use Rattle.cmd_status.specs.Lines.{PassesOn, WritesFront}
 

@@ -2,8 +2,7 @@
 use Rattle.std.proofs.Common.{◌≡◌, ℕ, List, length, take, Option, Some, None, Ok, refl, sym, ap, subst, ◌∙◌, arith}
 use Rattle.std.proofs.lemmas.List.{length-append, take_at}
 use Rattle.echo_filed.specs.Filed.{Filed}
-use Rattle.base_file.specs.BaseFile.{BaseOf, LoadOf}
-use Rattle.base_file.specs.Loading.{TakesBase}
+use Rattle.base_file.specs.{BaseFile.BaseOf, BaseFile.LoadOf, Loading.TakesBase}
 
 -- the bytes that were taken are at the front
 pub took_base : (bytes : List ℕ) (after : Option (List ℕ)) (messages : List Filed) (cursor : ℕ) → TakesBase messages cursor (Some bytes) after

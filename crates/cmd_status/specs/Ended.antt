@@ -9,12 +9,8 @@ use Rattle.echo_packet.specs.declared.fault.PacketFault.TheVariants as packet
 use Rattle.model_steps.specs.declared.fault.PostFault.TheVariants as post
 use Rattle.model_steps.specs.declared.fault.ScanFault.TheVariants as scan
 use Rattle.echo_text.specs.declared.fault.TextFault.TheVariants as text
-use Rattle.cmd_status.specs.declared.fault.Fault.{Fault}
 use Rattle.cmd_status.specs.declared.fault.Fault.TheVariants.{Base, CannotUse, Link, Nodelist, OutOfMemory, Packet, Post, Scan, Text, TossMemory}
-use Rattle.cmd_status.specs.declared.status.Status.{Status}
-use Rattle.cmd_status.specs.Devices.{Output}
-use Rattle.cmd_status.specs.Lines.{WritesFront}
-use Rattle.cmd_status.specs.Status.{status_of}
+use Rattle.cmd_status.specs.{declared.fault.Fault.Fault, declared.status.Status.Status, Devices.Output, Lines.WritesFront, Status.status_of}
 
 -- The status of an answer.
 abbrev pub status_at : Result Status Fault → Status

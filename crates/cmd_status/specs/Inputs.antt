@@ -1,16 +1,10 @@
 -- The input files of a command: their parts, and the fault that it reports first.
 use Rattle.std.specs.Prelude.{◌≡◌, ℕ, ◌⊎◌, List, [], ◌∷◌, ◌++◌, Option, Some, None, Ok, Err}
-use Rattle.base_file.specs.declared.fault.BaseFault.{BaseFault}
-use Rattle.base_file.specs.BaseFile.{BaseFaultOf, LoadOf}
+use Rattle.base_file.specs.{declared.fault.BaseFault.BaseFault, BaseFile.BaseFaultOf, BaseFile.LoadOf}
 use Rattle.echo_filed.specs.Filed.{Filed}
-use Rattle.echo_links.specs.declared.fault.LinkFault.{LinkFault}
-use Rattle.echo_links.specs.Links.{LinkFile}
-use Rattle.echo_links.specs.LinkLines.{LinksOf}
-use Rattle.echo_nodelist.specs.declared.fault.NodeFault.{NodeFault}
-use Rattle.echo_nodelist.specs.declared.line.Line.{Line}
-use Rattle.echo_nodelist.specs.Nodelist.{NodelistFaultOf, NodelistOf}
-use Rattle.cmd_status.specs.declared.fault.Fault.{Fault}
-use Rattle.cmd_status.specs.declared.fault.Fault.TheVariants.{Base, Link, Nodelist}
+use Rattle.echo_links.specs.{declared.fault.LinkFault.LinkFault, Links.LinkFile, LinkLines.LinksOf}
+use Rattle.echo_nodelist.specs.{declared.fault.NodeFault.NodeFault, declared.line.Line.Line, Nodelist.NodelistFaultOf, Nodelist.NodelistOf}
+use Rattle.cmd_status.specs.declared.fault.Fault.{Fault, TheVariants.Base, TheVariants.Link, TheVariants.Nodelist}
 
 -- Each input is a link file without fault, and these are their parts, in order.
 abbrev pub AreLinkFiles : List (List ℕ) → List LinkFile → Type 0

@@ -1,8 +1,7 @@
 -- The exit statuses of the program, and the status of each fault.
 use Rattle.std.specs.Prelude.{ℕ}
-use Rattle.cmd_status.specs.declared.status.Status.{Status}
 use Rattle.cmd_status.specs.declared.status.Status.TheVariants.{Good, Differs, Refused, Device, CommandLine}
-use Rattle.cmd_status.specs.declared.fault.Fault.{Fault}
+use Rattle.cmd_status.specs.declared.{status.Status.Status, fault.Fault.Fault}
 use Rattle.cmd_status.specs.declared.fault.Fault.TheVariants as fault
 use Rattle.echo_links.specs.declared.fault.LinkFault.{LinkFault}
 use Rattle.echo_links.specs.declared.fault.LinkFault.TheVariants as link
@@ -12,9 +11,8 @@ use Rattle.echo_nodelist.specs.declared.fault.NodeFault.{NodeFault}
 use Rattle.echo_nodelist.specs.declared.fault.NodeFault.TheVariants as node
 use Rattle.echo_packet.specs.declared.fault.PacketFault.{PacketFault}
 use Rattle.echo_packet.specs.declared.fault.PacketFault.TheVariants as packet
-use Rattle.model_steps.specs.declared.fault.PostFault.{PostFault}
+use Rattle.model_steps.specs.declared.fault.{PostFault.PostFault, ScanFault.ScanFault}
 use Rattle.model_steps.specs.declared.fault.PostFault.TheVariants as post
-use Rattle.model_steps.specs.declared.fault.ScanFault.{ScanFault}
 use Rattle.model_steps.specs.declared.fault.ScanFault.TheVariants as scan
 use Rattle.echo_text.specs.declared.fault.TextFault.{TextFault}
 use Rattle.echo_text.specs.declared.fault.TextFault.TheVariants as text
@@ -85,6 +83,8 @@ status_of fault.BadStamp = Refused
 status_of fault.BadSerial = Refused
 status_of fault.BadNumber = Refused
 status_of (fault.ScriptLine line) = Refused
+status_of (fault.ListLine line) = Refused
+status_of (fault.NotLinked a) = Refused
 status_of (fault.TooLarge path) = Refused
 status_of (fault.CannotUse path) = Device
 status_of fault.OutOfMemory = Device

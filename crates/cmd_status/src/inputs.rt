@@ -1,7 +1,6 @@
 //! The input files of a command.
 ghost use Rattle.std.specs.Prelude.{◌⊎◌, IfErr, IfOk, option_copied};
-ghost use Rattle.cmd_status.specs.Ended.{IsOutOfMemory};
-ghost use Rattle.cmd_status.specs.Inputs.{AreLinkFiles, IsLinkFault, IsNodelistFault, IsNodelistGiven};
+ghost use Rattle.cmd_status.specs.{Ended.IsOutOfMemory, Inputs.AreLinkFiles, Inputs.IsLinkFault, Inputs.IsNodelistFault, Inputs.IsNodelistGiven};
 
 use crate::fault::Fault;
 use echo_addr::Items;

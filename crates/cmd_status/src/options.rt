@@ -1,13 +1,11 @@
 //! Words of the command line that are parsed.
 ghost use Rattle.std.specs.Prelude.{◌≡◌, ◌≤◌, false, true, length, IfErr, IfOk, IsSome, MatchOption};
-ghost use Rattle.std.specs.List.{list_all};
-ghost use Rattle.echo_addr.specs.Address.{AddressOf, refusal};
-ghost use Rattle.echo_addr.specs.Digits.{is_number};
+ghost use Rattle.std.specs.{List.list_all, Str.Parse.digits_value};
+ghost use Rattle.echo_addr.specs.{Address.AddressOf, Address.refusal, Digits.is_number};
 ghost use Rattle.echo_text.specs.Ids.{is_hex_digit};
 ghost use Rattle.cmd_status.specs.declared.fault.Fault.TheVariants.{BadAddress, BadNumber, BadSerial, BadStamp};
-ghost use Rattle.cmd_status.specs.Options as options;
 ghost use Rattle.cmd_status.specs.Options.{index_of_word, is_serial, is_stamp_word, serial_of_word};
-ghost use Rattle.std.specs.Str.Parse.{digits_value};
+ghost use Rattle.cmd_status.specs.Options as options;
 
 use crate::fault::Fault;
 use echo_addr::{Address, number};

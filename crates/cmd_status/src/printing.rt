@@ -1,8 +1,7 @@
 //! Lines on their way to standard output, buffered up to a piece.
 ghost use Rattle.std.specs.Prelude.{◌≡◌, [], false, OnOk, OnErr, IfErr};
 ghost use Rattle.std.specs.Io.KnownBytes.{Appends};
-ghost use Rattle.cmd_status.specs.Ended.{CannotPrint};
-ghost use Rattle.cmd_status.specs.Lines.{PassesOn, WritesFront};
+ghost use Rattle.cmd_status.specs.{Ended.CannotPrint, Lines.PassesOn, Lines.WritesFront};
 
 use crate::fault::Fault;
 use disk_io::{Sink, send};

@@ -1,6 +1,5 @@
 ghost use Rattle.std.specs.Prelude.{◌≡◌, IfOk};
-ghost use Rattle.cmd_status.specs.Devices.{output_of};
-ghost use Rattle.cmd_status.specs.Ended.{status_at};
+ghost use Rattle.cmd_status.specs.{Devices.output_of, Ended.status_at};
 
 use crate::fault::Fault;
 use disk_io::Sink;

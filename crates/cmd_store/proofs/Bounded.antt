@@ -5,23 +5,16 @@ use Rattle.base_file.specs.Base.{Base}
 use Rattle.disk_io.specs.Disk.{Files, Honestly}
 use Rattle.disk_io.proofs.Moments.{then_run}
 use Rattle.base_store.specs.Store.{CommitsNothing, GoesOn, IsSameStore, KeepsOthers, KeepsOrCommits, MayCommit, SameOtherFiles, StoreState}
-use Rattle.base_store.specs.declared.store_error.StoreError.{StoreError}
-use Rattle.base_store.specs.declared.store_error.StoreError.TheVariants.{TooMany}
+use Rattle.base_store.specs.declared.store_error.StoreError.{StoreError, TheVariants.TooMany}
 use Rattle.base_store.proofs.Runs.{commits_none, same_twice, others_twice as kept_twice}
 use Rattle.cmd_status.specs.declared.fault.Fault.{Fault}
 use Rattle.echo_filed.specs.Filed.{Filed}
-use Rattle.echo_toss.specs.declared.step_error.PostStepError.{PostStepError}
+use Rattle.echo_toss.specs.declared.{step_error.PostStepError.PostStepError, step_error.StoppedToss.StoppedToss, step_error.TossStepError.TossStepError, tally.Tally.Tally}
+use Rattle.echo_toss.specs.{PacketsIn.stop_in, PacketsIn.toss_answer, Stores.post_answer}
 use Rattle.echo_toss.specs.declared.step_error.PostStepError.TheVariants as post
-use Rattle.echo_toss.specs.declared.step_error.StoppedToss.{StoppedToss}
-use Rattle.echo_toss.specs.declared.step_error.TossStepError.{TossStepError}
 use Rattle.echo_toss.specs.declared.step_error.TossStepError.TheVariants as toss
-use Rattle.echo_toss.specs.declared.tally.Tally.{Tally}
-use Rattle.echo_toss.specs.PacketsIn.{stop_in, toss_answer}
-use Rattle.echo_toss.specs.Stores.{post_answer}
 use Rattle.echo_toss.proofs.Bounds.{full_now, handed_many, past_after}
-use Rattle.cmd_store.specs.Bounded.{IsStoppedFull, IsUncommitted}
-use Rattle.cmd_store.specs.Stops.{post_stop, store_answer}
-use Rattle.cmd_store.specs.Tossed.{ReportsIn, ReportsStop}
+use Rattle.cmd_store.specs.{Bounded.IsStoppedFull, Bounded.IsUncommitted, Stops.post_stop, Stops.store_answer, Tossed.ReportsIn, Tossed.ReportsStop}
 
 -- a posting with too much in the store, and the answer of its command
 pub post_many : (P : Type 0) (A B : Type 0) (why : PostStepError) → (IsErrOf (post_answer {T = A} (Err why)) TooMany → P) → IsErrOf (store_answer {A = B} (Err (post_stop why))) TooMany → P

@@ -6,15 +6,13 @@ use Rattle.disk_io.specs.Disk.{Files, Honestly}
 use Rattle.disk_io.proofs.Moments.{then_nothing, then_run, weaker_run}
 use Rattle.base_store.specs.Store.{Commits, CommitsNothing, GoesOn, HasStoreCause, KeepsOrCommits, LooksOn, MayCommit, LeavesEither, StoreState}
 use Rattle.base_store.specs.declared.store_error.StoreError.{StoreError}
-use Rattle.base_store.proofs.Causes.{cause_after, no_cause}
 use Rattle.base_store.proofs.Runs.{commits_none, goes_on_twice, looks_commit, looks_go_on, same_twice, others_twice as kept_twice}
-use Rattle.echo_toss.specs.declared.step_error.PostStepError.{PostStepError}
+use Rattle.base_store.proofs.Causes.{cause_after, no_cause}
+use Rattle.echo_toss.specs.{declared.step_error.PostStepError.PostStepError, Stores.LooksWhereRefused}
 use Rattle.echo_toss.specs.declared.step_error.PostStepError.TheVariants as post
-use Rattle.echo_toss.specs.Stores.{LooksWhereRefused}
-use Rattle.cmd_store.specs.declared.command_error.CommandError.{CommandError}
-use Rattle.cmd_store.specs.declared.command_error.CommandError.TheVariants.{Met, Store}
-use Rattle.cmd_store.specs.Stops.{IsOfStore, post_stop}
 use Rattle.cmd_store.specs.Answered.{CommitsNoneWhereMet, GoesOnFromEither, HasCommitted, LooksWhereMet, MayCommitWhereMet, MayMake, RepresentsMade}
+use Rattle.cmd_store.specs.declared.command_error.CommandError.{CommandError, TheVariants.Met, TheVariants.Store}
+use Rattle.cmd_store.specs.Stops.{IsOfStore, post_stop}
 
 -- a run that commits nothing is one that may commit
 pub none_may : (old new : StoreState) → CommitsNothing old new → MayCommit old new

@@ -1,23 +1,15 @@
 -- Postings into a store.
 use Rattle.std.proofs.Common.{◌≡◌, ℕ, List, None, Result, Err, arith}
 use Rattle.base_file.specs.Base.{Base}
-use Rattle.cmd_report.specs.declared.posting.NewMessage.{NewMessage}
-use Rattle.cmd_report.specs.Lines.{posted_line}
-use Rattle.cmd_report.specs.Posted.{draft_given}
 use Rattle.echo_links.specs.Links.{LinkFile}
 use Rattle.cmd_status.specs.Devices.{Output}
-use Rattle.model_steps.specs.declared.draft.Draft.{Draft}
-use Rattle.model_steps.specs.Posting.{post_refusal, posted}
-use Rattle.model_steps.specs.SystemState.{SystemState}
+use Rattle.model_steps.specs.{declared.draft.Draft.Draft, Posting.post_refusal, Posting.posted, SystemState.SystemState}
 use Rattle.base_store.specs.Store.{HasStoreCause, StoreState, with_message}
 use Rattle.echo_text.specs.Ids.{id_of}
-use Rattle.echo_toss.specs.declared.step_error.PostStepError.{PostStepError}
+use Rattle.echo_toss.specs.{declared.step_error.PostStepError.PostStepError, Stores.IsPostStop, Stores.post_answer}
 use Rattle.echo_toss.specs.declared.step_error.PostStepError.TheVariants as post
-use Rattle.echo_toss.specs.Stores.{IsPostStop, post_answer}
-use Rattle.cmd_store.specs.declared.command_error.CommandError.{CommandError}
-use Rattle.cmd_store.specs.Answered.{PrintsAll}
-use Rattle.cmd_store.specs.Posted.{Posts, PostsOn}
-use Rattle.cmd_store.specs.Stops.{post_stop, store_answer}
+use Rattle.cmd_store.specs.{declared.drafting.NewMessage.NewMessage, Lines.posted_line, Drafts.draft_given, declared.command_error.CommandError.CommandError, Answered.PrintsAll, Posted.Posts}
+use Rattle.cmd_store.specs.{Posted.PostsOn, Stops.post_stop, Stops.store_answer}
 use Rattle.cmd_store.proofs.Printed.{answered}
 
 -- a posting that stopped

@@ -1,13 +1,8 @@
 -- Lines that were printed, as an answer.
 use Rattle.std.proofs.Common.{◌≡◌, ℕ, List, Result, subst, arith}
-use Rattle.std.specs.Prelude.{IfErr}
-use Rattle.cmd_status.specs.declared.fault.Fault.{Fault}
-use Rattle.cmd_status.specs.Devices.{Output}
-use Rattle.cmd_status.specs.Ended.{IsDone, PassesAll}
-use Rattle.std.specs.Io.KnownBytes.{Appends}
-use Rattle.cmd_store.specs.declared.command_error.CommandError.{CommandError}
-use Rattle.cmd_store.specs.Answered.{AnswersAndCommits, AreLines, PrintsAll}
-use Rattle.cmd_store.specs.Stops.{IsOfStore}
+use Rattle.std.specs.{Prelude.IfErr, Io.KnownBytes.Appends}
+use Rattle.cmd_status.specs.{declared.fault.Fault.Fault, Devices.Output, Ended.IsDone, Ended.PassesAll}
+use Rattle.cmd_store.specs.{declared.command_error.CommandError.CommandError, Answered.AnswersAndCommits, Answered.AreLines, Answered.PrintsAll, Stops.IsOfStore}
 
 -- all lines were printed
 pub done_with : {A : Type 0} (IsRight : List ℕ → A → Type 0) (lines : List ℕ) (old new : Output) (value : A) → ((v : A) → IsRight lines v) → IsDone (AreLines lines) old new value

@@ -1,25 +1,17 @@
 -- Packets that are tossed into a store, as packets that are tossed at a system.
 use Rattle.std.proofs.Common.{◌≡◌, ◌++◌, ℕ, Bool, true, false, List, Option, Some, None, Result, Ok, Err, refl, sym, subst, inl, arith}
 use Rattle.base_file.specs.Base.{Base}
-use Rattle.cmd_report.specs.Lines.{tally_line}
-use Rattle.cmd_report.specs.TossedPacket.{ReportsPacket, TossRun, TossesPacketBy, fault_of}
 use Rattle.echo_links.specs.Links.{LinkFile}
-use Rattle.cmd_report.specs.NotedPacket.{NotesPacket}
 use Rattle.echo_packet.specs.declared.limits.Limits.{Limits}
-use Rattle.cmd_status.specs.declared.fault.Fault.{Fault}
-use Rattle.cmd_status.specs.declared.fault.Fault.TheVariants.{OutOfMemory, TossMemory}
-use Rattle.cmd_status.specs.Devices.{Device}
+use Rattle.cmd_status.specs.{declared.fault.Fault.Fault, declared.fault.Fault.TheVariants.OutOfMemory, declared.fault.Fault.TheVariants.TossMemory, Devices.Device}
 use Rattle.model_steps.specs.SystemState.{SystemState}
-use Rattle.base_store.specs.Store.{StoreState}
-use Rattle.base_store.specs.declared.store_error.StoreError.{StoreError}
-use Rattle.echo_toss.specs.declared.fault.TossFault.{TossFault}
-use Rattle.echo_toss.specs.declared.step_error.StoppedToss.{StoppedToss}
-use Rattle.echo_toss.specs.declared.step_error.TossStepError.{TossStepError}
-use Rattle.echo_toss.specs.declared.step_error.TossStepError.TheVariants as toss
-use Rattle.echo_toss.specs.declared.tally.Tally.{Tally}
-use Rattle.echo_toss.specs.PacketSteps.{CountsToss, PacketStep}
+use Rattle.base_store.specs.{Store.StoreState, declared.store_error.StoreError.StoreError}
 use Rattle.echo_toss.specs.PacketsIn.{HoldsUnlessFailed, cause_in, packet_answer, state_in, stop_in}
-use Rattle.cmd_store.specs.Tossed.{ReportsIn, ReportsStop, TossesNext, run_at}
+use Rattle.echo_toss.specs.declared.{fault.TossFault.TossFault, step_error.StoppedToss.StoppedToss, step_error.TossStepError.TossStepError, tally.Tally.Tally}
+use Rattle.echo_toss.specs.PacketSteps.{CountsToss, PacketStep}
+use Rattle.echo_toss.specs.declared.step_error.TossStepError.TheVariants as toss
+use Rattle.cmd_store.specs.{Lines.tally_line, TossedPacket.ReportsPacket, TossedPacket.TossRun, TossedPacket.TossesPacketBy, TossedPacket.fault_of, NotedPacket.NotesPacket, Tossed.ReportsIn}
+use Rattle.cmd_store.specs.{Tossed.ReportsStop, Tossed.TossesNext, Tossed.run_at}
 
 -- the notes on a packet, or no notes if its messages are not noted
 abbrev pub NotesIf : Bool → Limits → SystemState → Option (List ℕ) → Result Tally TossFault → SystemState → List ℕ → List ℕ → Type 0

@@ -1,10 +1,8 @@
 -- Why a mail is not posted, and the exit status for that.
 use Rattle.echo_mail.specs.declared.fault.MailFault.{MailFault}
 use Rattle.echo_mail.specs.declared.fault.MailFault.TheVariants as mail
-use Rattle.cmd_store.specs.declared.fault.LetterFault.{LetterFault}
-use Rattle.cmd_store.specs.declared.fault.LetterFault.TheVariants.{Mail, Memory}
-use Rattle.cmd_status.specs.declared.status.Status.{Status}
-use Rattle.cmd_status.specs.declared.status.Status.TheVariants.{Device, Refused}
+use Rattle.cmd_store.specs.declared.fault.LetterFault.{LetterFault, TheVariants.Mail, TheVariants.Memory}
+use Rattle.cmd_status.specs.declared.status.Status.{Status, TheVariants.Device, TheVariants.Refused}
 
 -- The fault of a mail that cannot be read.
 abbrev pub letter_fault : MailFault → LetterFault

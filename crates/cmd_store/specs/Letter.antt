@@ -2,19 +2,12 @@
 use Rattle.std.specs.Prelude.{ℕ, ◌≡◌, ◌⊎◌, ◌||◌, List, [], codes, Bool, Option, Some, None, Result, Ok, Err, if◌then◌else◌, option_copied, unwrap_or}
 use Rattle.std.specs.Option.{option_or}
 use Rattle.echo_charset.specs.declared.charset.Charset.{Charset}
-use Rattle.echo_mail.specs.declared.fault.MailFault.{MailFault}
-use Rattle.echo_mail.specs.declared.mail.Mail.{Mail}
-use Rattle.echo_mail.specs.Area.{area_in}
-use Rattle.echo_mail.specs.Body.{text_of, value_in}
-use Rattle.echo_mail.specs.Exported.{exported_id}
+use Rattle.echo_mail.specs.{declared.fault.MailFault.MailFault, declared.mail.Mail.Mail, Area.area_in, Body.text_of, Body.value_in, Exported.exported_id}
 use Rattle.echo_text.specs.Ids.{is_id}
-use Rattle.cmd_store.specs.declared.fault.LetterFault.{LetterFault}
 use Rattle.cmd_store.specs.declared.fault.LetterFault.TheVariants.{Memory, NoArea, NoFrom, NoSubject, NoTo}
-use Rattle.cmd_store.specs.declared.letter.Letter.{Letter}
-use Rattle.cmd_store.specs.declared.letter.MailDefaults.{MailDefaults}
-use Rattle.cmd_store.specs.CharsetLine.{is_wide, with_line}
-use Rattle.cmd_store.specs.Fault.{letter_fault}
 use Rattle.cmd_store.specs.Written.{IsRefused, IsSaid, IsWritten, name_or, words_or}
+use Rattle.cmd_store.specs.{declared.fault.LetterFault.LetterFault, declared.letter.Letter.Letter, declared.letter.MailDefaults.MailDefaults, CharsetLine.is_wide, CharsetLine.with_line}
+use Rattle.cmd_store.specs.Fault.{letter_fault}
 
 -- The value of a field of a mail.
 abbrev pub field : Mail → List ℕ → Option (List ℕ)

@@ -1,13 +1,11 @@
 -- Why a command on a store stopped.
 use Rattle.std.specs.Prelude.{◌≡◌, ℕ, List, Result, Ok, Err}
 use Rattle.base_file.specs.declared.fault.BaseFault.TheVariants.{TooMany}
-use Rattle.cmd_status.specs.declared.fault.Fault.{Fault}
-use Rattle.cmd_status.specs.declared.fault.Fault.TheVariants.{Base, OutOfMemory, Post}
+use Rattle.cmd_status.specs.{declared.fault.Fault.Fault, declared.fault.Fault.TheVariants.Base, declared.fault.Fault.TheVariants.OutOfMemory, declared.fault.Fault.TheVariants.Post, Ended.IsCannotUse}
 use Rattle.base_store.specs.declared.store_error.StoreError.{StoreError}
 use Rattle.base_store.specs.declared.store_error.StoreError.TheVariants as error
 use Rattle.echo_toss.specs.declared.step_error.PostStepError.{PostStepError}
 use Rattle.echo_toss.specs.declared.step_error.PostStepError.TheVariants as post
-use Rattle.cmd_status.specs.Ended.{IsCannotUse}
 use Rattle.cmd_store.specs.declared.command_error.CommandError.{CommandError}
 use Rattle.cmd_store.specs.declared.command_error.CommandError.TheVariants as stop
 

@@ -4,13 +4,10 @@ ghost use Rattle.base_file.specs.Base.{Base};
 ghost use Rattle.disk_io.specs.Disk.{Honestly};
 ghost use Rattle.echo_links.specs.Links.{LinkFile as TheLinks};
 ghost use Rattle.cmd_status.specs.Devices.{Output, output_of};
-ghost use Rattle.base_store.specs.Store.{HasStoreCause};
-ghost use Rattle.base_store.specs.declared.store_error.StoreError.TheVariants.{TooMany};
-ghost use Rattle.cmd_store.specs.Answered.{HasCommitted, MayMake, StaysWhereMet};
-ghost use Rattle.echo_filed.specs.Filed.{Filed as TheMessage};
-ghost use Rattle.cmd_store.specs.Bounded.{StaysTooMany};
-ghost use Rattle.cmd_store.specs.Stops.{store_answer};
+ghost use Rattle.base_store.specs.{Store.HasStoreCause, declared.store_error.StoreError.TheVariants.TooMany};
+ghost use Rattle.cmd_store.specs.{Answered.HasCommitted, Answered.MayMake, Answered.StaysWhereMet, Bounded.StaysTooMany, Stops.store_answer};
 ghost use Rattle.cmd_store.specs.declared.command_error.CommandError.{CommandError as TheStop};
+ghost use Rattle.echo_filed.specs.Filed.{Filed as TheMessage};
 
 use crate::command_error::CommandError;
 use base_store::PurgedStore;

@@ -1,7 +1,6 @@
 //! Why a mail is not posted.
 ghost use Rattle.std.specs.Prelude.{◌≡◌};
-ghost use Rattle.cmd_store.specs.declared.fault.LetterFault.TheVariants.{Memory};
-ghost use Rattle.cmd_store.specs.Fault.{letter_fault, letter_status};
+ghost use Rattle.cmd_store.specs.{declared.fault.LetterFault.TheVariants.Memory, Fault.letter_fault, Fault.letter_status};
 
 use cmd_status::Status;
 use disk_io::Sink;

@@ -1,8 +1,7 @@
 //! `post --mail` as a command on a store.
 ghost use Rattle.std.specs.Prelude.{false};
 ghost use Rattle.echo_toss.specs.PacketsIn.{state_in};
-ghost use Rattle.cmd_store.specs.Bounded.{AddsMailed};
-ghost use Rattle.cmd_store.specs.MailPosted.{Mails, MailsOn, ReadsMail};
+ghost use Rattle.cmd_store.specs.{Bounded.AddsMailed, MailPosted.Mails, MailPosted.MailsOn, MailPosted.ReadsMail};
 
 use crate::fault::LetterFault;
 use crate::letter::{Letter, letter_in};

@@ -3,16 +3,12 @@ ghost use Rattle.std.specs.Prelude.{◌≡◌, ◌↔◌, true, IfErr, IsErrOf, 
 ghost use Rattle.disk_io.specs.Disk.{Honestly};
 ghost use Rattle.base_file.specs.Base.{Base};
 ghost use Rattle.model_steps.specs.declared.fault.PostFault.TheVariants.{KnownSerial};
-ghost use Rattle.base_store.specs.Store.{CommitsNothing, GoesOn, HasStoreCause};
-ghost use Rattle.base_store.specs.declared.store_error.StoreError.TheVariants.{TooMany};
-ghost use Rattle.echo_toss.specs.declared.step_error.PostStepError.TheVariants.{Refused};
-ghost use Rattle.echo_toss.specs.Stores.{LooksWhereRefused, post_answer};
-ghost use Rattle.echo_toss.specs.Bounds.{IsPastBound};
-ghost use Rattle.cmd_store.specs.Bounded.{AddsDraft};
-ghost use Rattle.cmd_store.specs.FreeSerial.{FilesAs};
+ghost use Rattle.base_store.specs.{Store.CommitsNothing, Store.GoesOn, Store.HasStoreCause, declared.store_error.StoreError.TheVariants.TooMany};
+ghost use Rattle.echo_toss.specs.{declared.step_error.PostStepError.TheVariants.Refused, Stores.LooksWhereRefused, Stores.post_answer, Bounds.IsPastBound};
+ghost use Rattle.cmd_store.specs.{Bounded.AddsDraft, FreeSerial.FilesAs};
 
+use crate::drafting::NewMessage;
 use base_store::Store;
-use cmd_report::NewMessage;
 use echo_links::LinkFile;
 use echo_toss::{PostStepError, post_step};
 use model_steps::{Draft, PostFault};

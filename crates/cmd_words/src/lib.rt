@@ -15,6 +15,7 @@ mod words;
 pub use parsing::parse;
 pub use refusing::{Ending, explain};
 pub use words::{
-    CheckWords, ExportWords, ListWords, ParsedLine, Paths, PostJamWords, PostMailWords,
-    PostStoredWords, PostWords, ReplyWords, ResendWords, TossWords, Words,
+    BaseWords, CheckWords, ExportJamWords, ExportStoredWords, ExportWords, ListWords, NetWords,
+    ParsedLine, Paths, Place, PostJamWords, PostMailWords, PostStoredWords, PostWords, ReplyWords,
+    ResendWords, ScanWords, StationWords, TossWords, Words,
 };

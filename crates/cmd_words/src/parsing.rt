@@ -2,8 +2,9 @@
 
 use crate::program::command;
 use crate::words::{
-    CheckWords, ExportWords, ListWords, ParsedLine, Paths, PostJamWords, PostMailWords,
-    PostStoredWords, PostWords, ReplyWords, ResendWords, TossWords, Words,
+    BaseWords, CheckWords, ExportJamWords, ExportStoredWords, ExportWords, ListWords, NetWords,
+    ParsedLine, Paths, Place, PostJamWords, PostMailWords, PostStoredWords, PostWords, ReplyWords,
+    ResendWords, ScanWords, StationWords, TossWords, Words,
 };
 use clap::error::ErrorKind;
 use clap::{ArgMatches, Command, Error};
@@ -37,18 +38,18 @@ fn values<'a>(
 }
 
 fn show_words<'a>(matches: &ArgMatches<'a>) -> Option<Words<'a>> {
-    Some(Words::Show {
+    Some(Words::Net(NetWords::Show {
         hex: matches.get_flag("hex"),
         text: matches.get_flag("text"),
         packet: matches.get_str("PACKET")?,
-    })
+    }))
 }
 
 fn nodelist_words<'a>(matches: &ArgMatches<'a>) -> Option<Words<'a>> {
-    Some(Words::Nodelist {
+    Some(Words::Net(NetWords::Nodelist {
         find: matches.get_str("find"),
         file: matches.get_str("FILE")?,
-    })
+    }))
 }
 
 // With `--all` the first word is a link file too.
@@ -65,13 +66,13 @@ fn check_words<'a>(
     if !all && first.is_none() {
         return Ok(None);
     }
-    Ok(Some(Words::Check(CheckWords {
+    Ok(Some(Words::Net(NetWords::Check(CheckWords {
         nodelist: matches.get_str("nodelist"),
         more: matches.get_flag("more"),
         assume: values(alloc, matches, "assume")?,
         tag: if all { None } else { first },
         links,
-    })))
+    }))))
 }
 
 fn picture_words<'a>(
@@ -81,29 +82,29 @@ fn picture_words<'a>(
     let Some(tag) = matches.get_str("TAG") else {
         return Ok(None);
     };
-    Ok(Some(Words::Picture {
+    Ok(Some(Words::Net(NetWords::Picture {
         why: matches.get_flag("why"),
         assume: values(alloc, matches, "assume")?,
         tag,
         links: links(alloc, matches)?,
-    }))
+    })))
 }
 
 fn why_words<'a>(alloc: Global, matches: &ArgMatches<'a>) -> Result<Option<Words<'a>>, AllocError> {
     let Some(tag) = matches.get_str("TAG") else {
         return Ok(None);
     };
-    Ok(Some(Words::Why {
+    Ok(Some(Words::Net(NetWords::Why {
         assume: values(alloc, matches, "assume")?,
         tag,
         links: links(alloc, matches)?,
-    }))
+    })))
 }
 
 fn post_words<'a>(matches: &ArgMatches<'a>) -> Option<Words<'a>> {
     let texts = texts_in(matches)?;
     let stated = stated_in(matches)?;
-    Some(Words::Post(PostWords {
+    Some(Words::Station(StationWords::Post(PostWords {
         area: texts.area,
         to: texts.to,
         from: texts.from,
@@ -111,9 +112,8 @@ fn post_words<'a>(matches: &ArgMatches<'a>) -> Option<Words<'a>> {
         serial: stated.serial,
         at: stated.at,
         reply: matches.get_str("reply"),
-        links: stated.links,
-        base: stated.base,
-    }))
+        place: stated.place,
+    })))
 }
 
 // The words for the fields of a message.
@@ -139,14 +139,20 @@ fn texts_in<'a>(matches: &ArgMatches<'a>) -> Option<Texts<'a>> {
 struct Stated<'a> {
     serial: &'a str,
     at: &'a str,
-    links: &'a str,
-    base: &'a str,
+    place: Place<'a>,
 }
 
 fn stated_in<'a>(matches: &ArgMatches<'a>) -> Option<Stated<'a>> {
     Some(Stated {
         serial: matches.get_str("serial")?,
         at: matches.get_str("at")?,
+        place: place_in(matches)?,
+    })
+}
+
+// The paths of a station.
+fn place_in<'a>(matches: &ArgMatches<'a>) -> Option<Place<'a>> {
+    Some(Place {
         links: matches.get_str("LINKS")?,
         base: matches.get_str("BASE")?,
     })
@@ -154,7 +160,7 @@ fn stated_in<'a>(matches: &ArgMatches<'a>) -> Option<Stated<'a>> {
 
 fn post_mail_words<'a>(matches: &ArgMatches<'a>) -> Option<Words<'a>> {
     let stated = stated_in(matches)?;
-    Some(Words::PostMail(PostMailWords {
+    Some(Words::Station(StationWords::PostMail(PostMailWords {
         charset: matches.get_str("charset"),
         area: matches.get_str("area"),
         to: matches.get_str("to"),
@@ -163,119 +169,128 @@ fn post_mail_words<'a>(matches: &ArgMatches<'a>) -> Option<Words<'a>> {
         serial: stated.serial,
         at: stated.at,
         reply: matches.get_str("reply"),
-        links: stated.links,
-        base: stated.base,
-    }))
+        place: stated.place,
+    })))
 }
 
 fn post_stored_words<'a>(matches: &ArgMatches<'a>) -> Option<Words<'a>> {
     let stated = stated_in(matches)?;
-    Some(Words::PostStored(PostStoredWords {
+    Some(Words::Station(StationWords::PostStored(PostStoredWords {
         area: matches.get_str("area")?,
         serial: stated.serial,
         at: stated.at,
         message: matches.get_str("msg")?,
-        links: stated.links,
-        base: stated.base,
-    }))
+        place: stated.place,
+    })))
 }
 
 fn post_jam_words<'a>(matches: &ArgMatches<'a>) -> Option<Words<'a>> {
     let stated = stated_in(matches)?;
-    Some(Words::PostJam(PostJamWords {
+    Some(Words::Station(StationWords::PostJam(PostJamWords {
         area: matches.get_str("area")?,
         serial: stated.serial,
         at: stated.at,
         jam: matches.get_str("jam")?,
-        links: stated.links,
-        base: stated.base,
-    }))
+        place: stated.place,
+    })))
 }
 
 fn reply_words<'a>(matches: &ArgMatches<'a>) -> Option<Words<'a>> {
     let stated = stated_in(matches)?;
-    Some(Words::Reply(ReplyWords {
+    Some(Words::Station(StationWords::Reply(ReplyWords {
         from: matches.get_str("from")?,
         serial: stated.serial,
         at: stated.at,
         index: matches.get_str("I")?,
-        links: stated.links,
-        base: stated.base,
-    }))
+        place: stated.place,
+    })))
 }
 
 fn toss_words<'a>(matches: &ArgMatches<'a>, packets: Paths<'a>) -> Option<Words<'a>> {
-    Some(Words::Toss(TossWords {
+    Some(Words::Station(StationWords::Toss(TossWords {
         each: matches.get_flag("each"),
         text_limit: matches.get_str("text-limit"),
-        links: matches.get_str("LINKS")?,
-        base: matches.get_str("BASE")?,
+        place: place_in(matches)?,
         packets,
-    }))
+    })))
 }
 
 fn scan_words<'a>(matches: &ArgMatches<'a>) -> Option<Words<'a>> {
-    Some(Words::Scan {
+    Some(Words::Station(StationWords::Scan(ScanWords {
         at: matches.get_str("at")?,
-        links: matches.get_str("LINKS")?,
-        base: matches.get_str("BASE")?,
+        place: place_in(matches)?,
         folder: matches.get_str("DIR")?,
-    })
+    })))
 }
 
 fn purge_words<'a>(matches: &ArgMatches<'a>) -> Option<Words<'a>> {
-    Some(Words::Purge {
-        links: matches.get_str("LINKS")?,
-        base: matches.get_str("BASE")?,
-    })
+    Some(Words::Station(StationWords::Purge(place_in(matches)?)))
 }
 
 fn list_words<'a>(matches: &ArgMatches<'a>) -> Option<Words<'a>> {
-    Some(Words::List(ListWords {
+    Some(Words::Base(BaseWords::List(ListWords {
         short: matches.get_flag("short"),
         areas: matches.get_flag("areas"),
+        ids: matches.get_flag("ids"),
         area: matches.get_str("area"),
         from: matches.get_str("from"),
         base: matches.get_str("BASE")?,
-    }))
+    })))
 }
 
 fn export_words<'a>(matches: &ArgMatches<'a>) -> Option<Words<'a>> {
-    Some(Words::Export(ExportWords {
+    Some(Words::Base(BaseWords::Export(ExportWords {
         json: matches.get_flag("json"),
         purged: matches.get_flag("purged"),
-        msg: matches.get_str("msg"),
-        jam: matches.get_str("jam"),
         area: matches.get_str("area"),
+        from: matches.get_str("from"),
+        base: matches.get_str("BASE")?,
+    })))
+}
+
+fn export_stored_words<'a>(matches: &ArgMatches<'a>) -> Option<Words<'a>> {
+    Some(Words::Base(BaseWords::ExportStored(ExportStoredWords {
+        folder: matches.get_str("msg")?,
+        area: matches.get_str("area")?,
+        from: matches.get_str("from"),
+        base: matches.get_str("BASE")?,
+    })))
+}
+
+fn export_jam_words<'a>(matches: &ArgMatches<'a>) -> Option<Words<'a>> {
+    Some(Words::ExportJam(ExportJamWords {
+        jam: matches.get_str("jam")?,
+        area: matches.get_str("area")?,
         from: matches.get_str("from"),
         base: matches.get_str("BASE")?,
     }))
 }
 
 fn resend_words<'a>(matches: &ArgMatches<'a>) -> Option<Words<'a>> {
-    Some(Words::Resend(ResendWords {
+    Some(Words::Base(BaseWords::Resend(ResendWords {
+        all: matches.get_flag("all"),
+        has: matches.get_str("has"),
         area: matches.get_str("area")?,
         to: matches.get_str("to")?,
         from: matches.get_str("from"),
         at: matches.get_str("at")?,
-        links: matches.get_str("LINKS")?,
-        base: matches.get_str("BASE")?,
+        place: place_in(matches)?,
         folder: matches.get_str("DIR")?,
-    }))
+    })))
 }
 
 fn convert_words<'a>(matches: &ArgMatches<'a>) -> Option<Words<'a>> {
-    Some(Words::Convert {
+    Some(Words::Base(BaseWords::Convert {
         from: matches.get_str("FROM")?,
         to: matches.get_str("TO")?,
-    })
+    }))
 }
 
 fn replay_words<'a>(matches: &ArgMatches<'a>, links: Paths<'a>) -> Option<Words<'a>> {
-    Some(Words::Replay {
+    Some(Words::Net(NetWords::Replay {
         script: matches.get_str("SCRIPT")?,
         links,
-    })
+    }))
 }
 
 const LINKS_TWICE: &str = "the argument '--links-from <FILE>' cannot be used with '[LINKS]...'";
@@ -292,10 +307,10 @@ fn links_words<'a>(
     alloc: Global,
     matches: &ArgMatches<'a>,
 ) -> Result<Option<Words<'a>>, AllocError> {
-    Ok(Some(Words::Links {
+    Ok(Some(Words::Net(NetWords::Links {
         areas: matches.get_flag("areas"),
         links: links(alloc, matches)?,
-    }))
+    })))
 }
 
 // The words of a posting.
@@ -308,6 +323,17 @@ fn posting_words<'a>(given: &ArgMatches<'a>) -> Option<Words<'a>> {
         post_jam_words(given)
     } else {
         post_words(given)
+    }
+}
+
+// The words of an export.
+fn exporting_words<'a>(given: &ArgMatches<'a>) -> Option<Words<'a>> {
+    if given.get_str("msg").is_some() {
+        export_stored_words(given)
+    } else if given.get_str("jam").is_some() {
+        export_jam_words(given)
+    } else {
+        export_words(given)
     }
 }
 
@@ -342,7 +368,7 @@ fn base_words<'a>(
         "scan" => scan_words(given),
         "purge" => purge_words(given),
         "list" => list_words(given),
-        "export" => export_words(given),
+        "export" => exporting_words(given),
         "resend" => resend_words(given),
         "convert" => convert_words(given),
         _ => None,

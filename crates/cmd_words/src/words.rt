@@ -3,6 +3,15 @@
 /// The command and its words. A path can be `-`.
 #[derive(Drop)]
 pub enum Words<'a> {
+    Net(NetWords<'a>),
+    Base(BaseWords<'a>),
+    ExportJam(ExportJamWords<'a>),
+    Station(StationWords<'a>),
+}
+
+/// The words of a command that reads no base.
+#[derive(Drop)]
+pub enum NetWords<'a> {
     Show {
         hex: bool,
         text: bool,
@@ -32,29 +41,36 @@ pub enum Words<'a> {
         script: &'a str,
         links: Paths<'a>,
     },
+}
+
+/// The words of a command that reads a base, and changes none.
+#[derive(Drop)]
+pub enum BaseWords<'a> {
     List(ListWords<'a>),
     Export(ExportWords<'a>),
-    Convert {
-        from: &'a str,
-        to: &'a str,
-    },
+    ExportStored(ExportStoredWords<'a>),
+    Convert { from: &'a str, to: &'a str },
+    Resend(ResendWords<'a>),
+}
+
+/// The words of a command that changes the base of a station.
+#[derive(Drop)]
+pub enum StationWords<'a> {
     Post(PostWords<'a>),
     PostMail(PostMailWords<'a>),
     PostStored(PostStoredWords<'a>),
     PostJam(PostJamWords<'a>),
     Reply(ReplyWords<'a>),
     Toss(TossWords<'a>),
-    Scan {
-        at: &'a str,
-        links: &'a str,
-        base: &'a str,
-        folder: &'a str,
-    },
-    Purge {
-        links: &'a str,
-        base: &'a str,
-    },
-    Resend(ResendWords<'a>),
+    Scan(ScanWords<'a>),
+    Purge(Place<'a>),
+}
+
+/// The paths of the link file and of the base of a station.
+#[derive(Clone, Copy)]
+pub struct Place<'a> {
+    pub links: &'a str,
+    pub base: &'a str,
 }
 
 /// The paths of files: words, or the file that lists them.
@@ -84,8 +100,7 @@ pub struct PostWords<'a> {
     pub serial: &'a str,
     pub at: &'a str,
     pub reply: Option<&'a str>,
-    pub links: &'a str,
-    pub base: &'a str,
+    pub place: Place<'a>,
 }
 
 /// The words of `post --mail`.
@@ -99,8 +114,7 @@ pub struct PostMailWords<'a> {
     pub serial: &'a str,
     pub at: &'a str,
     pub reply: Option<&'a str>,
-    pub links: &'a str,
-    pub base: &'a str,
+    pub place: Place<'a>,
 }
 
 /// The words of `post --msg`.
@@ -110,8 +124,7 @@ pub struct PostStoredWords<'a> {
     pub serial: &'a str,
     pub at: &'a str,
     pub message: &'a str,
-    pub links: &'a str,
-    pub base: &'a str,
+    pub place: Place<'a>,
 }
 
 /// The words of `post --jam`.
@@ -121,8 +134,7 @@ pub struct PostJamWords<'a> {
     pub serial: &'a str,
     pub at: &'a str,
     pub jam: &'a str,
-    pub links: &'a str,
-    pub base: &'a str,
+    pub place: Place<'a>,
 }
 
 /// The words of `reply`.
@@ -132,8 +144,7 @@ pub struct ReplyWords<'a> {
     pub serial: &'a str,
     pub at: &'a str,
     pub index: &'a str,
-    pub links: &'a str,
-    pub base: &'a str,
+    pub place: Place<'a>,
 }
 
 /// The words of `list`.
@@ -141,6 +152,7 @@ pub struct ReplyWords<'a> {
 pub struct ListWords<'a> {
     pub short: bool,
     pub areas: bool,
+    pub ids: bool,
     pub area: Option<&'a str>,
     pub from: Option<&'a str>,
     pub base: &'a str,
@@ -151,9 +163,25 @@ pub struct ListWords<'a> {
 pub struct ExportWords<'a> {
     pub json: bool,
     pub purged: bool,
-    pub msg: Option<&'a str>,
-    pub jam: Option<&'a str>,
     pub area: Option<&'a str>,
+    pub from: Option<&'a str>,
+    pub base: &'a str,
+}
+
+/// The words of `export --msg`.
+#[derive(Drop)]
+pub struct ExportStoredWords<'a> {
+    pub folder: &'a str,
+    pub area: &'a str,
+    pub from: Option<&'a str>,
+    pub base: &'a str,
+}
+
+/// The words of `export --jam`.
+#[derive(Drop)]
+pub struct ExportJamWords<'a> {
+    pub jam: &'a str,
+    pub area: &'a str,
     pub from: Option<&'a str>,
     pub base: &'a str,
 }
@@ -163,20 +191,28 @@ pub struct ExportWords<'a> {
 pub struct TossWords<'a> {
     pub each: bool,
     pub text_limit: Option<&'a str>,
-    pub links: &'a str,
-    pub base: &'a str,
+    pub place: Place<'a>,
     pub packets: Paths<'a>,
 }
 
-/// The words of `resend`.
+/// The words of `scan`.
+#[derive(Clone, Copy)]
+pub struct ScanWords<'a> {
+    pub at: &'a str,
+    pub place: Place<'a>,
+    pub folder: &'a str,
+}
+
+/// The words of `resend`. With `all` it sends all messages, and those that the list `has` does not name.
 #[derive(Drop)]
 pub struct ResendWords<'a> {
+    pub all: bool,
+    pub has: Option<&'a str>,
     pub area: &'a str,
     pub to: &'a str,
     pub from: Option<&'a str>,
     pub at: &'a str,
-    pub links: &'a str,
-    pub base: &'a str,
+    pub place: Place<'a>,
     pub folder: &'a str,
 }
 

@@ -1,12 +1,9 @@
 -- Packets that are whole on the disk at one of their two paths, while another packet gets its path.
 use Rattle.std.proofs.Common.{◌≡◌, ◌⊎◌, inl, inr, ⊎_elim, ◌∙◌, Bool, true, false, List, ℕ, sym, arith}
 use Rattle.disk_io.specs.Disk.{DiskState, Files}
-use Rattle.disk_atomic.specs.Changes.{ChangesOnly, HasOnDisk}
 use Rattle.disk_atomic.specs.Naming.{HasItsPath, HasMoved, Names, IsWholeAtEither, StaysThere}
-use Rattle.disk_atomic.specs.Outgoing.{AreApart, IsStaged}
-use Rattle.disk_atomic.specs.declared.outgoing.Outgoing.{Outgoing}
-use Rattle.disk_atomic.proofs.Changes.{left_there, stays_on_disk}
-use Rattle.disk_atomic.proofs.Packets.{AtBoth}
+use Rattle.disk_atomic.specs.{Changes.ChangesOnly, Changes.HasOnDisk, Outgoing.AreApart, Outgoing.IsStaged, declared.outgoing.Outgoing.Outgoing}
+use Rattle.disk_atomic.proofs.{Changes.left_there, Changes.stays_on_disk, Packets.AtBoth}
 
 -- after any crash, the packet is whole at one of its two paths
 abbrev pub IsAnchored : (Outgoing → List ℕ) → DiskState → Outgoing → Type 0

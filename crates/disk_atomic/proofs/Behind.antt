@@ -1,16 +1,11 @@
 -- Staging files of disjoint packets, one of which grew.
 use Rattle.std.proofs.Common.{◌≡◌, ◌≢◌, ◌∙◌, ⊎_elim, ℕ, ◌<◌, ◌≤◌, ◌+◌, ◌++◌, List, ap, arith, get_or, length, subst, sym}
-use Rattle.std.specs.Prelude.{All, AllPairs}
-use Rattle.std.specs.List.{AllWithin}
-use Rattle.std.proofs.lemmas.Bool.{cases_order}
+use Rattle.std.proofs.lemmas.{Bool.cases_order, List.get_or_default}
+use Rattle.std.specs.{Prelude.All, Prelude.AllPairs, List.AllWithin}
 use Rattle.echo_addr.specs.declared.address.Address.{Address}
-use Rattle.std.proofs.lemmas.List.{get_or_default}
 use Rattle.disk_io.specs.Disk.{DiskState, bytes_in}
-use Rattle.disk_atomic.specs.Changes.{CanGrow, ChangesOnly}
-use Rattle.disk_atomic.specs.Outgoing.{AreApart, CanGrowStaging, IsLonger, staged_in}
-use Rattle.disk_atomic.specs.declared.outgoing.Outgoing.{Outgoing}
-use Rattle.disk_atomic.proofs.Each.{apart, behind}
-use Rattle.disk_atomic.proofs.Packets.{At, apart_back}
+use Rattle.disk_atomic.specs.{Changes.CanGrow, Changes.ChangesOnly, Outgoing.AreApart, Outgoing.CanGrowStaging, Outgoing.IsLonger, Outgoing.staged_in, declared.outgoing.Outgoing.Outgoing}
+use Rattle.disk_atomic.proofs.{Each.apart, Each.behind, Packets.At, Packets.apart_back}
 
 module _ (packets : List Outgoing) (pairs : AllPairs AreApart packets) (i : ℕ) (x : Outgoing) (lt : i < length packets) (is : x ≡ get_or packets i x) (d e : DiskState) (run : ChangesOnly (At x) d e) where
   other : (k : ℕ) (p : Outgoing) → k ≢ i → k < length packets → (get_or packets k p).staging.now ≡ x.staging.now → ⊥

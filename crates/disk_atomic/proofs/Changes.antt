@@ -1,8 +1,7 @@
 -- How runs that change some files go on.
 use Rattle.std.proofs.Common.{◌≡◌, inl, ◌∙◌, List, ℕ, Option, Some, refl, sym, subst, arith}
-use Rattle.disk_io.specs.Disk.{DiskState, Files}
-use Rattle.disk_io.specs.Steps.{ChangesFile}
 use Rattle.disk_io.specs.Runs.{ChangesAt, ChangesNothing, LeavesOnly, NoPath, OneStepOn, ThisPath}
+use Rattle.disk_io.specs.{Disk.DiskState, Disk.Files, Steps.ChangesFile}
 use Rattle.disk_io.proofs.Moments.{left_now, no_call, one_call, then_run, weaker_run}
 use Rattle.disk_atomic.specs.Changes.{ChangesOnly, DifferAt, HasOnDisk}
 

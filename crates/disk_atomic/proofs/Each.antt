@@ -1,9 +1,7 @@
 -- A loop over a list of disjoint elements, and the effect of one step on the others.
 use Rattle.std.proofs.Common.{◌≡◌, ◌≢◌, ⊎_elim, ℕ, ◌+◌, ◌<◌, ◌≤◌, List, length, get_or, arith, sym, subst}
+use Rattle.std.proofs.lemmas.{Bool.cases_lt, Bool.cases_order, List.get_or_default, List.Elements.at_read, List.Elements.AllWithin-more, List.Elements.Contains-get_or}
 use Rattle.std.specs.List.{All, AllPairs, AllWithin, Contains, HoldsAt}
-use Rattle.std.proofs.lemmas.Bool.{cases_lt, cases_order}
-use Rattle.std.proofs.lemmas.List.{get_or_default}
-use Rattle.std.proofs.lemmas.List.Elements.{at_read, AllWithin-more, Contains-get_or}
 
 module _ {X : Type 0} (R : X → X → Type 0) (flip : (x y : X) → R x y → R y x) (xs : List X) (pairs : AllPairs R xs) (i : ℕ) (z : X) (lt : i < length xs) where
   -- the current element

@@ -1,19 +1,13 @@
 -- Finishing packets in order.
 use Rattle.std.proofs.Common.{◌≡◌, ◌≢◌, ◌⊎◌, inl, inr, ⊎_elim, ◌∙◌, ◌+◌, ◌<◌, ◌≤◌, ℕ, List, [], arith, get_or, length, refl, subst, sym}
-use Rattle.std.specs.Prelude.{AllPairs, IsSome}
-use Rattle.std.specs.List.{AllWithin}
-use Rattle.std.proofs.lemmas.Bool.{cases_lt}
-use Rattle.std.proofs.lemmas.List.Elements.{AllWithin-none}
-use Rattle.disk_io.specs.Disk.{DiskState, Files}
-use Rattle.disk_io.specs.Steps.{ChangesFile, TornRemoval}
+use Rattle.std.proofs.lemmas.{Bool.cases_lt, List.Elements.AllWithin-none}
+use Rattle.std.specs.{Prelude.AllPairs, Prelude.IsSome, List.AllWithin}
 use Rattle.disk_io.specs.Runs.{ChangesAt, ChangesNothing, LeavesOnly, OneStepOn, ThisPath}
+use Rattle.disk_io.specs.{Disk.DiskState, Disk.Files, Steps.ChangesFile, Steps.TornRemoval}
 use Rattle.disk_io.proofs.Moments.{one_call, then_run, weaker_run}
-use Rattle.disk_atomic.specs.Changes.{ChangesOnly, DifferAt}
-use Rattle.disk_atomic.specs.Naming.{Names}
 use Rattle.disk_atomic.specs.Finishing.{AreAway, AreNamed, EndsAs, Finishes, FinishesEach, IsOfLeft, IsOver, KeepsFile}
-use Rattle.disk_atomic.specs.declared.finishing.Left.{Left}
-use Rattle.disk_atomic.proofs.Changes.{then_steps, wider}
-use Rattle.disk_atomic.proofs.Each.{ahead, among, behind, here}
+use Rattle.disk_atomic.specs.{Changes.ChangesOnly, Changes.DifferAt, Naming.Names, declared.finishing.Left.Left}
+use Rattle.disk_atomic.proofs.{Changes.then_steps, Changes.wider, Each.ahead, Each.among, Each.behind, Each.here}
 
 pub away_back : (l k : Left) → AreAway l k → AreAway k l
 away_back l k a = grind arith

@@ -2,9 +2,7 @@
 use Rattle.std.proofs.Common.{◌≡◌, ℕ, zero, suc, ◌+◌, ◌<◌, List, [], ◌∷◌, ◌++◌, length, Some, arith, length-append}
 use Rattle.std.proofs.lemmas.List.{append-nil, drop_all, take_all}
 use Rattle.std.specs.Prelude.{IsSome, slice_index}
-use Rattle.disk_io.specs.Disk.{DiskState, bytes_in}
-use Rattle.disk_io.specs.Fixed.{AreBytes}
-use Rattle.disk_io.specs.Steps.{IsWrittenAt}
+use Rattle.disk_io.specs.{Disk.DiskState, Disk.bytes_in, Fixed.AreBytes, Steps.IsWrittenAt}
 use Rattle.disk_atomic.specs.Changes.{IsGrowing}
 use Rattle.disk_atomic.proofs.Whole.{some_is_there}
 

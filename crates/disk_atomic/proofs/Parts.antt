@@ -2,10 +2,8 @@
 use Rattle.std.proofs.Common.{◌≡◌, ◌∙◌, ℕ, ◌≤◌, List, ◌++◌, length, take, drop, Some, ap, refl, sym, arith, append_assoc}
 use Rattle.std.proofs.lemmas.List.{append-nil, drop-append-le, drop_all, length-take, length-take-le, nil_from_length, take-append-drop, take-append-le}
 use Rattle.std.specs.Prelude.{IsSome}
-use Rattle.disk_io.specs.Disk.{DiskState, bytes_in}
-use Rattle.disk_io.specs.Runs.{ChangesNothing}
-use Rattle.disk_atomic.specs.Changes.{HasOnDisk, IsGrowing}
-use Rattle.disk_atomic.specs.Keeping.{HasPart}
+use Rattle.disk_io.specs.{Disk.DiskState, Disk.bytes_in, Runs.ChangesNothing}
+use Rattle.disk_atomic.specs.{Changes.HasOnDisk, Changes.IsGrowing, Keeping.HasPart}
 use Rattle.disk_atomic.proofs.Whole.{file_of_bytes}
 
 -- a run that changes nothing

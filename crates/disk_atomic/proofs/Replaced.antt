@@ -1,11 +1,8 @@
 -- The files that a crash leaves while a call replaces a file through a staging path.
 use Rattle.std.proofs.Common.{◌≡◌, ◌≢◌, inl, inr, ⊎_elim, ◌∙◌, ℕ, List, refl, sym, arith}
-use Rattle.disk_io.specs.Disk.{DiskState, Files}
-use Rattle.disk_io.specs.Steps.{RenamesFile}
-use Rattle.disk_io.specs.Runs.{ChangesAt, EitherPath, LeavesOnly, OneStepOn}
+use Rattle.disk_io.specs.{Disk.DiskState, Disk.Files, Steps.RenamesFile, Runs.ChangesAt, Runs.EitherPath, Runs.LeavesOnly, Runs.OneStepOn}
 use Rattle.disk_io.proofs.Moments.{one_call}
-use Rattle.disk_atomic.specs.Changes.{ChangesOnly, DifferAt, HasOnDisk}
-use Rattle.disk_atomic.specs.Replacing.{Replaces}
+use Rattle.disk_atomic.specs.{Changes.ChangesOnly, Changes.DifferAt, Changes.HasOnDisk, Replacing.Replaces}
 use Rattle.disk_atomic.proofs.Changes.{then_steps, weaker_steps}
 
 module _ (path staging bytes : List ℕ) where

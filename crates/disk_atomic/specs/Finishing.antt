@@ -1,9 +1,7 @@
 -- Packets that a stopped publication left in staging files, and how they are finished.
 use Rattle.std.specs.Prelude.{◌≡◌, ◌≢◌, ◌⊎◌, ◌<◌, ◌≤◌, ℕ, List, All, AllPairs, Contains, None, IsSome}
 use Rattle.disk_io.specs.Disk.{DiskState, Files, IsIn}
-use Rattle.disk_atomic.specs.Changes.{DifferAt}
-use Rattle.disk_atomic.specs.Naming.{HasMoved}
-use Rattle.disk_atomic.specs.declared.finishing.Left.{Left}
+use Rattle.disk_atomic.specs.{Changes.DifferAt, Naming.HasMoved, declared.finishing.Left.Left}
 
 -- One of the two paths of one of these packets.
 abbrev pub IsOfLeft : List Left → List ℕ → Type 0

@@ -1,8 +1,7 @@
 -- A new file that keeps a part of another.
 use Rattle.std.specs.Prelude.{◌≤◌, ◌++◌, List, ℕ, IsSome, drop, length, take}
 use Rattle.disk_io.specs.Disk.{DiskState, Honestly, bytes_in}
-use Rattle.disk_atomic.specs.Changes.{HasOnDisk}
-use Rattle.disk_atomic.specs.declared.keeping.Kept.{Kept}
+use Rattle.disk_atomic.specs.{Changes.HasOnDisk, declared.keeping.Kept.Kept}
 
 -- The head, the kept bytes, and the tail.
 abbrev pub kept_bytes : List ℕ → Kept → List ℕ

@@ -1,8 +1,7 @@
 -- The list of staging files that earlier scans left.
 use Rattle.std.specs.Prelude.{◌≡◌, ◌≢◌, ℕ, List, ◌++◌, All, Contains, codes, decimal, IsSome}
 use Rattle.disk_io.specs.Disk.{Files}
-use Rattle.disk_atomic.specs.StagingPaths.{staging_path}
-use Rattle.disk_atomic.specs.declared.listing.StagedPacket.{StagedPacket}
+use Rattle.disk_atomic.specs.{StagingPaths.staging_path, declared.listing.StagedPacket.StagedPacket}
 
 -- A byte of a packet's name: no slash, and no tilde, which only staging paths contain.
 pub record IsNameByte (b : ℕ) : Type 0 where

@@ -1,10 +1,7 @@
 -- Packets that get their paths.
 use Rattle.std.specs.Prelude.{◌≡◌, ◌≢◌, ◌⊎◌, ℕ, List, All, Some, None, IsSome}
-use Rattle.disk_io.specs.Disk.{DiskState, Files, Honestly, IsIn}
-use Rattle.disk_io.specs.Runs.{LeavesOnly, OneStepOn}
-use Rattle.disk_atomic.specs.Changes.{ChangesOnly, DifferAt, HasOnDisk}
-use Rattle.disk_atomic.specs.Outgoing.{IsOfOne}
-use Rattle.disk_atomic.specs.declared.outgoing.Outgoing.{Outgoing}
+use Rattle.disk_io.specs.{Disk.DiskState, Disk.Files, Disk.Honestly, Disk.IsIn, Runs.LeavesOnly, Runs.OneStepOn}
+use Rattle.disk_atomic.specs.{Changes.ChangesOnly, Changes.DifferAt, Changes.HasOnDisk, Outgoing.IsOfOne, declared.outgoing.Outgoing.Outgoing}
 
 -- The staging file is at one of the two paths, and the path is unchanged or has that file. Everything else is unchanged.
 pub record Names (path staging : List ℕ) (before after : Files) : Type 0 where

@@ -1,10 +1,8 @@
 -- Packets on the way to their paths.
 use Rattle.std.specs.Prelude.{◌≡◌, ◌≢◌, ◌⊎◌, ◌++◌, ℕ, List, [], All, AllPairs, Contains, IsSome, Some, None}
 use Rattle.echo_addr.specs.declared.address.Address.{Address}
-use Rattle.disk_io.specs.Fixed.{AreBytes}
-use Rattle.disk_io.specs.Disk.{DiskState, Files, IsIn, bytes_in}
-use Rattle.disk_atomic.specs.Changes.{CanGrow, HasOnDisk}
-use Rattle.disk_atomic.specs.declared.outgoing.Outgoing.{Outgoing}
+use Rattle.disk_io.specs.{Fixed.AreBytes, Disk.DiskState, Disk.Files, Disk.IsIn, Disk.bytes_in}
+use Rattle.disk_atomic.specs.{Changes.CanGrow, Changes.HasOnDisk, declared.outgoing.Outgoing.Outgoing}
 
 -- The staging path of one of these packets.
 abbrev pub IsStagingOne : List Outgoing → List ℕ → Type 0

@@ -1,10 +1,8 @@
 -- Packets and a commit.
 use Rattle.std.specs.Prelude.{◌≤◌, ℕ, List, Result, IsErrOf}
-use Rattle.disk_io.specs.Device.{Failed}
-use Rattle.disk_io.specs.declared.disk_error.DiskError.{DiskError}
+use Rattle.disk_io.specs.{Device.Failed, declared.disk_error.DiskError.DiskError}
 use Rattle.disk_io.specs.declared.disk_error.DiskError.TheVariants as disk_error
-use Rattle.disk_atomic.specs.declared.outgoing.Outgoing.{Outgoing}
-use Rattle.disk_atomic.specs.declared.placing_error.PlacingError.{PlacingError}
+use Rattle.disk_atomic.specs.declared.{outgoing.Outgoing.Outgoing, placing_error.PlacingError.PlacingError}
 use Rattle.disk_atomic.specs.declared.placing_error.PlacingError.TheVariants as error
 
 -- Neither path of the packet is one of these.

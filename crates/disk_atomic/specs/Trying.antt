@@ -1,9 +1,7 @@
 -- A test whether a file can get a second path.
 use Rattle.std.specs.Prelude.{◌≡◌, ◌⊎◌, List, ℕ, None}
-use Rattle.disk_io.specs.Disk.{DiskState, Honestly}
-use Rattle.disk_io.specs.Runs.{LeavesOnly, OneStepOn}
-use Rattle.disk_atomic.specs.Changes.{ChangesOnly, DifferAt}
-use Rattle.disk_atomic.specs.Naming.{Names, StaysThere}
+use Rattle.disk_io.specs.{Disk.DiskState, Disk.Honestly, Runs.LeavesOnly, Runs.OneStepOn}
+use Rattle.disk_atomic.specs.{Changes.ChangesOnly, Changes.DifferAt, Naming.Names, Naming.StaysThere}
 
 -- A file got this free path as its second one, in one step: a crash leaves the path free or with the whole file.
 -- Outside `paths`, all files are as they were first. So the device supports second paths, and nothing else has changed.

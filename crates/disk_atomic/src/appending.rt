@@ -1,11 +1,9 @@
 //! Files that grow at their end, piece by piece, while their length is asked of the disk.
 ghost use Rattle.std.specs.Prelude.{◌≡◌, ◌++◌, List, ℕ, All, AllPairs, IfOk, OnOk};
 ghost use Rattle.echo_addr.specs.declared.address.Address.{Address};
-ghost use Rattle.disk_io.specs.Fixed.{AreBytes};
-ghost use Rattle.disk_io.specs.Disk.{Honestly, bytes_in};
-ghost use Rattle.disk_io.specs.Runs.{ChangesNothing, HasCause, KeepsNamed};
-ghost use Rattle.disk_atomic.specs.Changes.{CanGrow, ChangesOnly};
+ghost use Rattle.disk_io.specs.{Fixed.AreBytes, Disk.Honestly, Disk.bytes_in, Runs.ChangesNothing, Runs.HasCause, Runs.KeepsNamed};
 ghost use Rattle.disk_atomic.specs.Outgoing.{AreApart, CanGrowStaging, HasStaging, IsLonger, IsStagingFlushed, IsStagingOne, SendsBytes};
+ghost use Rattle.disk_atomic.specs.Changes.{CanGrow, ChangesOnly};
 
 use crate::outgoing::Outgoing;
 use disk_io::{Disk, DiskError, are_bytes};

@@ -1,7 +1,6 @@
 //! Bytes written at the end of a file with a known length.
 ghost use Rattle.std.specs.Prelude.{◌≡◌, ◌++◌, IfOk, OnOk};
-ghost use Rattle.disk_io.specs.Disk.{bytes_in};
-ghost use Rattle.disk_io.specs.Runs.{HasCause, KeepsNamed};
+ghost use Rattle.disk_io.specs.{Disk.bytes_in, Runs.HasCause, Runs.KeepsNamed};
 ghost use Rattle.disk_atomic.specs.Changes.{ChangesOnly, IsGrowing};
 
 use disk_io::{Disk, DiskError, are_bytes};

@@ -1,9 +1,8 @@
 //! The staging files of a stopped scan are named or removed.
 ghost use Rattle.std.specs.Prelude.{◌≡◌, ◌⊎◌, ℕ, List, true, false, All, IfOk, OnOk};
-ghost use Rattle.disk_io.specs.Disk.{Honestly, IsIn};
-ghost use Rattle.disk_io.specs.Runs.{HasCause, LeavesOnly, OneStepOn};
-ghost use Rattle.disk_atomic.specs.Changes.{ChangesOnly};
+ghost use Rattle.disk_io.specs.{Disk.Honestly, Disk.IsIn, Runs.HasCause, Runs.LeavesOnly, Runs.OneStepOn};
 ghost use Rattle.disk_atomic.specs.Finishing.{AreLeftIn, AreNamed, Finishes, FinishesEach, IsFreeOf, IsLeftIn, IsOfLeft, IsOver, IsThere, KeepsFile};
+ghost use Rattle.disk_atomic.specs.Changes.{ChangesOnly};
 
 use crate::naming::name_packet;
 use disk_io::{Disk, DiskError, sync_folder_of};

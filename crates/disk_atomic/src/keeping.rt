@@ -1,10 +1,7 @@
 //! A file is replaced by a head, a part of its old bytes, and a tail.
 ghost use Rattle.std.specs.Prelude.{◌≡◌, ◌≢◌, ◌⊎◌, ◌++◌, ℕ, List, drop, take, IfOk, IsSome, OnOk};
-ghost use Rattle.disk_io.specs.Disk.{Honestly, IsIn, bytes_in};
-ghost use Rattle.disk_io.specs.Runs.{HasCause, KeepsNamed, LeavesOnly, OneStepOn};
-ghost use Rattle.disk_atomic.specs.Changes.{ChangesOnly, HasOnDisk, IsGrowing};
-ghost use Rattle.disk_atomic.specs.Keeping.{HasAllOnDisk, HasPart, kept_bytes};
-ghost use Rattle.disk_atomic.specs.Replacing.{Replaces};
+ghost use Rattle.disk_io.specs.{Disk.Honestly, Disk.IsIn, Disk.bytes_in, Runs.HasCause, Runs.KeepsNamed, Runs.LeavesOnly, Runs.OneStepOn};
+ghost use Rattle.disk_atomic.specs.{Changes.ChangesOnly, Changes.HasOnDisk, Changes.IsGrowing, Keeping.HasAllOnDisk, Keeping.HasPart, Keeping.kept_bytes, Replacing.Replaces};
 
 use crate::filling::append;
 use disk_io::{Disk, DiskError, read_part, sync_folder_of};

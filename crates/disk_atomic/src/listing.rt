@@ -1,7 +1,6 @@
 //! Lists the packets that earlier scans left.
 ghost use Rattle.std.specs.Prelude.{ℕ, IfOk};
-ghost use Rattle.disk_io.specs.Disk.{Files};
-ghost use Rattle.disk_io.specs.Runs.{HasCause};
+ghost use Rattle.disk_io.specs.{Disk.Files, Runs.HasCause};
 ghost use Rattle.disk_atomic.specs.ListStaged.{AreListed};
 
 use disk_io::DiskError;

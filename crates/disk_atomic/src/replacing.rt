@@ -1,9 +1,7 @@
 //! A file is replaced by another, written at a staging path.
 ghost use Rattle.std.specs.Prelude.{◌≡◌, ◌≢◌, ◌⊎◌, None, OnOk};
-ghost use Rattle.disk_io.specs.Disk.{IsIn};
-ghost use Rattle.disk_io.specs.Runs.{HasCause, LeavesOnly, OneStepOn};
-ghost use Rattle.disk_atomic.specs.Changes.{ChangesOnly, HasOnDisk};
-ghost use Rattle.disk_atomic.specs.Replacing.{Replaces};
+ghost use Rattle.disk_io.specs.{Disk.IsIn, Runs.HasCause, Runs.LeavesOnly, Runs.OneStepOn};
+ghost use Rattle.disk_atomic.specs.{Changes.ChangesOnly, Changes.HasOnDisk, Replacing.Replaces};
 
 use crate::staging::stage_file;
 use disk_io::{Disk, DiskError, sync_folder_of};

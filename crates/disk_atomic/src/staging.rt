@@ -1,8 +1,6 @@
 //! A file that is written and synced, before it is certain that it is needed.
 ghost use Rattle.std.specs.Prelude.{◌≡◌, ℕ, List, [], Some, OnOk};
-ghost use Rattle.disk_io.specs.Fixed.{AreBytes};
-ghost use Rattle.disk_io.specs.Disk.{IsIn};
-ghost use Rattle.disk_io.specs.Runs.{HasCause, KeepsNamed};
+ghost use Rattle.disk_io.specs.{Fixed.AreBytes, Disk.IsIn, Runs.HasCause, Runs.KeepsNamed};
 ghost use Rattle.disk_atomic.specs.Changes.{ChangesOnly, HasOnDisk};
 
 use disk_io::{Disk, DiskError, sync_folder_of};

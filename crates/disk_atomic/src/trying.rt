@@ -1,10 +1,7 @@
 //! Whether a file of a folder can get a second path there. Some folders have no hard links.
 ghost use Rattle.std.specs.Prelude.{◌≡◌, ◌≢◌, ◌⊎◌, ℕ, List, false, true, IfOk, None, OnOk};
-ghost use Rattle.disk_io.specs.Disk.{Honestly, IsIn};
-ghost use Rattle.disk_io.specs.Runs.{HasCause};
-ghost use Rattle.disk_atomic.specs.Changes.{ChangesOnly};
-ghost use Rattle.disk_atomic.specs.Naming.{CanLink};
-ghost use Rattle.disk_atomic.specs.Trying.{Tries, WasTried};
+ghost use Rattle.disk_io.specs.{Disk.Honestly, Disk.IsIn, Runs.HasCause};
+ghost use Rattle.disk_atomic.specs.{Changes.ChangesOnly, Naming.CanLink, Trying.Tries, Trying.WasTried};
 
 use crate::naming::link_path;
 use disk_io::{Disk, DiskError, sync_folder_of};

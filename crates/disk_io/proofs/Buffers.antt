@@ -1,9 +1,7 @@
 -- A buffer before a source: the bytes that leave its front, and the bytes that remain.
 use Rattle.std.proofs.Common.{◌≡◌, ℕ, ◌+◌, ◌-◌, ◌<◌, ◌≤◌, min, List, [], ◌++◌, Option, length, take, drop, slice_range, sym, ap, subst, ◌∙◌, arith, drop-drop, take-append-drop}
-use Rattle.std.proofs.lemmas.List.{drop-take, nil_from_length}
-use Rattle.std.proofs.Math.Seq.{drop-nil}
+use Rattle.std.proofs.{lemmas.List.drop-take, lemmas.List.nil_from_length, Math.Seq.drop-nil, KnownBytes.prepend_known-read, KnownBytes.prepend_known-nil}
 use Rattle.std.specs.Io.KnownBytes.{Consumes, IsAtEnd, Keeps, prepend_known}
-use Rattle.std.proofs.KnownBytes.{prepend_known-read, prepend_known-nil}
 
 -- the part of a buffer without its first n bytes
 pub slice_range-later : (xs : List ℕ) (start end n : ℕ) → start + n ≤ end → slice_range xs (start + n) end ≡ drop n (slice_range xs start end)

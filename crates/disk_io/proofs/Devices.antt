@@ -1,9 +1,7 @@
 -- The effect of several reads or writes in a row.
 use Rattle.std.proofs.Common.{ℕ, ◌+◌, ◌≤◌, inl, inr, List, ◌++◌, Option, length, take, sym, subst, arith, length-append}
-use Rattle.std.proofs.lemmas.List.{take-append-le}
-use Rattle.std.proofs.Math.Seq.{take-append-add}
+use Rattle.std.proofs.{lemmas.List.take-append-le, Math.Seq.take-append-add, KnownBytes.Appends-trans}
 use Rattle.std.specs.Io.KnownBytes.{Appends}
-use Rattle.std.proofs.KnownBytes.{Appends-trans}
 use Rattle.disk_io.specs.Device.{Failed, SendsAll, SendsFront}
 
 -- the count never falls

@@ -1,7 +1,6 @@
 -- Joining runs of calls, and the files that a crash may leave at each time.
 use Rattle.std.proofs.Common.{◌≤◌, ℕ, List, ◌∙◌, inl, inr, ⊎_elim, arith}
-use Rattle.disk_io.specs.Disk.{DiskState, Files}
-use Rattle.disk_io.specs.Runs.{LeavesOnly, OneStepOn, ChangesAt, ChangesNothing}
+use Rattle.disk_io.specs.{Disk.DiskState, Disk.Files, Runs.LeavesOnly, Runs.OneStepOn, Runs.ChangesAt, Runs.ChangesNothing}
 
 -- a crash at the end of a run leaves files that have P
 pub left_now : (old new : DiskState) (P : Files → Type 0) → LeavesOnly old new P → (c : Files) → new.may_leave c → P c

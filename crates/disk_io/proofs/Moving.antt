@@ -1,8 +1,7 @@
 -- The bytes that a loop over a source or a sink moved.
 use Rattle.std.proofs.Common.{◌≡◌, ℕ, ◌+◌, ◌≤◌, List, ◌++◌, Option, length, take, drop, sym, ap, ◌∙◌, subst}
-use Rattle.std.proofs.Math.Seq.{take-add}
+use Rattle.std.proofs.{Math.Seq.take-add, KnownBytes.Appends-trans, KnownBytes.Consumes-trans}
 use Rattle.std.specs.Io.KnownBytes.{Appends, Consumes}
-use Rattle.std.proofs.KnownBytes.{Appends-trans, Consumes-trans}
 use Rattle.disk_io.specs.Device.{counted}
 
 -- the source gave the first n bytes of buf and did not fail

@@ -1,6 +1,5 @@
 -- The parts of a `Buffered` that clauses name.
-use Rattle.std.specs.Prelude.{ℕ, List, Option}
-use Rattle.std.specs.Io.KnownBytes.{prepend_known}
+use Rattle.std.specs.{Prelude.ℕ, Prelude.List, Prelude.Option, Io.KnownBytes.prepend_known}
 use Rattle.disk_io.specs.declared.buffered.Buffered.{Buffered}
 
 -- The source behind the buffer.

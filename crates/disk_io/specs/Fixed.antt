@@ -1,8 +1,7 @@
 -- A source fills a buffer to its end, or reports a reason.
 use Rattle.std.specs.Prelude.{◌≡◌, ℕ, ◌<◌, List, slice_index, Option, Result, Ok, Err}
 use Rattle.std.specs.Io.KnownBytes.{IsAtEnd}
-use Rattle.disk_io.specs.Device.{Failed, FillsFront}
-use Rattle.disk_io.specs.declared.fixed.Broken.{Broken}
+use Rattle.disk_io.specs.{Device.Failed, Device.FillsFront, declared.fixed.Broken.Broken}
 use Rattle.disk_io.specs.declared.fixed.Broken.TheVariants as broken
 
 -- Every number of the list is a byte.

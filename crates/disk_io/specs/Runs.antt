@@ -1,9 +1,6 @@
 -- The effects of calls, and of runs of calls, on a disk.
 use Rattle.std.specs.Prelude.{◌≡◌, ◌≤◌, ◌⊎◌, ℕ, List, Result, IsErrOf}
-use Rattle.disk_io.specs.Device.{Failed}
-use Rattle.disk_io.specs.Disk.{Files, DiskState}
-use Rattle.disk_io.specs.declared.disk_error.DiskError.{DiskError}
-use Rattle.disk_io.specs.declared.disk_error.DiskError.TheVariants.{Device}
+use Rattle.disk_io.specs.{Device.Failed, Disk.Files, Disk.DiskState, declared.disk_error.DiskError.DiskError, declared.disk_error.DiskError.TheVariants.Device}
 
 -- The files that a crash might leave in this state, after one more step.
 abbrev pub OneStepOn : (Files → Files → Type 0) → DiskState → Files → Type 0

@@ -1,9 +1,7 @@
 //! A source with a buffer.
 ghost use Rattle.std.specs.Prelude.{◌≡◌, [], length, ◌<◌, IfOk, OnOk, OnErr};
-ghost use Rattle.std.specs.Io.{ReadsAtMost};
-ghost use Rattle.std.specs.Io.KnownBytes.{Keeps, IsAtEnd, ReadConsumes};
-ghost use Rattle.disk_io.specs.Device.{Failed};
-ghost use Rattle.disk_io.specs.Buffered.{buffered_source, buffered_held, buffered_remaining};
+ghost use Rattle.std.specs.Io.{ReadsAtMost, KnownBytes.Keeps, KnownBytes.IsAtEnd, KnownBytes.ReadConsumes};
+ghost use Rattle.disk_io.specs.{Device.Failed, Buffered.buffered_source, Buffered.buffered_held, Buffered.buffered_remaining};
 
 use crate::ahead::Ahead;
 use crate::failure::Failure;

@@ -1,6 +1,5 @@
 //! Fields of a fixed size, filled whole.
-ghost use Rattle.std.specs.Prelude.{◌≡◌, OnOk, IfErr};
-ghost use Rattle.std.specs.Io.KnownBytes.{Consumes};
+ghost use Rattle.std.specs.{Prelude.◌≡◌, Prelude.OnOk, Prelude.IfErr, Io.KnownBytes.Consumes};
 ghost use Rattle.disk_io.specs.Fixed.{AreBytes, BreaksFilling, CountsBreak};
 
 use crate::failure::Failure;

@@ -1,7 +1,6 @@
 //! The folder of a path.
 ghost use Rattle.std.specs.Prelude.{◌≡◌, ℕ, List, None, OnOk};
-ghost use Rattle.disk_io.specs.Disk.{IsFolder, IsIn};
-ghost use Rattle.disk_io.specs.Runs.{ChangesNothing, HasCause};
+ghost use Rattle.disk_io.specs.{Disk.IsFolder, Disk.IsIn, Runs.ChangesNothing, Runs.HasCause};
 
 use crate::disk::Disk;
 use crate::disk_error::DiskError;

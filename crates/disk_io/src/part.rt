@@ -1,8 +1,6 @@
 //! Reads a part of a file.
 ghost use Rattle.std.specs.Prelude.{◌≡◌, ◌≤◌, ◌<◌, length, take, drop, IfOk, OnOk, IsSome};
-ghost use Rattle.disk_io.specs.Disk.{Honestly, bytes_in};
-ghost use Rattle.disk_io.specs.Part.{HasBytesAt};
-ghost use Rattle.disk_io.specs.Runs.{ChangesNothing, HasCause};
+ghost use Rattle.disk_io.specs.{Disk.Honestly, Disk.bytes_in, Part.HasBytesAt, Runs.ChangesNothing, Runs.HasCause};
 
 use crate::disk::Disk;
 use crate::disk_error::DiskError;

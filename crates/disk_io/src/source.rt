@@ -1,7 +1,6 @@
 //! Readers that count their failures.
 ghost use Rattle.std.specs.Prelude.{◌≡◌, ℕ, ◌+◌, ◌<◌, ◌≤◌, List, length, take, drop, IfSome, IfOk, OnOk, OnErr};
-ghost use Rattle.std.specs.Io.{ReadsAtMost, StartsWith};
-ghost use Rattle.std.specs.Io.KnownBytes.{Consumes, ReadConsumes};
+ghost use Rattle.std.specs.Io.{ReadsAtMost, StartsWith, KnownBytes.Consumes, KnownBytes.ReadConsumes};
 ghost use Rattle.disk_io.specs.Device.{Failed, Fills};
 
 use crate::failure::Failure;

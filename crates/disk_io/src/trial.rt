@@ -1,7 +1,6 @@
 //! A reader or a writer for tests.
 ghost use Rattle.std.specs.Prelude.{◌≡◌, ◌<◌, ◌≤◌, IfOk, IsErr};
-ghost use Rattle.std.specs.Io.{ReadsAtMost, WritesAtMost};
-ghost use Rattle.std.specs.Io.KnownBytes.{Keeps, ReadConsumes, WriteAppends};
+ghost use Rattle.std.specs.Io.{ReadsAtMost, WritesAtMost, KnownBytes.Keeps, KnownBytes.ReadConsumes, KnownBytes.WriteAppends};
 ghost use Rattle.disk_io.specs.Trial.{trial_device, trial_piece, trial_again, trial_interrupted, trial_left, KeepsRules, MovesPiece};
 
 use std::io;

@@ -1,10 +1,7 @@
 //! A source or a sink of any reader or writer.
 ghost use Rattle.std.specs.Prelude.{◌≡◌, ◌≢◌, ◌↔◌, ◌+◌, ◌<◌, [], false, length, IsTrue, IfOk, OnOk, IfErr, OnErr};
-ghost use Rattle.std.specs.Io.{ReadsAtMost, WritesAtMost};
-ghost use Rattle.std.specs.Io.KnownBytes.{Keeps, ReadConsumes, WriteAppends};
-ghost use Rattle.std.specs.IoError.{error_kind};
-ghost use Rattle.disk_io.specs.Device.{Failed, counted};
-ghost use Rattle.disk_io.specs.Watched.{watched_device, watched_failures, watched_holds};
+ghost use Rattle.std.specs.{Io.ReadsAtMost, Io.WritesAtMost, Io.KnownBytes.Keeps, Io.KnownBytes.ReadConsumes, Io.KnownBytes.WriteAppends, IoError.error_kind};
+ghost use Rattle.disk_io.specs.{Device.Failed, Device.counted, Watched.watched_device, Watched.watched_failures, Watched.watched_holds};
 
 use crate::failure::Failure;
 use crate::sink::Sink;

@@ -1,7 +1,6 @@
 -- The bytes that a call read from an input.
 use Rattle.std.proofs.Common.{◌≡◌, ℕ, ◌+◌, ◌-◌, ◌≤◌, List, ◌++◌, length, take, drop, replicate, take_all, Option, ap, ◌∙◌, arith, length-append, length-drop}
-use Rattle.std.proofs.lemmas.List.{length-replicate, length-take}
-use Rattle.std.proofs.Math.Seq.{take-add, take-append_seam}
+use Rattle.std.proofs.{lemmas.List.length-replicate, lemmas.List.length-take, Math.Seq.take-add, Math.Seq.take-append_seam}
 use Rattle.disk_io.specs.Device.{FillsTo}
 use Rattle.disk_system.specs.Input.{ReadsOn}
 

@@ -5,8 +5,7 @@ use mir.Val.{Val, vstruct, vnil}
 use types.Logic.{Logic}
 use types.Kit.{Goal, Item, ‵, Step}
 use denote.Shadow.{pure_i}
-use Rattle.disk_system.specs.declared.trace.Trace.{Trace}
-use Rattle.disk_system.specs.contracts.trace.Trace.{the_row}
+use Rattle.disk_system.specs.{declared.trace.Trace.Trace, contracts.trace.Trace.the_row}
 
 -- the value of each trace at run time
 abbrev pub silence : Val

@@ -1,12 +1,8 @@
 -- A disk after a call, and all files that a crash may then leave.
 use Rattle.std.specs.Prelude.{◌≡◌, ◌≢◌, ◌≤◌, ◌⊎◌, ℕ, suc, cond, List, bytes_eq, Option, None}
 use Rattle.std.proofs.Common.{inl, inr, ◌∙◌, sym, ap, subst}
-use Rattle.std.proofs.Math.Nat.{lt_irrefl}
-use Rattle.std.proofs.lemmas.Bool.{false_from_ne_true}
-use Rattle.std.proofs.lemmas.Slice.Eq.{bytes_eq-Decides}
-use Rattle.disk_io.specs.Disk.{DiskState, Files, IsIn}
-use Rattle.disk_io.specs.Steps.{ChangesFile, RenamesFile}
-use Rattle.disk_io.specs.Runs.{OneStepOn}
+use Rattle.std.proofs.{Math.Nat.lt_irrefl, lemmas.Bool.false_from_ne_true, lemmas.Slice.Eq.bytes_eq-Decides}
+use Rattle.disk_io.specs.{Disk.DiskState, Disk.Files, Disk.IsIn, Steps.ChangesFile, Steps.RenamesFile, Runs.OneStepOn}
 
 -- These files, with another one at this path.
 abbrev pub with_file : List ℕ → Option (List ℕ) → Files → Files

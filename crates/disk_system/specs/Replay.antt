@@ -1,8 +1,7 @@
 -- The calls on files and their answers, and the disk after them.
 use Rattle.std.specs.Prelude.{◌≡◌, ◌≢◌, ◌≤◌, ◌<◌, ℕ, zero, suc, ◌+◌, List, [], ◌∷◌, ◌++◌, length, take, drop, slice_index, Some, None, IsSome}
 use Rattle.std.proofs.Common.{inl, inr}
-use Rattle.disk_io.specs.Disk.{DiskState, Files, bytes_in}
-use Rattle.disk_io.specs.Steps.{TornWrite, TornMaking, TornRemoval, TornNaming}
+use Rattle.disk_io.specs.{Disk.DiskState, Disk.Files, Disk.bytes_in, Steps.TornWrite, Steps.TornMaking, Steps.TornRemoval, Steps.TornNaming}
 use Rattle.disk_system.specs.Next.{answered, changed, named_anew, moved, synced, folder_synced, OtherThan, OrIs, Neither}
 
 -- The numbers of a call, with the answer last, a path, another path, and bytes.

@@ -1,7 +1,6 @@
 ghost use Rattle.std.specs.Prelude.{◌≡◌, ◌≢◌, ◌≤◌, ◌<◌, ◌++◌, length, replicate, IfErr, IfOk, IfSome, IsErrOf, OnOk};
 ghost use Rattle.disk_io.specs.Device.{Failed};
-ghost use Rattle.disk_system.specs.declared.input.InputFault.TheVariants.{Device, Memory, TooLarge};
-ghost use Rattle.disk_system.specs.Input.{ReadsOn};
+ghost use Rattle.disk_system.specs.{declared.input.InputFault.TheVariants.Device, declared.input.InputFault.TheVariants.Memory, declared.input.InputFault.TheVariants.TooLarge, Input.ReadsOn};
 
 use disk_io::{Failure, Source, fill_from};
 use std::alloc::{AllocError, Global};

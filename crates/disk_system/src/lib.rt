@@ -26,10 +26,12 @@ pub use input::{InputFault, read_whole};
 pub use owned::Owned;
 pub use reading::{open_regular, read_file};
 pub use real_disk::RealDisk;
-pub use staging::{Access, access_of, check_left, give_access, make_new};
+pub use staging::{
+    Access, BY_UMASK, OWNER_ALONE, access_of, check_left, give_access, make_new, remove_left,
+};
 pub use start::{NoFiles, Start, Unknown};
 pub use trace::{Call, Trace};
 pub use writing::{
     NewFile, OutputFault, StagedFile, begin_file, create_file, drop_file, flush_folder, flush_path,
-    name_file, target_of,
+    folder_of, name_file, target_of,
 };

@@ -1,8 +1,7 @@
 //! The files of the system, as a disk: each call is made and then noted with its answer.
 ghost use Rattle.std.specs.Prelude.{◌≡◌, [], ◌∷◌, is_ok, if◌then◌else◌, OnOk};
 ghost use Rattle.disk_io.specs.Runs.{ChangesNothing, HasCause};
-ghost use Rattle.disk_system.specs.Noted.{note_of};
-ghost use Rattle.disk_system.specs.Replay.{replay};
+ghost use Rattle.disk_system.specs.{Noted.note_of, Replay.replay};
 
 use crate::start::Start;
 use crate::system::Calls;

@@ -10,8 +10,12 @@ use std::os::unix::fs::{MetadataExt, OpenOptionsExt};
 use std::rt::Files;
 use std::{fs, io};
 
-/// Only the owner may read and write a temporary file, until it gets the mode of the file that it replaces.
-const OWNER_ALONE: u32 = 0o600;
+/// The mode of a file that only its owner may read and write. A temporary file has it until it gets that of the file that
+/// it replaces.
+pub const OWNER_ALONE: u32 = 0o600;
+
+/// The mode of a file that all may use whom the umask does not exclude.
+pub const BY_UMASK: u32 = 0o666;
 
 /// The mode and owner that a file keeps when it is replaced.
 #[derive(Drop)]
@@ -26,19 +30,20 @@ pub(crate) fn staging_name(alloc: Global, path: &str, own: &str) -> Result<Strin
     format!(in alloc; "{path}.~{own}~.new")
 }
 
-/// Makes a new temporary file. It removes the one of a stopped run. Any other file with the name stays, and is
-/// a fault.
+/// Makes a new temporary file of this mode. It removes the one of a stopped run. Any other file with the name stays, and
+/// is a fault.
 pub(crate) fn make_staging<R: Files>(
     alloc: Global,
     files: &R,
     staging: &str,
     start: &[u8],
+    mode: u32,
 ) -> Result<R::File, OutputFault> {
-    match make_new(files, staging) {
+    match make_with(files, staging, mode) {
         Err(error) if error.kind() == ErrorKind::AlreadyExists => {
             check_left(alloc, files, staging, start)?;
             fs::remove_file(files, staging)?;
-            Ok(make_new(files, staging)?)
+            Ok(make_with(files, staging, mode)?)
         }
         made => Ok(made?),
     }
@@ -46,10 +51,15 @@ pub(crate) fn make_staging<R: Files>(
 
 /// Makes a file that was not there, for its owner alone, and follows no link.
 pub fn make_new<R: Files>(files: &R, path: &str) -> io::Result<R::File> {
+    make_with(files, path, OWNER_ALONE)
+}
+
+// The same with this mode.
+fn make_with<R: Files>(files: &R, path: &str, mode: u32) -> io::Result<R::File> {
     OpenOptions::new()
         .write(true)
         .create_new(true)
-        .mode(OWNER_ALONE)
+        .mode(mode)
         .open(files, path)
 }
 
@@ -77,6 +87,15 @@ pub fn check_left<R: Files>(
         Ok(())
     } else {
         Err(OutputFault::Device)
+    }
+}
+
+/// Removes the temporary file of a stopped run, if it is a regular file of this user. One that cannot be removed stays.
+pub fn remove_left<R: Files>(files: &R, path: &str) {
+    if let Ok(found) = fs::symlink_metadata(files, path) {
+        if found.is_file() && is_of_this_user(files, found.uid()) {
+            let _ = fs::remove_file(files, path);
+        }
     }
 }
 

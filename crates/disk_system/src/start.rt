@@ -1,8 +1,7 @@
 //! The assumption about the files before the first call.
 ghost use Rattle.std.specs.Prelude.{List, None};
 ghost use Rattle.disk_io.specs.Disk.{DiskState, Files};
-ghost use Rattle.disk_system.specs.Replay.{Note};
-ghost use Rattle.disk_system.specs.Unknown.{no_files, nothing_known};
+ghost use Rattle.disk_system.specs.{Replay.Note, Unknown.no_files, Unknown.nothing_known};
 
 /// The first files, and the files at paths after a call that failed there, which no code can know. A function
 /// over `S: Start` is proved for all of them.

@@ -1,12 +1,11 @@
 //! Writes whole files. The bytes go to a staging file (`staging`) and are flushed to the disk. Then the file
 //! gets its name at once. If a step fails, the temporary file is removed, and the old file is unchanged.
-ghost use Rattle.std.specs.Prelude.{◌≡◌, take, IfErr, OnOk};
-ghost use Rattle.std.specs.Io.KnownBytes.{Appends};
+ghost use Rattle.std.specs.{Prelude.◌≡◌, Prelude.take, Prelude.IfErr, Prelude.OnOk, Io.KnownBytes.Appends};
 ghost use Rattle.disk_io.specs.Device.{Failed};
 ghost use Rattle.disk_system.specs.declared.writing.OutputFault.TheVariants.{Device, Memory};
 
 use crate::reading::is_missing;
-use crate::staging::{make_staging, staging_name};
+use crate::staging::{OWNER_ALONE, make_staging, staging_name};
 use disk_io::{Failure, Sink, Watched, send};
 use std::alloc::{AllocError, Global};
 use std::fs::OpenFile;
@@ -22,7 +21,7 @@ pub enum OutputFault {
     Memory,
 }
 
-/// A file to be written: its path, its bytes, and how many first bytes show its kind. The temporary name has
+/// A file to be written: its path, its bytes, how many first bytes show its kind, and its mode. The temporary name has
 /// the address of the system that writes it, such as `1.10.2`, so that no other system writes that file.
 #[derive(Clone, Copy)]
 pub struct NewFile<'a> {
@@ -30,6 +29,7 @@ pub struct NewFile<'a> {
     pub own: &'a str,
     pub bytes: &'a [u8],
     pub known_by: usize,
+    pub mode: u32,
 }
 
 impl From<AllocError> for OutputFault {
@@ -65,7 +65,8 @@ pub struct StagedFile<F> {
     staging: String,
 }
 
-/// Begins a new file for this path. Files of its kind begin with `start`. The temporary name has `own`, as in `NewFile`.
+/// Begins a new file for this path, for its owner alone. Files of its kind begin with `start`. The temporary name has
+/// `own`, as in `NewFile`.
 pub fn begin_file<R: Files>(
     alloc: Global,
     files: &R,
@@ -73,8 +74,20 @@ pub fn begin_file<R: Files>(
     own: &str,
     start: &[u8],
 ) -> Result<StagedFile<R::File>, OutputFault> {
+    begin_with(alloc, files, path, own, start, OWNER_ALONE)
+}
+
+// The same with this mode.
+fn begin_with<R: Files>(
+    alloc: Global,
+    files: &R,
+    path: &str,
+    own: &str,
+    start: &[u8],
+    mode: u32,
+) -> Result<StagedFile<R::File>, OutputFault> {
     let staging = staging_name(alloc, path, own)?;
-    let file = make_staging(alloc, files, staging.as_str(), start)?;
+    let file = make_staging(alloc, files, staging.as_str(), start, mode)?;
     Ok(StagedFile {
         device: Watched::new(file),
         staging,
@@ -108,7 +121,7 @@ pub fn create_file<R: Files>(
     new: NewFile<'_>,
 ) -> Result<(), OutputFault> {
     let start = start_of(new.bytes, new.known_by);
-    let mut staged = begin_file(alloc, files, new.path, new.own, start)?;
+    let mut staged = begin_with(alloc, files, new.path, new.own, start, new.mode)?;
     match put_bytes(&mut staged.device, new.bytes) {
         Ok(()) => name_file(files, staged, new.path),
         Err(fault) => {
@@ -138,8 +151,8 @@ fn start_of(bytes: &[u8], known_by: usize) -> &[u8]
     &bytes[..known_by.min(bytes.len())]
 }
 
-// The folder of the file with this path.
-fn folder_of(path: &str) -> &str {
+/// The folder of the file with this path.
+pub fn folder_of(path: &str) -> &str {
     match path.rsplit_once('/') {
         Some(("", _)) => "/",
         Some((folder, _)) => folder,

@@ -1,13 +1,8 @@
 -- Reading a number digit by digit. A value above the cap counts as the cap.
 use Rattle.std.proofs.Common.{◌≡◌, ℕ, ◌+◌, ◌-◌, ◌*◌, ◌<◌, nat_lt, true, false, List, length, get_or, take, min, refl, ap, ◌∙◌, arith, below_more}
-use Rattle.std.specs.Char.{is_ascii_digit}
-use Rattle.std.specs.Str.{all_ascii_digits}
-use Rattle.std.specs.Str.Parse.{digits_value}
-use Rattle.std.proofs.lemmas.Int.Digits.{digits_value_more}
-use Rattle.std.proofs.lemmas.Str.{digit_value_digit}
-use Rattle.std.proofs.lemmas.List.{take_all}
-use Rattle.std.proofs.lemmas.List.Recursion.{and_fails_at, and_from_places}
 use Rattle.std.proofs.lemmas.Bool.{and_parts, and_from, and_right, leb-true, lt-ltb}
+use Rattle.std.proofs.lemmas.{Int.Digits.digits_value_more, Str.digit_value_digit, List.take_all, List.Recursion.and_fails_at, List.Recursion.and_from_places}
+use Rattle.std.specs.{Char.is_ascii_digit, Str.all_ascii_digits, Str.Parse.digits_value}
 use Rattle.echo_addr.specs.Digits.{is_number}
 use Rattle.echo_addr.proofs.Decimals.{IsDigit}
 

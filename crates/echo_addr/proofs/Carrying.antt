@@ -1,10 +1,9 @@
 -- Reading tokens with the net of the nearest pair carried forward is reading them by looking back.
 use Rattle.std.proofs.Common.{◌≡◌, ℕ, ◌+◌, List, [], ◌++◌, refl, arith, Option, None, length, take, zero-add}
 use Rattle.std.proofs.lemmas.List.{length-take, take-append-le}
-use Rattle.std.specs.Option.{is_none}
-use Rattle.std.specs.List.{filter_map, count_by}
-use Rattle.echo_addr.specs.declared.address.NetNode.{NetNode}
+use Rattle.std.specs.{Option.is_none, List.filter_map, List.count_by}
 use Rattle.echo_addr.specs.Entries.{tokens, nearest_net, judged, entries, dropped}
+use Rattle.echo_addr.specs.declared.address.NetNode.{NetNode}
 
 -- the base, the entries found already and those of the remaining tokens make the whole list
 pub record Read (base : List NetNode) (s : List ℕ) (left : List (List ℕ)) (net : Option ℕ) (found : List NetNode) (lost : ℕ) : Type 0 where

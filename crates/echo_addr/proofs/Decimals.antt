@@ -1,15 +1,9 @@
 -- A written number, read again, is the number.
 use Rattle.std.proofs.Common.{◌≡◌, ℕ, ◌^◌, ◌+◌, ◌/◌, ◌%◌, ◌<◌, ◌≤◌, nat_le, true, List, [], ◌∷◌, ◌++◌, length, ap, ◌∙◌, arith, Some}
-use Rattle.std.specs.Int.{IsInRange}
-use Rattle.std.specs.Fmt.{decimal}
-use Rattle.std.specs.List.{AllByRecursion}
-use Rattle.std.specs.Str.{all_ascii_digits}
-use Rattle.std.specs.Str.Parse.{AllDigits, digits_value, IsNumeral}
 use Rattle.std.proofs.lemmas.Str.Parse.{IsNumeralModel, numerals_by_value, tells_all_ascii_digits, digit_from_value}
-use Rattle.std.proofs.lemmas.Fmt.{decimal_is_IsNumeral, decimal_digit, decimal_step}
-use Rattle.std.proofs.lemmas.Bool.{lt-ltb, le-leb, and_from, cond-true}
-use Rattle.echo_addr.specs.Digits.{Writes, is_number, number_within}
-use Rattle.echo_addr.specs.Entries.{part_of}
+use Rattle.std.proofs.lemmas.{Fmt.decimal_is_IsNumeral, Fmt.decimal_digit, Fmt.decimal_step, Bool.lt-ltb, Bool.le-leb, Bool.and_from, Bool.cond-true}
+use Rattle.std.specs.{Int.IsInRange, Fmt.decimal, List.AllByRecursion, Str.all_ascii_digits, Str.Parse.AllDigits, Str.Parse.digits_value, Str.Parse.IsNumeral}
+use Rattle.echo_addr.specs.{Digits.Writes, Digits.is_number, Digits.number_within, Entries.part_of}
 
 -- a decimal digit
 abbrev pub IsDigit : ℕ → Type 0

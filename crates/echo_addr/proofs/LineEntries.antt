@@ -1,8 +1,7 @@
 -- Steps of writing the entries of a line, and of measuring them.
 use Rattle.std.proofs.Common.{◌≡◌, ℕ, suc, ◌+◌, ◌<◌, ◌≤◌, List, ◌++◌, length, get_or, take, drop, refl, sym, ap, ◌∙◌, arith, add-zero, zero-add, add_assoc, Some, None, Option}
 use Rattle.std.proofs.lemmas.List.{append_assoc, append-nil, length-append, drop_more, drop_all, take_all}
-use Rattle.echo_addr.specs.declared.address.NetNode.{NetNode}
-use Rattle.echo_addr.specs.ShortLines.{entry_text, entries_text}
+use Rattle.echo_addr.specs.{declared.address.NetNode.NetNode, ShortLines.entry_text, ShortLines.entries_text}
 
 -- the text already written and the entries from i on make the whole text
 pub record Written (xs : List NetNode) (whole : List ℕ) (i : ℕ) (before : Option ℕ) (text : List ℕ) : Type 0 where

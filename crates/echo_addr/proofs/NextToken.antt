@@ -1,20 +1,13 @@
 -- Cutting bytes into tokens from the left.
 use Rattle.std.proofs.Common.{◌≡◌, ℕ, suc, ◌+◌, ◌-◌, ◌<◌, nat_le, nat_lt, not, cond, Bool, true, false, List, [], ◌∷◌, ◌++◌, length, get_or, take, drop, refl, sym, ap, ◌∙◌, arith, Option, Some, None, inl, inr}
-use Rattle.std.specs.List.{AllByRecursion, position, position_or_len}
-use Rattle.std.specs.Option.{option_or, unwrap_or}
-use Rattle.std.specs.Str.{all_ascii_digits}
 use Rattle.std.proofs.lemmas.List.{take-append-drop, drop_more, drop_all, take_all, take_rest, get_or-take, length-take, length-take-le}
-use Rattle.std.proofs.lemmas.List.Elements.{recursion_from_All}
-use Rattle.std.proofs.lemmas.List.Sums.{fails_before_first, passes_at_first}
 use Rattle.std.proofs.lemmas.Bool.{and_parts, cases_Bool, cases_lt, cond-false, not-true}
-use Rattle.echo_addr.specs.declared.address.NetNode.{NetNode}
-use Rattle.echo_addr.specs.Address.{is_slash}
-use Rattle.echo_addr.specs.Digits.{number_within}
+use Rattle.std.proofs.lemmas.List.{Elements.recursion_from_All, Sums.fails_before_first, Sums.passes_at_first}
+use Rattle.std.specs.{List.AllByRecursion, List.position, List.position_or_len, Option.option_or, Option.unwrap_or, Str.all_ascii_digits}
 use Rattle.echo_addr.specs.Entries.{is_blank, tokens, part_of, entry_from, pair_of}
-use Rattle.echo_addr.proofs.Decimals.{IsDigit, each_digit, own}
-use Rattle.echo_addr.proofs.Each.{weaker}
-use Rattle.echo_addr.proofs.ReadBack.{digit_is_no_slash, entry_from_none, pair_of-hidden}
+use Rattle.echo_addr.specs.{declared.address.NetNode.NetNode, Address.is_slash, Digits.number_within}
 use Rattle.echo_addr.proofs.Tokens.{IsInk, tokens_blank, tokens_one, tokens_more, tokens_nil}
+use Rattle.echo_addr.proofs.{Decimals.IsDigit, Decimals.each_digit, Decimals.own, Each.weaker, ReadBack.digit_is_no_slash, ReadBack.entry_from_none, ReadBack.pair_of-hidden}
 use Rattle.echo_addr.proofs.Positions.{position_or_len-le, position_some, position_none, unwrap_or-position}
 
 -- no blank

@@ -1,17 +1,14 @@
 -- The address that bytes spell, or the refusal that applies.
 use Rattle.std.proofs.Common.{◌≡◌, ◌≢◌, ℕ, ◌==◌, ◌&&◌, not, nat_le, min, cond, Bool, true, false, List, ◌∷◌, ◌++◌, length, refl, sym, ap, ◌∙◌, arith, Option, Some, None, Ok, Err, subst}
-use Rattle.std.specs.Fmt.{decimal}
-use Rattle.std.specs.Int.{IsInRange, is_in_range}
-use Rattle.std.specs.Str.Parse.{IsNumeral, digits_value}
 use Rattle.std.proofs.lemmas.Bool.{and_from, and_parts, cases_Bool, cases_eq, cases_lt, and_right, lt-leb, cond-true, cond-false, eq-eqb, ne_eqb, le-leb, leb-true, ltb-true, not_from_true, not_from_false}
 use Rattle.std.proofs.lemmas.List.{length-append}
-use Rattle.echo_addr.specs.declared.address.Address.{Address}
-use Rattle.echo_addr.specs.declared.fault.AddrFault.{AddrFault}
+use Rattle.std.specs.{Fmt.decimal, Int.IsInRange, Int.is_in_range, Str.Parse.IsNumeral, Str.Parse.digits_value}
+use Rattle.echo_addr.specs.Address.{IsAddress, AddressOf, address_text, has_shape, has_digits, is_in_bounds, zone_part, net_part, node_part, refusal, address_in, address_within, answer_of, outcome}
+use Rattle.echo_addr.specs.declared.{address.Address.Address, fault.AddrFault.AddrFault}
 use Rattle.echo_addr.specs.declared.fault.AddrFault.TheVariants.{Empty, Shape, NotDigits, OutOfRange}
 use Rattle.echo_addr.specs.Digits.{is_number}
-use Rattle.echo_addr.specs.Address.{IsAddress, AddressOf, address_text, has_shape, has_digits, is_in_bounds, zone_part, net_part, node_part, refusal, address_in, address_within, answer_of, outcome}
-use Rattle.echo_addr.proofs.Decimals.{own, is_number-writes, writes_decimal}
 use Rattle.echo_addr.proofs.Shapes.{Spelled, spelled_shape, spelled_zone, spelled_net, spelled_node, shape_parts}
+use Rattle.echo_addr.proofs.Decimals.{own, is_number-writes, writes_decimal}
 
 -- each refusal, if no earlier one applies
 pub refusal_empty : (b : List ℕ) → length b ≡ 0 → refusal b ≡ Some Empty

@@ -1,8 +1,7 @@
 -- Pieces of bytes, without an empty last piece.
 use Rattle.std.proofs.Common.{◌≡◌, ℕ, ◌<◌, ◌==◌, Bool, List, [], ◌∷◌, length, refl, sym, ap, ◌∙◌, arith, inl, inr}
+use Rattle.std.proofs.lemmas.{List.Splits.slice_split-cons_no, List.Splits.slice_split-cons_yes, Bool.cases_Bool, Bool.cond-false, Bool.ne_eqb}
 use Rattle.std.specs.List.{onto_first, slice_split}
-use Rattle.std.proofs.lemmas.List.Splits.{slice_split-cons_no, slice_split-cons_yes}
-use Rattle.std.proofs.lemmas.Bool.{cases_Bool, cond-false, ne_eqb}
 use Rattle.echo_addr.specs.Pieces.{without_empty_last}
 
 -- a split has a first piece

@@ -1,20 +1,14 @@
 -- A written list reads back as itself.
 use Rattle.std.proofs.Common.{◌≡◌, ℕ, ◌^◌, ◌<◌, ◌≤◌, cond, true, false, List, [], ◌∷◌, ◌++◌, length, map, refl, sym, ap, zero-add, ◌∙◌, arith, Some, None, Option, inl, inr}
-use Rattle.std.specs.Fmt.{decimal}
-use Rattle.std.specs.Option.{is_none}
-use Rattle.std.specs.List.{All, AllByRecursion, flat_map, filter_map, count_by, before_first}
-use Rattle.std.proofs.lemmas.List.{length-append}
-use Rattle.std.proofs.lemmas.List.Elements.{recursion_from_All}
-use Rattle.std.proofs.lemmas.List.Sums.{sum_by-cons}
-use Rattle.std.proofs.lemmas.Fmt.{decimal_nonempty}
 use Rattle.std.proofs.lemmas.Bool.{ne_eqb, eqb-true, cases_Bool, or_from, cond-true, cond-false, not-false}
-use Rattle.echo_addr.specs.declared.address.NetNode.{NetNode}
-use Rattle.echo_addr.specs.Address.{is_slash}
+use Rattle.std.proofs.lemmas.{List.length-append, List.Elements.recursion_from_All, List.Sums.sum_by-cons, Fmt.decimal_nonempty}
+use Rattle.std.specs.List.{All, AllByRecursion, flat_map, filter_map, count_by, before_first}
+use Rattle.std.specs.{Fmt.decimal, Option.is_none}
 use Rattle.echo_addr.specs.Entries.{is_blank, tokens, part_of, entry_from, pair_of, nearest_net, entry_of, judged, entries, dropped}
 use Rattle.echo_addr.specs.ShortLines.{shows_net, entry_token, entries_text, line_of, IsNetNode, IsEntryByte, ShortLines, ReadBack}
-use Rattle.echo_addr.proofs.Decimals.{IsDigit, digits_of_decimal, part_of-decimal}
-use Rattle.echo_addr.proofs.Each.{weaker, joined, apart}
+use Rattle.echo_addr.specs.{declared.address.NetNode.NetNode, Address.is_slash}
 use Rattle.echo_addr.proofs.Tokens.{IsInk, IsEnded, tokens_cons, tokens_nil, before_slash, after_slash, after_no_slash}
+use Rattle.echo_addr.proofs.{Decimals.IsDigit, Decimals.digits_of_decimal, Decimals.part_of-decimal, Each.weaker, Each.joined, Each.apart}
 
 pub digit_is_no_slash : (b : ℕ) → IsDigit b → is_slash b ≡ false
 digit_is_no_slash b h = ne_eqb b 47 (λ e. omega (arith, h.0))

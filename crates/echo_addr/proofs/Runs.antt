@@ -1,10 +1,10 @@
 -- Runs of entries that fill a line: how to add one in front, and that a list has one cut into them.
 use Rattle.std.proofs.Common.{◌≡◌, ℕ, ◌+◌, ◌-◌, ◌<◌, ◌≤◌, List, [], ◌∷◌, ◌++◌, length, take, drop, refl, sym, ap, ◌∙◌, arith, Some, None, Option, inl, inr, subst}
-use Rattle.std.specs.List.{flat_map}
 use Rattle.std.proofs.lemmas.List.{append_assoc, length-append, take-append-drop, take-append-le, take_at, drop_at, take_more, drop_more, drop_all, length-take-le, append-nil, nil_from_length}
 use Rattle.std.proofs.lemmas.Bool.{cases_lt}
-use Rattle.echo_addr.specs.declared.address.NetNode.{NetNode}
+use Rattle.std.specs.List.{flat_map}
 use Rattle.echo_addr.specs.ShortLines.{line_room, entry_text, entries_text, line_front, line_of, IsFull, AddsLines, AreRuns, ShortLines}
+use Rattle.echo_addr.specs.declared.address.NetNode.{NetNode}
 
 -- an entry to read past the end of a list
 abbrev nowhere : NetNode

@@ -1,14 +1,12 @@
 -- The shape of an address, and the parts that it has.
 use Rattle.std.proofs.Common.{◌≡◌, ℕ, ◌+◌, ◌-◌, ◌<◌, ◌==◌, ◌&&◌, nat_lt, cond, not, Bool, true, false, List, [], ◌∷◌, ◌++◌, length, get_or, take, drop, refl, sym, ap, ◌∙◌, arith, None, append_assoc, inl, inr}
-use Rattle.std.specs.List.{AllByRecursion, position, position_or_len, count_by, slice_range}
 use Rattle.std.proofs.lemmas.Bool.{and_left, and_right, and_from, and_parts, le-ltb, lt-ltb, ltb-true, ne_eqb, eq-eqb, eqb-true, cases_lt}
 use Rattle.std.proofs.lemmas.List.{take_at, drop_at, length-append, drop-drop, drop_more, take-append-drop}
 use Rattle.std.proofs.lemmas.List.Sums.{sum_by-cons, sum_by-append, passes_at_first}
+use Rattle.std.specs.List.{AllByRecursion, position, position_or_len, count_by, slice_range}
 use Rattle.std.specs.Str.Parse.{IsNumeral}
 use Rattle.echo_addr.specs.Address.{is_colon, is_slash, has_shape, zone_part, net_part, node_part}
-use Rattle.echo_addr.proofs.Decimals.{IsDigit, each_digit}
-use Rattle.echo_addr.proofs.Each.{weaker, joined}
-use Rattle.echo_addr.proofs.Positions.{position_or_len-le, position_none, count_none}
+use Rattle.echo_addr.proofs.{Decimals.IsDigit, Decimals.each_digit, Each.weaker, Each.joined, Positions.position_or_len-le, Positions.position_none, Positions.count_none}
 
 pub no_colon : (b : List ℕ) → position is_colon b ≡ None → has_shape b ≡ false
 no_colon b none = grind (arith, position_none, position_or_len-le, and_right, le-ltb)

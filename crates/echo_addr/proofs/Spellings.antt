@@ -1,13 +1,9 @@
 -- Each list of entries has a spelling in short lines.
 use Rattle.std.proofs.Common.{◌≡◌, ℕ, zero, suc, ◌+◌, ◌-◌, ◌<◌, ◌≤◌, List, [], ◌∷◌, ◌++◌, length, take, drop, arith, None, inl, inr}
-use Rattle.std.specs.Fmt.{decimal}
-use Rattle.std.specs.List.{All}
-use Rattle.std.proofs.lemmas.Fmt.{length-decimal-le}
-use Rattle.std.proofs.lemmas.List.{length-append, length-drop}
-use Rattle.std.proofs.lemmas.List.Elements.{All-head, All-drop}
-use Rattle.std.proofs.lemmas.Bool.{cases_lt}
-use Rattle.echo_addr.specs.declared.address.NetNode.{NetNode}
+use Rattle.std.proofs.lemmas.{Fmt.length-decimal-le, List.length-append, List.length-drop, List.Elements.All-head, List.Elements.All-drop, Bool.cases_lt}
+use Rattle.std.specs.{Fmt.decimal, List.All}
 use Rattle.echo_addr.specs.ShortLines.{line_room, entry_text, entries_text, line_of, IsNetNode, ShortLines}
+use Rattle.echo_addr.specs.declared.address.NetNode.{NetNode}
 use Rattle.echo_addr.proofs.Runs.{ShortLines-cons, ShortLines-nil}
 
 -- how many bytes the first k entries take

@@ -1,13 +1,9 @@
 -- Cutting bytes at blanks, and a token at its slash.
 use Rattle.std.proofs.Common.{◌≡◌, ℕ, ◌+◌, ◌<◌, nat_lt, not, cond, true, false, List, [], ◌∷◌, ◌++◌, length, take, refl, ap, ◌∙◌, arith}
+use Rattle.std.proofs.{Math.Seq.drop-append-add, lemmas.List.append-nil, lemmas.List.take_at, lemmas.List.drop_all, lemmas.List.Elements.All-from_recursion}
+use Rattle.std.proofs.lemmas.{List.Splits.slice_split_none, List.Splits.slice_split_at, Bool.lt-ltb, Bool.cond-true}
 use Rattle.std.specs.List.{filter, slice_split, AllByRecursion, position_or_len, before_first, after_first}
-use Rattle.std.proofs.Math.Seq.{drop-append-add}
-use Rattle.std.proofs.lemmas.List.{append-nil, take_at, drop_all}
-use Rattle.std.proofs.lemmas.List.Elements.{All-from_recursion}
-use Rattle.std.proofs.lemmas.List.Splits.{slice_split_none, slice_split_at}
-use Rattle.std.proofs.lemmas.Bool.{lt-ltb, cond-true}
-use Rattle.echo_addr.specs.Address.{is_slash}
-use Rattle.echo_addr.specs.Entries.{is_blank, tokens}
+use Rattle.echo_addr.specs.{Address.is_slash, Entries.is_blank, Entries.tokens}
 
 -- a byte that is no blank
 abbrev pub IsInk : ℕ → Type 0

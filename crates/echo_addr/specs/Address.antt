@@ -1,11 +1,8 @@
 -- The text of an address, and the reasons to refuse other bytes.
 use Rattle.std.specs.Prelude.{◌≡◌, ℕ, ◌+◌, ◌==◌, ◌&&◌, not, nat_lt, Bool, List, ◌∷◌, ◌++◌, length, decimal, codes, Option, Some, None, if◌then◌else◌, Result, Ok, Err}
 use Rattle.std.specs.List.{count_by, position_or_len, before_first, after_first, slice_range}
-use Rattle.std.specs.Int.{IsInRange, is_in_range}
-use Rattle.std.specs.Str.Parse.{digits_value}
-use Rattle.echo_addr.specs.declared.address.Address.{Address}
-use Rattle.echo_addr.specs.declared.address.NetNode.{NetNode}
-use Rattle.echo_addr.specs.declared.fault.AddrFault.{AddrFault}
+use Rattle.std.specs.{Int.IsInRange, Int.is_in_range, Str.Parse.digits_value}
+use Rattle.echo_addr.specs.declared.{address.Address.Address, address.NetNode.NetNode, fault.AddrFault.AddrFault}
 use Rattle.echo_addr.specs.declared.fault.AddrFault.TheVariants.{Empty, Shape, NotDigits, OutOfRange}
 use Rattle.echo_addr.specs.Digits.{Writes, is_number}
 

@@ -1,7 +1,6 @@
 -- Decimal numbers in addresses and lists. Leading zeros are allowed.
 use Rattle.std.specs.Prelude.{◌≡◌, ℕ, nat_lt, nat_le, ◌&&◌, Bool, List, length, Option, Some, None, if◌then◌else◌}
-use Rattle.std.specs.Str.{all_ascii_digits}
-use Rattle.std.specs.Str.Parse.{IsNumeral, digits_value}
+use Rattle.std.specs.Str.{all_ascii_digits, Parse.IsNumeral, Parse.digits_value}
 
 -- One decimal digit or more, which spell the number.
 pub record Writes (digits : List ℕ) (n : ℕ) : Type 0 where

@@ -1,10 +1,7 @@
 -- The entries of a SEEN-BY or PATH line, in the bytes after its colon (FTS-0004).
 use Rattle.std.specs.Prelude.{ℕ, ◌==◌, ◌||◌, nat_lt, Bool, List, [], ◌∷◌, length, Option, Some, None, is_none, count_by, filter}
-use Rattle.std.specs.Option.{option_or, option_map}
-use Rattle.std.specs.List.{slice_split, before_first, after_first, filter_map}
-use Rattle.echo_addr.specs.declared.address.NetNode.{NetNode}
-use Rattle.echo_addr.specs.Address.{is_slash}
-use Rattle.echo_addr.specs.Digits.{number_within}
+use Rattle.std.specs.{Option.option_or, Option.option_map, List.slice_split, List.before_first, List.after_first, List.filter_map}
+use Rattle.echo_addr.specs.{declared.address.NetNode.NetNode, Address.is_slash, Digits.number_within}
 
 -- A blank: 20, 09 or 0A.
 abbrev pub is_blank : ℕ → Bool

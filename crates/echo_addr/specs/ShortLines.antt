@@ -1,9 +1,7 @@
 -- SEEN-BY and PATH lines with shortened nets, as the tosser writes them (FTS-0004).
 use Rattle.std.specs.Prelude.{◌≡◌, ℕ, ◌==◌, ◌^◌, ◌<◌, ◌≤◌, ◌⊎◌, ⊤, Bool, true, not, if◌then◌else◌, List, [], ◌∷◌, ◌++◌, length, decimal, codes, Option, Some, None}
 use Rattle.std.specs.List.{flat_map, AllByRecursion}
-use Rattle.echo_addr.specs.declared.address.NetNode.{NetNode}
-use Rattle.echo_addr.specs.Address.{net_node_text}
-use Rattle.echo_addr.specs.Entries.{entries, dropped}
+use Rattle.echo_addr.specs.{declared.address.NetNode.NetNode, Address.net_node_text, Entries.entries, Entries.dropped}
 
 -- The most bytes of a line before its 0D.
 abbrev pub line_room : ℕ

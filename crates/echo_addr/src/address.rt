@@ -1,8 +1,7 @@
 ghost use Rattle.std.specs.Prelude.{◌≡◌, ◌↔◌, ◌&&◌, false, min, IsNone, IfSome};
 ghost use Rattle.std.specs.Str.Parse.{digits_value};
-ghost use Rattle.echo_addr.specs.Digits.{is_number};
 ghost use Rattle.echo_addr.specs.Address.{AddressOf, address_text, address_within, has_shape, net_node_of, net_node_text, net_part, node_part, outcome, refusal, zone_part};
-ghost use Rattle.echo_addr.specs.declared.fault.AddrFault.{AddrFault};
+ghost use Rattle.echo_addr.specs.{Digits.is_number, declared.fault.AddrFault.AddrFault};
 
 use crate::digits::number;
 use crate::fault::AddrFault;

@@ -1,7 +1,6 @@
 //! Values in ascending order, each once.
 
-ghost use Rattle.std.specs.Prelude.{◌≡◌, ◌↔◌, true, Contains};
-ghost use Rattle.std.specs.List.Sorted.{IsStrictlySortedBy};
+ghost use Rattle.std.specs.{Prelude.◌≡◌, Prelude.◌↔◌, Prelude.true, Prelude.Contains, List.Sorted.IsStrictlySortedBy};
 
 /// Puts the values in ascending order and leaves out repeats. Takes no memory.
 pub fn put_in_order<T: Ord + Drop>(values: &mut Vec<T>)

@@ -1,7 +1,6 @@
 ghost use Rattle.std.specs.Prelude.{◌≡◌, ◌↔◌, List, [], IsTrue, length};
-ghost use Rattle.std.specs.Cmp.Lexicographic.{pointwise, lists_per, lists_equiv};
+ghost use Rattle.std.specs.{Cmp.Lexicographic.pointwise, Cmp.Lexicographic.lists_per, Cmp.Lexicographic.lists_equiv, Hash.items_Alike};
 ghost use Rattle.std.specs.Hash as fed;
-ghost use Rattle.std.specs.Hash.{items_Alike};
 
 use std::convert::AsSlice;
 use std::fmt;

@@ -3,9 +3,7 @@
 
 ghost use Rattle.std.specs.Prelude.{◌≡◌, ◌≤◌, ◌↔◌, ℕ, List, [], length, All};
 ghost use Rattle.std.specs.Ordering.{nat_cmp, ordering_then};
-ghost use Rattle.echo_addr.specs.declared.address.Address.{Address};
-ghost use Rattle.echo_addr.specs.declared.address.NetNode.{NetNode};
-ghost use Rattle.echo_addr.specs.Address.{AddressOf, IsAddress, address_text};
+ghost use Rattle.echo_addr.specs.{declared.address.Address.Address, declared.address.NetNode.NetNode, Address.AddressOf, Address.IsAddress, Address.address_text};
 ghost use Rattle.echo_addr.specs.ShortLines.{IsNetNode, ReadBack, ShortLines};
 
 use crate::address::Address;

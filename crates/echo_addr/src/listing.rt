@@ -1,6 +1,5 @@
 ghost use Rattle.std.specs.Prelude.{◌≡◌, ◌<◌, [], ◌∷◌, ◌++◌, drop, length, take, not, position, Some, MatchOption, IfOk, IfSome, OnOk, OnErr};
-ghost use Rattle.std.specs.List.{position_or_len};
-ghost use Rattle.std.specs.Option.{option_or};
+ghost use Rattle.std.specs.{List.position_or_len, Option.option_or};
 ghost use Rattle.echo_addr.specs.Entries.{dropped, entries, entry_from, is_blank, pair_of, part_of, tokens};
 
 use crate::address::NetNode;

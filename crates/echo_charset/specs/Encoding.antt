@@ -1,8 +1,7 @@
 -- Texts in the bytes of a charset.
 use Rattle.std.specs.Prelude.{ℕ, ◌≡◌, ◌<◌, ◌⊎◌, false, Contains, List}
 use Rattle.std.specs.Str.{chars}
-use Rattle.echo_charset.specs.declared.charset.Charset.{Charset}
-use Rattle.echo_charset.specs.Charset.{character, is_utf8}
+use Rattle.echo_charset.specs.{declared.charset.Charset.Charset, Charset.character, Charset.is_utf8}
 
 -- No byte of the charset is this character. U+FFFD marks a missing character and is never encoded.
 abbrev pub IsLacked : Charset → ℕ → Type 0

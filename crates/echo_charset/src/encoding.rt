@@ -1,7 +1,6 @@
 //! A text as the bytes of a charset.
 ghost use Rattle.std.specs.Prelude.{◌≡◌, ◌+◌, ◌<◌, ◌≤◌, IfOk, MatchOption};
-ghost use Rattle.echo_charset.specs.Charset.{character as byte_char, characters, decoded_text};
-ghost use Rattle.echo_charset.specs.Encoding.{IsLacked, Lacks, LacksOne};
+ghost use Rattle.echo_charset.specs.{Charset.character as byte_char, Charset.characters, Charset.decoded_text, Encoding.IsLacked, Encoding.Lacks, Encoding.LacksOne};
 
 use crate::charset::Charset;
 use std::alloc::{AllocError, Global};

@@ -2,10 +2,7 @@
 use Rattle.std.specs.Prelude.{ℕ, List}
 use Rattle.echo_charset.specs.Losses.{lost}
 use Rattle.echo_filed.specs.Filed.{Filed}
-use Rattle.echo_export.specs.declared.form.Form.{Form}
-use Rattle.echo_export.specs.declared.form.Form.TheVariants.{Json, Mailbox}
-use Rattle.echo_export.specs.declared.json_line.State.{State}
-use Rattle.echo_export.specs.JsonLine.{json_line}
+use Rattle.echo_export.specs.{declared.form.Form.Form, declared.form.Form.TheVariants.Json, declared.form.Form.TheVariants.Mailbox, declared.json_line.State.State, JsonLine.json_line}
 use Rattle.echo_export.specs.MailText.{mail_lost, mail_text}
 
 -- The message of this number in a form.

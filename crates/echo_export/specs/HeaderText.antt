@@ -1,10 +1,8 @@
 -- Header lines of a mail (RFC 5322, RFC 2047).
 use Rattle.std.specs.Prelude.{ℕ, ◌-◌, ◌/◌, ◌%◌, ◌==◌, ◌&&◌, ◌||◌, not, nat_le, Bool, false, List, [], ◌∷◌, ◌++◌, codes, slice_index, bytes_eq, if◌then◌else◌, Option, Some, None}
-use Rattle.std.specs.List.{list_all}
-use Rattle.std.specs.Int.{is_in_range}
+use Rattle.std.specs.{List.list_all, Int.is_in_range}
 use Rattle.hex.specs.Hex.{encode_lower, upper_digits}
-use Rattle.echo_charset.specs.declared.charset.Charset.{Charset}
-use Rattle.echo_charset.specs.Charset.{decoded_text}
+use Rattle.echo_charset.specs.{declared.charset.Charset.Charset, Charset.decoded_text}
 use Rattle.echo_text.specs.Lines.{trimmed}
 
 -- The bytes of a message in its mail: UTF-8, or unchanged if the program does not know the charset.

@@ -3,15 +3,11 @@ use Rattle.std.specs.Prelude.{ℕ, List, [], ◌∷◌, ◌++◌, codes, decimal
 use Rattle.std.specs.List.{flat_map}
 use Rattle.json.specs.Token.{Token, begin_array, begin_object, end_array, end_object, key, null, number, string}
 use Rattle.json.specs.Print.{print}
-use Rattle.echo_addr.specs.declared.address.NetNode.{NetNode}
-use Rattle.echo_addr.specs.Address.{address_text, net_node_text}
-use Rattle.echo_charset.specs.declared.charset.Charset.{Charset}
-use Rattle.echo_charset.specs.declared.charset.Charset.TheVariants.{Ascii, Latin1}
-use Rattle.echo_charset.specs.Charset.{charset_name}
+use Rattle.echo_addr.specs.{declared.address.NetNode.NetNode, Address.address_text, Address.net_node_text}
+use Rattle.echo_charset.specs.{declared.charset.Charset.Charset, declared.charset.Charset.TheVariants.Ascii, declared.charset.Charset.TheVariants.Latin1, Charset.charset_name}
 use Rattle.echo_filed.specs.Filed.{Filed}
 use Rattle.echo_text.specs.Echo.{EchoText, msgid_of, origin_of, reply_of, tear_of}
-use Rattle.echo_export.specs.declared.json_line.State.{State}
-use Rattle.echo_export.specs.declared.json_line.State.TheVariants.{Purged, Scanned, Waiting}
+use Rattle.echo_export.specs.declared.json_line.State.{State, TheVariants.Purged, TheVariants.Scanned, TheVariants.Waiting}
 use Rattle.echo_export.specs.Label.{charset_for, label_of, text_as, without_zeros}
 
 -- A string, or null if it is absent.

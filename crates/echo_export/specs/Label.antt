@@ -2,9 +2,7 @@
 use Rattle.std.specs.Prelude.{ℕ, ◌-◌, ◌==◌, nat_eq, not, Bool, List, [], ◌∷◌, length, take, drop, codes, Option, Some, None, if◌then◌else◌, unwrap_or}
 use Rattle.std.specs.List.{prefix_len, starts_with, suffix_len}
 use Rattle.echo_addr.specs.Entries.{is_blank}
-use Rattle.echo_charset.specs.declared.charset.Charset.{Charset}
-use Rattle.echo_charset.specs.declared.charset.Charset.TheVariants.{Cp437, Latin1}
-use Rattle.echo_charset.specs.Charset.{decoded_text, named}
+use Rattle.echo_charset.specs.{declared.charset.Charset.Charset, declared.charset.Charset.TheVariants.Cp437, declared.charset.Charset.TheVariants.Latin1, Charset.decoded_text, Charset.named}
 use Rattle.echo_text.specs.Lines.{trimmed}
 
 -- The first bytes of a charset line.

@@ -1,14 +1,11 @@
 -- A message as one of a mailbox (RFC 4155).
 use Rattle.std.specs.Prelude.{ℕ, ◌+◌, ◌-◌, ◌*◌, ◌==◌, ◌&&◌, ◌||◌, nat_eq, nat_le, Bool, true, List, [], ◌∷◌, ◌++◌, bytes_eq, codes, decimal, length, slice_index, slice_range, take, if◌then◌else◌, Option, None}
-use Rattle.std.specs.List.{flat_map, list_any, starts_with}
-use Rattle.std.specs.Int.{is_in_range}
-use Rattle.echo_addr.specs.declared.address.NetNode.{NetNode}
-use Rattle.echo_addr.specs.Address.{net_node_text}
-use Rattle.echo_charset.specs.declared.charset.Charset.{Charset}
-use Rattle.echo_charset.specs.Losses.{lost}
+use Rattle.std.specs.{List.flat_map, List.list_any, List.starts_with, Int.is_in_range}
+use Rattle.echo_addr.specs.{declared.address.NetNode.NetNode, Address.net_node_text}
+use Rattle.echo_charset.specs.{declared.charset.Charset.Charset, Losses.lost}
 use Rattle.echo_filed.specs.Filed.{Filed}
-use Rattle.echo_text.specs.Lines.{after_feeds, is_control}
 use Rattle.echo_text.specs.Echo.{EchoText, msgid_of, origin_of, reply_of, tear_of}
+use Rattle.echo_text.specs.Lines.{after_feeds, is_control}
 use Rattle.echo_export.specs.HeaderText.{field_line, found_line, id_line, mail_bytes, mail_charset, name_line}
 use Rattle.echo_export.specs.Label.{charset_for, label_of, without_zeros}
 

@@ -4,8 +4,7 @@ ghost use Rattle.std.specs.List.{flat_map};
 ghost use Rattle.json.specs.Token.{key, string};
 ghost use Rattle.echo_addr.specs.Address.{net_node_text};
 ghost use Rattle.echo_text.specs.Lines.{lines};
-ghost use Rattle.echo_export.specs.JsonLine.{array_of, entries_member, list_members};
-ghost use Rattle.echo_export.specs.Label.{text_as};
+ghost use Rattle.echo_export.specs.{JsonLine.array_of, JsonLine.entries_member, JsonLine.list_members, Label.text_as};
 
 use crate::label::text_as;
 use crate::members::write_number;

@@ -1,20 +1,13 @@
 -- No byte of a written text is 00.
 use Rattle.std.proofs.Common.{◌≡◌, ◌≢◌, ℕ, not, nat_lt, nat_le, true, false, List, [], ◌∷◌, ◌++◌, refl, sym, subst, arith, inl, inr}
-use Rattle.std.specs.Prelude.{All}
-use Rattle.std.specs.Int.{is_in_range}
-use Rattle.std.specs.List.{AllByRecursion, flat_map, list_all, list_any}
 use Rattle.std.proofs.lemmas.Bool.{and_parts, leb-true, ltb-true, ne_eqb, or_from}
 use Rattle.std.proofs.lemmas.List.Elements.{recursion_from_All}
-use Rattle.echo_addr.specs.declared.address.NetNode.{NetNode}
-use Rattle.echo_addr.specs.ShortLines.{IsEntryByte, IsNetNode, ShortLines, line_of}
+use Rattle.std.specs.{Prelude.All, Int.is_in_range, List.AllByRecursion, List.flat_map, List.list_all, List.list_any}
+use Rattle.echo_addr.specs.{declared.address.NetNode.NetNode, ShortLines.IsEntryByte, ShortLines.IsNetNode, ShortLines.ShortLines, ShortLines.line_of}
 use Rattle.echo_addr.proofs.ReadBack.{read_back}
-use Rattle.echo_text.specs.Lines.{is_tag_byte}
-use Rattle.echo_text.specs.Echo.{EchoText, IsEcho, IsLine, ended}
-use Rattle.echo_text.specs.Ids.{is_zero}
+use Rattle.echo_text.specs.{Lines.is_tag_byte, Echo.EchoText, Echo.IsEcho, Echo.IsLine, Echo.ended, Ids.is_zero}
 use Rattle.echo_filed.specs.Written.{short_lines, text_of}
-use Rattle.echo_filed.proofs.Choices.{all_weaker}
-use Rattle.echo_filed.proofs.Plain.{IsLineByte, all_append}
-use Rattle.echo_filed.proofs.Runs.{path_short, seen_short}
+use Rattle.echo_filed.proofs.{Choices.all_weaker, Plain.IsLineByte, Plain.all_append, Runs.path_short, Runs.seen_short}
 
 abbrev pub IsSomeByte : ℕ → Type 0
 IsSomeByte b = b ≢ 0

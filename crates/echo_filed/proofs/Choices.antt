@@ -1,8 +1,7 @@
 -- Cases of tests, and lists by their first element.
 use Rattle.std.proofs.Common.{◌≡◌, ℕ, suc, zero, ◌<◌, Bool, true, false, if◌then◌else◌, List, [], ◌∷◌, length, get_or, sym, subst, ◌⊎◌, inl, inr, arith, Some, map}
-use Rattle.std.specs.Prelude.{Contains, find}
 use Rattle.std.proofs.lemmas.Bool.{cond_both}
-use Rattle.std.specs.List.{AllByRecursion}
+use Rattle.std.specs.{Prelude.Contains, Prelude.find, List.AllByRecursion}
 
 -- one of three choices
 pub of_three : {A : Type 0} (P : A → Type 0) (p q : Bool) (a b c : A)

@@ -1,8 +1,6 @@
 -- The comparison that is derived for keys is the test of the definitions.
 use Rattle.std.proofs.Common.{◌≡◌, ◌↔◌, Bool, true, sym, ◌∙◌, arith}
-use Rattle.echo_filed.specs.contracts.key.KeyPartialEq.TheImpl.{eq-value}
-use Rattle.echo_filed.specs.declared.key.Key.{Key}
-use Rattle.echo_filed.specs.Filed.{same_key}
+use Rattle.echo_filed.specs.{contracts.key.KeyPartialEq.TheImpl.eq-value, declared.key.Key.Key, Filed.same_key}
 use Rattle.echo_filed.proofs.Keys.{same_key_decides}
 
 abbrev pub derived : Key → Key → Bool

@@ -1,17 +1,11 @@
 -- Equal keys, and the messages after a purge.
 use Rattle.std.proofs.Common.{◌≡◌, ℕ, ◌<◌, Bool, true, nat_lt, List, [], ◌∷◌, length, map, refl, ap, subst, Option, Some, None, arith}
-use Rattle.std.specs.Prelude.{bytes_eq, filter}
-use Rattle.std.specs.List.{AllByRecursion}
-use Rattle.std.specs.Cmp.Lexicographic.{pointwise, pointwise_decides, bytes_decides}
 use Rattle.std.proofs.lemmas.Bool.{and_from, and_parts, cond-true, ltb-true, lt-ltb, false≢true}
-use Rattle.echo_text.specs.Lines.{after_word, begins, msgid_word, trimmed}
-use Rattle.echo_text.specs.Echo.{msgid_of}
-use Rattle.echo_filed.specs.declared.key.Key.{Key}
-use Rattle.echo_filed.specs.declared.key.Key.TheVariants.{ByContent, ById}
+use Rattle.std.specs.{Prelude.bytes_eq, Prelude.filter, List.AllByRecursion, Cmp.Lexicographic.pointwise, Cmp.Lexicographic.pointwise_decides, Cmp.Lexicographic.bytes_decides}
+use Rattle.echo_text.specs.{Lines.after_word, Lines.begins, Lines.msgid_word, Lines.trimmed, Echo.msgid_of}
 use Rattle.echo_filed.specs.Filed.{Filed, id_line, key_of, key_with, same_key}
-use Rattle.echo_filed.specs.Stubs.{stub_of, stub_with}
-use Rattle.echo_filed.proofs.Choices.{found_is}
-use Rattle.echo_filed.proofs.Trims.{IsTrim, after_blank, trimmed_trim}
+use Rattle.echo_filed.specs.{declared.key.Key.Key, declared.key.Key.TheVariants.ByContent, declared.key.Key.TheVariants.ById, Stubs.stub_of, Stubs.stub_with}
+use Rattle.echo_filed.proofs.{Choices.found_is, Trims.IsTrim, Trims.after_blank, Trims.trimmed_trim}
 
 pub lines_decide : (a b : List (List ℕ)) → (pointwise bytes_eq a b ≡ true → a ≡ b) × (a ≡ b → pointwise bytes_eq a b ≡ true)
 lines_decide = pointwise_decides bytes_decides

@@ -1,12 +1,9 @@
 -- A message that a purge changes, after the purge.
 use Rattle.std.proofs.Common.{◌≡◌, ℕ, false, List, [], ◌∷◌, Option, Some, None, refl, sym, ap, ◌∙◌}
-use Rattle.std.specs.Prelude.{option_copied, unwrap_or}
-use Rattle.std.specs.Borrow.{Bor}
 use Rattle.std.proofs.lemmas.Bool.{true≢false}
-use Rattle.echo_text.specs.Lines.{msgid_word}
-use Rattle.echo_text.specs.Echo.{msgid_of}
-use Rattle.echo_filed.specs.Filed.{Filed, id_line}
-use Rattle.echo_filed.specs.Stubs.{is_stub, is_stub_with, stub_of, stub_with}
+use Rattle.std.specs.{Prelude.option_copied, Prelude.unwrap_or, Borrow.Bor}
+use Rattle.echo_text.specs.{Lines.msgid_word, Echo.msgid_of}
+use Rattle.echo_filed.specs.{Filed.Filed, Filed.id_line, Stubs.is_stub, Stubs.is_stub_with, Stubs.stub_of, Stubs.stub_with}
 
 -- the test of a message, by its id
 pub is_stub_reported : (m : Filed) (has : Option (List ℕ)) → has ≡ msgid_of m.echo.kept → is_stub m ≡ is_stub_with m has

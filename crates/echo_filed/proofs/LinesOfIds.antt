@@ -1,14 +1,9 @@
 -- The one line that carries an id, and lines that are that one alone.
 use Rattle.std.proofs.Common.{◌≡◌, ◌≢◌, ℕ, ◌<◌, ◌&&◌, true, false, List, [], ◌∷◌, ◌++◌, length, refl, sym, ap, ◌∙◌, arith}
-use Rattle.std.specs.Prelude.{bytes_eq}
-use Rattle.std.specs.Cmp.Lexicographic.{pointwise}
-use Rattle.std.proofs.lemmas.Bool.{and_right, ne_eqb}
-use Rattle.std.proofs.lemmas.List.{append-nil}
-use Rattle.std.proofs.lemmas.List.Elements.{All-weaker}
-use Rattle.echo_text.specs.Lines.{is_return, lines, msgid_word}
-use Rattle.echo_text.specs.Echo.{IsLine, ended}
-use Rattle.echo_text.proofs.EndedLines.{PutTogether, whole_text}
-use Rattle.echo_text.proofs.TextLines.{IsPiece, no_lines, some_lines}
+use Rattle.std.proofs.lemmas.{Bool.and_right, Bool.ne_eqb, List.append-nil, List.Elements.All-weaker}
+use Rattle.std.specs.{Prelude.bytes_eq, Cmp.Lexicographic.pointwise}
+use Rattle.echo_text.specs.{Lines.is_return, Lines.lines, Lines.msgid_word, Echo.IsLine, Echo.ended}
+use Rattle.echo_text.proofs.{EndedLines.PutTogether, EndedLines.whole_text, TextLines.IsPiece, TextLines.no_lines, TextLines.some_lines}
 use Rattle.echo_filed.specs.Filed.{id_line}
 
 -- a line has no 0D

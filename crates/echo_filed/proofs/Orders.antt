@@ -1,15 +1,13 @@
 -- The orders of entries and of addresses, and their sets.
 use Rattle.std.proofs.Common.{◌≡◌, ℕ, ◌<◌, Bool, true, false, ◌&&◌, ◌||◌, ◌==◌, nat_lt, suc, get_or, List, [], ◌∷◌, ◌⊎◌, arith}
-use Rattle.std.specs.Prelude.{AllPairs}
 use Rattle.std.proofs.lemmas.Bool.{and_from, and_parts, and_cases, or_parts, or_from, and_right, or_left, or_right, or_cases, ltb-true, ltb-false, eqb-true, eqb-false, lt-ltb, le-ltb, eq-eqb}
 use Rattle.std.proofs.lemmas.List.Elements.{recursion_from_All}
-use Rattle.echo_addr.specs.declared.address.Address.{Address}
-use Rattle.echo_addr.specs.declared.address.NetNode.{NetNode}
-use Rattle.echo_addr.specs.ShortLines.{ComesBefore}
+use Rattle.std.specs.Prelude.{AllPairs}
+use Rattle.echo_addr.specs.{declared.address.Address.Address, declared.address.NetNode.NetNode, ShortLines.ComesBefore}
 use Rattle.echo_text.specs.Echo.{IsSetOf}
 use Rattle.echo_filed.specs.Sets.{address_before, entry_before, entry_set, same_entry, set_of}
-use Rattle.echo_filed.proofs.Choices.{contained_in, in_contained}
 use Rattle.echo_filed.proofs.Sets.{IsOrder, Ascending, ascending_pairs, set_ascending, set_keeps, set_only, same_set}
+use Rattle.echo_filed.proofs.Choices.{contained_in, in_contained}
 
 -- one number is less, or they are equal and a test passes
 abbrev first_then : ℕ → ℕ → Bool → Bool

@@ -1,16 +1,12 @@
 -- Lines without 00 and 0D.
 use Rattle.std.proofs.Common.{◌≡◌, ◌≢◌, ℕ, zero, suc, ◌^◌, ◌<◌, ◌==◌, ◌||◌, true, false, List, [], ◌∷◌, ◌++◌, length, take, drop, decimal, sym, subst, arith, inl, inr}
-use Rattle.std.specs.List.{AllByRecursion, list_all, list_any, onto_first, slice_split}
 use Rattle.std.proofs.lemmas.Bool.{and_parts, cases_Bool, cond_both, eqb-false, not-true, or_parts}
-use Rattle.std.proofs.lemmas.List.Elements.{All-from_recursion}
-use Rattle.std.proofs.lemmas.List.Splits.{slice_split-cons_no, slice_split-cons_yes}
+use Rattle.std.proofs.lemmas.List.{Elements.All-from_recursion, Splits.slice_split-cons_no, Splits.slice_split-cons_yes}
+use Rattle.std.specs.List.{AllByRecursion, list_all, list_any, onto_first, slice_split}
 use Rattle.echo_packet.specs.Message.{HasNoZero}
-use Rattle.echo_addr.specs.declared.address.Address.{Address}
-use Rattle.echo_addr.specs.Address.{IsAddress, address_text}
+use Rattle.echo_addr.specs.{declared.address.Address.Address, Address.IsAddress, Address.address_text}
 use Rattle.echo_addr.proofs.Decimals.{IsDigit, digits_of_decimal}
-use Rattle.echo_text.specs.Lines.{is_return, lines, without_empty_last}
-use Rattle.echo_text.specs.Echo.{IsLine}
-use Rattle.echo_text.specs.Ids.{is_line_byte, is_zero}
+use Rattle.echo_text.specs.{Lines.is_return, Lines.lines, Lines.without_empty_last, Echo.IsLine, Ids.is_line_byte, Ids.is_zero}
 use Rattle.echo_filed.proofs.Choices.{all_weaker}
 
 -- a byte other than 00 and 0D

@@ -1,11 +1,9 @@
 -- Entries cut into lines one after the other are short lines.
 use Rattle.std.proofs.Common.{◌≡◌, ℕ, ◌<◌, ◌≤◌, Bool, nat_le, List, [], ◌∷◌, ◌++◌, length, decimal, codes, refl, sym, ap, subst, None, arith, lit≤, lit<}
+use Rattle.std.proofs.lemmas.{Bool.cond_both, Bool.leb-false, Bool.leb-true, List.append_assoc, List.length-append, Fmt.length-decimal-le}
 use Rattle.std.specs.List.{AllByRecursion, flat_map}
-use Rattle.std.proofs.lemmas.Bool.{cond_both, leb-false, leb-true}
-use Rattle.std.proofs.lemmas.List.{append_assoc, length-append}
-use Rattle.std.proofs.lemmas.Fmt.{length-decimal-le}
-use Rattle.echo_addr.specs.declared.address.NetNode.{NetNode}
 use Rattle.echo_addr.specs.ShortLines.{AreRuns, IsFull, IsNetNode, ShortLines, entries_text, entry_token, line_front, line_room, path_prefix, seen_prefix}
+use Rattle.echo_addr.specs.declared.address.NetNode.{NetNode}
 use Rattle.echo_filed.specs.Written.{runs_after, runs_of, short_lines}
 
 -- the runs are the list cut up, each as long as has room

@@ -1,18 +1,13 @@
 -- A stored message that is sent part after part.
 use Rattle.std.proofs.Common.{◌≡◌, ℕ, ◌^◌, ◌<◌, Bool, true, false, List, [], ◌++◌, length, ap, subst, ◌∙◌, Option, Result, Ok, Err, arith, append_assoc}
-use Rattle.std.specs.Prelude.{unwrap_or}
-use Rattle.std.proofs.lemmas.Bool.{cond-false, cond-true}
-use Rattle.std.proofs.KnownBytes.{Appends-nil}
-use Rattle.std.specs.Prelude.{IfOk, Vec}
-use Rattle.std.specs.declared.alloc.Global.{Global}
+use Rattle.std.proofs.{lemmas.Bool.cond-false, lemmas.Bool.cond-true, KnownBytes.Appends-nil}
+use Rattle.std.specs.{Prelude.unwrap_or, Prelude.IfOk, Prelude.Vec, declared.alloc.Global.Global}
 use Rattle.echo_addr.specs.declared.address.Address.{Address}
 use Rattle.disk_io.specs.Device.{Sends, SendsFront}
 use Rattle.echo_text.specs.Echo.{EchoText, IsEcho, TextOf, msgid_of}
 use Rattle.echo_text.proofs.OneReading.{one_text}
-use Rattle.echo_filed.specs.Written.{text_of}
-use Rattle.echo_filed.specs.Filed.{Filed}
 use Rattle.echo_filed.specs.Stored.{Second, after_length, after_long_length, has_tag, kind_of, last_bytes, stored_as, stored_bytes}
-use Rattle.echo_filed.specs.Sending.{front_bytes, strings_bytes}
+use Rattle.echo_filed.specs.{Written.text_of, Filed.Filed, Sending.front_bytes, Sending.strings_bytes}
 use Rattle.echo_filed.proofs.Texts.{text_is_text}
 
 -- the sink took no byte

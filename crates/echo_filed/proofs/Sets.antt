@@ -1,10 +1,7 @@
 -- A sorted list has the same members, ascending and without repeats.
 use Rattle.std.proofs.Common.{◌≡◌, Bool, true, false, List, [], ◌∷◌, refl, sym, ◌∙◌, ◌⊎◌, inl, inr, arith}
-use Rattle.std.specs.Prelude.{⊤}
-use Rattle.std.specs.List.{AllByRecursion, AllPairs}
-use Rattle.std.proofs.lemmas.Bool.{true≢false}
-use Rattle.std.proofs.lemmas.List.Elements.{All-from_recursion}
-use Rattle.std.proofs.lemmas.List.Kept.{AllPairs-cons}
+use Rattle.std.proofs.lemmas.{Bool.true≢false, List.Elements.All-from_recursion, List.Kept.AllPairs-cons}
+use Rattle.std.specs.{Prelude.⊤, List.AllByRecursion, List.AllPairs}
 use Rattle.echo_filed.specs.Sets.{put_in, set_of}
 use Rattle.echo_filed.proofs.Choices.{IsIn, all_at, all_weaker, of_three}
 

@@ -2,8 +2,7 @@
 use Rattle.std.proofs.Common.{◌≡◌, ℕ, Bool, List, Option, subst, arith}
 use Rattle.std.specs.Io.KnownBytes.{Consumes}
 use Rattle.disk_io.specs.declared.fixed.Broken.{Broken}
-use Rattle.echo_filed.specs.Stored.{IsStored, Stored, Version, stored_bytes}
-use Rattle.echo_filed.specs.Fields.{Breaks, LastFits, last_of}
+use Rattle.echo_filed.specs.{Stored.IsStored, Stored.Stored, Stored.Version, Stored.stored_bytes, Fields.Breaks, Fields.LastFits, Fields.last_of}
 use Rattle.echo_filed.proofs.StoredFields.{Fields, FieldsFit, bytes_are, fields_bytes, of_fields, of_fit}
 use Rattle.echo_filed.proofs.Taken.{breaks_as}
 

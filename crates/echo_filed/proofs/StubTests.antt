@@ -1,13 +1,9 @@
 -- The test of stubs passes exactly if a purge leaves the message unchanged.
 use Rattle.std.proofs.Common.{◌≡◌, ℕ, ◌==◌, true, List, [], ◌∷◌, length, refl, sym, ap, subst, Option, Some, None, eqb-true}
-use Rattle.std.specs.Prelude.{bytes_eq}
-use Rattle.std.specs.Cmp.Lexicographic.{pointwise}
-use Rattle.std.proofs.lemmas.Bool.{and_from, and_parts}
-use Rattle.std.proofs.lemmas.List.{nil_from_length}
-use Rattle.echo_text.specs.Lines.{msgid_word}
-use Rattle.echo_text.specs.Echo.{msgid_of}
-use Rattle.echo_filed.specs.Filed.{Filed, id_line}
-use Rattle.echo_filed.specs.Stubs.{is_stub, is_stub_with, stub_of, stub_with}
+use Rattle.std.proofs.lemmas.{Bool.and_from, Bool.and_parts, List.nil_from_length}
+use Rattle.std.specs.{Prelude.bytes_eq, Cmp.Lexicographic.pointwise}
+use Rattle.echo_text.specs.{Lines.msgid_word, Echo.msgid_of}
+use Rattle.echo_filed.specs.{Filed.Filed, Filed.id_line, Stubs.is_stub, Stubs.is_stub_with, Stubs.stub_of, Stubs.stub_with}
 use Rattle.echo_filed.proofs.Keys.{lines_decide}
 
 -- a message that is a stub with this id is left as it is

@@ -1,15 +1,12 @@
 -- A stub is a message that a base may have.
 use Rattle.std.proofs.Common.{nat_lt, ◌≡◌, ℕ, not, true, List, [], ◌∷◌, length, map, refl, Option, Some, None, arith}
-use Rattle.std.specs.Prelude.{filter}
-use Rattle.std.specs.List.{AllByRecursion}
 use Rattle.std.proofs.lemmas.List.Elements.{All-filter, All-from_recursion, recursion_from_All}
+use Rattle.std.specs.{Prelude.filter, List.AllByRecursion}
 use Rattle.echo_text.specs.Lines.{after_word, begins, is_tag, msgid_word, trimmed}
-use Rattle.echo_text.specs.Tail.{tail}
-use Rattle.echo_text.specs.Echo.{IsEcho, IsLine, is_shed, msgid_of}
-use Rattle.echo_filed.specs.Filed.{Filed, IsFiled, id_line}
-use Rattle.echo_filed.specs.Stubs.{bare, stub_of, stub_with}
-use Rattle.echo_filed.proofs.Choices.{all_map, all_weaker, found_is}
+use Rattle.echo_text.specs.{Tail.tail, Echo.IsEcho, Echo.IsLine, Echo.is_shed, Echo.msgid_of}
+use Rattle.echo_filed.specs.{Filed.Filed, Filed.IsFiled, Filed.id_line, Stubs.bare, Stubs.stub_of, Stubs.stub_with}
 use Rattle.echo_filed.proofs.Plain.{IsLineByte, Plain, all_append, plain_drop, plain_if, plain_line, plain_take}
+use Rattle.echo_filed.proofs.Choices.{all_map, all_weaker, found_is}
 
 -- an id is a part of a kept line
 part_plain : (line : List ℕ) → Plain line → Plain (trimmed (after_word msgid_word line))

@@ -1,15 +1,14 @@
 -- Fields that are taken from a source.
 use Rattle.std.proofs.Common.{◌≡◌, ℕ, ◌+◌, ◌-◌, ◌*◌, ◌/◌, ◌%◌, ◌<◌, ◌≤◌, List, [], ◌∷◌, ◌++◌, length, get_or, take, drop, replicate, refl, sym, ◌∙◌, Option, Result, arith}
-use Rattle.std.specs.Io.KnownBytes.{Consumes}
-use Rattle.std.proofs.KnownBytes.{Consumes-trans}
 use Rattle.std.proofs.lemmas.List.{append-nil, length-append, length-drop, length-replicate, nil_from_length, take-append-drop}
+use Rattle.std.proofs.KnownBytes.{Consumes-trans}
+use Rattle.std.specs.Io.KnownBytes.{Consumes}
 use Rattle.echo_addr.specs.declared.address.Address.{Address}
 use Rattle.echo_packet.specs.Header.{AreBytes, number_at}
-use Rattle.disk_io.specs.declared.fixed.Broken.{Broken}
+use Rattle.disk_io.specs.{declared.fixed.Broken.Broken, Fixed.BreaksFilling}
 use Rattle.disk_io.specs.declared.fixed.Broken.TheVariants as broken
-use Rattle.echo_filed.specs.Stored.{long, long_at}
-use Rattle.disk_io.specs.Fixed.{BreaksFilling}
 use Rattle.echo_filed.specs.Fields.{Breaks, BreaksSized, EndsIn, HasLength, IsByte, IsLong, IsSmall, Reads, address_bytes, itself, one_byte}
+use Rattle.echo_filed.specs.Stored.{long, long_at}
 use Rattle.echo_filed.proofs.Layouts.{BothFit, Layout, LengthFits, both_bytes, ends_first, ends_second, ends_string, length_first, long_front}
 
 -- the first bytes of a value end inside it

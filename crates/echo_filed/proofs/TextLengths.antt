@@ -1,12 +1,9 @@
 -- How many bytes a written text has at most.
 use Rattle.std.proofs.Common.{◌≡◌, ℕ, ◌+◌, ◌*◌, ◌≤◌, nat_le, nat_lt, true, List, [], ◌∷◌, ◌++◌, length, None, ap, arith}
+use Rattle.std.proofs.lemmas.{Bool.and_parts, Bool.leb-true, List.length-append}
 use Rattle.std.specs.List.{flat_map}
-use Rattle.std.proofs.lemmas.Bool.{and_parts, leb-true}
-use Rattle.std.proofs.lemmas.List.{length-append}
-use Rattle.echo_addr.specs.declared.address.NetNode.{NetNode}
-use Rattle.echo_addr.specs.ShortLines.{AreRuns, ShortLines, entries_text, line_of}
-use Rattle.echo_text.specs.Lines.{area_word, is_tag}
-use Rattle.echo_text.specs.Echo.{EchoText, IsEcho, TextOf, ended}
+use Rattle.echo_addr.specs.{declared.address.NetNode.NetNode, ShortLines.AreRuns, ShortLines.ShortLines, ShortLines.entries_text, ShortLines.line_of}
+use Rattle.echo_text.specs.{Lines.area_word, Lines.is_tag, Echo.EchoText, Echo.IsEcho, Echo.TextOf, Echo.ended}
 use Rattle.echo_filed.specs.Written.{text_of}
 use Rattle.echo_filed.proofs.Texts.{text_is_text}
 

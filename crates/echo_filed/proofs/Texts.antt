@@ -1,17 +1,12 @@
 -- The parse of a text is its echo, and the written text of an echo parses to it.
 use Rattle.std.proofs.Common.{◌≡◌, ℕ, true, List, refl, sym, None, arith}
-use Rattle.std.proofs.lemmas.Bool.{cond-false, cond_both, not-false, not_from_true}
-use Rattle.std.proofs.lemmas.List.Elements.{recursion_from_All}
+use Rattle.std.proofs.lemmas.{Bool.cond-false, Bool.cond_both, Bool.not-false, Bool.not_from_true, List.Elements.recursion_from_All}
 use Rattle.echo_addr.specs.declared.address.NetNode.{NetNode}
 use Rattle.echo_text.specs.Lines.{area_tag, first_line, is_area, is_tag, later_lines, lines}
-use Rattle.echo_text.specs.Tail.{all_entries, seen_lists}
-use Rattle.echo_text.specs.Echo.{EchoOf, EchoText, IsEcho, TextOf}
-use Rattle.echo_text.specs.Refusal.{text_refusal, refusal_of}
+use Rattle.echo_text.specs.{Tail.all_entries, Tail.seen_lists, Echo.EchoOf, Echo.EchoText, Echo.IsEcho, Echo.TextOf, Refusal.text_refusal, Refusal.refusal_of}
 use Rattle.echo_text.proofs.Written.{written_read_back}
-use Rattle.echo_filed.specs.Sets.{entry_set}
-use Rattle.echo_filed.specs.Written.{echo_of, echo_of_lines, text_of}
-use Rattle.echo_filed.proofs.Orders.{entry_set_is_set, one_set}
-use Rattle.echo_filed.proofs.Runs.{path_short, seen_short}
+use Rattle.echo_filed.specs.{Sets.entry_set, Written.echo_of, Written.echo_of_lines, Written.text_of}
+use Rattle.echo_filed.proofs.{Orders.entry_set_is_set, Orders.one_set, Runs.path_short, Runs.seen_short}
 
 -- the function and the definition write the same text of an echo
 pub text_is_text : (e : EchoText) → IsEcho e → TextOf e (text_of e)

@@ -1,10 +1,8 @@
 -- Bytes without blanks at both ends.
 use Rattle.std.proofs.Common.{◌≡◌, ℕ, suc, ◌+◌, ◌-◌, ◌<◌, ◌≤◌, Bool, true, false, cond, List, [], ◌∷◌, ◌++◌, length, reverse, drop, take, refl, sym, ap, ◌∙◌, arith}
-use Rattle.std.specs.List.{prefix_len, suffix_len}
-use Rattle.std.proofs.lemmas.Bool.{cond-false, cond_both}
 use Rattle.std.proofs.lemmas.List.{length-drop, length-reverse, reverse-append, reverse-reverse, take-append-drop, take_all}
-use Rattle.std.proofs.lemmas.List.Sums.{suffix_len-le-length}
-use Rattle.std.proofs.Math.Seq.{take-append_seam}
+use Rattle.std.proofs.{lemmas.Bool.cond-false, lemmas.Bool.cond_both, lemmas.List.Sums.suffix_len-le-length, Math.Seq.take-append_seam}
+use Rattle.std.specs.List.{prefix_len, suffix_len}
 use Rattle.echo_addr.specs.Entries.{is_blank}
 use Rattle.echo_text.specs.Lines.{trimmed, without_back_blanks}
 

@@ -1,8 +1,7 @@
 -- Fields of a stored message, read from a source.
 use Rattle.std.specs.Prelude.{◌≡◌, ℕ, ◌-◌, ◌^◌, ◌<◌, ◌≤◌, Bool, true, false, List, [], ◌∷◌, ◌++◌, length, if◌then◌else◌, Option, Result, Ok, Err}
 use Rattle.std.specs.Io.KnownBytes.{Consumes, IsAtEnd}
-use Rattle.echo_packet.specs.Header.{word}
-use Rattle.echo_packet.specs.Field.{Consumed}
+use Rattle.echo_packet.specs.{Header.word, Field.Consumed}
 use Rattle.echo_addr.specs.declared.address.Address.{Address}
 use Rattle.disk_io.specs.declared.fixed.Broken.{Broken}
 use Rattle.disk_io.specs.declared.fixed.Broken.TheVariants as broken

@@ -4,8 +4,7 @@ use Rattle.std.specs.Cmp.Lexicographic.{pointwise}
 use Rattle.echo_addr.specs.declared.address.Address.{Address}
 use Rattle.echo_packet.specs.Message.{HasNoZero, max_name, max_subject}
 use Rattle.echo_text.specs.Echo.{EchoText, IsEcho, msgid_of}
-use Rattle.echo_filed.specs.declared.key.Key.{Key}
-use Rattle.echo_filed.specs.declared.key.Key.TheVariants.{ByContent, ById}
+use Rattle.echo_filed.specs.declared.key.Key.{Key, TheVariants.ByContent, TheVariants.ById}
 
 -- A control line with an id.
 abbrev pub id_line : List ℕ → List ℕ → List ℕ

@@ -2,9 +2,8 @@
 use Rattle.std.specs.Prelude.{◌≡◌, ℕ, List, ◌∷◌, ◌++◌, Result, Ok, Err}
 use Rattle.disk_io.specs.Device.{Failed}
 use Rattle.echo_packet.specs.Header.{word}
-use Rattle.echo_filed.specs.declared.sending.Unsent.{Unsent}
+use Rattle.echo_filed.specs.{declared.sending.Unsent.Unsent, Stored.Stored, Stored.after_length}
 use Rattle.echo_filed.specs.declared.sending.Unsent.TheVariants as unsent
-use Rattle.echo_filed.specs.Stored.{Stored, after_length}
 
 -- The count of failures rose if the device failed, and only then.
 abbrev pub CountsUnsent : {A : Type 0} → Result A Unsent → ℕ → ℕ → Type 0

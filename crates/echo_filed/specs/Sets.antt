@@ -1,7 +1,6 @@
 -- Ascending lists without repeats.
 use Rattle.std.specs.Prelude.{◌==◌, ◌||◌, ◌&&◌, nat_lt, Bool, List, [], ◌∷◌, if◌then◌else◌}
-use Rattle.echo_addr.specs.declared.address.Address.{Address}
-use Rattle.echo_addr.specs.declared.address.NetNode.{NetNode}
+use Rattle.echo_addr.specs.declared.address.{Address.Address, NetNode.NetNode}
 
 -- A member inserted into an ascending list, once.
 abbrev pub put_in : {X : Type 0} → (X → X → Bool) → X → List X → List X

@@ -5,9 +5,7 @@ use Rattle.echo_packet.specs.Header.{number_at, word}
 use Rattle.echo_text.specs.Echo.{EchoText, msgid_of}
 pub use Rattle.echo_filed.specs.declared.stored.Version.{Version}
 pub use Rattle.echo_filed.specs.declared.stored.Version.TheVariants.{First, Second}
-use Rattle.echo_filed.specs.Written.{echo_of, text_of}
-use Rattle.echo_filed.specs.Filed.{Filed}
-use Rattle.echo_filed.specs.Stubs.{bare, is_stub}
+use Rattle.echo_filed.specs.{Written.echo_of, Written.text_of, Filed.Filed, Stubs.bare, Stubs.is_stub}
 
 -- The bytes of a number of four bytes.
 abbrev pub long : ℕ → List ℕ

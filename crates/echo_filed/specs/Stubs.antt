@@ -1,8 +1,7 @@
 -- The stub that a purge leaves of a message: only the id remains of its text.
 use Rattle.std.specs.Prelude.{ℕ, not, filter, map, ◌==◌, ◌&&◌, Bool, true, List, [], ◌∷◌, length, Option, Some, None, bytes_eq}
 use Rattle.std.specs.Cmp.Lexicographic.{pointwise}
-use Rattle.echo_text.specs.Lines.{msgid_word}
-use Rattle.echo_text.specs.Echo.{EchoText, msgid_of}
+use Rattle.echo_text.specs.{Lines.msgid_word, Echo.EchoText, Echo.msgid_of}
 use Rattle.echo_filed.specs.Filed.{Filed, id_line}
 
 -- A text of this tag and id, without any other line and without entries.

@@ -1,11 +1,10 @@
 -- The parts of a text, and its written text (FTS-0004), as functions.
 use Rattle.std.specs.Prelude.{ℕ, nat_le, List, [], ◌∷◌, ◌++◌, length, if◌then◌else◌, None}
 use Rattle.std.specs.List.{flat_map}
-use Rattle.echo_addr.specs.declared.address.NetNode.{NetNode}
 use Rattle.echo_addr.specs.ShortLines.{entries_text, line_front, line_of, line_room, path_prefix, seen_prefix}
+use Rattle.echo_addr.specs.declared.address.NetNode.{NetNode}
 use Rattle.echo_text.specs.Lines.{area_tag, area_word, first_line, later_lines, lines}
-use Rattle.echo_text.specs.Tail.{all_entries, kept_of, path_lists, seen_lists}
-use Rattle.echo_text.specs.Echo.{EchoText, ended}
+use Rattle.echo_text.specs.{Tail.all_entries, Tail.kept_of, Tail.path_lists, Tail.seen_lists, Echo.EchoText, Echo.ended}
 use Rattle.echo_filed.specs.Sets.{entry_set}
 
 -- The parts in the lines of an echomail text.

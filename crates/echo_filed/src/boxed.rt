@@ -1,8 +1,6 @@
-ghost use Rattle.std.specs.Prelude.{◌≡◌, List, IfOk};
-ghost use Rattle.std.specs.Cmp.{nat_eq_equiv, partial_equiv_from_equiv};
 ghost use Rattle.std.specs.Cmp.Lexicographic.{bytes_decides, pointwise, pointwise_decides, lists_per, lists_equiv};
+ghost use Rattle.std.specs.{Prelude.◌≡◌, Prelude.List, Prelude.IfOk, Cmp.nat_eq_equiv, Cmp.partial_equiv_from_equiv, Hash.items_Alike, Hash.same_Alike};
 ghost use Rattle.std.specs.Hash as fed;
-ghost use Rattle.std.specs.Hash.{items_Alike, same_Alike};
 
 use echo_text::Lines;
 use std::alloc::{AllocError, Global};

@@ -1,9 +1,8 @@
 //! One field of a base file, taken from a source.
-ghost use Rattle.std.specs.Prelude.{◌≡◌, ◌<◌, length, IfOk};
-ghost use Rattle.std.specs.List.{flat_map};
+ghost use Rattle.std.specs.{Prelude.◌≡◌, Prelude.◌<◌, Prelude.length, Prelude.IfOk, List.flat_map};
 ghost use Rattle.disk_io.specs.Fixed.{CountsBreak};
-ghost use Rattle.echo_filed.specs.Stored.{after_length, after_long_length, long};
 ghost use Rattle.echo_filed.specs.Fields.{HasLength, IsByte, IsLong, IsLongString, IsShortString, IsSmall, LastFits, Reads, StepsSized, address_bytes, itself, last_of, one_byte};
+ghost use Rattle.echo_filed.specs.Stored.{after_length, after_long_length, long};
 
 use crate::numbers::{long_of, word_of};
 use disk_io::{Broken, Source, fill_from, read_fixed};

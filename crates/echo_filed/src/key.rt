@@ -1,8 +1,6 @@
 ghost use Rattle.std.specs.Prelude.{◌≡◌, List, Option, IfOk};
-ghost use Rattle.echo_addr.specs.declared.address.Address.{Address as Sender};
-ghost use Rattle.echo_addr.specs.declared.address.NetNode.{NetNode};
-ghost use Rattle.echo_filed.specs.declared.key.Key.TheVariants.{ByContent, ById};
-ghost use Rattle.echo_filed.specs.Filed.{key_of};
+ghost use Rattle.echo_addr.specs.declared.address.{Address.Address as Sender, NetNode.NetNode};
+ghost use Rattle.echo_filed.specs.{declared.key.Key.TheVariants.ByContent, declared.key.Key.TheVariants.ById, Filed.key_of};
 
 use crate::boxed::{Boxed, BoxedLines};
 use crate::filed::Filed;

@@ -4,11 +4,7 @@ ghost use Rattle.std.specs.Prelude.{◌≡◌, ◌↔◌, ℕ, List, None, true}
 ghost use Rattle.echo_addr.specs.declared.address.NetNode.{NetNode};
 ghost use Rattle.echo_text.specs.Echo.{EchoOf, EchoText, IsEcho, IsSetOf, TextOf};
 ghost use Rattle.echo_text.specs.Refusal.{text_refusal};
-ghost use Rattle.echo_filed.specs.declared.key.Key.{Key};
-ghost use Rattle.echo_filed.specs.Sets.{entry_set};
-ghost use Rattle.echo_filed.specs.Written.{echo_of, text_of};
-ghost use Rattle.echo_filed.specs.Filed.{Filed, key_of, same_key};
-ghost use Rattle.echo_filed.specs.Stubs.{is_stub, stub_of};
+ghost use Rattle.echo_filed.specs.{declared.key.Key.Key, Sets.entry_set, Written.echo_of, Written.text_of, Filed.Filed, Filed.key_of, Filed.same_key, Stubs.is_stub, Stubs.stub_of};
 
 /// The test of keys passes exactly where they are the same.
 pub fn key_law()

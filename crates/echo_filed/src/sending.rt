@@ -3,9 +3,8 @@
 ghost use Rattle.std.specs.Prelude.{◌≡◌, [], ◌^◌, ◌<◌, ◌++◌, length, unwrap_or, IsTrue, IfOk, OnOk, OnErr, true};
 ghost use Rattle.disk_io.specs.Device.{Failed, Sends};
 ghost use Rattle.echo_text.specs.Echo.{msgid_of};
-ghost use Rattle.echo_filed.specs.Written.{text_of};
 ghost use Rattle.echo_filed.specs.Stored.{Second, after_length, after_long_length, is_short, is_short_enough, kind_of, sender_or_zeros, stored_as, stored_bytes};
-ghost use Rattle.echo_filed.specs.Sending.{CountsUnsent, front_bytes, strings_bytes};
+ghost use Rattle.echo_filed.specs.{Written.text_of, Sending.CountsUnsent, Sending.front_bytes, Sending.strings_bytes};
 
 use crate::filed::Filed;
 use crate::numbers::{long_bytes, word_bytes};

@@ -1,8 +1,7 @@
 //! A message of a base file, read from a source.
 ghost use Rattle.std.specs.Prelude.{◌≡◌};
-ghost use Rattle.echo_filed.specs.Stored.{IsStored, has_tag, stored_bytes};
+ghost use Rattle.echo_filed.specs.{Stored.IsStored, Stored.has_tag, Stored.stored_bytes, Fields.Reads};
 ghost use Rattle.disk_io.specs.Fixed.{CountsBreak};
-ghost use Rattle.echo_filed.specs.Fields.{Reads};
 
 use crate::field::{read_address, read_byte, read_date, read_last, read_short};
 use disk_io::{Broken, Source};

@@ -1,10 +1,8 @@
 //! The stub that a purge leaves of a message.
 ghost use Rattle.std.specs.Prelude.{◌≡◌, ◌==◌, ◌&&◌, length, false, [], ◌∷◌, Some, bytes_eq, IfOk};
 ghost use Rattle.std.specs.Cmp.Lexicographic.{pointwise};
-ghost use Rattle.echo_text.specs.Lines.{msgid_word};
-ghost use Rattle.echo_text.specs.Echo.{IsLine};
-ghost use Rattle.echo_filed.specs.Filed.{id_line};
-ghost use Rattle.echo_filed.specs.Stubs.{is_stub, stub_of};
+ghost use Rattle.echo_text.specs.{Lines.msgid_word, Echo.IsLine};
+ghost use Rattle.echo_filed.specs.{Filed.id_line, Stubs.is_stub, Stubs.stub_of};
 
 use crate::filed::Filed;
 use echo_addr::{Items, NetNode};

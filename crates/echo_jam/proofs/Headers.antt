@@ -1,8 +1,7 @@
 -- A header from its parts.
 use Rattle.std.proofs.Common.{◌≡◌, Bool, ℕ, List, ◌++◌, length, Result, Ok, Err, OnOk, ap, ◌∙◌}
 use Rattle.echo_filed.specs.Filed.{Filed}
-use Rattle.echo_jam.specs.Fields.{body_of, fields_of}
-use Rattle.echo_jam.specs.JamMessage.{header_back, header_front, header_ids, header_of}
+use Rattle.echo_jam.specs.{Fields.body_of, Fields.fields_of, JamMessage.header_back, JamMessage.header_front, JamMessage.header_ids, JamMessage.header_of}
 
 -- a property that always holds, holds after success
 pub anyhow : {T E P : Type 0} (r : Result T E) → P → OnOk r P

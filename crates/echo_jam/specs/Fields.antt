@@ -1,16 +1,12 @@
 -- The subfields of a JAM message (JAM-001), and its text.
 use Rattle.std.specs.Prelude.{ℕ, List, [], ◌∷◌, ◌++◌, length, drop, take, codes, if◌then◌else◌, nat_lt, sum_by, ◌||◌, Option, Some, None}
 use Rattle.std.specs.List.{flat_map}
-use Rattle.echo_addr.specs.declared.address.Address.{Address}
-use Rattle.echo_addr.specs.Address.{address_text}
-use Rattle.echo_addr.specs.ShortLines.{path_prefix, seen_prefix}
-use Rattle.echo_filed.specs.Filed.{Filed}
-use Rattle.echo_filed.specs.Stored.{long}
-use Rattle.echo_filed.specs.Written.{text_of}
+use Rattle.echo_addr.specs.{declared.address.Address.Address, Address.address_text, ShortLines.path_prefix, ShortLines.seen_prefix}
+use Rattle.echo_filed.specs.{Filed.Filed, Stored.long, Written.text_of}
 use Rattle.echo_packet.specs.Header.{word}
 use Rattle.echo_stored.specs.OriginAddress.{address_in_origin}
-use Rattle.echo_text.specs.Echo.{EchoText, ended}
 use Rattle.echo_text.specs.Lines.{after_feeds, after_word, begins, is_control, is_path, is_seen, later_lines, lines, msgid_word, reply_word, trimmed}
+use Rattle.echo_text.specs.Echo.{EchoText, ended}
 
 -- A subfield: its kind in two words, its length and its bytes.
 abbrev pub subfield : ℕ → List ℕ → List ℕ

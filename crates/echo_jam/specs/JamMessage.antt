@@ -1,14 +1,10 @@
 -- A message of a base in the files of a JAM base (JAM-001): its header, its text and its index entry.
 use Rattle.std.specs.Prelude.{ℕ, Bool, List, ◌++◌, length, take, if◌then◌else◌, Option, Some, None}
 use Rattle.echo_addr.specs.declared.address.Address.{Address}
-use Rattle.echo_filed.specs.Filed.{Filed}
-use Rattle.echo_filed.specs.Stored.{long}
+use Rattle.echo_filed.specs.{Filed.Filed, Stored.long}
 use Rattle.echo_packet.specs.Header.{word}
 use Rattle.echo_text.specs.Echo.{msgid_of, reply_of}
-use Rattle.echo_jam.specs.Crc.{jam_crc}
-use Rattle.echo_jam.specs.Fields.{body_of, fields_of, most_of_id}
-use Rattle.echo_jam.specs.Fixed.{jam_mark}
-use Rattle.echo_jam.specs.Moment.{seconds_of}
+use Rattle.echo_jam.specs.{Crc.jam_crc, Fields.body_of, Fields.fields_of, Fields.most_of_id, Fixed.jam_mark, Moment.seconds_of}
 
 -- The CRC of an id as its subfield holds it; without an id all bits are set.
 abbrev pub id_crc : Option (List ℕ) → ℕ

@@ -1,9 +1,7 @@
 -- Whether a JAM base already has a message.
 use Rattle.std.specs.Prelude.{ℕ, ◌+◌, ◌==◌, ◌&&◌, nat_le, Bool, List, length, take, drop, bytes_eq}
-use Rattle.echo_filed.specs.Filed.{Filed}
-use Rattle.echo_filed.specs.Stored.{long_at}
-use Rattle.echo_jam.specs.Fields.{body_of, fields_of}
-use Rattle.echo_jam.specs.Moment.{seconds_of}
+use Rattle.echo_filed.specs.{Filed.Filed, Stored.long_at}
+use Rattle.echo_jam.specs.{Fields.body_of, Fields.fields_of, Moment.seconds_of}
 
 -- The date of the message at this header, and its subfields.
 abbrev pub written_at : List ℕ → ℕ → ℕ

@@ -1,9 +1,7 @@
 -- The state of the files of a JAM base (JAM-001).
 use Rattle.std.specs.Prelude.{ℕ, zero, suc, ◌+◌, ◌-◌, ◌*◌, ◌/◌, ◌^◌, ◌==◌, ◌&&◌, ◌||◌, nat_le, nat_lt, Bool, true, List, length, slice_index, slice_range, bytes_eq, if◌then◌else◌, Option, Some, None}
 use Rattle.echo_filed.specs.Stored.{long_at}
-use Rattle.echo_jam.specs.declared.standing.Last.{Last}
-use Rattle.echo_jam.specs.declared.standing.Standing.{Standing}
-use Rattle.echo_jam.specs.Fixed.{jam_mark}
+use Rattle.echo_jam.specs.{declared.standing.Last.Last, declared.standing.Standing.Standing, Fixed.jam_mark}
 
 -- Whether the mark of JAM is at this place.
 abbrev pub has_mark : List ℕ → ℕ → Bool

@@ -1,12 +1,8 @@
 -- The messages of a JAM base that an editor wrote, read for posting, and the ids that a base has.
 use Rattle.std.specs.Prelude.{◌≡◌, ℕ, zero, suc, ◌+◌, ◌/◌, ◌%◌, ◌==◌, ◌&&◌, ◌||◌, not, nat_le, nat_lt, Bool, false, List, ◌++◌, bytes_eq, length, slice_index, take, if◌then◌else◌, Option, Some, None}
 use Rattle.echo_stored.specs.StoredReading.{body_of}
-use Rattle.echo_jam.specs.declared.standing.Last.{Last}
-use Rattle.echo_jam.specs.declared.unsent.JamDraft.{JamDraft}
-use Rattle.echo_jam.specs.Fields.{most_of_id}
-use Rattle.echo_jam.specs.Same.{fields_at}
-use Rattle.echo_jam.specs.Standing.{entries_in, is_deleted_at, last_at, place_in}
-use Rattle.echo_jam.specs.Subfields.{controls_of, field_or_none}
+use Rattle.echo_jam.specs.{declared.standing.Last.Last, declared.unsent.JamDraft.JamDraft, Fields.most_of_id, Same.fields_at}
+use Rattle.echo_jam.specs.{Standing.entries_in, Standing.is_deleted_at, Standing.last_at, Standing.place_in, Subfields.controls_of, Subfields.field_or_none}
 
 -- Bits of the attribute in its lowest byte: Local and Sent.
 abbrev pub is_local_at : List ℕ → ℕ → Bool

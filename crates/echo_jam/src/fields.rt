@@ -1,6 +1,5 @@
 //! The subfields of a JAM message, and its text.
-ghost use Rattle.std.specs.Prelude.{◌≡◌, ◌++◌, OnOk};
-ghost use Rattle.std.specs.List.{flat_map};
+ghost use Rattle.std.specs.{Prelude.◌≡◌, Prelude.◌++◌, Prelude.OnOk, List.flat_map};
 ghost use Rattle.echo_packet.specs.Header.{word};
 ghost use Rattle.echo_stored.specs.OriginAddress.{address_in_origin};
 ghost use Rattle.echo_text.specs.Lines.{lines};

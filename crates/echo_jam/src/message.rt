@@ -2,8 +2,8 @@
 ghost use Rattle.std.specs.Prelude.{◌≡◌, ◌+◌, ◌++◌, IfOk, OnOk, length, option_copied};
 ghost use Rattle.echo_filed.specs.Stored.{long};
 ghost use Rattle.echo_text.specs.Lines.{lines};
-ghost use Rattle.echo_jam.specs.Fields.{body_of, cuts_of, fields_of, lines_behind};
 ghost use Rattle.echo_jam.specs.JamMessage.{entry_of, header_back, header_front, header_ids, header_of, id_crc, jam_attribute};
+ghost use Rattle.echo_jam.specs.Fields.{body_of, cuts_of, fields_of, lines_behind};
 
 use crate::content::{MOST_OF_ID, cuts_in, front};
 use crate::crc::jam_crc;

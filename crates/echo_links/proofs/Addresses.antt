@@ -1,10 +1,8 @@
 -- The test of addresses passes if they are equal, and if their order ties.
-use Rattle.std.proofs.Common.{◌≡◌, true, arith}
+use Rattle.std.proofs.{Common.◌≡◌, Common.true, Common.arith, lemmas.Bool.and_from, lemmas.Bool.and_parts, lemmas.Bool.eqb-true, lemmas.Bool.eq-eqb}
 use Rattle.std.specs.Ordering.{is_eq}
-use Rattle.std.proofs.lemmas.Bool.{and_from, and_parts, eqb-true, eq-eqb}
 use Rattle.echo_addr.specs.declared.address.Address.{Address}
-use Rattle.echo_links.specs.Links.{same_address}
-use Rattle.echo_links.specs.Found.{address_order}
+use Rattle.echo_links.specs.{Links.same_address, Found.address_order}
 
 pub same_address_decides : (a b : Address) → (same_address a b ≡ true → a ≡ b) × (a ≡ b → same_address a b ≡ true)
 same_address_decides a b = grind (arith, and_parts, eqb-true, and_from, eq-eqb)

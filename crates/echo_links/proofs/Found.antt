@@ -1,25 +1,14 @@
 -- Look-ups in a sorted list agree with a walk along the plain list.
 use Rattle.std.proofs.Common.{◌≡◌, ◌<◌, ◌||◌, true, false, Bool, cond, List, [], ◌∷◌, ◌++◌, ℕ, length, refl, sym, ap, subst, ◌∙◌, Option, Some, None, inl, inr, ◌⊎◌, arith}
-use Rattle.std.specs.Prelude.{bytes_eq, find, is_some, slice_get}
-use Rattle.std.specs.declared.cmp.Ordering.{Ordering}
+use Rattle.std.proofs.lemmas.{Bool.cases_Bool, Bool.cond-false, Bool.cond-true, Bool.true≢false, List.get_or_append_left, List.length-append}
+use Rattle.std.proofs.{Math.Seq.get_or-append_seam, lemmas.List.Folds.find-append, lemmas.Map.Text.is_eq-slice_cmp, lemmas.Option.slice_get-get_or}
+use Rattle.std.specs.{Prelude.bytes_eq, Prelude.find, Prelude.is_some, Prelude.slice_get, declared.cmp.Ordering.Ordering}
 use Rattle.std.specs.declared.cmp.Ordering.TheVariants.{Less, Equal, Greater}
-use Rattle.std.specs.Ordering.{is_eq, match_ordering, nat_cmp}
-use Rattle.std.specs.Option.{option_or}
-use Rattle.std.specs.List.{list_any}
-use Rattle.std.specs.Map.{lookup}
-use Rattle.std.specs.BTreeMap.{insert_entry}
+use Rattle.std.specs.{Ordering.is_eq, Ordering.match_ordering, Ordering.nat_cmp, Option.option_or, List.list_any, Map.lookup, BTreeMap.insert_entry}
 use Rattle.std.specs.Cmp.Lexicographic.{bytes_decides, slice_cmp}
-use Rattle.std.proofs.lemmas.Bool.{cases_Bool, cond-false, cond-true, true≢false}
-use Rattle.std.proofs.lemmas.List.{get_or_append_left, length-append}
-use Rattle.std.proofs.Math.Seq.{get_or-append_seam}
-use Rattle.std.proofs.lemmas.List.Folds.{find-append}
-use Rattle.std.proofs.lemmas.Map.Text.{is_eq-slice_cmp}
-use Rattle.std.proofs.lemmas.Option.{slice_get-get_or}
 use Rattle.echo_addr.specs.declared.address.Address.{Address}
-use Rattle.echo_links.specs.Links.{Area, same_address}
-use Rattle.echo_links.specs.Found.{HaveTheSame, IsNumberOf, LeadToAreas, address_order}
-use Rattle.echo_links.proofs.Addresses.{same_address_decides, same_is}
-use Rattle.echo_links.proofs.LinkLoops.{any_last}
+use Rattle.echo_links.specs.{Links.Area, Links.same_address, Found.HaveTheSame, Found.IsNumberOf, Found.LeadToAreas, Found.address_order}
+use Rattle.echo_links.proofs.{Addresses.same_address_decides, Addresses.same_is, LinkLoops.any_last}
 
 -- a test of two texts, turned
 pub bytes_turned : (s t : List ℕ) → bytes_eq s t ≡ bytes_eq t s

@@ -1,13 +1,10 @@
 -- Bytes are a link file or have one fault, and it is never out of memory.
 use Rattle.std.proofs.Common.{◌≡◌, ℕ, ◌+◌, nat_lt, Bool, true, false, cond, List, [], ◌∷◌, length, map, refl, sym, ap, ◌∙◌, Option, Some, None, Result, Ok, Err, arith}
-use Rattle.std.specs.Prelude.{is_err, ⊤}
-use Rattle.std.specs.Option.{option_or}
-use Rattle.std.specs.List.{list_any}
+use Rattle.std.specs.{Prelude.is_err, Prelude.⊤, Option.option_or, List.list_any}
 use Rattle.echo_addr.specs.Address.{address_in, outcome}
-use Rattle.echo_links.specs.declared.fault.LinkFault.{LinkFault}
-use Rattle.echo_links.specs.declared.fault.LinkFault.TheVariants as fault
-use Rattle.echo_links.specs.Links.{LinkFile, same_address}
 use Rattle.echo_links.specs.LinkLines.{LinksOf, after_first_of, area_fault, file_fault, file_of, first_fault, is_name_line, is_one_address, is_system_line, line_fault, links_fault, name_fault, name_in, system_fault, words}
+use Rattle.echo_links.specs.{declared.fault.LinkFault.LinkFault, Links.LinkFile, Links.same_address}
+use Rattle.echo_links.specs.declared.fault.LinkFault.TheVariants as fault
 
 -- the answer for bytes with this fault, or without one
 abbrev answer_with : List ℕ → Option LinkFault → Result LinkFile LinkFault

@@ -1,22 +1,14 @@
 -- The lines of a link file, and their words.
 use Rattle.std.proofs.Common.{◌≡◌, ℕ, zero, suc, ◌+◌, ◌-◌, ◌<◌, ◌==◌, not, nat_lt, nat_eq, Bool, true, false, cond, List, [], ◌∷◌, ◌++◌, length, take, drop, get_or, codes, refl, sym, ap, subst, ◌∙◌, Some, None, Result, Ok, Err, arith, reverse}
-use Rattle.std.specs.Prelude.{bytes_eq, filter, is_err, is_ok}
-use Rattle.std.specs.Result.{result_ok}
-use Rattle.std.specs.List.{AllByRecursion, list_all, starts_with, list_any, onto_first, position_or_len, prefix_len, slice_split}
 use Rattle.std.proofs.lemmas.Bool.{and_parts, cases_Bool, cond-false, cond-true, false_from_ne_true, lt-ltb, ne_eqb, or_parts, true≢false, eqb-true}
-use Rattle.std.proofs.lemmas.List.{reverse-append}
-use Rattle.std.proofs.lemmas.List.Elements.{All-from_get_or}
-use Rattle.std.proofs.lemmas.List.Sums.{position_or_len_is}
-use Rattle.std.proofs.lemmas.List.Splits.{slice_split_first, slice_split_none}
+use Rattle.std.proofs.lemmas.List.{reverse-append, Elements.All-from_get_or, Sums.position_or_len_is, Splits.slice_split_first, Splits.slice_split_none}
+use Rattle.std.specs.List.{AllByRecursion, list_all, starts_with, list_any, onto_first, position_or_len, prefix_len, slice_split}
+use Rattle.std.specs.{Prelude.bytes_eq, Prelude.filter, Prelude.is_err, Prelude.is_ok, Result.result_ok}
 use Rattle.memchr.specs.Find.{IsFirstByte, is_byte}
-use Rattle.echo_addr.specs.declared.address.Address.{Address}
-use Rattle.echo_addr.specs.declared.fault.AddrFault.{AddrFault}
-use Rattle.echo_addr.specs.Address.{AddressOf, address_in, answer_of, refusal}
+use Rattle.echo_addr.specs.{declared.address.Address.Address, declared.fault.AddrFault.AddrFault, Address.AddressOf, Address.address_in, Address.answer_of, Address.refusal}
 use Rattle.echo_addr.specs.Entries.{is_blank, tokens}
-use Rattle.echo_addr.proofs.Outcomes.{address_in-written, outcome-written}
-use Rattle.echo_addr.proofs.Pieces.{HasFirst, first_of_split}
-use Rattle.echo_text.specs.Lines.{is_feed}
-use Rattle.echo_text.specs.Lines.{trimmed}
+use Rattle.echo_addr.proofs.{Outcomes.address_in-written, Outcomes.outcome-written, Pieces.HasFirst, Pieces.first_of_split}
+use Rattle.echo_text.specs.Lines.{is_feed, trimmed}
 use Rattle.echo_links.specs.LinkLines.{ended_pieces, file_lines, first_of, is_control_byte, is_skipped, is_space_or_tab, name_in, without_return, without_spaces, words}
 use Rattle.echo_links.specs.LinkReading.{IsWordOf}
 

@@ -1,15 +1,10 @@
 -- Reading the links of an AREA line one by one.
 use Rattle.std.proofs.Common.{◌≡◌, ℕ, ◌||◌, Bool, true, false, List, [], ◌∷◌, ◌++◌, map, refl, ap, ◌∙◌, Some, None, arith}
-use Rattle.std.specs.Prelude.{is_err}
-use Rattle.std.specs.List.{list_any}
-use Rattle.std.proofs.lemmas.Bool.{cond-false, cond-true}
-use Rattle.std.proofs.lemmas.List.{append_assoc, append-nil}
-use Rattle.echo_addr.specs.declared.address.Address.{Address}
-use Rattle.echo_addr.specs.Address.{address_in, outcome}
+use Rattle.std.proofs.lemmas.{Bool.cond-false, Bool.cond-true, List.append_assoc, List.append-nil}
+use Rattle.std.specs.{Prelude.is_err, List.list_any}
+use Rattle.echo_addr.specs.{declared.address.Address.Address, Address.address_in, Address.outcome}
 use Rattle.echo_links.specs.declared.fault.LinkFault.TheVariants as fault
-use Rattle.echo_links.specs.Links.{same_address}
-use Rattle.echo_links.specs.LinkLines.{links_fault}
-use Rattle.echo_links.specs.LinkReading.{IsWordOf}
+use Rattle.echo_links.specs.{Links.same_address, LinkLines.links_fault, LinkReading.IsWordOf}
 
 -- these links were read of the words, and these words are left
 pub record LinksRead (number : ℕ) (all later : List (List ℕ)) (links : List Address) : Type 0 where

@@ -1,20 +1,14 @@
 -- Reading a link file line by line.
 use Rattle.std.proofs.Common.{◌≡◌, ℕ, ◌+◌, ◌||◌, not, Bool, true, false, cond, List, [], ◌∷◌, ◌++◌, map, codes, refl, sym, ap, ◌∙◌, Option, Some, None, inl, inr, ◌⊎◌, arith}
+use Rattle.std.proofs.lemmas.{Bool.cases_Bool, Bool.cond-false, Bool.cond-true, List.append_assoc, List.append-nil}
 use Rattle.std.specs.Prelude.{bytes_eq, filter, find, is_some, option_map, unwrap_or}
-use Rattle.std.specs.Option.{option_or}
-use Rattle.std.specs.List.{list_any}
-use Rattle.std.proofs.lemmas.Bool.{cases_Bool, cond-false, cond-true}
-use Rattle.std.proofs.lemmas.List.{append_assoc, append-nil}
+use Rattle.std.specs.{Option.option_or, List.list_any}
 use Rattle.echo_addr.specs.declared.address.Address.{Address}
-use Rattle.echo_links.specs.declared.fault.LinkFault.{LinkFault}
-use Rattle.echo_links.specs.declared.fault.LinkFault.TheVariants as fault
-use Rattle.echo_links.specs.declared.link_file.reading.Reading.{Reading}
-use Rattle.echo_links.specs.Links.{Area}
 use Rattle.echo_links.specs.LinkLines.{area_in, file_fault, file_lines, file_of, first_fault, is_area_line, is_name_line, is_skipped, is_system_line, line_fault, name_in, no_address, system_in}
 use Rattle.echo_links.specs.LinkReading.{Adds, Holds, Knows, areas_of, is_area_known, kept, name_of, system_of}
-use Rattle.echo_links.proofs.Found.{bytes_turned}
-use Rattle.echo_links.proofs.LinkBytes.{no_lines_left, skipped_word}
-use Rattle.echo_links.proofs.LinkTaking.{areas_one, name_one, or_none, system_one}
+use Rattle.echo_links.specs.{declared.fault.LinkFault.LinkFault, declared.link_file.reading.Reading.Reading, Links.Area}
+use Rattle.echo_links.specs.declared.fault.LinkFault.TheVariants as fault
+use Rattle.echo_links.proofs.{Found.bytes_turned, LinkBytes.no_lines_left, LinkBytes.skipped_word, LinkTaking.areas_one, LinkTaking.name_one, LinkTaking.or_none, LinkTaking.system_one}
 
 -- ---- more lines
 

@@ -1,24 +1,15 @@
 -- The content that each kind of line adds to a link file, and the reasons to refuse a line.
 use Rattle.std.proofs.Common.{◌≡◌, ℕ, not, Bool, true, false, cond, List, [], ◌∷◌, ◌++◌, length, map, drop, codes, refl, sym, ap, ◌∙◌, Option, Some, None, Result, Ok, Err, inr, ◌⊎◌, arith}
+use Rattle.std.proofs.lemmas.{Bool.cond-false, Bool.cond-true, Bool.not_from_true, List.append-nil}
 use Rattle.std.specs.Prelude.{bytes_eq, filter, find, is_some, option_map}
-use Rattle.std.specs.Option.{option_or}
-use Rattle.std.specs.Result.{MatchResult}
-use Rattle.std.specs.Cmp.Lexicographic.{bytes_decides}
-use Rattle.std.specs.List.{list_any, position_or_len}
-use Rattle.std.proofs.lemmas.Bool.{cond-false, cond-true, not_from_true}
-use Rattle.std.proofs.lemmas.List.{append-nil}
-use Rattle.echo_addr.specs.declared.address.Address.{Address}
-use Rattle.echo_addr.specs.Address.{address_in}
-use Rattle.echo_addr.specs.Entries.{is_blank, tokens}
+use Rattle.std.specs.{Option.option_or, Result.MatchResult, Cmp.Lexicographic.bytes_decides, List.list_any, List.position_or_len}
+use Rattle.echo_addr.specs.{declared.address.Address.Address, Address.address_in, Entries.is_blank, Entries.tokens}
 use Rattle.echo_text.specs.Lines.{is_tag, trimmed}
-use Rattle.echo_links.specs.declared.fault.LinkFault.{LinkFault}
-use Rattle.echo_links.specs.declared.fault.LinkFault.TheVariants as fault
-use Rattle.echo_links.specs.declared.link_file.reading.Reading.{Reading}
-use Rattle.echo_links.specs.Links.{Area, upper}
 use Rattle.echo_links.specs.LinkLines.{after_first_of, area_fault, area_in, first_of, has_word, is_area_line, is_control_byte, is_name_line, is_skipped, is_system_line, line_fault, links_fault, name_fault, name_in, system_fault, system_in, words}
 use Rattle.echo_links.specs.LinkReading.{Adds, Knows, TakesLine, area_refusal, areas_of, is_area_known, name_of, name_refusal, system_of, system_refusal}
-use Rattle.echo_links.proofs.LinkBytes.{name_trimmed, no_feed, tokens_words}
-use Rattle.echo_links.proofs.LinkFiles.{other_word}
+use Rattle.echo_links.specs.{declared.fault.LinkFault.LinkFault, declared.link_file.reading.Reading.Reading, Links.Area, Links.upper}
+use Rattle.echo_links.specs.declared.fault.LinkFault.TheVariants as fault
+use Rattle.echo_links.proofs.{LinkBytes.name_trimmed, LinkBytes.no_feed, LinkBytes.tokens_words, LinkFiles.other_word}
 
 pub or_none : {X : Type 0} (o : Option X) → o ≡ option_or o None
 or_none None = refl

@@ -1,10 +1,6 @@
 -- Look-ups in ordered lists, compared with the plain lists.
 use Rattle.std.specs.Prelude.{◌≡◌, ◌<◌, ℕ, List, length, Option, None, MatchOption, bytes_eq, find, slice_get}
-use Rattle.std.specs.declared.cmp.Ordering.{Ordering}
-use Rattle.std.specs.Ordering.{is_eq, nat_cmp, ordering_then}
-use Rattle.std.specs.Cmp.Lexicographic.{slice_cmp}
-use Rattle.std.specs.List.{list_any}
-use Rattle.std.specs.Map.{lookup}
+use Rattle.std.specs.{declared.cmp.Ordering.Ordering, Ordering.is_eq, Ordering.nat_cmp, Ordering.ordering_then, Cmp.Lexicographic.slice_cmp, List.list_any, Map.lookup}
 use Rattle.echo_addr.specs.declared.address.Address.{Address}
 use Rattle.echo_links.specs.Links.{Area, same_address}
 

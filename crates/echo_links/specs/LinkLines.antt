@@ -1,13 +1,11 @@
 -- Link files: lines of SYSTEM, NAME and AREA.
 use Rattle.std.specs.Prelude.{◌≡◌, ℕ, ◌+◌, ◌-◌, ◌==◌, ◌||◌, ◌&&◌, not, nat_eq, nat_lt, Bool, false, List, [], ◌∷◌, map, length, take, drop, codes, if◌then◌else◌, Option, Some, None, option_map, unwrap_or, Result, Ok, Err, is_ok, is_err, bytes_eq, filter, find}
-use Rattle.std.specs.Option.{option_or}
 use Rattle.std.specs.List.{ends_with, list_all, list_any, prefix_len, slice_split, starts_with, suffix_len}
-use Rattle.echo_addr.specs.declared.address.Address.{Address}
-use Rattle.echo_addr.specs.Address.{address_in, outcome}
+use Rattle.std.specs.Option.{option_or}
+use Rattle.echo_addr.specs.{declared.address.Address.Address, Address.address_in, Address.outcome}
 use Rattle.echo_text.specs.Lines.{is_feed, is_tag}
-use Rattle.echo_links.specs.declared.fault.LinkFault.{LinkFault}
+use Rattle.echo_links.specs.{declared.fault.LinkFault.LinkFault, Links.Area, Links.LinkFile, Links.same_address, Links.upper}
 use Rattle.echo_links.specs.declared.fault.LinkFault.TheVariants as fault
-use Rattle.echo_links.specs.Links.{Area, LinkFile, same_address, upper}
 
 -- A line without the 0D before its 0A.
 abbrev pub without_return : List ℕ → List ℕ

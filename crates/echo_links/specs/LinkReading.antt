@@ -1,15 +1,11 @@
 -- The content of a link file that a reader has collected, line by line.
 use Rattle.std.specs.Prelude.{◌≡◌, ◌⊎◌, ℕ, ◌++◌, nat_lt, not, Bool, true, false, is_err, is_ok, List, [], ◌∷◌, length, map, if◌then◌else◌, Option, Some, None, option_map, is_some, Result, Ok, Err, bytes_eq, filter, find}
-use Rattle.std.specs.Option.{option_or}
-use Rattle.std.specs.List.{list_any}
-use Rattle.echo_addr.specs.declared.address.Address.{Address}
-use Rattle.echo_addr.specs.Address.{address_in, outcome}
+use Rattle.std.specs.{Option.option_or, List.list_any}
+use Rattle.echo_addr.specs.{declared.address.Address.Address, Address.address_in, Address.outcome}
 use Rattle.echo_text.specs.Lines.{is_tag}
-use Rattle.echo_links.specs.declared.fault.LinkFault.{LinkFault}
-use Rattle.echo_links.specs.declared.fault.LinkFault.TheVariants as fault
-use Rattle.echo_links.specs.declared.link_file.reading.Reading.{Reading}
-use Rattle.echo_links.specs.Links.{Area, upper}
 use Rattle.echo_links.specs.LinkLines.{after_first_of, area_in, file_lines, first_fault, first_of, is_area_line, is_name_line, is_one_address, is_skipped, is_system_line, line_fault, links_fault, name_in, system_in, tag_in}
+use Rattle.echo_links.specs.{declared.fault.LinkFault.LinkFault, declared.link_file.reading.Reading.Reading, Links.Area, Links.upper}
+use Rattle.echo_links.specs.declared.fault.LinkFault.TheVariants as fault
 
 -- The address of the word, or `None` if the word is no address.
 abbrev pub IsWordOf : List ℕ → Option Address → Type 0

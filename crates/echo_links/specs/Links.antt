@@ -1,11 +1,8 @@
 -- Comparing addresses, and the parts of a link file.
 use Rattle.std.specs.Prelude.{map, ◌≡◌, ◌≢◌, ◌≤◌, ℕ, ◌==◌, ◌&&◌, AllPairs, length, Bool, true, List, [], Option, option_map, unwrap_or, is_some, bytes_eq, find}
-use Rattle.std.specs.Char.{to_ascii_uppercase}
-use Rattle.std.specs.List.{AllByRecursion, list_any}
-use Rattle.echo_addr.specs.declared.address.Address.{Address}
-use Rattle.echo_addr.specs.Address.{IsAddress}
-use Rattle.echo_text.specs.Lines.{is_tag}
-use Rattle.echo_text.specs.Echo.{IsLine}
+use Rattle.std.specs.{Char.to_ascii_uppercase, List.AllByRecursion, List.list_any}
+use Rattle.echo_addr.specs.{declared.address.Address.Address, Address.IsAddress}
+use Rattle.echo_text.specs.{Lines.is_tag, Echo.IsLine}
 
 -- The tag with ASCII letters in upper case.
 abbrev pub upper : List ℕ → List ℕ

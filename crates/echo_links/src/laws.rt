@@ -1,10 +1,8 @@
 //! Laws about the definitions. Each law is the contract of a function that does nothing.
 
 ghost use Rattle.std.specs.Prelude.{◌≡◌, ℕ, List, Result, Ok, Err};
-ghost use Rattle.echo_links.specs.declared.fault.LinkFault.{LinkFault};
+ghost use Rattle.echo_links.specs.{declared.fault.LinkFault.LinkFault, Links.IsFile, Links.LinkFile, LinkLines.LinksOf};
 ghost use Rattle.echo_links.specs.declared.fault.LinkFault.TheVariants as link;
-ghost use Rattle.echo_links.specs.Links.{IsFile, LinkFile};
-ghost use Rattle.echo_links.specs.LinkLines.{LinksOf};
 
 /// Bytes are a link file or have a fault, and only one of these holds; out of memory is no fault of
 /// theirs.

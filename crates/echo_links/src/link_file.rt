@@ -1,11 +1,9 @@
 //! A link file, and reading it. `lines` cuts the bytes, `reading` takes line by line, `addresses`
 //! reads the words after the first, `areas` and `links` hold the result.
 ghost use Rattle.std.specs.Prelude.{◌≡◌, ◌⊎◌, length, slice_get, option_copied, option_map, unwrap_or, codes, Result, Err, IfOk};
-ghost use Rattle.echo_links.specs.declared.fault.LinkFault.{LinkFault};
+ghost use Rattle.echo_links.specs.{declared.fault.LinkFault.LinkFault, LinkLines.LinksOf, Links.IsFile, Links.area_of, Links.has_area, Links.is_link};
 ghost use Rattle.echo_links.specs.declared.fault.LinkFault.TheVariants as link;
-ghost use Rattle.echo_links.specs.LinkLines.{LinksOf};
 ghost use Rattle.echo_links.specs.Links as model;
-ghost use Rattle.echo_links.specs.Links.{IsFile, area_of, has_area, is_link};
 
 mod addresses;
 mod areas;

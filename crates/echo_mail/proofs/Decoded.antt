@@ -1,9 +1,7 @@
 -- The bytes that base64 encodes.
 use Rattle.std.proofs.Common.{◌≡◌, ℕ, List, Ok, Err, Some, None, ap}
 use Rattle.std.specs.Result.{result_ok}
-use Rattle.base64.specs.GeneralPurpose.{decode_of, decoded_of}
-use Rattle.base64.specs.declared.engine.general_purpose.GeneralPurpose.{GeneralPurpose}
-use Rattle.base64.specs.declared.decode.DecodeError.{DecodeError}
+use Rattle.base64.specs.{GeneralPurpose.decode_of, GeneralPurpose.decoded_of, declared.engine.general_purpose.GeneralPurpose.GeneralPurpose, declared.decode.DecodeError.DecodeError}
 
 pub decoded_ok : (e : GeneralPurpose) (s b : List ℕ) → decode_of e s ≡ Ok b → decoded_of e s ≡ Some b
 unfolding decoded_of

@@ -1,11 +1,7 @@
 -- A message id that was made of an id is turned back into it.
 use Rattle.std.proofs.Common.{◌≡◌, ℕ, suc, ◌+◌, ◌-◌, ◌&&◌, List, ◌∷◌, ◌++◌, Some, None, Bool, true, if◌then◌else◌, length, drop, take, ap, arith, ◌∙◌, length-append, nat_lt, nat_eq}
-use Rattle.std.specs.Prelude.{slice_range}
-use Rattle.std.specs.List.{ends_with}
-use Rattle.std.specs.Cmp.Lexicographic.{pointwise}
-use Rattle.std.specs.Result.{result_ok}
-use Rattle.std.proofs.Math.Seq.{drop-append_seam, take-append_seam}
-use Rattle.std.proofs.lemmas.Grind.{common_steps}
+use Rattle.std.proofs.{Math.Seq.drop-append_seam, Math.Seq.take-append_seam, lemmas.Grind.common_steps}
+use Rattle.std.specs.{Prelude.slice_range, List.ends_with, Cmp.Lexicographic.pointwise, Result.result_ok}
 use Rattle.hex.specs.Hex.{IsBytes, decode_of, encode_lower}
 use Rattle.hex.proofs.HexLemmas.{decode_of-encode_lower}
 use Rattle.echo_mail.specs.Exported.{digits_in, exported_id, id_back, is_exported, written_id}

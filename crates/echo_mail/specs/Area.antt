@@ -2,8 +2,7 @@
 use Rattle.std.specs.Prelude.{ℕ, ◌==◌, List, codes, Option, Some, None}
 use Rattle.std.specs.List.{before_first}
 use Rattle.echo_text.specs.Lines.{trimmed}
-use Rattle.echo_mail.specs.declared.head.Field.{Field}
-use Rattle.echo_mail.specs.Body.{value_in}
+use Rattle.echo_mail.specs.{declared.head.Field.Field, Body.value_in}
 
 -- The first of several newsgroups, which commas separate (RFC 5536, 3.1.4).
 abbrev pub first_group : List ℕ → List ℕ

@@ -1,14 +1,8 @@
 -- The text of the body of a mail.
 use Rattle.std.specs.Prelude.{ℕ, false, find, List, codes, Option, Result, Ok, Err}
 use Rattle.std.specs.Option.{option_map}
-use Rattle.echo_charset.specs.declared.charset.Charset.{Charset}
-use Rattle.echo_charset.specs.Charset.{decoded_text, is_called}
-use Rattle.echo_mail.specs.declared.fault.MailFault.{MailFault}
-use Rattle.echo_mail.specs.declared.head.Field.{Field}
-use Rattle.echo_mail.specs.declared.mail.Mail.{Mail}
-use Rattle.echo_mail.specs.Content.{charset_of}
-use Rattle.echo_mail.specs.Ends.{returned}
-use Rattle.echo_mail.specs.Transfer.{transferred}
+use Rattle.echo_charset.specs.{declared.charset.Charset.Charset, Charset.decoded_text, Charset.is_called}
+use Rattle.echo_mail.specs.{declared.fault.MailFault.MailFault, declared.head.Field.Field, declared.mail.Mail.Mail, Content.charset_of, Ends.returned, Transfer.transferred}
 
 -- The value of the first field with this name, in letters of either case.
 unfoldable pub value_in : List Field → List ℕ → Option (List ℕ)

@@ -1,13 +1,10 @@
 -- The type and charset of a body (RFC 2045, 5).
 use Rattle.std.specs.Prelude.{ℕ, ◌==◌, ◌&&◌, not, Bool, List, [], ◌∷◌, codes, drop, slice_index, take, Option, Some, None, Result, Ok, Err, if◌then◌else◌}
-use Rattle.std.specs.List.{before_first, list_any, prefix_len}
-use Rattle.std.specs.Int.{is_in_range}
-use Rattle.echo_charset.specs.declared.charset.Charset.{Charset}
+use Rattle.std.specs.{List.before_first, List.list_any, List.prefix_len, Int.is_in_range}
 use Rattle.echo_charset.specs.declared.charset.Charset.TheVariants.{Ascii, Cp437, Cp850, Cp866, Cp1251, Latin1}
-use Rattle.echo_charset.specs.Charset.{is_called, named}
+use Rattle.echo_charset.specs.{declared.charset.Charset.Charset, Charset.is_called, Charset.named}
 use Rattle.echo_text.specs.Lines.{trimmed}
-use Rattle.echo_mail.specs.declared.fault.MailFault.{MailFault}
-use Rattle.echo_mail.specs.declared.fault.MailFault.TheVariants.{Multipart, NotText, UnknownCharset}
+use Rattle.echo_mail.specs.declared.fault.MailFault.{MailFault, TheVariants.Multipart, TheVariants.NotText, TheVariants.UnknownCharset}
 
 -- The byte before each parameter.
 abbrev pub is_semicolon : ℕ → Bool

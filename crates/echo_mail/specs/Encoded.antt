@@ -1,17 +1,12 @@
 -- Encoded words of header fields (RFC 2047).
 use Rattle.std.specs.Prelude.{ℕ, ◌==◌, ◌||◌, nat_eq, Bool, List, [], ◌∷◌, ◌++◌, bytes_eq, codes, drop, is_some, length, map, unwrap_or, Option, Some, None, if◌then◌else◌}
 use Rattle.std.specs.List.{after_first, before_first, starts_with}
-use Rattle.base64.specs.GeneralPurpose.{decoded_of}
-use Rattle.base64.specs.Engines.{standard}
+use Rattle.base64.specs.{GeneralPurpose.decoded_of, Engines.standard}
 use Rattle.echo_addr.specs.Entries.{is_blank}
-use Rattle.echo_charset.specs.declared.charset.Charset.{Charset}
-use Rattle.echo_charset.specs.declared.charset.Charset.TheVariants.{Utf8}
-use Rattle.echo_charset.specs.Charset.{decoded_text, is_called}
+use Rattle.echo_charset.specs.{declared.charset.Charset.Charset, declared.charset.Charset.TheVariants.Utf8, Charset.decoded_text, Charset.is_called}
 use Rattle.echo_text.specs.Lines.{lines}
-use Rattle.echo_mail.specs.declared.encoded.Before.{Before}
-use Rattle.echo_mail.specs.declared.encoded.Before.TheVariants.{Encoded, Nothing, Word}
-use Rattle.echo_mail.specs.Content.{known_charset}
-use Rattle.echo_mail.specs.Quoted.{unescaped}
+use Rattle.echo_mail.specs.declared.encoded.Before.{Before, TheVariants.Encoded, TheVariants.Nothing, TheVariants.Word}
+use Rattle.echo_mail.specs.{Content.known_charset, Quoted.unescaped}
 
 -- A `_` is a blank in the encoding Q.
 abbrev pub space_for : ℕ → ℕ

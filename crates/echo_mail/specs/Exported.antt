@@ -1,7 +1,6 @@
 -- Message ids of mails, made from ids of messages.
 use Rattle.std.specs.Prelude.{ℕ, ◌-◌, ◌==◌, ◌&&◌, nat_eq, nat_lt, Bool, List, ◌++◌, codes, length, slice_index, slice_range, Option, None, if◌then◌else◌}
-use Rattle.std.specs.List.{ends_with}
-use Rattle.std.specs.Result.{result_ok}
+use Rattle.std.specs.{List.ends_with, Result.result_ok}
 use Rattle.hex.specs.Hex.{decode_of, encode_lower}
 
 -- The bytes after the digits.

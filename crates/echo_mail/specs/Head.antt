@@ -1,7 +1,6 @@
 -- The header fields of a mail (RFC 5322).
 use Rattle.std.specs.Prelude.{ℕ, ◌+◌, ◌==◌, ◌&&◌, not, nat_lt, Bool, List, [], ◌∷◌, ◌++◌, drop, slice_index, take, if◌then◌else◌}
-use Rattle.std.specs.List.{prefix_len}
-use Rattle.std.specs.Int.{is_in_range}
+use Rattle.std.specs.{List.prefix_len, Int.is_in_range}
 use Rattle.echo_addr.specs.Entries.{is_blank}
 use Rattle.echo_text.specs.Lines.{trimmed}
 use Rattle.echo_mail.specs.declared.head.Field.{Field}

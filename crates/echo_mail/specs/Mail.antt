@@ -2,10 +2,7 @@
 use Rattle.std.specs.Prelude.{ℕ, ◌≡◌, ◌+◌, ◌⊎◌, nat_eq, true, false, List, codes, drop, map, take, if◌then◌else◌, Result, Ok, Err}
 use Rattle.std.specs.List.{list_all, position_or_len, starts_with}
 use Rattle.echo_text.specs.Lines.{is_return, lines}
-use Rattle.echo_mail.specs.declared.fault.MailFault.{MailFault}
-use Rattle.echo_mail.specs.declared.fault.MailFault.TheVariants.{BadField, Memory}
-use Rattle.echo_mail.specs.declared.mail.Mail.{Mail}
-use Rattle.echo_mail.specs.Ends.{returned}
+use Rattle.echo_mail.specs.{declared.fault.MailFault.MailFault, declared.fault.MailFault.TheVariants.BadField, declared.fault.MailFault.TheVariants.Memory, declared.mail.Mail.Mail, Ends.returned}
 use Rattle.echo_mail.specs.Head.{field_of, head_len, is_field, unfolded}
 
 -- The answer is the expected one, unless memory ran out.

@@ -2,8 +2,7 @@
 use Rattle.std.specs.Prelude.{ℕ, ◌+◌, ◌-◌, ◌==◌, ◌&&◌, ◌||◌, not, nat_lt, Bool, true, false, List, [], ◌∷◌, ◌++◌, drop, length, slice_index, take, if◌then◌else◌}
 use Rattle.std.specs.List.{before_first}
 use Rattle.echo_text.specs.Lines.{trimmed}
-use Rattle.echo_mail.specs.declared.mailbox.Place.{Place}
-use Rattle.echo_mail.specs.Encoded.{decoded_words}
+use Rattle.echo_mail.specs.{declared.mailbox.Place.Place, Encoded.decoded_words}
 
 -- The first byte is in no comment and no quoted string.
 abbrev pub start : Place

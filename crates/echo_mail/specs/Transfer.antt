@@ -1,12 +1,9 @@
 -- The encodings of bodies (RFC 2045, 6).
 use Rattle.std.specs.Prelude.{ℕ, ◌==◌, ◌||◌, Bool, List, codes, filter, Option, Some, None, Result, Ok, Err, if◌then◌else◌}
 use Rattle.std.specs.Int.{is_in_range}
-use Rattle.base64.specs.GeneralPurpose.{decoded_of}
-use Rattle.base64.specs.Engines.{standard}
+use Rattle.base64.specs.{GeneralPurpose.decoded_of, Engines.standard}
 use Rattle.echo_charset.specs.Charset.{is_called}
-use Rattle.echo_mail.specs.declared.fault.MailFault.{MailFault}
-use Rattle.echo_mail.specs.declared.fault.MailFault.TheVariants.{BadBase64, UnknownEncoding}
-use Rattle.echo_mail.specs.declared.transfer.Encoding.{Encoding}
+use Rattle.echo_mail.specs.declared.{fault.MailFault.MailFault, fault.MailFault.TheVariants.BadBase64, fault.MailFault.TheVariants.UnknownEncoding, transfer.Encoding.Encoding}
 use Rattle.echo_mail.specs.declared.transfer.Encoding.TheVariants.{Base64, Plain, QuotedPrintable}
 use Rattle.echo_mail.specs.Quoted.{quoted_printable}
 

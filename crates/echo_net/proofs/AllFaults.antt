@@ -1,31 +1,20 @@
 -- Every fault of the files and their links: the lists hold exactly these, in order.
 use Rattle.std.proofs.Common.{◌≡◌, ◌<◌, ◌+◌, ◌&&◌, ◌||◌, ◌==◌, ◌↔◌, ℕ, Bool, true, false, not, IsTrue, List, [], ◌∷◌, ◌++◌, filter, length, take, drop, get_or, refl, sym, ap, subst, ◌∙◌, append-nil, append_assoc, arith, inl, inr}
-use Rattle.std.specs.Prelude.{Contains}
-use Rattle.std.specs.Cmp.{both_ways}
-use Rattle.std.specs.List.{list_any}
-use Rattle.std.specs.List.Sorted.{IsStrictlySortedBy}
-use Rattle.std.proofs.lemmas.Bool.{and_from, and_parts, cases_lt}
-use Rattle.std.proofs.lemmas.List.{take_more}
-use Rattle.std.proofs.lemmas.List.Elements.{filter-append}
-use Rattle.std.proofs.lemmas.List.Kept.{IsStrictlySortedBy-filter}
+use Rattle.std.proofs.lemmas.{Bool.and_from, Bool.and_parts, Bool.cases_lt, List.take_more, List.Elements.filter-append, List.Kept.IsStrictlySortedBy-filter}
+use Rattle.std.specs.{Prelude.Contains, Cmp.both_ways, List.list_any, List.Sorted.IsStrictlySortedBy}
 use Rattle.echo_addr.specs.declared.address.Address.{Address}
 use Rattle.echo_links.specs.Links.{LinkFile, has_area}
 use Rattle.model_graph.proofs.Members.{Among-from_Contains, Contains-from_Among}
 use Rattle.model_run.proofs.Lists.{Among-filter_from, Among-filter_to}
 use Rattle.echo_filed.specs.Sets.{address_before}
 use Rattle.model_run.specs.Tidy.{carries, lists}
-use Rattle.echo_net.specs.declared.link.Link.{Link}
-use Rattle.echo_net.specs.declared.verdict.NetFault.{NetFault}
 use Rattle.echo_net.specs.declared.verdict.NetFault.TheVariants.{NoSuchArea, TwoFiles, SelfLink, Unknown, OneSided, SameNetNode, Apart, Loop}
-use Rattle.echo_net.specs.declared.verdict.Verdict.TheVariants.{No}
 use Rattle.echo_net.specs.AllFaults.{AddsLinkFaults, AddsTwoFiles, AppliesTo, AreAllFaults, AreFurther, AreLinkFaults, fault_where, in_preference, is_one_sided, is_self_link, is_unknown}
-use Rattle.echo_net.specs.Drawn.{AreLinksInOrder, back, has_address, has_link}
 use Rattle.echo_net.specs.Faults.{AllAreAnswered, AllAreKnown, AreSoundLinks, HaveOneFileEach, IsFirstFault, NoneListsItself}
-use Rattle.echo_net.specs.Firsts.{HasTwin, pair_before}
-use Rattle.echo_net.specs.Nets.{link, systems}
-use Rattle.echo_net.proofs.Drawings.{carriers_held, links_held, links_in_order}
-use Rattle.echo_net.proofs.Orders.{link_order, not_before_itself, same_exact, same_itself}
+use Rattle.echo_net.specs.{declared.link.Link.Link, declared.verdict.NetFault.NetFault, declared.verdict.Verdict.TheVariants.No, Drawn.AreLinksInOrder, Drawn.back, Drawn.has_address, Drawn.has_link}
+use Rattle.echo_net.specs.{Firsts.HasTwin, Firsts.pair_before, Nets.link, Nets.systems}
 use Rattle.echo_net.proofs.Collected.{is_carried, not_carried, twin_from, twin_to, Different-apart}
+use Rattle.echo_net.proofs.{Drawings.carriers_held, Drawings.links_held, Drawings.links_in_order, Orders.link_order, Orders.not_before_itself, Orders.same_exact, Orders.same_itself}
 use Rattle.echo_net.specs.declared.each_fault.Kind.TheVariants as kinds
 
 -- one more item of a filtered list

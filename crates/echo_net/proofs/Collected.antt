@@ -1,37 +1,25 @@
 -- The contents of the lists of carriers and of links.
 use Rattle.std.proofs.Common.{◌≡◌, ◌↔◌, ◌&&◌, IsTrue, List, [], ◌∷◌, ◌++◌, Option, refl, sym, ap, subst, ◌∙◌, inl, inr, ℕ, ◌<◌, ◌+◌, Bool, cond, filter, map, length, take, get_or, ◌≢◌, ◌==◌, Some, None, MatchOption, true, false, arith, ◌≤◌, zero, suc}
-use Rattle.std.specs.Prelude.{Contains, option_map, unwrap_or}
-use Rattle.std.specs.List.{count_by, flat_map, fold, All}
 use Rattle.std.proofs.lemmas.Bool.{and_from, and_parts, cases_Bool, eqb-false, eqb-true, or_parts, cases_lt}
 use Rattle.std.proofs.lemmas.List.{append-nil, length-map, map-append, take_more, get_or_past}
-use Rattle.std.proofs.lemmas.List.Concat.{flat_map-append}
-use Rattle.std.proofs.lemmas.List.Elements.{filter-append, Contains-get_or}
-use Rattle.std.proofs.lemmas.List.Sums.{length-filter, sum_by-append, sum_by-cons}
+use Rattle.std.proofs.lemmas.List.{Concat.flat_map-append, Elements.filter-append, Elements.Contains-get_or, Sums.length-filter, Sums.sum_by-append, Sums.sum_by-cons}
+use Rattle.std.specs.{Prelude.Contains, Prelude.option_map, Prelude.unwrap_or, List.count_by, List.flat_map, List.fold, List.All, Cmp.both_ways}
 use Rattle.echo_addr.specs.declared.address.Address.{Address}
 use Rattle.model_graph.specs.Walk.{Among, Connected, Different, IsAt, Reaches}
-use Rattle.model_graph.proofs.Members.{Among-from_Contains, Contains-from_Among, Among-index, Among-get_or, walk_links}
-use Rattle.echo_links.specs.Links.{LinkFile, area_of, has_area, is_link, links_of, same_address, IsFile}
+use Rattle.model_graph.specs.{Cycle.IsCycle, Cycle.Polygons, Loops.NamedLoop, Reach.FirstUnreached, Rows.IsAscending, Rows.IsGraph, Rows.linked}
+use Rattle.model_graph.proofs.Members.{Among-from_Contains, Contains-from_Among, Among-get_or, walk_links}
+use Rattle.model_graph.proofs.{Renaming.NamedLoop-renamed, Rows.linked_within}
+use Rattle.echo_links.specs.Links.{LinkFile, area_of, has_area, is_link, links_of, same_address}
+use Rattle.echo_links.specs.LinkLines.{no_address}
 use Rattle.echo_filed.specs.Sets.{address_before}
 use Rattle.model_run.specs.Tidy.{carries, lists, Carries, Joined, Tidy}
 use Rattle.model_run.proofs.Lists.{Among-filter_from, Among-filter_to, any-from, any-to, Among-map_to, Among-map_from, Among-flat_map_from, Among-flat_map_to}
-use Rattle.echo_net.specs.declared.link.Link.{Link}
 use Rattle.echo_net.specs.Nets.{carrier_count, carrying, link, linked_pairs, links_from_file, listed_links, systems}
-use Rattle.echo_net.proofs.Orders.{same_exact, same_itself, same_where_neither, not_before_itself}
-use Rattle.echo_links.specs.LinkLines.{no_address}
-use Rattle.model_run.specs.Fits.{FilesFit}
 use Rattle.echo_net.specs.Faults.{AllAreAnswered, AllAreKnown, AreSoundLinks, IsCarried, NetNodesDiffer, NoneListsItself, AreInOrder, IsFirstFault, IsNamedLoop, numbered}
-use Rattle.echo_net.specs.Firsts.{HasTwin, IsFirstLink, IsSmallest, IsSmallestPair}
-use Rattle.std.specs.Cmp.{both_ways}
-use Rattle.model_graph.specs.Cycle.{IsCycle, Polygons}
-use Rattle.model_graph.specs.Loops.{NamedLoop}
-use Rattle.model_graph.specs.Reach.{FirstUnreached}
-use Rattle.model_graph.specs.Rows.{IsAscending, IsGraph, linked}
-use Rattle.model_graph.proofs.Renaming.{NamedLoop-renamed}
-use Rattle.model_graph.proofs.Rows.{linked_within}
-use Rattle.echo_net.specs.declared.verdict.NetFault.{NetFault}
 use Rattle.echo_net.specs.declared.verdict.NetFault.TheVariants.{NoSuchArea, TwoFiles, SelfLink, Unknown, OneSided, SameNetNode, Apart, Loop}
-use Rattle.echo_net.specs.Rows.{AreRows, system_at}
+use Rattle.echo_net.specs.{declared.link.Link.Link, Firsts.HasTwin, Firsts.IsFirstLink, Firsts.IsSmallest, Firsts.IsSmallestPair, declared.verdict.NetFault.NetFault, Rows.AreRows, Rows.system_at}
 use Rattle.echo_net.proofs.Owned.{back, carried, connected, keeps, keeps_back, loop_apart, name, no_later, number, parts, polygons, reaches, reaches_back, renaming, simple, simple_numbers, whole}
+use Rattle.echo_net.proofs.Orders.{same_exact, same_itself, same_where_neither, not_before_itself}
 
 pub carries_listed : (files : List LinkFile) (tag : List ℕ) (a : Address) → Contains (systems (carrying files tag)) a ↔ IsTrue (carries files tag a)
 carries_listed files tag a = (
@@ -166,10 +154,6 @@ module _ (files : List LinkFile) (tag : List ℕ) (carriers : List Address) (lin
   -- each link leads to a carrier
   pub all_carry : AreSoundLinks files tag → (l : Link) → Contains links l → Contains carriers l.to
   all_carry sound l h = (members l.to).1 (sound.known l.from l.to ((listed l).0 h))
-
--- files that were read
-pub files_fit : (files : List LinkFile) → All IsFile files → FilesFit files
-files_fit files all file h = (let (k, inside, is) = Among-index file file files h in subst IsFile is (all k file inside))
 
 -- The graph of an area, and its faults as facts of the net.
 

@@ -1,10 +1,7 @@
 -- The drawing of an area: the contents of its lists, and the facts of each member.
-use Rattle.std.specs.Prelude.{Contains}
+use Rattle.std.specs.{Prelude.Contains, List.Sorted.IsStrictlySortedBy, Ordering.is_lt, List.list_any}
 use Rattle.std.proofs.Common.{◌≡◌, ◌<◌, ◌+◌, ◌↔◌, inl, inr, ℕ, Bool, true, false, IsTrue, if◌then◌else◌, List, [], ◌∷◌, ◌++◌, length, map, take, get_or, refl, sym, ap, subst, ◌∙◌, arith}
-use Rattle.std.specs.List.Sorted.{IsStrictlySortedBy}
-use Rattle.std.specs.Ordering.{is_lt}
-use Rattle.std.proofs.lemmas.Bool.{and_from, and_parts, cases_Bool}
-use Rattle.std.proofs.lemmas.List.{take_more}
+use Rattle.std.proofs.lemmas.{Bool.and_from, Bool.and_parts, Bool.cases_Bool, List.take_more}
 use Rattle.std.proofs.lemmas.List.Elements.{Contains-append_cases, Contains-append_left, Contains-append_right}
 use Rattle.echo_addr.specs.declared.address.Address.{Address}
 use Rattle.echo_links.specs.Links.{LinkFile, same_address, has_area}
@@ -12,16 +9,10 @@ use Rattle.echo_filed.specs.Sets.{address_before}
 use Rattle.model_graph.proofs.Members.{Among-from_Contains, Contains-from_Among}
 use Rattle.model_run.proofs.Lists.{any-from, any-to, Among-map_to, Among-map_from}
 use Rattle.model_run.specs.Tidy.{carries, lists, Carries}
-use Rattle.echo_net.specs.declared.drawing.Drawing.{Drawing}
-use Rattle.echo_net.specs.declared.link.Link.{Link}
-use Rattle.echo_net.specs.declared.verdict.Verdict.{Verdict}
 use Rattle.echo_net.specs.Drawn.{AreLinksInOrder, IsDrawing, IsDrawn, IsDrawnPair, back, has_address, has_link, link_drawn, link_from, loop_links, loop_named, same_link, steps_from, system_drawn, system_from, systems_named, upward}
-use Rattle.echo_net.specs.Nets.{link, systems}
+use Rattle.echo_net.specs.{declared.drawing.Drawing.Drawing, declared.link.Link.Link, declared.verdict.Verdict.Verdict, Nets.link, Nets.systems, declared.verdict.NetFault.NetFault}
+use Rattle.echo_net.specs.{AllFaults.AppliesTo, AllFaults.AreLinkFaults, AllFaults.fault_of, AllFaults.fault_where, Faults.AreSoundLinks}
 use Rattle.echo_net.proofs.Orders.{address_order, link_order, link_total, pair_before_is, same_exact, same_itself, same_where_neither, at_place, earlier_less}
-use Rattle.std.specs.List.{list_any}
-use Rattle.echo_net.specs.declared.verdict.NetFault.{NetFault}
-use Rattle.echo_net.specs.AllFaults.{AppliesTo, AreLinkFaults, fault_of, fault_where}
-use Rattle.echo_net.specs.Faults.{AreSoundLinks}
 use Rattle.echo_net.proofs.Owned.{Different-from_places, in_order_from_sorted, before_back as before_not_after, carried}
 use Rattle.echo_net.specs.declared.each_fault.Kind.TheVariants as kinds
 

@@ -1,32 +1,20 @@
 -- The orders of addresses, of links, and of items sorted by them.
 use Rattle.std.proofs.Common.{◌≡◌, ◌<◌, ◌==◌, ◌&&◌, ◌||◌, nat_lt, ℕ, Bool, true, false, cond, refl, sym, ap, subst, ◌∙◌, inl, inr, ◌⊎◌, ◌≤◌, ◌+◌, List, length, get_or, Result, Ok, Err, arith, ◌↔◌, Option, Some, None, MatchOption, [], ◌∷◌, ◌++◌}
-use Rattle.std.specs.declared.cmp.Ordering.{Ordering}
-use Rattle.std.specs.declared.cmp.Ordering.TheVariants.{Less, Equal, Greater}
-use Rattle.std.specs.Ordering.{MatchOrdering, is_eq, is_lt, nat_cmp, ordering_reverse, ordering_then, is_gt}
-use Rattle.std.specs.Cmp.{IsTotalOrder, nat_cmp_total, on_total, then_total}
 use Rattle.std.proofs.lemmas.Bool.{and_from, and_parts, cond-true, eq-eqb, eqb-true, lt-ltb, cases_lt}
-use Rattle.std.proofs.lemmas.Cmp.{ranked, tied_itself}
-use Rattle.echo_addr.specs.declared.address.Address.{Address}
-use Rattle.echo_addr.specs.declared.address.NetNode.{NetNode}
+use Rattle.std.proofs.lemmas.{Cmp.ranked, Cmp.tied_itself, List.get_or_default, List.append-nil, List.Sorted.ranks_by, List.Sorted.searchable_from_sorted, List.Sorted.sorted_far}
+use Rattle.std.proofs.lemmas.{Map.Keys.Less-from_sorted, List.Elements.Contains-append_left, List.Elements.Contains-get_or, List.Elements.Contains-push, List.Elements.Contains-push_cases}
+use Rattle.std.proofs.lemmas.List.Quantifiers.{all_pairs_push}
+use Rattle.std.specs.Ordering.{MatchOrdering, is_eq, is_lt, nat_cmp, ordering_reverse, ordering_then, is_gt}
+use Rattle.std.specs.declared.cmp.Ordering.{Ordering, TheVariants.Less, TheVariants.Equal, TheVariants.Greater}
+use Rattle.std.specs.{Cmp.IsTotalOrder, Cmp.nat_cmp_total, Cmp.on_total, Cmp.then_total, Prelude.Contains, Prelude.AllPairs, Option.is_some, Result.result_ok}
+use Rattle.std.specs.List.Sorted.{IsStrictlySortedBy, IsSortedBy, IsBinarySearchResult, IsSearchInRange}
+use Rattle.echo_addr.specs.declared.address.{Address.Address, NetNode.NetNode}
 use Rattle.echo_links.specs.Links.{same_address}
 use Rattle.echo_filed.specs.Sets.{address_before}
-use Rattle.echo_net.specs.declared.link.Link.{Link}
-use Rattle.echo_net.specs.declared.owners.Owner.{Owner}
-use Rattle.echo_net.specs.declared.same_net_node.Neighbour.{Neighbour}
-use Rattle.echo_net.specs.Firsts.{pair_before, IsFirstLink}
-use Rattle.std.specs.Prelude.{Contains, AllPairs}
-use Rattle.std.specs.Option.{is_some}
-use Rattle.std.specs.Result.{result_ok}
-use Rattle.std.specs.List.Sorted.{IsStrictlySortedBy, IsSortedBy, IsBinarySearchResult, IsSearchInRange}
-use Rattle.std.proofs.lemmas.List.{get_or_default, append-nil}
-use Rattle.std.proofs.lemmas.List.Sorted.{ranks_by, searchable_from_sorted, sorted_far}
-use Rattle.std.proofs.lemmas.Map.Keys.{Less-from_sorted}
-use Rattle.model_graph.specs.Walk.{IsAt}
-use Rattle.std.proofs.lemmas.List.Elements.{Contains-append_left, Contains-get_or, Contains-push, Contains-push_cases}
-use Rattle.std.proofs.lemmas.List.Quantifiers.{all_pairs_push}
-use Rattle.echo_nodelist.specs.declared.line.Line.{Line}
-use Rattle.echo_net.specs.declared.presence.Absence.{Absence}
+use Rattle.echo_net.specs.{declared.link.Link.Link, declared.owners.Owner.Owner, declared.same_net_node.Neighbour.Neighbour, Firsts.pair_before, Firsts.IsFirstLink, declared.presence.Absence.Absence}
 use Rattle.echo_net.specs.Absent.{IsAbsent, IsReasonOfAbsence, absent_as}
+use Rattle.model_graph.specs.Walk.{IsAt}
+use Rattle.echo_nodelist.specs.declared.line.Line.{Line}
 
 abbrev pub address_order : Address → Address → Ordering
 address_order a b = ordering_then (nat_cmp a.zone b.zone) (ordering_then (nat_cmp a.net b.net) (nat_cmp a.node b.node))

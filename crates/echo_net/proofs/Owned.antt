@@ -1,39 +1,24 @@
 -- Addresses that occur twice among some systems.
 use Rattle.std.proofs.Common.{◌≡◌, ◌<◌, ◌+◌, ◌&&◌, ◌↔◌, ℕ, suc, Some, None, List, [], ◌∷◌, ◌++◌, length, get_or, refl, sym, subst, ap, ◌∙◌, arith, inl, inr, ◌≢◌, ◌≤◌, nat_lt, Bool, true, false, IsTrue, ◌-◌, ◌==◌, not, take, drop}
-use Rattle.std.specs.Prelude.{Contains, slice_get}
-use Rattle.std.specs.List.Sorted.{IsStrictlySortedBy, IsPartitionedBy, IsPartitionPoint}
-use Rattle.std.specs.Ordering.{nat_cmp, ordering_then, is_lt, ordering_reverse}
-use Rattle.std.specs.declared.cmp.Ordering.{Ordering}
-use Rattle.std.specs.declared.cmp.Ordering.TheVariants.{Less}
 use Rattle.std.proofs.lemmas.Bool.{cases_lt, or_parts, and_from, and_parts, cases_Bool, lt-ltb, ltb-true, not-true}
-use Rattle.std.proofs.lemmas.Cmp.{tied_itself}
 use Rattle.std.proofs.lemmas.List.{get_or_default, get_or-drop, get_or-take, get_or_at, get_or_append_left, length-drop, length-take, length-append}
-use Rattle.std.proofs.lemmas.List.Elements.{Contains-append_left, Contains-push, Contains-push_cases, Contains-get_or}
-use Rattle.echo_addr.specs.declared.address.Address.{Address}
-use Rattle.echo_links.specs.Links.{same_address, LinkFile}
-use Rattle.echo_filed.specs.Sets.{address_before}
-use Rattle.echo_net.specs.declared.link.Link.{Link}
-use Rattle.model_graph.specs.Walk.{Different, IsAt, Connected, Reaches, Simple, Among}
-use Rattle.model_graph.proofs.Members.{Among-index, Among-from_Contains, Contains-from_Among}
-use Rattle.echo_net.specs.declared.owners.Owner.{Owner}
-use Rattle.echo_net.specs.Firsts.{IsSmallest, OccursTwice}
-use Rattle.echo_net.specs.Nets.{link}
-use Rattle.echo_net.specs.Pairs.{IsShared}
-use Rattle.echo_net.proofs.Orders.{address_exact, address_order, address_total, link_order, link_total, nat_cmp_less, nat_less, owner_order, owner_total, pair_before_is, then_less, at_place, earlier_from_less, earlier_less, later_not_before, next_alike, before_is, before_less, not_before_itself, same_exact, same_itself, before_again, same_where_neither, not_gt, not_lt, one_place, gt_first}
+use Rattle.std.proofs.lemmas.{Cmp.tied_itself, List.Elements.Contains-append_left, List.Elements.Contains-push, List.Elements.Contains-push_cases, List.Elements.Contains-get_or}
+use Rattle.std.proofs.lemmas.{List.Sums.position_or_len_is, Map.Keys.below_from_sorted}
+use Rattle.std.specs.{Prelude.Contains, Prelude.slice_get, List.Sorted.IsStrictlySortedBy, List.Sorted.IsPartitionedBy, List.Sorted.IsPartitionPoint}
+use Rattle.std.specs.{Ordering.nat_cmp, Ordering.ordering_then, Ordering.is_lt, Ordering.ordering_reverse, declared.cmp.Ordering.Ordering, declared.cmp.Ordering.TheVariants.Less}
 use Rattle.std.specs.List.{list_any, position_or_len, AllZip}
-use Rattle.std.proofs.lemmas.List.Sums.{position_or_len_is}
-use Rattle.echo_links.specs.LinkLines.{no_address}
-use Rattle.model_graph.specs.Cycle.{IsCycle, Polygons}
-use Rattle.model_graph.specs.Loops.{HasUnlinked}
-use Rattle.model_graph.specs.Renaming.{IsRenaming, KeepsOrder}
-use Rattle.model_graph.proofs.Renaming.{IsRenaming-swap, Polygons-renamed, Reaches-renamed}
-use Rattle.model_run.specs.Tidy.{Carries, lists}
+use Rattle.echo_addr.specs.declared.address.Address.{Address}
+use Rattle.echo_links.specs.{Links.same_address, Links.LinkFile, LinkLines.no_address}
+use Rattle.echo_filed.specs.Sets.{address_before}
 use Rattle.echo_net.specs.Faults.{AllAreAnswered, AllAreKnown, AreInOrder, NoneListsItself, numbered}
-use Rattle.echo_net.specs.Rows.{system_at, IsRow}
-use Rattle.model_run.proofs.Places.{lister-carries as lister_carries}
-use Rattle.std.proofs.lemmas.Map.Keys.{below_from_sorted}
-use Rattle.model_graph.specs.Rows.{IsAscending, links_at}
+use Rattle.echo_net.specs.{declared.link.Link.Link, declared.owners.Owner.Owner, Firsts.IsSmallest, Firsts.OccursTwice, Nets.link, Pairs.IsShared, Rows.system_at, Rows.IsRow}
+use Rattle.model_graph.specs.Walk.{Different, IsAt, Connected, Reaches, Simple, Among}
+use Rattle.model_graph.specs.{Cycle.IsCycle, Cycle.Polygons, Loops.HasUnlinked, Renaming.IsRenaming, Renaming.KeepsOrder, Rows.IsAscending, Rows.links_at}
+use Rattle.model_graph.proofs.{Members.Among-index, Members.Among-from_Contains, Members.Contains-from_Among, Renaming.IsRenaming-swap, Renaming.Polygons-renamed, Renaming.Reaches-renamed}
 use Rattle.model_graph.proofs.Rows.{holds_at, place_of}
+use Rattle.echo_net.proofs.Orders.{address_exact, address_order, address_total, link_order, link_total, nat_cmp_less, nat_less, owner_order, owner_total, pair_before_is, then_less, at_place, earlier_from_less, earlier_less, later_not_before, next_alike, before_is, before_less, not_before_itself, same_exact, same_itself, before_again, same_where_neither, not_gt, not_lt, one_place, gt_first}
+use Rattle.model_run.specs.Tidy.{Carries, lists}
+use Rattle.model_run.proofs.Places.{lister-carries as lister_carries}
 
 abbrev pub owner : Address → ℕ → Owner
 owner a n = record { system = a; file = n }

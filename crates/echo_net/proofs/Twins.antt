@@ -1,23 +1,12 @@
 -- Neighbouring items with one key, and systems with one net and node.
 use Rattle.std.proofs.Common.{◌≡◌, ◌≢◌, ◌<◌, ◌≤◌, ◌+◌, ◌-◌, ◌↔◌, ◌⊎◌, ℕ, false, List, [], ◌∷◌, ◌++◌, length, map, get_or, Option, Some, None, MatchOption, refl, sym, subst, ap, ◌∙◌, arith, inl, inr}
-use Rattle.std.specs.Prelude.{Contains, slice_get}
-use Rattle.std.specs.List.Sorted.{IsStrictlySortedBy}
-use Rattle.std.specs.Ordering.{is_gt, ordering_then}
-use Rattle.std.specs.declared.cmp.Ordering.{Ordering}
+use Rattle.std.proofs.lemmas.{Bool.cases_lt, Cmp.tied_itself, Cmp.upto, List.get_or_default, List.Elements.Contains-append_left, List.Elements.Contains-push, List.Elements.Contains-push_cases}
+use Rattle.std.specs.{Prelude.Contains, Prelude.slice_get, List.Sorted.IsStrictlySortedBy, Ordering.is_gt, Ordering.ordering_then, declared.cmp.Ordering.Ordering}
 use Rattle.std.specs.declared.cmp.Ordering.TheVariants.{Less, Equal}
-use Rattle.std.proofs.lemmas.Bool.{cases_lt}
-use Rattle.std.proofs.lemmas.Cmp.{tied_itself, upto}
-use Rattle.std.proofs.lemmas.List.{get_or_default}
-use Rattle.std.proofs.lemmas.List.Elements.{Contains-append_left, Contains-push, Contains-push_cases}
-use Rattle.echo_addr.specs.declared.address.Address.{Address}
-use Rattle.echo_addr.specs.Address.{net_node_of}
+use Rattle.echo_addr.specs.{declared.address.Address.Address, Address.net_node_of}
 use Rattle.model_graph.proofs.Members.{Among-from_Contains, Contains-from_Among}
-use Rattle.echo_net.specs.declared.link.Link.{Link}
-use Rattle.echo_net.specs.declared.same_net_node.Neighbour.{Neighbour}
+use Rattle.echo_net.specs.{declared.link.Link.Link, declared.same_net_node.Neighbour.Neighbour, Firsts.HasTwin, Firsts.IsSmallestPair, Nets.link, Pairs.AreAlike, Pairs.IsTwin, Pairs.neighbour_of}
 use Rattle.model_graph.specs.Walk.{IsAt}
-use Rattle.echo_net.specs.Firsts.{HasTwin, IsSmallestPair}
-use Rattle.echo_net.specs.Nets.{link}
-use Rattle.echo_net.specs.Pairs.{AreAlike, IsTwin, neighbour_of}
 use Rattle.echo_net.proofs.Orders.{address_order, address_total, before_is, before_less, link_order, link_total, neighbour_order, neighbour_total, net_node_exact, net_node_order, net_node_total, pair_before_is, at_place, earlier_from_less, earlier_less, later_not_before, not_gt, not_lt, key_between, next_alike}
 use Rattle.model_run.proofs.Lists.{Among-map_to, Among-map_from}
 

@@ -1,13 +1,9 @@
 -- Systems that a nodelist does not hold.
 use Rattle.std.specs.Prelude.{◌≡◌, ◌≢◌, ℕ, Bool, true, false, List, [], ◌∷◌, Option, Some, None, MatchOption, slice_index_or}
 use Rattle.echo_addr.specs.declared.address.Address.{Address}
-use Rattle.echo_nodelist.specs.declared.keyword.Keyword.{Keyword}
+use Rattle.echo_nodelist.specs.{declared.keyword.Keyword.Keyword, declared.line.Line.Line, declared.line.Line.TheVariants.Note, declared.line.Line.TheVariants.Entry, Back.IsFirstAt, Back.address_at}
 use Rattle.echo_nodelist.specs.declared.keyword.Keyword.TheVariants as keyword
-use Rattle.echo_nodelist.specs.declared.line.Line.{Line}
-use Rattle.echo_nodelist.specs.declared.line.Line.TheVariants.{Note, Entry}
-use Rattle.echo_nodelist.specs.Back.{IsFirstAt, address_at}
-use Rattle.echo_net.specs.declared.presence.Absence.{Absence}
-use Rattle.echo_net.specs.declared.presence.Absence.TheVariants.{Missing, Down}
+use Rattle.echo_net.specs.declared.presence.Absence.{Absence, TheVariants.Missing, TheVariants.Down}
 
 -- Whether the keyword is Down.
 abbrev pub is_down_keyword : Keyword → Bool

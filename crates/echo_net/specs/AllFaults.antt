@@ -4,16 +4,10 @@ use Rattle.std.specs.List.{list_any}
 use Rattle.echo_addr.specs.declared.address.Address.{Address}
 use Rattle.echo_links.specs.Links.{LinkFile, has_area, same_address}
 use Rattle.model_run.specs.Tidy.{Carries, lists}
-use Rattle.echo_net.specs.declared.each_fault.Kind.{Kind}
-use Rattle.echo_net.specs.declared.each_fault.Kind.TheVariants as kinds
-use Rattle.echo_net.specs.declared.link.Link.{Link}
-use Rattle.echo_net.specs.declared.verdict.NetFault.{NetFault}
 use Rattle.echo_net.specs.declared.verdict.NetFault.TheVariants.{NoSuchArea, TwoFiles, SelfLink, Unknown, OneSided, SameNetNode, Apart, Loop}
-use Rattle.echo_net.specs.declared.verdict.Verdict.{Verdict}
-use Rattle.echo_net.specs.declared.verdict.Verdict.TheVariants.{Yes, No}
-use Rattle.echo_net.specs.Drawn.{AreLinksInOrder, back, has_address, has_link}
-use Rattle.echo_net.specs.Firsts.{HasTwin, OccursTwice}
-use Rattle.echo_net.specs.Nets.{link, systems}
+use Rattle.echo_net.specs.declared.{each_fault.Kind.Kind, link.Link.Link, verdict.NetFault.NetFault, verdict.Verdict.Verdict, verdict.Verdict.TheVariants.Yes, verdict.Verdict.TheVariants.No}
+use Rattle.echo_net.specs.{Drawn.AreLinksInOrder, Drawn.back, Drawn.has_address, Drawn.has_link, Firsts.HasTwin, Firsts.OccursTwice, Nets.link, Nets.systems}
+use Rattle.echo_net.specs.declared.each_fault.Kind.TheVariants as kinds
 
 -- The fault of this kind between the two ends of a link.
 abbrev pub fault_of : Kind → Link → NetFault

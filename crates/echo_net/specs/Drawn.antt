@@ -5,21 +5,11 @@ use Rattle.echo_addr.specs.declared.address.Address.{Address}
 use Rattle.echo_links.specs.Links.{LinkFile, same_address}
 use Rattle.echo_filed.specs.Sets.{address_before}
 use Rattle.model_run.specs.Tidy.{Carries, carries, lists}
-use Rattle.echo_net.specs.declared.link.Link.{Link}
-use Rattle.echo_net.specs.declared.drawing.DrawnLink.{DrawnLink}
-use Rattle.echo_net.specs.declared.drawing.DrawnSystem.{DrawnSystem}
-use Rattle.echo_net.specs.declared.drawing.Drawing.{Drawing}
-use Rattle.echo_net.specs.declared.drawing.Mark.{Mark}
-use Rattle.echo_net.specs.declared.drawing.Mark.TheVariants.{Plain, Named, OnLoop}
-use Rattle.echo_net.specs.declared.drawing.Sides.{Sides}
-use Rattle.echo_net.specs.declared.drawing.Sides.TheVariants.{Both, First, Second}
 use Rattle.echo_net.specs.declared.verdict.NetFault.TheVariants.{TwoFiles, SelfLink, SameNetNode, Apart, Loop}
-use Rattle.echo_net.specs.declared.verdict.Verdict.{Verdict}
-use Rattle.echo_net.specs.declared.verdict.Verdict.TheVariants.{No}
-use Rattle.echo_net.specs.Faults.{AreInOrder}
-use Rattle.echo_net.specs.Firsts.{pair_before}
-use Rattle.echo_net.specs.Nets.{link}
-use Rattle.echo_net.specs.Rows.{system_at}
+use Rattle.echo_net.specs.declared.{link.Link.Link, drawing.DrawnLink.DrawnLink, drawing.DrawnSystem.DrawnSystem, drawing.Drawing.Drawing, drawing.Mark.Mark}
+use Rattle.echo_net.specs.declared.drawing.{Mark.TheVariants.Plain, Mark.TheVariants.Named, Mark.TheVariants.OnLoop, Sides.Sides}
+use Rattle.echo_net.specs.declared.{drawing.Sides.TheVariants.Both, drawing.Sides.TheVariants.First, drawing.Sides.TheVariants.Second, verdict.Verdict.Verdict, verdict.Verdict.TheVariants.No}
+use Rattle.echo_net.specs.{Faults.AreInOrder, Firsts.pair_before, Nets.link, Rows.system_at}
 
 -- Whether the address is one of these.
 abbrev pub has_address : List Address → Address → Bool

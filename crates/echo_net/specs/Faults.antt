@@ -1,20 +1,14 @@
 -- The fault of an area of a net: the first clause that fails, and its addresses.
 use Rattle.std.specs.Prelude.{◌≡◌, ◌<◌, ◌&&◌, ◌↔◌, ⊤, nat_lt, ℕ, Bool, true, IsTrue, List, Option, MatchOption, Contains, length}
 use Rattle.std.specs.List.{list_any}
-use Rattle.echo_addr.specs.declared.address.Address.{Address}
-use Rattle.echo_addr.specs.Address.{net_node_of}
-use Rattle.model_graph.specs.Walk.{Different, Reaches}
-use Rattle.model_graph.specs.Loops.{NamedLoopBy}
+use Rattle.echo_addr.specs.{declared.address.Address.Address, Address.net_node_of}
+use Rattle.model_graph.specs.{Walk.Different, Walk.Reaches, Loops.NamedLoopBy}
 use Rattle.echo_links.specs.Links.{LinkFile, has_area}
 use Rattle.echo_filed.specs.Sets.{address_before}
 use Rattle.model_run.specs.Tidy.{Carries, Joined, lists}
-use Rattle.echo_net.specs.declared.verdict.NetFault.{NetFault}
 use Rattle.echo_net.specs.declared.verdict.NetFault.TheVariants.{NoSuchArea, TwoFiles, SelfLink, Unknown, OneSided, SameNetNode, Apart, Loop}
-use Rattle.echo_net.specs.declared.verdict.Verdict.{Verdict}
-use Rattle.echo_net.specs.declared.verdict.Verdict.TheVariants.{Yes, No}
-use Rattle.echo_net.specs.Firsts.{HasTwin, IsSmallest, IsSmallestPair, OccursTwice}
-use Rattle.echo_net.specs.Nets.{systems}
-use Rattle.echo_net.specs.Rows.{system_at}
+use Rattle.echo_net.specs.declared.verdict.{NetFault.NetFault, Verdict.Verdict, Verdict.TheVariants.Yes, Verdict.TheVariants.No}
+use Rattle.echo_net.specs.{Firsts.HasTwin, Firsts.IsSmallest, Firsts.IsSmallestPair, Firsts.OccursTwice, Nets.systems, Rows.system_at}
 
 -- Some file has the area.
 abbrev pub IsCarried : List LinkFile → List ℕ → Type 0

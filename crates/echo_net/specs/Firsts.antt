@@ -1,7 +1,6 @@
 -- The smallest addresses, and the smallest pairs of addresses, with a property.
 use Rattle.std.specs.Prelude.{◌≡◌, ◌<◌, ◌&&◌, ◌||◌, ℕ, Bool, true, false, List, Contains}
-use Rattle.echo_addr.specs.declared.address.Address.{Address}
-use Rattle.echo_addr.specs.Address.{net_node_of}
+use Rattle.echo_addr.specs.{declared.address.Address.Address, Address.net_node_of}
 use Rattle.echo_links.specs.Links.{same_address}
 use Rattle.echo_filed.specs.Sets.{address_before}
 use Rattle.model_graph.specs.Walk.{IsAt}

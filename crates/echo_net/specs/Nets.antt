@@ -1,6 +1,5 @@
 -- The systems that carry an area, and their links.
-use Rattle.std.specs.Prelude.{ℕ, List, map, filter}
-use Rattle.std.specs.List.{count_by, flat_map, sum_by}
+use Rattle.std.specs.{Prelude.ℕ, Prelude.List, Prelude.map, Prelude.filter, List.count_by, List.flat_map, List.sum_by}
 use Rattle.echo_addr.specs.declared.address.Address.{Address}
 use Rattle.echo_links.specs.Links.{LinkFile, has_area, links_of}
 use Rattle.echo_filed.specs.Sets.{address_before}

@@ -1,11 +1,7 @@
 -- Pairs of items in a list that have something in common.
 use Rattle.std.specs.Prelude.{◌≡◌, ◌<◌, ℕ, List, length, slice_index_or}
-use Rattle.echo_addr.specs.declared.address.Address.{Address}
-use Rattle.echo_addr.specs.Address.{net_node_of}
-use Rattle.echo_net.specs.declared.link.Link.{Link}
-use Rattle.echo_net.specs.declared.owners.Owner.{Owner}
-use Rattle.echo_net.specs.declared.same_net_node.Neighbour.{Neighbour}
-use Rattle.echo_net.specs.Nets.{link}
+use Rattle.echo_addr.specs.{declared.address.Address.Address, Address.net_node_of}
+use Rattle.echo_net.specs.{declared.link.Link.Link, declared.owners.Owner.Owner, declared.same_net_node.Neighbour.Neighbour, Nets.link}
 
 -- A system with its net and node.
 abbrev pub neighbour_of : Address → Neighbour

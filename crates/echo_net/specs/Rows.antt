@@ -4,8 +4,7 @@ use Rattle.std.specs.List.{list_any}
 use Rattle.echo_addr.specs.declared.address.Address.{Address}
 use Rattle.echo_links.specs.LinkLines.{no_address}
 use Rattle.model_graph.specs.Rows.{IsAscending, links_at}
-use Rattle.echo_net.specs.declared.link.Link.{Link}
-use Rattle.echo_net.specs.Nets.{link}
+use Rattle.echo_net.specs.{declared.link.Link.Link, Nets.link}
 
 -- The system of this number.
 abbrev pub system_at : List Address → ℕ → Address

@@ -3,9 +3,9 @@
 ghost use Rattle.std.specs.Prelude.{◌≡◌, ◌++◌, ◌↔◌, IfOk, Contains, map};
 ghost use Rattle.std.specs.List.Sorted.{IsStrictlySortedBy};
 ghost use Rattle.echo_addr.specs.declared.address.Address.{Address};
+ghost use Rattle.echo_net.specs.Drawn.{IsDrawing, back, link_from, loop_links, loop_named, mark_of, sides_of, system_from, systems_named, upward};
 ghost use Rattle.echo_net.specs.declared.link.Link.{Link};
 ghost use Rattle.echo_net.specs.Drawn as drawn;
-ghost use Rattle.echo_net.specs.Drawn.{IsDrawing, back, link_from, loop_links, loop_named, mark_of, sides_of, system_from, systems_named, upward};
 
 use crate::carriers::{carriers, is_before, links};
 use crate::link::Link;

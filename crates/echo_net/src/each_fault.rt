@@ -6,10 +6,8 @@ ghost use Rattle.echo_addr.specs.declared.address.Address.{Address};
 ghost use Rattle.echo_links.specs.Links.{LinkFile};
 ghost use Rattle.model_run.specs.Tidy.{carries, lists};
 ghost use Rattle.echo_net.specs.declared.each_fault.Kind.TheVariants as kinds;
-ghost use Rattle.echo_net.specs.declared.link.Link.{Link};
-ghost use Rattle.echo_net.specs.declared.verdict.NetFault.{NetFault};
 ghost use Rattle.echo_net.specs.AllFaults.{AddsLinkFaults, AddsTwoFiles, AreAllFaults, AreFurther, AreLinkFaults, fault_of, fault_where, is_one_sided, is_self_link, is_unknown};
-ghost use Rattle.echo_net.specs.Faults.{IfNo, IsFirstFault};
+ghost use Rattle.echo_net.specs.{declared.link.Link.Link, declared.verdict.NetFault.NetFault, Faults.IfNo, Faults.IsFirstFault};
 
 use crate::area::{Area, area_of};
 use crate::carriers::systems;

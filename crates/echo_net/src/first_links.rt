@@ -1,10 +1,7 @@
 //! The first faulty link.
 
-ghost use Rattle.std.specs.Prelude.{◌≡◌, IfOk, MatchOption, Contains};
-ghost use Rattle.std.specs.List.Sorted.{IsStrictlySortedBy};
-ghost use Rattle.echo_net.specs.declared.link.Link.{Link};
-ghost use Rattle.echo_net.specs.Firsts.{IsFirstLink};
-ghost use Rattle.echo_net.specs.Nets.{link};
+ghost use Rattle.std.specs.{Prelude.◌≡◌, Prelude.IfOk, Prelude.MatchOption, Prelude.Contains, List.Sorted.IsStrictlySortedBy};
+ghost use Rattle.echo_net.specs.{declared.link.Link.Link, Firsts.IsFirstLink, Nets.link};
 
 use crate::link::Link;
 use crate::searching::place_near;

@@ -1,14 +1,11 @@
 //! The faults of an area's graph: systems apart, and cycles that are not fully linked.
 
 ghost use Rattle.std.specs.Prelude.{◌≡◌, ◌<◌, ◌↔◌, IsTrue, IfOk, MatchOption, Contains, length, map};
-ghost use Rattle.std.specs.List.{All};
-ghost use Rattle.std.specs.List.Sorted.{IsStrictlySortedBy};
+ghost use Rattle.std.specs.List.{All, Sorted.IsStrictlySortedBy};
 ghost use Rattle.echo_addr.specs.declared.address.Address.{Address};
 ghost use Rattle.model_graph.specs.Rows.{linked};
 ghost use Rattle.model_run.specs.Tidy.{Carries, Tidy, carries, lists};
-ghost use Rattle.echo_net.specs.declared.link.Link.{Link};
-ghost use Rattle.echo_net.specs.Faults.{AreInOrder, AreSoundLinks, IsFirstFault, numbered};
-ghost use Rattle.echo_net.specs.Rows.{system_at};
+ghost use Rattle.echo_net.specs.{declared.link.Link.Link, Faults.AreInOrder, Faults.AreSoundLinks, Faults.IsFirstFault, Faults.numbered, Rows.system_at};
 
 use crate::link::Link;
 use crate::rows::rows;

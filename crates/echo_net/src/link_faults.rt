@@ -4,8 +4,7 @@ ghost use Rattle.std.specs.Prelude.{◌↔◌, IsTrue, IfOk, MatchOption, Contai
 ghost use Rattle.std.specs.List.Sorted.{IsStrictlySortedBy};
 ghost use Rattle.echo_addr.specs.declared.address.Address.{Address};
 ghost use Rattle.model_run.specs.Tidy.{carries, lists};
-ghost use Rattle.echo_net.specs.declared.link.Link.{Link};
-ghost use Rattle.echo_net.specs.Faults.{AreSoundLinks, IsFirstFault, IsSharedSystem};
+ghost use Rattle.echo_net.specs.{declared.link.Link.Link, Faults.AreSoundLinks, Faults.IsFirstFault, Faults.IsSharedSystem};
 
 use crate::first_links::{one_sided_link, self_link, unknown_link};
 use crate::link::Link;

@@ -3,10 +3,7 @@
 ghost use Rattle.std.specs.Prelude.{◌≡◌, ◌+◌, ◌↔◌, ℕ, IfOk, MatchOption, Contains};
 ghost use Rattle.std.specs.List.Sorted.{IsStrictlySortedBy};
 ghost use Rattle.model_graph.specs.Walk.{Different, IsAt};
-ghost use Rattle.echo_net.specs.declared.link.Link.{Link};
-ghost use Rattle.echo_net.specs.declared.owners.Owner.{Owner};
-ghost use Rattle.echo_net.specs.Firsts.{IsSmallest, OccursTwice};
-ghost use Rattle.echo_net.specs.Pairs.{IsShared};
+ghost use Rattle.echo_net.specs.{declared.link.Link.Link, declared.owners.Owner.Owner, Firsts.IsSmallest, Firsts.OccursTwice, Pairs.IsShared};
 
 use crate::link::Link;
 use echo_addr::{Address, put_in_order};

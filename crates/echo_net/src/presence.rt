@@ -4,8 +4,7 @@ ghost use Rattle.std.specs.Prelude.{◌≡◌, ◌↔◌, ◌++◌, true, IfOk, 
 ghost use Rattle.echo_addr.specs.declared.address.Address.{Address};
 ghost use Rattle.echo_filed.specs.Sets.{address_before};
 ghost use Rattle.model_run.specs.Tidy.{Carries};
-ghost use Rattle.echo_net.specs.declared.presence.Absence.{Absence};
-ghost use Rattle.echo_net.specs.Absent.{IsAbsent, IsReasonOfAbsence, absent_as, is_down_line};
+ghost use Rattle.echo_net.specs.{declared.presence.Absence.Absence, Absent.IsAbsent, Absent.IsReasonOfAbsence, Absent.absent_as, Absent.is_down_line};
 
 use crate::carriers::carriers;
 use echo_addr::Address;

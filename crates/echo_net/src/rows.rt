@@ -2,10 +2,8 @@
 
 ghost use Rattle.std.specs.Prelude.{◌≡◌, ◌<◌, ◌↔◌, ℕ, IfOk, Contains};
 ghost use Rattle.std.specs.List.Sorted.{IsStrictlySortedBy};
-ghost use Rattle.model_graph.specs.Rows.{IsAscending};
-ghost use Rattle.echo_net.specs.declared.link.Link.{Link};
-ghost use Rattle.model_graph.specs.Walk.{IsAt};
-ghost use Rattle.echo_net.specs.Rows.{AreRows};
+ghost use Rattle.model_graph.specs.{Rows.IsAscending, Walk.IsAt};
+ghost use Rattle.echo_net.specs.{declared.link.Link.Link, Rows.AreRows};
 
 use crate::carriers::is_before;
 use crate::link::Link;

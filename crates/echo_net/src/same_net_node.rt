@@ -3,9 +3,7 @@
 ghost use Rattle.std.specs.Prelude.{◌≡◌, ◌<◌, ◌+◌, ◌↔◌, ◌⊎◌, ℕ, IsTrue, IfOk, MatchOption, OnOk, Contains, length, map};
 ghost use Rattle.std.specs.List.Sorted.{IsStrictlySortedBy};
 ghost use Rattle.echo_addr.specs.declared.address.Address.{Address};
-ghost use Rattle.echo_net.specs.declared.link.Link.{Link};
-ghost use Rattle.echo_net.specs.Firsts.{HasTwin, IsSmallestPair};
-ghost use Rattle.echo_net.specs.Pairs.{IsTwin, neighbour_of};
+ghost use Rattle.echo_net.specs.{declared.link.Link.Link, Firsts.HasTwin, Firsts.IsSmallestPair, Pairs.IsTwin, Pairs.neighbour_of};
 
 use crate::link::Link;
 use echo_addr::{Address, NetNode, put_in_order};

@@ -1,21 +1,13 @@
 -- Lines that are read hold no 1A and no 0A, their fields no commas: so they keep the rules of a nodelist.
 use Rattle.std.proofs.Common.{◌≡◌, ℕ, ◌-◌, ◌≤◌, ◌==◌, ◌&&◌, not, nat_lt, Bool, true, List, [], ◌∷◌, length, take, drop, map, reverse, refl, sym, ap, ◌∙◌, arith, inl, inr, Option, Some, None, Ok}
-use Rattle.std.specs.List.{list_all, onto_first, slice_split}
-use Rattle.std.specs.Io.BufRead.{ends_with_byte, strip_last}
-use Rattle.std.proofs.lemmas.List.{get_or-take, length-take-le, reverse-append, take-append-drop}
-use Rattle.std.proofs.lemmas.List.Elements.{All-from_get_or}
-use Rattle.std.proofs.lemmas.List.Folds.{list_all-append}
-use Rattle.std.proofs.lemmas.List.Splits.{slice_split-cons_no, slice_split-cons_yes}
-use Rattle.std.proofs.lemmas.List.Sums.{fails_before_first, list_all-from_AllPass, prefix_len-le-length}
 use Rattle.std.proofs.lemmas.Bool.{and_from, and_parts, cases_Bool, cond_both, ltb-false}
-use Rattle.echo_nodelist.specs.declared.keyword.Keyword.{Keyword}
-use Rattle.echo_nodelist.specs.declared.line.Line.{Line}
-use Rattle.echo_nodelist.specs.declared.line.Line.TheVariants.{Entry}
-use Rattle.echo_addr.specs.Pieces.{without_empty_last}
-use Rattle.echo_nodelist.specs.Raw.{is_end, is_feed, lines_of, before_end}
+use Rattle.std.proofs.lemmas.List.{get_or-take, length-take-le, reverse-append, take-append-drop, Elements.All-from_get_or, Folds.list_all-append}
+use Rattle.std.proofs.lemmas.List.{Splits.slice_split-cons_no, Splits.slice_split-cons_yes, Sums.fails_before_first, Sums.list_all-from_AllPass, Sums.prefix_len-le-length}
+use Rattle.std.specs.{List.list_all, List.onto_first, List.slice_split, Io.BufRead.ends_with_byte, Io.BufRead.strip_last}
 use Rattle.echo_nodelist.specs.Line.{entry_in, is_fit, number_of, with_keyword, with_number}
-use Rattle.echo_nodelist.specs.Back.{zone_back}
 use Rattle.echo_nodelist.specs.Nodelist.{AreLines, AreRead, IsGoodLine, IsNodelist, NodelistOf, in_zone, is_field_byte, is_inner, line_outcome, placed}
+use Rattle.echo_nodelist.specs.{declared.keyword.Keyword.Keyword, declared.line.Line.Line, declared.line.Line.TheVariants.Entry, Raw.is_end, Raw.is_feed, Raw.lines_of, Raw.before_end, Back.zone_back}
+use Rattle.echo_addr.specs.Pieces.{without_empty_last}
 
 -- ---- bytes of pieces
 

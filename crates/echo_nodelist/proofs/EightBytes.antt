@@ -1,13 +1,7 @@
 -- The checksum of eight bytes more, by the checksums of single bytes with bytes 00 after them.
 use Rattle.std.proofs.Common.{◌≡◌, ℕ, zero, suc, ◌/◌, ◌%◌, ◌^◌, ◌<◌, List, [], ◌∷◌, ◌++◌, length, get_or, take, drop, ◌-◌, ◌≤◌, replicate, Bool, refl, sym, ap, ◌∙◌, arith}
-use Rattle.std.specs.List.{flat_map, fold}
-use Rattle.std.specs.Int.{bit_at}
-use Rattle.std.specs.Int.Bits.{bit_xor}
-use Rattle.std.proofs.lemmas.Nat.{shr_split, xor_of_16}
-use Rattle.std.proofs.lemmas.Nat.Bits.{bit_at_cat_low}
-use Rattle.std.proofs.lemmas.List.{length-append, take_all}
-use Rattle.std.proofs.lemmas.List.Sums.{fold-append}
-use Rattle.std.proofs.lemmas.List.Concat.{flat_map-append}
+use Rattle.std.proofs.lemmas.{Nat.shr_split, Nat.xor_of_16, Nat.Bits.bit_at_cat_low, List.length-append, List.take_all, List.Sums.fold-append, List.Concat.flat_map-append}
+use Rattle.std.specs.{List.flat_map, List.fold, Int.bit_at, Int.Bits.bit_xor}
 use Rattle.echo_nodelist.specs.Crc.{added, bits_of, bits_value, crc, zeros}
 use Rattle.echo_nodelist.proofs.Division.{added_both, added_to_zeros, added_zeros, fold_sum, fold_two, shifted}
 use Rattle.echo_nodelist.proofs.Registers.{bits_of-xor, bits_of-zero, crc-lt, crc_register, cut_bits, length-bits_of, number_of_bits, register, register_bits, same_bits}

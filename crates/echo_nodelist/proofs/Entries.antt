@@ -1,13 +1,10 @@
 -- The content of the fields of an entry.
 use Rattle.std.proofs.Common.{◌≡◌, ℕ, ◌<◌, ◌≤◌, nat_lt, List, ◌∷◌, length, sym, ap, ◌∙◌, Some, None, Ok, Err, arith}
+use Rattle.std.proofs.lemmas.{List.Splits.slice_split_first, Bool.cond-false, Bool.cond-true, Bool.le-ltb, Bool.lt-ltb}
 use Rattle.std.specs.List.{after_first, before_first, position_or_len, slice_split}
-use Rattle.std.proofs.lemmas.List.Splits.{slice_split_first}
-use Rattle.std.proofs.lemmas.Bool.{cond-false, cond-true, le-ltb, lt-ltb}
-use Rattle.echo_nodelist.specs.declared.keyword.Keyword.{Keyword}
-use Rattle.echo_nodelist.specs.declared.line.Line.TheVariants.{Entry}
-use Rattle.echo_nodelist.specs.declared.fault.NodeFault.TheVariants.{BadKeyword, BadNumber, TooFewFields}
-use Rattle.echo_nodelist.specs.Raw.{is_comma}
 use Rattle.echo_nodelist.specs.Line.{entry_in, keyword_of, number_of, with_keyword, with_number}
+use Rattle.echo_nodelist.specs.declared.{keyword.Keyword.Keyword, line.Line.TheVariants.Entry}
+use Rattle.echo_nodelist.specs.{declared.fault.NodeFault.TheVariants.BadKeyword, declared.fault.NodeFault.TheVariants.BadNumber, declared.fault.NodeFault.TheVariants.TooFewFields, Raw.is_comma}
 use Rattle.echo_nodelist.proofs.Pieces.{one_piece}
 
 -- the first field, and the fields after it

@@ -1,12 +1,8 @@
 -- The hub over a line, looked for from the line back.
 use Rattle.std.proofs.Common.{◌≡◌, ℕ, ◌+◌, ◌<◌, nat_lt, true, false, cond, List, ◌∷◌, length, get_or, take, reverse, sym, ap, ◌∙◌, Option, None}
-use Rattle.std.proofs.lemmas.List.{length-reverse, take_more}
-use Rattle.std.proofs.lemmas.Bool.{cond-false, cond-true, lt-ltb}
+use Rattle.std.proofs.lemmas.{List.length-reverse, List.take_more, Bool.cond-false, Bool.cond-true, Bool.lt-ltb}
 use Rattle.echo_addr.specs.declared.address.Address.{Address}
-use Rattle.echo_nodelist.specs.declared.keyword.Keyword.{Keyword}
-use Rattle.echo_nodelist.specs.declared.line.Line.{Line}
-use Rattle.echo_nodelist.specs.declared.line.Line.TheVariants.{Entry}
-use Rattle.echo_nodelist.specs.Line.{begins_net, is_hub}
+use Rattle.echo_nodelist.specs.{declared.keyword.Keyword.Keyword, declared.line.Line.Line, declared.line.Line.TheVariants.Entry, Line.begins_net, Line.is_hub}
 use Rattle.echo_nodelist.specs.Back.{address_back, each_back, lines_back, nearest_hub}
 use Rattle.echo_nodelist.proofs.LookingBack.{kept_at, length-each_back, reverse-push}
 

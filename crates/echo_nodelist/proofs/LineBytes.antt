@@ -1,13 +1,8 @@
 -- The written bytes of a line, piece by piece.
 use Rattle.std.proofs.Common.{◌≡◌, ℕ, List, [], ◌∷◌, ◌++◌, decimal, sym, ap, Result, Ok, Err, arith}
-use Rattle.std.specs.Prelude.{OnOk}
-use Rattle.std.specs.List.{flat_map, join_with_byte}
 use Rattle.std.proofs.lemmas.List.{append_assoc, append-nil}
-use Rattle.echo_nodelist.specs.declared.keyword.Keyword.{Keyword}
-use Rattle.echo_nodelist.specs.declared.line.Line.{Line}
-use Rattle.echo_nodelist.specs.declared.line.Line.TheVariants.{Entry}
-use Rattle.echo_nodelist.specs.Line.{keyword_text}
-use Rattle.echo_nodelist.specs.Written.{line_text}
+use Rattle.std.specs.{Prelude.OnOk, List.flat_map, List.join_with_byte}
+use Rattle.echo_nodelist.specs.{declared.keyword.Keyword.Keyword, declared.line.Line.Line, declared.line.Line.TheVariants.Entry, Line.keyword_text, Written.line_text}
 
 pub OnOk-map : {A E : Type 0} {P Q : Type 0} (r : Result A E) → (P → Q) → OnOk r P → OnOk r Q
 OnOk-map (Ok x) f p = f p

@@ -2,18 +2,11 @@
 use Rattle.std.specs.Prelude.{MatchOption}
 use Rattle.std.proofs.Common.{◌≡◌, ◌≢◌, ℕ, ◌+◌, ◌<◌, ◌≤◌, nat_lt, ◌-◌, List, [], ◌∷◌, ◌++◌, length, get_or, take, reverse, cond, refl, sym, ap, ◌∙◌, arith, Option, Some, None, Ok, Err, inl, inr}
 use Rattle.std.proofs.lemmas.List.{get_or-append_right, get_or_append_left, length-append, length-reverse, reverse-append, reverse-reverse, take-append-le, take_all}
-use Rattle.std.proofs.Math.ListN.{get_or-eq_default}
-use Rattle.std.proofs.lemmas.Bool.{cases_lt, cond_both, ltb-false, ltb-true}
+use Rattle.std.proofs.{Math.ListN.get_or-eq_default, lemmas.Bool.cases_lt, lemmas.Bool.cond_both, lemmas.Bool.ltb-false, lemmas.Bool.ltb-true}
 use Rattle.echo_addr.specs.declared.address.Address.{Address}
-use Rattle.echo_nodelist.specs.declared.place.Place.{Place}
-use Rattle.echo_nodelist.specs.declared.place.Located.{Located}
-use Rattle.echo_nodelist.specs.declared.keyword.Keyword.{Keyword}
-use Rattle.echo_nodelist.specs.declared.line.Line.{Line}
-use Rattle.echo_nodelist.specs.declared.line.Line.TheVariants.{Entry}
-use Rattle.echo_nodelist.specs.declared.fault.NodeFault.TheVariants.{NoZone}
 use Rattle.echo_nodelist.specs.Back.{Finds, address_back, each_back, lines_back, zone_back}
-use Rattle.echo_nodelist.specs.Nodelist.{in_zone, placed}
-use Rattle.echo_nodelist.specs.Place.{Follows, IsLocated, IsPlaceAfter, Locates}
+use Rattle.echo_nodelist.specs.declared.{place.Place.Place, place.Located.Located, keyword.Keyword.Keyword, line.Line.Line, line.Line.TheVariants.Entry, fault.NodeFault.TheVariants.NoZone}
+use Rattle.echo_nodelist.specs.{Nodelist.in_zone, Nodelist.placed, Place.Follows, Place.IsLocated, Place.IsPlaceAfter, Place.Locates}
 
 -- an entry with no Zone line up to it
 pub tell_none : (at : ℕ) (earlier : List Line) (k : Keyword) (n : ℕ) (fields : List (List ℕ)) (line : Line) → line ≡ Entry k n fields

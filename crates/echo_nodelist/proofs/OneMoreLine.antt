@@ -1,13 +1,8 @@
 -- Reading line after line.
 use Rattle.std.proofs.Common.{◌≡◌, ℕ, ◌+◌, List, [], ◌∷◌, ◌++◌, length, reverse, sym, ap, ◌∙◌, subst, arith, inl, inr, Result, Ok}
 use Rattle.std.proofs.lemmas.List.{append_assoc, append-nil, length-reverse, nil_from_length}
-use Rattle.echo_nodelist.specs.declared.line.Line.{Line}
-use Rattle.echo_nodelist.specs.declared.fault.NodeFault.{NodeFault}
-use Rattle.echo_nodelist.specs.Raw.{lines_of}
-use Rattle.echo_nodelist.specs.Line.{line_in}
-use Rattle.echo_nodelist.specs.Nodelist.{AreRead, Gives, line_outcome, placed}
-use Rattle.echo_nodelist.proofs.LookingBack.{reverse-push}
-use Rattle.echo_nodelist.proofs.Pieces.{lines_nil}
+use Rattle.echo_nodelist.specs.{declared.line.Line.Line, declared.fault.NodeFault.NodeFault, Raw.lines_of, Line.line_in, Nodelist.AreRead, Nodelist.Gives, Nodelist.line_outcome, Nodelist.placed}
+use Rattle.echo_nodelist.proofs.{LookingBack.reverse-push, Pieces.lines_nil}
 
 -- the lines before `rest` are parsed
 pub record Done (text : List ℕ) (lines : List Line) (rest : List ℕ) : Type 0 where

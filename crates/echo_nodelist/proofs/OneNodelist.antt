@@ -1,10 +1,7 @@
 -- Bytes are one nodelist at most, or have one first fault.
 use Rattle.std.proofs.Common.{◌≡◌, ℕ, List, [], ◌∷◌, ◌++◌, reverse, refl, sym, ap, ◌∙◌, subst, Ok, Err, arith}
 use Rattle.std.proofs.lemmas.List.{append_assoc, reverse-append, reverse-reverse}
-use Rattle.echo_nodelist.specs.declared.line.Line.{Line}
-use Rattle.echo_nodelist.specs.declared.fault.NodeFault.{NodeFault}
-use Rattle.echo_nodelist.specs.Raw.{node_lines}
-use Rattle.echo_nodelist.specs.Nodelist.{AreRead, NodelistFaultOf, NodelistOf, line_outcome}
+use Rattle.echo_nodelist.specs.{declared.line.Line.Line, declared.fault.NodeFault.NodeFault, Raw.node_lines, Nodelist.AreRead, Nodelist.NodelistFaultOf, Nodelist.NodelistOf, Nodelist.line_outcome}
 
 same_read : (raws : List (List ℕ)) (some others : List Line) → AreRead raws some → AreRead raws others → some ≡ others
 same_read [] [] [] s o = refl

@@ -1,26 +1,18 @@
 -- A written nodelist reads back as itself.
 use Rattle.std.proofs.Common.{◌≡◌, ℕ, ◌+◌, ◌-◌, ◌^◌, ◌<◌, ◌≤◌, nat_le, ◌==◌, ◌&&◌, ◌||◌, not, nat_lt, Bool, true, false, List, [], ◌∷◌, ◌++◌, length, get_or, take, map, reverse, codes, decimal, refl, sym, ap, ◌∙◌, arith, Option, Some, None, Ok, Err}
-use Rattle.std.specs.Prelude.{IsSome}
-use Rattle.std.specs.List.{All, AllByRecursion, flat_map, join_with_byte, list_all, position_or_len, slice_split}
-use Rattle.std.specs.Io.BufRead.{ends_with_byte, strip_last}
-use Rattle.std.proofs.Math.Seq.{get_or-append_seam, take-append_seam}
 use Rattle.std.proofs.lemmas.List.{append_assoc, get_or_append_left, length-append, map-append, reverse-append}
-use Rattle.std.proofs.lemmas.List.Elements.{All-from_get_or, All-get_or}
-use Rattle.std.proofs.lemmas.List.Folds.{list_all-append}
-use Rattle.std.proofs.lemmas.List.Splits.{slice_split_at, slice_split_none}
-use Rattle.std.proofs.lemmas.List.Sums.{AllPass-from_list_all, position_or_len_is}
 use Rattle.std.proofs.lemmas.Bool.{and_from, and_parts, cond-false, cond-true, eq-eqb, le-ltb, leb-true, lt-ltb, ne_eqb, not-true}
+use Rattle.std.proofs.{Math.Seq.get_or-append_seam, Math.Seq.take-append_seam, lemmas.List.Elements.All-from_get_or, lemmas.List.Elements.All-get_or, lemmas.List.Folds.list_all-append}
+use Rattle.std.proofs.lemmas.List.{Splits.slice_split_at, Splits.slice_split_none, Sums.AllPass-from_list_all, Sums.position_or_len_is}
+use Rattle.std.specs.List.{All, AllByRecursion, flat_map, join_with_byte, list_all, position_or_len, slice_split}
+use Rattle.std.specs.{Prelude.IsSome, Io.BufRead.ends_with_byte, Io.BufRead.strip_last}
 use Rattle.echo_addr.proofs.Decimals.{IsDigit, digits_of_decimal, is_number-writes, writes_decimal}
-use Rattle.echo_nodelist.specs.declared.keyword.Keyword.{Keyword}
 use Rattle.echo_nodelist.specs.declared.keyword.Keyword.TheVariants.{Down, Hold, Host, Hub, Node, Pvt, Region, Zone}
-use Rattle.echo_nodelist.specs.declared.line.Line.{Line}
-use Rattle.echo_nodelist.specs.declared.line.Line.TheVariants.{Entry, Note}
-use Rattle.echo_nodelist.specs.declared.fault.NodeFault.TheVariants.{TooFewFields}
 use Rattle.echo_nodelist.specs.Raw.{is_comma, is_end, is_feed, lines_of, before_end}
 use Rattle.echo_nodelist.specs.Line.{entry_in, is_fit, is_note, keyword_of, keyword_text, least_of, line_in, number_of, with_keyword, with_number}
-use Rattle.echo_nodelist.specs.Back.{zone_back}
 use Rattle.echo_nodelist.specs.Nodelist.{AreLines, AreRead, IsEntry, IsGoodLine, IsNodelist, NodelistOf, in_zone, is_field_byte, is_inner, line_outcome, placed}
-use Rattle.echo_nodelist.specs.Written.{line_and_end, line_text, nodelist_text}
+use Rattle.echo_nodelist.specs.declared.{keyword.Keyword.Keyword, line.Line.Line, line.Line.TheVariants.Entry, line.Line.TheVariants.Note, fault.NodeFault.TheVariants.TooFewFields}
+use Rattle.echo_nodelist.specs.{Back.zone_back, Written.line_and_end, Written.line_text, Written.nodelist_text}
 use Rattle.echo_nodelist.proofs.Pieces.{lines_nil, lines_split}
 
 -- ---- bytes

@@ -1,17 +1,11 @@
 -- The register as a number, and the table of its bytes.
 use Rattle.std.proofs.Common.{◌≡◌, ℕ, zero, suc, ◌+◌, ◌-◌, ◌*◌, ◌/◌, ◌%◌, ◌^◌, ◌<◌, ◌==◌, ◌&&◌, Bool, true, false, List, [], ◌∷◌, ◌++◌, length, get_or, cond, refl, sym, ap, ◌∙◌, subst, arith, add-zero, zero-add}
-use Rattle.std.specs.List.{flat_map, fold}
-use Rattle.std.specs.Int.{bit_at}
-use Rattle.std.specs.Int.Bits.{bit_xor}
-use Rattle.std.proofs.Math.Nat.{pow-suc}
-use Rattle.std.proofs.lemmas.Nat.{mod-pow-add, shr_split, xor_of_16}
 use Rattle.std.proofs.lemmas.Nat.Bits.{bit_at-lt, bit_at_above, bit_at_cat_high, bit_at_cat_low, bit_at_xor}
-use Rattle.std.proofs.lemmas.Bool.{and_parts, eqb-true}
-use Rattle.std.proofs.lemmas.List.{append-nil}
-use Rattle.std.proofs.lemmas.List.Sums.{fold-append}
-use Rattle.std.proofs.lemmas.List.Concat.{flat_map-append}
-use Rattle.echo_nodelist.specs.declared.crc_table.TheConstants.{TABLE}
+use Rattle.std.proofs.{Math.Nat.pow-suc, lemmas.Nat.mod-pow-add, lemmas.Nat.shr_split, lemmas.Nat.xor_of_16, lemmas.Bool.and_parts, lemmas.Bool.eqb-true, lemmas.List.append-nil}
+use Rattle.std.proofs.lemmas.List.{Sums.fold-append, Concat.flat_map-append}
+use Rattle.std.specs.{List.flat_map, List.fold, Int.bit_at, Int.Bits.bit_xor}
 use Rattle.echo_nodelist.specs.Crc.{added, bits_of, crc, bits_value, sum_of, zeros}
+use Rattle.echo_nodelist.specs.declared.crc_table.TheConstants.{TABLE}
 use Rattle.echo_nodelist.proofs.Division.{divided_register, fold_byte, length-fold, shifted}
 
 -- ---- numbers and their bits

@@ -1,17 +1,11 @@
 -- The number that the first line states, compared with the computed one.
 use Rattle.std.proofs.Common.{◌≡◌, ℕ, ◌<◌, ◌≤◌, ◌==◌, ◌↔◌, nat_lt, true, false, List, length, min, sym, ◌≢◌, arith, Option, Some, None}
-use Rattle.std.specs.Prelude.{IsNone, IfSome}
-use Rattle.std.specs.List.{after_first, before_first}
-use Rattle.std.specs.Str.{all_ascii_digits}
-use Rattle.std.specs.Str.Parse.{digits_value}
-use Rattle.std.specs.Io.BufRead.{strip_last}
-use Rattle.std.proofs.lemmas.Str.Parse.{digits_value_short}
 use Rattle.std.proofs.lemmas.Bool.{and_parts, cond-false, cond-true, eq-eqb, ne_eqb, true_from_ne_false, true≢false}
+use Rattle.std.proofs.lemmas.Str.Parse.{digits_value_short}
+use Rattle.std.specs.{Prelude.IsNone, Prelude.IfSome, List.after_first, List.before_first, Str.all_ascii_digits, Str.Parse.digits_value, Io.BufRead.strip_last}
 use Rattle.echo_addr.specs.Digits.{is_number}
 use Rattle.echo_addr.proofs.Decimals.{own}
-use Rattle.echo_nodelist.specs.declared.stated.CrcLine.TheVariants.{Absent, Match, Mismatch}
-use Rattle.echo_nodelist.specs.Crc.{crc}
-use Rattle.echo_nodelist.specs.Raw.{is_feed}
+use Rattle.echo_nodelist.specs.{declared.stated.CrcLine.TheVariants.Absent, declared.stated.CrcLine.TheVariants.Match, declared.stated.CrcLine.TheVariants.Mismatch, Crc.crc, Raw.is_feed}
 use Rattle.echo_nodelist.specs.CrcLine.{compared, crc_of_text, stated_crc, states_crc}
 
 -- five digits write a number that wasn't cut down

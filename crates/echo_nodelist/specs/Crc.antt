@@ -1,7 +1,6 @@
 -- The checksum of nodelists: bits divided by hand. The polynomial is x^16 + x^12 + x^5 + 1.
 use Rattle.std.specs.Prelude.{ℕ, zero, suc, ◌+◌, ◌-◌, ◌^◌, ◌==◌, not, Bool, true, false, List, [], ◌∷◌, ◌++◌, length, drop, if◌then◌else◌}
-use Rattle.std.specs.List.{flat_map}
-use Rattle.std.specs.Int.{bit_at}
+use Rattle.std.specs.{List.flat_map, Int.bit_at}
 
 -- This many lowest bits of a number, the highest first.
 abbrev pub bits_of : ℕ → ℕ → List Bool

@@ -1,13 +1,8 @@
 -- The checksum that the first line of a nodelist states.
 use Rattle.std.specs.Prelude.{ℕ, ◌-◌, ◌==◌, ◌&&◌, nat_le, Bool, List, length, take, drop, if◌then◌else◌}
-use Rattle.std.specs.List.{after_first, before_first, suffix_len}
-use Rattle.std.specs.Str.{all_ascii_digits}
-use Rattle.std.specs.Str.Parse.{digits_value}
-use Rattle.std.specs.Io.BufRead.{ends_with_byte, strip_last}
-use Rattle.echo_nodelist.specs.declared.stated.CrcLine.{CrcLine}
-use Rattle.echo_nodelist.specs.declared.stated.CrcLine.TheVariants.{Absent, Match, Mismatch}
-use Rattle.echo_nodelist.specs.Crc.{crc}
-use Rattle.echo_nodelist.specs.Raw.{is_feed, before_end}
+use Rattle.std.specs.{List.after_first, List.before_first, List.suffix_len, Str.all_ascii_digits, Str.Parse.digits_value, Io.BufRead.ends_with_byte, Io.BufRead.strip_last}
+use Rattle.echo_nodelist.specs.declared.stated.CrcLine.{CrcLine, TheVariants.Absent, TheVariants.Match, TheVariants.Mismatch}
+use Rattle.echo_nodelist.specs.{Crc.crc, Raw.is_feed, Raw.before_end}
 
 -- The first line of a text without 0D at its end, and the bytes from the second line on.
 abbrev pub stating_line : List ℕ → List ℕ

@@ -1,17 +1,10 @@
 -- A line of a nodelist (FTS-5000).
 use Rattle.std.specs.Prelude.{ℕ, ◌==◌, ◌&&◌, ◌||◌, nat_lt, Bool, true, false, List, [], ◌∷◌, length, codes, find, slice_index, Option, Some, None, if◌then◌else◌, Result, Ok, Err}
-use Rattle.std.specs.List.{slice_split}
-use Rattle.std.specs.Int.{is_in_range}
-use Rattle.std.specs.Str.{str_eq_ignore_ascii_case}
-use Rattle.std.specs.Str.Parse.{digits_value}
+use Rattle.std.specs.{List.slice_split, Int.is_in_range, Str.str_eq_ignore_ascii_case, Str.Parse.digits_value}
 use Rattle.echo_addr.specs.Digits.{is_number}
-use Rattle.echo_nodelist.specs.declared.keyword.Keyword.{Keyword}
 use Rattle.echo_nodelist.specs.declared.keyword.Keyword.TheVariants.{Zone, Region, Host, Hub, Pvt, Hold, Down, Node}
-use Rattle.echo_nodelist.specs.declared.line.Line.{Line}
-use Rattle.echo_nodelist.specs.declared.line.Line.TheVariants.{Note, Entry}
-use Rattle.echo_nodelist.specs.declared.fault.NodeFault.{NodeFault}
-use Rattle.echo_nodelist.specs.declared.fault.NodeFault.TheVariants.{TooFewFields, BadKeyword, BadNumber}
-use Rattle.echo_nodelist.specs.Raw.{is_comma}
+use Rattle.echo_nodelist.specs.declared.{keyword.Keyword.Keyword, line.Line.Line, line.Line.TheVariants.Note, line.Line.TheVariants.Entry, fault.NodeFault.NodeFault}
+use Rattle.echo_nodelist.specs.{declared.fault.NodeFault.TheVariants.TooFewFields, declared.fault.NodeFault.TheVariants.BadKeyword, declared.fault.NodeFault.TheVariants.BadNumber, Raw.is_comma}
 
 -- The keywords in their written form.
 abbrev pub keyword_text : Keyword → List ℕ

@@ -2,14 +2,9 @@
 use Rattle.std.specs.Prelude.{◌≡◌, ℕ, ◌+◌, ◌≤◌, ◌⊎◌, ◌&&◌, not, Bool, true, List, [], ◌∷◌, ◌++◌, length, reverse, Option, Some, None, IsSome, Result, Ok, Err}
 use Rattle.std.specs.List.{list_all}
 use Rattle.echo_addr.specs.declared.address.Address.{Address}
-use Rattle.echo_nodelist.specs.declared.keyword.Keyword.{Keyword}
-use Rattle.echo_nodelist.specs.declared.line.Line.{Line}
-use Rattle.echo_nodelist.specs.declared.line.Line.TheVariants.{Note, Entry}
-use Rattle.echo_nodelist.specs.declared.fault.NodeFault.{NodeFault}
-use Rattle.echo_nodelist.specs.declared.fault.NodeFault.TheVariants.{Memory, NoZone}
-use Rattle.echo_nodelist.specs.Raw.{is_comma, is_end, is_feed, node_lines}
-use Rattle.echo_nodelist.specs.Line.{is_fit, is_note, line_in}
-use Rattle.echo_nodelist.specs.Back.{address_back, each_back, zone_back}
+use Rattle.echo_nodelist.specs.declared.{keyword.Keyword.Keyword, line.Line.Line, line.Line.TheVariants.Note, line.Line.TheVariants.Entry, fault.NodeFault.NodeFault}
+use Rattle.echo_nodelist.specs.{declared.fault.NodeFault.TheVariants.Memory, declared.fault.NodeFault.TheVariants.NoZone, Raw.is_comma, Raw.is_end, Raw.is_feed, Raw.node_lines}
+use Rattle.echo_nodelist.specs.{Line.is_fit, Line.is_note, Line.line_in, Back.address_back, Back.each_back, Back.zone_back}
 
 -- An entry, if a Zone line is at or before it.
 abbrev pub in_zone : ℕ → Option ℕ → Line → Result Line NodeFault

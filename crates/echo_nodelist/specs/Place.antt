@@ -1,12 +1,8 @@
 -- The facts that the earlier lines give for the next line. Lists of lines begin with the nearest.
 use Rattle.std.specs.Prelude.{◌≡◌, ℕ, List, ◌∷◌, reverse, Option, Some, None, Result, Ok, Err}
 use Rattle.echo_addr.specs.declared.address.Address.{Address}
-use Rattle.echo_nodelist.specs.declared.place.Place.{Place}
-use Rattle.echo_nodelist.specs.declared.place.Located.{Located}
-use Rattle.echo_nodelist.specs.declared.line.Line.{Line}
-use Rattle.echo_nodelist.specs.declared.fault.NodeFault.{NodeFault}
-use Rattle.echo_nodelist.specs.Back.{address_back, each_back, net_back, zone_back}
-use Rattle.echo_nodelist.specs.Nodelist.{placed}
+use Rattle.echo_nodelist.specs.declared.{place.Place.Place, place.Located.Located, line.Line.Line, fault.NodeFault.NodeFault}
+use Rattle.echo_nodelist.specs.{Back.address_back, Back.each_back, Back.net_back, Back.zone_back, Nodelist.placed}
 
 -- The place after these lines, or `None` before the first Zone line.
 abbrev pub IsPlaceAfter : List Line → Option Place → Type 0

@@ -1,10 +1,6 @@
 -- The answer of reading the lines of a text one by one.
 use Rattle.std.specs.Prelude.{◌≡◌, ℕ, ◌⊎◌, List, reverse, Result, Ok, Err}
-use Rattle.echo_nodelist.specs.declared.reading.Reading.{Reading}
-use Rattle.echo_nodelist.specs.declared.fault.NodeFault.{NodeFault}
-use Rattle.echo_nodelist.specs.declared.fault.NodeFault.TheVariants.{Memory}
-use Rattle.echo_nodelist.specs.Nodelist.{AreRead, FaultIn}
-use Rattle.echo_nodelist.specs.Place.{Follows}
+use Rattle.echo_nodelist.specs.{declared.reading.Reading.Reading, declared.fault.NodeFault.NodeFault, declared.fault.NodeFault.TheVariants.Memory, Nodelist.AreRead, Nodelist.FaultIn, Place.Follows}
 
 -- The reader's state belongs to its lines.
 abbrev pub IsInStep : Reading → Type 0

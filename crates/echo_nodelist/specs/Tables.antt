@@ -1,7 +1,6 @@
 -- Tables for a checksum of eight bytes at a time.
 use Rattle.std.specs.Prelude.{◌≡◌, ℕ, ◌<◌, List, ◌∷◌, replicate, slice_index}
-use Rattle.echo_nodelist.specs.declared.crc.Tables.{Tables}
-use Rattle.echo_nodelist.specs.Crc.{crc}
+use Rattle.echo_nodelist.specs.{declared.crc.Tables.Tables, Crc.crc}
 
 -- Each entry is the checksum of its index as a byte, followed by `zeros` bytes 00.
 abbrev pub IsTable : ℕ → List ℕ → Type 0

@@ -1,13 +1,9 @@
 -- The written bytes of a nodelist.
 use Rattle.std.specs.Prelude.{◌≡◌, ℕ, ◌<◌, List, [], ◌∷◌, ◌++◌, length, take, decimal, Option, Result, Ok, Err}
-use Rattle.std.specs.List.{flat_map, join_with_byte}
-use Rattle.std.specs.Io.KnownBytes.{Appends}
+use Rattle.std.specs.{List.flat_map, List.join_with_byte, Io.KnownBytes.Appends}
 use Rattle.disk_io.specs.Device.{Failed, counted}
-use Rattle.echo_nodelist.specs.declared.line.Line.{Line}
-use Rattle.echo_nodelist.specs.declared.line.Line.TheVariants.{Note, Entry}
-use Rattle.echo_nodelist.specs.declared.fault.NodeFault.{NodeFault}
-use Rattle.echo_nodelist.specs.declared.fault.NodeFault.TheVariants.{Memory, Write}
-use Rattle.echo_nodelist.specs.Line.{keyword_text}
+use Rattle.echo_nodelist.specs.declared.{line.Line.Line, line.Line.TheVariants.Note, line.Line.TheVariants.Entry, fault.NodeFault.NodeFault}
+use Rattle.echo_nodelist.specs.{declared.fault.NodeFault.TheVariants.Memory, declared.fault.NodeFault.TheVariants.Write, Line.keyword_text}
 
 -- A Note unchanged, or the fields of an entry joined by commas.
 abbrev pub line_text : Line → List ℕ

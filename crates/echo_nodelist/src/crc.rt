@@ -1,6 +1,5 @@
 ghost use Rattle.std.specs.Prelude.{◌≡◌, ℕ, suc, List, [], ◌∷◌, ◌++◌};
-ghost use Rattle.echo_nodelist.specs.Crc.{crc};
-ghost use Rattle.echo_nodelist.specs.Tables.{AreTables, IsTable};
+ghost use Rattle.echo_nodelist.specs.{Crc.crc, Tables.AreTables, Tables.IsTable};
 
 use crate::crc_table::TABLE;
 

@@ -1,6 +1,5 @@
 ghost use Rattle.std.specs.Prelude.{◌≡◌, ◌+◌, ◌<◌, ◌≤◌, ◌==◌, ◌∷◌, length, IfSome, IsNone};
-ghost use Rattle.std.specs.List.{after_first, before_first, position_or_len};
-ghost use Rattle.std.specs.Io.BufRead.{strip_last};
+ghost use Rattle.std.specs.{List.after_first, List.before_first, List.position_or_len, Io.BufRead.strip_last};
 ghost use Rattle.echo_nodelist.specs.Raw.{lines_of, before_end};
 
 use memchr::memchr;

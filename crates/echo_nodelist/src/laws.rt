@@ -1,10 +1,7 @@
 //! Laws about the definitions. Each law is the contract of a function that does nothing.
 
 ghost use Rattle.std.specs.Prelude.{◌≡◌, ℕ, List};
-ghost use Rattle.echo_nodelist.specs.declared.fault.NodeFault.{NodeFault};
-ghost use Rattle.echo_nodelist.specs.declared.line.Line.{Line};
-ghost use Rattle.echo_nodelist.specs.Nodelist.{NodelistFaultOf, IsNodelist, NodelistOf};
-ghost use Rattle.echo_nodelist.specs.Written.{nodelist_text};
+ghost use Rattle.echo_nodelist.specs.{declared.fault.NodeFault.NodeFault, declared.line.Line.Line, Nodelist.NodelistFaultOf, Nodelist.IsNodelist, Nodelist.NodelistOf, Written.nodelist_text};
 
 /// The written bytes of a nodelist are that nodelist, and a nodelist that was read keeps the rules.
 pub fn written_nodelist_read_back()

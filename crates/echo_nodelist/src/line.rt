@@ -1,8 +1,5 @@
-ghost use Rattle.std.specs.Prelude.{◌≡◌, IfOk};
-ghost use Rattle.std.specs.List.{slice_split};
-ghost use Rattle.echo_nodelist.specs.Raw.{is_comma};
-ghost use Rattle.echo_nodelist.specs.Line.{entry_in, is_note, line_in, number_of};
-ghost use Rattle.echo_nodelist.specs.Nodelist.{Gives};
+ghost use Rattle.std.specs.{Prelude.◌≡◌, Prelude.IfOk, List.slice_split};
+ghost use Rattle.echo_nodelist.specs.{Raw.is_comma, Line.entry_in, Line.is_note, Line.line_in, Line.number_of, Nodelist.Gives};
 
 use crate::cutting::cut;
 use crate::fault::NodeFault;

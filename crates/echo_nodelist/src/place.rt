@@ -1,8 +1,5 @@
 ghost use Rattle.std.specs.Prelude.{◌≡◌, ℕ, List, ◌∷◌, Some};
-ghost use Rattle.echo_nodelist.specs.declared.line.Line.{Line};
-ghost use Rattle.echo_nodelist.specs.declared.line.Line.TheVariants.{Entry};
-ghost use Rattle.echo_nodelist.specs.Back.{address_back};
-ghost use Rattle.echo_nodelist.specs.Place.{IsPlaceAfter, Locates};
+ghost use Rattle.echo_nodelist.specs.{declared.line.Line.Line, declared.line.Line.TheVariants.Entry, Back.address_back, Place.IsPlaceAfter, Place.Locates};
 
 use crate::fault::NodeFault;
 use crate::keyword::Keyword;

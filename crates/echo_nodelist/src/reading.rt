@@ -1,8 +1,5 @@
 ghost use Rattle.std.specs.Prelude.{◌≡◌, ◌+◌, ◌⊎◌, [], ◌∷◌, ◌++◌, reverse, OnOk, IfErr, Ok, Err};
-ghost use Rattle.echo_nodelist.specs.declared.fault.NodeFault.TheVariants.{Memory};
-ghost use Rattle.echo_nodelist.specs.Raw.{lines_of};
-ghost use Rattle.echo_nodelist.specs.Nodelist.{placed};
-ghost use Rattle.echo_nodelist.specs.Reading.{IsInStep, ReadsLines};
+ghost use Rattle.echo_nodelist.specs.{declared.fault.NodeFault.TheVariants.Memory, Raw.lines_of, Nodelist.placed, Reading.IsInStep, Reading.ReadsLines};
 
 use crate::cutting::split_line;
 use crate::fault::NodeFault;

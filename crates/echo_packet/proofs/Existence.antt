@@ -1,23 +1,16 @@
 -- Bytes are a packet or have a fault.
 use Rattle.std.proofs.Common.{◌≡◌, ◌≢◌, ℕ, zero, suc, ◌+◌, ◌^◌, ◌<◌, ◌≤◌, ◌⊎◌, List, [], ◌∷◌, ◌++◌, Some, Ok, Err, length, take, drop, refl, sym, ap, ◌∙◌, subst, inl, inr, arith, append_assoc, length-append}
 use Rattle.std.proofs.lemmas.List.{take_at, drop_at, length-take-le, take-append-drop, take-append-le}
-use Rattle.std.proofs.lemmas.Bool.{cases_lt, cases_eq}
-use Rattle.std.proofs.lemmas.List.Elements.{All-cons, All-nil, All-take}
-use Rattle.echo_packet.specs.declared.header.Header.{Header}
-use Rattle.echo_packet.specs.declared.limits.Limits.{Limits}
-use Rattle.echo_packet.specs.declared.fault.PacketFault.{PacketFault}
-use Rattle.echo_packet.specs.declared.fault.PacketFault.TheVariants as fault
+use Rattle.std.proofs.lemmas.{Bool.cases_lt, Bool.cases_eq, List.Elements.All-cons, List.Elements.All-nil, List.Elements.All-take}
 use Rattle.echo_packet.specs.Header.{AreBytes, word, number_at, header_bytes, header_of}
 use Rattle.echo_packet.specs.Message.{Message, Numbers, DateTime, ToName, FromName, Subject, Text, HasNoZero, IsString, IsMessage, zero_ended, message_bytes, max_name, max_subject}
-use Rattle.echo_packet.specs.Packet.{packet_bytes}
-use Rattle.echo_packet.specs.Fault.{IsTooLong, place_of}
-use Rattle.echo_packet.specs.Answer.{Answer, Describes}
 use Rattle.echo_packet.specs.Field.{IsShort, IsOpen, IsPast, Never, TakesMessage}
-use Rattle.echo_packet.specs.Next.{NextFault}
-use Rattle.echo_packet.specs.Run.{SoFar, IsOfCall}
-use Rattle.echo_packet.proofs.Headers.{AreBytes-take, AreBytes-drop, IsHeader-header_of, header_bytes-header_of}
+use Rattle.echo_packet.specs.{declared.header.Header.Header, declared.limits.Limits.Limits, declared.fault.PacketFault.PacketFault, Packet.packet_bytes, Fault.IsTooLong, Fault.place_of}
+use Rattle.echo_packet.specs.{Answer.Answer, Answer.Describes, Next.NextFault, Run.SoFar, Run.IsOfCall}
+use Rattle.echo_packet.specs.declared.fault.PacketFault.TheVariants as fault
 use Rattle.echo_packet.proofs.FieldsSoFar.{HasFields, has-none, has-numbers, has-date, has-to_name, has-from_name, has-subject, has-text, next-field, tells-numbers, tells-date, tells-to_name, tells-from_name, tells-subject, tells-text}
 use Rattle.echo_packet.proofs.NextNumber.{number-cut, number-other, number-many, number-then, number-bytes, takes-whole}
+use Rattle.echo_packet.proofs.Headers.{AreBytes-take, AreBytes-drop, IsHeader-header_of, header_bytes-header_of}
 use Rattle.echo_packet.proofs.MessageByMessage.{run-opens, run-gives, run-ends, run-fails}
 
 -- bytes up to the first 00, and the bytes after it

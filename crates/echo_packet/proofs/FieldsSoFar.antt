@@ -1,18 +1,13 @@
 -- The fields of a message already read, and the fault of the next field.
 use Rattle.std.proofs.Common.{◌≡◌, ◌≢◌, ℕ, zero, suc, replicate, ◌+◌, ◌<◌, List, [], ◌++◌, Option, IfSome, Result, Err, length, take, drop, refl, sym, ◌∙◌, subst, arith}
-use Rattle.std.proofs.lemmas.List.{length-append, take_all}
-use Rattle.std.proofs.lemmas.List.Elements.{All-nil}
-use Rattle.std.specs.Prelude.{IfErr}
-use Rattle.std.specs.Io.KnownBytes.{Consumes}
-use Rattle.std.proofs.KnownBytes.{Consumes-nil, Consumes-trans}
-use Rattle.echo_packet.specs.declared.limits.Limits.{Limits}
-use Rattle.echo_packet.specs.declared.fault.PacketFault.{PacketFault}
-use Rattle.echo_packet.specs.declared.fault.PacketFault.TheVariants as fault
-use Rattle.echo_packet.specs.Header.{AreBytes, word, number_at}
+use Rattle.std.proofs.{lemmas.List.length-append, lemmas.List.take_all, lemmas.List.Elements.All-nil, KnownBytes.Consumes-nil, KnownBytes.Consumes-trans}
+use Rattle.std.specs.{Prelude.IfErr, Io.KnownBytes.Consumes}
 use Rattle.echo_packet.specs.Message.{Message, Part, Number, Numbers, DateTime, ToName, FromName, Subject, Text, IsString, IsMessage, before, zero_ended, numbers, max_name, max_subject}
 use Rattle.echo_packet.specs.Fault.{IsCut, IsLongField, IsLongText, IsTooLong, place_of}
 use Rattle.echo_packet.specs.Field.{Consumed, FieldFault, IsShort, IsOpen, IsPast, Never, FailsInField, TakesMessage}
 use Rattle.echo_packet.specs.Next.{AtPart, FailsBehind, FailsInMessage, IsOfField, LosesUpTo, NextFault}
+use Rattle.echo_packet.specs.{declared.limits.Limits.Limits, declared.fault.PacketFault.PacketFault, Header.AreBytes, Header.word, Header.number_at}
+use Rattle.echo_packet.specs.declared.fault.PacketFault.TheVariants as fault
 use Rattle.echo_packet.proofs.Headers.{word-number, word_then, number_at-fits}
 
 -- a message of these six numbers, its other fields empty

@@ -1,11 +1,9 @@
 -- A header is undone by its bytes, and the bytes by the header.
-use Rattle.std.proofs.Common.{◌≡◌, ℕ, append-nil, ◌+◌, ◌*◌, ◌/◌, ◌%◌, ◌^◌, ◌<◌, ◌≤◌, List, [], ◌∷◌, ◌++◌, length, get_or, take, drop, refl, sym, ap, ◌∙◌, arith, add-one, append_assoc, drop-cons, length-append}
-use Rattle.std.proofs.Math.Seq.{take-add, drop-append-add}
+use Rattle.std.proofs.Common.{◌≡◌, ℕ, append-nil, ◌+◌, ◌*◌, ◌/◌, ◌%◌, ◌^◌, ◌<◌, ◌≤◌, List, [], ◌∷◌, ◌++◌, length, get_or, take, drop, refl, sym, ap, ◌∙◌, arith, add-one, append_assoc, drop-cons, length-append, subst}
 use Rattle.std.proofs.lemmas.List.{take_at, length-take, length-drop, drop-drop, get_or-take, get_or-drop, get_or_past, get_or-append-add}
-use Rattle.std.proofs.lemmas.Bool.{cases_lt}
-use Rattle.std.proofs.Common.{subst}
-use Rattle.echo_packet.specs.declared.header.Header.{Header}
+use Rattle.std.proofs.{Math.Seq.take-add, Math.Seq.drop-append-add, lemmas.Bool.cases_lt}
 use Rattle.echo_packet.specs.Header.{AreBytes, IsHeader, word, number_at, header_bytes, header_of}
+use Rattle.echo_packet.specs.declared.header.Header.{Header}
 
 -- the two bytes of a number
 pub number-word : (n : ℕ) → n % 256 + 256 * (n / 256) ≡ n

@@ -2,16 +2,9 @@
 use Rattle.std.proofs.Common.{◌≡◌, ℕ, ◌+◌, ◌<◌, ◌⊎◌, List, [], ◌∷◌, ◌++◌, Ok, length, sym, ap, ◌∙◌, arith}
 use Rattle.std.proofs.lemmas.List.{length-append, take_at, append_assoc, append-nil}
 use Rattle.std.specs.List.{AllByRecursion}
-use Rattle.echo_packet.specs.declared.header.Header.{Header}
-use Rattle.echo_packet.specs.declared.limits.Limits.{Limits}
-use Rattle.echo_packet.specs.declared.fault.PacketFault.{PacketFault}
-use Rattle.echo_packet.specs.Header.{header_bytes, IsHeader, word}
 use Rattle.echo_packet.specs.Message.{Message, Part, message_bytes, messages_bytes, IsMessage}
-use Rattle.echo_packet.specs.Packet.{packet_bytes}
-use Rattle.echo_packet.specs.Fault.{AtField, FaultOf, place_of}
-use Rattle.echo_packet.specs.Answer.{Describes}
-use Rattle.echo_packet.specs.Next.{AtPart, NextFault}
-use Rattle.echo_packet.specs.Run.{SoFar, IsOfCall}
+use Rattle.echo_packet.specs.{declared.header.Header.Header, declared.limits.Limits.Limits, declared.fault.PacketFault.PacketFault, Header.header_bytes, Header.IsHeader, Header.word}
+use Rattle.echo_packet.specs.{Packet.packet_bytes, Fault.AtField, Fault.FaultOf, Fault.place_of, Answer.Describes, Next.AtPart, Next.NextFault, Run.SoFar, Run.IsOfCall}
 use Rattle.echo_packet.proofs.Headers.{length-header_bytes}
 
 pub messages_bytes-push : (ms : List Message) (m : Message) → messages_bytes (ms ++ m ∷ []) ≡ messages_bytes ms ++ message_bytes m

@@ -1,18 +1,13 @@
 -- The number that begins a message or the terminator.
 use Rattle.std.proofs.Common.{◌≡◌, ◌≢◌, ℕ, ◌^◌, ◌<◌, List, [], ◌++◌, Option, None, Some, IfSome, length, refl, sym, ap, ◌∙◌, subst, arith}
-use Rattle.std.proofs.lemmas.List.{length-append, get_or_append_left, take_all}
+use Rattle.std.proofs.{lemmas.List.length-append, lemmas.List.get_or_append_left, lemmas.List.take_all, KnownBytes.Consumes-trans}
 use Rattle.std.specs.Io.KnownBytes.{Consumes}
-use Rattle.std.proofs.KnownBytes.{Consumes-trans}
-use Rattle.echo_packet.specs.declared.limits.Limits.{Limits}
-use Rattle.echo_packet.specs.declared.fault.PacketFault.{PacketFault}
-use Rattle.echo_packet.specs.declared.fault.PacketFault.TheVariants as fault
-use Rattle.echo_packet.specs.Header.{AreBytes, word, number_at}
-use Rattle.echo_packet.specs.Message.{Message, Part, Number, message_bytes}
-use Rattle.echo_packet.specs.Fault.{IsCut}
 use Rattle.echo_packet.specs.Field.{Consumed, FailsInFixed, FixedFault, IsShort, TakesMessage}
 use Rattle.echo_packet.specs.Next.{AtPart, FailsInMessage, IsOfField, LosesUpTo, NextFault}
-use Rattle.echo_packet.proofs.Headers.{word-number}
-use Rattle.echo_packet.proofs.FieldsSoFar.{numbered, numbered-fits, Consumes-known, Consumes-front}
+use Rattle.echo_packet.specs.{declared.limits.Limits.Limits, declared.fault.PacketFault.PacketFault, Header.AreBytes, Header.word, Header.number_at}
+use Rattle.echo_packet.specs.{Message.Message, Message.Part, Message.Number, Message.message_bytes, Fault.IsCut}
+use Rattle.echo_packet.specs.declared.fault.PacketFault.TheVariants as fault
+use Rattle.echo_packet.proofs.{Headers.word-number, FieldsSoFar.numbered, FieldsSoFar.numbered-fits, FieldsSoFar.Consumes-known, FieldsSoFar.Consumes-front}
 
 -- the number itself is at fault
 at_number : (limits : Limits) (given start at : ℕ) (bs : List ℕ) (Wrong : Part → List ℕ → Type 0) → start < 2 ^ 64 → at ≡ start → Wrong Number bs

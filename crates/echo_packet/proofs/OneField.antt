@@ -1,10 +1,8 @@
 -- One field read from the front of bytes.
 use Rattle.std.proofs.Common.{◌≡◌, ◌≢◌, ℕ, zero, suc, ◌<◌, ◌≤◌, ◌==◌, nat_lt, List, [], ◌∷◌, ◌++◌, length, take, drop, refl, ap, ◌∙◌, subst, arith, add-one, cond}
-use Rattle.std.proofs.lemmas.List.{length-append, take_at, drop_at}
 use Rattle.std.proofs.lemmas.Bool.{lt-ltb, le-ltb, ne_eqb, cond-true, cond-false}
-use Rattle.std.proofs.lemmas.List.Elements.{All-head, All-tail}
-use Rattle.echo_packet.specs.Message.{HasNoZero, zero_ended}
-use Rattle.echo_packet.specs.Fault.{IsTooLong}
+use Rattle.std.proofs.lemmas.List.{length-append, take_at, drop_at, Elements.All-head, Elements.All-tail}
+use Rattle.echo_packet.specs.{Message.HasNoZero, Message.zero_ended, Fault.IsTooLong}
 
 -- a field and the bytes after it, or why the field is missing
 pub data FieldRead : Type 0 where

@@ -1,23 +1,16 @@
 -- The one answer that bytes have: they are read message by message, and each description of them is this answer.
 use Rattle.std.proofs.Common.{◌≡◌, ℕ, zero, suc, ◌+◌, ◌-◌, ◌≤◌, ◌==◌, nat_lt, List, [], ◌∷◌, ◌++◌, Ok, Err, length, take, drop, refl, sym, ap, ◌∙◌, subst, inl, inr, arith, cond, append_assoc, length-append}
-use Rattle.std.proofs.lemmas.List.{drop_at, length-take, take-append-drop}
 use Rattle.std.proofs.lemmas.Bool.{lt-ltb, le-ltb, eq-eqb, ne_eqb, cond-true, cond-false}
+use Rattle.std.proofs.lemmas.List.{drop_at, length-take, take-append-drop}
 use Rattle.std.specs.List.{AllByRecursion}
-use Rattle.echo_packet.specs.declared.header.Header.{Header}
-use Rattle.echo_packet.specs.declared.limits.Limits.{Limits}
-use Rattle.echo_packet.specs.declared.fault.PacketFault.{PacketFault}
-use Rattle.echo_packet.specs.declared.fault.PacketFault.TheVariants as fault
 use Rattle.echo_packet.specs.Header.{IsHeader, word, number_at, header_bytes, header_of}
 use Rattle.echo_packet.specs.Message.{Message, Part, IsMessage, AreMessages, message_bytes, messages_bytes}
-use Rattle.echo_packet.specs.Packet.{packet_bytes, PacketOf}
 use Rattle.echo_packet.specs.Fault.{AtField, IsCut, IsLongField, IsLongText, IsOtherNumber, IsOneTooMany, place_of}
-use Rattle.echo_packet.specs.Answer.{Answer, AnswersAsDescribed, Describes}
-use Rattle.echo_packet.specs.Next.{AtPart, NextFault}
-use Rattle.echo_packet.specs.Run.{IsOfCall}
-use Rattle.echo_packet.proofs.Headers.{header_of-header_bytes, length-header_bytes, number_at-header_bytes}
-use Rattle.echo_packet.proofs.MessageByMessage.{length-packet_bytes}
-use Rattle.echo_packet.proofs.Slices.{IsJudged}
+use Rattle.echo_packet.specs.{declared.header.Header.Header, declared.limits.Limits.Limits, declared.fault.PacketFault.PacketFault, Packet.packet_bytes, Packet.PacketOf}
+use Rattle.echo_packet.specs.{Answer.Answer, Answer.AnswersAsDescribed, Answer.Describes, Next.AtPart, Next.NextFault, Run.IsOfCall}
+use Rattle.echo_packet.specs.declared.fault.PacketFault.TheVariants as fault
 use Rattle.echo_packet.proofs.Verdicts.{Verdict, Whole, End, Wrong, verdict, verdict-whole, verdict-end, Fails, fails}
+use Rattle.echo_packet.proofs.{Headers.header_of-header_bytes, Headers.length-header_bytes, Headers.number_at-header_bytes, MessageByMessage.length-packet_bytes, Slices.IsJudged}
 
 -- the messages and the bytes after the terminator, or the fault of a field and the bytes from there on
 data Ending : Type 0 where

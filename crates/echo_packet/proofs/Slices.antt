@@ -1,18 +1,11 @@
 -- A packet read from a slice, which never fails.
 use Rattle.std.proofs.Common.{◌≡◌, ℕ, ◌+◌, ◌^◌, ◌<◌, ◌⊎◌, List, [], ◌∷◌, ◌++◌, Ok, Err, length, subst, arith}
 use Rattle.disk_io.proofs.Devices.{Failed-never}
-use Rattle.echo_packet.specs.declared.header.Header.{Header}
-use Rattle.echo_packet.specs.declared.limits.Limits.{Limits}
-use Rattle.echo_packet.specs.declared.fault.PacketFault.{PacketFault}
+use Rattle.echo_packet.specs.declared.{header.Header.Header, limits.Limits.Limits, fault.PacketFault.PacketFault, reader.Stage.Stage}
+use Rattle.echo_packet.specs.{Header.header_bytes, Header.IsHeader, Header.word, Message.Message, Message.IsMessage, Message.message_bytes, Fault.FaultOf, Fault.place_of}
+use Rattle.echo_packet.specs.{Answer.Answer, Answer.Describes, Next.CountsFailures, Next.NextFault, Run.SoFar, Run.IsOfCall}
 use Rattle.echo_packet.specs.declared.fault.PacketFault.TheVariants as fault
-use Rattle.echo_packet.specs.declared.reader.Stage.{Stage}
 use Rattle.echo_packet.specs.declared.reader.Stage.TheVariants as stage
-use Rattle.echo_packet.specs.Header.{header_bytes, IsHeader, word}
-use Rattle.echo_packet.specs.Message.{Message, IsMessage, message_bytes}
-use Rattle.echo_packet.specs.Fault.{FaultOf, place_of}
-use Rattle.echo_packet.specs.Answer.{Answer, Describes}
-use Rattle.echo_packet.specs.Next.{CountsFailures, NextFault}
-use Rattle.echo_packet.specs.Run.{SoFar, IsOfCall}
 use Rattle.echo_packet.proofs.MessageByMessage.{run-opens, run-gives, run-ends, run-fails, length-packet_bytes}
 
 -- the messages already returned, before the terminator

@@ -1,13 +1,10 @@
 -- Strings that end in 00, read in pieces.
 use Rattle.std.proofs.Common.{◌≡◌, ◌≢◌, ℕ, ◌+◌, ◌≤◌, List, ◌++◌, Option, length, arith}
-use Rattle.std.proofs.lemmas.List.{length-append}
+use Rattle.std.proofs.{lemmas.List.length-append, KnownBytes.Consumes-trans, lemmas.List.Elements.All-append}
 use Rattle.std.specs.Io.KnownBytes.{Consumes}
-use Rattle.std.proofs.KnownBytes.{Consumes-trans}
-use Rattle.std.proofs.lemmas.List.Elements.{All-append}
-use Rattle.echo_packet.specs.Message.{HasNoZero}
+use Rattle.echo_packet.specs.{Message.HasNoZero, Field.Consumed, Field.BreaksString, Field.IsOpen, Field.IsPast}
 use Rattle.disk_io.specs.declared.fixed.Broken.{Broken}
 use Rattle.disk_io.specs.declared.fixed.Broken.TheVariants as broken
-use Rattle.echo_packet.specs.Field.{Consumed, BreaksString, IsOpen, IsPast}
 
 -- the source gave a part of a string and did not fail
 pub record HasRead (most : ℕ) (before after : Option (List ℕ)) (s : List ℕ) (failures_before failures_after : ℕ) : Type 0 where

@@ -1,18 +1,12 @@
 -- A message, the terminator or a fault, read from left to right.
 use Rattle.std.proofs.Common.{◌≡◌, ◌≢◌, ℕ, replicate, ◌+◌, ◌-◌, ◌<◌, ◌≤◌, ◌==◌, ◌⊎◌, inl, inr, List, [], ◌++◌, length, take, drop, refl, sym, ap, ◌∙◌, subst, arith, cond, append_assoc, length-append}
-use Rattle.std.proofs.lemmas.List.{take-append-drop, length-take-le, get_or-take}
-use Rattle.std.proofs.lemmas.Bool.{eq-eqb, ne_eqb, cond-true, cond-false}
-use Rattle.echo_packet.specs.declared.limits.Limits.{Limits}
-use Rattle.echo_packet.specs.declared.fault.PacketFault.{PacketFault}
-use Rattle.echo_packet.specs.declared.fault.PacketFault.TheVariants as fault
-use Rattle.echo_packet.specs.Header.{word, number_at}
+use Rattle.std.proofs.lemmas.{List.take-append-drop, List.length-take-le, List.get_or-take, Bool.eq-eqb, Bool.ne_eqb, Bool.cond-true, Bool.cond-false}
 use Rattle.echo_packet.specs.Message.{Message, Part, Number, Numbers, DateTime, ToName, FromName, Subject, Text, IsMessage, before, numbers, message_bytes, max_name, max_subject}
 use Rattle.echo_packet.specs.Fault.{IsCut, IsLongField, IsLongText, IsOtherNumber, IsOneTooMany, place_of}
-use Rattle.echo_packet.specs.Next.{AtPart, NextFault}
-use Rattle.echo_packet.specs.Run.{IsOfCall}
-use Rattle.echo_packet.proofs.Headers.{number-word}
-use Rattle.echo_packet.proofs.FieldsSoFar.{numbered}
+use Rattle.echo_packet.specs.{declared.limits.Limits.Limits, declared.fault.PacketFault.PacketFault, Header.word, Header.number_at, Next.AtPart, Next.NextFault, Run.IsOfCall}
+use Rattle.echo_packet.specs.declared.fault.PacketFault.TheVariants as fault
 use Rattle.echo_packet.proofs.OneField.{FieldRead, Got, Cut, Long, string, fixed, string-whole, string-cut, string-long, fixed-whole, fixed-cut}
+use Rattle.echo_packet.proofs.{Headers.number-word, FieldsSoFar.numbered}
 
 -- a message or terminator and the bytes after it, or the fault of a field and the bytes from there on
 pub data Verdict : Type 0 where

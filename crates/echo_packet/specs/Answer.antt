@@ -1,13 +1,8 @@
 -- The correct answers of reading a packet from a front of the bytes.
 use Rattle.std.specs.Prelude.{◌≡◌, ℕ, ◌≤◌, ◌⊎◌, List, length, take, Result, Ok, Err, Vec}
 use Rattle.std.specs.declared.alloc.Global.{Global}
-use Rattle.echo_packet.specs.declared.header.Header.{Header}
-use Rattle.echo_packet.specs.declared.limits.Limits.{Limits}
-use Rattle.echo_packet.specs.declared.fault.PacketFault.{PacketFault}
+use Rattle.echo_packet.specs.{declared.header.Header.Header, declared.limits.Limits.Limits, declared.fault.PacketFault.PacketFault, Message.Message, Packet.PacketOf, Fault.FaultOf}
 use Rattle.echo_packet.specs.declared.fault.PacketFault.TheVariants as fault
-use Rattle.echo_packet.specs.Message.{Message}
-use Rattle.echo_packet.specs.Packet.{PacketOf}
-use Rattle.echo_packet.specs.Fault.{FaultOf}
 
 -- A header, the messages, and the number of bytes of the packet.
 abbrev pub Found : Type 0

@@ -1,11 +1,8 @@
 -- Faults of bytes that are no packet, and their places.
 use Rattle.std.specs.Prelude.{◌≡◌, ◌≢◌, ℕ, ◌+◌, ◌-◌, ◌^◌, ◌<◌, ◌≤◌, ◌⊎◌, min, List, [], ◌++◌, length, take}
-use Rattle.echo_packet.specs.declared.header.Header.{Header}
-use Rattle.echo_packet.specs.declared.limits.Limits.{Limits}
-use Rattle.echo_packet.specs.declared.fault.PacketFault.{PacketFault}
-use Rattle.echo_packet.specs.declared.fault.PacketFault.TheVariants as fault
-use Rattle.echo_packet.specs.Header.{header_bytes, IsHeader, number_at}
 use Rattle.echo_packet.specs.Message.{Message, Part, Number, Numbers, DateTime, ToName, FromName, Subject, Text, before, messages_bytes, most_of, max_name, max_subject, HasNoZero, IsMessage, AreMessages}
+use Rattle.echo_packet.specs.{declared.header.Header.Header, declared.limits.Limits.Limits, declared.fault.PacketFault.PacketFault, Header.header_bytes, Header.IsHeader, Header.number_at}
+use Rattle.echo_packet.specs.declared.fault.PacketFault.TheVariants as fault
 
 -- The bytes end inside this field.
 abbrev pub IsCut : Limits → Part → List ℕ → Type 0

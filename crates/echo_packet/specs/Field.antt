@@ -3,17 +3,12 @@ use Rattle.std.specs.Prelude.{◌≡◌, ℕ, ◌+◌, ◌<◌, ◌≤◌, List,
 use Rattle.std.specs.Io.KnownBytes.{Consumes, IsAtEnd}
 use Rattle.disk_io.specs.declared.fixed.Broken.{Broken}
 use Rattle.disk_io.specs.declared.fixed.Broken.TheVariants as broken
-use Rattle.echo_packet.specs.declared.field.Piece.{Piece}
-use Rattle.echo_packet.specs.declared.field.Piece.TheVariants as piece
-use Rattle.echo_packet.specs.declared.field.Taken.{Taken}
-use Rattle.echo_packet.specs.declared.field.Taken.TheVariants as taken
-use Rattle.echo_packet.specs.declared.fault.Field.{Field}
-use Rattle.echo_packet.specs.declared.fault.Field.TheVariants as field
-use Rattle.echo_packet.specs.declared.fault.PacketFault.{PacketFault}
-use Rattle.echo_packet.specs.declared.fault.PacketFault.TheVariants as fault
-use Rattle.echo_packet.specs.Header.{word}
 use Rattle.echo_packet.specs.Message.{Message, HasNoZero, IsMessage, zero_ended, message_bytes}
-use Rattle.echo_packet.specs.Fault.{IsTooLong, place_of}
+use Rattle.echo_packet.specs.{declared.field.Piece.Piece, declared.field.Taken.Taken, declared.fault.Field.Field, declared.fault.PacketFault.PacketFault, Header.word, Fault.IsTooLong, Fault.place_of}
+use Rattle.echo_packet.specs.declared.field.Piece.TheVariants as piece
+use Rattle.echo_packet.specs.declared.field.Taken.TheVariants as taken
+use Rattle.echo_packet.specs.declared.fault.Field.TheVariants as field
+use Rattle.echo_packet.specs.declared.fault.PacketFault.TheVariants as fault
 
 -- The source gave bytes that have P.
 abbrev pub Consumed : Option (List ℕ) → Option (List ℕ) → (List ℕ → Type 0) → Type 0

@@ -2,10 +2,8 @@
 use Rattle.std.specs.Prelude.{◌≡◌, ℕ, ◌^◌, ◌<◌, ◌≤◌, List, [], ◌∷◌, ◌++◌, length}
 use Rattle.std.specs.List.{AllByRecursion}
 pub use Rattle.echo_addr.specs.Bytes.{HasNoZero}
-use Rattle.echo_packet.specs.declared.limits.Limits.{Limits}
-use Rattle.echo_packet.specs.declared.fault.Field.{Field}
+use Rattle.echo_packet.specs.{declared.limits.Limits.Limits, declared.fault.Field.Field, Header.AreBytes, Header.word}
 use Rattle.echo_packet.specs.declared.fault.Field.TheVariants as field
-use Rattle.echo_packet.specs.Header.{AreBytes, word}
 
 -- A packed message. Its strings are lists of bytes without their 00.
 pub record Message : Type 0 where

@@ -2,13 +2,10 @@
 use Rattle.std.specs.Prelude.{◌≡◌, ◌≢◌, ℕ, ◌+◌, ◌<◌, ◌≤◌, List, ◌++◌, length, Option, None, Some, IfSome, Result, Ok, Err}
 use Rattle.std.specs.Io.KnownBytes.{Consumes}
 use Rattle.disk_io.specs.Device.{Failed}
-use Rattle.echo_packet.specs.declared.limits.Limits.{Limits}
-use Rattle.echo_packet.specs.declared.fault.PacketFault.{PacketFault}
-use Rattle.echo_packet.specs.declared.fault.PacketFault.TheVariants as fault
-use Rattle.echo_packet.specs.Header.{word}
 use Rattle.echo_packet.specs.Message.{Message, Part, Number, Numbers, DateTime, before, message_bytes, most_of, HasNoZero, IsMessage}
-use Rattle.echo_packet.specs.Field.{Consumed}
 use Rattle.echo_packet.specs.Fault.{IsCut, IsLongField, IsLongText, IsOtherNumber, IsOneTooMany, place_of}
+use Rattle.echo_packet.specs.{declared.limits.Limits.Limits, declared.fault.PacketFault.PacketFault, Header.word, Field.Consumed}
+use Rattle.echo_packet.specs.declared.fault.PacketFault.TheVariants as fault
 
 -- `given` messages and `start` bytes are before these bytes. Some fields of one more message follow, then the wrong field.
 pub record AtPart (limits : Limits) (given start : ℕ) (bs : List ℕ) (at : ℕ) (Wrong : Part → List ℕ → Type 0) : Type 0 where

@@ -1,6 +1,5 @@
 -- The parts of a `Packed`.
-use Rattle.echo_packet.specs.declared.packed.Packed.TheInside.{Inside}
-use Rattle.echo_packet.specs.Message.{Message}
+use Rattle.echo_packet.specs.{declared.packed.Packed.TheInside.Inside, Message.Message}
 
 -- The message that has these fields.
 abbrev pub message_of : Inside → Message

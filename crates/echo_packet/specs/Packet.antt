@@ -1,8 +1,6 @@
 -- The bytes of a packet (FTS-0001).
 use Rattle.std.specs.Prelude.{◌≡◌, ℕ, List, ◌++◌}
-use Rattle.echo_packet.specs.declared.header.Header.{Header}
-use Rattle.echo_packet.specs.declared.limits.Limits.{Limits}
-use Rattle.echo_packet.specs.Header.{header_bytes, IsHeader, word}
+use Rattle.echo_packet.specs.{declared.header.Header.Header, declared.limits.Limits.Limits, Header.header_bytes, Header.IsHeader, Header.word}
 use Rattle.echo_packet.specs.Message.{Message, messages_bytes, AreMessages}
 
 -- The bytes of the header, the bytes of the messages in order, and 00 00.

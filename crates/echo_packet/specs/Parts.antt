@@ -1,8 +1,6 @@
 -- A message assembled from its parts.
 use Rattle.std.specs.Prelude.{ℕ, List}
-use Rattle.echo_packet.specs.declared.packed.Buffers.{Buffers}
-use Rattle.echo_packet.specs.declared.packed.PackedNumbers.{PackedNumbers}
-use Rattle.echo_packet.specs.Message.{Message}
+use Rattle.echo_packet.specs.{declared.packed.Buffers.Buffers, declared.packed.PackedNumbers.PackedNumbers, Message.Message}
 
 -- The message of these numbers, this date and these strings.
 abbrev pub message_with : PackedNumbers → List ℕ → Buffers → Message

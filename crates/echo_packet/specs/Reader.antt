@@ -1,15 +1,9 @@
 -- The parts of a `PacketReader` that clauses name, and the correct answers of its calls.
 use Rattle.std.specs.Prelude.{◌≡◌, ◌≢◌, ℕ, ◌+◌, ◌<◌, ◌≤◌, List, length, Option, None, Some, Result, Ok, Err}
-use Rattle.echo_packet.specs.declared.header.Header.{Header}
-use Rattle.echo_packet.specs.declared.limits.Limits.{Limits}
-use Rattle.echo_packet.specs.declared.fault.PacketFault.{PacketFault}
+use Rattle.echo_packet.specs.{declared.header.Header.Header, declared.limits.Limits.Limits, declared.fault.PacketFault.PacketFault, declared.reader.PacketReader.PacketReader, Header.number_at}
+use Rattle.echo_packet.specs.{Message.Message, Field.Consumed, Field.IsShort, Next.CountsFailures}
 use Rattle.echo_packet.specs.declared.fault.PacketFault.TheVariants as fault
-use Rattle.echo_packet.specs.declared.reader.PacketReader.{PacketReader}
 use Rattle.echo_packet.specs.declared.reader.Stage.TheVariants as stage
-use Rattle.echo_packet.specs.Header.{number_at}
-use Rattle.echo_packet.specs.Message.{Message}
-use Rattle.echo_packet.specs.Field.{Consumed, IsShort}
-use Rattle.echo_packet.specs.Next.{CountsFailures}
 
 -- The source, with the bytes not yet read.
 abbrev pub reader_source : {R : Type 0} → PacketReader R → R

@@ -1,12 +1,8 @@
 -- Reading a packet message by message.
 use Rattle.std.specs.Prelude.{◌≡◌, ℕ, ◌+◌, List, ◌++◌, length}
-use Rattle.echo_packet.specs.declared.header.Header.{Header}
-use Rattle.echo_packet.specs.declared.limits.Limits.{Limits}
-use Rattle.echo_packet.specs.declared.fault.PacketFault.{PacketFault}
+use Rattle.echo_packet.specs.{declared.header.Header.Header, declared.limits.Limits.Limits, declared.fault.PacketFault.PacketFault, Header.header_bytes, Header.IsHeader}
+use Rattle.echo_packet.specs.{Message.Message, Message.messages_bytes, Message.AreMessages, Fault.place_of}
 use Rattle.echo_packet.specs.declared.fault.PacketFault.TheVariants as fault
-use Rattle.echo_packet.specs.Header.{header_bytes, IsHeader}
-use Rattle.echo_packet.specs.Message.{Message, messages_bytes, AreMessages}
-use Rattle.echo_packet.specs.Fault.{place_of}
 
 -- The bytes begin with the header and these messages, within the limits. The reader returned `given` of them, up to the
 -- place, and `rest` follows.

@@ -1,9 +1,7 @@
 -- The parts of a `PacketWriter` that clauses name, and the effects of its calls.
 use Rattle.std.specs.Prelude.{◌≡◌, ℕ, Bool, List, Option}
 use Rattle.disk_io.specs.Device.{Failed, SendsFront}
-use Rattle.echo_packet.specs.declared.writer.PacketWriter.{PacketWriter}
-use Rattle.echo_packet.specs.declared.fault.Unfinished.{Unfinished}
-use Rattle.echo_packet.specs.declared.fault.PacketFault.TheVariants.{Write}
+use Rattle.echo_packet.specs.declared.{writer.PacketWriter.PacketWriter, fault.Unfinished.Unfinished, fault.PacketFault.TheVariants.Write}
 
 -- The writer that takes the bytes.
 abbrev pub writer_below : {W : Type 0} → PacketWriter W → W

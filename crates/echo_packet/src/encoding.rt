@@ -1,8 +1,6 @@
 //! The parts of a packet that have a fixed size, as bytes.
-ghost use Rattle.std.specs.Prelude.{◌≡◌, ◌*◌, ◌++◌, length};
-ghost use Rattle.std.specs.List.{flat_map};
-ghost use Rattle.echo_packet.specs.Header.{IsHeader, header_bytes, word};
-ghost use Rattle.echo_packet.specs.Message.{numbers, readdressed};
+ghost use Rattle.std.specs.{Prelude.◌≡◌, Prelude.◌*◌, Prelude.◌++◌, Prelude.length, List.flat_map};
+ghost use Rattle.echo_packet.specs.{Header.IsHeader, Header.header_bytes, Header.word, Message.numbers, Message.readdressed};
 
 use crate::header::{HEADER_BYTES, Header};
 use crate::packed::Packed;

@@ -2,8 +2,8 @@
 ghost use Rattle.std.specs.Prelude.{◌<◌, length, IfNone, IfSome, IfOk, IfErr};
 ghost use Rattle.std.specs.Io.KnownBytes.{Consumes};
 ghost use Rattle.disk_io.specs.Fixed.{CountsBreak};
-ghost use Rattle.echo_packet.specs.Message.{IsString, zero_ended};
 ghost use Rattle.echo_packet.specs.Field.{BreaksString, Consumed, IsPast, IsPiece, StepsString};
+ghost use Rattle.echo_packet.specs.Message.{IsString, zero_ended};
 
 use disk_io::{Broken, Source, are_bytes};
 use memchr::memchr;

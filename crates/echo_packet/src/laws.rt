@@ -1,16 +1,10 @@
 //! Laws about the definitions. Each law is the contract of a function that does nothing.
 
 ghost use Rattle.std.specs.Prelude.{◌≡◌, ℕ, ◌+◌, ◌<◌, ◌≤◌, ◌⊎◌, List, [], ◌∷◌, ◌++◌, length, take, Ok};
-ghost use Rattle.echo_packet.specs.declared.header.Header.{Header};
-ghost use Rattle.echo_packet.specs.declared.limits.Limits.{Limits};
-ghost use Rattle.echo_packet.specs.declared.fault.PacketFault.{PacketFault};
 ghost use Rattle.echo_packet.specs.Header.{AreBytes, IsHeader, header_bytes, header_of, number_at, word};
-ghost use Rattle.echo_packet.specs.Message.{Message, AreMessages, IsMessage, message_bytes};
-ghost use Rattle.echo_packet.specs.Packet.{packet_bytes};
-ghost use Rattle.echo_packet.specs.Fault.{FaultOf, place_of};
-ghost use Rattle.echo_packet.specs.Answer.{Answer, Describes};
-ghost use Rattle.echo_packet.specs.Next.{NextFault};
-ghost use Rattle.echo_packet.specs.Run.{IsOfCall, SoFar};
+ghost use Rattle.echo_packet.specs.declared.{header.Header.Header, limits.Limits.Limits, fault.PacketFault.PacketFault};
+ghost use Rattle.echo_packet.specs.{Message.Message, Message.AreMessages, Message.IsMessage, Message.message_bytes, Packet.packet_bytes, Fault.FaultOf, Fault.place_of};
+ghost use Rattle.echo_packet.specs.{Answer.Answer, Answer.Describes, Next.NextFault, Run.IsOfCall, Run.SoFar};
 
 /// A header is undone by its bytes, and its bytes by the header that they give.
 pub fn header_laws()

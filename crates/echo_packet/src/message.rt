@@ -1,11 +1,9 @@
 //! One message, or the terminator, taken from a source field by field.
 ghost use Rattle.std.specs.Prelude.{◌≡◌, ℕ, ◌+◌, ◌<◌, ◌≤◌, [], length, IfOk, IfErr, IfSome, OnOk, OnErr};
 ghost use Rattle.std.specs.Io.KnownBytes.{Consumes};
-ghost use Rattle.echo_packet.specs.Header.{AreBytes};
-ghost use Rattle.echo_packet.specs.Message.{IsString, zero_ended};
-ghost use Rattle.echo_packet.specs.Fault.{place_of};
 ghost use Rattle.echo_packet.specs.Field.{FailsInFixed, FailsInString, FixedFault, StringFault, TakesMessage, broken_fault_at, long_fault_at};
 ghost use Rattle.echo_packet.specs.Next.{CountsFailures, FailsBehind, FailsInMessage, IsWithin, NextFault, TakesNext, next_bytes};
+ghost use Rattle.echo_packet.specs.{Header.AreBytes, Message.IsString, Message.zero_ended, Fault.place_of};
 
 use crate::fault::{Field, PacketFault};
 use crate::field::read_string;

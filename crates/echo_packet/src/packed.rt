@@ -1,8 +1,6 @@
 ghost use Rattle.std.specs.Prelude.{◌≡◌, ◌≤◌, ◌↔◌, length, IsTrue, IfOk, IfErr, IfSome, IsNone, Err, Some};
 ghost use Rattle.echo_packet.specs.Message.{HasNoZero, Message, IsMessage, IsString, AreStrings, IsFirstBad, max_name, max_subject};
-ghost use Rattle.echo_packet.specs.Parts.{message_with};
-ghost use Rattle.echo_packet.specs.declared.fault.Field.{Field};
-ghost use Rattle.echo_packet.specs.declared.fault.PacketFault.TheVariants.{BadField};
+ghost use Rattle.echo_packet.specs.{Parts.message_with, declared.fault.Field.Field, declared.fault.PacketFault.TheVariants.BadField};
 
 use crate::fault::{Field, PacketFault};
 use crate::limits::{MAX_NAME, MAX_SUBJECT};

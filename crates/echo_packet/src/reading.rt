@@ -1,6 +1,5 @@
 ghost use Rattle.std.specs.Prelude.{◌≡◌, ◌⊎◌, Err};
-ghost use Rattle.echo_packet.specs.Answer.{Answer, AnswersAsDescribed, Describes, answered};
-ghost use Rattle.echo_packet.specs.declared.fault.PacketFault.TheVariants.{Memory};
+ghost use Rattle.echo_packet.specs.{Answer.Answer, Answer.AnswersAsDescribed, Answer.Describes, Answer.answered, declared.fault.PacketFault.TheVariants.Memory};
 
 use crate::fault::PacketFault;
 use crate::header::Header;

@@ -2,8 +2,7 @@
 //! of its bytes and nothing else.
 ghost use Rattle.std.specs.Prelude.{◌≡◌, length, OnOk, OnErr};
 ghost use Rattle.disk_io.specs.Device.{Failed, Sends};
-ghost use Rattle.echo_packet.specs.Header.{IsHeader, header_bytes, word};
-ghost use Rattle.echo_packet.specs.Message.{IsMessage, zero_ended, message_bytes, readdressed};
+ghost use Rattle.echo_packet.specs.{Header.IsHeader, Header.header_bytes, Header.word, Message.IsMessage, Message.zero_ended, Message.message_bytes, Message.readdressed};
 
 use crate::encoding::{fixed_bytes, write_header};
 use crate::header::{HEADER_BYTES, Header};

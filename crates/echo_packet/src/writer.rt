@@ -1,10 +1,8 @@
 ghost use Rattle.std.specs.Prelude.{◌≡◌, ◌+◌, true, false, length, IfOk, IfErr, OnOk, OnErr, Err};
 ghost use Rattle.std.specs.Io.KnownBytes.{Appends};
 ghost use Rattle.disk_io.specs.Device.{Failed, Sends};
-ghost use Rattle.echo_packet.specs.declared.fault.PacketFault.TheVariants.{Stopped, Write};
-ghost use Rattle.echo_packet.specs.Header.{IsHeader, header_bytes, word};
-ghost use Rattle.echo_packet.specs.Message.{IsMessage, message_bytes, readdressed};
-ghost use Rattle.echo_packet.specs.Writer.{IsCutOff, bytes_sent, has_stopped, writer_below};
+ghost use Rattle.echo_packet.specs.{declared.fault.PacketFault.TheVariants.Stopped, declared.fault.PacketFault.TheVariants.Write, Header.IsHeader, Header.header_bytes, Header.word};
+ghost use Rattle.echo_packet.specs.{Message.IsMessage, Message.message_bytes, Message.readdressed, Writer.IsCutOff, Writer.bytes_sent, Writer.has_stopped, Writer.writer_below};
 
 use crate::copy::PackedCopy;
 use crate::fault::{PacketFault, Unfinished};

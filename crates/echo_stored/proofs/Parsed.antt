@@ -1,8 +1,6 @@
 -- The result of parsing an address.
 use Rattle.std.proofs.Common.{◌≡◌, ℕ, List, Some, Result, Ok, Err, refl, sym}
-use Rattle.echo_addr.specs.declared.address.Address.{Address}
-use Rattle.echo_addr.specs.declared.fault.AddrFault.{AddrFault}
-use Rattle.echo_addr.specs.Address.{AddressOf, outcome, refusal}
+use Rattle.echo_addr.specs.{declared.address.Address.Address, declared.fault.AddrFault.AddrFault, Address.AddressOf, Address.outcome, Address.refusal}
 use Rattle.echo_addr.proofs.Outcomes.{outcome-written, outcome_refused}
 
 pub parsed : (word : List ℕ) (r : Result Address AddrFault) → ((a : Address) → r ≡ Ok a → AddressOf word a)

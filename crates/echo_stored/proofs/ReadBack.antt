@@ -1,12 +1,8 @@
 -- A stored message that was written is read back.
 use Rattle.std.proofs.Common.{◌≡◌, ◌≢◌, Bool, ℕ, suc, ◌+◌, ◌-◌, ◌<◌, ◌==◌, not, List, [], ◌∷◌, ◌++◌, length, take, refl, sym, ap, subst, ◌∙◌, arith, append_assoc, length-append}
-use Rattle.std.specs.List.{AllByRecursion, prefix_len}
-use Rattle.std.specs.Prelude.{replicate}
-use Rattle.std.proofs.lemmas.Bool.{cond-true, ne_eqb}
-use Rattle.std.proofs.lemmas.List.{drop_at, length-replicate, take_at}
-use Rattle.std.proofs.lemmas.List.Elements.{All-drop, recursion_from_All}
-use Rattle.echo_filed.specs.Filed.{Filed, IsFiled}
-use Rattle.echo_filed.specs.Written.{text_of}
+use Rattle.std.proofs.lemmas.{Bool.cond-true, Bool.ne_eqb, List.drop_at, List.length-replicate, List.take_at, List.Elements.All-drop, List.Elements.recursion_from_All}
+use Rattle.std.specs.{List.AllByRecursion, List.prefix_len, Prelude.replicate}
+use Rattle.echo_filed.specs.{Filed.Filed, Filed.IsFiled, Written.text_of}
 use Rattle.echo_filed.proofs.Texts.{text_is_text}
 use Rattle.echo_text.specs.Echo.{EchoText, HasNoZero, IsEcho}
 use Rattle.echo_text.proofs.NoZeros.{written_has_no_zero}

@@ -1,10 +1,7 @@
 -- The address in an origin line (FTS-0004).
 use Rattle.std.specs.Prelude.{ℕ, ◌-◌, ◌==◌, not, Bool, List, length, take, drop, Option, Some, None}
-use Rattle.std.specs.Result.{result_ok}
-use Rattle.std.specs.List.{prefix_len, suffix_len}
-use Rattle.std.specs.Int.{is_in_range}
-use Rattle.echo_addr.specs.declared.address.Address.{Address}
-use Rattle.echo_addr.specs.Address.{outcome}
+use Rattle.std.specs.{Result.result_ok, List.prefix_len, List.suffix_len, Int.is_in_range}
+use Rattle.echo_addr.specs.{declared.address.Address.Address, Address.outcome}
 use Rattle.echo_text.specs.Echo.{EchoText, origin_of}
 
 -- Digits, colons and slashes.

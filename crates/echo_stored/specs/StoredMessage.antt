@@ -1,10 +1,8 @@
 -- The stored message of FTS-0001: one message in a file, as editors and tossers write it.
 use Rattle.std.specs.Prelude.{ℕ, ◌-◌, Bool, List, [], ◌∷◌, ◌++◌, length, replicate, if◌then◌else◌, Option, Some, None}
 use Rattle.std.specs.List.{flat_map}
-use Rattle.echo_addr.specs.declared.address.Address.{Address}
-use Rattle.echo_addr.specs.ShortLines.{path_prefix, seen_prefix}
-use Rattle.echo_filed.specs.Filed.{Filed}
-use Rattle.echo_filed.specs.Written.{short_lines}
+use Rattle.echo_addr.specs.{declared.address.Address.Address, ShortLines.path_prefix, ShortLines.seen_prefix}
+use Rattle.echo_filed.specs.{Filed.Filed, Written.short_lines}
 use Rattle.echo_packet.specs.Header.{word}
 use Rattle.echo_text.specs.Echo.{EchoText, ended}
 use Rattle.echo_stored.specs.OriginAddress.{address_in_origin}

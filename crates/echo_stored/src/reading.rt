@@ -1,7 +1,7 @@
 //! A stored message that an editor wrote, read for posting.
 ghost use Rattle.std.specs.Prelude.{◌≡◌, ◌==◌, ◌||◌, ◌≤◌, ◌++◌, true, not, drop, length, option_copied, take_while, IsTrue, IfOk, OnOk};
-ghost use Rattle.echo_text.specs.Echo.{first_after, id_in};
 ghost use Rattle.echo_text.specs.Lines.{after_feeds, begins, is_control, is_origin, is_path, is_seen, lines, msgid_word, reply_word};
+ghost use Rattle.echo_text.specs.Echo.{first_after, id_in};
 ghost use Rattle.echo_stored.specs.StoredReading.{ReadAnswers, body_of, field_at, is_local, is_made, is_sent, is_to_post, own_line, reply_in, text_in, until_zero};
 ghost use Rattle.echo_stored.specs.declared.reading.StoredFault.TheVariants.{Memory};
 

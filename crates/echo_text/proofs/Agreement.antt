@@ -1,12 +1,7 @@
 -- The answers of readers of texts.
 use Rattle.std.proofs.Common.{◌≡◌, ℕ, List, ◌⊎◌, Some, Result, Ok, Err, arith}
-use Rattle.echo_text.specs.declared.fault.TextFault.{TextFault}
-use Rattle.echo_text.specs.declared.fault.TextFault.TheVariants.{Memory}
-use Rattle.echo_text.specs.Echo.{EchoText, IsEcho, TextOf}
-use Rattle.echo_text.specs.Refusal.{TextAnswers, text_refusal}
-use Rattle.echo_text.proofs.OneReading.{one_answer}
-use Rattle.echo_text.proofs.SaidAfter.{not_refused}
-use Rattle.echo_text.proofs.Written.{written_read_back}
+use Rattle.echo_text.specs.{declared.fault.TextFault.TextFault, declared.fault.TextFault.TheVariants.Memory, Echo.EchoText, Echo.IsEcho, Echo.TextOf, Refusal.TextAnswers, Refusal.text_refusal}
+use Rattle.echo_text.proofs.{OneReading.one_answer, SaidAfter.not_refused, Written.written_read_back}
 
 -- every reader of a written text returns its parts
 pub written_is_read : (e : EchoText) (text : List ℕ) (r : Result (EchoText × ℕ) TextFault) → IsEcho e → TextOf e text → TextAnswers text r

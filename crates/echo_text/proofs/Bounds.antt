@@ -1,18 +1,13 @@
 -- No more tokens are dropped than a text has bytes.
 use Rattle.std.proofs.Common.{◌≡◌, ℕ, suc, ◌+◌, ◌≤◌, ◌==◌, ◌&&◌, nat_eq, nat_lt, true, false, List, [], ◌∷◌, length, refl, ap, arith, inl, inr}
-use Rattle.std.specs.Option.{is_none}
-use Rattle.std.specs.List.{filter, onto_first, prefix_len, slice_split, starts_with, sum_by}
-use Rattle.std.proofs.lemmas.Bool.{and_parts, cases_Bool, cond_both}
-use Rattle.std.proofs.lemmas.List.{length-drop}
-use Rattle.std.proofs.lemmas.List.Splits.{slice_split-cons_no, slice_split-cons_yes}
+use Rattle.std.proofs.lemmas.{Bool.and_parts, Bool.cases_Bool, Bool.cond_both, List.length-drop, List.Splits.slice_split-cons_no, List.Splits.slice_split-cons_yes}
 use Rattle.std.proofs.lemmas.List.Sums.{count_by-le-length, sum_by-cons}
-use Rattle.echo_addr.specs.Entries.{dropped, is_blank, judged, tokens}
-use Rattle.echo_addr.specs.ShortLines.{path_prefix, seen_prefix}
+use Rattle.std.specs.List.{filter, onto_first, prefix_len, slice_split, starts_with, sum_by}
+use Rattle.std.specs.Option.{is_none}
+use Rattle.echo_addr.specs.{Entries.dropped, Entries.is_blank, Entries.judged, Entries.tokens, ShortLines.path_prefix, ShortLines.seen_prefix}
 use Rattle.echo_text.specs.Lines.{after_feeds, after_word, begins, control_word, is_control, is_feed, is_path, is_return, is_seen, lines, without_empty_last}
 use Rattle.echo_text.specs.Tail.{all_dropped, lists_of, tail}
-use Rattle.echo_text.proofs.LineKinds.{control_is_not_seen}
-use Rattle.echo_text.proofs.EachLine.{listed_no, listed_yes}
-use Rattle.echo_text.proofs.Tails.{all_tail}
+use Rattle.echo_text.proofs.{LineKinds.control_is_not_seen, EachLine.listed_no, EachLine.listed_yes, Tails.all_tail}
 
 -- how many pieces are not empty
 abbrev filled : List (List ℕ) → List (List ℕ)

@@ -1,9 +1,8 @@
 -- The bytes after a word in lines, line by line.
 use Rattle.std.proofs.Common.{◌≡◌, ℕ, true, false, List, ◌∷◌, map, ap}
-use Rattle.std.specs.List.{filter}
 use Rattle.std.proofs.lemmas.Bool.{cond-false, cond-true}
-use Rattle.echo_text.specs.Lines.{after_word, begins}
-use Rattle.echo_text.specs.Tail.{lists_of}
+use Rattle.std.specs.List.{filter}
+use Rattle.echo_text.specs.{Lines.after_word, Lines.begins, Tail.lists_of}
 
 -- a line that begins with the word has a list
 pub listed_yes : (word line : List ℕ) (more : List (List ℕ)) → begins word line ≡ true → lists_of word (line ∷ more) ≡ after_word word line ∷ lists_of word more

@@ -1,14 +1,10 @@
 -- Bytes of which each line has its 0D.
 use Rattle.std.proofs.Common.{◌≡◌, ℕ, ◌+◌, ◌-◌, ◌<◌, Bool, true, false, cond, List, [], ◌∷◌, ◌++◌, length, get_or, take, refl, sym, ap, subst, ◌∙◌, arith, inl, inr}
-use Rattle.std.specs.List.{AllByRecursion, filter, flat_map}
-use Rattle.std.specs.Str.{bytes_eq}
-use Rattle.std.specs.Cmp.Lexicographic.{bytes_decides, pointwise, pointwise_decides}
-use Rattle.std.proofs.lemmas.Bool.{cases_Bool, eqb-true}
-use Rattle.std.proofs.lemmas.Grind.{flat_map-append}
 use Rattle.std.proofs.lemmas.List.{append-nil, append_assoc, append_cancel_left, length-append, nil_from_length, take_all, take_more}
 use Rattle.std.proofs.lemmas.List.Elements.{All-append, All-cons, All-filter, All-from_recursion, All-nil, recursion_from_All}
-use Rattle.echo_text.specs.Lines.{is_return, lines}
-use Rattle.echo_text.specs.Echo.{HasEndedLines, ended}
+use Rattle.std.proofs.lemmas.{Bool.cases_Bool, Bool.eqb-true, Grind.flat_map-append}
+use Rattle.std.specs.{List.AllByRecursion, List.filter, List.flat_map, Str.bytes_eq, Cmp.Lexicographic.bytes_decides, Cmp.Lexicographic.pointwise, Cmp.Lexicographic.pointwise_decides}
+use Rattle.echo_text.specs.{Lines.is_return, Lines.lines, Echo.HasEndedLines, Echo.ended}
 use Rattle.echo_text.proofs.TextLines.{IsPiece, lines_last, lines_nil, lines_of_ended}
 
 -- a text in lines with their 0D, and the bytes after the last 0D

@@ -1,12 +1,9 @@
 -- The parts of entries are numbers of two bytes.
 use Rattle.std.proofs.Common.{ℕ, ◌^◌, ◌<◌, List, [], ◌∷◌, Option, Some, None, nat_le, arith}
-use Rattle.std.specs.Option.{option_map, option_or}
-use Rattle.std.specs.List.{All, AllByRecursion, filter_map, flat_map}
-use Rattle.std.proofs.lemmas.Bool.{and_parts, leb-true}
-use Rattle.std.proofs.lemmas.List.Elements.{All-append, All-from_recursion, All-nil}
-use Rattle.echo_addr.specs.declared.address.NetNode.{NetNode}
+use Rattle.std.proofs.lemmas.{Bool.and_parts, Bool.leb-true, List.Elements.All-append, List.Elements.All-from_recursion, List.Elements.All-nil}
+use Rattle.std.specs.{Option.option_map, Option.option_or, List.All, List.AllByRecursion, List.filter_map, List.flat_map}
 use Rattle.echo_addr.specs.Entries.{entries, entry_from, judged, nearest_net, pair_of, part_of, tokens}
-use Rattle.echo_addr.specs.ShortLines.{IsNetNode}
+use Rattle.echo_addr.specs.{declared.address.NetNode.NetNode, ShortLines.IsNetNode}
 
 -- a number of two bytes, if there is one
 abbrev IsPart : Option ℕ → Type 0

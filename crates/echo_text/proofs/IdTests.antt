@@ -1,10 +1,9 @@
 -- The test of an id passes exactly if the bytes are the parts of one.
 use Rattle.std.proofs.Common.{◌≡◌, ◌≢◌, ℕ, ◌+◌, ◌-◌, ◌<◌, ◌≤◌, ◌==◌, ◌||◌, ◌&&◌, not, nat_lt, Bool, true, false, List, [], ◌∷◌, ◌++◌, length, get_or, take, drop, reverse, refl, sym, ap, ◌∙◌, arith}
-use Rattle.std.specs.List.{AllPass, list_all, suffix_len}
-use Rattle.std.specs.Str.Parse.{AllDigits, digits_value}
 use Rattle.std.proofs.lemmas.Bool.{and_from, and_left, and_right, both_ways, le-ltb, lt-ltb, ne_eqb, not-true, not_from_false, or_left, or_parts, or_right}
 use Rattle.std.proofs.lemmas.List.{append_assoc, drop_at, get_or-append_right, get_or-drop, get_or-reverse, get_or_append_left, get_or_at, length-append, length-drop, length-reverse, length-take-le, take-append-drop, take_at}
 use Rattle.std.proofs.lemmas.List.Sums.{AllPass-from_list_all, list_all-from_AllPass, prefix_len_passes, suffix_len-le-length, suffix_len_is}
+use Rattle.std.specs.{List.AllPass, List.list_all, List.suffix_len, Str.Parse.AllDigits, Str.Parse.digits_value}
 use Rattle.echo_addr.specs.Entries.{is_blank}
 use Rattle.echo_text.specs.Ids.{Bare, IdParts, SpellsOrigin, before_serial, is_bare_origin, is_gap, is_hex_digit, is_id_trimmed, is_line_byte, is_quote, is_quoted_origin, without_gap}
 use Rattle.echo_text.proofs.Ids.{ends_doubled, hex_from_digits}

@@ -1,12 +1,8 @@
 -- The bytes that spell an id, and the test that finds them.
 use Rattle.std.proofs.Common.{◌≡◌, ℕ, ◌-◌, ◌≤◌, ◌||◌, ◌&&◌, nat_lt, nat_le, true, false, List, [], ◌∷◌, ◌++◌, length, take, drop, refl, sym, ap, ◌∙◌, arith, inl, inr}
-use Rattle.std.specs.Int.{is_in_range}
-use Rattle.std.specs.Char.{digit_value}
-use Rattle.std.specs.List.{list_all}
-use Rattle.std.specs.Str.Parse.{AllDigits}
 use Rattle.std.proofs.lemmas.Bool.{agree_below_at, and_from, and_parts, and_right, cases_Bool, cases_lt, cond-false, cond_both, eq-eqb, eqb-true, false≢true, le-ltb, lt-leb, lt-ltb, not-true}
-use Rattle.std.proofs.lemmas.List.{length-append, take_at}
-use Rattle.std.proofs.lemmas.List.Sums.{AllPass-from_list_all}
+use Rattle.std.proofs.lemmas.List.{length-append, take_at, Sums.AllPass-from_list_all}
+use Rattle.std.specs.{Int.is_in_range, Char.digit_value, List.list_all, Str.Parse.AllDigits}
 use Rattle.echo_text.specs.Ids.{Bare, Quoted, doubled, ends_quoted, is_bare_origin, is_hex_digit, is_quote, is_quoted_origin, undoubled}
 
 -- a digit to the base 16, in both wordings

@@ -1,18 +1,15 @@
 -- Lines that a reader keeps at any position.
 use Rattle.std.proofs.Common.{◌≡◌, ℕ, ◌==◌, ◌||◌, nat_eq, Bool, cond, true, false, List, [], ◌∷◌, ◌++◌, codes, length, map, nat_lt, None, refl, sym, ap, subst, ◌∙◌, inl, inr, arith}
+use Rattle.std.proofs.lemmas.Bool.{and_parts, cases_Bool, cond-false, cond_both, eqb-true, or_cases}
+use Rattle.std.proofs.lemmas.List.Elements.{All-append, All-contains_itself, All-filter, All-weaker, Contains-append_left, Contains-append_right, filter-append}
+use Rattle.std.proofs.lemmas.List.{append-nil, map-append, Folds.find-append}
 use Rattle.std.specs.List.{All, Contains, filter, find, last_or, list_all, starts_with}
 use Rattle.std.specs.Option.{option_or}
-use Rattle.std.proofs.lemmas.List.{append-nil, map-append}
-use Rattle.std.proofs.lemmas.Bool.{and_parts, cases_Bool, cond-false, cond_both, eqb-true, or_cases}
-use Rattle.std.proofs.lemmas.List.Folds.{find-append}
-use Rattle.std.proofs.lemmas.List.Elements.{All-append, All-contains_itself, All-filter, All-weaker, Contains-append_left, Contains-append_right, filter-append}
-use Rattle.echo_addr.specs.Entries.{is_blank}
-use Rattle.echo_addr.specs.ShortLines.{seen_prefix}
+use Rattle.echo_addr.specs.{Entries.is_blank, ShortLines.seen_prefix}
 use Rattle.echo_text.specs.Lines.{after_feeds, after_word, begins, control_word, is_blank_line, is_origin, is_tear, msgid_word, reply_word, trimmed}
 use Rattle.echo_text.specs.Tail.{body, is_kept_control, is_tail_line, kept_of, tail}
 use Rattle.echo_text.specs.Echo.{first_after, msgid_of, origin_of, reply_of, tear_of}
-use Rattle.echo_text.proofs.LineKinds.{blanks_after_feeds, control_in_tail}
-use Rattle.echo_text.proofs.Tails.{body_and_tail, tail_is_tail}
+use Rattle.echo_text.proofs.{LineKinds.blanks_after_feeds, LineKinds.control_in_tail, Tails.body_and_tail, Tails.tail_is_tail}
 
 -- bytes that begin with a word, taken apart behind its first byte
 record Opened (w : ℕ) (word bytes : List ℕ) : Type 0 where

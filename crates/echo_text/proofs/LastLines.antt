@@ -1,12 +1,10 @@
 -- The last line of a text, and its control tail found from the end.
 use Rattle.std.proofs.Common.{◌≡◌, ℕ, ◌+◌, ◌-◌, ◌<◌, ◌≤◌, ◌⊎◌, true, false, List, [], ◌∷◌, ◌++◌, length, get_or, take, drop, Some, None, sym, ap, subst, ◌∙◌, arith, inl, inr}
-use Rattle.std.proofs.lemmas.Bool.{and_from, cases_Bool, eqb-true, false_from_ne_true}
 use Rattle.std.proofs.lemmas.List.{append-nil, append_assoc, append_cancel_left, drop_all, get_or-drop, get_or-take, length-drop, length-take-le, take-append-drop, take-take, take_more}
+use Rattle.std.proofs.lemmas.Bool.{and_from, cases_Bool, eqb-true, false_from_ne_true}
 use Rattle.std.proofs.lemmas.List.Elements.{All-append, All-cons, All-from_get_or, All-nil}
 use Rattle.memchr.specs.Find.{IsLastByte, is_byte}
-use Rattle.echo_text.specs.Lines.{first_line, is_return, lines}
-use Rattle.echo_text.specs.Tail.{body, is_tail_line, tail}
-use Rattle.echo_text.specs.Echo.{HasEndedLines}
+use Rattle.echo_text.specs.{Lines.first_line, Lines.is_return, Lines.lines, Tail.body, Tail.is_tail_line, Tail.tail, Echo.HasEndedLines}
 use Rattle.echo_text.proofs.EndedLines.{ended_by_return, ended_rest, lines_behind, nothing_is_ended, with_last}
 use Rattle.echo_text.proofs.Tails.{all_tail, body_before, body_none, tail_behind, tail_whole}
 use Rattle.echo_text.proofs.TextLines.{IsPiece, lines_cut, lines_last, lines_nil}

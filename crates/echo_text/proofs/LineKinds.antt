@@ -1,12 +1,10 @@
 -- The first bytes of each kind of line, and that the kinds differ.
 use Rattle.std.proofs.Common.{◌≡◌, ℕ, suc, ◌+◌, ◌&&◌, not, nat_eq, true, false, List, [], ◌∷◌, ◌++◌, drop, refl, ap, ◌∙◌, arith, inl, inr}
-use Rattle.std.specs.List.{list_all, prefix_len, starts_with}
 use Rattle.std.proofs.lemmas.Bool.{and_parts, cases_Bool, cond_both, eqb-true, not-true, or_left, or_right}
-use Rattle.echo_addr.specs.Entries.{is_blank}
-use Rattle.echo_addr.specs.ShortLines.{path_prefix, seen_prefix}
+use Rattle.std.specs.List.{list_all, prefix_len, starts_with}
+use Rattle.echo_addr.specs.{Entries.is_blank, ShortLines.path_prefix, ShortLines.seen_prefix}
 use Rattle.echo_text.specs.Lines.{after_feeds, after_word, area_word, begins, control_word, is_area, is_blank_line, is_control, is_feed, is_path, is_seen}
-use Rattle.echo_text.specs.Tail.{is_kept_control, is_tail_line}
-use Rattle.echo_text.specs.Echo.{is_shed}
+use Rattle.echo_text.specs.{Tail.is_kept_control, Tail.is_tail_line, Echo.is_shed}
 
 -- lines that begin with their word
 pub area_is_area : (rest : List ℕ) → is_area (area_word ++ rest) ≡ true

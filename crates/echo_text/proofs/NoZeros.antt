@@ -1,14 +1,13 @@
 -- A text that is written has no 00.
 use Rattle.std.proofs.Common.{◌≡◌, ◌≢◌, ℕ, ◌==◌, not, Bool, true, false, List, [], ◌∷◌, ◌++◌, refl, sym, ap, subst, ◌∙◌, arith, inl, inr}
-use Rattle.std.specs.List.{AllByRecursion, flat_map, list_all}
-use Rattle.std.proofs.lemmas.Bool.{and_parts, eq-eqb}
 use Rattle.std.proofs.lemmas.List.Elements.{All-append, All-from_recursion, All-nil, All-weaker, recursion_from_All}
-use Rattle.std.proofs.lemmas.List.Sums.{AllPass-from_list_all}
-use Rattle.echo_addr.specs.declared.address.NetNode.{NetNode}
+use Rattle.std.proofs.lemmas.{Bool.and_parts, Bool.eq-eqb, List.Sums.AllPass-from_list_all}
+use Rattle.std.specs.List.{AllByRecursion, flat_map, list_all}
 use Rattle.echo_addr.specs.ShortLines.{IsEntryByte, ReadBack, line_of, path_prefix, seen_prefix}
+use Rattle.echo_addr.specs.declared.address.NetNode.{NetNode}
 use Rattle.echo_addr.proofs.ReadBack.{read_back}
-use Rattle.echo_text.specs.Lines.{area_word, is_tag_byte}
 use Rattle.echo_text.specs.Echo.{EchoText, HasNoZero, IsEcho, IsLine, TextOf, ended}
+use Rattle.echo_text.specs.Lines.{area_word, is_tag_byte}
 
 -- a byte that is not 00
 abbrev IsSome : ℕ → Type 0

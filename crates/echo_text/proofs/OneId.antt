@@ -1,7 +1,7 @@
 -- Bytes spell at most one id.
 use Rattle.std.proofs.Common.{◌≡◌, ℕ, Bool, List, get_or, sym, ap, subst, ◌∙◌, arith}
-use Rattle.std.specs.Str.Parse.{digits_value}
 use Rattle.std.proofs.lemmas.List.{append_cancel_right}
+use Rattle.std.specs.Str.Parse.{digits_value}
 use Rattle.echo_text.specs.Ids.{IdParts, SpellsOrigin, SameId}
 use Rattle.echo_text.proofs.IdTests.{seen_parts}
 

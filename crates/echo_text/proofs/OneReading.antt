@@ -1,19 +1,12 @@
 -- A text has one reading, and a reading has one text.
 use Rattle.std.proofs.Common.{◌≡◌, ℕ, suc, zero, List, [], ◌∷◌, ◌++◌, Result, Ok, Err, refl, sym, ap, subst, ◌∙◌, arith, inl, inr, ◌⊎◌}
-use Rattle.std.specs.List.{All, AllPairs, Contains, flat_map}
 use Rattle.std.proofs.lemmas.List.Elements.{All-contains}
-use Rattle.echo_addr.specs.declared.address.NetNode.{NetNode}
-use Rattle.echo_addr.specs.ShortLines.{ComesBefore, path_prefix, seen_prefix}
+use Rattle.std.specs.List.{All, AllPairs, Contains, flat_map}
+use Rattle.echo_addr.specs.{declared.address.NetNode.NetNode, ShortLines.ComesBefore, ShortLines.path_prefix, ShortLines.seen_prefix}
 use Rattle.echo_addr.proofs.Runs.{one_spelling}
-use Rattle.echo_text.specs.declared.fault.TextFault.{TextFault}
-use Rattle.echo_text.specs.declared.fault.TextFault.TheVariants.{Memory}
-use Rattle.echo_text.specs.Lines.{area_word}
 use Rattle.echo_text.specs.Echo.{EchoOf, EchoText, HasNoZero, IsSetOf, TextOf, ended}
-use Rattle.echo_text.specs.Refusal.{TextAnswers}
-use Rattle.echo_text.proofs.PutTogether.{same_parts}
-use Rattle.echo_text.proofs.Reread.{read_is_echo}
-use Rattle.echo_text.proofs.SaidAfter.{not_refused}
-use Rattle.echo_text.proofs.Written.{written_read_back}
+use Rattle.echo_text.specs.{declared.fault.TextFault.TextFault, declared.fault.TextFault.TheVariants.Memory, Lines.area_word, Refusal.TextAnswers}
+use Rattle.echo_text.proofs.{PutTogether.same_parts, Reread.read_is_echo, SaidAfter.not_refused, Written.written_read_back}
 
 -- the order of entries
 not_both : (x y : NetNode) → ComesBefore x y → ComesBefore y x → ⊥

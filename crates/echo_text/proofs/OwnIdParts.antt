@@ -1,20 +1,12 @@
 -- The id that a system gives is spelled as ids are.
 use Rattle.std.proofs.Common.{◌≡◌, ℕ, ◌+◌, ◌-◌, ◌/◌, ◌%◌, ◌^◌, ◌<◌, ◌≤◌, ◌==◌, not, true, false, List, [], ◌∷◌, ◌++◌, length, get_or, drop, refl, sym, ap, subst, ◌∙◌, arith, codes}
-use Rattle.std.specs.Char.{digit_value}
-use Rattle.std.specs.Fmt.{decimal}
-use Rattle.std.specs.List.{AllByRecursion, prefix_len, suffix_len}
-use Rattle.std.proofs.lemmas.Bool.{ne_eqb, not_from_false, not-true, or_from}
-use Rattle.std.proofs.lemmas.Fmt.{decimal_nonempty}
-use Rattle.std.proofs.lemmas.List.{get_or-append_right, length-append, take_all}
-use Rattle.std.proofs.lemmas.List.Elements.{All-from_recursion}
-use Rattle.std.proofs.lemmas.List.Sums.{AllPass-from_list_all, prefix_len_is, suffix_len_is}
-use Rattle.echo_addr.specs.declared.address.Address.{Address}
-use Rattle.echo_addr.specs.Address.{address_text}
-use Rattle.echo_addr.specs.Entries.{is_blank}
-use Rattle.echo_addr.proofs.Decimals.{IsDigit, digits_of_decimal}
-use Rattle.echo_addr.proofs.Each.{joined, weaker}
-use Rattle.echo_text.specs.Lines.{trimmed, without_back_blanks}
+use Rattle.std.proofs.lemmas.{Bool.ne_eqb, Bool.not_from_false, Bool.not-true, Bool.or_from, Fmt.decimal_nonempty, List.get_or-append_right, List.length-append, List.take_all}
+use Rattle.std.proofs.lemmas.List.{Elements.All-from_recursion, Sums.AllPass-from_list_all, Sums.prefix_len_is, Sums.suffix_len_is}
+use Rattle.std.specs.{Char.digit_value, Fmt.decimal, List.AllByRecursion, List.prefix_len, List.suffix_len}
+use Rattle.echo_addr.specs.{declared.address.Address.Address, Address.address_text, Entries.is_blank}
+use Rattle.echo_addr.proofs.{Decimals.IsDigit, Decimals.digits_of_decimal, Each.joined, Each.weaker}
 use Rattle.echo_text.specs.Ids.{IdOf, IdParts, IsWide, hex_digit, id_of, is_gap, is_line_byte, serial_text}
+use Rattle.echo_text.specs.Lines.{trimmed, without_back_blanks}
 use Rattle.echo_text.proofs.OwnIds.{hex_worth, serial_back}
 
 -- a byte above the blanks and the double quote

@@ -1,17 +1,9 @@
 -- The ids that systems give their messages, and that they differ.
 use Rattle.std.proofs.Common.{◌≡◌, ℕ, ◌+◌, ◌*◌, ◌/◌, ◌%◌, ◌^◌, ◌<◌, ◌==◌, Bool, true, false, List, [], ◌∷◌, ◌++◌, length, take, drop, refl, sym, ap, ◌∙◌, arith}
-use Rattle.std.specs.Char.{digit_value}
-use Rattle.std.specs.Fmt.{decimal}
-use Rattle.std.specs.List.{position_or_len}
-use Rattle.std.specs.Str.Parse.{digits_value, digits_value_after}
-use Rattle.std.proofs.lemmas.Bool.{agree_below_at, eqb-true, ne_eqb}
-use Rattle.std.proofs.lemmas.Fmt.{decimal_injective}
-use Rattle.std.proofs.lemmas.List.{drop_at, take_at}
-use Rattle.echo_addr.specs.declared.address.Address.{Address}
-use Rattle.echo_addr.specs.Address.{address_text, is_colon, is_slash}
-use Rattle.echo_addr.proofs.Decimals.{IsDigit, digits_of_decimal}
-use Rattle.echo_addr.proofs.Each.{joined, weaker}
-use Rattle.echo_addr.proofs.Shapes.{NonePass, position_at}
+use Rattle.std.proofs.lemmas.{Bool.agree_below_at, Bool.eqb-true, Bool.ne_eqb, Fmt.decimal_injective, List.drop_at, List.take_at}
+use Rattle.std.specs.{Char.digit_value, Fmt.decimal, List.position_or_len, Str.Parse.digits_value, Str.Parse.digits_value_after}
+use Rattle.echo_addr.specs.{declared.address.Address.Address, Address.address_text, Address.is_colon, Address.is_slash}
+use Rattle.echo_addr.proofs.{Decimals.IsDigit, Decimals.digits_of_decimal, Each.joined, Each.weaker, Shapes.NonePass, Shapes.position_at}
 use Rattle.echo_text.specs.Ids.{IsWide, hex_digit, id_of, is_gap, serial_text}
 
 -- bytes are cut at the first that passes in one way

@@ -1,15 +1,11 @@
 -- Bytes that pass the test of an id spell one.
 use Rattle.std.proofs.Common.{◌≡◌, ◌≢◌, ℕ, ◌-◌, ◌<◌, ◌≤◌, ◌||◌, nat_lt, Bool, true, false, List, [], ◌∷◌, length, take, drop, refl, ◌∙◌, arith, inl, inr}
-use Rattle.std.specs.Char.{digit_value}
-use Rattle.std.specs.List.{list_all}
-use Rattle.std.specs.Str.Parse.{AllDigits, digits_value}
-use Rattle.std.proofs.lemmas.Bool.{and_parts, or_cases}
-use Rattle.std.proofs.lemmas.List.{length-take}
+use Rattle.std.proofs.lemmas.{Bool.and_parts, Bool.or_cases, List.length-take}
+use Rattle.std.specs.{Char.digit_value, List.list_all, Str.Parse.AllDigits, Str.Parse.digits_value}
 use borrow.Author.Tests.{ltb-true}
-use Rattle.echo_text.specs.Lines.{trimmed}
 use Rattle.echo_text.specs.Ids.{IdParts, SpellsId, SpellsOrigin, before_serial, is_bare_origin, is_hex_digit, is_id, is_id_trimmed, is_line_byte, is_quoted_origin, without_gap}
-use Rattle.echo_text.proofs.Ids.{bare_origin, hex_digit_same, quoted_origin}
-use Rattle.echo_text.proofs.IdTests.{parts_found, test_passes}
+use Rattle.echo_text.specs.Lines.{trimmed}
+use Rattle.echo_text.proofs.{Ids.bare_origin, Ids.hex_digit_same, Ids.quoted_origin, IdTests.parts_found, IdTests.test_passes}
 
 digits_from_hex : (ds : List ℕ) → list_all is_hex_digit ds ≡ true → AllDigits 16 ds
 digits_from_hex [] h = tt

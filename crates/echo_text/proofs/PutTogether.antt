@@ -1,11 +1,9 @@
 -- A text put together from its parts.
 use Rattle.std.proofs.Common.{◌≡◌, ℕ, List, [], ◌∷◌, ◌++◌, sym, ap, subst, ◌∙◌, arith}
-use Rattle.std.specs.List.{flat_map}
 use Rattle.std.proofs.lemmas.List.{append_assoc}
-use Rattle.echo_addr.specs.declared.address.NetNode.{NetNode}
-use Rattle.echo_addr.specs.ShortLines.{ShortLines, path_prefix, seen_prefix}
-use Rattle.echo_text.specs.Lines.{area_word}
-use Rattle.echo_text.specs.Echo.{EchoText, TextOf, ended}
+use Rattle.std.specs.List.{flat_map}
+use Rattle.echo_addr.specs.{declared.address.NetNode.NetNode, ShortLines.ShortLines, ShortLines.path_prefix, ShortLines.seen_prefix}
+use Rattle.echo_text.specs.{Lines.area_word, Echo.EchoText, Echo.TextOf, Echo.ended}
 
 regrouped : (a b k s p : List ℕ) → (((a ++ b) ++ k) ++ s) ++ p ≡ (a ++ b) ++ (k ++ (s ++ p))
 regrouped a b k s p =

@@ -1,18 +1,13 @@
 -- The parsed parts of a text keep the rules of an echo.
 use Rattle.std.proofs.Common.{false, cond, ◌≡◌, ◌≢◌, ℕ, ◌==◌, not, true, List, [], ◌∷◌, length, sym, subst, inl, inr, arith}
-use Rattle.std.specs.List.{All, AllByRecursion, AllPass, Contains, filter, onto_first, slice_split}
-use Rattle.std.proofs.lemmas.Bool.{cases_Bool, cond_both, eq-eqb}
 use Rattle.std.proofs.lemmas.List.Elements.{All-append, All-contains, All-contains_itself, All-filter, All-from_recursion, All-same, All-weaker, filter_passes, recursion_from_All}
-use Rattle.std.proofs.lemmas.List.Splits.{slice_split-cons_no, slice_split-cons_yes}
-use Rattle.std.proofs.lemmas.List.Sums.{list_all-from_AllPass}
-use Rattle.echo_addr.specs.declared.address.NetNode.{NetNode}
-use Rattle.echo_addr.specs.ShortLines.{IsNetNode}
-use Rattle.echo_text.specs.Lines.{is_return, later_lines, lines, without_empty_last}
+use Rattle.std.proofs.lemmas.{Bool.cases_Bool, Bool.cond_both, Bool.eq-eqb, List.Splits.slice_split-cons_no, List.Splits.slice_split-cons_yes, List.Sums.list_all-from_AllPass}
+use Rattle.std.specs.List.{All, AllByRecursion, AllPass, Contains, filter, onto_first, slice_split}
+use Rattle.echo_addr.specs.{declared.address.NetNode.NetNode, ShortLines.IsNetNode}
 use Rattle.echo_text.specs.Tail.{all_entries, body, is_kept_control, kept_of, path_lists, seen_lists, tail}
 use Rattle.echo_text.specs.Echo.{EchoOf, EchoText, HasNoZero, IsEcho, IsLine, IsSetOf, is_shed}
-use Rattle.echo_text.proofs.EntryRanges.{all_entries_in_range}
-use Rattle.echo_text.proofs.LineKinds.{control_in_tail, not_shed_if_kept}
-use Rattle.echo_text.proofs.Tails.{all_tail, tail-append, tail_of_body}
+use Rattle.echo_text.specs.Lines.{is_return, later_lines, lines, without_empty_last}
+use Rattle.echo_text.proofs.{EntryRanges.all_entries_in_range, LineKinds.control_in_tail, LineKinds.not_shed_if_kept, Tails.all_tail, Tails.tail-append, Tails.tail_of_body}
 
 -- a byte of a line
 abbrev IsLineByte : ℕ → Type 0

@@ -1,17 +1,11 @@
 -- The content of the lines after the AREA line.
-use Rattle.std.proofs.Common.{◌≡◌, ℕ, ◌+◌, ◌^◌, ◌<◌, List, ◌++◌, length, refl, sym, ap, subst, ◌∙◌, arith}
-use Rattle.std.specs.List.{filter}
-use Rattle.std.specs.Prelude.{MatchResult}
-use Rattle.std.specs.Result.{IsErrAnd}
-use Rattle.std.proofs.Common.{true, None, Option, Result, Ok, Err, inr}
-use Rattle.echo_addr.specs.declared.address.NetNode.{NetNode}
-use Rattle.echo_addr.specs.ShortLines.{path_prefix, seen_prefix}
-use Rattle.echo_text.specs.declared.fault.TextFault.{TextFault}
-use Rattle.echo_text.specs.declared.fault.TextFault.TheVariants.{Memory}
+use Rattle.std.proofs.Common.{◌≡◌, ℕ, ◌+◌, ◌^◌, ◌<◌, List, ◌++◌, length, refl, sym, ap, subst, ◌∙◌, arith, true, None, Option, Result, Ok, Err, inr}
+use Rattle.std.specs.{List.filter, Prelude.MatchResult, Result.IsErrAnd}
+use Rattle.echo_addr.specs.{declared.address.NetNode.NetNode, ShortLines.path_prefix, ShortLines.seen_prefix}
 use Rattle.echo_text.specs.Lines.{area_tag, first_line, is_area, is_tag, later_lines, lines}
 use Rattle.echo_text.specs.Tail.{all_dropped, all_entries, body, is_kept_control, kept_of, lists_of, path_lists, seen_lists, tail}
 use Rattle.echo_text.specs.Echo.{EchoOf, EchoText, FrontOf, IsSetOf, ListsOf}
-use Rattle.echo_text.specs.Refusal.{IsTextFault, TextAnswers, text_refusal, refusal_of}
+use Rattle.echo_text.specs.{declared.fault.TextFault.TextFault, declared.fault.TextFault.TheVariants.Memory, Refusal.IsTextFault, Refusal.TextAnswers, Refusal.text_refusal, Refusal.refusal_of}
 use Rattle.echo_text.proofs.Bounds.{dropped_of_text}
 
 -- the counts of dropped tokens fit

@@ -1,11 +1,8 @@
 -- Serials as digits to the base 16.
 use Rattle.std.proofs.Common.{◌≡◌, ℕ, ◌+◌, ◌*◌, ◌/◌, ◌%◌, ◌<◌, ◌≤◌, List, ◌∷◌, length, get_or, take, refl, sym, ap, subst, ◌∙◌, arith}
-use Rattle.std.specs.Char.{digit_value}
-use Rattle.std.specs.Int.{to_be_bytes, w32}
-use Rattle.std.specs.Str.Parse.{AllDigits, digits_value}
-use Rattle.std.proofs.Math.Nat.{pow-le-pow_right}
-use Rattle.std.proofs.lemmas.Int.Digits.{digits_more, digits_value-lt, digits_value_more}
+use Rattle.std.proofs.{Math.Nat.pow-le-pow_right, lemmas.Int.Digits.digits_more, lemmas.Int.Digits.digits_value-lt, lemmas.Int.Digits.digits_value_more}
 use Rattle.std.proofs.lemmas.List.{length-take-le, take_all}
+use Rattle.std.specs.{Char.digit_value, Int.to_be_bytes, Int.w32, Str.Parse.AllDigits, Str.Parse.digits_value}
 use Rattle.hex.specs.Hex.{encode_lower, encode_with}
 use Rattle.echo_text.specs.Ids.{hex_digit, serial_text}
 

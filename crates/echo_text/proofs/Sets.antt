@@ -1,17 +1,9 @@
 -- Entries in ascending order, each once, are the set of the entries.
 use Rattle.std.proofs.Common.{◌≡◌, ℕ, ◌<◌, ◌==◌, ◌&&◌, Bool, true, List, [], ◌∷◌, ap, ◌∙◌, arith, ◌⊎◌}
-use Rattle.std.specs.Prelude.{◌↔◌, Contains}
-use Rattle.std.specs.declared.cmp.Ordering.{Ordering}
-use Rattle.std.specs.declared.cmp.Ordering.TheVariants.{Less}
-use Rattle.std.specs.Ordering.{MatchOrdering, nat_cmp, ordering_then}
-use Rattle.std.specs.List.{AllPairs}
-use Rattle.std.specs.List.Sorted.{IsStrictlySortedBy}
-use Rattle.std.proofs.lemmas.Bool.{and_parts, eqb-true}
-use Rattle.std.proofs.lemmas.Cmp.{ranked}
-use Rattle.std.proofs.lemmas.List.Elements.{All-from_recursion, All-weaker}
-use Rattle.std.proofs.lemmas.List.Kept.{AllPairs-cons}
-use Rattle.echo_addr.specs.declared.address.NetNode.{NetNode}
-use Rattle.echo_addr.specs.ShortLines.{ComesBefore}
+use Rattle.std.proofs.lemmas.{Bool.and_parts, Bool.eqb-true, Cmp.ranked, List.Elements.All-from_recursion, List.Elements.All-weaker, List.Kept.AllPairs-cons}
+use Rattle.std.specs.{Prelude.◌↔◌, Prelude.Contains, declared.cmp.Ordering.Ordering, declared.cmp.Ordering.TheVariants.Less, Ordering.MatchOrdering, Ordering.nat_cmp, Ordering.ordering_then}
+use Rattle.std.specs.List.{AllPairs, Sorted.IsStrictlySortedBy}
+use Rattle.echo_addr.specs.{declared.address.NetNode.NetNode, ShortLines.ComesBefore}
 use Rattle.echo_text.specs.Echo.{IsSetOf}
 
 -- the order and the equality of entries, part by part

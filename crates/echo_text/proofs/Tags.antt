@@ -1,13 +1,8 @@
 -- A tag has no blanks at its ends, and its letters are in upper case.
 use Rattle.std.proofs.Common.{◌≡◌, ℕ, ◌<◌, ◌≤◌, nat_lt, nat_le, true, false, List, ◌++◌, length, map, ap, ◌∙◌, arith}
-use Rattle.std.specs.Char.{to_ascii_uppercase}
-use Rattle.std.specs.Int.{is_in_range}
-use Rattle.std.specs.List.{All, list_all}
-use Rattle.std.proofs.lemmas.List.{length-map, take_all}
-use Rattle.std.proofs.lemmas.List.Elements.{All-head, All-weaker}
-use Rattle.std.proofs.lemmas.List.Folds.{list_all-map, map_fixed}
-use Rattle.std.proofs.lemmas.List.Sums.{AllPass-from_list_all, suffix_len_is}
 use Rattle.std.proofs.lemmas.Bool.{and_parts, and_from, cases_lt, cond-false, cond-true, le-leb, leb-true, lt-ltb, le-ltb, ne_eqb, not-true, or_from}
+use Rattle.std.proofs.lemmas.List.{length-map, take_all, Elements.All-head, Elements.All-weaker, Folds.list_all-map, Folds.map_fixed, Sums.AllPass-from_list_all, Sums.suffix_len_is}
+use Rattle.std.specs.{Char.to_ascii_uppercase, Int.is_in_range, List.All, List.list_all}
 use Rattle.echo_addr.specs.Entries.{is_blank}
 use Rattle.echo_text.specs.Lines.{area_tag, area_word, is_return, is_tag, is_tag_byte, trimmed, without_back_blanks, without_front_blanks}
 use Rattle.echo_text.proofs.LineKinds.{after_area}

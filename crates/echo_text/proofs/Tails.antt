@@ -1,7 +1,7 @@
 -- The longest ending of lines that is made of control lines.
 use Rattle.std.proofs.Common.{◌≡◌, ℕ, ◌&&◌, Bool, cond, true, false, List, [], ◌∷◌, ◌++◌, refl, sym, ap, ◌∙◌, inl, inr}
-use Rattle.std.specs.List.{list_all}
 use Rattle.std.proofs.lemmas.Bool.{and_cases, and_left, and_right, cond-false, cond-true, cond_both}
+use Rattle.std.specs.List.{list_all}
 use Rattle.echo_text.specs.Tail.{body, is_tail_line, tail}
 
 -- the lines of which the tail is made

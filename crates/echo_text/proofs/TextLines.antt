@@ -1,15 +1,12 @@
 -- Cutting a text into lines.
 use Rattle.std.proofs.Common.{◌≡◌, ℕ, ◌+◌, ◌<◌, ◌≤◌, true, false, List, [], ◌∷◌, ◌++◌, length, get_or, take, drop, Some, None, refl, sym, ap, ◌∙◌, arith}
-use Rattle.std.specs.List.{All, AllByRecursion, flat_map}
 use Rattle.std.proofs.lemmas.List.{append_assoc, drop_more, get_or-take, length-take-le, nil_from_length, take-append-drop}
-use Rattle.std.proofs.lemmas.List.Elements.{All-from_get_or}
-use Rattle.std.proofs.lemmas.List.Splits.{slice_split_none, slice_split_at}
-use Rattle.std.proofs.lemmas.Bool.{eqb-true, false_from_ne_true}
+use Rattle.std.proofs.lemmas.{List.Elements.All-from_get_or, List.Splits.slice_split_none, List.Splits.slice_split_at, Bool.eqb-true, Bool.false_from_ne_true}
+use Rattle.std.specs.List.{All, AllByRecursion, flat_map}
 use Rattle.memchr.specs.Find.{IsFirstByte, is_byte}
 use Rattle.echo_addr.specs.Pieces.{without_empty_last}
 use Rattle.echo_addr.proofs.Pieces.{ended_piece, last_piece, some_pieces}
-use Rattle.echo_text.specs.Lines.{first_line, is_return, later_lines, lines}
-use Rattle.echo_text.specs.Echo.{ended}
+use Rattle.echo_text.specs.{Lines.first_line, Lines.is_return, Lines.later_lines, Lines.lines, Echo.ended}
 
 -- bytes among which no line ends
 abbrev pub IsPiece : List ℕ → Type 0

@@ -1,22 +1,18 @@
 -- The written text of an echo, cut into lines and parsed, is that echo.
 use Rattle.std.proofs.Common.{◌≡◌, ◌≢◌, ℕ, not, Bool, true, false, List, [], ◌∷◌, ◌++◌, map, refl, sym, ap, ◌∙◌, arith}
-use Rattle.std.specs.List.{AllByRecursion, AllPairs, filter, flat_map, list_all}
-use Rattle.std.proofs.lemmas.List.{append_assoc, append-nil}
 use Rattle.std.proofs.lemmas.List.Elements.{All-append, All-from_recursion, All-weaker, filter-append, recursion_from_All}
-use Rattle.std.proofs.lemmas.List.Folds.{list_all-append}
-use Rattle.std.proofs.lemmas.List.Sums.{list_all-from_AllPass, sum_by-cons}
 use Rattle.std.proofs.lemmas.Bool.{and_from, and_parts, cond-false, cond-true, ne_eqb}
-use Rattle.echo_addr.specs.declared.address.NetNode.{NetNode}
-use Rattle.echo_addr.specs.Entries.{dropped}
+use Rattle.std.proofs.lemmas.List.{append_assoc, append-nil, Folds.list_all-append, Sums.list_all-from_AllPass, Sums.sum_by-cons}
+use Rattle.std.specs.List.{AllByRecursion, AllPairs, filter, flat_map, list_all}
 use Rattle.echo_addr.specs.ShortLines.{ComesBefore, IsEntryByte, ReadBack, line_of, path_prefix, seen_prefix}
+use Rattle.echo_addr.specs.{declared.address.NetNode.NetNode, Entries.dropped}
 use Rattle.echo_addr.proofs.ReadBack.{read_back}
 use Rattle.echo_text.specs.Lines.{after_word, area_tag, area_word, first_line, is_area, is_path, is_return, is_seen, later_lines, lines}
 use Rattle.echo_text.specs.Tail.{all_dropped, all_entries, is_kept_control, is_tail_line, kept_of, path_lists, seen_lists, tail}
 use Rattle.echo_text.specs.Echo.{EchoText, EchoOf, IsEcho, IsLine, IsSetOf, TextOf, ended, is_shed}
-use Rattle.echo_text.proofs.TextLines.{IsPiece, lines_ended, lines_nil, lines_of_ended}
 use Rattle.echo_text.proofs.LineKinds.{after_path, after_seen, area_is_area, kept_no_path, kept_no_seen, kept_unless_shed, path_in_tail, path_is_not_seen, path_is_path, path_not_kept, seen_in_tail, seen_is_not_path, seen_is_seen, seen_not_kept}
-use Rattle.echo_text.proofs.Tags.{area_tag_back, tag_piece}
 use Rattle.echo_text.proofs.Tails.{all_tail, body-append, body_and_tail, tail-append, tail_is_tail}
+use Rattle.echo_text.proofs.{TextLines.IsPiece, TextLines.lines_ended, TextLines.lines_nil, TextLines.lines_of_ended, Tags.area_tag_back, Tags.tag_piece}
 
 -- lines that begin with the prefix
 abbrev prefixed : List ℕ → List (List ℕ) → List (List ℕ)

@@ -1,11 +1,7 @@
 -- The spelling of message ids (FTS-0009).
 use Rattle.std.specs.Prelude.{◌≡◌, ◌≢◌, ◌<◌, ℕ, ◌-◌, ◌/◌, ◌%◌, ◌^◌, ◌==◌, ◌||◌, ◌&&◌, not, nat_lt, Bool, true, false, List, [], ◌∷◌, ◌++◌, map, length, take, drop, slice_index, codes, if◌then◌else◌}
-use Rattle.std.specs.Int.{is_in_range}
-use Rattle.std.specs.List.{AllPass, list_all, suffix_len}
-use Rattle.std.specs.Str.Parse.{AllDigits, digits_value}
-use Rattle.echo_addr.specs.declared.address.Address.{Address}
-use Rattle.echo_addr.specs.Address.{address_text}
-use Rattle.echo_addr.specs.Entries.{is_blank}
+use Rattle.std.specs.{Int.is_in_range, List.AllPass, List.list_all, List.suffix_len, Str.Parse.AllDigits, Str.Parse.digits_value}
+use Rattle.echo_addr.specs.{declared.address.Address.Address, Address.address_text, Entries.is_blank}
 use Rattle.echo_text.specs.Lines.{trimmed}
 
 -- A hexadecimal digit in lower case.

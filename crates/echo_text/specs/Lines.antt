@@ -1,8 +1,7 @@
 -- The lines of a text and their kinds (FTS-0001, FTS-0004, FTS-0009).
 use Rattle.std.specs.Prelude.{ℕ, ◌-◌, ◌==◌, ◌||◌, ◌&&◌, not, nat_eq, nat_lt, nat_le, Bool, List, [], ◌∷◌, ◌++◌, map, length, take, drop, codes}
-use Rattle.std.specs.Char.{to_ascii_uppercase}
 use Rattle.std.specs.List.{slice_split, prefix_len, suffix_len, starts_with, list_all}
-use Rattle.std.specs.Int.{is_in_range}
+use Rattle.std.specs.{Char.to_ascii_uppercase, Int.is_in_range}
 use Rattle.echo_addr.specs.Entries.{is_blank}
 pub use Rattle.echo_addr.specs.Pieces.{is_feed, without_empty_last}
 use Rattle.echo_addr.specs.ShortLines.{path_prefix, seen_prefix}

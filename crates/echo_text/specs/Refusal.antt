@@ -1,8 +1,7 @@
 -- Why a reader refuses a text, and the answer of a reader.
 use Rattle.std.specs.Prelude.{◌≡◌, ℕ, ◌⊎◌, not, List, Option, Some, None, if◌then◌else◌, Result, Ok, Err}
-use Rattle.echo_text.specs.declared.fault.TextFault.{TextFault}
-use Rattle.echo_text.specs.declared.fault.TextFault.TheVariants.{BadTag, Memory, NotEcho}
 use Rattle.echo_text.specs.Lines.{area_tag, first_line, is_area, is_tag, lines}
+use Rattle.echo_text.specs.declared.fault.TextFault.{TextFault, TheVariants.BadTag, TheVariants.Memory, TheVariants.NotEcho}
 use Rattle.echo_text.specs.Echo.{EchoText, EchoOf}
 
 -- The first refusal that applies to a text with this first line.

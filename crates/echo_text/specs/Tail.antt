@@ -1,9 +1,7 @@
 -- The control tail of a text, the only lines in which SEEN-BY and PATH count (FTS-0004).
 use Rattle.std.specs.Prelude.{ℕ, ◌||◌, ◌&&◌, not, Bool, List, [], ◌∷◌, ◌++◌, filter, map, sum_by, if◌then◌else◌}
 use Rattle.std.specs.List.{flat_map, list_all}
-use Rattle.echo_addr.specs.declared.address.NetNode.{NetNode}
-use Rattle.echo_addr.specs.Entries.{dropped, entries}
-use Rattle.echo_addr.specs.ShortLines.{path_prefix, seen_prefix}
+use Rattle.echo_addr.specs.{declared.address.NetNode.NetNode, Entries.dropped, Entries.entries, ShortLines.path_prefix, ShortLines.seen_prefix}
 use Rattle.echo_text.specs.Lines.{after_word, begins, is_blank_line, is_control, is_path, is_seen}
 
 -- A line that may be in a tail.

@@ -1,8 +1,6 @@
 ghost use Rattle.std.specs.Prelude.{◌≡◌, Some, None, map, IfOk, MatchResult};
-ghost use Rattle.std.specs.Char.{to_ascii_uppercase};
-ghost use Rattle.std.specs.List.{list_all};
-ghost use Rattle.echo_text.specs.Lines.{area_tag, is_tag, is_tag_byte};
-ghost use Rattle.echo_text.specs.Refusal.{refusal_of};
+ghost use Rattle.std.specs.{Char.to_ascii_uppercase, List.list_all};
+ghost use Rattle.echo_text.specs.{Lines.area_tag, Lines.is_tag, Lines.is_tag_byte, Refusal.refusal_of};
 
 use crate::fault::TextFault;
 use crate::words::{AREA, after_word, trimmed};

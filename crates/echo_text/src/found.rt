@@ -1,7 +1,7 @@
 ghost use Rattle.std.specs.Prelude.{◌≡◌, None, map, option_copied, filter};
 ghost use Rattle.std.specs.List.{last_or};
-ghost use Rattle.echo_text.specs.Lines.{after_feeds, begins, is_tear, lines};
 ghost use Rattle.echo_text.specs.Echo.{first_after, id_in, msgid_of, origin_of, reply_of, tear_of};
+ghost use Rattle.echo_text.specs.Lines.{after_feeds, begins, is_tear, lines};
 
 use crate::lines::split_line;
 use crate::words::{MSGID, ORIGIN, REPLY, after_feeds, after_word, begins, is_tear, trimmed};

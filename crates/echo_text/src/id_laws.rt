@@ -1,8 +1,7 @@
 //! Laws about message ids. Each law is the contract of a function that does nothing.
 
 ghost use Rattle.std.specs.Prelude.{◌≡◌, ◌<◌, ◌^◌, ◌↔◌, ℕ, Bool, true, false, List};
-ghost use Rattle.echo_addr.specs.declared.address.Address.{Address};
-ghost use Rattle.echo_addr.specs.Address.{address_text};
+ghost use Rattle.echo_addr.specs.{declared.address.Address.Address, Address.address_text};
 ghost use Rattle.echo_text.specs.Ids.{IdOf, IsWide, SameId, SpellsId, doubled, id_of, is_id, undoubled};
 
 /// Ids of different pairs of address and serial differ (FTS-0009).

@@ -1,12 +1,9 @@
 //! Laws about the definitions. Each law is the contract of a function that does nothing.
 
 ghost use Rattle.std.specs.Prelude.{◌≡◌, ◌⊎◌, ℕ, List, All, Contains, Some, Result, Ok, Err, filter};
-ghost use Rattle.echo_text.specs.declared.fault.TextFault.{TextFault};
-ghost use Rattle.echo_text.specs.declared.fault.TextFault.TheVariants.{Memory};
 ghost use Rattle.echo_text.specs.Echo.{EchoOf, EchoText, HasNoZero, IsEcho, TextOf};
 ghost use Rattle.echo_text.specs.Lines.{begins, is_origin, is_tear, msgid_word, reply_word};
-ghost use Rattle.echo_text.specs.Refusal.{TextAnswers, text_refusal};
-ghost use Rattle.echo_text.specs.Tail.{kept_of};
+ghost use Rattle.echo_text.specs.{declared.fault.TextFault.TextFault, declared.fault.TextFault.TheVariants.Memory, Refusal.TextAnswers, Refusal.text_refusal, Tail.kept_of};
 
 /// A text that was written is read back as its `Echo`, no token dropped.
 pub fn written_text_read_back()

@@ -1,7 +1,6 @@
 ghost use Rattle.std.specs.Prelude.{◌≡◌, ◌+◌, ◌<◌, ◌≤◌, [], ◌∷◌, ◌++◌, length, take, drop, if◌then◌else◌, OnOk, OnErr};
 ghost use Rattle.std.specs.List.{flat_map};
-ghost use Rattle.echo_text.specs.Lines.{first_line, later_lines, lines};
-ghost use Rattle.echo_text.specs.Echo.{HasEndedLines, ended};
+ghost use Rattle.echo_text.specs.{Lines.first_line, Lines.later_lines, Lines.lines, Echo.HasEndedLines, Echo.ended};
 
 use memchr::{memchr, memrchr};
 use std::alloc::AllocError;

@@ -1,7 +1,5 @@
 ghost use Rattle.std.specs.Prelude.{◌≡◌, ◌<◌, ◌^◌, IfOk};
-ghost use Rattle.echo_text.specs.Echo.{IsSetOf};
-ghost use Rattle.echo_text.specs.Lines.{lines};
-ghost use Rattle.echo_text.specs.Tail.{all_dropped, all_entries, lists_of};
+ghost use Rattle.echo_text.specs.{Echo.IsSetOf, Lines.lines, Tail.all_dropped, Tail.all_entries, Tail.lists_of};
 
 use crate::lines::split_line;
 use crate::words::after_word;

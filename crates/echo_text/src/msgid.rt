@@ -1,9 +1,8 @@
 ghost use Rattle.std.specs.Prelude.{◌≡◌, ◌≤◌, ◌||◌, not, true, false, length, reverse, take_while, IfOk, IsTrue, MatchOption, MatchResult};
-ghost use Rattle.std.specs.List.{list_all};
-ghost use Rattle.std.specs.Str.Parse.{AllDigits, digits_value};
+ghost use Rattle.std.specs.{List.list_all, Str.Parse.AllDigits, Str.Parse.digits_value};
 ghost use Rattle.echo_addr.specs.Entries.{is_blank};
-ghost use Rattle.echo_text.specs.declared.fault.TextFault.TheVariants.{BadMsgId};
 ghost use Rattle.echo_text.specs.Ids.{IdOf, IdParts, NoId, SpellsOrigin, ends_quoted, id_of, is_bare_origin, is_gap, is_hex_digit, is_id_trimmed, is_line_byte, is_quoted_origin, undoubled, without_gap};
+ghost use Rattle.echo_text.specs.declared.fault.TextFault.TheVariants.{BadMsgId};
 
 use crate::fault::TextFault;
 use crate::words::trimmed;

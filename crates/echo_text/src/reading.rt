@@ -1,8 +1,5 @@
-ghost use Rattle.std.specs.Prelude.{◌≡◌, map, IfOk, MatchResult};
-ghost use Rattle.std.specs.Char.{to_ascii_uppercase};
-ghost use Rattle.echo_text.specs.Echo.{EchoOf, FrontOf, HasNoZero, ListsOf};
-ghost use Rattle.echo_text.specs.Lines.{later_lines, lines};
-ghost use Rattle.echo_text.specs.Refusal.{IsTextFault, TextAnswers};
+ghost use Rattle.std.specs.{Prelude.◌≡◌, Prelude.map, Prelude.IfOk, Prelude.MatchResult, Char.to_ascii_uppercase};
+ghost use Rattle.echo_text.specs.{Echo.EchoOf, Echo.FrontOf, Echo.HasNoZero, Echo.ListsOf, Lines.later_lines, Lines.lines, Refusal.IsTextFault, Refusal.TextAnswers};
 
 use crate::area::tag_of;
 use crate::echo::{Echo, EchoRoom, EchoView, FrontView};

@@ -1,8 +1,6 @@
 ghost use Rattle.std.specs.Prelude.{◌≡◌, ◌≤◌, ◌++◌, length, take, drop, filter, OnOk};
 ghost use Rattle.std.specs.List.{flat_map};
-ghost use Rattle.echo_text.specs.Lines.{lines};
-ghost use Rattle.echo_text.specs.Echo.{ended};
-ghost use Rattle.echo_text.specs.Tail.{body, is_kept_control, tail};
+ghost use Rattle.echo_text.specs.{Lines.lines, Echo.ended, Tail.body, Tail.is_kept_control, Tail.tail};
 
 use crate::lines::{last_line_start, push_line, split_line};
 use crate::words::{is_kept_control, is_tail_line};

@@ -1,21 +1,16 @@
 -- A list in ascending order, with each item once, is the set of the list.
 use Rattle.std.proofs.Common.{◌≡◌, ◌⊎◌, ⊎_elim, inl, inr, ℕ, ◌<◌, ◌==◌, ◌&&◌, ◌||◌, nat_lt, Bool, true, List, [], ◌∷◌, ◌++◌, subst, sym, arith}
-use Rattle.std.specs.declared.cmp.Ordering.{Ordering}
-use Rattle.std.specs.declared.cmp.Ordering.TheVariants.{Less, Equal, Greater}
-use Rattle.std.specs.Ordering.{MatchOrdering, eq_by_cmp, nat_cmp, ordering_then}
-use Rattle.std.specs.Prelude.{◌↔◌, Contains}
-use Rattle.std.specs.Cmp.{IsTotalOrder, nat_cmp_total, on_total, then_total}
-use Rattle.std.specs.List.Sorted.{IsStrictlySortedBy}
 use Rattle.std.proofs.lemmas.Bool.{and_from, eq-eqb, lt-ltb, or_left, or_right}
 use Rattle.std.proofs.lemmas.Cmp.{ranked}
-use Rattle.echo_addr.specs.declared.address.Address.{Address}
-use Rattle.echo_addr.specs.declared.address.NetNode.{NetNode}
+use Rattle.std.specs.declared.cmp.Ordering.{Ordering, TheVariants.Less, TheVariants.Equal, TheVariants.Greater}
+use Rattle.std.specs.{Ordering.MatchOrdering, Ordering.eq_by_cmp, Ordering.nat_cmp, Ordering.ordering_then, Prelude.◌↔◌, Prelude.Contains}
+use Rattle.std.specs.{Cmp.IsTotalOrder, Cmp.nat_cmp_total, Cmp.on_total, Cmp.then_total, List.Sorted.IsStrictlySortedBy}
+use Rattle.echo_addr.specs.declared.address.{Address.Address, NetNode.NetNode}
 use Rattle.echo_text.proofs.Sets.{set_in_order}
 use Rattle.echo_links.specs.Links.{same_address}
 use Rattle.echo_filed.specs.Sets.{address_before, address_set, entry_set}
-use Rattle.echo_filed.proofs.Choices.{IsIn, all_weaker, contained_in, in_contained}
-use Rattle.echo_filed.proofs.Orders.{address_order, entry_set_is_set, one_set}
 use Rattle.echo_filed.proofs.Sets.{Ascending, same_set, set_ascending, set_keeps, set_only}
+use Rattle.echo_filed.proofs.{Choices.IsIn, Choices.all_weaker, Choices.contained_in, Choices.in_contained, Orders.address_order, Orders.entry_set_is_set, Orders.one_set}
 
 -- entries
 pub entries_in_order : (all set : List NetNode) → IsStrictlySortedBy Rattle.echo_text.proofs.Sets.order set

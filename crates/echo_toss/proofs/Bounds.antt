@@ -4,9 +4,7 @@ use Rattle.std.specs.Prelude.{IsErrOf}
 use Rattle.base_file.specs.Base.{Base}
 use Rattle.disk_io.specs.Disk.{Honestly}
 use Rattle.echo_filed.specs.Filed.{Filed}
-use Rattle.base_store.specs.Store.{CommitsNothing, GoesOn, LooksOn, StoreState}
-use Rattle.base_store.specs.declared.store_error.StoreError.{StoreError}
-use Rattle.base_store.specs.declared.store_error.StoreError.TheVariants.{TooMany}
+use Rattle.base_store.specs.{Store.CommitsNothing, Store.GoesOn, Store.LooksOn, Store.StoreState, declared.store_error.StoreError.StoreError, declared.store_error.StoreError.TheVariants.TooMany}
 use Rattle.base_store.proofs.Runs.{commits_none, goes_on_twice, looks_commit, looks_go_on, looks_twice, no_look}
 use Rattle.echo_toss.specs.Bounds.{IsFullWhenRead, IsPastBound, IsTooMuch}
 

@@ -6,9 +6,8 @@ use Rattle.echo_addr.specs.declared.address.Address.{Address}
 use Rattle.echo_packet.specs.Message.{Message}
 use Rattle.echo_links.specs.Links.{LinkFile}
 use Rattle.echo_filed.specs.Filed.{Filed as FiledMessage}
-use Rattle.model_steps.specs.declared.outcome.Outcome.{Outcome}
 use Rattle.model_steps.specs.declared.outcome.Outcome.TheVariants.{BadTag, Filed, Known, NoArea, NotEcho, NotLinked}
-use Rattle.model_steps.specs.Tossing.{outcomes, toss_outcome, tossed, tossing}
+use Rattle.model_steps.specs.{declared.outcome.Outcome.Outcome, Tossing.outcomes, Tossing.toss_outcome, Tossing.tossed, Tossing.tossing}
 use Rattle.echo_toss.specs.Tallies.{all_counted, same_outcome, tally_of, tally_with}
 
 counted_more : (p : Outcome → Bool) (all : List Outcome) (o : Outcome) → count_by p (all ++ o ∷ []) ≡ count_by p all + cond (p o) 1 0

@@ -1,28 +1,21 @@
 -- Packets that are counted group by group are those that a scan makes.
 use Rattle.std.proofs.Common.{◌≡◌, ◌∙◌, ⊎_elim, ℕ, zero, suc, ◌+◌, ◌<◌, Bool, true, false, true≢false, List, [], ◌∷◌, ◌++◌, map, drop, length, Option, Some, None, inl, inr, refl, sym, ap, subst, arith, append_assoc, length-append}
-use Rattle.std.specs.Prelude.{SomeIff, filter, find, nat_lt, bytes_eq, get_or, slice_get, option_map, unwrap_or}
-use Rattle.std.specs.List.{AllByRecursion, flat_map}
 use Rattle.std.proofs.lemmas.Bool.{cases_Bool, cond-false, cond-true, lt-ltb, ltb-true}
-use Rattle.std.proofs.lemmas.List.{append-nil, map-append}
-use Rattle.std.proofs.lemmas.List.Elements.{filter-append}
-use Rattle.std.specs.Cmp.Lexicographic.{bytes_decides}
+use Rattle.std.proofs.lemmas.List.{append-nil, map-append, Elements.filter-append}
+use Rattle.std.specs.Prelude.{SomeIff, filter, find, nat_lt, bytes_eq, get_or, slice_get, option_map, unwrap_or}
+use Rattle.std.specs.{List.AllByRecursion, List.flat_map, Cmp.Lexicographic.bytes_decides}
 use Rattle.echo_addr.specs.declared.address.Address.{Address}
 use Rattle.echo_packet.specs.Message.{Message, message_bytes, messages_bytes, numbers, readdressed}
 use Rattle.echo_links.specs.Links.{Area, LinkFile, area_of, links_of}
-use Rattle.echo_filed.specs.Filed.{Filed}
-use Rattle.echo_filed.specs.Sets.{address_before, address_set}
-use Rattle.echo_filed.proofs.Choices.{IsIn}
-use Rattle.echo_filed.proofs.Orders.{address_order}
+use Rattle.echo_filed.specs.{Filed.Filed, Sets.address_before, Sets.address_set}
 use Rattle.echo_filed.proofs.Sets.{Ascending, same_set, set_ascending, set_keeps, set_only}
-use Rattle.model_steps.specs.declared.stamp.Stamp.{Stamp}
-use Rattle.model_steps.specs.Scanning.{header_to, scanned, targets}
+use Rattle.echo_filed.proofs.{Choices.IsIn, Orders.address_order}
+use Rattle.model_steps.specs.{declared.stamp.Stamp.Stamp, Scanning.header_to, Scanning.scanned, Scanning.targets}
 use Rattle.model_steps.proofs.Encoding.{header_size, packet_size}
-use Rattle.echo_toss.specs.declared.counting.CountedPacket.{CountedPacket}
 use Rattle.echo_toss.specs.Counts.{copies_out, counted_to, counted_with, counted_of, has_messages, link_set}
 use Rattle.echo_toss.specs.Exports.{Outgoing, copy_out, goes_out, outgoing_of, packet_out, sent_of}
-use Rattle.echo_toss.proofs.AscendingSets.{in_back, in_either, in_front}
-use Rattle.echo_toss.proofs.Exports.{kept_targets, scan_made}
-use Rattle.echo_toss.proofs.Searches.{found_in, in_found}
+use Rattle.echo_toss.specs.declared.counting.CountedPacket.{CountedPacket}
+use Rattle.echo_toss.proofs.{AscendingSets.in_back, AscendingSets.in_either, AscendingSets.in_front, Exports.kept_targets, Exports.scan_made, Searches.found_in, Searches.in_found}
 
 -- ---- group after group
 

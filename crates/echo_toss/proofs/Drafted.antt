@@ -1,21 +1,14 @@
 -- The message of a draft, part by part.
 use Rattle.std.proofs.Common.{◌≡◌, ℕ, List, [], ◌∷◌, ◌++◌, codes, ap, ◌∙◌, append-nil, append_assoc, None, arith}
+use Rattle.std.proofs.lemmas.{Grind.flat_map-append, List.Elements.All-weaker, List.Elements.recursion_from_All}
 use Rattle.std.specs.List.{All, flat_map}
-use Rattle.std.proofs.lemmas.Grind.{flat_map-append}
-use Rattle.std.proofs.lemmas.List.Elements.{All-weaker, recursion_from_All}
 use Rattle.echo_addr.specs.declared.address.NetNode.{NetNode}
-use Rattle.echo_text.specs.Echo.{IsLine, ended}
-use Rattle.echo_text.specs.Ids.{id_of}
-use Rattle.echo_text.specs.Lines.{lines, msgid_word}
-use Rattle.echo_text.proofs.EndedLines.{PutTogether, whole_text}
-use Rattle.echo_text.proofs.TextLines.{IsPiece}
+use Rattle.echo_text.specs.{Echo.IsLine, Echo.ended, Ids.id_of, Lines.lines, Lines.msgid_word}
+use Rattle.echo_text.proofs.{EndedLines.PutTogether, EndedLines.whole_text, TextLines.IsPiece}
 use Rattle.echo_links.specs.Links.{LinkFile, upper}
 use Rattle.echo_filed.specs.Filed.{id_line}
 use Rattle.echo_filed.proofs.LinesOfIds.{line_piece}
-use Rattle.model_steps.specs.declared.draft.Draft.{Draft}
-use Rattle.model_steps.specs.declared.stamp.Stamp.{Stamp}
-use Rattle.model_steps.specs.Posting.{origin_line, posted, posted_lines, reply_lines}
-use Rattle.model_steps.specs.Stamps.{date_of}
+use Rattle.model_steps.specs.{declared.draft.Draft.Draft, declared.stamp.Stamp.Stamp, Posting.origin_line, Posting.posted, Posting.posted_lines, Posting.reply_lines, Stamps.date_of}
 
 pub posted_is : (file : LinkFile) (tag : List ℕ) (draft : Draft) (serial : ℕ) (stamp : Stamp) (date to_name from_name subject raised : List ℕ) (kept : List (List ℕ)) (seen path : List NetNode)
     → date ≡ date_of stamp → to_name ≡ draft.to_name → from_name ≡ draft.from_name → subject ≡ draft.subject → raised ≡ upper tag

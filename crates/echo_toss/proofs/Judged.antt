@@ -1,19 +1,14 @@
 -- Why a posting is refused: the link file and the draft first, then the base.
 use Rattle.std.proofs.Common.{◌≡◌, ℕ, ◌==◌, ◌||◌, Bool, true, false, not, List, length, refl, Option, Some, None, if◌then◌else◌, arith}
+use Rattle.std.proofs.lemmas.Bool.{cases_Bool}
 use Rattle.std.specs.List.{list_any}
 use Rattle.echo_text.specs.Ids.{id_of, is_id}
-use Rattle.std.proofs.lemmas.Bool.{cases_Bool}
 use Rattle.echo_links.specs.Links.{IsFile, LinkFile, has_area, upper}
-use Rattle.echo_filed.specs.declared.key.Key.{Key}
-use Rattle.echo_filed.specs.Filed.{Filed, key_of}
-use Rattle.model_steps.specs.declared.draft.Draft.{Draft}
-use Rattle.model_steps.specs.declared.stamp.Stamp.{Stamp}
-use Rattle.model_steps.specs.declared.fault.PostFault.{PostFault}
-use Rattle.model_steps.specs.declared.fault.PostFault.TheVariants as fault
+use Rattle.echo_filed.specs.{declared.key.Key.Key, Filed.Filed, Filed.key_of}
 use Rattle.model_steps.specs.Posting.{IsAllowed, IsPostFault, has_id, holds_zero, is_too_long, post_refusal, posted}
-use Rattle.model_steps.specs.Stamps.{is_stamp}
-use Rattle.model_steps.proofs.FirstRefusals.{refusal_first}
-use Rattle.model_steps.proofs.Kept.{posted_new}
+use Rattle.model_steps.specs.{declared.draft.Draft.Draft, declared.stamp.Stamp.Stamp, declared.fault.PostFault.PostFault, Stamps.is_stamp}
+use Rattle.model_steps.specs.declared.fault.PostFault.TheVariants as fault
+use Rattle.model_steps.proofs.{FirstRefusals.refusal_first, Kept.posted_new}
 use Rattle.echo_toss.specs.Refusals.{IsPrepared, draft_refusal}
 
 -- five tests in order, before the others

@@ -1,12 +1,8 @@
 -- Tags that are too long for any area.
 use Rattle.std.proofs.Common.{◌≡◌, ℕ, ◌<◌, ◌≤◌, false, List, [], ◌∷◌, length, refl, ap, ◌∙◌, arith, Option, Some}
-use Rattle.std.specs.Prelude.{bytes_eq, find, is_some}
-use Rattle.std.specs.Cmp.Lexicographic.{bytes_decides}
-use Rattle.std.specs.List.{AllByRecursion, list_all}
-use Rattle.std.proofs.lemmas.Bool.{and_parts, cond-false, false_from_ne_true, leb-true}
-use Rattle.std.proofs.lemmas.List.{length-map}
-use Rattle.std.specs.Prelude.{◌&&◌, nat_le, nat_lt}
-use Rattle.std.specs.Char.{to_ascii_uppercase}
+use Rattle.std.proofs.lemmas.{Bool.and_parts, Bool.cond-false, Bool.false_from_ne_true, Bool.leb-true, List.length-map}
+use Rattle.std.specs.Prelude.{bytes_eq, find, is_some, ◌&&◌, nat_le, nat_lt}
+use Rattle.std.specs.{Cmp.Lexicographic.bytes_decides, List.AllByRecursion, List.list_all, Char.to_ascii_uppercase}
 use Rattle.echo_text.specs.Lines.{is_tag_byte}
 use Rattle.echo_links.specs.Links.{Area, IsArea, IsFile, LinkFile, has_area, upper}
 

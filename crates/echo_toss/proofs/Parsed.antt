@@ -2,15 +2,11 @@
 use Rattle.std.proofs.Common.{◌≡◌, ◌≢◌, ℕ, suc, ◌+◌, ◌<◌, ◌≤◌, List, [], ◌∷◌, ◌++◌, length, take, drop, refl, sym, ap, ◌∙◌, arith, append_assoc, length-append}
 use Rattle.std.proofs.lemmas.List.{drop_at}
 use Rattle.std.specs.List.{AllByRecursion}
-use Rattle.echo_packet.specs.declared.header.Header.{Header}
-use Rattle.echo_packet.specs.declared.limits.Limits.{Limits}
-use Rattle.echo_packet.specs.declared.fault.PacketFault.{PacketFault}
+use Rattle.echo_packet.specs.{declared.header.Header.Header, declared.limits.Limits.Limits, declared.fault.PacketFault.PacketFault, Header.IsHeader, Header.header_bytes, Header.header_of, Header.word}
+use Rattle.echo_packet.specs.{Message.IsMessage, Message.Message, Message.message_bytes, Message.messages_bytes, Reader.FrontFault}
 use Rattle.echo_packet.specs.declared.fault.PacketFault.TheVariants as fault
-use Rattle.echo_packet.specs.Header.{IsHeader, header_bytes, header_of, word}
-use Rattle.echo_packet.specs.Message.{IsMessage, Message, message_bytes, messages_bytes}
-use Rattle.echo_packet.specs.Reader.{FrontFault}
-use Rattle.echo_packet.proofs.Headers.{header_of-header_bytes, length-header_bytes, number_at-header_bytes}
 use Rattle.echo_packet.proofs.Verdicts.{End, Whole, verdict, verdict-end, verdict-whole}
+use Rattle.echo_packet.proofs.Headers.{header_of-header_bytes, length-header_bytes, number_at-header_bytes}
 
 -- bytes begin with at most one header
 pub one_header : (h k : Header) (r s : List ℕ) → IsHeader h → IsHeader k → header_bytes h ++ r ≡ header_bytes k ++ s → (k ≡ h) × (r ≡ s)

@@ -1,7 +1,7 @@
 -- The answers of a reader of ids, and the test of ids.
 use Rattle.std.proofs.Common.{◌≡◌, ℕ, List, sym, Result, Ok, Err}
-use Rattle.std.specs.Result.{MatchResult, is_ok}
 use Rattle.std.proofs.lemmas.Bool.{false_from_ne_true}
+use Rattle.std.specs.Result.{MatchResult, is_ok}
 use Rattle.echo_text.specs.Ids.{NoId, SpellsId, is_id}
 use Rattle.echo_text.proofs.PassedTests.{passed_where_spelled, spelled_where_passed}
 

@@ -1,20 +1,16 @@
 -- A binary search in a set of addresses finds just its members.
 use Rattle.std.proofs.Common.{◌≡◌, ℕ, zero, suc, ◌+◌, ◌<◌, Bool, true, false, List, [], ◌∷◌, length, get_or, Result, Ok, Err, is_ok, refl, sym, ap, subst, ◌∙◌, inl, inr, arith}
-use Rattle.std.specs.declared.cmp.Ordering.{Ordering}
-use Rattle.std.specs.declared.cmp.Ordering.TheVariants.{Less, Equal, Greater}
-use Rattle.std.specs.Ordering.{is_eq, is_lt, ordering_index}
-use Rattle.std.specs.List.{list_any}
-use Rattle.std.specs.List.Sorted.{IsBinarySearchResult, IsNonDecreasingBy, IsSearchInRange, IsSorted}
 use Rattle.std.proofs.lemmas.Bool.{cases_Bool, false_from_ne_true, ltb-false, ltb-true, or_cases, or_from, or_left, or_right, true≢false}
 use Rattle.std.proofs.lemmas.List.Sorted.{searchable_from_sorted}
-use Rattle.std.specs.Prelude.{nat_lt}
+use Rattle.std.specs.declared.cmp.Ordering.{Ordering, TheVariants.Less, TheVariants.Equal, TheVariants.Greater}
+use Rattle.std.specs.{Ordering.is_eq, Ordering.is_lt, Ordering.ordering_index, List.list_any}
+use Rattle.std.specs.{List.Sorted.IsBinarySearchResult, List.Sorted.IsNonDecreasingBy, List.Sorted.IsSearchInRange, List.Sorted.IsSorted, Prelude.nat_lt}
 use Rattle.echo_addr.specs.declared.address.Address.{Address}
 use Rattle.echo_links.specs.Links.{same_address}
 use Rattle.echo_links.proofs.Addresses.{same_address_decides}
 use Rattle.echo_filed.specs.Sets.{address_before, address_set}
-use Rattle.echo_filed.proofs.Choices.{IsIn}
-use Rattle.echo_filed.proofs.Orders.{address_order}
 use Rattle.echo_filed.proofs.Sets.{Ascending, ascending_pairs, set_ascending, set_keeps, set_only}
+use Rattle.echo_filed.proofs.{Choices.IsIn, Orders.address_order}
 use Rattle.echo_toss.proofs.AscendingSets.{address_cmp, less_before, ties, total}
 
 -- of two addresses that ascend, the later is not less

@@ -1,25 +1,16 @@
 -- A toss of a packet that stopped behind its header.
 use Rattle.std.proofs.Common.{◌≡◌, ℕ, ◌⊎◌, inl, inr, List, [], ◌++◌, subst, append_assoc, Option, Some, None, IfSome, arith}
-use Rattle.std.specs.Io.KnownBytes.{Consumes}
 use Rattle.std.proofs.KnownBytes.{Consumes-trans}
+use Rattle.std.specs.Io.KnownBytes.{Consumes}
 use Rattle.echo_addr.specs.declared.address.Address.{Address}
-use Rattle.echo_packet.specs.declared.header.Header.{Header}
-use Rattle.echo_packet.specs.declared.limits.Limits.{Limits}
-use Rattle.echo_packet.specs.declared.fault.PacketFault.{PacketFault}
+use Rattle.echo_packet.specs.{declared.header.Header.Header, declared.limits.Limits.Limits, declared.fault.PacketFault.PacketFault, Header.IsHeader, Header.header_bytes}
+use Rattle.echo_packet.specs.{Message.AreMessages, Message.Message, Message.messages_bytes, Fault.FaultOf, Field.Consumed, Next.FailsInMessage, Next.NextFault, Run.IsOfCall, Run.SoFar}
 use Rattle.echo_packet.specs.declared.fault.PacketFault.TheVariants as fault
-use Rattle.echo_packet.specs.Header.{IsHeader, header_bytes}
-use Rattle.echo_packet.specs.Message.{AreMessages, Message, messages_bytes}
-use Rattle.echo_packet.specs.Fault.{FaultOf}
-use Rattle.echo_packet.specs.Field.{Consumed}
-use Rattle.echo_packet.specs.Next.{FailsInMessage, NextFault}
-use Rattle.echo_packet.specs.Run.{IsOfCall, SoFar}
 use Rattle.echo_packet.proofs.MessageByMessage.{run-fails}
 use Rattle.model_steps.specs.SystemState.{SystemState}
-use Rattle.echo_toss.specs.declared.tally.Tally.{Tally}
-use Rattle.echo_toss.specs.declared.fault.TossCause.{TossCause}
-use Rattle.echo_toss.specs.declared.fault.TossCause.TheVariants as stop
-use Rattle.echo_toss.specs.PacketSteps.{BeginsWith, HasTossed, TossesPart, TossesSome}
+use Rattle.echo_toss.specs.{declared.tally.Tally.Tally, declared.fault.TossCause.TossCause, PacketSteps.BeginsWith, PacketSteps.HasTossed, PacketSteps.TossesPart, PacketSteps.TossesSome}
 use Rattle.echo_toss.specs.Messages.{HasTaken, IsOpened, TakesSome}
+use Rattle.echo_toss.specs.declared.fault.TossCause.TheVariants as stop
 
 -- known bytes begin with the header and the messages that left the reader
 pub begins_with : (limits : Limits) (header : Header) (ms : List Message) (before left : Option (List ℕ)) → IsHeader header → AreMessages limits ms

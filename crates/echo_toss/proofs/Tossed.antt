@@ -1,23 +1,18 @@
 -- The outcome of a received message.
 use Rattle.std.proofs.Common.{◌≡◌, ℕ, Bool, true, false, List, refl, subst, ◌∙◌, Option, Some, None, not, if◌then◌else◌, Result, Ok, Err, IfOk, ◌⊎◌, inl, inr, arith}
-use Rattle.echo_addr.specs.declared.address.Address.{Address}
-use Rattle.echo_addr.specs.declared.address.NetNode.{NetNode}
+use Rattle.echo_addr.specs.declared.address.{Address.Address, NetNode.NetNode}
 use Rattle.echo_packet.specs.Message.{Message}
-use Rattle.echo_text.specs.declared.fault.TextFault.{TextFault}
+use Rattle.echo_text.specs.{declared.fault.TextFault.TextFault, Echo.EchoOf, Echo.EchoText, Echo.FrontOf, Refusal.text_refusal}
 use Rattle.echo_text.specs.declared.fault.TextFault.TheVariants as text
-use Rattle.echo_text.specs.Echo.{EchoOf, EchoText, FrontOf}
-use Rattle.echo_text.specs.Refusal.{text_refusal}
 use Rattle.echo_links.specs.Links.{LinkFile, has_area, is_link}
-use Rattle.echo_filed.specs.Filed.{Filed, key_of}
-use Rattle.echo_filed.specs.Written.{echo_of}
+use Rattle.echo_filed.specs.{Filed.Filed, Filed.key_of, Written.echo_of, declared.key.Key.Key}
 use Rattle.echo_text.proofs.SaidAfter.{front_accepted}
 use Rattle.echo_filed.proofs.Texts.{says_one}
 use Rattle.base_file.specs.Base.{is_known}
+use Rattle.model_steps.specs.Tossing.{IsOutcome, received, toss_outcome, tossing, where_filed}
 use Rattle.model_steps.specs.declared.outcome.Outcome.{Outcome}
 use Rattle.model_steps.specs.declared.outcome.Outcome.TheVariants as outcome
-use Rattle.model_steps.specs.Tossing.{IsOutcome, received, toss_outcome, tossing, where_filed}
 use Rattle.model_steps.proofs.FirstRefusals.{outcome_is_first}
-use Rattle.echo_filed.specs.declared.key.Key.{Key}
 use Rattle.echo_toss.specs.Wanted.{IsNew, IsUnwanted, IsWanted, refused_by}
 
 -- a message that has another outcome is not filed

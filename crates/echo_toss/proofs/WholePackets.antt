@@ -2,24 +2,14 @@
 use Rattle.std.proofs.Common.{◌≡◌, ◌≢◌, ℕ, ◌+◌, ◌≤◌, ◌⊎◌, inl, inr, List, [], ◌++◌, length, refl, sym, ap, ◌∙◌, subst, arith, append_assoc, length-append, Option, Some, None, Result, Ok, Err}
 use Rattle.std.proofs.Math.Seq.{take-append_seam}
 use Rattle.disk_io.proofs.Devices.{Failed-never}
-use Rattle.echo_packet.specs.declared.header.Header.{Header}
-use Rattle.echo_packet.specs.declared.limits.Limits.{Limits}
-use Rattle.echo_packet.specs.declared.fault.PacketFault.{PacketFault}
+use Rattle.echo_packet.specs.{declared.header.Header.Header, declared.limits.Limits.Limits, declared.fault.PacketFault.PacketFault, Answer.Describes, Fault.FaultOf}
+use Rattle.echo_packet.specs.{Header.IsHeader, Header.header_bytes, Header.word, Message.Message, Message.messages_bytes, Packet.PacketOf, Packet.packet_bytes}
 use Rattle.echo_packet.specs.declared.fault.PacketFault.TheVariants as fault
-use Rattle.echo_packet.specs.Answer.{Describes}
-use Rattle.echo_packet.specs.Fault.{FaultOf}
-use Rattle.echo_packet.specs.Header.{IsHeader, header_bytes, word}
-use Rattle.echo_packet.specs.Message.{Message, messages_bytes}
-use Rattle.echo_packet.specs.Packet.{PacketOf, packet_bytes}
 use Rattle.echo_packet.proofs.Outcome.{only_one}
-use Rattle.model_steps.specs.SystemState.{SystemState}
-use Rattle.model_steps.specs.Tossing.{destination_of, sender_of}
-use Rattle.echo_toss.specs.declared.tally.Tally.{Tally}
-use Rattle.echo_toss.specs.declared.fault.TossCause.{TossCause}
-use Rattle.echo_toss.specs.declared.fault.TossCause.TheVariants as stop
-use Rattle.echo_toss.specs.declared.fault.TossFault.{TossFault}
-use Rattle.echo_toss.specs.Tallies.{tally_of}
+use Rattle.model_steps.specs.{SystemState.SystemState, Tossing.destination_of, Tossing.sender_of}
 use Rattle.echo_toss.specs.PacketSteps.{CountsCause, CountsToss, TossesUpToFault, FailsInHeader, HasTossed, IsForUs, PacketStep, StopsBehind, TossesAll, TossesPart, TossesSome, WholeStep}
+use Rattle.echo_toss.specs.{declared.tally.Tally.Tally, declared.fault.TossCause.TossCause, declared.fault.TossFault.TossFault, Tallies.tally_of}
+use Rattle.echo_toss.specs.declared.fault.TossCause.TheVariants as stop
 use Rattle.echo_toss.proofs.Parsed.{first_messages, one_header, one_list, opens}
 
 -- a packet and the bytes after it, part by part

@@ -5,8 +5,7 @@ use Rattle.base_file.specs.Base.{Base}
 use Rattle.echo_addr.specs.declared.address.Address.{Address}
 use Rattle.echo_filed.specs.Filed.{Filed}
 use Rattle.echo_links.specs.Links.{LinkFile}
-use Rattle.echo_packet.specs.declared.limits.Limits.{Limits}
-use Rattle.echo_packet.specs.Message.{IsMessage, Message}
+use Rattle.echo_packet.specs.{declared.limits.Limits.Limits, Message.IsMessage, Message.Message}
 use Rattle.base_store.specs.Store.{CommitsNothing, GoesOn, LooksOn, StoreState}
 use Rattle.model_steps.specs.Tossing.{tossing}
 

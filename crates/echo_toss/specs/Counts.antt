@@ -2,16 +2,11 @@
 use Rattle.std.specs.Prelude.{◌≡◌, ℕ, ◌+◌, nat_lt, Bool, List, ◌++◌, map, filter, length, drop}
 use Rattle.std.specs.List.{flat_map}
 use Rattle.echo_addr.specs.declared.address.Address.{Address}
-use Rattle.echo_packet.specs.Message.{Message, messages_bytes}
-use Rattle.echo_packet.specs.Packet.{packet_bytes}
+use Rattle.echo_packet.specs.{Message.Message, Message.messages_bytes, Packet.packet_bytes}
 use Rattle.echo_links.specs.Links.{LinkFile, links_of}
-use Rattle.echo_filed.specs.Filed.{Filed}
-use Rattle.echo_filed.specs.Sets.{address_set}
-use Rattle.model_steps.specs.declared.packet.Packet.{Packet}
-use Rattle.model_steps.specs.declared.stamp.Stamp.{Stamp}
-use Rattle.model_steps.specs.Scanning.{header_to}
-use Rattle.echo_toss.specs.Exports.{Outgoing, copy_out, goes_out, sent_of}
-use Rattle.echo_toss.specs.declared.counting.CountedPacket.{CountedPacket}
+use Rattle.echo_filed.specs.{Filed.Filed, Sets.address_set}
+use Rattle.model_steps.specs.{declared.packet.Packet.Packet, declared.stamp.Stamp.Stamp, Scanning.header_to}
+use Rattle.echo_toss.specs.{Exports.Outgoing, Exports.copy_out, Exports.goes_out, Exports.sent_of, declared.counting.CountedPacket.CountedPacket}
 
 -- Outgoing messages in order, and the number of the first message after them.
 pub record Group : Type 0 where

@@ -2,23 +2,12 @@
 use Rattle.std.specs.Prelude.{◌≡◌, ◌≢◌, ℕ, ◌≤◌, ◌⊎◌, List, [], ◌++◌, length, take, Option, IfSome, Result, Ok, Err}
 use Rattle.echo_addr.specs.declared.address.Address.{Address}
 use Rattle.disk_io.specs.Device.{Failed}
-use Rattle.echo_packet.specs.declared.header.Header.{Header}
-use Rattle.echo_packet.specs.declared.limits.Limits.{Limits}
-use Rattle.echo_packet.specs.declared.fault.PacketFault.{PacketFault}
+use Rattle.echo_packet.specs.{declared.header.Header.Header, declared.limits.Limits.Limits, declared.fault.PacketFault.PacketFault, Header.IsHeader, Header.header_bytes}
+use Rattle.echo_packet.specs.{Message.AreMessages, Message.Message, Message.messages_bytes, Packet.PacketOf, Fault.FaultOf, Field.Consumed, Reader.FailsInFront, Reader.FrontFault}
 use Rattle.echo_packet.specs.declared.fault.PacketFault.TheVariants as fault
-use Rattle.echo_packet.specs.Header.{IsHeader, header_bytes}
-use Rattle.echo_packet.specs.Message.{AreMessages, Message, messages_bytes}
-use Rattle.echo_packet.specs.Packet.{PacketOf}
-use Rattle.echo_packet.specs.Fault.{FaultOf}
-use Rattle.echo_packet.specs.Field.{Consumed}
-use Rattle.echo_packet.specs.Reader.{FailsInFront, FrontFault}
-use Rattle.model_steps.specs.SystemState.{SystemState}
-use Rattle.model_steps.specs.Tossing.{destination_of, sender_of, outcomes, tossed}
-use Rattle.echo_toss.specs.declared.tally.Tally.{Tally}
-use Rattle.echo_toss.specs.declared.fault.TossCause.{TossCause}
+use Rattle.model_steps.specs.{SystemState.SystemState, Tossing.destination_of, Tossing.sender_of, Tossing.outcomes, Tossing.tossed}
+use Rattle.echo_toss.specs.{declared.tally.Tally.Tally, declared.fault.TossCause.TossCause, declared.fault.TossFault.TossFault, Tallies.tally_of}
 use Rattle.echo_toss.specs.declared.fault.TossCause.TheVariants as stop
-use Rattle.echo_toss.specs.declared.fault.TossFault.{TossFault}
-use Rattle.echo_toss.specs.Tallies.{tally_of}
 
 -- The cause that stops a toss at a fault of the packet's reader.
 abbrev pub cause_of : PacketFault → TossCause

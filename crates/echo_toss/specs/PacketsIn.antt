@@ -4,19 +4,12 @@ use Rattle.echo_addr.specs.declared.address.Address.{Address}
 use Rattle.echo_packet.specs.declared.limits.Limits.{Limits}
 use Rattle.base_file.specs.Base.{Base}
 use Rattle.echo_links.specs.Links.{LinkFile}
-use Rattle.base_store.specs.Store.{GoesOn, StoreState}
-use Rattle.base_store.specs.declared.store_error.StoreError.{StoreError}
+use Rattle.base_store.specs.{Store.GoesOn, Store.StoreState, declared.store_error.StoreError.StoreError}
 use Rattle.model_steps.specs.SystemState.{SystemState}
-use Rattle.echo_toss.specs.declared.tally.Tally.{Tally}
-use Rattle.echo_toss.specs.declared.fault.TossCause.{TossCause}
+use Rattle.echo_toss.specs.declared.{tally.Tally.Tally, fault.TossCause.TossCause, fault.TossFault.TossFault, step_error.TossStepError.TossStepError, step_error.StoppedToss.StoppedToss}
+use Rattle.echo_toss.specs.{Tallies.all_counted, PacketSteps.PacketStep, Messages.TossesMessages}
 use Rattle.echo_toss.specs.declared.fault.TossCause.TheVariants as cause
-use Rattle.echo_toss.specs.declared.fault.TossFault.{TossFault}
-use Rattle.echo_toss.specs.declared.step_error.TossStepError.{TossStepError}
 use Rattle.echo_toss.specs.declared.step_error.TossStepError.TheVariants as toss
-use Rattle.echo_toss.specs.declared.step_error.StoppedToss.{StoppedToss}
-use Rattle.echo_toss.specs.Tallies.{all_counted}
-use Rattle.echo_toss.specs.PacketSteps.{PacketStep}
-use Rattle.echo_toss.specs.Messages.{TossesMessages}
 
 -- A system with this link file, and this base in its store.
 abbrev pub state_in : LinkFile → Base → SystemState

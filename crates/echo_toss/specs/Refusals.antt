@@ -2,15 +2,11 @@
 use Rattle.std.specs.Prelude.{◌≡◌, false, ℕ, ◌==◌, ◌||◌, not, List, length, if◌then◌else◌, Option, Some, None}
 use Rattle.echo_text.specs.Ids.{is_id}
 use Rattle.echo_links.specs.Links.{LinkFile, has_area, upper}
-use Rattle.echo_filed.specs.declared.key.Key.{Key}
-use Rattle.echo_filed.specs.Filed.{Filed, key_of}
+use Rattle.echo_filed.specs.{declared.key.Key.Key, Filed.Filed, Filed.key_of}
 use Rattle.base_file.specs.Base.{is_known}
-use Rattle.model_steps.specs.declared.draft.Draft.{Draft}
-use Rattle.model_steps.specs.declared.stamp.Stamp.{Stamp}
-use Rattle.model_steps.specs.declared.fault.PostFault.{PostFault}
-use Rattle.model_steps.specs.declared.fault.PostFault.TheVariants as fault
-use Rattle.model_steps.specs.Posting.{holds_zero, is_too_long, post_refusal, posted}
+use Rattle.model_steps.specs.{declared.draft.Draft.Draft, declared.stamp.Stamp.Stamp, declared.fault.PostFault.PostFault, Posting.holds_zero, Posting.is_too_long, Posting.post_refusal, Posting.posted}
 use Rattle.model_steps.specs.Stamps.{is_stamp}
+use Rattle.model_steps.specs.declared.fault.PostFault.TheVariants as fault
 
 -- The first refusal that applies to a draft, without those that depend on the base.
 abbrev pub draft_refusal : LinkFile → List ℕ → Draft → Stamp → Option PostFault

@@ -1,7 +1,6 @@
 -- The answers of loading a system.
 use Rattle.std.specs.Prelude.{Result, Ok, Err}
-use Rattle.base_file.specs.declared.fault.BaseFault.{BaseFault}
-use Rattle.base_file.specs.Base.{Base}
+use Rattle.base_file.specs.{declared.fault.BaseFault.BaseFault, Base.Base}
 use Rattle.model_steps.specs.SystemState.{SystemState}
 
 -- The base of the loaded system, or the fault.

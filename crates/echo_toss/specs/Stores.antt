@@ -3,18 +3,12 @@ use Rattle.std.specs.Prelude.{◌≡◌, ◌++◌, true, false, ℕ, List, Optio
 use Rattle.base_file.specs.Base.{Base}
 use Rattle.echo_filed.specs.Filed.{Filed}
 use Rattle.echo_links.specs.Links.{LinkFile}
-use Rattle.base_store.specs.Store.{GoesOn, LooksOn, StoreState, Undoes}
-use Rattle.base_store.specs.declared.store_error.StoreError.{StoreError}
-use Rattle.model_steps.specs.declared.draft.Draft.{Draft}
-use Rattle.model_steps.specs.declared.stamp.Stamp.{Stamp}
+use Rattle.base_store.specs.{Store.GoesOn, Store.LooksOn, Store.StoreState, Store.Undoes, declared.store_error.StoreError.StoreError}
+use Rattle.model_steps.specs.{declared.draft.Draft.Draft, declared.stamp.Stamp.Stamp, declared.outcome.Outcome.Outcome, Posting.IsPostFault, Posting.post_refusal, Stamps.is_stamp}
 use Rattle.model_steps.specs.declared.fault.PostFault.TheVariants as fault
-use Rattle.model_steps.specs.declared.outcome.Outcome.{Outcome}
 use Rattle.model_steps.specs.declared.outcome.Outcome.TheVariants as outcome
-use Rattle.model_steps.specs.Posting.{IsPostFault, post_refusal}
-use Rattle.model_steps.specs.Stamps.{is_stamp}
-use Rattle.echo_toss.specs.declared.step_error.PostStepError.{PostStepError}
+use Rattle.echo_toss.specs.declared.step_error.{PostStepError.PostStepError, ScanStepError.ScanStepError}
 use Rattle.echo_toss.specs.declared.step_error.PostStepError.TheVariants as post
-use Rattle.echo_toss.specs.declared.step_error.ScanStepError.{ScanStepError}
 use Rattle.echo_toss.specs.declared.step_error.ScanStepError.TheVariants as scan
 
 -- If there is a message, it is the new last one.

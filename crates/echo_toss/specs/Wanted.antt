@@ -4,16 +4,12 @@ use Rattle.echo_addr.specs.declared.address.Address.{Address}
 use Rattle.echo_packet.specs.Message.{Message}
 use Rattle.echo_text.specs.Echo.{FrontOf}
 use Rattle.echo_links.specs.Links.{LinkFile, has_area, is_link}
-use Rattle.echo_filed.specs.Filed.{Filed, key_of}
-use Rattle.echo_filed.specs.declared.key.Key.{Key}
+use Rattle.echo_filed.specs.{Filed.Filed, Filed.key_of, declared.key.Key.Key}
 use Rattle.base_file.specs.Base.{is_known}
-use Rattle.echo_toss.specs.declared.tossing.Verdict.{Verdict}
-use Rattle.echo_toss.specs.declared.tossing.Verdict.TheVariants.{Left, New}
-use Rattle.model_steps.specs.declared.outcome.Outcome.{Outcome}
-use Rattle.model_steps.specs.declared.outcome.Outcome.TheVariants as outcome
-use Rattle.model_steps.specs.Tossing.{toss_outcome, tossing}
-use Rattle.echo_toss.specs.declared.receiving.Reading.{Reading}
+use Rattle.echo_toss.specs.declared.{tossing.Verdict.Verdict, tossing.Verdict.TheVariants.Left, tossing.Verdict.TheVariants.New, receiving.Reading.Reading}
 use Rattle.echo_toss.specs.declared.receiving.Reading.TheVariants.{Unwanted, Wanted}
+use Rattle.model_steps.specs.{declared.outcome.Outcome.Outcome, Tossing.toss_outcome, Tossing.tossing}
+use Rattle.model_steps.specs.declared.outcome.Outcome.TheVariants as outcome
 
 -- Why the link file does not allow filing a message with this tag.
 abbrev pub refused_by : LinkFile → List ℕ → Address → Option Outcome

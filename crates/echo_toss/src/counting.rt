@@ -5,8 +5,8 @@ ghost use Rattle.base_file.specs.Base.{Base};
 ghost use Rattle.base_store.specs.Store.{HasStoreCause, LooksOn};
 ghost use Rattle.echo_links.specs.Links.{Area, links_of};
 ghost use Rattle.model_steps.specs.Scanning.{scanned};
-ghost use Rattle.echo_toss.specs.Bounds.{IsFullWhenRead};
 ghost use Rattle.echo_toss.specs.Counts.{counted_to, counted_with, counted_of, has_messages, link_set};
+ghost use Rattle.echo_toss.specs.Bounds.{IsFullWhenRead};
 
 use crate::grouping::{Group, group_from};
 use crate::outgoing::{Outgoing, links_of};

@@ -4,8 +4,7 @@ ghost use Rattle.disk_io.specs.Disk.{Honestly};
 ghost use Rattle.base_file.specs.Base.{Base};
 ghost use Rattle.base_store.specs.Store.{HasStoreCause, LooksOn};
 ghost use Rattle.echo_packet.specs.Message.{messages_bytes};
-ghost use Rattle.echo_toss.specs.Bounds.{IsFullWhenRead};
-ghost use Rattle.echo_toss.specs.Counts.{IsGroupFrom, copies_out};
+ghost use Rattle.echo_toss.specs.{Bounds.IsFullWhenRead, Counts.IsGroupFrom, Counts.copies_out};
 
 use crate::outgoing::{Outgoing, push_message};
 use crate::packing::goes_to;

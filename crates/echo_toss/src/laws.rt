@@ -1,17 +1,10 @@
 //! Laws about the definitions. Each law is the contract of a function that does nothing.
 
 ghost use Rattle.std.specs.Prelude.{◌≡◌, ◌≢◌, ℕ, List, [], ◌++◌, Option, Some, Result, Ok, Err};
-ghost use Rattle.echo_packet.specs.declared.header.Header.{Header};
-ghost use Rattle.echo_packet.specs.declared.limits.Limits.{Limits};
-ghost use Rattle.echo_packet.specs.Header.{IsHeader, header_bytes};
-ghost use Rattle.echo_packet.specs.Message.{Message};
-ghost use Rattle.echo_packet.specs.Packet.{PacketOf};
-ghost use Rattle.model_steps.specs.SystemState.{SystemState};
-ghost use Rattle.model_steps.specs.Tossing.{destination_of, sender_of};
+ghost use Rattle.echo_packet.specs.{declared.header.Header.Header, declared.limits.Limits.Limits, Header.IsHeader, Header.header_bytes, Message.Message, Packet.PacketOf};
+ghost use Rattle.model_steps.specs.{SystemState.SystemState, Tossing.destination_of, Tossing.sender_of};
 ghost use Rattle.echo_toss.specs.declared.fault.TossCause.TheVariants as stop;
-ghost use Rattle.echo_toss.specs.declared.fault.TossFault.{TossFault};
-ghost use Rattle.echo_toss.specs.declared.tally.Tally.{Tally};
-ghost use Rattle.echo_toss.specs.Tallies.{tally_of};
+ghost use Rattle.echo_toss.specs.{declared.fault.TossFault.TossFault, declared.tally.Tally.Tally, Tallies.tally_of};
 ghost use Rattle.echo_toss.specs.PacketSteps.{CountsToss, IsForUs, PacketStep, WholeStep};
 
 /// The toss of a packet's bytes, whatever follows them, from a reader that does not fail.

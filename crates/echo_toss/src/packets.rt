@@ -2,14 +2,11 @@
 ghost use Rattle.std.specs.Prelude.{◌≡◌, [], IsErrOf, MatchResult};
 ghost use Rattle.disk_io.specs.Disk.{Honestly};
 ghost use Rattle.base_file.specs.Base.{Base};
-ghost use Rattle.base_store.specs.Store.{CommitsNothing, HasStoreCause};
+ghost use Rattle.base_store.specs.{Store.CommitsNothing, Store.HasStoreCause, declared.store_error.StoreError.TheVariants.TooMany};
 ghost use Rattle.model_steps.specs.Tossing.{destination_of, sender_of, zone_of};
-ghost use Rattle.base_store.specs.declared.store_error.StoreError.TheVariants.{TooMany};
-ghost use Rattle.echo_toss.specs.Bounds.{AddsReceived, IsPastBound};
-ghost use Rattle.echo_toss.specs.Tallies.{all_counted, tally_of};
-ghost use Rattle.echo_toss.specs.PacketSteps.{CountsToss, PacketStep};
-ghost use Rattle.echo_toss.specs.Messages.{CountsStop, IsOpened, IsUnopened};
 ghost use Rattle.echo_toss.specs.PacketsIn.{GoesOnUnlessFailed, ReadsMessages, ReadsPacket, TossesMessagesIn, TossesPacketIn, cause_in, messages_answer, packet_answer, stop_in, toss_answer};
+ghost use Rattle.echo_toss.specs.{Bounds.AddsReceived, Bounds.IsPastBound, Tallies.all_counted, Tallies.tally_of, PacketSteps.CountsToss, PacketSteps.PacketStep};
+ghost use Rattle.echo_toss.specs.Messages.{CountsStop, IsOpened, IsUnopened};
 
 use crate::fault::{TossCause, TossFault};
 use crate::step_error::{StoppedToss, TossStepError};

@@ -3,8 +3,7 @@ ghost use Rattle.std.specs.Prelude.{◌≡◌, List, [], ◌∷◌, ◌++◌, tr
 ghost use Rattle.std.specs.List.{flat_map};
 ghost use Rattle.echo_addr.specs.declared.address.Address.{Address};
 ghost use Rattle.echo_filed.specs.Sets.{address_set};
-ghost use Rattle.model_steps.specs.Scanning.{header_to};
-ghost use Rattle.model_steps.specs.Stamps.{is_stamp};
+ghost use Rattle.model_steps.specs.{Scanning.header_to, Stamps.is_stamp};
 ghost use Rattle.echo_toss.specs.Exports.{copy_out, goes_out, packet_out, packets_out};
 
 use crate::outgoing::Outgoing;

@@ -6,9 +6,7 @@ ghost use Rattle.disk_io.specs.Disk.{Honestly};
 ghost use Rattle.base_file.specs.Base.{Base};
 ghost use Rattle.base_store.specs.Store.{CommitsNothing, HasStoreCause, LooksOn, with_message};
 ghost use Rattle.model_steps.specs.Posting.{PostStep, post_refusal, posted};
-ghost use Rattle.echo_toss.specs.Bounds.{IsPastBound};
-ghost use Rattle.echo_toss.specs.Refusals.{IsPrepared, draft_refusal};
-ghost use Rattle.echo_toss.specs.Stores.{GoesOnOrUndoes, IsPostStop, LooksWhereRefused, post_answer};
+ghost use Rattle.echo_toss.specs.{Bounds.IsPastBound, Refusals.IsPrepared, Refusals.draft_refusal, Stores.GoesOnOrUndoes, Stores.IsPostStop, Stores.LooksWhereRefused, Stores.post_answer};
 
 use crate::drafting::posted;
 use crate::refusing::judge;

@@ -1,13 +1,9 @@
 ghost use Rattle.std.specs.Prelude.{◌≡◌, true, IfOk, IsErrOf, MatchResult, OnOk};
-ghost use Rattle.disk_io.specs.Disk.{Honestly};
-ghost use Rattle.disk_io.specs.Runs.{ChangesNothing};
+ghost use Rattle.disk_io.specs.{Disk.Honestly, Runs.ChangesNothing};
 ghost use Rattle.base_file.specs.Base.{Base};
 ghost use Rattle.base_store.specs.Store.{CommitsNothing, HasStoreCause, LooksOn, all_scanned};
-ghost use Rattle.model_steps.specs.Scanning.{ScanStep, scanned};
-ghost use Rattle.model_steps.specs.Stamps.{is_stamp};
-ghost use Rattle.echo_toss.specs.Bounds.{IsFullWhenRead};
-ghost use Rattle.echo_toss.specs.Exports.{listed};
-ghost use Rattle.echo_toss.specs.Stores.{GoesOnOrUndoes, IsScanStop, scan_answer};
+ghost use Rattle.model_steps.specs.{Scanning.ScanStep, Scanning.scanned, Stamps.is_stamp};
+ghost use Rattle.echo_toss.specs.{Bounds.IsFullWhenRead, Exports.listed, Stores.GoesOnOrUndoes, Stores.IsScanStop, Stores.scan_answer};
 
 use crate::outgoing::waiting;
 use crate::packing::packets;

@@ -1,11 +1,8 @@
 //! Writes and reads the base of a system.
 ghost use Rattle.std.specs.Prelude.{◌≡◌, IfErr, IfOk, IfSome, Result};
 ghost use Rattle.echo_packet.specs.Header.{AreBytes};
-ghost use Rattle.base_file.specs.declared.fault.BaseFault.{BaseFault as Fault};
-ghost use Rattle.base_file.specs.Base.{IsBase};
-ghost use Rattle.base_file.specs.BaseFile.{LoadOf, Loaded, is_countable, saved_bytes};
-ghost use Rattle.base_file.specs.Loading.{AnswersLoad, CountsLoad, FailsToLoad, TakesBase};
-ghost use Rattle.base_file.specs.Saving.{CountsSaved, Saves, ReportsTooMany};
+ghost use Rattle.base_file.specs.{declared.fault.BaseFault.BaseFault as Fault, Base.IsBase, BaseFile.LoadOf, BaseFile.Loaded, BaseFile.is_countable, BaseFile.saved_bytes};
+ghost use Rattle.base_file.specs.{Loading.AnswersLoad, Loading.CountsLoad, Loading.FailsToLoad, Loading.TakesBase, Saving.CountsSaved, Saving.Saves, Saving.ReportsTooMany};
 ghost use Rattle.echo_toss.specs.Stored.{base_in};
 
 use crate::tosser::Tosser;

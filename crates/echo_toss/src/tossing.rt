@@ -3,9 +3,7 @@ ghost use Rattle.disk_io.specs.Disk.{Honestly};
 ghost use Rattle.base_file.specs.Base.{Base};
 ghost use Rattle.base_store.specs.Store.{CommitsNothing, GoesOn, HasStoreCause, LooksOn, Undoes};
 ghost use Rattle.model_steps.specs.Tossing.{TossStep, toss_outcome, tossing};
-ghost use Rattle.echo_toss.specs.Bounds.{AddsTossed, IsPastBound};
-ghost use Rattle.echo_toss.specs.Stores.{LooksUnlessFiled, and_filed};
-ghost use Rattle.echo_toss.specs.Wanted.{HasOwnKey, IsVerdict};
+ghost use Rattle.echo_toss.specs.{Bounds.AddsTossed, Bounds.IsPastBound, Stores.LooksUnlessFiled, Stores.and_filed, Wanted.HasOwnKey, Wanted.IsVerdict};
 
 use crate::receiving::{Reading, key_in, read, received};
 use crate::tosser::Tosser;

@@ -4,15 +4,12 @@ use Rattle.echo_addr.specs.declared.address.Address.{Address}
 use Rattle.model_graph.specs.Walk.{Among}
 use Rattle.model_graph.proofs.Members.{Among-append_cases, Among-append_left, Among-append_right}
 use Rattle.echo_packet.specs.Message.{Message}
-use Rattle.echo_links.specs.Links.{LinkFile}
-use Rattle.echo_links.specs.LinkLines.{LinksOf}
-use Rattle.model_run.specs.Run.{Run}
-use Rattle.law_stations.specs.Agreement.{Agrees}
-use Rattle.law_stations.proofs.EachEvent.{first-agrees}
+use Rattle.echo_links.specs.{Links.LinkFile, LinkLines.LinksOf}
 use Rattle.model_run.specs.Lone.{AreOfPackets, LoneEvent, LoneSystem, TossHere, after_all_lone, lone_run}
+use Rattle.model_run.specs.Run.{Run}
+use Rattle.law_stations.specs.{Agreement.Agrees, LoneStations.LoneStation, LoneStations.lone_station_at_first}
+use Rattle.law_stations.proofs.{EachEvent.first-agrees, Tosses.IsInFront, Tosses.IsTossedBy, Tosses.more-events}
 use Rattle.model_run.proofs.Filings.{run-append}
-use Rattle.law_stations.specs.LoneStations.{LoneStation, lone_station_at_first}
-use Rattle.law_stations.proofs.Tosses.{IsInFront, IsTossedBy, more-events}
 
 -- the run of the system alone
 abbrev pub run_alone : LoneSystem → Run

@@ -1,30 +1,19 @@
 -- A new message is in order over crashes, from any disks on.
 use Rattle.std.proofs.Common.{◌≡◌, inl, inr, refl, sym, subst, ap, ◌∙◌, ℕ, zero, suc, ◌+◌, ◌≤◌, ◌<◌, arith, List, [], ◌∷◌, ◌++◌, filter, length, map, Option, Some, None}
+use Rattle.std.proofs.lemmas.{Bool.cond-false, Bool.cond-true, Bool.ltb-false, Bool.ltb-true, List.length-append, List.length-map}
 use Rattle.std.specs.Prelude.{Bool, true, false, not, if◌then◌else◌}
-use Rattle.std.proofs.lemmas.Bool.{cond-false, cond-true, ltb-false, ltb-true}
-use Rattle.std.proofs.lemmas.List.{length-append, length-map}
 use Rattle.model_graph.specs.Walk.{Among}
 use Rattle.echo_links.specs.Links.{LinkFile, upper}
-use Rattle.echo_filed.specs.declared.key.Key.{Key}
-use Rattle.echo_filed.specs.Filed.{Filed}
+use Rattle.echo_filed.specs.{declared.key.Key.Key, Filed.Filed}
 use Rattle.model_steps.specs.declared.packet.Packet.{Packet}
-use Rattle.model_run.specs.Orderly.{sent_count}
-use Rattle.model_run.specs.Run.{nth}
-use Rattle.model_run.proofs.HarmLists.{among-nth, nth-map}
+use Rattle.model_run.specs.{Orderly.sent_count, Run.nth}
 use Rattle.model_run.proofs.Lists.{and-from, and-parts, filter-no, filter-yes, not_both, nth-append, yes_or_no}
-use Rattle.model_run.proofs.Targets.{none_some, some_same}
+use Rattle.model_run.proofs.{HarmLists.among-nth, HarmLists.nth-map, Targets.none_some, Targets.some_same}
 use Rattle.law_stations.specs.AnyDisks.{HeadlineFromAnyDisks, KeyHasSettled, KeyInOrderOverCrashes, all_packets, disks_at, is_below, waits_for_name}
-use Rattle.law_stations.specs.AnyNets.{KeyInOrder, KeyIsSettled, net_at}
-use Rattle.law_stations.specs.Commands.{CommandEvent}
-use Rattle.law_stations.specs.Disks.{Disks, StagingFile, cursors}
-use Rattle.law_stations.specs.InOrder.{ReadsAs, StationHolds}
-use Rattle.law_stations.specs.Nets.{Net, Paired, Station}
-use Rattle.law_stations.specs.OverCrashes.{HasNet, IsLikeEvent}
-use Rattle.law_stations.proofs.AnyNets.{headline-from-any-state, packets-read}
+use Rattle.law_stations.specs.{AnyNets.KeyInOrder, AnyNets.KeyIsSettled, AnyNets.net_at, Commands.CommandEvent, Disks.Disks, Disks.StagingFile, Disks.cursors, InOrder.ReadsAs, InOrder.StationHolds}
+use Rattle.law_stations.specs.{Nets.Net, Nets.Paired, Nets.Station, OverCrashes.HasNet, OverCrashes.IsLikeEvent}
 use Rattle.law_stations.proofs.Counting.{IsItem, below, below-step, times, waits}
-use Rattle.law_stations.proofs.EachCommand.{crashes-from}
-use Rattle.law_stations.proofs.Pairs.{paired-back}
-use Rattle.law_stations.proofs.Shown.{holds-too, sent-less, unchanged-too}
+use Rattle.law_stations.proofs.{AnyNets.headline-from-any-state, AnyNets.packets-read, EachCommand.crashes-from, Pairs.paired-back, Shown.holds-too, Shown.sent-less, Shown.unchanged-too}
 use Rattle.law_stations.proofs.Tracking.{IsTagged, Tracks}
 
 -- the indexes of the packets with names

@@ -1,42 +1,23 @@
 -- A new message of a checked area is in order, from any state of a net of stations on.
 use Rattle.std.proofs.Common.{◌≡◌, inl, inr, refl, sym, subst, ap, ◌∙◌, ℕ, ◌≤◌, List, [], ◌∷◌, length, map, Option, Some, None, Ok, arith}
-use Rattle.std.specs.Prelude.{Bool, IsTrue, true, is_none}
-use Rattle.std.specs.List.{AllByRecursion}
-use Rattle.cmd_status.specs.Devices.{Output}
+use Rattle.std.specs.{Prelude.Bool, Prelude.IsTrue, Prelude.true, Prelude.is_none, List.AllByRecursion}
+use Rattle.cmd_status.specs.{Devices.Output, declared.fault.Fault.Fault, declared.status.Status.TheVariants.Good, Inputs.AreLinkFiles}
 use Rattle.model_graph.specs.Walk.{Among, Different}
 use Rattle.echo_packet.specs.Message.{HasNoZero, IsMessage, Message}
 use Rattle.echo_links.specs.Links.{LinkFile, has_area, upper}
-use Rattle.echo_filed.specs.declared.key.Key.{Key}
-use Rattle.echo_filed.specs.Filed.{Filed, key_of}
+use Rattle.echo_filed.specs.{declared.key.Key.Key, Filed.Filed, Filed.key_of}
 use Rattle.base_file.specs.Base.{Base, IsBase}
 use Rattle.model_steps.specs.declared.packet.Packet.{Packet}
-use Rattle.model_run.specs.AnyState.{HasSettled, IsNew, IsOrderly}
 use Rattle.model_run.specs.Orderly.{FiledUnchanged, SameContent, count, sent_count, tag_of}
-use Rattle.model_run.specs.Run.{Run, System, after_events, nth}
-use Rattle.model_run.specs.States.{IsState}
-use Rattle.model_run.specs.Tidy.{Tidy}
-use Rattle.model_run.proofs.AnyState.{new-orderly}
-use Rattle.model_run.proofs.HarmLists.{among-nth}
+use Rattle.model_run.specs.{AnyState.HasSettled, AnyState.IsNew, AnyState.IsOrderly, Run.Run, Run.System, Run.after_events, Run.nth, States.IsState, Tidy.Tidy}
 use Rattle.model_run.proofs.Lists.{nth-among, Among-filter_from, Among-filter_to, Among-flat_map_from, Among-flat_map_to}
-use Rattle.model_run.proofs.States.{any-state, later-state}
-use Rattle.model_run.proofs.TosserLaws.{the_laws}
-use Rattle.cmd_status.specs.declared.fault.Fault.{Fault}
-use Rattle.cmd_status.specs.declared.status.Status.TheVariants.{Good}
-use Rattle.cmd_status.specs.Inputs.{AreLinkFiles}
+use Rattle.model_run.proofs.{AnyState.new-orderly, HarmLists.among-nth, States.any-state, States.later-state, TosserLaws.the_laws}
 use Rattle.cmd_check.specs.Checking.{CheckAnswers}
-use Rattle.law_stations.specs.Agreement.{Agrees, HasSystem, IsPacketFile, file_address}
 use Rattle.law_stations.specs.AnyNets.{HeadlineFromAnyState, IsNewTo, IsSomeNet, KeyInOrder, KeyIsSettled, links_at, net_at, own_of}
-use Rattle.law_stations.specs.Commands.{CommandEvent, Happen}
-use Rattle.law_stations.specs.InOrder.{HasUnchanged, IsUnchanged, ReadsAs}
-use Rattle.law_stations.specs.Nets.{Net, Paired, Station}
-use Rattle.law_stations.proofs.EachEvent.{LedAll, led-all}
-use Rattle.law_stations.proofs.Headline.{all-read, checked}
-use Rattle.law_stations.proofs.Moving.{nth-middle}
-use Rattle.law_stations.proofs.Pairs.{paired-among, paired-back}
-use Rattle.law_stations.proofs.Places.{addresses-of}
-use Rattle.law_stations.proofs.Sound.{reads, represented}
-use Rattle.law_stations.proofs.Systems.{file-fits, says-so}
-use Rattle.law_stations.proofs.Unpurged.{kept-where}
+use Rattle.law_stations.specs.{Agreement.Agrees, Agreement.HasSystem, Agreement.IsPacketFile, Agreement.file_address, Commands.CommandEvent, Commands.Happen}
+use Rattle.law_stations.specs.{InOrder.HasUnchanged, InOrder.IsUnchanged, InOrder.ReadsAs, Nets.Net, Nets.Paired, Nets.Station}
+use Rattle.law_stations.proofs.{EachEvent.LedAll, EachEvent.led-all, Headline.all-read, Headline.checked, Moving.nth-middle, Pairs.paired-among, Pairs.paired-back, Places.addresses-of}
+use Rattle.law_stations.proofs.{Sound.reads, Sound.represented, Systems.file-fits, Systems.says-so, Unpurged.kept-where}
 
 -- a system of each station; what its base has counts as filed
 abbrev system_of : LinkFile → Station → System
@@ -231,7 +212,7 @@ module _ (stations : List Station) (packets : List (List ℕ)) (some : IsSomeNet
 
 pub headline-from-any-state : HeadlineFromAnyState
 headline-from-any-state nodelist more tag stations packets stopped old new good some key of_area is_new commands net happen =
-    let (files, are, tidy, orderly) = checked nodelist more tag (links_at stations) stopped old new good in
+    let (files, are, tidy) = checked nodelist more tag (links_at stations) stopped old new good in
     in-order stations packets some files are tidy.joined.one_file commands net happen (upper tag) tidy key of_area is_new
 
 -- and all packet files are packets
@@ -239,7 +220,7 @@ pub packets-read : (nodelist : Option (List ℕ)) (more : Bool) (tag : List ℕ)
     → CheckAnswers nodelist more tag (links_at stations) stopped old new (Ok Good) → IsSomeNet stations packets
     → (commands : List CommandEvent) (net : Net) → Happen commands (net_at stations packets) net → (ps : List Packet) × Paired ReadsAs net.packets ps
 packets-read nodelist more tag stations packets stopped old new good some commands net happen =
-    let (files, are, tidy, orderly) = checked nodelist more tag (links_at stations) stopped old new good in
+    let (files, are, tidy) = checked nodelist more tag (links_at stations) stopped old new good in
     let l = led stations packets some files are tidy.joined.one_file commands net happen in
     (ps-of net (run stations packets some files are tidy.joined.one_file commands net happen) l.agrees)
   where

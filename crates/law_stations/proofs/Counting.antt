@@ -2,8 +2,7 @@
 use Rattle.std.proofs.Common.{◌≡◌, inl, inr, refl, subst, ap, ℕ, zero, suc, ◌+◌, ◌≤◌, arith, List, [], ◌∷◌, ◌++◌, length, Option, Some, None}
 use Rattle.model_graph.specs.Walk.{Among, Different}
 use Rattle.model_run.specs.Run.{change, nth}
-use Rattle.model_run.proofs.Lists.{nth-changed}
-use Rattle.model_run.proofs.Targets.{none_some, some_same}
+use Rattle.model_run.proofs.{Lists.nth-changed, Targets.none_some, Targets.some_same}
 use Rattle.law_stations.specs.Nets.{Paired}
 
 -- 1 if two numbers are the same, else 0

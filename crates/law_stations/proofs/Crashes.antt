@@ -4,17 +4,13 @@ use Rattle.model_graph.specs.Walk.{Among}
 use Rattle.model_steps.specs.SystemState.{SystemState}
 use Rattle.echo_toss.specs.PacketsIn.{state_in}
 use Rattle.model_run.specs.Run.{change}
-use Rattle.cmd_report.specs.Coming.{Coming, Fails, Holds, Unknown}
+use Rattle.cmd_store.specs.Coming.{Coming, Fails, Holds, Unknown}
 use Rattle.law_stations.specs.Commands.{Command, CommandEvent, Happens, Post, Purge, Scan}
 use Rattle.law_stations.specs.Nets.{Net, Paired, Station, with_base, with_left}
-use Rattle.law_stations.proofs.FileRuns.{IsPartly, TossedFiles, tossed-all, wholes}
-use Rattle.law_stations.specs.Disks.{cursor_of}
-use Rattle.law_stations.specs.OverCrashes.{IsLike}
-use Rattle.law_stations.specs.Stopping.{PartialEffect}
-use Rattle.law_stations.proofs.EachCommand.{followed}
-use Rattle.law_stations.proofs.Tracking.{Tracks, still}
 use Rattle.law_stations.specs.LoneDisks.{LoneDisks, MayHappenAlone, MayHappenAllAlone, on_net, under_names}
 use Rattle.law_stations.specs.LoneStations.{AreAnyFiles, HappenAlone, HappensAlone, LoneCommand, LoneStation, NothingCame, PostAlone, PurgeAlone, ScanAlone, TossAny, TossesAny}
+use Rattle.law_stations.specs.{Disks.cursor_of, OverCrashes.IsLike, Stopping.PartialEffect}
+use Rattle.law_stations.proofs.{FileRuns.IsPartly, FileRuns.TossedFiles, FileRuns.tossed-all, FileRuns.wholes, EachCommand.followed, Tracking.Tracks, Tracking.still}
 
 -- the same command; a toss may have only the first of its files
 abbrev pub IsLikeAlone : LoneCommand → LoneCommand → Type 0

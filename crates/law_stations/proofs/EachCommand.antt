@@ -5,14 +5,11 @@ use Rattle.model_steps.specs.declared.stamp.Stamp.{Stamp}
 use Rattle.model_run.specs.Run.{nth}
 use Rattle.model_run.proofs.Targets.{some_same}
 use Rattle.law_stations.specs.Commands.{Command, CommandEvent, Happen, Happens, Leads, Post, Purge, Scan, Toss}
-use Rattle.law_stations.specs.Nets.{Net, Paired, first_net}
-use Rattle.law_stations.specs.Disks.{StagingFile, Disks, cursors, first_disks}
 use Rattle.law_stations.specs.OverCrashes.{CrashesAreNone, HasNet, IsLike, IsLikeEvent, IsToBeNamed}
 use Rattle.law_stations.specs.Stopping.{EndsSome, PartialEffect, MayHappen, MayHappenAll, Moves, ScansFar, Writes}
+use Rattle.law_stations.specs.{Nets.Net, Nets.Paired, Nets.first_net, Disks.StagingFile, Disks.Disks, Disks.cursors, Disks.first_disks}
 use Rattle.law_stations.proofs.Counting.{among-times, below-most, below-there, same-is, same_as, times, times-different, waits}
-use Rattle.law_stations.proofs.Ending.{some-ended}
-use Rattle.law_stations.proofs.Moving.{moved, scans, then, written}
-use Rattle.law_stations.proofs.Others.{Led, posted-too, purged-too, tossed-too}
+use Rattle.law_stations.proofs.{Ending.some-ended, Moving.moved, Moving.scans, Moving.then, Moving.written, Others.Led, Others.posted-too, Others.purged-too, Others.tossed-too}
 use Rattle.law_stations.proofs.Tracking.{IsTagged, Tracks, cursor-too}
 
 -- a command is like itself

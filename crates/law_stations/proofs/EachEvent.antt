@@ -1,28 +1,20 @@
 -- Command events are events of a run.
 use Rattle.std.proofs.Common.{◌≡◌, ◌⊎◌, inl, inr, refl, sym, subst, ap, ◌∙◌, ℕ, ◌==◌, arith, true, List, [], ◌∷◌, ◌++◌, map, Option, Some, None}
-use Rattle.std.specs.Prelude.{Bool, false, if◌then◌else◌}
 use Rattle.std.proofs.lemmas.Bool.{eqb-false, eqb-true}
+use Rattle.std.specs.Prelude.{Bool, false, if◌then◌else◌}
 use Rattle.model_graph.specs.Walk.{Different}
 use Rattle.echo_links.specs.Links.{LinkFile}
-use Rattle.model_run.specs.Event.{Posting, Purging, RunEvent, Scanning}
 use Rattle.model_run.specs.Run.{Run, System, after_events, change, fresh, nth, posting_at, purging_at, scanning, scanning_at, start}
-use Rattle.model_run.proofs.Lists.{yes_or_no}
-use Rattle.model_run.proofs.WholeRuns.{fresh-empty, fresh-files}
-use Rattle.model_steps.specs.declared.stamp.Stamp.{Stamp}
-use Rattle.model_steps.specs.Posting.{posting}
-use Rattle.model_steps.specs.Scanning.{scanned}
-use Rattle.model_steps.specs.Stamps.{is_stamp}
+use Rattle.model_run.specs.Event.{Posting, Purging, RunEvent, Scanning}
+use Rattle.model_run.proofs.{Lists.yes_or_no, WholeRuns.fresh-empty, WholeRuns.fresh-files, HarmSteps.after-append}
+use Rattle.model_steps.specs.{declared.stamp.Stamp.Stamp, Posting.posting, Scanning.scanned, Stamps.is_stamp}
 use Rattle.cmd_status.specs.Inputs.{AreLinkFiles}
-use Rattle.cmd_report.specs.Posted.{draft_given}
+use Rattle.cmd_store.specs.Drafts.{draft_given}
 use Rattle.law_stations.specs.Agreement.{Agrees, AreEventsOf, AreEventsOfAll, EventIsEvents, EventsAreARun, HasSystem, file_address, own_address}
 use Rattle.law_stations.specs.Commands.{Command, CommandEvent, Happen, Leads, Post, Purge, Scan, Toss}
-use Rattle.law_stations.specs.InOrder.{WasPurged}
-use Rattle.law_stations.specs.Nets.{Net, Paired, first_net, new_station}
-use Rattle.law_stations.proofs.OfEvents.{post-agrees, purge-agrees, scan-agrees}
-use Rattle.law_stations.proofs.OfToss.{toss-agrees}
-use Rattle.law_stations.proofs.Places.{addresses-of, addresses-stay}
+use Rattle.law_stations.specs.{InOrder.WasPurged, Nets.Net, Nets.Paired, Nets.first_net, Nets.new_station}
+use Rattle.law_stations.proofs.{OfEvents.post-agrees, OfEvents.purge-agrees, OfEvents.scan-agrees, OfToss.toss-agrees, Places.addresses-of, Places.addresses-stay}
 use Rattle.law_stations.proofs.Unpurged.{AsFiledAt, change-as_filed, filing-as_filed}
-use Rattle.model_run.proofs.HarmSteps.{after-append}
 
 -- A command ended well: its events. It keeps the messages of each system as they were filed, unless it purges it.
 record Led (command : Command) (i : ℕ) (new : Net) (run : Run) : Type 0 where

@@ -5,9 +5,8 @@ use Rattle.model_steps.specs.declared.stamp.Stamp.{Stamp}
 use Rattle.model_run.specs.Run.{change, nth}
 use Rattle.base_store.specs.Store.{purged}
 use Rattle.law_stations.specs.Commands.{Command, CommandEvent, Post, Purge, Scan, Toss}
-use Rattle.law_stations.specs.Nets.{Net, with_base}
-use Rattle.law_stations.specs.Disks.{Disks, naming}
 use Rattle.law_stations.specs.Stopping.{EndsOne, EndsSome, PartialEffect, MayHappen, ScansFar, Writes}
+use Rattle.law_stations.specs.{Nets.Net, Nets.with_base, Disks.Disks, Disks.naming}
 
 -- an item at another index
 pub change-other : {X : Type 0} (f : X → X) (i j : ℕ) (xs : List X) → j ≢ i → nth j (change i f xs) ≡ nth j xs

@@ -3,10 +3,7 @@ use Rattle.std.proofs.Common.{◌≡◌, ◌≢◌, inl, inr, ⊎_elim, ◌∙�
 use Rattle.std.proofs.lemmas.Bool.{cases_eq, cases_lt}
 use Rattle.model_graph.specs.Walk.{Among}
 use Rattle.model_graph.proofs.Floods.{Among-push_cases}
-use Rattle.law_stations.specs.Nets.{Net}
-use Rattle.law_stations.specs.CanEnd.{CanEnd, LeftCanEnd}
-use Rattle.law_stations.specs.Disks.{StagingFile, HasCursor, naming}
-use Rattle.law_stations.specs.Stopping.{EndsOne, HasNoneStaged}
+use Rattle.law_stations.specs.{Nets.Net, CanEnd.CanEnd, CanEnd.LeftCanEnd, Disks.StagingFile, Disks.HasCursor, Disks.naming, Stopping.EndsOne, Stopping.HasNoneStaged}
 use Rattle.law_stations.proofs.Whole.{disks_with}
 
 -- a packet that got its name changes no cursor

@@ -2,14 +2,12 @@
 use Rattle.std.proofs.Common.{◌≡◌, ◌⊎◌, inl, inr, refl, sym, subst, ap, ◌∙◌, ℕ, zero, suc, ◌+◌, ◌<◌, arith, Bool, true, false, List, [], ◌∷◌, ◌++◌, Option, Some, None}
 use Rattle.model_graph.specs.Walk.{Among}
 use Rattle.model_run.specs.Run.{nth}
-use Rattle.model_run.proofs.Lists.{not_both, nth-append}
-use Rattle.law_stations.specs.Nets.{Net, Paired}
-use Rattle.law_stations.proofs.Pairs.{paired-append}
+use Rattle.model_run.proofs.{Lists.not_both, Lists.nth-append, Targets.some_same}
 use Rattle.law_stations.specs.Disks.{StagingFile, Disks, cursors, naming, with_packet}
-use Rattle.law_stations.specs.Stopping.{Ends, EndsOne, EndsSome, now_named}
+use Rattle.law_stations.specs.{Nets.Net, Nets.Paired, Stopping.Ends, Stopping.EndsOne, Stopping.EndsSome, Stopping.now_named}
 use Rattle.law_stations.proofs.Counting.{IsItem, nones, same_as, times-append, waits, waits-append, waits-nones}
 use Rattle.law_stations.proofs.Tracking.{IsTagged, PairedAround, Tracks, cursor-too, paired-around}
-use Rattle.model_run.proofs.Targets.{some_same}
+use Rattle.law_stations.proofs.Pairs.{paired-append}
 
 -- as many packets wait without the file as with its rest
 same-waits : (k : ℕ) (left : List StagingFile) (front behind : List (Option ℕ)) → waits k (front ++ (nones left ++ behind)) ≡ waits k front + waits k behind

@@ -2,28 +2,15 @@
 use Rattle.std.proofs.Common.{◌≡◌, inl, inr, ⊎_elim, refl, sym, ap, subst, arith, Bool, true, false, ℕ, List, [], Ok, Some, length, take}
 use Rattle.std.proofs.lemmas.List.{take_all}
 use Rattle.base_file.specs.Base.{Base}
-use Rattle.cmd_report.specs.declared.posting.NewMessage.{NewMessage}
-use Rattle.cmd_report.specs.declared.replying.Answer.{Answer}
-use Rattle.cmd_report.specs.Coming.{Coming}
-use Rattle.cmd_report.specs.FreeSerial.{with_serial}
-use Rattle.cmd_report.specs.Posted.{draft_given}
-use Rattle.echo_links.specs.Links.{LinkFile}
-use Rattle.echo_links.specs.LinkLines.{LinksOf}
-use Rattle.cmd_store.specs.declared.letter.Letter.{Letter}
-use Rattle.cmd_store.specs.declared.mailed.MailWords.{MailWords}
-use Rattle.cmd_store.specs.MailPosted.{Mails}
+use Rattle.echo_links.specs.{Links.LinkFile, LinkLines.LinksOf}
+use Rattle.cmd_store.specs.{declared.drafting.NewMessage.NewMessage, declared.answering.Answer.Answer, Coming.Coming, Serials.with_serial, Drafts.draft_given, declared.letter.Letter.Letter}
+use Rattle.cmd_store.specs.{declared.mailed.MailWords.MailWords, MailPosted.Mails, FreeSerial.PostsAs, Posted.Posts, Purged.HoldsOrPurges, Purged.Purges, Replied.Replies}
 use Rattle.model_run.specs.Run.{change, nth}
 use Rattle.model_steps.specs.Posting.{posted}
 use Rattle.base_store.specs.Store.{purged}
-use Rattle.cmd_store.specs.FreeSerial.{PostsAs}
-use Rattle.cmd_store.specs.Posted.{Posts}
-use Rattle.cmd_store.specs.Purged.{HoldsOrPurges, Purges}
-use Rattle.cmd_store.specs.Replied.{Replies}
 use Rattle.law_stations.specs.Commands.{Command, IsPacketAt, Post, Purge, Toss, TossesAll, whole_of}
-use Rattle.law_stations.specs.Kinds.{IsPurge, IsToss}
 use Rattle.law_stations.specs.Nets.{Paired, Station, with_base, with_left, with_posting, with_tossed}
-use Rattle.law_stations.specs.Disks.{Disks}
-use Rattle.law_stations.specs.DiskKinds.{IsMail, IsPostAs, IsReplyAs}
+use Rattle.law_stations.specs.{Kinds.IsPurge, Kinds.IsToss, Disks.Disks, DiskKinds.IsMail, DiskKinds.IsPostAs, DiskKinds.IsReplyAs}
 use Rattle.law_stations.proofs.Leading.{LeadsTo, MadeOrHeld}
 
 module _ (station : Station) (file : LinkFile) (i : ℕ) (d : Disks) (there : nth i d.net.stations ≡ Some station) (says : LinksOf station.links (Ok file)) where

@@ -2,11 +2,9 @@
 use Rattle.std.proofs.Common.{◌≡◌, ◌⊎◌, inl, inr, refl, sym, ap, ◌∙◌, ℕ, zero, suc, append-nil, append_assoc, Bool, true, false, List, [], ◌∷◌, ◌++◌, arith}
 use Rattle.model_steps.specs.declared.stamp.Stamp.{Stamp}
 use Rattle.law_stations.specs.Commands.{Command, Post, Purge, Scan, Toss}
-use Rattle.law_stations.specs.Nets.{Net}
 use Rattle.law_stations.specs.LoneStations.{LoneCommand, LoneStation, PostAlone, PurgeAlone, ScanAlone, TossAny}
-use Rattle.law_stations.specs.Disks.{Disks, naming}
 use Rattle.law_stations.specs.Stopping.{EndsOne, EndsSome, PartialEffect, Moves, ScansFar, Writes}
-use Rattle.law_stations.specs.LoneDisks.{LoneDisks, MayHappenAlone, MayHappenAllAlone}
+use Rattle.law_stations.specs.{Nets.Net, Disks.Disks, Disks.naming, LoneDisks.LoneDisks, LoneDisks.MayHappenAlone, LoneDisks.MayHappenAllAlone}
 
 -- the packet files stay, and later ones follow
 abbrev Grows : List (List ℕ) → List (List ℕ) → Type 0

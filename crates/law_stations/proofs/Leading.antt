@@ -2,24 +2,15 @@
 use Rattle.std.proofs.Common.{◌≡◌, ◌⊎◌, inl, inr, ⊎_elim, ◌∙◌, ℕ, List, Result, Ok, Err, refl, sym, subst, ap, arith}
 use Rattle.std.specs.Prelude.{IfErr}
 use Rattle.base_file.specs.Base.{Base}
-use Rattle.disk_io.specs.Disk.{DiskState, Files}
-use Rattle.disk_io.specs.Runs.{LeavesOnly}
-use Rattle.echo_links.specs.Links.{LinkFile}
-use Rattle.echo_links.specs.LinkLines.{LinksOf}
+use Rattle.disk_io.specs.{Disk.DiskState, Disk.Files, Runs.LeavesOnly}
+use Rattle.echo_links.specs.{Links.LinkFile, LinkLines.LinksOf}
 use Rattle.model_run.specs.Run.{change, nth}
-use Rattle.cmd_status.specs.declared.fault.Fault.{Fault}
-use Rattle.cmd_status.specs.Devices.{Output}
-use Rattle.cmd_store.specs.declared.command_error.CommandError.{CommandError}
-use Rattle.cmd_store.specs.declared.command_error.CommandError.TheVariants.{Met, Store}
-use Rattle.station.specs.Place.{KeepsElsewhere, Place, SameElsewhere, RepresentsOrWasLeft}
-use Rattle.station.specs.Running.{IsRun, RunsIn, RepresentsAsBefore, RepresentsWhereMet}
-use Rattle.law_stations.specs.Commands.{Command}
-use Rattle.law_stations.specs.Nets.{with_base}
-use Rattle.law_stations.specs.Disks.{Disks}
-use Rattle.law_stations.specs.Stopping.{PartialEffect}
+use Rattle.cmd_status.specs.{declared.fault.Fault.Fault, Devices.Output}
+use Rattle.cmd_store.specs.declared.command_error.CommandError.{CommandError, TheVariants.Met, TheVariants.Store}
+use Rattle.station.specs.{Place.KeepsElsewhere, Place.Place, Place.SameElsewhere, Place.RepresentsOrWasLeft, Running.IsRun, Running.RunsIn, Running.RepresentsAsBefore, Running.RepresentsWhereMet}
 use Rattle.law_stations.specs.OnDisks.{AreAsMay, RefinesEvent, IsAfter, IsAsBefore, IsLinkedOn, IsStationAt, LeadsFarBy, ReadsLinks, ShowsStation}
-use Rattle.model_run.proofs.HarmLists.{nth-changed as changed-there}
-use Rattle.model_run.proofs.Targets.{some_same}
+use Rattle.law_stations.specs.{Commands.Command, Nets.with_base, Disks.Disks, Stopping.PartialEffect}
+use Rattle.model_run.proofs.{HarmLists.nth-changed as changed-there, Targets.some_same}
 
 -- disks to which a command of this kind leads, on which the station has this base
 pub record LeadsTo (IsCommand : Command → Type 0) (i : ℕ) (d : Disks) (next : Base) : Type 0 where

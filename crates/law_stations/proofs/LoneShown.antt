@@ -4,42 +4,22 @@ use Rattle.std.specs.Prelude.{false}
 use Rattle.echo_addr.specs.declared.address.Address.{Address}
 use Rattle.model_graph.specs.Walk.{Among}
 use Rattle.model_graph.proofs.Members.{Among-append_right}
-use Rattle.echo_packet.specs.declared.header.Header.{Header}
-use Rattle.echo_packet.specs.Message.{Message}
+use Rattle.echo_packet.specs.{declared.header.Header.Header, Message.Message}
 use Rattle.echo_links.specs.Links.{IsFile, LinkFile}
-use Rattle.echo_filed.specs.declared.key.Key.{Key}
-use Rattle.echo_filed.specs.Filed.{Filed, key_of, same_key}
-use Rattle.echo_filed.specs.Stubs.{is_stub, stub_of}
-use Rattle.echo_filed.proofs.Keys.{stub_of_stub}
-use Rattle.echo_filed.proofs.StubTests.{stub_reported}
+use Rattle.echo_filed.specs.{declared.key.Key.Key, Filed.Filed, Filed.key_of, Filed.same_key, Stubs.is_stub, Stubs.stub_of}
+use Rattle.echo_filed.proofs.{Keys.stub_of_stub, StubTests.stub_reported}
 use Rattle.base_file.specs.Base.{IsBase}
-use Rattle.model_steps.specs.declared.packet.Packet.{Packet}
-use Rattle.model_steps.specs.Tossing.{received, sender_of}
-use Rattle.model_run.specs.Exports.{IsSentCopy}
-use Rattle.model_run.specs.Orderly.{copies, count, sent_count}
-use Rattle.model_run.specs.Run.{System, destination}
-use Rattle.model_run.proofs.TosserPremises as counts
-use Rattle.model_run.proofs.Lists.{Among-take, not_both}
-use Rattle.model_run.proofs.Bases.{IsKept, Kept, Kept-back, Kept-count, Kept-waiting, SystemOk, count-is}
-use Rattle.model_run.proofs.TosserLaws.{the_laws}
-use Rattle.law_stations.specs.Agreement.{HasSystem, IsPacketFile}
-use Rattle.law_stations.specs.InOrder.{ReadsAs}
-use Rattle.law_stations.specs.Nets.{Paired, Station}
-use Rattle.law_stations.proofs.Headline.{all-read}
-use Rattle.law_stations.proofs.OfEvents.{posted-own}
-use Rattle.law_stations.proofs.Pairs.{paired-among}
-use Rattle.law_stations.proofs.Readings.{one-in_front}
-use Rattle.law_stations.proofs.Sound.{reads}
-use Rattle.law_stations.proofs.Systems.{said-once, says-so}
+use Rattle.model_steps.specs.{declared.packet.Packet.Packet, Tossing.received, Tossing.sender_of}
 use Rattle.model_run.specs.Lone.{LoneEvent, LoneSystem, PostHere, PurgeHere, ScanHere, TossHere, lone_at_first, lone_run}
-use Rattle.model_run.specs.Owed.{IsFiledBy, IsFromLink, IsOwed}
-use Rattle.model_run.proofs.Filings.{run-from, run-file, run-left}
+use Rattle.model_run.specs.{Exports.IsSentCopy, Orderly.copies, Orderly.count, Orderly.sent_count, Run.System, Run.destination, Owed.IsFiledBy, Owed.IsFromLink, Owed.IsOwed}
+use Rattle.model_run.proofs.TosserPremises as counts
+use Rattle.model_run.proofs.Bases.{IsKept, Kept, Kept-back, Kept-count, Kept-waiting, SystemOk, count-is}
 use Rattle.model_run.proofs.SentSoFar.{IsSentSoFar, copy-owed, owed-back, owed-there, run-sent, sent-once, sent-others, sent-owed, sent-waiting, base-once, run-due, run-ok}
-use Rattle.law_stations.specs.LoneStations.{LoneCommand, LoneStation}
+use Rattle.model_run.proofs.{Lists.Among-take, Lists.not_both, TosserLaws.the_laws, Filings.run-from, Filings.run-file, Filings.run-left}
 use Rattle.law_stations.specs.AloneInOrder.{LoneSays, HasCome, HoldsPacket, IsInOrderAlone, IsLeftAlone}
-use Rattle.law_stations.proofs.Purgings.{left-scanned, purge-among}
-use Rattle.law_stations.proofs.Alone.{IsLone}
-use Rattle.law_stations.proofs.Steps.{AreOfCommands}
+use Rattle.law_stations.specs.{Agreement.HasSystem, Agreement.IsPacketFile, InOrder.ReadsAs, Nets.Paired, Nets.Station, LoneStations.LoneCommand, LoneStations.LoneStation}
+use Rattle.law_stations.proofs.{Headline.all-read, OfEvents.posted-own, Pairs.paired-among, Readings.one-in_front, Sound.reads, Systems.said-once, Systems.says-so}
+use Rattle.law_stations.proofs.{Purgings.left-scanned, Purgings.purge-among, Alone.IsLone, Steps.AreOfCommands}
 
 -- a stub has the tag and the sender of its message, and an empty SEEN-BY
 stub-owed : (file : LinkFile) (h : Filed) (a : Address) → IsOwed file h a → IsOwed file (stub_of h) a

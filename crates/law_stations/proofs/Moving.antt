@@ -1,29 +1,22 @@
 -- A scan stops before its base is committed, or commits it; then its packets wait for their names.
 use Rattle.std.proofs.Common.{◌≡◌, ◌≢◌, inl, inr, refl, sym, subst, ap, ◌∙◌, ℕ, zero, suc, ◌+◌, ◌≤◌, ◌<◌, arith, append-nil, append_assoc, length-append, List, [], ◌∷◌, ◌++◌, length, map, Option, Some}
+use Rattle.std.proofs.lemmas.{Bool.cases_lt, List.drop_all, List.length-map}
 use Rattle.std.specs.List.{AllByRecursion}
-use Rattle.std.proofs.lemmas.Bool.{cases_lt}
-use Rattle.std.proofs.lemmas.List.{drop_all, length-map}
 use Rattle.base_file.specs.Base.{Base}
 use Rattle.model_graph.specs.Walk.{Among}
 use Rattle.echo_links.specs.Links.{LinkFile}
-use Rattle.echo_filed.specs.Filed.{Filed}
-use Rattle.model_steps.specs.declared.stamp.Stamp.{Stamp}
-use Rattle.model_steps.specs.PacketFiles.{PacketFile}
-use Rattle.model_steps.specs.Scanning.{packets_of, recipients, scanned}
-use Rattle.echo_filed.specs.Sets.{address_set}
+use Rattle.echo_filed.specs.{Filed.Filed, Sets.address_set}
+use Rattle.model_steps.specs.{declared.stamp.Stamp.Stamp, PacketFiles.PacketFile, Scanning.packets_of, Scanning.recipients, Scanning.scanned}
 use Rattle.model_run.specs.Run.{change, nth}
-use Rattle.model_run.proofs.Lists.{nth-append}
+use Rattle.model_run.proofs.{Lists.nth-append, HarmLists.nth-changed as changed-there, Targets.some_same}
 use Rattle.base_store.specs.Store.{all_scanned}
-use Rattle.cmd_report.specs.Scanned.{file_sent}
-use Rattle.law_stations.specs.Commands.{Scans}
+use Rattle.cmd_store.specs.PacketLines.{file_sent}
 use Rattle.law_stations.specs.Nets.{Net, Paired, Station, bytes_of, with_base, with_left}
-use Rattle.law_stations.proofs.Pairs.{paired-append}
 use Rattle.law_stations.specs.Disks.{StagingFile, Disks, HasCursor, cursor_of, cursors}
-use Rattle.law_stations.specs.Stopping.{IsOfNext, Moves, Writes, staging_of}
+use Rattle.law_stations.specs.{Commands.Scans, Stopping.IsOfNext, Stopping.Moves, Stopping.Writes, Stopping.staging_of}
 use Rattle.law_stations.proofs.Counting.{IsItem, below, from, nones, waits-append, waits-from, waits-nones}
 use Rattle.law_stations.proofs.Tracking.{IsTagged, Tracks, cursor-too, has-cursor, paired-so}
-use Rattle.model_run.proofs.HarmLists.{nth-changed as changed-there}
-use Rattle.model_run.proofs.Targets.{some_same}
+use Rattle.law_stations.proofs.Pairs.{paired-append}
 
 -- files of a stopped scan have no waiting packet
 unfinished-tagged : (packets : List (List ℕ)) (at : List ℕ) (i c : ℕ) (files : List StagingFile) → nth i at ≡ Some c → AllByRecursion (IsOfNext i c) files

@@ -1,38 +1,26 @@
 -- A posting, a scan and a purge at a station are events of the run.
 use Rattle.std.proofs.Common.{◌≡◌, inl, inr, refl, sym, subst, ap, ◌∙◌, ℕ, arith, cond, List, [], ◌∷◌, ◌++◌, append-nil, map, Option, Some, None}
-use Rattle.std.specs.Prelude.{is_none}
-use Rattle.std.specs.List.{AllByRecursion}
 use Rattle.std.proofs.lemmas.Bool.{cond-true}
+use Rattle.std.specs.{Prelude.is_none, List.AllByRecursion}
 use Rattle.model_graph.specs.Walk.{Among}
 use Rattle.model_graph.proofs.Members.{Among-append_cases, Among-append_left, Among-append_right}
 use Rattle.echo_packet.specs.Header.{AreBytes}
 use Rattle.echo_links.specs.Links.{LinkFile}
 use Rattle.echo_filed.specs.Filed.{Filed}
 use Rattle.base_file.specs.Base.{Base}
-use Rattle.model_steps.specs.declared.draft.Draft.{Draft}
-use Rattle.model_steps.specs.declared.fault.PostFault.{PostFault}
-use Rattle.model_steps.specs.declared.stamp.Stamp.{Stamp}
-use Rattle.model_steps.specs.PacketFiles.{PacketFile}
-use Rattle.model_steps.specs.Posting.{post_refusal, posted, posting}
+use Rattle.model_steps.specs.{declared.draft.Draft.Draft, declared.fault.PostFault.PostFault, declared.stamp.Stamp.Stamp, PacketFiles.PacketFile, Posting.post_refusal, Posting.posted, Posting.posting}
+use Rattle.model_steps.specs.{Scanning.scanned, Stamps.is_stamp}
 use Rattle.model_steps.specs.Purging as steps
-use Rattle.model_steps.specs.Scanning.{scanned}
-use Rattle.model_steps.specs.Stamps.{is_stamp}
-use Rattle.model_steps.proofs.Kept.{posting_keeps}
-use Rattle.model_steps.proofs.Purged.{purge_keeps}
+use Rattle.model_steps.proofs.{Kept.posting_keeps, Purged.purge_keeps}
 use Rattle.base_store.specs.Store.{all_scanned, purged, with_message}
-use Rattle.model_run.specs.Event.{Posting, Purging, Scanning}
 use Rattle.model_run.specs.Run.{Run, System, after_event, change, filing, posting_at, purging_at, scanning, scanning_at}
-use Rattle.cmd_report.specs.declared.posting.NewMessage.{NewMessage}
-use Rattle.cmd_report.specs.Posted.{draft_given, refusal_given}
-use Rattle.cmd_report.specs.Scanned.{file_sent}
+use Rattle.model_run.specs.Event.{Posting, Purging, Scanning}
+use Rattle.cmd_store.specs.{declared.drafting.NewMessage.NewMessage, Drafts.draft_given, Drafts.refusal_given, PacketLines.file_sent}
 use Rattle.echo_toss.specs.PacketsIn.{state_in}
 use Rattle.law_stations.specs.Agreement.{Agrees, HasPosting, HasSystem, IsPacketFile, base_of}
-use Rattle.law_stations.specs.Commands.{Posts, Purges, Scans}
 use Rattle.law_stations.specs.Nets.{Net, Paired, bytes_of, with_base, with_left}
-use Rattle.law_stations.proofs.Packets.{scanned-fit}
-use Rattle.law_stations.proofs.Pairs.{paired-append, paired-nth}
-use Rattle.law_stations.proofs.Putting.{puts-agree}
-use Rattle.law_stations.proofs.Systems.{file-fits, one-file}
+use Rattle.law_stations.specs.Commands.{Posts, Purges, Scans}
+use Rattle.law_stations.proofs.{Packets.scanned-fit, Pairs.paired-append, Pairs.paired-nth, Putting.puts-agree, Systems.file-fits, Systems.one-file}
 
 -- the message is filed, unless it is refused
 is-filed : (file : LinkFile) (base : List Filed) (tag : List ℕ) (draft : Draft) (serial : ℕ) (stamp : Stamp) → post_refusal file base tag draft serial stamp ≡ None

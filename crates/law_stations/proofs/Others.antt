@@ -5,22 +5,16 @@ use Rattle.base_file.specs.Base.{Base}
 use Rattle.model_graph.specs.Walk.{Among}
 use Rattle.echo_filed.specs.Filed.{Filed}
 use Rattle.echo_links.specs.Links.{LinkFile}
-use Rattle.model_steps.specs.Posting.{posted}
-use Rattle.model_steps.specs.SystemState.{SystemState}
+use Rattle.model_steps.specs.{Posting.posted, SystemState.SystemState}
 use Rattle.base_store.specs.Store.{purged}
 use Rattle.echo_toss.specs.PacketsIn.{state_in}
 use Rattle.model_run.specs.Run.{change, nth, with_index}
 use Rattle.model_run.proofs.Lists.{any-from, with_index-from}
-use Rattle.cmd_report.specs.declared.posting.NewMessage.{NewMessage}
-use Rattle.cmd_report.specs.Coming.{Coming, Fails, Holds, Unknown}
-use Rattle.cmd_report.specs.Posted.{draft_given}
+use Rattle.cmd_store.specs.{declared.drafting.NewMessage.NewMessage, Coming.Coming, Coming.Fails, Coming.Holds, Coming.Unknown, Drafts.draft_given}
 use Rattle.law_stations.specs.Commands.{Command, IsAt, IsPacketAt, Leads, Post, Posts, Purge, Purges, Toss, Tosses, whole_of}
 use Rattle.law_stations.specs.Nets.{Net, Paired, Station, with_base, with_indexes, with_left, with_posting, with_tossed}
-use Rattle.law_stations.proofs.FileRuns.{IsPartly, TossedFiles, tossed-all, wholes}
-use Rattle.law_stations.proofs.OfToss.{whole-first}
-use Rattle.law_stations.proofs.Pairs.{change-map, paired-nth}
 use Rattle.law_stations.specs.Disks.{Disks, cursor_of}
-use Rattle.law_stations.proofs.Counting.{IsItem}
+use Rattle.law_stations.proofs.{FileRuns.IsPartly, FileRuns.TossedFiles, FileRuns.tossed-all, FileRuns.wholes, OfToss.whole-first, Pairs.change-map, Pairs.paired-nth, Counting.IsItem}
 use Rattle.law_stations.proofs.Tracking.{IsTossedAt, Tracks, still}
 
 -- the cursors of stations, one of them with another base and the same cursor

@@ -1,15 +1,10 @@
 -- The contents of one station without crashes are those of its disks over crashes.
 use Rattle.std.proofs.Common.{◌≡◌, inl, inr, refl, sym, subst, List, [], ◌∷◌}
 use Rattle.model_graph.specs.Walk.{Among}
-use Rattle.law_stations.specs.Nets.{Paired, first_net}
-use Rattle.law_stations.specs.AloneInOrder.{IsInOrderAlone, ShowsStill}
 use Rattle.law_stations.specs.LoneStations.{LoneCommand, LoneStation, PostAlone, PurgeAlone, ScanAlone, TossAny}
-use Rattle.law_stations.proofs.Stays.{alone-in-order, alone-stays}
-use Rattle.law_stations.proofs.EachCommand.{first-tracks, has-net}
-use Rattle.law_stations.specs.AloneOverCrashes.{AloneIsInOrderOverCrashes, AloneStaysOverCrashes}
+use Rattle.law_stations.specs.{Nets.Paired, Nets.first_net, AloneInOrder.IsInOrderAlone, AloneInOrder.ShowsStill, AloneOverCrashes.AloneIsInOrderOverCrashes, AloneOverCrashes.AloneStaysOverCrashes}
 use Rattle.law_stations.specs.LoneDisks.{lone_disks_at_first, on_net}
-use Rattle.law_stations.proofs.Grown.{all-grow}
-use Rattle.law_stations.proofs.Crashes.{IsLikeAlone, followed-all-alone}
+use Rattle.law_stations.proofs.{Stays.alone-in-order, Stays.alone-stays, EachCommand.first-tracks, EachCommand.has-net, Grown.all-grow, Crashes.IsLikeAlone, Crashes.followed-all-alone}
 
 like-purge : (command : LoneCommand) → IsLikeAlone command PurgeAlone → command ≡ PurgeAlone
 like-purge (PostAlone words body) like = cc

@@ -1,32 +1,21 @@
 -- The packet files of a scan are packets.
 use Rattle.std.proofs.Common.{◌≡◌, ◌≢◌, refl, subst, ℕ, arith, List, [], ◌∷◌, ◌++◌, length, map, drop}
-use Rattle.std.specs.Prelude.{filter}
-use Rattle.std.specs.List.{AllByRecursion, flat_map}
-use Rattle.std.proofs.Math.Seq.{take-append_seam}
-use Rattle.std.proofs.lemmas.List.{drop_at}
-use Rattle.std.proofs.lemmas.List.Elements.{All-from_recursion}
-use Rattle.echo_addr.specs.declared.address.Address.{Address}
-use Rattle.echo_addr.specs.Address.{IsAddress}
-use Rattle.echo_packet.specs.declared.header.Header.{Header}
-use Rattle.echo_packet.specs.Header.{AreBytes, IsHeader, header_bytes, word}
+use Rattle.std.proofs.{Math.Seq.take-append_seam, lemmas.List.drop_at, lemmas.List.Elements.All-from_recursion}
+use Rattle.std.specs.{Prelude.filter, List.AllByRecursion, List.flat_map}
+use Rattle.echo_addr.specs.{declared.address.Address.Address, Address.IsAddress}
 use Rattle.echo_packet.specs.Message.{DateTime, FromName, Message, Subject, Text, ToName, before, message_bytes, messages_bytes, zero_ended}
-use Rattle.echo_packet.specs.Packet.{packet_bytes}
+use Rattle.echo_packet.specs.{declared.header.Header.Header, Header.AreBytes, Header.IsHeader, Header.header_bytes, Header.word, Packet.packet_bytes}
 use Rattle.echo_packet.proofs.Headers.{AreBytes-drop, AreBytes-take, IsHeader-from_bytes}
 use Rattle.echo_links.specs.Links.{IsFile, LinkFile, links_of}
-use Rattle.echo_filed.specs.Filed.{Filed, IsFiled}
-use Rattle.echo_filed.specs.Sets.{address_before, address_set}
-use Rattle.echo_filed.proofs.Bytes.{text_no_zero}
-use Rattle.echo_filed.proofs.Plain.{all_append}
-use Rattle.echo_filed.proofs.Sets.{set_all}
+use Rattle.echo_filed.specs.{Filed.Filed, Filed.IsFiled, Sets.address_before, Sets.address_set}
+use Rattle.echo_filed.proofs.{Bytes.text_no_zero, Plain.all_append, Sets.set_all}
 use Rattle.base_file.specs.Base.{IsBase}
-use Rattle.model_steps.specs.declared.stamp.Stamp.{Stamp}
 use Rattle.model_steps.specs.Scanning.{copy_to, goes_to, header_to, packet_to, packets_of, recipients, scanned, targets}
+use Rattle.model_steps.specs.{declared.stamp.Stamp.Stamp, PacketFiles.PacketFile}
 use Rattle.model_steps.proofs.Copies.{exported_is_echo, links_are_addresses, all_filter as all-filter, all_later as all-drop}
 use Rattle.model_steps.proofs.Encoding.{IsWhole, written_packet, header_size as header-long}
-use Rattle.model_steps.specs.PacketFiles.{PacketFile}
-use Rattle.cmd_report.specs.Scanned.{file_sent}
-use Rattle.law_stations.specs.Agreement.{IsPacketFile}
-use Rattle.law_stations.specs.Nets.{Paired, bytes_of}
+use Rattle.cmd_store.specs.PacketLines.{file_sent}
+use Rattle.law_stations.specs.{Agreement.IsPacketFile, Nets.Paired, Nets.bytes_of}
 
 -- parts of byte strings are byte strings
 bytes-front : (xs ys : List ℕ) → AreBytes (xs ++ ys) → AreBytes xs

@@ -1,21 +1,14 @@
 -- Bytes read as one packet. A toss of them tosses messages at their beginning.
 use Rattle.std.proofs.Common.{◌≡◌, ◌⊎◌, inl, inr, sym, ◌∙◌, ℕ, ◌+◌, ◌≤◌, arith, append-nil, append_assoc, List, [], ◌∷◌, ◌++◌, length, take, Option, Some, None, Result, Ok, Err}
 use Rattle.std.specs.List.{AllByRecursion}
-use Rattle.echo_packet.specs.declared.header.Header.{Header}
-use Rattle.echo_packet.specs.declared.limits.Limits.{Limits}
+use Rattle.echo_packet.specs.{declared.header.Header.Header, declared.limits.Limits.Limits, Header.header_bytes, Header.word}
+use Rattle.echo_packet.specs.{Message.AreMessages, Message.IsMessage, Message.Message, Message.messages_bytes, Packet.PacketOf}
 use Rattle.echo_packet.specs.declared.fault.PacketFault.TheVariants as fault
-use Rattle.echo_packet.specs.Header.{header_bytes, word}
-use Rattle.echo_packet.specs.Message.{AreMessages, IsMessage, Message, messages_bytes}
-use Rattle.echo_packet.specs.Packet.{PacketOf}
-use Rattle.model_steps.specs.SystemState.{SystemState}
-use Rattle.model_steps.specs.Tossing.{sender_of, tossed}
-use Rattle.echo_toss.specs.declared.fault.TossCause.{TossCause}
-use Rattle.echo_toss.specs.declared.fault.TossCause.TheVariants as stop
-use Rattle.echo_toss.specs.declared.fault.TossFault.{TossFault}
-use Rattle.echo_toss.specs.declared.tally.Tally.{Tally}
+use Rattle.model_steps.specs.{SystemState.SystemState, Tossing.sender_of, Tossing.tossed}
 use Rattle.echo_toss.specs.PacketSteps.{BeginsWith, IsForUs, PacketStep, TossesAll, TossesPart, TossesSome}
-use Rattle.echo_toss.proofs.Parsed.{first_messages, one_header, one_list}
-use Rattle.echo_toss.proofs.WholePackets.{where_failed as where-failed}
+use Rattle.echo_toss.specs.declared.{fault.TossCause.TossCause, fault.TossFault.TossFault, tally.Tally.Tally}
+use Rattle.echo_toss.specs.declared.fault.TossCause.TheVariants as stop
+use Rattle.echo_toss.proofs.{Parsed.first_messages, Parsed.one_header, Parsed.one_list, WholePackets.where_failed as where-failed}
 
 -- limits that both meet
 abbrev both : Limits → Limits → Limits

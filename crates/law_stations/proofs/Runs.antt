@@ -1,34 +1,20 @@
 -- Each command that was run on a station does what its command event may do.
 use Rattle.std.proofs.Common.{◌≡◌, inl, inr, ◌∙◌, sym, subst, arith, ℕ, Bool, List, length, take, Option, Result, Ok, slice_get}
-use Rattle.std.specs.Prelude.{OnOk}
 use Rattle.std.proofs.lemmas.List.{take_all}
+use Rattle.std.specs.Prelude.{OnOk}
 use Rattle.base_file.specs.Base.{Base}
-use Rattle.cmd_report.specs.declared.posting.NewMessage.{NewMessage}
-use Rattle.cmd_report.specs.declared.replying.Answer.{Answer}
-use Rattle.cmd_report.specs.Coming.{Coming}
 use Rattle.disk_io.specs.Disk.{DiskState}
-use Rattle.echo_links.specs.Links.{LinkFile}
-use Rattle.echo_links.specs.LinkLines.{LinksOf}
-use Rattle.cmd_store.specs.declared.letter.Letter.{Letter}
-use Rattle.cmd_store.specs.declared.mailed.MailWords.{MailWords}
-use Rattle.cmd_store.specs.MailPosted.{Mails, MailsOn}
+use Rattle.echo_links.specs.{Links.LinkFile, LinkLines.LinksOf}
+use Rattle.cmd_store.specs.{declared.drafting.NewMessage.NewMessage, declared.answering.Answer.Answer, Coming.Coming, declared.letter.Letter.Letter, declared.mailed.MailWords.MailWords}
+use Rattle.cmd_store.specs.{MailPosted.Mails, MailPosted.MailsOn, declared.command_error.CommandError.CommandError, FreeSerial.PostsAs, FreeSerial.PostsAsOn, Purged.HoldsOrPurges, Purged.Purges}
+use Rattle.cmd_store.specs.{Purged.PurgesOn, Replied.Replies, Replied.RepliesOn, Tossed.Tosses, Tossed.TossesIn, Tossed.TossesTo}
 use Rattle.echo_packet.specs.declared.limits.Limits.{Limits}
-use Rattle.cmd_status.specs.declared.fault.Fault.{Fault}
-use Rattle.cmd_status.specs.Devices.{Device, Output}
-use Rattle.cmd_store.specs.declared.command_error.CommandError.{CommandError}
-use Rattle.cmd_store.specs.FreeSerial.{PostsAs, PostsAsOn}
-use Rattle.cmd_store.specs.Purged.{HoldsOrPurges, Purges, PurgesOn}
-use Rattle.cmd_store.specs.Replied.{Replies, RepliesOn}
-use Rattle.cmd_store.specs.Tossed.{Tosses, TossesIn, TossesTo}
+use Rattle.cmd_status.specs.{declared.fault.Fault.Fault, Devices.Device, Devices.Output}
 use Rattle.echo_toss.specs.PacketsIn.{state_in}
-use Rattle.station.specs.Place.{KeepsElsewhere, Place}
-use Rattle.station.specs.Running.{IsKept, RunsIn}
-use Rattle.law_stations.specs.Commands.{IsPacketAt, TossesAll, whole_of}
-use Rattle.law_stations.specs.Kinds.{IsPurge, IsToss}
-use Rattle.law_stations.specs.Nets.{Paired, with_indexes}
-use Rattle.law_stations.specs.Disks.{Disks}
-use Rattle.law_stations.specs.DiskKinds.{IsMail, IsPostAs, IsReplyAs}
+use Rattle.station.specs.{Place.KeepsElsewhere, Place.Place, Running.IsKept, Running.RunsIn}
 use Rattle.law_stations.specs.OnDisks.{AsMay, IsAfterToss, IsStationAt, ReadsLinks, StaysWhereMet, TossesAsEvent, TossesAsMay}
+use Rattle.law_stations.specs.{Commands.IsPacketAt, Commands.TossesAll, Commands.whole_of, Kinds.IsPurge, Kinds.IsToss, Nets.Paired, Nets.with_indexes, Disks.Disks}
+use Rattle.law_stations.specs.DiskKinds.{IsMail, IsPostAs, IsReplyAs}
 use Rattle.law_stations.proofs.Events.{holding-or-purging, mailing, posting-as, purging, replying, tossing}
 use Rattle.law_stations.proofs.Leading.{does, is-after, says-so, stays}
 

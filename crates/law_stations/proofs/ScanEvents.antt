@@ -1,47 +1,27 @@
 -- A scan on a station as a command event.
 use Rattle.std.proofs.Common.{◌≡◌, ◌⊎◌, inl, inr, ⊎_elim, ◌∙◌, ◌<◌, refl, sym, subst, ap, ℕ, zero, suc, append-nil, arith, List, [], ◌∷◌, ◌++◌, length, map, Some, Result, Ok, Err}
-use Rattle.std.specs.Prelude.{All, IfErr, OnOk}
-use Rattle.std.specs.List.{AllByRecursion}
 use Rattle.std.proofs.lemmas.List.Elements.{All-contains, recursion_from_All}
+use Rattle.std.specs.{Prelude.All, Prelude.IfErr, Prelude.OnOk, List.AllByRecursion}
 use Rattle.base_file.specs.Base.{Base}
-use Rattle.disk_io.specs.Disk.{DiskState, Files}
-use Rattle.disk_io.specs.Runs.{LeavesOnly}
-use Rattle.echo_links.specs.Links.{LinkFile}
-use Rattle.echo_links.specs.LinkLines.{LinksOf}
-use Rattle.disk_atomic.specs.Finishing.{IsOfLeft}
-use Rattle.disk_atomic.specs.declared.finishing.Left.{Left}
+use Rattle.disk_io.specs.{Disk.DiskState, Disk.Files, Runs.LeavesOnly}
+use Rattle.echo_links.specs.{Links.LinkFile, LinkLines.LinksOf}
+use Rattle.disk_atomic.specs.{Finishing.IsOfLeft, declared.finishing.Left.Left, StagingPaths.dotted, StagingPaths.staging_path}
 use Rattle.model_run.specs.Run.{nth}
-use Rattle.disk_atomic.specs.StagingPaths.{dotted, staging_path}
-use Rattle.cmd_status.specs.declared.fault.Fault.{Fault}
-use Rattle.cmd_status.specs.Devices.{Output}
-use Rattle.model_steps.specs.PacketFiles.{PacketFile}
-use Rattle.model_steps.specs.declared.stamp.Stamp.{Stamp}
+use Rattle.cmd_status.specs.{declared.fault.Fault.Fault, Devices.Output}
+use Rattle.model_steps.specs.{PacketFiles.PacketFile, declared.stamp.Stamp.Stamp}
 use Rattle.base_store.specs.Store.{all_scanned}
-use Rattle.cmd_store.specs.Scanned.{ScansOn}
-use Rattle.cmd_store.specs.declared.command_error.CommandError.{CommandError}
-use Rattle.cmd_store.specs.declared.command_error.CommandError.TheVariants.{Met}
+use Rattle.cmd_store.specs.{Scanned.ScansOn, declared.command_error.CommandError.CommandError, declared.command_error.CommandError.TheVariants.Met}
 use Rattle.echo_toss.specs.PacketsIn.{state_in}
-use Rattle.station.specs.Place.{KeepsElsewhere, Place, RepresentsOrWasLeft}
-use Rattle.station.specs.Running.{IsNotRun, IsStopped}
-use Rattle.station_scan.specs.Left.{IsLeftOf}
-use Rattle.station_scan.specs.Publishing.{UnchangedExcept}
+use Rattle.station.specs.{Place.KeepsElsewhere, Place.Place, Place.RepresentsOrWasLeft, Running.IsNotRun, Running.IsStopped}
 use Rattle.station_scan.specs.Scanning.{AreSentOut, IsOnItsWay, IsPreparing, IsPutAs, IsPutIn, IsTaken, IsTouched, MayLeave, ScansIn, StopsScanIn, ReportsStop, packets_in}
-use Rattle.station_scan.specs.Sending.{HasBytes, IsStagingOfPacket, IsOfPacket, IsWhole}
-use Rattle.station_scan.specs.Sends.{IsOfThese}
-use Rattle.station_scan.specs.Stops.{IsOfPlacing, as_scan, most}
-use Rattle.station_scan.specs.declared.scan_error.ScanError.{ScanError}
+use Rattle.station_scan.specs.{Left.IsLeftOf, Publishing.UnchangedExcept, Sending.HasBytes, Sending.IsStagingOfPacket, Sending.IsOfPacket, Sending.IsWhole, Sends.IsOfThese}
+use Rattle.station_scan.specs.{Stops.IsOfPlacing, Stops.as_scan, Stops.most, declared.scan_error.ScanError.ScanError}
 use Rattle.station_scan.specs.declared.scan_error.ScanError.TheVariants.{Command, Staying}
-use Rattle.law_stations.specs.Nets.{Station, bytes_of, with_base, with_left}
-use Rattle.law_stations.specs.Disks.{Disks, HasCursor, cursor_of}
-use Rattle.law_stations.specs.Stopping.{EndsSome, HasNoneStaged, Moves, staging_of}
-use Rattle.law_stations.proofs.Elsewhere.{some-stations}
-use Rattle.law_stations.proofs.Moving.{some-waits}
-use Rattle.law_stations.proofs.Parted.{Parted, all-named, parted}
-use Rattle.law_stations.proofs.Whole.{disks_with, with_packets}
-use Rattle.law_stations.specs.OnDisks.{IsLinkedOn, IsStationAt, ReadsLinks, ShowsStation}
 use Rattle.law_stations.specs.Scans.{AreAfterScan, IsAfterScan, IsAtPath, IsStagingPath, ScansAsEvent, ScansAsMay, with_packets_in}
-use Rattle.model_run.proofs.HarmLists.{nth-changed as changed-there}
-use Rattle.model_run.proofs.Targets.{some_same, none_some}
+use Rattle.law_stations.specs.{Nets.Station, Nets.bytes_of, Nets.with_base, Nets.with_left, Disks.Disks, Disks.HasCursor, Disks.cursor_of}
+use Rattle.law_stations.specs.{Stopping.EndsSome, Stopping.HasNoneStaged, Stopping.Moves, Stopping.staging_of, OnDisks.IsLinkedOn, OnDisks.IsStationAt, OnDisks.ReadsLinks, OnDisks.ShowsStation}
+use Rattle.law_stations.proofs.{Elsewhere.some-stations, Moving.some-waits, Parted.Parted, Parted.all-named, Parted.parted, Whole.disks_with, Whole.with_packets}
+use Rattle.model_run.proofs.{HarmLists.nth-changed as changed-there, Targets.some_same, Targets.none_some}
 
 -- the files of earlier scans have no path outside the paths that a scan touches
 left-away : (is_true : Type 0) (Own : List ℕ → Type 0) (outbound own : List ℕ) (found : List Left) → All (IsLeftOf is_true Own outbound own) found → (m : List ℕ) → (IsTouched Own outbound m → ⊥) → IsOfLeft found m → ⊥

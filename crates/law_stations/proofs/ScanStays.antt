@@ -3,22 +3,13 @@ use Rattle.std.proofs.Common.{◌≡◌, ◌<◌, ◌⊎◌, ◌∙◌, subst, �
 use Rattle.std.specs.Prelude.{IfErr}
 use Rattle.disk_io.specs.Disk.{DiskState, Files}
 use Rattle.echo_links.specs.Links.{LinkFile}
-use Rattle.cmd_status.specs.declared.fault.Fault.{Fault}
-use Rattle.cmd_status.specs.Devices.{Output}
-use Rattle.model_steps.specs.PacketFiles.{PacketFile}
-use Rattle.model_steps.specs.declared.stamp.Stamp.{Stamp}
-use Rattle.cmd_store.specs.declared.command_error.CommandError.{CommandError}
-use Rattle.cmd_store.specs.declared.command_error.CommandError.TheVariants.{Met}
-use Rattle.station.specs.Place.{Place}
-use Rattle.station.specs.Running.{IsNotRun, IsStopped}
-use Rattle.station_scan.specs.Publishing.{UnchangedExcept}
-use Rattle.station_scan.specs.Scanning.{IsPutAs, IsTaken, IsTouched, ScansIn}
-use Rattle.station_scan.specs.Stops.{IsOfPlacing, as_scan, most}
-use Rattle.station_scan.specs.declared.scan_error.ScanError.{ScanError}
-use Rattle.station_scan.specs.declared.scan_error.ScanError.TheVariants.{Command}
-use Rattle.law_stations.specs.Disks.{Disks}
-use Rattle.law_stations.specs.OnDisks.{IsAsBefore, IsLinkedOn, IsStationAt, ShowsStation}
-use Rattle.law_stations.specs.Scans.{StaysWhereScanMet}
+use Rattle.cmd_status.specs.{declared.fault.Fault.Fault, Devices.Output}
+use Rattle.model_steps.specs.{PacketFiles.PacketFile, declared.stamp.Stamp.Stamp}
+use Rattle.cmd_store.specs.declared.command_error.CommandError.{CommandError, TheVariants.Met}
+use Rattle.station.specs.{Place.Place, Running.IsNotRun, Running.IsStopped}
+use Rattle.station_scan.specs.{Publishing.UnchangedExcept, Scanning.IsPutAs, Scanning.IsTaken, Scanning.IsTouched, Scanning.ScansIn, Stops.IsOfPlacing, Stops.as_scan, Stops.most}
+use Rattle.station_scan.specs.declared.scan_error.ScanError.{ScanError, TheVariants.Command}
+use Rattle.law_stations.specs.{Disks.Disks, OnDisks.IsAsBefore, OnDisks.IsLinkedOn, OnDisks.IsStationAt, OnDisks.ShowsStation, Scans.StaysWhereScanMet}
 
 module _ (place : Place) (outbound links : List ℕ) (i : ℕ) (d : Disks) (old new : DiskState) (at : IsStationAt place links i old d) (kept : UnchangedExcept (IsTouched place.is_own outbound) old new)
     (away : IsTouched place.is_own outbound links → ⊥) where

@@ -4,16 +4,9 @@ use Rattle.base_file.specs.Base.{Base}
 use Rattle.disk_io.specs.Disk.{DiskState, Files}
 use Rattle.model_steps.specs.declared.stamp.Stamp.{Stamp}
 use Rattle.station.specs.Place.{Place}
-use Rattle.station_scan.specs.Scanning.{IsTouched}
-use Rattle.station_scan.specs.declared.scan_error.ScanError.{ScanError}
-use Rattle.law_stations.specs.Commands.{Scan}
-use Rattle.law_stations.specs.Disks.{Disks}
-use Rattle.law_stations.specs.OnDisks.{LeavesElsewhere, ShowsStation}
-use Rattle.law_stations.specs.Scans.{AreAfterScan, ScansAsEvent, with_packets_in}
-use Rattle.law_stations.specs.Asked.{GoesOnCut}
-use Rattle.law_stations.specs.Scanned.{IsScan, ScanGoesOn, ScansGoOn, TossesGoOn}
-use Rattle.law_stations.specs.Seats.{Seat, reach}
-use Rattle.law_stations.specs.Steps.{IsAllOnDisk}
+use Rattle.station_scan.specs.{Scanning.IsTouched, declared.scan_error.ScanError.ScanError}
+use Rattle.law_stations.specs.{Commands.Scan, Disks.Disks, OnDisks.LeavesElsewhere, OnDisks.ShowsStation, Scans.AreAfterScan, Scans.ScansAsEvent, Scans.with_packets_in, Asked.GoesOnCut}
+use Rattle.law_stations.specs.{Scanned.IsScan, Scanned.ScanGoesOn, Scanned.ScansGoOn, Scanned.TossesGoOn, Seats.Seat, Seats.reach, Steps.IsAllOnDisk}
 use Rattle.law_stations.proofs.GoingOn.{reaches-by}
 
 -- a path that a scan touches belongs to the base or the folder of packets

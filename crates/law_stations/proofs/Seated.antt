@@ -4,17 +4,12 @@ use Rattle.std.proofs.lemmas.Bool.{cases_eq}
 use Rattle.disk_io.specs.Disk.{DiskState, Files}
 use Rattle.model_run.specs.Run.{change, nth}
 use Rattle.station.specs.Place.{Place}
-use Rattle.law_stations.specs.Commands.{Command, CommandEvent, Purge}
-use Rattle.law_stations.specs.Disks.{Disks}
-use Rattle.law_stations.specs.Stopping.{MayHappen}
-use Rattle.law_stations.proofs.Elsewhere.{change-other, elsewhere}
-use Rattle.law_stations.specs.Neighbours.{RepresentsOnDisk, StaysOnDisk}
-use Rattle.law_stations.specs.OnDisks.{LeavesElsewhere, ShowsStation}
-use Rattle.law_stations.proofs.Neighbours.{others-stay}
 use Rattle.law_stations.specs.Seats.{AreNeighbours, AreSeated, IsShared, Seat, RepresentsSeat, reach}
 use Rattle.law_stations.specs.Steps.{HasCrashed, HasEnded, IsAllOnDisk, IsOn, MayLead, WasCut}
-use Rattle.model_run.proofs.HarmLists.{nth-changed as changed-there}
-use Rattle.model_run.proofs.Targets.{some_same}
+use Rattle.law_stations.specs.{Commands.Command, Commands.CommandEvent, Commands.Purge, Disks.Disks, Stopping.MayHappen, Neighbours.RepresentsOnDisk, Neighbours.StaysOnDisk}
+use Rattle.law_stations.specs.OnDisks.{LeavesElsewhere, ShowsStation}
+use Rattle.law_stations.proofs.{Elsewhere.change-other, Elsewhere.elsewhere, Neighbours.others-stay}
+use Rattle.model_run.proofs.{HarmLists.nth-changed as changed-there, Targets.some_same}
 
 -- files show the station if the net has the same station
 abbrev shows-too : (place : Place) (links : List ℕ) (i : ℕ) (c : Files) (d next : Disks) → nth i next.net.stations ≡ nth i d.net.stations → ShowsStation place links i c d

@@ -2,16 +2,10 @@
 use Rattle.std.proofs.Common.{inr, sym, subst, ℕ, List, [], ◌∷◌, Option, Some, None}
 use Rattle.disk_io.specs.Disk.{DiskState}
 use Rattle.station.specs.Place.{Place}
-use Rattle.law_stations.specs.AnyDisks.{disks_at}
-use Rattle.law_stations.proofs.AnyDisks.{headline-from-any-disks}
-use Rattle.law_stations.specs.Commands.{Command, CommandEvent}
-use Rattle.law_stations.specs.Disks.{Disks, first_disks}
-use Rattle.law_stations.specs.Stopping.{MayHappenAll}
-use Rattle.law_stations.proofs.Shown.{headline-over-crashes}
-use Rattle.law_stations.specs.Seats.{AreNeighbours, AreSeated, Seat}
-use Rattle.law_stations.specs.Sequences.{HeadlineOverSequences, SequencesAreAmong, HeadlineFromAnySequences}
 use Rattle.law_stations.specs.Steps.{Crashes, Ends, Goes, GoesBy, GoesOn, Happening, IsCut, MayLead, Step, after, after_all, commands_by, commands_of, with_command}
-use Rattle.law_stations.proofs.Seated.{crashed, cut, ended}
+use Rattle.law_stations.specs.{AnyDisks.disks_at, Commands.Command, Commands.CommandEvent, Disks.Disks, Stopping.MayHappenAll, Seats.AreNeighbours, Seats.AreSeated, Seats.Seat}
+use Rattle.law_stations.specs.Sequences.{HeadlineFromAnySequences, SequencesAreAmong}
+use Rattle.law_stations.proofs.{AnyDisks.headline-from-any-disks, Seated.crashed, Seated.cut, Seated.ended}
 
 module _ {D Kept : Type 0} (state : D → DiskState) (place : Kept → Place) (seats : List (Seat Kept)) (near : AreNeighbours place seats) where
   -- one step
@@ -45,11 +39,6 @@ module _ {D Kept : Type 0} (state : D → DiskState) (place : Kept → Place) (s
 
 pub sequences-are-among : {D Kept : Type 0} (state : D → DiskState) (place : Kept → Place) → SequencesAreAmong state place
 sequences-are-among state place seats near steps disks d last seated goes = gone state place seats near steps disks d last seated goes
-
-pub headline-over-sequences : {D Kept : Type 0} (state : D → DiskState) (place : Kept → Place) → HeadlineOverSequences state place
-headline-over-sequences state place nodelist more tag links stopped old new good seats near steps disks last seated goes =
-    let (happen, then) = sequences-are-among state place seats near steps disks (first_disks links) last seated goes in
-    record { order = headline-over-crashes nodelist more tag links stopped old new good (commands_of steps) last happen; seated = then }
 
 pub headline-from-any-sequences : {D Kept : Type 0} (state : D → DiskState) (place : Kept → Place) → HeadlineFromAnySequences state place
 headline-from-any-sequences state place nodelist more tag stations packets staging stopped old new good some key area is_new seats near steps disks last seated goes =

@@ -3,26 +3,17 @@ use Rattle.std.proofs.Common.{◌≡◌, inl, inr, refl, sym, subst, ap, ◌∙�
 use Rattle.std.specs.Prelude.{if◌then◌else◌}
 use Rattle.echo_addr.specs.declared.address.Address.{Address}
 use Rattle.model_graph.specs.Walk.{Among, Different}
-use Rattle.echo_links.specs.Links.{LinkFile, same_address, upper}
-use Rattle.echo_filed.specs.declared.key.Key.{Key}
-use Rattle.echo_filed.specs.Filed.{Filed, key_of}
+use Rattle.echo_links.specs.Links.{LinkFile, same_address}
+use Rattle.echo_filed.specs.{declared.key.Key.Key, Filed.Filed}
 use Rattle.model_steps.specs.declared.packet.Packet.{Packet}
-use Rattle.model_run.specs.Orderly.{copies, count, sent_count}
-use Rattle.model_run.specs.Run.{destination, nth}
-use Rattle.model_run.proofs.Lists.{nth-among}
+use Rattle.model_run.specs.{Orderly.copies, Orderly.count, Orderly.sent_count, Run.destination, Run.nth}
+use Rattle.model_run.proofs.{Lists.nth-among, HarmLists.nth-map}
 use Rattle.law_stations.specs.Commands.{Command, CommandEvent, Post, Purge, Scan, Toss}
-use Rattle.law_stations.specs.InOrder.{HasUnchanged, InOrder, IsSettled, IsSound, IsUnchanged, ReadsAs, StationHolds, WasPurged}
-use Rattle.law_stations.specs.Nets.{Net, Paired, Station}
-use Rattle.law_stations.proofs.Headline.{headline-on-nets}
-use Rattle.law_stations.proofs.Pairs.{paired-among, paired-back, paired-nth}
-use Rattle.law_stations.proofs.Readings.{one-packet}
-use Rattle.law_stations.proofs.Sound.{nets-are-sound}
-use Rattle.law_stations.specs.Disks.{Disks}
-use Rattle.law_stations.specs.OverCrashes.{HasNet, HasSettled, HeadlineOverCrashes, InOrderOverCrashes, IsLike, IsLikeEvent, SoundOverCrashes}
-use Rattle.law_stations.proofs.Counting.{IsItem, picked-total, total}
-use Rattle.law_stations.proofs.EachCommand.{crashes-are-none}
-use Rattle.model_run.proofs.HarmLists.{nth-map, among-nth}
-use Rattle.model_run.proofs.Targets.{some_same}
+use Rattle.law_stations.specs.InOrder.{IsSound, IsUnchanged, ReadsAs, StationHolds, WasPurged}
+use Rattle.law_stations.specs.OverCrashes.{HasNet, IsLike, IsLikeEvent, SoundOverCrashes}
+use Rattle.law_stations.specs.{Nets.Net, Nets.Paired, Nets.Station, Disks.Disks}
+use Rattle.law_stations.proofs.{Pairs.paired-among, Pairs.paired-nth, Readings.one-packet, Sound.nets-are-sound}
+use Rattle.law_stations.proofs.{Counting.IsItem, Counting.picked-total, Counting.total, EachCommand.crashes-are-none}
 
 -- a command like a purge is a purge
 like-purge : (command : Command) → IsLike command Purge → command ≡ Purge
@@ -60,14 +51,6 @@ reads-once : (bytes : List ℕ) (p q : Packet) → ReadsAs bytes p → ReadsAs b
 reads-once bytes p q (a, is) (b, other) =
     let one = one-packet a b p.header q.header p.messages q.messages bytes bytes [] is other (sym (append-nil bytes)) in
     λ i. record { header = one.0 i; messages = one.1 i }
-
--- files that are packets read as some packets
-all-packets : (files : List (List ℕ)) → ((bytes : List ℕ) → Among bytes files → (p : Packet) × ReadsAs bytes p) → (ps : List Packet) × Paired ReadsAs files ps
-all-packets [] are = ([], tt)
-all-packets (bytes ∷ files) are =
-    let (p, is) = are bytes (inl refl) in
-    let (ps, rest) = all-packets files (λ b h. are b (inr h)) in
-    (p ∷ ps, (is, rest))
 
 -- the number of a packet's messages for an address
 abbrev weight : Address → Key → Packet → ℕ
@@ -124,57 +107,7 @@ module _ (commands plain : List CommandEvent) (d : Disks) (net : Net) (like : Pa
         (posting, subst P (sym has.postings) there, tag, unchanged-too commands plain i messages cursor m posting like unchanged);
   }
 
-  module _ (tag : List ℕ) (order : InOrder plain net tag) where
-    -- if the disks have settled, the net has settled
-    settled : HasSettled d tag → IsSettled net tag
-    settled is = record {
-      scanned = λ i file messages cursor holds m waits.
-          is.named.scanned i file messages cursor (holds-too net d.net i file messages cursor (sym has.stations) holds) m waits;
-      tossed = λ k bytes p at reads m in_it tagged. elim (has.all k bytes at) [
-        | inl placed ↦ (
-            let (j, place) = among-nth k has.places placed in
-            let (named, there, same) = paired-back (IsItem net.packets) j k d.net.packets has.places has.named place in
-            let one : named ≡ bytes = some_same (sym same ∙ at) in
-            let P : List ℕ → Type 0 = λ b. ReadsAs b p in
-            has.tossed j k place (is.named.tossed j named p there (subst P (sym one) reads) m in_it tagged))
-        | inr waits ↦ (
-            let (file, represented, same) = waits in
-            let P : List ℕ → Type 0 = λ b. ReadsAs b p in
-            absurd (is.staging file p represented (subst P (sym same) reads) m in_it tagged))
-      ];
-    }
-
-    unchanged : (i : ℕ) (messages : List Filed) (cursor : ℕ) (posting : Filed) → HasUnchanged plain i messages cursor posting → HasUnchanged commands i messages cursor posting
-    unchanged i messages cursor posting is = record {
-      once = is.once;
-      same = λ m h e. unchanged-too commands plain i messages cursor m posting like (is.same m h e);
-    }
-
-    pub in-order : InOrderOverCrashes commands d tag
-    in-order = record {
-      sound = sound-too order.sound;
-      sent_once = λ qs read i file messages cursor holds has_it key of_area.
-          let (ps, all) = all-packets net.packets order.sound.packets in
-          let once = order.sent_once ps all i file messages cursor (held i file messages cursor holds) has_it key of_area in
-          let less = sent-less file.system key net.packets d.net.packets has.places ps qs has.named has.once all read in
-          omega (arith, once, less);
-      never_own = λ qs read i file messages cursor holds has_it m in_it own.
-          let (ps, all) = all-packets net.packets order.sound.packets in
-          let none = order.never_own ps all i file messages cursor (held i file messages cursor holds) has_it m in_it own in
-          let less = sent-less file.system (key_of m) net.packets d.net.packets has.places ps qs has.named has.once all read in
-          omega (arith, none, less);
-      all_came = λ is posting among of_area i file messages cursor holds has_it.
-          let P : List Filed → Type 0 = λ ms. Among posting ms in
-          unchanged i messages cursor posting (order.all_came (settled is) posting (subst P has.postings among) of_area i file messages cursor
-          (held i file messages cursor holds) has_it);
-    }
-
 pub sound-over-crashes : SoundOverCrashes
 sound-over-crashes links files are apart commands d happen =
     let (plain, net, like, plainly, has) = crashes-are-none links commands d happen in
     sound-too commands plain d net like has (nets-are-sound links files are apart plain net plainly)
-
-pub headline-over-crashes : HeadlineOverCrashes
-headline-over-crashes nodelist more tag links stopped old new good commands d happen =
-    let (plain, net, like, plainly, has) = crashes-are-none links commands d happen in
-    in-order commands plain d net like has (upper tag) (headline-on-nets nodelist more tag links stopped old new good plain net plainly)

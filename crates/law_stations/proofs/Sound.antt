@@ -3,27 +3,14 @@ use Rattle.std.proofs.Common.{◌≡◌, inl, inr, refl, sym, subst, ap, ◌∙�
 use Rattle.model_graph.specs.Walk.{Among}
 use Rattle.echo_links.specs.Links.{IsFile, LinkFile}
 use Rattle.echo_filed.specs.Filed.{Filed, key_of}
-use Rattle.model_steps.specs.declared.packet.Packet.{Packet}
-use Rattle.model_steps.specs.SystemState.{SystemState}
-use Rattle.model_run.specs.Fits.{FilesFit}
-use Rattle.model_run.specs.Orderly.{SameContent, count, tag_of}
+use Rattle.model_steps.specs.{declared.packet.Packet.Packet, SystemState.SystemState}
 use Rattle.model_run.specs.Run.{Run, System, after_events, fresh, nth, start}
-use Rattle.model_run.specs.Keeping.{Content}
-use Rattle.model_run.proofs.Areas.{key-tag}
-use Rattle.model_run.proofs.EachSystem.{run-kept}
-use Rattle.model_run.proofs.Lists.{nth-among, Among-map_from}
-use Rattle.model_run.proofs.Origins.{run-traced}
-use Rattle.model_run.proofs.WholeRuns.{run-ok}
-use Rattle.model_run.proofs.TosserLaws.{the_laws}
-use Rattle.model_run.proofs.Bases.{filed-once}
+use Rattle.model_run.specs.{Fits.FilesFit, Orderly.SameContent, Orderly.count, Orderly.tag_of, Keeping.Content}
+use Rattle.model_run.proofs.{Areas.key-tag, EachSystem.run-kept, Lists.nth-among, Lists.Among-map_from, Origins.run-traced, WholeRuns.run-ok, TosserLaws.the_laws, Bases.filed-once}
 use Rattle.cmd_status.specs.Inputs.{AreLinkFiles}
-use Rattle.law_stations.specs.Agreement.{Agrees, HasSystem, IsPacketFile, limits_of}
-use Rattle.law_stations.specs.Commands.{CommandEvent}
 use Rattle.law_stations.specs.InOrder.{IsSound, IsUnchanged, NetsAreSound, ReadsAs, StationHolds}
-use Rattle.law_stations.specs.Nets.{Net}
-use Rattle.law_stations.proofs.EachEvent.{LedAll, led-from-first}
-use Rattle.law_stations.proofs.Pairs.{paired-among, paired-nth}
-use Rattle.law_stations.proofs.Systems.{file-fits, said-once, says-so}
+use Rattle.law_stations.specs.{Agreement.Agrees, Agreement.HasSystem, Agreement.IsPacketFile, Agreement.limits_of, Commands.CommandEvent, Nets.Net}
+use Rattle.law_stations.proofs.{EachEvent.LedAll, EachEvent.led-from-first, Pairs.paired-among, Pairs.paired-nth, Systems.file-fits, Systems.said-once, Systems.says-so}
 use Rattle.law_stations.proofs.Unpurged.{AsFiledAt, IsAsFiled, kept-where}
 
 -- a packet file reads as the packet of the run

@@ -5,24 +5,14 @@ use Rattle.model_graph.specs.Walk.{Among}
 use Rattle.model_graph.proofs.Members.{Among-append_cases, Among-append_left, Among-append_right}
 use Rattle.echo_packet.specs.Packet.{packet_bytes}
 use Rattle.echo_links.specs.Links.{IsFile, LinkFile}
-use Rattle.echo_filed.specs.Filed.{Filed}
-use Rattle.echo_filed.specs.Stubs.{stub_of}
-use Rattle.model_steps.specs.declared.packet.Packet.{Packet}
-use Rattle.model_steps.specs.Purging.{purged}
-use Rattle.model_run.specs.Run.{nth}
-use Rattle.model_run.proofs.Lists.{nth-append}
-use Rattle.law_stations.specs.Agreement.{IsPacketFile}
-use Rattle.law_stations.specs.Nets.{Paired}
-use Rattle.law_stations.proofs.Systems.{file-fits}
-use Rattle.model_run.specs.Lone.{LoneEvent, LoneSystem, lone_run}
+use Rattle.echo_filed.specs.{Filed.Filed, Stubs.stub_of}
+use Rattle.model_steps.specs.{declared.packet.Packet.Packet, Purging.purged}
+use Rattle.model_run.specs.{Run.nth, Lone.LoneEvent, Lone.LoneSystem, Lone.lone_run}
 use Rattle.model_run.proofs.Filings.{purged-cons, purged-empty, purged-none, run-left, events-purged, run-append, run-lasts}
-use Rattle.law_stations.specs.AloneInOrder.{AloneIsInOrder, AloneStays, ShowsStill}
+use Rattle.model_run.proofs.{Lists.nth-append, Targets.some_same, Targets.none_some}
+use Rattle.law_stations.specs.{Agreement.IsPacketFile, Nets.Paired, AloneInOrder.AloneIsInOrder, AloneInOrder.AloneStays, AloneInOrder.ShowsStill}
 use Rattle.law_stations.specs.LoneStations.{LoneCommand, LoneStation, PurgeAlone}
-use Rattle.law_stations.proofs.Purgings.{purge-among}
-use Rattle.law_stations.proofs.Alone.{IsLone}
-use Rattle.law_stations.proofs.LoneShown.{in-order, stood}
-use Rattle.law_stations.proofs.Steps.{AreOfCommands, commands-lone, run-lone}
-use Rattle.model_run.proofs.Targets.{some_same, none_some}
+use Rattle.law_stations.proofs.{Systems.file-fits, Purgings.purge-among, Alone.IsLone, LoneShown.in-order, LoneShown.stood, Steps.AreOfCommands, Steps.commands-lone, Steps.run-lone}
 
 -- the stub at an index
 abbrev IsLeftAt : ℕ → ℕ → Filed → Filed → Type 0

@@ -1,31 +1,21 @@
 -- A command on one station is some events of the system by itself.
 use Rattle.std.proofs.Common.{◌≡◌, inl, inr, refl, sym, subst, ap, ℕ, true, List, [], ◌∷◌, ◌++◌, length, Ok}
-use Rattle.std.specs.Prelude.{Bool, false, if◌then◌else◌}
 use Rattle.std.proofs.lemmas.List.{append-nil, append_assoc}
+use Rattle.std.specs.Prelude.{Bool, false, if◌then◌else◌}
 use Rattle.model_graph.specs.Walk.{Among}
 use Rattle.model_graph.proofs.Members.{Among-append_cases, Among-append_left, Among-append_right}
-use Rattle.echo_links.specs.Links.{LinkFile}
-use Rattle.echo_links.specs.LinkLines.{LinksOf}
-use Rattle.model_steps.specs.declared.stamp.Stamp.{Stamp}
-use Rattle.model_steps.specs.Scanning.{scanned}
-use Rattle.model_steps.specs.Stamps.{is_stamp}
-use Rattle.model_steps.specs.SystemState.{SystemState}
+use Rattle.echo_links.specs.{Links.LinkFile, LinkLines.LinksOf}
+use Rattle.model_steps.specs.{declared.stamp.Stamp.Stamp, Scanning.scanned, Stamps.is_stamp, SystemState.SystemState}
 use Rattle.echo_toss.specs.PacketsIn.{state_in}
 use Rattle.model_run.specs.Run.{Run, change, nth, scanning_at, state_of}
-use Rattle.cmd_report.specs.Coming.{Coming}
-use Rattle.cmd_report.specs.Posted.{draft_given}
-use Rattle.law_stations.specs.Agreement.{Agrees, HasSystem, IsPacketFile}
-use Rattle.law_stations.specs.Nets.{Paired, Station, with_left}
-use Rattle.law_stations.proofs.FileRuns.{TossedFiles, tossed-all, wholes}
-use Rattle.law_stations.proofs.OfEvents.{post-agrees, purge-agrees, scan-agrees}
-use Rattle.law_stations.proofs.Putting.{puts-agree}
-use Rattle.law_stations.proofs.Systems.{file-fits, one-file}
 use Rattle.model_run.specs.Lone.{IsOfPackets, LoneEvent, LoneSystem, PostHere, PurgeHere, ScanHere, TossHere, after_lone, lone_run, with_scanned, with_system}
-use Rattle.model_run.proofs.Filings.{run-file}
+use Rattle.cmd_store.specs.{Coming.Coming, Drafts.draft_given}
 use Rattle.law_stations.specs.LoneStations.{HappenAlone, LeadsAlone, LoneCommand, LoneStation, NothingCame, PostAlone, PurgeAlone, ScanAlone, TossAny, TossesAny, held_in, lone_station_at_first, tossed_whole}
+use Rattle.law_stations.specs.{Agreement.Agrees, Agreement.HasSystem, Agreement.IsPacketFile, Nets.Paired, Nets.Station, Nets.with_left}
 use Rattle.law_stations.proofs.Tosses.{IsTossFrom, IsTossedBy, TossesFrom, files-tossed, front-plain, whole-first}
-use Rattle.law_stations.proofs.Purgings.{IsPurge}
-use Rattle.law_stations.proofs.Alone.{IsLone, first-lone, lone-more, run_alone}
+use Rattle.law_stations.proofs.{FileRuns.TossedFiles, FileRuns.tossed-all, FileRuns.wholes, OfEvents.post-agrees, OfEvents.purge-agrees, OfEvents.scan-agrees, Putting.puts-agree}
+use Rattle.law_stations.proofs.{Systems.file-fits, Systems.one-file, Purgings.IsPurge, Alone.IsLone, Alone.first-lone, Alone.lone-more, Alone.run_alone}
+use Rattle.model_run.proofs.Filings.{run-file}
 
 -- an event that is no toss
 abbrev IsNoToss : LoneEvent → Type 0

@@ -1,15 +1,11 @@
 -- The system of a station: both have the same contents.
 use Rattle.std.proofs.Common.{◌≡◌, sym, subst, ℕ, List, Ok, arith}
-use Rattle.echo_links.specs.Links.{IsFile, LinkFile}
-use Rattle.echo_links.specs.LinkLines.{LinksOf}
-use Rattle.echo_links.proofs.LinkAnswers.{link_only}
-use Rattle.echo_links.proofs.LinkFiles.{file_is_file}
+use Rattle.echo_links.specs.{Links.IsFile, Links.LinkFile, LinkLines.LinksOf}
+use Rattle.echo_links.proofs.{LinkAnswers.link_only, LinkFiles.file_is_file}
 use Rattle.echo_filed.specs.Filed.{Filed}
 use Rattle.model_steps.specs.SystemState.{SystemState}
 use Rattle.model_run.specs.Run.{System, state_of}
-use Rattle.law_stations.specs.Agreement.{HasSystem}
-use Rattle.law_stations.specs.InOrder.{StationSays}
-use Rattle.law_stations.specs.Nets.{Station}
+use Rattle.law_stations.specs.{Agreement.HasSystem, InOrder.StationSays, Nets.Station}
 
 -- a link file has one reading
 pub one-file : (bytes : List ℕ) (file other : LinkFile) → LinksOf bytes (Ok file) → LinksOf bytes (Ok other) → file ≡ other

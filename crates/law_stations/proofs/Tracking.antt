@@ -2,8 +2,8 @@
 use Rattle.std.proofs.Common.{◌≡◌, ◌⊎◌, inl, inr, refl, sym, ap, ◌∙◌, ℕ, ◌+◌, ◌≤◌, ◌<◌, true, false, List, [], ◌∷◌, ◌++◌, length, map, Option, Some, None, arith}
 use Rattle.model_graph.specs.Walk.{Among}
 use Rattle.model_run.specs.Run.{nth}
-use Rattle.law_stations.specs.Nets.{Net, Paired, Station}
 use Rattle.law_stations.specs.Disks.{StagingFile, Disks, HasCursor, cursor_of, cursors}
+use Rattle.law_stations.specs.Nets.{Net, Paired, Station}
 use Rattle.law_stations.proofs.Counting.{IsItem, below, times, waits}
 use Rattle.model_run.proofs.HarmLists.{nth-map}
 

@@ -2,17 +2,15 @@
 use Rattle.std.specs.Prelude.{◌≡◌, ◌≢◌, ◌⊎◌, ℕ, List, [], ◌∷◌, ◌++◌, map, length, None, Ok}
 use Rattle.echo_addr.specs.declared.address.Address.{Address}
 use Rattle.model_graph.specs.Walk.{Among, Different}
-use Rattle.echo_packet.specs.Packet.{PacketOf}
-use Rattle.echo_packet.specs.declared.limits.Limits.{Limits}
-use Rattle.echo_links.specs.Links.{LinkFile}
-use Rattle.echo_links.specs.LinkLines.{LinksOf}
+use Rattle.echo_packet.specs.{Packet.PacketOf, declared.limits.Limits.Limits}
+use Rattle.echo_links.specs.{Links.LinkFile, LinkLines.LinksOf}
 use Rattle.echo_filed.specs.Filed.{Filed}
 use Rattle.base_file.specs.Base.{Base, IsBase}
 use Rattle.model_steps.specs.declared.packet.Packet.{Packet}
 use Rattle.model_run.specs.Event.{Delivery, PartDelivery, Posting, Purging, RunEvent, Scanning}
 use Rattle.model_run.specs.Run.{Run, System, after_events, run_of}
 use Rattle.cmd_status.specs.Inputs.{AreLinkFiles}
-use Rattle.cmd_report.specs.Posted.{draft_given}
+use Rattle.cmd_store.specs.Drafts.{draft_given}
 use Rattle.law_stations.specs.Commands.{Command, CommandEvent, Happen, Happens, Post, Purge, Scan, Toss}
 use Rattle.law_stations.specs.Nets.{Net, Paired, Station, first_net}
 

@@ -2,28 +2,17 @@
 use Rattle.std.specs.Prelude.{◌≡◌, ℕ, ◌⊎◌, ◌<◌, ◌≤◌, false, List, [], ◌∷◌, ◌++◌, drop, take, None, Ok, Some}
 use Rattle.echo_addr.specs.declared.address.Address.{Address}
 use Rattle.model_graph.specs.Walk.{Among}
-use Rattle.echo_packet.specs.declared.header.Header.{Header}
-use Rattle.echo_packet.specs.declared.limits.Limits.{Limits}
-use Rattle.echo_packet.specs.Message.{Message}
-use Rattle.echo_packet.specs.Packet.{PacketOf}
+use Rattle.echo_packet.specs.{declared.header.Header.Header, declared.limits.Limits.Limits, Message.Message, Packet.PacketOf}
 use Rattle.echo_text.specs.Refusal.{text_refusal}
-use Rattle.echo_links.specs.Links.{LinkFile}
-use Rattle.echo_links.specs.LinkLines.{LinksOf}
+use Rattle.echo_links.specs.{Links.LinkFile, LinkLines.LinksOf}
 use Rattle.base_file.specs.Base.{IsBase}
-use Rattle.echo_filed.specs.declared.key.Key.{Key}
-use Rattle.echo_filed.specs.Filed.{Filed, key_of}
-use Rattle.echo_filed.specs.Stubs.{is_stub, stub_of}
-use Rattle.model_steps.specs.declared.packet.Packet.{Packet}
-use Rattle.model_steps.specs.Tossing.{received, sender_of}
+use Rattle.echo_filed.specs.{declared.key.Key.Key, Filed.Filed, Filed.key_of, Stubs.is_stub, Stubs.stub_of}
+use Rattle.model_steps.specs.{declared.packet.Packet.Packet, Tossing.received, Tossing.sender_of}
 use Rattle.echo_toss.specs.PacketSteps.{BeginsWith}
-use Rattle.model_run.specs.Exports.{IsSentCopy}
-use Rattle.model_run.specs.Orderly.{copies, count, sent_count}
-use Rattle.model_run.specs.Run.{destination, nth}
-use Rattle.cmd_report.specs.Coming.{Coming}
-use Rattle.model_run.specs.Owed.{IsFromLink, IsOwed}
-use Rattle.law_stations.specs.InOrder.{ReadsAs, StationSays}
-use Rattle.law_stations.specs.Nets.{Paired, Station}
+use Rattle.model_run.specs.{Exports.IsSentCopy, Orderly.copies, Orderly.count, Orderly.sent_count, Run.destination, Run.nth, Owed.IsFromLink, Owed.IsOwed}
+use Rattle.cmd_store.specs.Coming.{Coming}
 use Rattle.law_stations.specs.LoneStations.{HappenAlone, LoneCommand, LoneStation, PurgeAlone, TossesAny, held_in, lone_station_at_first}
+use Rattle.law_stations.specs.{InOrder.ReadsAs, InOrder.StationSays, Nets.Paired, Nets.Station}
 
 -- The bytes begin with a packet.
 pub record HoldsPacket (bytes : List ℕ) (p : Packet) : Type 0 where

@@ -1,11 +1,7 @@
 -- The promise about the disks of one station, for any bytes that it received and any stops of its commands.
 use Rattle.std.specs.Prelude.{◌≡◌, ℕ, List, ◌++◌, Ok}
-use Rattle.echo_links.specs.Links.{LinkFile}
-use Rattle.echo_links.specs.LinkLines.{LinksOf}
-use Rattle.law_stations.specs.Nets.{Net}
-use Rattle.law_stations.specs.AloneInOrder.{IsInOrderAlone, ShowsStill}
-use Rattle.law_stations.specs.LoneStations.{LoneCommand}
-use Rattle.law_stations.specs.OverCrashes.{HasNet}
+use Rattle.echo_links.specs.{Links.LinkFile, LinkLines.LinksOf}
+use Rattle.law_stations.specs.{Nets.Net, AloneInOrder.IsInOrderAlone, AloneInOrder.ShowsStill, LoneStations.LoneCommand, OverCrashes.HasNet}
 use Rattle.law_stations.specs.LoneDisks.{LoneDisks, MayHappenAllAlone, lone_disks_at_first, on_net}
 
 -- The disks have a net of the station alone that is in order after these commands. Its packets are those of the scans

@@ -1,22 +1,12 @@
 -- The contract of a command at a station, as a statement about the steps of a net.
 use Rattle.std.specs.Prelude.{◌≡◌, ℕ, Bool, List, Option, Some, None, Result, Ok}
 use Rattle.base_file.specs.Base.{Base}
-use Rattle.cmd_report.specs.declared.posting.NewMessage.{NewMessage}
-use Rattle.cmd_report.specs.declared.replying.Answer.{Answer}
 use Rattle.disk_io.specs.Disk.{DiskState}
-use Rattle.cmd_store.specs.declared.letter.Letter.{Letter}
-use Rattle.cmd_store.specs.declared.mailed.MailWords.{MailWords}
+use Rattle.cmd_store.specs.declared.{drafting.NewMessage.NewMessage, answering.Answer.Answer, letter.Letter.Letter, mailed.MailWords.MailWords, command_error.CommandError.CommandError}
 use Rattle.cmd_status.specs.declared.fault.Fault.{Fault}
-use Rattle.cmd_store.specs.declared.command_error.CommandError.{CommandError}
 use Rattle.station.specs.Place.{Place}
-use Rattle.law_stations.specs.Commands.{Command}
-use Rattle.law_stations.specs.Kinds.{IsPurge, IsToss}
-use Rattle.law_stations.specs.Disks.{Disks}
-use Rattle.law_stations.specs.DiskKinds.{IsMail, IsPostAs, IsReplyAs}
-use Rattle.law_stations.specs.Neighbours.{IsKeptOn}
-use Rattle.law_stations.specs.OnDisks.{RefinesEvent, IsAsBefore}
-use Rattle.law_stations.specs.Seats.{IsShared, Seat, RepresentsSeat}
-use Rattle.law_stations.specs.Steps.{HasEnded, IsAllOnDisk, WasCut}
+use Rattle.law_stations.specs.{Commands.Command, Kinds.IsPurge, Kinds.IsToss, Disks.Disks, DiskKinds.IsMail, DiskKinds.IsPostAs, DiskKinds.IsReplyAs, Neighbours.IsKeptOn}
+use Rattle.law_stations.specs.{OnDisks.RefinesEvent, OnDisks.IsAsBefore, Seats.IsShared, Seats.Seat, Seats.RepresentsSeat, Steps.HasEnded, Steps.IsAllOnDisk, Steps.WasCut}
 
 -- A request to a station.
 pub data Asked : Type 0 where

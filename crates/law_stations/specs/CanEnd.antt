@@ -1,7 +1,6 @@
 -- The temporary files of a station's stopped scans can be finished.
 use Rattle.std.specs.Prelude.{ℕ}
-use Rattle.law_stations.specs.Disks.{Disks, HasCursor}
-use Rattle.law_stations.specs.Stopping.{EndsSome, HasNoneStaged}
+use Rattle.law_stations.specs.{Disks.Disks, Disks.HasCursor, Stopping.EndsSome, Stopping.HasNoneStaged}
 
 -- This many steps of a scan finish all of them.
 pub record CanEnd (i : ℕ) (d : Disks) : Type 0 where

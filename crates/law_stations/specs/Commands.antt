@@ -2,26 +2,15 @@
 use Rattle.std.specs.Prelude.{◌≡◌, ℕ, ◌⊎◌, ◌+◌, ◌-◌, Bool, true, List, [], ◌∷◌, length, map, take, Option, Some, None, Ok}
 use Rattle.std.specs.List.{AllByRecursion}
 use Rattle.base_file.specs.Base.{Base}
-use Rattle.echo_packet.specs.Header.{AreBytes}
-use Rattle.echo_packet.specs.declared.limits.Limits.{Limits}
-use Rattle.echo_links.specs.Links.{LinkFile}
-use Rattle.echo_links.specs.LinkLines.{LinksOf}
-use Rattle.model_steps.specs.PacketFiles.{PacketFile}
-use Rattle.model_steps.specs.declared.stamp.Stamp.{Stamp}
-use Rattle.model_steps.specs.Posting.{posted}
-use Rattle.model_steps.specs.Scanning.{scanned}
-use Rattle.model_steps.specs.Stamps.{is_stamp}
+use Rattle.echo_packet.specs.{Header.AreBytes, declared.limits.Limits.Limits}
+use Rattle.echo_links.specs.{Links.LinkFile, LinkLines.LinksOf}
+use Rattle.model_steps.specs.{PacketFiles.PacketFile, declared.stamp.Stamp.Stamp, Posting.posted, Scanning.scanned, Stamps.is_stamp}
 use Rattle.model_run.specs.Run.{nth}
-use Rattle.cmd_status.specs.declared.fault.Fault.{Fault}
-use Rattle.cmd_status.specs.Devices.{Device}
+use Rattle.cmd_status.specs.{declared.fault.Fault.Fault, Devices.Device}
 use Rattle.base_store.specs.Store.{all_scanned, purged}
 use Rattle.echo_toss.specs.PacketsIn.{state_in}
-use Rattle.cmd_report.specs.declared.posting.NewMessage.{NewMessage}
-use Rattle.cmd_report.specs.Coming.{Coming, Fails, Holds, Unknown}
-use Rattle.cmd_report.specs.Posted.{draft_given}
-use Rattle.cmd_report.specs.Scanned.{file_sent}
-use Rattle.cmd_report.specs.Tossed.{TossesEachBy, run_begun}
-use Rattle.cmd_report.specs.TossedPacket.{TossRun, TossesPacketBy}
+use Rattle.cmd_store.specs.{declared.drafting.NewMessage.NewMessage, Coming.Coming, Coming.Fails, Coming.Holds, Coming.Unknown, Drafts.draft_given, PacketLines.file_sent, TossRuns.TossesEachBy}
+use Rattle.cmd_store.specs.{TossRuns.run_begun, TossedPacket.TossRun, TossedPacket.TossesPacketBy}
 use Rattle.cmd_store.specs.Posted as store
 use Rattle.law_stations.specs.Nets.{Net, Paired, Station, with_left, with_posting, with_tossed}
 

@@ -2,14 +2,9 @@
 use Rattle.std.specs.Prelude.{◌≡◌, ℕ, Bool, true, false, List, Some, slice_get}
 use Rattle.base_file.specs.Base.{Base}
 use Rattle.echo_filed.specs.Filed.{Filed}
-use Rattle.cmd_report.specs.declared.posting.NewMessage.{NewMessage}
-use Rattle.cmd_report.specs.declared.replying.Answer.{Answer}
-use Rattle.cmd_report.specs.Replied.{IsReply}
-use Rattle.cmd_store.specs.declared.letter.Letter.{Letter}
-use Rattle.cmd_store.specs.declared.mailed.MailWords.{MailWords}
-use Rattle.cmd_store.specs.Mailed.{IsPosting}
-use Rattle.law_stations.specs.Commands.{Command}
-use Rattle.law_stations.specs.Kinds.{IsPost, IsPostWith}
+use Rattle.cmd_store.specs.{declared.drafting.NewMessage.NewMessage, declared.answering.Answer.Answer, AnswerWords.IsReply, declared.letter.Letter.Letter, declared.mailed.MailWords.MailWords}
+use Rattle.cmd_store.specs.{Mailed.IsPosting}
+use Rattle.law_stations.specs.{Commands.Command, Kinds.IsPost, Kinds.IsPostWith}
 
 -- The posting of these words; if a free serial is searched, with some serial.
 abbrev pub IsPostAs : Bool → NewMessage → List ℕ → Command → Type 0

@@ -1,25 +1,15 @@
 -- The promise about a net, for any commands.
-use Rattle.std.specs.Prelude.{◌≡◌, ◌≢◌, ℕ, ◌⊎◌, ◌≤◌, Bool, IsTrue, List, drop, map, take, Option, Some, Ok}
-use Rattle.cmd_status.specs.Devices.{Output}
+use Rattle.std.specs.Prelude.{◌≡◌, ℕ, ◌⊎◌, ◌≤◌, List, map, take, Some, Ok}
+use Rattle.cmd_status.specs.{Inputs.AreLinkFiles}
 use Rattle.model_graph.specs.Walk.{Among, Different}
-use Rattle.echo_packet.specs.Packet.{PacketOf}
-use Rattle.echo_packet.specs.declared.limits.Limits.{Limits}
-use Rattle.echo_links.specs.Links.{LinkFile, has_area, upper}
-use Rattle.echo_links.specs.LinkLines.{LinksOf}
+use Rattle.echo_packet.specs.{Packet.PacketOf, declared.limits.Limits.Limits}
+use Rattle.echo_links.specs.{Links.LinkFile, LinkLines.LinksOf}
 use Rattle.base_file.specs.Base.{IsBase}
-use Rattle.echo_filed.specs.declared.key.Key.{Key}
-use Rattle.echo_filed.specs.Filed.{Filed, key_of}
-use Rattle.echo_filed.specs.Stubs.{stub_of}
+use Rattle.echo_filed.specs.{declared.key.Key.Key, Filed.Filed, Filed.key_of, Stubs.stub_of}
 use Rattle.model_steps.specs.declared.packet.Packet.{Packet}
-use Rattle.model_run.specs.Orderly.{IsPosting, SameContent, copies, count, sent_count, tag_of}
+use Rattle.model_run.specs.Orderly.{SameContent, count}
 use Rattle.model_run.specs.Run.{nth}
-use Rattle.cmd_status.specs.declared.fault.Fault.{Fault}
-use Rattle.cmd_status.specs.declared.status.Status.TheVariants.{Good}
-use Rattle.cmd_check.specs.Checking.{CheckAnswers}
-use Rattle.cmd_status.specs.Inputs.{AreLinkFiles}
-use Rattle.law_stations.specs.Agreement.{file_address}
-use Rattle.law_stations.specs.Commands.{CommandEvent, Happen, Purge}
-use Rattle.law_stations.specs.Nets.{Net, Paired, Station, first_net}
+use Rattle.law_stations.specs.{Agreement.file_address, Commands.CommandEvent, Commands.Happen, Commands.Purge, Nets.Net, Nets.Station, Nets.first_net}
 
 -- The contents of a station: its link file, and the messages and the cursor of its base.
 pub record StationSays (station : Station) (file : LinkFile) (messages : List Filed) (cursor : ℕ) : Type 0 where
@@ -63,39 +53,12 @@ pub record IsSound (commands : List CommandEvent) (net : Net) : Type 0 where
   pub only_posted : (i : ℕ) (file : LinkFile) (messages : List Filed) (cursor : ℕ) → StationHolds net i file messages cursor → (m : Filed) → Among m messages →
       (posting : Filed) × Among posting net.postings × (posting.echo.tag ≡ m.echo.tag) × IsUnchanged commands i messages cursor m posting
 
--- No message of the area waits for a scan, and each packet file that holds one was tossed whole.
-pub record IsSettled (net : Net) (tag : List ℕ) : Type 0 where
-  pub scanned : (i : ℕ) (file : LinkFile) (messages : List Filed) (cursor : ℕ) → StationHolds net i file messages cursor → (m : Filed) → Among m (drop cursor messages) → m.echo.tag ≢ tag
-  pub tossed : (k : ℕ) (bytes : List ℕ) (p : Packet) → nth k net.packets ≡ Some bytes → ReadsAs bytes p →
-      (m : Filed) → Among m (copies p) → m.echo.tag ≡ tag → Among k net.delivered
-
 -- The messages of a station's base have the posting exactly once, unchanged.
 pub record HasUnchanged (commands : List CommandEvent) (i : ℕ) (messages : List Filed) (cursor : ℕ) (posting : Filed) : Type 0 where
   pub once : count (key_of posting) messages ≡ 1
   pub same : (m : Filed) → Among m messages → key_of m ≡ key_of posting → IsUnchanged commands i messages cursor m posting
 
--- The promise about a checked area of a net.
-pub record InOrder (commands : List CommandEvent) (net : Net) (tag : List ℕ) : Type 0 where
-  pub sound : IsSound commands net
-  -- Over all packet files each station with the area was sent each message at most once, and none that it posted.
-  pub sent_once : (packets : List Packet) → Paired ReadsAs net.packets packets →
-      (i : ℕ) (file : LinkFile) (messages : List Filed) (cursor : ℕ) → StationHolds net i file messages cursor → IsTrue (has_area file tag) →
-      (key : Key) → tag_of key ≡ tag → sent_count file.system key packets ≤ 1
-  pub never_own : (packets : List Packet) → Paired ReadsAs net.packets packets →
-      (i : ℕ) (file : LinkFile) (messages : List Filed) (cursor : ℕ) → StationHolds net i file messages cursor → IsTrue (has_area file tag) →
-      (m : Filed) → Among m messages → IsPosting tag m → sent_count file.system (key_of m) packets ≡ 0
-  -- If nothing waits, its base has each posting once, unchanged.
-  pub all_came : IsSettled net tag → (posting : Filed) → Among posting net.postings → posting.echo.tag ≡ tag →
-      (i : ℕ) (file : LinkFile) (messages : List Filed) (cursor : ℕ) → StationHolds net i file messages cursor → IsTrue (has_area file tag) →
-      HasUnchanged commands i messages cursor posting
-
 -- Any commands on stations of different addresses leave a sound net.
 abbrev pub NetsAreSound : Type 0
 NetsAreSound = (links : List (List ℕ)) (files : List LinkFile) → AreLinkFiles links files → Different (map file_address files)
     → (commands : List CommandEvent) (net : Net) → Happen commands (first_net links) net → IsSound commands net
-
--- If `check` ended with 0 for these link files and the area, any commands on them leave a net that is in order.
-abbrev pub HeadlineOnNets : Type 0
-HeadlineOnNets = (nodelist : Option (List ℕ)) (more : Bool) (tag : List ℕ) (links : List (List ℕ)) (stopped : Option Fault) (old new : Output)
-    → CheckAnswers nodelist more tag links stopped old new (Ok Good)
-    → (commands : List CommandEvent) (net : Net) → Happen commands (first_net links) net → InOrder commands net (upper tag)

@@ -1,10 +1,7 @@
 -- The disks of one station: it gets any bytes as packet files, and its commands may be stopped at any time.
 use Rattle.std.specs.Prelude.{◌≡◌, ◌⊎◌, ℕ, List, [], ◌∷◌, take}
-use Rattle.law_stations.specs.Commands.{Post, Purge, Scan}
-use Rattle.law_stations.specs.Nets.{Net}
 use Rattle.law_stations.specs.LoneStations.{LoneCommand, LoneStation, NothingCame, PostAlone, PurgeAlone, ScanAlone, TossAny, TossesAny}
-use Rattle.law_stations.specs.Disks.{Disks, first_disks}
-use Rattle.law_stations.specs.Stopping.{PartialEffect}
+use Rattle.law_stations.specs.{Commands.Post, Commands.Purge, Commands.Scan, Nets.Net, Disks.Disks, Disks.first_disks, Stopping.PartialEffect}
 
 -- The disks of the station alone, the bytes of all input files of `toss` in order, and the bytes of those that it tossed
 -- whole.

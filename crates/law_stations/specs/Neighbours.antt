@@ -4,10 +4,7 @@ use Rattle.base_file.specs.Base.{Base}
 use Rattle.disk_io.specs.Disk.{DiskState, Files}
 use Rattle.model_run.specs.Run.{nth}
 use Rattle.station.specs.Place.{Place}
-use Rattle.law_stations.specs.Commands.{CommandEvent}
-use Rattle.law_stations.specs.Disks.{Disks}
-use Rattle.law_stations.specs.Stopping.{MayHappen}
-use Rattle.law_stations.specs.OnDisks.{IsStationAt, LeavesElsewhere, ShowsStation}
+use Rattle.law_stations.specs.{Commands.CommandEvent, Disks.Disks, Stopping.MayHappen, OnDisks.IsStationAt, OnDisks.LeavesElsewhere, OnDisks.ShowsStation}
 
 -- Each file of a place with a synced name and synced bytes is as the disk shows it.
 abbrev pub SameOnDisk : Place → DiskState → Files → Type 0

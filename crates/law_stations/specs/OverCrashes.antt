@@ -1,23 +1,12 @@
 -- The promise about the disks of a net, for any stops of its commands.
-use Rattle.std.specs.Prelude.{◌≡◌, ◌≢◌, ◌⊎◌, ◌<◌, ◌≤◌, ℕ, Bool, false, IsTrue, List, [], map, Option, Some, Ok}
-use Rattle.cmd_status.specs.Devices.{Output}
+use Rattle.std.specs.Prelude.{◌≡◌, ◌⊎◌, ◌<◌, ℕ, false, List, [], map, Some}
+use Rattle.cmd_status.specs.{Inputs.AreLinkFiles}
 use Rattle.model_graph.specs.Walk.{Among, Different}
-use Rattle.echo_links.specs.Links.{LinkFile, has_area, upper}
-use Rattle.echo_filed.specs.declared.key.Key.{Key}
-use Rattle.echo_filed.specs.Filed.{Filed, key_of}
-use Rattle.model_steps.specs.declared.packet.Packet.{Packet}
-use Rattle.model_run.specs.Orderly.{IsPosting, copies, sent_count, tag_of}
-use Rattle.model_run.specs.Run.{nth}
-use Rattle.cmd_status.specs.declared.fault.Fault.{Fault}
-use Rattle.cmd_status.specs.declared.status.Status.TheVariants.{Good}
-use Rattle.cmd_status.specs.Inputs.{AreLinkFiles}
-use Rattle.cmd_check.specs.Checking.{CheckAnswers}
-use Rattle.law_stations.specs.Agreement.{file_address}
+use Rattle.echo_links.specs.Links.{LinkFile}
+use Rattle.model_run.specs.{Run.nth}
 use Rattle.law_stations.specs.Commands.{Command, CommandEvent, Happen, Post, Purge, Scan, Toss}
-use Rattle.law_stations.specs.InOrder.{HasUnchanged, IsSettled, IsSound, ReadsAs, StationHolds}
-use Rattle.law_stations.specs.Nets.{Net, Paired, first_net}
-use Rattle.law_stations.specs.Disks.{StagingFile, Disks, HasCursor, first_disks}
-use Rattle.law_stations.specs.Stopping.{MayHappenAll}
+use Rattle.law_stations.specs.InOrder.{IsSound}
+use Rattle.law_stations.specs.{Agreement.file_address, Nets.Net, Nets.Paired, Nets.first_net, Disks.StagingFile, Disks.Disks, Disks.HasCursor, Disks.first_disks, Stopping.MayHappenAll}
 
 -- A temporary file that did not get its name yet, after its scan moved the cursor: the next scan of the station will
 -- name it.
@@ -71,32 +60,3 @@ WholeAreAmong = (links : List (List ℕ)) (commands : List CommandEvent) (net : 
 abbrev pub SoundOverCrashes : Type 0
 SoundOverCrashes = (links : List (List ℕ)) (files : List LinkFile) → AreLinkFiles links files → Different (map file_address files)
     → (commands : List CommandEvent) (d : Disks) → MayHappenAll commands (first_disks links) d → IsSound commands d.net
-
--- Nothing of the area waits for a scan; no packet with a message of it waits for its name, and each one with a name
--- was tossed whole.
-pub record HasSettled (d : Disks) (tag : List ℕ) : Type 0 where
-  pub named : IsSettled d.net tag
-  pub staging : (file : StagingFile) (p : Packet) → IsToBeNamed d file → ReadsAs file.bytes p → (m : Filed) → Among m (copies p) → m.echo.tag ≢ tag
-
--- The promise about a checked area on the disks.
-pub record InOrderOverCrashes (commands : List CommandEvent) (d : Disks) (tag : List ℕ) : Type 0 where
-  pub sound : IsSound commands d.net
-  -- Over all packet files that got their names each station with the area was sent each message at most once, and
-  -- none that it posted.
-  pub sent_once : (packets : List Packet) → Paired ReadsAs d.net.packets packets →
-      (i : ℕ) (file : LinkFile) (messages : List Filed) (cursor : ℕ) → StationHolds d.net i file messages cursor → IsTrue (has_area file tag) →
-      (key : Key) → tag_of key ≡ tag → sent_count file.system key packets ≤ 1
-  pub never_own : (packets : List Packet) → Paired ReadsAs d.net.packets packets →
-      (i : ℕ) (file : LinkFile) (messages : List Filed) (cursor : ℕ) → StationHolds d.net i file messages cursor → IsTrue (has_area file tag) →
-      (m : Filed) → Among m messages → IsPosting tag m → sent_count file.system (key_of m) packets ≡ 0
-  -- If the area has settled, its base has each posting once, unchanged.
-  pub all_came : HasSettled d tag → (posting : Filed) → Among posting d.net.postings → posting.echo.tag ≡ tag →
-      (i : ℕ) (file : LinkFile) (messages : List Filed) (cursor : ℕ) → StationHolds d.net i file messages cursor → IsTrue (has_area file tag) →
-      HasUnchanged commands i messages cursor posting
-
--- If `check` ended with 0 for these link files and the area, commands that anything stops anywhere leave disks that
--- are in order.
-abbrev pub HeadlineOverCrashes : Type 0
-HeadlineOverCrashes = (nodelist : Option (List ℕ)) (more : Bool) (tag : List ℕ) (links : List (List ℕ)) (stopped : Option Fault) (old new : Output)
-    → CheckAnswers nodelist more tag links stopped old new (Ok Good)
-    → (commands : List CommandEvent) (d : Disks) → MayHappenAll commands (first_disks links) d → InOrderOverCrashes commands d (upper tag)

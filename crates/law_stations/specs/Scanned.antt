@@ -1,21 +1,13 @@
 -- The contracts of a scan and of a toss that ended well, as statements about the steps of a net.
 use Rattle.std.specs.Prelude.{◌≡◌, ℕ, List, Option, None, Result, Ok}
-use Rattle.cmd_report.specs.Coming.{Coming}
 use Rattle.disk_io.specs.Disk.{DiskState}
 use Rattle.cmd_status.specs.declared.fault.Fault.{Fault}
 use Rattle.model_steps.specs.declared.stamp.Stamp.{Stamp}
-use Rattle.cmd_store.specs.declared.command_error.CommandError.{CommandError}
+use Rattle.cmd_store.specs.{Coming.Coming, declared.command_error.CommandError.CommandError}
 use Rattle.station.specs.Place.{Place}
 use Rattle.station_scan.specs.declared.scan_error.ScanError.{ScanError}
-use Rattle.law_stations.specs.Commands.{Command, Scan, whole_of}
-use Rattle.law_stations.specs.Kinds.{IsToss}
-use Rattle.law_stations.specs.Nets.{with_indexes}
-use Rattle.law_stations.specs.Disks.{Disks}
-use Rattle.law_stations.specs.OnDisks.{IsAsBefore, TossesAsEvent}
-use Rattle.law_stations.specs.Scans.{ScansAsEvent}
-use Rattle.law_stations.specs.Asked.{GoesOnCut, GoesOnEnded, IsKeptWhereShared}
-use Rattle.law_stations.specs.Seats.{Seat, RepresentsSeat}
-use Rattle.law_stations.specs.Steps.{HasEnded, IsAllOnDisk}
+use Rattle.law_stations.specs.{Commands.Command, Commands.Scan, Commands.whole_of, Kinds.IsToss, Nets.with_indexes, Disks.Disks, OnDisks.IsAsBefore, OnDisks.TossesAsEvent, Scans.ScansAsEvent}
+use Rattle.law_stations.specs.{Asked.GoesOnCut, Asked.GoesOnEnded, Asked.IsKeptWhereShared, Seats.Seat, Seats.RepresentsSeat, Steps.HasEnded, Steps.IsAllOnDisk}
 
 -- The packets that a toss tossed whole are delivered.
 pub record GoesOnTossed {Kept : Type 0} (place : Kept → Place) (seats : List (Seat Kept)) (seat : Seat Kept) (i : ℕ) (indexes : List ℕ) (answer : Option Fault) (left : List Coming) (d : Disks) (old new : DiskState) : Type 0 where

@@ -3,22 +3,15 @@ use Rattle.std.specs.Prelude.{◌≡◌, ◌⊎◌, ◌++◌, ℕ, List, [], map
 use Rattle.std.specs.List.{AllByRecursion}
 use Rattle.base_file.specs.Base.{Base}
 use Rattle.disk_io.specs.Disk.{DiskState, Files}
-use Rattle.echo_links.specs.Links.{LinkFile}
-use Rattle.echo_links.specs.LinkLines.{LinksOf}
+use Rattle.echo_links.specs.{Links.LinkFile, LinkLines.LinksOf}
 use Rattle.disk_atomic.specs.StagingPaths.{dotted, staging_path}
 use Rattle.cmd_status.specs.declared.fault.Fault.{Fault}
-use Rattle.model_steps.specs.PacketFiles.{PacketFile}
-use Rattle.model_steps.specs.declared.stamp.Stamp.{Stamp}
+use Rattle.model_steps.specs.{PacketFiles.PacketFile, declared.stamp.Stamp.Stamp}
 use Rattle.cmd_store.specs.declared.command_error.CommandError.TheVariants.{Met}
 use Rattle.station.specs.Place.{Place}
-use Rattle.station_scan.specs.Scanning.{IsTouched}
-use Rattle.station_scan.specs.declared.scan_error.ScanError.{ScanError}
-use Rattle.station_scan.specs.declared.scan_error.ScanError.TheVariants.{Command}
-use Rattle.law_stations.specs.Commands.{Scan}
-use Rattle.law_stations.specs.Nets.{bytes_of}
-use Rattle.law_stations.specs.Disks.{Disks}
-use Rattle.law_stations.specs.Stopping.{EndsSome, HasNoneStaged, PartialEffect, staging_of}
+use Rattle.station_scan.specs.{Scanning.IsTouched, declared.scan_error.ScanError.ScanError, declared.scan_error.ScanError.TheVariants.Command}
 use Rattle.law_stations.specs.OnDisks.{IsAsBefore, IsLinkedOn, IsStationAt, LeavesElsewhere, ReadsLinks, ShowsStation}
+use Rattle.law_stations.specs.{Commands.Scan, Nets.bytes_of, Disks.Disks, Stopping.EndsSome, Stopping.HasNoneStaged, Stopping.PartialEffect, Stopping.staging_of}
 
 -- The packet is whole at its path.
 abbrev pub IsAtPath : List ℕ → Files → PacketFile → Type 0

@@ -4,9 +4,7 @@ use Rattle.base_file.specs.Base.{Base}
 use Rattle.disk_io.specs.Disk.{DiskState, Files}
 use Rattle.model_run.specs.Run.{nth}
 use Rattle.station.specs.Place.{Place}
-use Rattle.law_stations.specs.Disks.{Disks}
-use Rattle.law_stations.specs.Neighbours.{IsApart, IsKeptOn}
-use Rattle.law_stations.specs.OnDisks.{IsStationAt, ShowsStation}
+use Rattle.law_stations.specs.{Disks.Disks, Neighbours.IsApart, Neighbours.IsKeptOn, OnDisks.IsStationAt, OnDisks.ShowsStation}
 
 -- The holder of a base: one of two kinds.
 pub data OfTwo (First Second : Type 0) : Type 0 where

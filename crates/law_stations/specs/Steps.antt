@@ -3,10 +3,7 @@ use Rattle.std.specs.Prelude.{◌≡◌, ℕ, List, [], ◌∷◌, Option, Some,
 use Rattle.disk_io.specs.Disk.{DiskState}
 use Rattle.model_run.specs.Run.{change, nth}
 use Rattle.station.specs.Place.{Place}
-use Rattle.law_stations.specs.Commands.{Command, CommandEvent}
-use Rattle.law_stations.specs.Disks.{Disks}
-use Rattle.law_stations.specs.Stopping.{PartialEffect}
-use Rattle.law_stations.specs.OnDisks.{LeavesElsewhere, ShowsStation}
+use Rattle.law_stations.specs.{Commands.Command, Commands.CommandEvent, Disks.Disks, Stopping.PartialEffect, OnDisks.LeavesElsewhere, OnDisks.ShowsStation}
 use Rattle.law_stations.specs.Seats.{Seat, RepresentsSeat, reach}
 
 -- A command at a station ends. Or a crash cuts it; without the crash it would have led to this disk. Or there is a crash

@@ -2,12 +2,10 @@
 use Rattle.std.specs.Prelude.{◌≡◌, ◌≢◌, ◌⊎◌, ◌<◌, ◌≤◌, ℕ, zero, suc, true, false, List, [], ◌∷◌, ◌++◌, map, take}
 use Rattle.std.specs.List.{AllByRecursion}
 use Rattle.model_graph.specs.Walk.{Among}
-use Rattle.model_steps.specs.declared.stamp.Stamp.{Stamp}
-use Rattle.model_steps.specs.PacketFiles.{PacketFile}
+use Rattle.model_steps.specs.{declared.stamp.Stamp.Stamp, PacketFiles.PacketFile}
 use Rattle.base_store.specs.Store.{all_scanned}
 use Rattle.law_stations.specs.Commands.{Command, CommandEvent, Post, Posts, Purge, Purges, Scan, Scans, Toss, Tosses}
-use Rattle.law_stations.specs.Nets.{Net, with_left}
-use Rattle.law_stations.specs.Disks.{StagingFile, Disks, HasCursor, naming}
+use Rattle.law_stations.specs.{Nets.Net, Nets.with_left, Disks.StagingFile, Disks.Disks, Disks.HasCursor, Disks.naming}
 
 -- The same temporary file, now also under the packet's name.
 abbrev pub now_named : StagingFile → StagingFile

@@ -1,8 +1,7 @@
 //! Laws about the definitions. Each law is the contract of a function that does nothing.
 
-ghost use Rattle.law_stations.specs.AnyDisks.{HeadlineFromAnyDisks};
-ghost use Rattle.law_stations.specs.CanEnd.{LeftCanEnd};
-ghost use Rattle.law_stations.specs.OverCrashes.{CrashesAreNone, HeadlineOverCrashes, SoundOverCrashes, WholeAreAmong};
+ghost use Rattle.law_stations.specs.{AnyDisks.HeadlineFromAnyDisks, CanEnd.LeftCanEnd};
+ghost use Rattle.law_stations.specs.OverCrashes.{CrashesAreNone, SoundOverCrashes, WholeAreAmong};
 
 /// Whatever stops commands at any time, the disks have the bases and postings of a net with such commands, all
 /// of them whole. Each of its packets has its name, or is a temporary file that the next scan of its station
@@ -28,16 +27,6 @@ pub fn whole_commands_are_among_them()
 /// were purged.
 pub fn nets_are_sound_over_crashes()
     ensures { SoundOverCrashes }
-{}
-
-/// The headline over crashes. Let `check` have ended with 0 for the link files of the stations and an area. Then the
-/// net is sound, for any commands on them and any stops. Count the packet files that have their names: each station of
-/// the area was sent each message of it at most once, and never its own.
-///
-/// If the area has settled, its base has each posting exactly once, unchanged unless it was purged. The area has settled
-/// if no message of it waits for a scan, and every packet with one has its name and was tossed whole.
-pub fn nets_are_in_order_over_crashes()
-    ensures { HeadlineOverCrashes }
 {}
 
 /// The headline over crashes from any state on, for new messages. Let `check` have ended with 0 for the link files that the

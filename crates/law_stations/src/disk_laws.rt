@@ -1,14 +1,10 @@
 //! Laws about files on disks: stations that share one, and packet files. Each law is the contract of a function that
 //! does nothing.
 ghost use Rattle.std.specs.Prelude.{ℕ, List};
-ghost use Rattle.law_stations.specs.Commands.{IsPacketAt};
-ghost use Rattle.law_stations.specs.Nets.{Paired};
-ghost use Rattle.law_stations.specs.ShownPackets.{IsShownAt};
-ghost use Rattle.law_stations.specs.Neighbours.{OthersStay};
-ghost use Rattle.law_stations.specs.Scans.{with_packets_in};
+ghost use Rattle.law_stations.specs.{Commands.IsPacketAt, Nets.Paired, ShownPackets.IsShownAt, Neighbours.OthersStay, Scans.with_packets_in};
 
-use cmd_report::PacketFiles;
 use cmd_status::{PacketName, StreamPackets};
+use cmd_store::PacketFiles;
 use disk_io::Disk;
 use station::{OpenStation, PacketsOnDisk};
 

@@ -4,16 +4,11 @@ ghost use Rattle.std.specs.Prelude.{◌≡◌, Bool, List, Ok, Option};
 ghost use Rattle.base_file.specs.Base.{Base};
 ghost use Rattle.echo_links.specs.Links.{LinkFile};
 ghost use Rattle.echo_packet.specs.declared.limits.Limits.{Limits};
-ghost use Rattle.cmd_status.specs.Devices.{Output, device_of};
-ghost use Rattle.cmd_status.specs.declared.fault.Fault.{Fault};
-ghost use Rattle.cmd_report.specs.Coming.{Coming};
-ghost use Rattle.cmd_store.specs.Tossed.{Tosses, TossesTo};
-ghost use Rattle.law_stations.specs.Agreement.{EventIsEvents, EventsAreARun};
-ghost use Rattle.law_stations.specs.Commands.{TossesAll};
-ghost use Rattle.law_stations.specs.AnyNets.{HeadlineFromAnyState};
-ghost use Rattle.law_stations.specs.InOrder.{HeadlineOnNets, NetsAreSound};
+ghost use Rattle.cmd_status.specs.{Devices.Output, Devices.device_of, declared.fault.Fault.Fault};
+ghost use Rattle.cmd_store.specs.{Coming.Coming, Tossed.Tosses, Tossed.TossesTo};
+ghost use Rattle.law_stations.specs.{Agreement.EventIsEvents, Agreement.EventsAreARun, Commands.TossesAll, AnyNets.HeadlineFromAnyState, InOrder.NetsAreSound};
 
-use cmd_report::PacketFiles;
+use cmd_store::PacketFiles;
 
 /// `toss` of files that are honest at the end does the same over any readers as over the known bytes of them: the same
 /// fault stops it, and the same files remain.
@@ -48,15 +43,6 @@ pub fn commands_are_a_run()
 /// were purged.
 pub fn nets_are_sound()
     ensures { NetsAreSound }
-{}
-
-/// The headline on stations. Let `check` have ended with 0 for the link files of the stations and an area, and
-/// let any commands be run on them. Then the net is sound. Over all packet files each station of the area was
-/// sent each message of it at most once, and none that it posted. Let nothing wait, and let every packet with a
-/// message of the area be tossed whole. Then its base has each posting exactly once, unchanged unless it was
-/// purged.
-pub fn nets_are_in_order()
-    ensures { HeadlineOnNets }
 {}
 
 /// The headline from any state of a net on, for new messages. Let `check` have ended with 0 for the link files that the

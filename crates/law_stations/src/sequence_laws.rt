@@ -1,9 +1,7 @@
 //! Laws about steps at stations. Each law is the contract of a function that does nothing.
 
-ghost use Rattle.law_stations.specs.Asked.{CommandsGoOn};
-ghost use Rattle.law_stations.specs.Scanned.{ScansGoOn, TossesGoOn};
-ghost use Rattle.law_stations.specs.Seats.{either};
-ghost use Rattle.law_stations.specs.Sequences.{HeadlineFromAnySequences, HeadlineOverSequences, SequencesAreAmong};
+ghost use Rattle.law_stations.specs.{Asked.CommandsGoOn, Scanned.ScansGoOn, Scanned.TossesGoOn, Seats.either};
+ghost use Rattle.law_stations.specs.Sequences.{HeadlineFromAnySequences, SequencesAreAmong};
 
 use disk_io::Disk;
 use station::OpenStation;
@@ -29,12 +27,6 @@ pub fn tosses_go_on<'a, D: Disk, P: OpenStation<'a, D>, O: OpenStation<'a, D>>()
 /// The same for a scan: whatever crash cuts it, if it ends well, and if it leaves the station as it was.
 pub fn scans_go_on<'a, D: Disk, P: OpenStation<'a, D>, O: OpenStation<'a, D>>()
     ensures { ScansGoOn D.state (either P.place O.place) }
-{}
-
-/// The headline over sequences. Let `check` have ended with 0 for the link files of the stations and an area. Then after any
-/// steps from empty bases the disks show a net that is in order.
-pub fn sequences_are_in_order<'a, D: Disk, P: OpenStation<'a, D>, O: OpenStation<'a, D>>()
-    ensures { HeadlineOverSequences D.state (either P.place O.place) }
 {}
 
 /// The headline over sequences from any state on, for new messages: after any steps the disks show a net in which each

@@ -2,8 +2,8 @@
 use Rattle.std.proofs.Common.{◌≡◌, ◌≢◌, inl, inr, refl, sym, subst, ◌∙◌, arith, Bool, IsTrue, List, [], ◌∷◌, ◌++◌, length-append, ◌⊎◌, ◌<◌, ◌≤◌, length, ◌↔◌, ℕ, zero, suc}
 use Rattle.std.proofs.lemmas.Bool.{cases_Bool, both_ways}
 use Rattle.model_graph.specs.Walk.{Simple, Among, Different, Walk, Reaches}
-use Rattle.model_graph.specs.Cycle.{Cycle, NoCycle, Polygons}
 use Rattle.model_graph.specs.Beyond.{Around, Parted, AllParted, FirstStep, Beyond, IsWay, HasOneWay}
+use Rattle.model_graph.specs.Cycle.{Cycle, NoCycle, Polygons}
 use Rattle.model_graph.proofs.Members.{CanTell, Among-append_left, Among-append_cases, Different-push, link_to, link_from, walk_append, walk_ends, Around-without_repeats, Around-sym, Beyond-from_no_around, no_around-from_Beyond, linked_differ, Among-at, Reaches-link, part_from, part_behind, Around-step, Around-trans}
 
 module _ {A : Type 0} (linked : A → A → Bool) where

@@ -1,16 +1,10 @@
 -- Pinches found link by link.
 use Rattle.std.proofs.Common.{◌≡◌, ◌≢◌, ◌<◌, ℕ, Bool, IsTrue, Option, None, List, length, get_or, sym, subst, arith, inl, inr, Some, MatchOption, [], ◌∷◌}
-use Rattle.std.proofs.lemmas.Bool.{cases_eq, cases_lt}
-use Rattle.std.proofs.lemmas.Option.{MatchOption-at_some, MatchOption-at_none}
+use Rattle.std.proofs.lemmas.{Bool.cases_eq, Bool.cases_lt, Option.MatchOption-at_some, Option.MatchOption-at_none}
 use Rattle.model_graph.specs.Walk.{Simple, Among, Walk, Reaches, Connected}
-use Rattle.model_graph.specs.Beyond.{Around, Parted}
-use Rattle.model_graph.specs.Rows.{links_at, linked, IsGraph}
-use Rattle.model_graph.specs.Levels.{level_of, AreLevels}
-use Rattle.model_graph.specs.Pinches.{IsPinch, FirstOther, FirstHere}
-use Rattle.model_graph.proofs.Members.{ℕ-can_tell, Around-sym, Beyond-from_no_around, Connected-from_root}
-use Rattle.model_graph.proofs.Rows.{holds_at, place_of}
+use Rattle.model_graph.specs.{Beyond.Around, Beyond.Parted, Rows.links_at, Rows.linked, Rows.IsGraph, Levels.level_of, Levels.AreLevels, Pinches.IsPinch, Pinches.FirstOther, Pinches.FirstHere}
 use Rattle.model_graph.specs.Reach.{FirstUnreached}
-use Rattle.model_graph.proofs.Floods.{level_cases}
+use Rattle.model_graph.proofs.{Members.ℕ-can_tell, Members.Around-sym, Members.Beyond-from_no_around, Members.Connected-from_root, Rows.holds_at, Rows.place_of, Floods.level_cases}
 
 pub Simple-from_graph : (rows : List (List ℕ)) → IsGraph rows → Simple (linked rows)
 Simple-from_graph rows graph = record { both_ways = graph.both_ways; no_self = graph.no_self }

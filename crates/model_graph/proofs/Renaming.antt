@@ -2,12 +2,9 @@
 use Rattle.std.proofs.Common.{◌≡◌, inl, inr, refl, sym, ap, ◌∙◌, arith, Bool, List, [], ◌∷◌, map, ◌-◌, ◌++◌, ◌⊎◌, subst, ℕ, zero, suc, IsTrue, length, take, drop, reverse}
 use Rattle.std.proofs.lemmas.List.{length-map, map-append, take-map, drop-map}
 use Rattle.model_graph.specs.Walk.{Simple, Among, Different, Walk, Reaches, IsAt}
-use Rattle.model_graph.specs.Cycle.{Cycle, Polygons, IsCycle}
-use Rattle.model_graph.specs.Renaming.{IsRenaming, KeepsOrder}
-use Rattle.model_graph.proofs.Members.{link_to, link_from, walk_links}
 use Rattle.model_graph.specs.Loops.{FirstWalkBy, HasUnlinked, IsWrittenBy, NamedLoopBy, NoLaterBy, turned}
-use Rattle.model_graph.specs.Pinches.{FirstPinchBy, IsPinchBy, NotAfter}
-use Rattle.model_graph.proofs.Turns.{reverse-cons as reverse_cons}
+use Rattle.model_graph.specs.{Cycle.Cycle, Cycle.Polygons, Cycle.IsCycle, Renaming.IsRenaming, Renaming.KeepsOrder, Pinches.FirstPinchBy, Pinches.IsPinchBy, Pinches.NotAfter}
+use Rattle.model_graph.proofs.{Members.link_to, Members.link_from, Members.walk_links, Turns.reverse-cons as reverse_cons}
 
 -- the two graphs change places
 pub IsRenaming-swap : {A B : Type 0} (linked : A → A → Bool) (joined : B → B → Bool) (name : A → B) (back : B → A) →

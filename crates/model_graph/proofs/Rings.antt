@@ -1,11 +1,9 @@
 -- Cycles turned and reversed, and their written form.
 use Rattle.std.proofs.Common.{◌≡◌, ◌+◌, ◌-◌, ◌<◌, ◌≤◌, ◌⊎◌, ◌++◌, ℕ, zero, suc, Bool, List, [], ◌∷◌, length, get_or, take, drop, reverse, refl, sym, ap, ◌∙◌, subst, append_assoc, arith, inl, inr}
-use Rattle.std.proofs.lemmas.Bool.{cases_eq, cases_lt}
 use Rattle.std.proofs.lemmas.List.{append-nil, get_or_default, reverse-append, length-append, length-reverse, get_or-reverse, take_more, drop_more, take-append-drop, take_all, drop_all}
-use Rattle.model_graph.specs.Walk.{Among, Different, IsAt, Simple}
-use Rattle.model_graph.specs.Cycle.{Cycle, IsCycle}
-use Rattle.model_graph.specs.Pinches.{IsPinch, FirstPinch}
+use Rattle.std.proofs.lemmas.Bool.{cases_eq, cases_lt}
 use Rattle.model_graph.specs.Loops.{FirstWalk, HasUnlinked, turned, IsWritten, NamedLoop}
+use Rattle.model_graph.specs.{Walk.Among, Walk.Different, Walk.IsAt, Walk.Simple, Cycle.Cycle, Cycle.IsCycle, Pinches.IsPinch, Pinches.FirstPinch}
 use Rattle.model_graph.proofs.Members.{Among-index, Among-get_or, Among-append_left, Among-append_right, Among-append_cases, Different-push, walk_ends}
 use Rattle.model_graph.proofs.Turns.{IsCycle-rotated, IsCycle-turned, Cycle-reversed, reverse-cons as reverse_cons}
 

@@ -1,10 +1,8 @@
 -- A cycle written from another member, or the other way round.
 use Rattle.std.proofs.Common.{◌≡◌, inl, inr, refl, sym, subst, arith, Bool, IsTrue, List, [], ◌∷◌, ◌++◌, length, reverse, append_assoc, append-nil, length-append}
 use Rattle.std.proofs.lemmas.List.{reverse-append}
-use Rattle.model_graph.specs.Walk.{Simple, Among, Different, Walk}
-use Rattle.model_graph.specs.Cycle.{Cycle, IsCycle}
-use Rattle.model_graph.proofs.Members.{Among-append_cases, Different-push, link_to, walk_append}
-use Rattle.model_graph.proofs.Cycles.{cycle_turned}
+use Rattle.model_graph.specs.{Walk.Simple, Walk.Among, Walk.Different, Walk.Walk, Cycle.Cycle, Cycle.IsCycle}
+use Rattle.model_graph.proofs.{Members.Among-append_cases, Members.Different-push, Members.link_to, Members.walk_append, Cycles.cycle_turned}
 
 -- reversal puts the first member last
 pub reverse-cons : {A : Type 0} (x : A) (xs : List A) → reverse (x ∷ xs) ≡ reverse xs ++ x ∷ []

@@ -1,7 +1,6 @@
 -- The distance of a member from another one, on walks that do not pass a third.
 use Rattle.std.specs.Prelude.{◌≡◌, ◌≤◌, ℕ, Bool, List, ◌∷◌, Option, None, MatchOption, length, slice_index_or}
-use Rattle.model_graph.specs.Walk.{Among, Walk}
-use Rattle.model_graph.specs.Beyond.{Around}
+use Rattle.model_graph.specs.{Walk.Among, Walk.Walk, Beyond.Around}
 
 -- The level of a member, if it has one.
 abbrev pub level_of : List (Option ℕ) → ℕ → Option ℕ

@@ -1,8 +1,6 @@
 -- The cycle that shows that not all members are fully linked, and its written form in an order of the members.
 use Rattle.std.specs.Prelude.{◌≡◌, ◌≢◌, ◌++◌, ◌-◌, ◌<◌, ◌≤◌, ◌⊎◌, ℕ, Bool, IsTrue, List, [], ◌∷◌, length, take, drop, reverse}
-use Rattle.model_graph.specs.Walk.{Among, Different, IsAt, Walk}
-use Rattle.model_graph.specs.Cycle.{IsCycle}
-use Rattle.model_graph.specs.Pinches.{FirstPinchBy, NotAfter}
+use Rattle.model_graph.specs.{Walk.Among, Walk.Different, Walk.IsAt, Walk.Walk, Cycle.IsCycle, Pinches.FirstPinchBy, Pinches.NotAfter}
 
 -- The first list has the earlier member at the first difference, or ends there.
 abbrev pub NoLaterBy : {A : Type 0} → (A → A → Type 0) → List A → List A → Type 0

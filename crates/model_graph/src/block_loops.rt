@@ -32,7 +32,11 @@ pub fn pieces_of(alloc: Global, graph: &Graph) -> Result<Pieces, AllocError> {
 }
 
 /// The loop of each block by its number, with members as places in the graph.
-fn loops_of(alloc: Global, graph: &Graph, blocks: &Blocks) -> Result<Vec<Option<Loop>>, AllocError> {
+fn loops_of(
+    alloc: Global,
+    graph: &Graph,
+    blocks: &Blocks,
+) -> Result<Vec<Option<Loop>>, AllocError> {
     let mut members = members_of(alloc, graph.len(), blocks)?;
     let mut found = Vec::new(alloc);
     for block in 0..members.len() {

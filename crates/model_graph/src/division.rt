@@ -1,8 +1,8 @@
 //! A division of a graph into blocks, tested.
 
 ghost use Rattle.std.specs.Prelude.{◌≡◌, ◌<◌, ◌↔◌, ℕ, false, IfOk, IsTrue, length};
-ghost use Rattle.model_graph.specs.Rows.{linked, IsGraph};
 ghost use Rattle.model_graph.specs.Blocks.{block_of, top_of, rank_of, full_of, InOneBlock, RanksBefore, IsInBlock, AreBlocks, AreFull};
+ghost use Rattle.model_graph.specs.Rows.{linked, IsGraph};
 
 use crate::blocks::Blocks;
 use crate::depth::blocks_in_depth;

@@ -1,10 +1,8 @@
 //! Laws about the definitions. Each law is the contract of a function that does nothing.
 
 ghost use Rattle.std.specs.Prelude.{◌≢◌, ◌↔◌, ℕ, ◌<◌, Bool, IsTrue, List, ◌++◌, length, map, reverse};
-ghost use Rattle.model_graph.specs.Walk.{Simple, Walk, Reaches};
-ghost use Rattle.model_graph.specs.Cycle.{Cycle, IsCycle, NoCycle, Polygons};
-ghost use Rattle.model_graph.specs.Renaming.{IsRenaming};
 ghost use Rattle.model_graph.specs.Beyond.{AllParted, Beyond, Parted, IsWay, HasOneWay, FirstStep};
+ghost use Rattle.model_graph.specs.{Walk.Simple, Walk.Walk, Walk.Reaches, Cycle.Cycle, Cycle.IsCycle, Cycle.NoCycle, Cycle.Polygons, Renaming.IsRenaming};
 
 /// Every cycle is fully linked exactly where each member parts those of its links that are not linked.
 /// Trees are a special case: there is no cycle exactly where each member parts all its links.

@@ -1,10 +1,7 @@
 //! A search by levels: the number of links between a member and the start.
 
 ghost use Rattle.std.specs.Prelude.{◌≡◌, ◌<◌, ◌≢◌, IfOk, None, OnOk, length, vec_len};
-ghost use Rattle.model_graph.specs.Rows.{links_at, linked, IsGraph};
-ghost use Rattle.model_graph.specs.Levels.{level_of, AreLevels};
-ghost use Rattle.model_graph.specs.Visits.{Visited};
-ghost use Rattle.model_graph.specs.Floods.{Flooded, Searched, IsSettledFlood};
+ghost use Rattle.model_graph.specs.{Rows.links_at, Rows.linked, Rows.IsGraph, Levels.level_of, Levels.AreLevels, Visits.Visited, Floods.Flooded, Floods.Searched, Floods.IsSettledFlood};
 
 use crate::graph::Graph;
 use std::alloc::{AllocError, Global};

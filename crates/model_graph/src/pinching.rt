@@ -1,10 +1,8 @@
 //! Members with two links that are joined around them though not linked.
 
 ghost use Rattle.std.specs.Prelude.{◌≡◌, ◌≢◌, ◌<◌, ◌↔◌, ℕ, IsTrue, IfOk, MatchOption, None, length};
-ghost use Rattle.model_graph.specs.Rows.{linked, IsGraph};
-ghost use Rattle.model_graph.specs.Levels.{level_of, AreLevels};
-ghost use Rattle.model_graph.specs.Pinches.{IsPinch, FirstPinch, FirstOther, FirstHere};
 ghost use Rattle.model_graph.specs.Blocks.{block_of, top_of, rank_of, full_of, AreBlocks, AreFull, HasUnlinkedAfter, IsCovered};
+ghost use Rattle.model_graph.specs.{Rows.linked, Rows.IsGraph, Levels.level_of, Levels.AreLevels, Pinches.IsPinch, Pinches.FirstPinch, Pinches.FirstOther, Pinches.FirstHere};
 
 use crate::blocks::Blocks;
 use crate::division::blocks_of;

@@ -1,9 +1,7 @@
 //! Is every cycle fully linked?
 
 ghost use Rattle.std.specs.Prelude.{IfOk, MatchOption};
-ghost use Rattle.model_graph.specs.Cycle.{Polygons};
-ghost use Rattle.model_graph.specs.Rows.{linked};
-ghost use Rattle.model_graph.specs.Loops.{NamedLoop};
+ghost use Rattle.model_graph.specs.{Cycle.Polygons, Rows.linked, Loops.NamedLoop};
 
 use crate::graph::Graph;
 use crate::pinching::{Pinch, first_pinch};

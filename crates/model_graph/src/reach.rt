@@ -1,10 +1,7 @@
 //! Is there a walk between any two members?
 
 ghost use Rattle.std.specs.Prelude.{◌≡◌, ◌≢◌, ◌<◌, ℕ, IfOk, MatchOption, None, length};
-ghost use Rattle.model_graph.specs.Walk.{Connected};
-ghost use Rattle.model_graph.specs.Rows.{linked};
-ghost use Rattle.model_graph.specs.Levels.{level_of};
-ghost use Rattle.model_graph.specs.Reach.{FirstUnreached};
+ghost use Rattle.model_graph.specs.{Walk.Connected, Rows.linked, Levels.level_of, Reach.FirstUnreached};
 
 use crate::graph::Graph;
 use crate::levels::levels_around;

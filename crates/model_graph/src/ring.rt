@@ -1,11 +1,7 @@
 //! The cycle of a pinch: the member, and the first walk around it from one link to the other.
 
 ghost use Rattle.std.specs.Prelude.{◌≡◌, ◌<◌, ◌↔◌, ℕ, IsTrue, IfOk, Some, ◌∷◌, List, length};
-ghost use Rattle.model_graph.specs.Rows.{linked, IsGraph};
-ghost use Rattle.model_graph.specs.Levels.{level_of};
-ghost use Rattle.model_graph.specs.Pinches.{IsPinch};
-ghost use Rattle.model_graph.specs.Descents.{SmallestAt};
-ghost use Rattle.model_graph.specs.Loops.{FirstWalk};
+ghost use Rattle.model_graph.specs.{Rows.linked, Rows.IsGraph, Levels.level_of, Pinches.IsPinch, Descents.SmallestAt, Loops.FirstWalk};
 
 use crate::graph::Graph;
 use crate::levels::levels_around;

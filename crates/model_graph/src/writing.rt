@@ -1,8 +1,7 @@
 //! How a cycle is written: from its smallest member, first to the smaller of its two neighbours.
 
 ghost use Rattle.std.specs.Prelude.{◌≡◌, ◌≤◌, ◌<◌, ℕ, IfOk, length, slice_index};
-ghost use Rattle.model_graph.specs.Walk.{Different};
-ghost use Rattle.model_graph.specs.Loops.{turned, IsWritten};
+ghost use Rattle.model_graph.specs.{Walk.Different, Loops.turned, Loops.IsWritten};
 
 use std::alloc::{AllocError, Global};
 

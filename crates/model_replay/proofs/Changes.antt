@@ -1,18 +1,11 @@
 -- An item of a list is changed.
 use Rattle.std.proofs.Common.{◌≡◌, ◌≢◌, ℕ, zero, suc, ◌<◌, ◌≤◌, List, [], ◌∷◌, ◌++◌, length, get_or, set, map, cond, refl, sym, ap, ◌∙◌, Option, Some, None, arith}
-use Rattle.std.specs.Prelude.{is_none}
-use Rattle.std.specs.List.{All}
-use Rattle.std.proofs.lemmas.List.{append-nil}
-use Rattle.std.proofs.lemmas.Option.{get_or_from_slice_get, slice_get_read}
-use Rattle.std.proofs.Math.Seq.{map-set_same}
+use Rattle.std.proofs.{lemmas.List.append-nil, lemmas.Option.get_or_from_slice_get, lemmas.Option.slice_get_read, Math.Seq.map-set_same}
+use Rattle.std.specs.{Prelude.is_none, List.All}
 use Rattle.echo_links.specs.Links.{LinkFile}
-use Rattle.model_steps.specs.declared.draft.Draft.{Draft}
-use Rattle.model_steps.specs.declared.stamp.Stamp.{Stamp}
-use Rattle.model_steps.specs.declared.fault.PostFault.{PostFault}
+use Rattle.model_steps.specs.declared.{draft.Draft.Draft, stamp.Stamp.Stamp, fault.PostFault.PostFault, packet.Packet.Packet}
+use Rattle.model_steps.specs.{Posting.IsPostFault, Posting.post_refusal, Posting.posted, Posting.posting, SystemState.SystemState, SystemState.state_with}
 use Rattle.model_steps.specs.declared.fault.PostFault.TheVariants as fault
-use Rattle.model_steps.specs.declared.packet.Packet.{Packet}
-use Rattle.model_steps.specs.Posting.{IsPostFault, post_refusal, posted, posting}
-use Rattle.model_steps.specs.SystemState.{SystemState, state_with}
 use Rattle.model_run.specs.Run.{change, nth}
 use Rattle.model_replay.specs.Worlds.{Exported, Fits, ScanFits, WorldState, own_addresses, after_posting, after_scan, after_toss, arrived, made, made_by, scanned_world, with_change}
 use Rattle.model_replay.proofs.Exports.{nth-slice_get}

@@ -1,19 +1,14 @@
 -- A packet comes, for the first time or again.
 use Rattle.std.proofs.Common.{◌≡◌, ℕ, zero, suc, ◌+◌, ◌==◌, Bool, true, false, List, [], ◌∷◌, length, map, refl, sym, ap, subst, ◌∙◌, Option, Some, None, arith}
-use Rattle.std.specs.Prelude.{option_map}
-use Rattle.std.specs.List.{list_any}
 use Rattle.std.proofs.lemmas.Bool.{cond-true, eqb-true}
+use Rattle.std.specs.{Prelude.option_map, List.list_any}
 use Rattle.model_graph.specs.Walk.{Among}
-use Rattle.model_steps.specs.declared.packet.Packet.{Packet}
-use Rattle.model_steps.specs.SystemState.{SystemState}
+use Rattle.model_steps.specs.{declared.packet.Packet.Packet, SystemState.SystemState}
 use Rattle.model_run.specs.Run.{Run, System, change, coming, delivery, destination, nth, receiver, taking, with_index}
 use Rattle.model_run.proofs.Lists.{any-from}
-use Rattle.model_replay.specs.Taken.{AreTaken}
 use Rattle.model_replay.specs.Worlds.{Exported, Fits, IsWorldOf, WorldState, encoded, exported_packet, state_of, world_after}
-use Rattle.model_replay.proofs.Changes.{read-nth}
-use Rattle.model_replay.proofs.Exports.{exported-nth, within-nth}
-use Rattle.model_replay.proofs.Runs.{delivered-run}
-use Rattle.model_replay.proofs.Taken.{state_stays}
+use Rattle.model_replay.specs.Taken.{AreTaken}
+use Rattle.model_replay.proofs.{Changes.read-nth, Exports.exported-nth, Exports.within-nth, Runs.delivered-run, Taken.state_stays}
 
 -- if the changing system keeps its state, all do
 states_stay : (i : ℕ) (f : System → System) (ss : List System) → ((s : System) → nth i ss ≡ Some s → state_of (f s) ≡ state_of s)

@@ -1,13 +1,11 @@
 -- The packets of a world and those of the run.
 use Rattle.std.proofs.Common.{◌≡◌, ◌≢◌, ℕ, zero, suc, ◌+◌, ◌<◌, ◌≤◌, ◌==◌, not, Bool, true, false, cond, List, [], ◌∷◌, ◌++◌, length, map, refl, sym, ap, ◌∙◌, Some, None, arith, inl, inr}
-use Rattle.std.specs.Prelude.{slice_get, option_map, count_by}
-use Rattle.std.specs.List.{list_any}
 use Rattle.std.proofs.lemmas.Bool.{cases_Bool, cond-false, cond-true, eq-eqb, ne_eqb, or_from}
 use Rattle.std.proofs.lemmas.List.Sums.{sum_by-cons}
+use Rattle.std.specs.{Prelude.slice_get, Prelude.option_map, Prelude.count_by, List.list_any}
 use Rattle.model_graph.specs.Walk.{Among}
 use Rattle.model_steps.specs.declared.packet.Packet.{Packet}
-use Rattle.model_run.specs.Run.{change, destination, nth, with_index}
-use Rattle.model_run.specs.World.{missing}
+use Rattle.model_run.specs.{Run.change, Run.destination, Run.nth, Run.with_index, World.missing}
 use Rattle.model_replay.specs.Worlds.{Exported, arrived, encoded, exported_packet, exported_from, made}
 
 -- the item at an index, by either name

@@ -1,14 +1,11 @@
 -- A world reads as its run does.
 use Rattle.std.proofs.Common.{◌≡◌, ℕ, zero, suc, cond, arith, ◌+◌, ◌<◌, ◌==◌, ◌&&◌, not, Bool, false, List, [], ◌∷◌, length, drop, sym, ap, ◌∙◌}
-use Rattle.std.proofs.lemmas.List.{length-map}
-use Rattle.std.proofs.lemmas.List.Sums.{sum_by-cons}
+use Rattle.std.proofs.lemmas.List.{length-map, Sums.sum_by-cons, Folds.list_all-map}
 use Rattle.echo_filed.specs.Filed.{Filed}
 use Rattle.std.specs.Prelude.{bytes_eq, count_by, nat_le, option_map, slice_get, unwrap_or}
 use Rattle.std.specs.List.{list_all}
-use Rattle.std.proofs.lemmas.List.Folds.{list_all-map}
 use Rattle.model_steps.specs.SystemState.{SystemState}
-use Rattle.model_run.specs.Run.{Run, destination, nth}
-use Rattle.model_run.specs.World.{area_count, is_settled, undelivered}
+use Rattle.model_run.specs.{Run.Run, Run.destination, Run.nth, World.area_count, World.is_settled, World.undelivered}
 use Rattle.model_replay.specs.Worlds.{Exported, IsWorldOf, WorldState, encoded, state_of}
 use Rattle.model_replay.proofs.Exports.{exported-bytes, exported-length, exported-missing, exported-to, nth-slice_get}
 

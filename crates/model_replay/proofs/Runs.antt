@@ -1,34 +1,21 @@
 -- An event changes a world as it changes its run.
 use Rattle.std.proofs.Common.{◌≡◌, ℕ, zero, suc, ◌+◌, ◌<◌, ◌≤◌, nat_lt, not, Bool, true, false, cond, List, [], ◌∷◌, ◌++◌, length, get_or, take, map, refl, sym, ap, subst, ◌∙◌, Option, Some, None, arith, inl, inr}
-use Rattle.std.specs.Prelude.{option_map}
-use Rattle.std.specs.List.{All, position_or_len}
 use Rattle.std.proofs.lemmas.List.{append-nil, length-append, length-map, map-append, take_all, take_more}
-use Rattle.std.proofs.lemmas.List.Elements.{All-append}
-use Rattle.std.proofs.lemmas.List.Recursion.{is_position_or_len}
-use Rattle.std.proofs.lemmas.List.Sums.{passes_at_first}
-use Rattle.echo_links.proofs.Addresses.{same_address_decides}
 use Rattle.std.proofs.lemmas.Bool.{cases_Bool, cond-false, cond-true, le-ltb, lt-ltb, ltb-false, ltb-true}
+use Rattle.std.proofs.lemmas.List.{Elements.All-append, Recursion.is_position_or_len, Sums.passes_at_first}
+use Rattle.std.specs.{Prelude.option_map, List.All, List.position_or_len}
+use Rattle.echo_links.proofs.Addresses.{same_address_decides}
 use Rattle.echo_addr.specs.declared.address.Address.{Address}
 use Rattle.echo_links.specs.Links.{LinkFile, same_address}
 use Rattle.echo_filed.specs.Filed.{Filed}
-use Rattle.model_steps.specs.declared.draft.Draft.{Draft}
-use Rattle.model_steps.specs.declared.packet.Packet.{Packet}
-use Rattle.model_steps.specs.declared.stamp.Stamp.{Stamp}
-use Rattle.model_steps.specs.SystemState.{SystemState, state_at_first, state_with}
-use Rattle.model_steps.specs.Posting.{posting}
-use Rattle.model_steps.specs.Scanning.{scanned}
-use Rattle.model_steps.specs.Stamps.{is_stamp}
-use Rattle.model_run.specs.Event.{run_event}
-use Rattle.model_run.specs.declared.event.Event.{Event}
-use Rattle.model_run.proofs.StandingRuns.{tossing-state}
+use Rattle.model_steps.specs.{declared.draft.Draft.Draft, declared.packet.Packet.Packet, declared.stamp.Stamp.Stamp, SystemState.SystemState, SystemState.state_at_first, SystemState.state_with}
+use Rattle.model_steps.specs.{Posting.posting, Scanning.scanned, Stamps.is_stamp}
 use Rattle.model_run.specs.Run.{Run, System, after_event, change, changing, coming, delivery, destination, filing, fresh, nth, posting_at, purging_at, receiver, run_of, scanning, scanning_at, start, taking}
+use Rattle.model_run.specs.{Event.run_event, declared.event.Event.Event}
+use Rattle.model_run.proofs.{StandingRuns.tossing-state, StandingTosses.change-nothing as stays, HarmLists.nth-below as nth-within, HarmSteps.after-append}
 use Rattle.model_replay.specs.Worlds.{Exported, Fits, IsWorldOf, ScanFits, WorldState, own_addresses, after_posting, after_purge, after_scan, after_toss, arrived, exported_from, first_at, made, made_by, scanned_world, state_of, with_change, world_after}
-use Rattle.model_replay.proofs.Changes.{read-nth}
 use Rattle.model_replay.proofs.Exports.{below-with, exported-append, exported-came, exported-made, nth-map, nth-past, within-nth}
-use Rattle.model_run.proofs.StandingTosses.{change-nothing as stays}
-use Rattle.model_replay.proofs.Readings.{system_count as count-is}
-use Rattle.model_run.proofs.HarmLists.{nth-below as nth-within}
-use Rattle.model_run.proofs.HarmSteps.{after-append}
+use Rattle.model_replay.proofs.{Changes.read-nth, Readings.system_count as count-is}
 
 -- the state after a filing does not depend on the history
 state-filing : (s : System) (o : Option Filed) → state_of (filing s o) ≡ state_with (state_of s) o

@@ -1,15 +1,13 @@
 -- Reading a script line by line.
 use Rattle.std.proofs.Common.{◌≡◌, ◌⊎◌, ℕ, ◌+◌, not, true, false, cond, List, [], ◌∷◌, ◌++◌, ap, ◌∙◌, Option, Some, None, Result, Ok, Err, arith}
-use Rattle.std.specs.Prelude.{MatchResult, is_some}
-use Rattle.std.specs.List.{cons_option, filter_map}
-use Rattle.std.proofs.lemmas.List.{append_assoc, append-nil}
-use Rattle.std.proofs.lemmas.List.Elements.{filter-append, filter_map-append}
+use Rattle.std.proofs.lemmas.List.{append_assoc, append-nil, Elements.filter-append, Elements.filter_map-append}
+use Rattle.std.specs.{Prelude.MatchResult, Prelude.is_some, List.cons_option, List.filter_map}
 use Rattle.echo_links.specs.LinkLines.{file_lines, is_skipped}
 use Rattle.echo_links.proofs.LinkBytes.{no_lines_left}
 use Rattle.model_run.specs.declared.event.Event.{Event}
+use Rattle.model_replay.specs.Script.{ScriptOf, event_in, events_in, events_of, first_script_fault, script_line_fault, script_fault}
 use Rattle.model_replay.specs.declared.script.ScriptFault.{ScriptFault}
 use Rattle.model_replay.specs.declared.script.ScriptFault.TheVariants as fault
-use Rattle.model_replay.specs.Script.{ScriptOf, event_in, events_in, events_of, first_script_fault, script_line_fault, script_fault}
 
 -- ---- one line
 

@@ -1,35 +1,25 @@
 -- A packet that was delivered brings nothing new: each of its messages is refused or known, and stays so.
 use Rattle.std.proofs.Common.{◌≡◌, ℕ, ◌||◌, Bool, true, false, not, List, [], ◌∷◌, ◌++◌, length, map, take, refl, sym, ap, subst, ◌∙◌, Option, Some, None, inl, inr, arith}
-use Rattle.std.specs.Prelude.{if◌then◌else◌, option_to_list}
-use Rattle.std.specs.List.{list_any, position_or_len}
 use Rattle.std.proofs.lemmas.List.{append-nil, length-append}
+use Rattle.std.specs.{Prelude.if◌then◌else◌, Prelude.option_to_list, List.list_any, List.position_or_len}
 use Rattle.echo_addr.specs.declared.address.Address.{Address}
 use Rattle.model_graph.proofs.Members.{Among-append_left, Among-append_right}
 use Rattle.echo_packet.specs.Message.{Message}
 use Rattle.echo_links.specs.Links.{LinkFile, same_address}
-use Rattle.echo_filed.specs.declared.key.Key.{Key}
-use Rattle.echo_filed.specs.Filed.{Filed, key_of, same_key}
+use Rattle.echo_filed.specs.{declared.key.Key.Key, Filed.Filed, Filed.key_of, Filed.same_key}
 use Rattle.echo_filed.proofs.Keys.{same_key_decides}
 use Rattle.base_file.specs.Base.{is_known}
 use Rattle.base_file.proofs.StubBases.{purged_keys}
-use Rattle.model_steps.specs.declared.outcome.Outcome.{Outcome}
-use Rattle.model_steps.specs.declared.outcome.Outcome.TheVariants as outcome
-use Rattle.model_steps.specs.declared.packet.Packet.{Packet}
-use Rattle.model_steps.specs.Posting.{posting}
-use Rattle.model_steps.specs.Purging.{purged}
-use Rattle.model_steps.specs.Scanning.{scanned}
-use Rattle.model_steps.specs.Stamps.{is_stamp}
 use Rattle.model_steps.specs.Tossing.{received, sender_of, toss_outcome, tossed, tossing, where_filed}
+use Rattle.model_steps.specs.{declared.outcome.Outcome.Outcome, declared.packet.Packet.Packet, Posting.posting, Purging.purged, Scanning.scanned, Stamps.is_stamp}
+use Rattle.model_steps.specs.declared.outcome.Outcome.TheVariants as outcome
 use Rattle.model_run.specs.Event.{RunEvent, Posting, Scanning, Delivery, PartDelivery, Purging}
 use Rattle.model_run.specs.Run.{Run, System, after_event, after_events, change, changing, coming, delivery, destination, filing, nth, part_delivery, posting_at, purging_at, receiver, run_of, scanning, scanning_at, start, taking, tossing_at}
 use Rattle.model_run.proofs.Lists as lists
 use Rattle.model_run.proofs.Lists.{any-from, any-to, nth-append, nth-change, with_index-from}
-use Rattle.model_run.proofs.Targets.{none_some, some_same}
-use Rattle.model_run.proofs.HarmLists.{nth-below as nth-within}
-use Rattle.model_replay.specs.Taken.{AreTaken, HasTaken, NoneIsFiled}
-use Rattle.model_replay.specs.Worlds.{state_of}
-use Rattle.model_replay.proofs.Exports.{below-with, within-nth}
-use Rattle.model_replay.proofs.Runs.{first-map, state-taking}
+use Rattle.model_run.proofs.{Targets.none_some, Targets.some_same, HarmLists.nth-below as nth-within}
+use Rattle.model_replay.specs.{Taken.AreTaken, Taken.HasTaken, Taken.NoneIsFiled, Worlds.state_of}
+use Rattle.model_replay.proofs.{Exports.below-with, Exports.within-nth, Runs.first-map, Runs.state-taking}
 
 -- the second base knows each key that the first knows
 abbrev Knows : List Filed → List Filed → Type 0

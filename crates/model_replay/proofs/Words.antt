@@ -1,9 +1,7 @@
 -- The words of a script's lines.
 use Rattle.std.proofs.Common.{◌≡◌, ◌≢◌, ℕ, ◌<◌, ◌≤◌, ◌&&◌, nat_lt, not, true, false, cond, List, [], ◌∷◌, length, drop, codes, sym, ap, ◌∙◌, None, arith}
-use Rattle.std.specs.Prelude.{bytes_eq, nat_le, option_map}
-use Rattle.std.specs.Char.{is_ascii_uppercase}
-use Rattle.std.specs.List.{list_any, position_or_len}
 use Rattle.std.proofs.lemmas.Bool.{and_from, cond-false, cond-true, eq-eqb, le-leb, lt-leb, lt-ltb, ne_eqb}
+use Rattle.std.specs.{Prelude.bytes_eq, Prelude.nat_le, Prelude.option_map, Char.is_ascii_uppercase, List.list_any, List.position_or_len}
 use Rattle.echo_addr.specs.Entries.{is_blank, tokens}
 use Rattle.echo_links.specs.LinkLines.{after_first_of, first_of, is_control_byte}
 use Rattle.model_run.specs.declared.event.Event.TheVariants.{Deliver, Purge, Scan}

@@ -1,7 +1,6 @@
 -- The numbers of packets made, event by event.
 use Rattle.std.specs.Prelude.{ℕ, List, [], ◌∷◌, length}
-use Rattle.model_run.specs.Event.{RunEvent}
-use Rattle.model_run.specs.Run.{Run, after_event}
+use Rattle.model_run.specs.{Event.RunEvent, Run.Run, Run.after_event}
 
 -- The number of packets after each of these events, in order.
 abbrev pub packet_counts : Run → List RunEvent → List ℕ

@@ -1,15 +1,10 @@
 -- Scripts of a replay: one event a line.
 use Rattle.std.specs.Prelude.{◌≡◌, ℕ, ◌+◌, ◌==◌, ◌&&◌, not, nat_lt, nat_le, List, [], ◌∷◌, codes, drop, length, if◌then◌else◌, Option, Some, None, is_some, option_map, Result, Ok, Err, bytes_eq, filter}
-use Rattle.std.specs.Char.{digit_value, is_ascii_uppercase}
-use Rattle.std.specs.List.{filter_map, list_all, list_any, position_or_len}
-use Rattle.std.specs.Option.{option_or}
-use Rattle.std.specs.Str.Parse.{digits_value}
+use Rattle.std.specs.{Char.digit_value, Char.is_ascii_uppercase, List.filter_map, List.list_all, List.list_any, List.position_or_len, Option.option_or, Str.Parse.digits_value}
 use Rattle.echo_addr.specs.Entries.{is_blank, tokens}
 use Rattle.echo_links.specs.LinkLines.{after_first_of, file_lines, first_of, is_control_byte, is_skipped}
-use Rattle.model_run.specs.declared.event.Event.{Event}
-use Rattle.model_run.specs.declared.event.Event.TheVariants.{Deliver, Post, Purge, Scan}
-use Rattle.model_steps.specs.declared.draft.Draft.{Draft}
-use Rattle.model_steps.specs.declared.stamp.Stamp.{Stamp}
+use Rattle.model_run.specs.declared.event.Event.{Event, TheVariants.Deliver, TheVariants.Post, TheVariants.Purge, TheVariants.Scan}
+use Rattle.model_steps.specs.declared.{draft.Draft.Draft, stamp.Stamp.Stamp}
 use Rattle.model_replay.specs.declared.script.ScriptFault.{ScriptFault}
 use Rattle.model_replay.specs.declared.script.ScriptFault.TheVariants as fault
 

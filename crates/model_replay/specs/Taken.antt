@@ -5,8 +5,7 @@ use Rattle.model_graph.specs.Walk.{Among}
 use Rattle.echo_packet.specs.Message.{Message}
 use Rattle.echo_links.specs.Links.{LinkFile}
 use Rattle.echo_filed.specs.Filed.{Filed}
-use Rattle.model_steps.specs.declared.packet.Packet.{Packet}
-use Rattle.model_steps.specs.Tossing.{sender_of, tossing}
+use Rattle.model_steps.specs.{declared.packet.Packet.Packet, Tossing.sender_of, Tossing.tossing}
 use Rattle.model_run.specs.Run.{Run, System, nth, receiver}
 
 -- No message in this list, from one sender, would be filed.

@@ -1,22 +1,13 @@
 -- The part of a run that a replay keeps: the systems without their histories, and the packets as bytes.
 use Rattle.std.specs.Prelude.{◌≡◌, ◌+◌, ◌-◌, ◌^◌, ◌<◌, ◌==◌, ℕ, nat_lt, Bool, true, false, if◌then◌else◌, MatchOption, Option, Some, List, [], ◌∷◌, ◌++◌, map, length, slice_get, option_map, unwrap_or, None}
-use Rattle.std.specs.List.{All, list_any, position_or_len}
-use Rattle.std.specs.Map.{lookup}
+use Rattle.std.specs.{List.All, List.list_any, List.position_or_len, Map.lookup}
 use Rattle.echo_addr.specs.declared.address.Address.{Address}
 use Rattle.model_graph.specs.Walk.{Among}
-use Rattle.echo_packet.specs.Packet.{PacketOf, packet_bytes}
-use Rattle.echo_packet.specs.declared.limits.Limits.{Limits}
+use Rattle.echo_packet.specs.{Packet.PacketOf, Packet.packet_bytes, declared.limits.Limits.Limits}
 use Rattle.echo_links.specs.Links.{same_address}
 use Rattle.echo_filed.specs.Filed.{Filed}
-use Rattle.model_steps.specs.declared.packet.Packet.{Packet}
-use Rattle.model_steps.specs.declared.stamp.Stamp.{Stamp}
-use Rattle.model_steps.specs.declared.draft.Draft.{Draft}
-use Rattle.model_steps.specs.SystemState.{SystemState, state_with}
-use Rattle.model_steps.specs.Posting.{posting}
-use Rattle.model_steps.specs.Purging.{purged}
-use Rattle.model_steps.specs.Scanning.{scanned}
-use Rattle.model_steps.specs.Stamps.{is_stamp}
-use Rattle.model_steps.specs.Tossing.{sender_of, tossed}
+use Rattle.model_steps.specs.{declared.packet.Packet.Packet, declared.stamp.Stamp.Stamp, declared.draft.Draft.Draft, SystemState.SystemState, SystemState.state_with, Posting.posting, Purging.purged}
+use Rattle.model_steps.specs.{Scanning.scanned, Stamps.is_stamp, Tossing.sender_of, Tossing.tossed}
 use Rattle.model_run.specs.Run.{Run, System, change, destination, nth}
 pub use Rattle.model_run.specs.Run.{state_of}
 

@@ -3,13 +3,12 @@
 ghost use Rattle.std.specs.Prelude.{◌≡◌, ◌≢◌, ◌++◌, ◌∷◌, [], ◌<◌, length, map, Bool, true, false, None, Some, IfOk, OnOk};
 ghost use Rattle.std.specs.List.{All};
 ghost use Rattle.model_steps.specs.declared.fault.PostFault.TheVariants as post_fault;
-ghost use Rattle.model_run.specs.Event.{run_event};
 ghost use Rattle.model_run.specs.Run.{Run, after_event, change, destination, nth};
-ghost use Rattle.model_steps.specs.declared.packet.Packet.{Packet};
-ghost use Rattle.model_steps.specs.SystemState.{SystemState};
+ghost use Rattle.model_run.specs.Event.{run_event};
+ghost use Rattle.model_steps.specs.{declared.packet.Packet.Packet, SystemState.SystemState};
+ghost use Rattle.model_replay.specs.Worlds.{Fits, IsWorldOf, LeadsToFirst, ScanFits, own_addresses, after_posting, after_purge, after_scan, after_toss, arrived, encoded, made, made_by, scanned_world, with_change, world_after};
 ghost use Rattle.model_replay.specs.Taken.{AreTaken};
 ghost use Rattle.model_replay.specs.Worlds as model;
-ghost use Rattle.model_replay.specs.Worlds.{Fits, IsWorldOf, LeadsToFirst, ScanFits, own_addresses, after_posting, after_purge, after_scan, after_toss, arrived, encoded, made, made_by, scanned_world, with_change, world_after};
 
 use crate::fitting::fit;
 use crate::receivers::Receivers;

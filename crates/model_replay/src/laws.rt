@@ -5,12 +5,7 @@ ghost use Rattle.std.specs.Prelude.{ℕ, ◌≤◌, List, map};
 ghost use Rattle.model_graph.specs.Walk.{Among};
 ghost use Rattle.echo_links.specs.Links.{LinkFile};
 ghost use Rattle.echo_filed.specs.declared.key.Key.{Key};
-ghost use Rattle.model_run.specs.declared.event.Event.{Event};
-ghost use Rattle.model_run.specs.Event.{RunEvent, run_event};
-ghost use Rattle.model_run.specs.Fits.{FilesFit};
-ghost use Rattle.model_run.specs.Orderly.{Orderly, count};
-ghost use Rattle.model_run.specs.Run.{run_of};
-ghost use Rattle.model_run.specs.Tidy.{Tidy};
+ghost use Rattle.model_run.specs.{declared.event.Event.Event, Event.RunEvent, Event.run_event, Fits.FilesFit, Orderly.Orderly, Orderly.count, Run.run_of, Tidy.Tidy};
 ghost use Rattle.model_steps.specs.SystemState.{SystemState};
 ghost use Rattle.model_replay.specs.Worlds.{IsWorldOf, WorldState};
 

@@ -1,10 +1,8 @@
 //! Events, one after another.
 
 ghost use Rattle.std.specs.Prelude.{◌≡◌, IfOk, map};
-ghost use Rattle.model_run.specs.Event.{run_event};
-ghost use Rattle.model_run.specs.Run.{run_of, start};
-ghost use Rattle.model_replay.specs.Counts.{packet_counts};
-ghost use Rattle.model_replay.specs.Worlds.{IsWorldOf};
+ghost use Rattle.model_run.specs.{Event.run_event, Run.run_of, Run.start};
+ghost use Rattle.model_replay.specs.{Counts.packet_counts, Worlds.IsWorldOf};
 ghost use Rattle.model_steps.specs.SystemState.{state_at_first};
 
 use crate::happening::happen;

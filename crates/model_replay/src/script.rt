@@ -1,14 +1,12 @@
 //! Scripts: one event a line.
 
 ghost use Rattle.std.specs.Prelude.{◌≡◌, ◌⊎◌, ◌≤◌, ◌^◌, ◌++◌, ◌∷◌, [], List, Some, None, Result, Ok, Err, MatchResult, IfOk, drop, length, option_map};
-ghost use Rattle.std.specs.Char.{is_ascii_uppercase};
-ghost use Rattle.std.specs.List.{list_any};
+ghost use Rattle.std.specs.{Char.is_ascii_uppercase, List.list_any};
 ghost use Rattle.echo_addr.specs.Entries.{tokens};
-ghost use Rattle.model_run.specs.declared.event.Event.{Event};
-ghost use Rattle.model_run.specs.declared.event.Event.TheVariants.{Deliver, Purge, Scan};
+ghost use Rattle.model_run.specs.declared.event.Event.{Event, TheVariants.Deliver, TheVariants.Purge, TheVariants.Scan};
+ghost use Rattle.model_replay.specs.Script.{ScriptOf, draft_of, event_in, events_in, index_in, script_line_fault, moment, number_in, only_index, posting_in, serial_in};
 ghost use Rattle.model_replay.specs.declared.script.ScriptFault.{ScriptFault};
 ghost use Rattle.model_replay.specs.declared.script.ScriptFault.TheVariants as script;
-ghost use Rattle.model_replay.specs.Script.{ScriptOf, draft_of, event_in, events_in, index_in, script_line_fault, moment, number_in, only_index, posting_in, serial_in};
 
 use echo_addr::{Items, next_token};
 use echo_links::{has_control_byte, is_skipped, split_line};

@@ -1,12 +1,10 @@
 //! The systems and packets of a net, and what one reads off them.
 
 ghost use Rattle.std.specs.Prelude.{◌≡◌, None, IfOk, IfSome, length, drop, count_by, nat_le, not, false, bytes_eq, unwrap_or, slice_get, option_copied, option_map};
-ghost use Rattle.std.specs.Io.KnownBytes.{Keeps};
-ghost use Rattle.std.specs.List.{list_all};
-ghost use Rattle.base_file.specs.BaseFile.{is_countable, saved_bytes};
-ghost use Rattle.base_file.specs.Saving.{CountsSaved, Saves, ReportsTooMany};
-ghost use Rattle.model_run.specs.Run.{Run, destination, nth};
+ghost use Rattle.std.specs.{Io.KnownBytes.Keeps, List.list_all};
+ghost use Rattle.base_file.specs.{BaseFile.is_countable, BaseFile.saved_bytes, Saving.CountsSaved, Saving.Saves, Saving.ReportsTooMany};
 ghost use Rattle.model_run.specs.World.{area_count, filed_at, waiting_at, is_settled, undelivered};
+ghost use Rattle.model_run.specs.Run.{Run, destination, nth};
 ghost use Rattle.model_replay.specs.Worlds.{IsWorldOf, OfSystem, encoded, made, message_at};
 
 use base_file::BaseFault;

@@ -1,32 +1,18 @@
 -- The area in link files, and the keys of its messages.
 use Rattle.std.proofs.Common.{◌≡◌, inl, inr, refl, sym, ap, ◌∙◌, ℕ, IsTrue, List, [], ◌∷◌, map, Option, Some, arith, nat_lt, ◌≢◌, ◌⊎◌, ◌++◌}
+use Rattle.std.proofs.lemmas.Bool.{cond-true, cond-false, Decides.nat_tests}
 use Rattle.std.specs.Prelude.{Bool, true, false, bytes_eq, is_some, ◌&&◌, not, find}
-use Rattle.std.specs.List.{AllByRecursion, list_all}
-use Rattle.echo_addr.specs.declared.address.Address.{Address}
-use Rattle.echo_addr.specs.Address.{IsAddress, net_node_of}
+use Rattle.std.specs.{List.AllByRecursion, List.list_all, Char.to_ascii_uppercase, Cmp.Lexicographic.bytes_decides}
+use Rattle.echo_addr.specs.{declared.address.Address.Address, Address.IsAddress, Address.net_node_of, declared.address.NetNode.NetNode}
 use Rattle.model_graph.specs.Walk.{Among, Different}
 use Rattle.model_graph.proofs.Members.{Among-at, Among-append_cases, Among-append_left, Among-append_right, Among-from_Contains, Contains-from_Among}
-use Rattle.model_run.specs.Nets.{Tidy}
+use Rattle.model_run.specs.{Nets.Tidy, Run.System, Orderly.tag_of, Tidy.lists, Tidy.Carries, AreaNets.net_of}
 use Rattle.echo_links.specs.Links.{Area, LinkFile, has_area, is_link, links_of, same_address, IsArea, IsFile, upper}
-use Rattle.echo_filed.specs.declared.key.Key.{Key}
-use Rattle.echo_filed.specs.declared.key.Key.TheVariants.{ById}
-use Rattle.echo_text.specs.Echo.{EchoText}
-use Rattle.echo_text.specs.Ids.{id_of}
-use Rattle.echo_filed.specs.Filed.{Filed, key_of}
-use Rattle.model_run.specs.Run.{System}
-use Rattle.model_run.specs.Orderly.{tag_of}
-use Rattle.model_run.specs.Tidy.{lists, Carries}
-use Rattle.model_run.specs.AreaNets.{net_of}
-use Rattle.model_run.proofs.TosserPremises.{Laws}
+use Rattle.echo_filed.specs.{declared.key.Key.Key, declared.key.Key.TheVariants.ById, Filed.Filed, Filed.key_of, Sets.entry_set, Sets.same_entry}
+use Rattle.echo_text.specs.{Echo.EchoText, Ids.id_of, Lines.is_tag, Lines.is_tag_byte}
 use Rattle.model_run.proofs.Lists.{not_both, and-parts, and-from, any-to, any-from, Among-map_to, Among-map_from, yes_or_no, Among-filter_from, Among-filter_to}
-use Rattle.std.specs.Char.{to_ascii_uppercase}
-use Rattle.std.specs.Cmp.Lexicographic.{bytes_decides}
-use Rattle.std.proofs.lemmas.Bool.{cond-true, cond-false}
-use Rattle.std.proofs.lemmas.Bool.Decides.{nat_tests}
-use Rattle.echo_text.specs.Lines.{is_tag, is_tag_byte}
-use Rattle.echo_addr.specs.declared.address.NetNode.{NetNode}
+use Rattle.model_run.proofs.TosserPremises.{Laws}
 use Rattle.echo_links.proofs.Addresses.{same_address_decides}
-use Rattle.echo_filed.specs.Sets.{entry_set, same_entry}
 use Rattle.echo_filed.proofs.Orders.{entry_set_is_set, same_entry_decides}
 use Rattle.model_steps.specs.Scanning.{exported, is_seen_by, is_sender, targets}
 use Rattle.model_run.specs.Tidy as files_are

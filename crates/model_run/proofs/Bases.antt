@@ -5,36 +5,20 @@ use Rattle.std.specs.Prelude.{true, false, bytes_eq, unwrap_or, option_map, filt
 use Rattle.std.specs.List.{list_any}
 use Rattle.model_graph.specs.Walk.{Among}
 use Rattle.model_graph.proofs.Members.{Among-append_cases}
-use Rattle.echo_text.specs.Echo.{IsEcho, msgid_of}
-use Rattle.echo_filed.specs.declared.key.Key.{Key}
-use Rattle.echo_filed.specs.declared.key.Key.TheVariants.{ById}
-use Rattle.echo_filed.specs.Filed.{Filed, key_of, key_with, same_key}
+use Rattle.echo_text.specs.{Echo.IsEcho, Echo.msgid_of, Refusal.text_refusal, Ids.id_of}
+use Rattle.echo_filed.specs.{declared.key.Key.Key, declared.key.Key.TheVariants.ById, Filed.Filed, Filed.key_of, Filed.key_with, Filed.same_key, Stubs.stub_of, Written.echo_of}
 use Rattle.base_file.specs.Base.{is_known}
-use Rattle.model_steps.specs.Posting.{has_id, posted, posting}
-use Rattle.echo_filed.specs.Stubs.{stub_of}
-use Rattle.model_steps.specs.Purging.{purged}
+use Rattle.model_steps.specs.Scanning.{scanned, packets_of, packet_to, header_to, copy_to, recipients, goes_to}
+use Rattle.model_steps.specs.{Posting.has_id, Posting.posted, Posting.posting, Purging.purged, declared.packet.Packet.Packet, declared.draft.Draft.Draft, declared.stamp.Stamp.Stamp}
+use Rattle.model_steps.specs.Tossing.{received, tossing, sender_of}
 use Rattle.model_run.specs.Run.{System, filing, nth, Run, fresh, posting_at, tossing_at, scanning_at, purging_at, receiver, changing, taking, after_event, start}
-use Rattle.model_run.specs.Orderly.{count, FiledUnchanged, SameContent}
+use Rattle.model_run.specs.{Orderly.count, Orderly.FiledUnchanged, Orderly.SameContent, Event.RunEvent, Fits.FilesFit, Keeping.content_of}
 use Rattle.echo_links.specs.Links.{IsFile, LinkFile, upper}
-use Rattle.model_run.proofs.EventKinds.{each-kind, scan_of}
-use Rattle.model_run.proofs.TosserPremises.{Laws}
 use Rattle.model_run.proofs.Lists.{any-to, any-from, and-parts, not_both, Among-filter_from, Among-take, Among-drop, change-all, nth-among, Among-map_from}
-use Rattle.model_run.proofs.Targets.{some_same}
+use Rattle.model_run.proofs.{EventKinds.each-kind, EventKinds.scan_of, TosserPremises.Laws, Targets.some_same}
 use Rattle.echo_addr.specs.declared.address.Address.{Address}
 use Rattle.echo_packet.specs.Message.{Message}
-use Rattle.echo_text.specs.Refusal.{text_refusal}
-use Rattle.model_steps.specs.declared.packet.Packet.{Packet}
-use Rattle.model_steps.specs.declared.draft.Draft.{Draft}
-use Rattle.model_steps.specs.declared.stamp.Stamp.{Stamp}
-use Rattle.echo_text.specs.Ids.{id_of}
-use Rattle.model_steps.specs.Tossing.{received, tossing, sender_of}
-use Rattle.model_steps.specs.Scanning.{scanned, packets_of, packet_to, header_to, copy_to, recipients, goes_to}
-use Rattle.echo_filed.specs.Written.{echo_of}
-use Rattle.model_run.specs.Event.{RunEvent}
-use Rattle.model_run.specs.Fits.{FilesFit}
-use Rattle.model_steps.proofs.Posted.{posting_posted}
-use Rattle.model_steps.proofs.Received.{tossing_received}
-use Rattle.model_run.specs.Keeping.{content_of}
+use Rattle.model_steps.proofs.{Posted.posting_posted, Received.tossing_received}
 use Rattle.model_run.proofs.TosserPremises as counts
 
 pub IsKept-itself : (m : Filed) → IsKept m m

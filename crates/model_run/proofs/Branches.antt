@@ -1,14 +1,12 @@
 -- A posting spreads in branches, one for each link of the poster; links join two branches only at those links.
 use Rattle.std.proofs.Common.{◌≡◌, ◌≢◌, ◌⊎◌, inl, inr, refl, sym, subst, ◌∙◌, ℕ, zero, suc, ◌≤◌, arith, IsTrue, List, [], ◌∷◌, ◌++◌, length}
 use Rattle.std.specs.Prelude.{Bool, true, false}
-use Rattle.echo_addr.specs.declared.address.Address.{Address}
-use Rattle.echo_addr.specs.declared.address.NetNode.{NetNode}
-use Rattle.echo_addr.specs.Address.{net_node_of}
+use Rattle.echo_addr.specs.{declared.address.Address.Address, declared.address.NetNode.NetNode, Address.net_node_of}
 use Rattle.model_graph.specs.Walk.{Among, Simple, Walk}
 use Rattle.echo_filed.specs.Filed.{Filed}
 use Rattle.model_steps.specs.Scanning.{is_seen_by}
-use Rattle.model_run.proofs.Lists.{not_both, yes_or_no}
 use Rattle.model_run.proofs.Spreads.{Came, IsNear, Spread, came_from, first_seen, from_poster, longer, near-is, one_or_two, source}
+use Rattle.model_run.proofs.Lists.{not_both, yes_or_no}
 
 -- the second entry of a path, or the system's entry if there is none
 abbrev pub second : NetNode → List NetNode → NetNode

@@ -1,11 +1,9 @@
 -- The chain 0, 1, 2: it is tidy, and a false SEEN-BY hides its end.
 use Rattle.std.proofs.Common.{◌≡◌, ◌≢◌, ◌⊎◌, inl, inr, refl, sym, subst, ◌∙◌, ℕ, ◌+◌, ◌<◌, arith, IsTrue, List, [], ◌∷◌}
-use Rattle.std.specs.Prelude.{Bool, ◌&&◌, ◌||◌, ◌==◌, nat_lt}
 use Rattle.std.proofs.lemmas.Bool.{ltb-true, lt-ltb, and_parts, and_from, or_cases, eq-eqb, eqb-true}
-use Rattle.model_graph.specs.Walk.{Different, Simple, Walk, Reaches}
-use Rattle.model_graph.specs.Cycle.{NoCycle}
-use Rattle.model_graph.proofs.Members.{ℕ-can_tell, Connected-from_root}
-use Rattle.model_graph.proofs.Cycles.{Polygons-from_no_cycle}
+use Rattle.std.specs.Prelude.{Bool, ◌&&◌, ◌||◌, ◌==◌, nat_lt}
+use Rattle.model_graph.specs.{Walk.Different, Walk.Simple, Walk.Walk, Walk.Reaches, Cycle.NoCycle}
+use Rattle.model_graph.proofs.{Members.ℕ-can_tell, Members.Connected-from_root, Cycles.Polygons-from_no_cycle}
 use Rattle.model_run.specs.Nets.{Net, Tidy}
 
 -- neighbours are linked

@@ -2,24 +2,18 @@
 use Rattle.std.proofs.Common.{◌≡◌, ◌≢◌, inl, inr, refl, ap, List, [], ◌∷◌, ◌++◌, map, Option, Some, arith}
 use Rattle.std.specs.Prelude.{Bool, true, false, filter, not, is_none, unwrap_or, option_map}
 use Rattle.std.specs.List.{flat_map}
-use Rattle.echo_addr.specs.declared.address.Address.{Address}
-use Rattle.echo_addr.specs.declared.address.NetNode.{NetNode}
-use Rattle.echo_addr.specs.Address.{net_node_of}
+use Rattle.echo_addr.specs.{declared.address.Address.Address, declared.address.NetNode.NetNode, Address.net_node_of}
 use Rattle.model_graph.specs.Walk.{Among, Different}
 use Rattle.model_graph.proofs.Members.{Among-at}
 use Rattle.echo_packet.specs.Message.{Message}
-use Rattle.echo_text.specs.Echo.{IsEcho}
-use Rattle.echo_text.specs.Refusal.{text_refusal}
-use Rattle.model_steps.specs.declared.stamp.Stamp.{Stamp}
+use Rattle.echo_text.specs.{Echo.IsEcho, Refusal.text_refusal}
+use Rattle.model_steps.specs.Scanning.{packet_to, header_to, copy_to, exported, goes_to, targets, recipients}
+use Rattle.model_steps.specs.{declared.stamp.Stamp.Stamp, Tossing.received}
 use Rattle.echo_links.specs.Links.{LinkFile, is_link, links_of, same_address, IsFile}
 use Rattle.echo_filed.specs.Filed.{Filed, key_of}
-use Rattle.model_steps.specs.Tossing.{received}
-use Rattle.model_steps.specs.Scanning.{packet_to, header_to, copy_to, exported, goes_to, targets, recipients}
-use Rattle.model_run.specs.Run.{destination}
-use Rattle.model_run.specs.Orderly.{copies}
-use Rattle.model_run.proofs.TosserPremises.{Laws}
+use Rattle.model_run.specs.{Run.destination, Orderly.copies, Keeping.content_of}
 use Rattle.model_run.proofs.Lists.{not_both, yes_or_no, and-parts, and-from, any-to, any-from, filter-yes, Among-filter_from, Among-filter_to, Among-flat_map_to}
-use Rattle.model_run.specs.Keeping.{content_of}
+use Rattle.model_run.proofs.TosserPremises.{Laws}
 
 -- the copy of a message, as its receiver files it
 unfoldable pub copied : LinkFile → Filed → Filed

@@ -4,18 +4,12 @@ use Rattle.std.specs.Prelude.{take}
 use Rattle.echo_addr.specs.declared.address.Address.{Address}
 use Rattle.model_graph.specs.Walk.{Among}
 use Rattle.echo_packet.specs.Message.{Message}
-use Rattle.model_steps.specs.declared.packet.Packet.{Packet}
+use Rattle.model_steps.specs.{declared.packet.Packet.Packet, Posting.posting, Tossing.sender_of, Tossing.tossing}
 use Rattle.echo_links.specs.Links.{LinkFile}
 use Rattle.echo_filed.specs.Filed.{Filed}
-use Rattle.model_steps.specs.Posting.{posting}
-use Rattle.model_steps.specs.Tossing.{sender_of, tossing}
-use Rattle.model_run.specs.Event.{RunEvent}
 use Rattle.model_run.specs.Run.{System, Run, after_event, filing, fresh, posting_at, purging_at, receiver, run_of, scanning_at, start, taking, tossing_at}
-use Rattle.model_run.proofs.EventKinds.{each-kind}
-use Rattle.model_run.proofs.Lists.{change-all, Among-map_from}
-use Rattle.model_run.proofs.Bases.{Kept, Kept-filed, Kept-purged, Kept-scanned}
-use Rattle.model_run.proofs.WholeRuns.{along}
-use Rattle.model_run.proofs.TosserPremises.{Laws}
+use Rattle.model_run.specs.Event.{RunEvent}
+use Rattle.model_run.proofs.{EventKinds.each-kind, Lists.change-all, Lists.Among-map_from, Bases.Kept, Bases.Kept-filed, Bases.Kept-purged, Bases.Kept-scanned, WholeRuns.along, TosserPremises.Laws}
 
 module _ (P : System → Type 0) (filed : (s : System) (o : Option Filed) → P s → P (filing s o))
     (scans : (s : System) → P s → P (scanning_at s)) (purges : (s : System) → P s → P (purging_at s)) where

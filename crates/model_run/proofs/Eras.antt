@@ -1,14 +1,12 @@
 -- Every run by the rules is orderly.
 use Rattle.std.proofs.Common.{◌≡◌, ◌≢◌, inl, inr, refl, sym, subst, ap, ◌∙◌, IsTrue, List, [], ◌∷◌, map, None, arith}
 use Rattle.std.specs.Prelude.{Bool, true, false}
-use Rattle.model_graph.specs.Walk.{Among, Reaches}
-use Rattle.model_graph.specs.Beyond.{IsWay}
-use Rattle.model_graph.proofs.Members.{CanTell}
-use Rattle.model_graph.proofs.Cycles.{along_ways}
-use Rattle.model_run.specs.Nets.{Net, Tidy}
+use Rattle.model_graph.specs.{Walk.Among, Walk.Reaches, Beyond.IsWay}
+use Rattle.model_graph.proofs.{Members.CanTell, Cycles.along_ways}
 use Rattle.model_run.specs.Events.{Filed, Event, Posts, Exports, Comes, filed, copies, Has}
 use Rattle.model_run.specs.Rules.{Always, FilesOnce, IsPossible, Keeps, Kept, NewKeys, Rule, SendsOnce, Tells, filing, keeping, sending, telling, keys}
 use Rattle.model_run.specs.RulesOrderly.{Compares, IsSettled, Orderly, place, goal}
+use Rattle.model_run.specs.Nets.{Net, Tidy}
 use Rattle.model_run.proofs.Targets.{simple, parted, none_some, Invariant, view_of}
 use Rattle.model_run.proofs.Steps.{Has-cases, posting-keeps, arrival-keeps, coming-keeps, exporting-keeps}
 use Rattle.model_run.proofs.Lists.{Among-map_from}

@@ -1,30 +1,22 @@
 -- Lists of exports, and the packets of a run as its exports.
 use Rattle.std.proofs.Common.{◌≡◌, ◌≢◌, inl, inr, refl, sym, ap, ◌∙◌, ℕ, ◌+◌, ◌≤◌, arith, List, [], ◌∷◌, ◌++◌, map, Option, Some, None, subst, length, take, drop, ◌<◌}
-use Rattle.std.specs.Prelude.{Bool, true, false, filter, if◌then◌else◌}
-use Rattle.std.proofs.lemmas.Bool.{eq-eqb, ne_eqb}
 use Rattle.std.proofs.lemmas.List.{append_assoc, append-nil, map-append, take-append-drop, take-append-le, take_all}
-use Rattle.std.proofs.lemmas.List.Elements.{filter-append}
+use Rattle.std.proofs.lemmas.{Bool.eq-eqb, Bool.ne_eqb, List.Elements.filter-append}
+use Rattle.std.specs.Prelude.{Bool, true, false, filter, if◌then◌else◌}
 use Rattle.echo_addr.specs.declared.address.Address.{Address}
-use Rattle.echo_filed.specs.declared.key.Key.{Key}
-use Rattle.model_steps.specs.declared.packet.Packet.{Packet}
-use Rattle.model_steps.specs.declared.stamp.Stamp.{Stamp}
-use Rattle.echo_filed.specs.Filed.{Filed, key_of, same_key}
-use Rattle.model_steps.specs.Scanning.{scanned, copy_to, goes_to, targets}
-use Rattle.model_steps.specs.Stamps.{is_stamp}
+use Rattle.echo_filed.specs.{declared.key.Key.Key, Filed.Filed, Filed.key_of, Filed.same_key}
+use Rattle.model_steps.specs.{declared.packet.Packet.Packet, declared.stamp.Stamp.Stamp, Scanning.scanned, Scanning.copy_to, Scanning.goes_to, Scanning.targets, Stamps.is_stamp, Tossing.sender_of}
 use Rattle.model_run.specs.Event.{RunEvent, Posting, Scanning, Delivery, PartDelivery, Purging}
 use Rattle.model_run.specs.Run.{System, Run, after_event, after_events, change, delivery, nth, part_delivery, scanning, scanning_at, destination, filing, fresh, purging_at, tossing_at, run_of, start, taking}
-use Rattle.model_run.specs.Orderly.{count, sent_count, copies, origin}
 use Rattle.model_run.specs.Exports.{Export, event_exports, export_of, exports_after, scan_exports, sent_by, IsSentCopy, exports}
+use Rattle.model_run.specs.{Orderly.count, Orderly.sent_count, Orderly.copies, Orderly.origin, Fits.FilesFit}
 use Rattle.model_run.proofs.Lists.{yes_or_no, filter-all, filter-no, filter-none, filter-yes, Among-map_from, any-from, any-to, Among-filter_from, Among-filter_to, Among-drop, nth-among, nth-change, nth-changed, Among-map_to}
+use Rattle.model_run.proofs.Bases.{Kept-cursor, Kept-length, SystemOk, count-is, RunOk, event-ok, start-ok}
+use Rattle.model_run.proofs.{TosserPremises.Laws, ScanPackets.copy-packet, ScanPackets.scanned-copy, ScanPackets.scanned-count, ScanPackets.scanned-origin}
 use Rattle.model_graph.specs.Walk.{Among}
 use Rattle.model_graph.proofs.Members.{Among-append_cases, Among-append_left, Among-append_right}
 use Rattle.echo_packet.specs.Message.{Message}
 use Rattle.echo_links.specs.Links.{LinkFile, same_address}
-use Rattle.model_steps.specs.Tossing.{sender_of}
-use Rattle.model_run.proofs.TosserPremises.{Laws}
-use Rattle.model_run.proofs.Bases.{Kept-cursor, Kept-length, SystemOk, count-is, RunOk, event-ok, start-ok}
-use Rattle.model_run.proofs.ScanPackets.{copy-packet, scanned-copy, scanned-count, scanned-origin}
-use Rattle.model_run.specs.Fits.{FilesFit}
 use Rattle.model_run.proofs.TosserPremises as counts
 
 -- the count of a joined list is the sum of the counts

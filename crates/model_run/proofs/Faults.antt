@@ -1,36 +1,20 @@
 -- If no carrier's posting does harm, the area is tidy. So an area is tidy, or some posting does harm.
 use Rattle.std.proofs.Common.{◌≡◌, ◌≢◌, ◌⊎◌, inl, inr, sym, subst, ap, ◌∙◌, ℕ, zero, suc, ◌<◌, arith, IsTrue, List, ◌∷◌, length, Some, []}
-use Rattle.std.specs.Prelude.{Bool, true}
 use Rattle.std.proofs.lemmas.Bool.{cases_eq}
-use Rattle.echo_addr.specs.declared.address.Address.{Address}
-use Rattle.echo_addr.specs.Address.{net_node_of}
-use Rattle.model_graph.specs.Walk.{Among, Connected, Reaches, Simple}
-use Rattle.model_graph.specs.Beyond.{Parted}
-use Rattle.model_graph.specs.Cycle.{Polygons, IsCycle}
-use Rattle.model_graph.proofs.Cycles.{Polygons-from_Parted}
-use Rattle.model_graph.proofs.Members.{Among-cases}
+use Rattle.std.specs.{Prelude.Bool, Prelude.true, List.list_any}
+use Rattle.echo_addr.specs.{declared.address.Address.Address, Address.net_node_of}
+use Rattle.model_graph.specs.{Walk.Among, Walk.Connected, Walk.Reaches, Walk.Simple, Beyond.Parted, Cycle.Polygons, Cycle.IsCycle, Loops.HasUnlinked}
+use Rattle.model_graph.proofs.{Cycles.Polygons-from_Parted, Members.Among-cases}
 use Rattle.echo_links.specs.Links.{LinkFile, has_area}
 use Rattle.echo_filed.specs.Filed.{Filed}
-use Rattle.model_run.specs.Event.{RunEvent}
-use Rattle.model_run.specs.Run.{nth, run_of, Run, System}
-use Rattle.model_run.specs.Tidy.{Carries, lists, Tidy}
-use Rattle.model_run.proofs.Lists.{any-to, Among-map_to, not_both, nth-cases, yes_or_no}
 use Rattle.model_run.specs.Grave.{AllAreCarriers, AreTakenForOne, AreTwins, HaveOwnAddresses, GraveFault, SelfLink, OneSided, SameNetNode, Apart, Loop}
-use Rattle.model_run.specs.Harms.{Harm, IsHarmed}
-use Rattle.model_run.proofs.Branches.{Touches, closed-by, no_way_around}
+use Rattle.model_run.specs.{Event.RunEvent, Run.nth, Run.run_of, Run.Run, Run.System, Tidy.Carries, Tidy.lists, Tidy.Tidy, Harms.Harm, Harms.IsHarmed, LawsOfRuns.LawsOfRuns}
+use Rattle.model_run.specs.{Postings.ComesToRest, Postings.trial_posting, Postings.post_and_scan, Orderly.Orderly}
+use Rattle.model_run.proofs.Lists.{any-to, Among-map_to, not_both, nth-cases, yes_or_no}
 use Rattle.model_run.proofs.Holders.{Holds, Unharmed, harm-or_none, spread, listed-sent}
-use Rattle.model_run.specs.LawsOfRuns.{LawsOfRuns}
-use Rattle.model_run.proofs.HarmLists.{among-nth, nth-index}
-use Rattle.model_run.specs.Postings.{ComesToRest, trial_posting, post_and_scan}
-use Rattle.model_run.proofs.Places.{carrier-file, lister-carries}
 use Rattle.model_run.proofs.Spreads.{IsNear, Spread, answered, from_poster, no_kite, not_hidden, one_or_two, reached}
-use Rattle.model_run.proofs.Targets.{some_same, none_some}
-use Rattle.std.specs.List.{list_any}
-use Rattle.model_graph.specs.Loops.{HasUnlinked}
-use Rattle.model_run.specs.Orderly.{Orderly}
-use Rattle.model_run.proofs.Resting.{runs-settle}
-use Rattle.model_run.proofs.OneMessage.{poster}
-use Rattle.model_run.proofs.HarmSteps.{run-files}
+use Rattle.model_run.proofs.{Branches.Touches, Branches.closed-by, Branches.no_way_around, HarmLists.among-nth, HarmLists.nth-index, Places.carrier-file, Places.lister-carries}
+use Rattle.model_run.proofs.{Targets.some_same, Targets.none_some, Resting.runs-settle, OneMessage.poster, HarmSteps.run-files}
 
 module _ (files : List LinkFile) (known : LawsOfRuns files) (tag : List ℕ) (one_file : HaveOwnAddresses files) (all_known : AllAreCarriers files tag)
     (moves : ℕ → List RunEvent) (rests : (i : ℕ) → ComesToRest files tag i (moves i)) where

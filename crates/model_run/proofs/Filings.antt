@@ -1,34 +1,21 @@
 -- The base is the history, as the last purge left it.
 use Rattle.std.proofs.Common.{◌≡◌, refl, sym, ap, ◌∙◌, ℕ, zero, suc, ◌+◌, ◌≤◌, arith, List, [], ◌∷◌, ◌++◌, length, drop, Option, Some, None, subst, ◌⊎◌, inl, inr}
+use Rattle.std.proofs.lemmas.{List.append_assoc, List.append-nil, Bool.cond-true, Bool.cond-false}
 use Rattle.std.specs.Prelude.{Bool, true, false, if◌then◌else◌}
 use Rattle.echo_addr.specs.declared.address.Address.{Address}
 use Rattle.echo_packet.specs.Message.{Message}
 use Rattle.echo_links.specs.Links.{LinkFile}
-use Rattle.echo_filed.specs.Filed.{Filed, key_of}
-use Rattle.echo_filed.specs.Stubs.{stub_of}
+use Rattle.echo_filed.specs.{Filed.Filed, Filed.key_of, Stubs.stub_of, declared.key.Key.Key}
 use Rattle.echo_filed.proofs.Keys.{stub_of_stub}
-use Rattle.model_steps.specs.declared.stamp.Stamp.{Stamp}
-use Rattle.model_steps.specs.Posting.{posting, IsAllowed, posted}
-use Rattle.model_steps.specs.Purging.{purged}
-use Rattle.model_steps.specs.Stamps.{is_stamp}
-use Rattle.model_steps.specs.Tossing.{tossing, received}
-use Rattle.model_run.specs.Run.{System, filing, tossing_at, IsLater}
+use Rattle.model_steps.specs.{declared.stamp.Stamp.Stamp, Posting.posting, Posting.IsAllowed, Posting.posted, Purging.purged, Stamps.is_stamp, Tossing.tossing, Tossing.received}
+use Rattle.model_steps.specs.declared.{packet.Packet.Packet, draft.Draft.Draft}
 use Rattle.model_run.specs.Lone.{LoneEvent, LoneSystem, PostHere, PurgeHere, ScanHere, TossHere, after_all_lone, after_lone, lone_at_first, lone_run, with_scanned, with_system}
-use Rattle.std.proofs.lemmas.List.{append_assoc, append-nil}
+use Rattle.model_run.specs.{Run.System, Run.filing, Run.tossing_at, Run.IsLater, Orderly.count, Owed.IsFiledBy, Owed.IsFromLink}
 use Rattle.model_graph.specs.Walk.{Among}
 use Rattle.model_graph.proofs.Members.{Among-append_left, Among-append_cases, Among-append_right}
-use Rattle.model_steps.specs.declared.packet.Packet.{Packet}
-use Rattle.std.proofs.lemmas.Bool.{cond-true, cond-false}
-use Rattle.echo_filed.specs.declared.key.Key.{Key}
 use Rattle.base_file.specs.Base.{is_known}
-use Rattle.model_steps.specs.declared.draft.Draft.{Draft}
-use Rattle.model_steps.proofs.FirstRefusals.{refusal_none}
-use Rattle.model_steps.proofs.Posted.{posting_posted}
-use Rattle.model_steps.proofs.Received.{received_tossing, tossing_received}
-use Rattle.model_run.specs.Orderly.{count}
-use Rattle.model_run.proofs.Lists.{not_both, yes_or_no}
-use Rattle.model_run.specs.Owed.{IsFiledBy, IsFromLink}
-use Rattle.model_run.proofs.Areas.{link-has_area as area-has}
+use Rattle.model_steps.proofs.{FirstRefusals.refusal_none, Posted.posting_posted, Received.received_tossing, Received.tossing_received}
+use Rattle.model_run.proofs.{Lists.not_both, Lists.yes_or_no, Areas.link-has_area as area-has}
 
 pub purged-none : (ms : List Filed) → purged ms 0 ≡ ms
 unfolding purged

@@ -1,12 +1,10 @@
 -- Items of lists by their index, and the items after some of them.
 use Rattle.std.proofs.Common.{◌≡◌, inl, inr, refl, sym, ap, ℕ, zero, suc, ◌<◌, arith, List, [], ◌∷◌, ◌++◌, length, map, Some, None}
-use Rattle.std.specs.Prelude.{Bool, false}
-use Rattle.std.specs.List.{position_or_len}
 use Rattle.std.proofs.lemmas.Bool.{cond-true, cond-false}
+use Rattle.std.specs.{Prelude.Bool, Prelude.false, List.position_or_len}
 use Rattle.model_graph.specs.Walk.{Among}
 use Rattle.model_run.specs.Run.{nth, change}
-use Rattle.model_run.proofs.Lists.{yes_or_no}
-use Rattle.model_run.proofs.Targets.{some_same, none_some}
+use Rattle.model_run.proofs.{Lists.yes_or_no, Targets.some_same, Targets.none_some}
 
 -- there is an item at each index below the length, and at no other
 pub nth-below : {X : Type 0} (i : ℕ) (xs : List X) → i < length xs → (x : X) × (nth i xs ≡ Some x)

@@ -1,38 +1,24 @@
 -- In an orderly run that has settled after one posting, each carrier got the posting from just one link.
 use Rattle.std.proofs.Common.{◌≡◌, ◌≢◌, ◌⊎◌, inl, inr, refl, sym, subst, ap, ◌∙◌, ℕ, ◌≤◌, arith, IsTrue, List, [], ◌∷◌, take, drop, map, Some, None}
-use Rattle.std.specs.Prelude.{Bool, true, false}
-use Rattle.std.specs.List.{AllByRecursion}
-use Rattle.std.proofs.lemmas.Bool.{cases_eq}
-use Rattle.std.proofs.lemmas.List.{take-append-drop}
-use Rattle.echo_addr.specs.declared.address.Address.{Address}
-use Rattle.echo_addr.specs.Address.{net_node_of}
+use Rattle.std.proofs.lemmas.{Bool.cases_eq, List.take-append-drop}
+use Rattle.std.specs.{Prelude.Bool, Prelude.true, Prelude.false, List.AllByRecursion}
+use Rattle.echo_addr.specs.{declared.address.Address.Address, Address.net_node_of}
 use Rattle.model_graph.specs.Walk.{Among, Different}
 use Rattle.model_graph.proofs.Members.{Among-append_cases}
-use Rattle.model_steps.specs.declared.packet.Packet.{Packet}
+use Rattle.model_steps.specs.{declared.packet.Packet.Packet, Posting.posted, Scanning.is_seen_by}
 use Rattle.echo_text.specs.Echo.{EchoText}
 use Rattle.echo_links.specs.Links.{LinkFile, has_area, is_link, links_of}
-use Rattle.echo_filed.specs.declared.key.Key.{Key}
-use Rattle.echo_filed.specs.Filed.{Filed, key_of}
-use Rattle.model_steps.specs.Posting.{posted}
-use Rattle.model_steps.specs.Scanning.{is_seen_by}
-use Rattle.model_run.specs.Event.{RunEvent}
+use Rattle.echo_filed.specs.{declared.key.Key.Key, Filed.Filed, Filed.key_of}
 use Rattle.model_run.specs.Run.{Run, System, destination, nth, run_of, filing, fresh, scanning_at}
 use Rattle.model_run.specs.Orderly.{IsPosting, Settled, copies, count, origin, sent_count, tag_of}
-use Rattle.model_run.specs.Exports.{Export, IsSentCopy, exports, sent_by}
-use Rattle.model_run.specs.Tidy.{Carries, lists}
-use Rattle.model_run.proofs.Lists.{Among-take, not_both, nth-among}
-use Rattle.model_run.specs.Grave.{AllAreCarriers}
-use Rattle.model_run.specs.Harms.{Harm, SentItsOwn}
-use Rattle.model_run.specs.Postings.{IsMove, trial_posting, post_and_scan}
-use Rattle.model_run.specs.LawsOfRuns.{LawsOfRuns}
-use Rattle.model_run.proofs.HarmLists.{among-nth, nth-map, nth-changed}
+use Rattle.model_run.specs.{Event.RunEvent, Exports.Export, Exports.IsSentCopy, Exports.exports, Exports.sent_by, Tidy.Carries, Tidy.lists, Grave.AllAreCarriers, Harms.Harm, Harms.SentItsOwn}
+use Rattle.model_run.specs.{Postings.IsMove, Postings.trial_posting, Postings.post_and_scan, LawsOfRuns.LawsOfRuns}
 use Rattle.model_run.proofs.OneMessage.{Arrived, OnlyPosted, only-posted, post_of, post_of-tag, poster, counted, counted-one, one-or_zero, sent-part, sent-two, posted-at}
 use Rattle.model_run.proofs.Places.{carrier-file, file-carries, file-lists, lists-link, one-system, lists-file}
-use Rattle.model_run.proofs.Resting.{export-of, file-there, system-there}
-use Rattle.model_run.proofs.Spreads.{Came, Spread}
-use Rattle.model_run.proofs.HarmSteps.{run-files, after_one_more}
-use Rattle.model_run.proofs.Targets.{some_same, none_some}
 use Rattle.model_run.proofs.Areas.{link-area, among-link, among-seen, exported-path, listed-from, listed-to, seen-among, target-link, target-to, target-unseen, link-among, key-tag}
+use Rattle.model_run.proofs.{Lists.Among-take, Lists.not_both, Lists.nth-among, HarmLists.among-nth, HarmLists.nth-map, HarmLists.nth-changed}
+use Rattle.model_run.proofs.{Resting.export-of, Resting.file-there, Resting.system-there, Spreads.Came, Spreads.Spread, HarmSteps.run-files, HarmSteps.after_one_more}
+use Rattle.model_run.proofs.Targets.{some_same, none_some}
 
 -- some item has the property, or all have the other one
 some-or_all : {X : Type 0} (P Q : X → Type 0) → ((x : X) → P x ⊎ Q x) → (xs : List X) → ((x : X) × Among x xs × P x) ⊎ ((x : X) → Among x xs → Q x)

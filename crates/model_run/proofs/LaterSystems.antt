@@ -1,22 +1,16 @@
 -- A system keeps its messages over all events.
 use Rattle.std.proofs.Common.{◌≡◌, inl, inr, refl, sym, subst, ℕ, arith, List, [], ◌∷◌, ◌++◌, length, Option, Some, None}
-use Rattle.std.specs.Prelude.{take}
 use Rattle.std.proofs.lemmas.List.{append_assoc, append-nil}
+use Rattle.std.specs.Prelude.{take}
 use Rattle.echo_addr.specs.declared.address.Address.{Address}
 use Rattle.echo_packet.specs.Message.{Message}
-use Rattle.model_steps.specs.declared.packet.Packet.{Packet}
+use Rattle.model_steps.specs.{declared.packet.Packet.Packet, Posting.posting, Tossing.sender_of, Tossing.tossing}
 use Rattle.echo_links.specs.Links.{LinkFile}
 use Rattle.echo_filed.specs.Filed.{Filed}
-use Rattle.model_steps.specs.Posting.{posting}
-use Rattle.model_steps.specs.Tossing.{sender_of, tossing}
-use Rattle.model_run.specs.Event.{RunEvent}
 use Rattle.model_run.specs.Run.{IsLater, System, Run, after_event, after_events, change, filing, nth, posting_at, purging_at, receiver, run_of, scanning_at, start, taking, tossing_at}
-use Rattle.model_run.proofs.EventKinds.{each-kind}
-use Rattle.model_run.proofs.TosserPremises.{Laws}
-use Rattle.model_run.proofs.Lists.{nth-among, nth-changed}
-use Rattle.model_run.proofs.Bases.{Kept, Kept-cursor, Kept-length}
-use Rattle.model_run.proofs.EachSystem.{AllKept, event-kept, run-kept}
-use Rattle.model_run.proofs.HarmSteps.{after-append}
+use Rattle.model_run.specs.Event.{RunEvent}
+use Rattle.model_run.proofs.{EventKinds.each-kind, TosserPremises.Laws, Lists.nth-among, Lists.nth-changed, Bases.Kept, Bases.Kept-cursor, Bases.Kept-length}
+use Rattle.model_run.proofs.{EachSystem.AllKept, EachSystem.event-kept, EachSystem.run-kept, HarmSteps.after-append}
 
 pub later-itself : (s : System) → IsLater s s
 later-itself s = record { file = refl; cursor = omega arith; filed = ([], sym (append-nil s.history)) }

@@ -1,17 +1,13 @@
 -- Nets of a few systems that are all linked with each other: they are tidy.
 use Rattle.std.proofs.Common.{◌≡◌, ◌≢◌, inl, inr, refl, sym, ap, ◌∙◌, ℕ, ◌<◌, arith, IsTrue, List, [], ◌∷◌, ◌↔◌, subst, Some, None}
+use Rattle.std.proofs.lemmas.Bool.{ltb-true, lt-ltb, and_parts, and_from, Decides.eqb_tells}
 use Rattle.std.specs.Prelude.{Bool, true, false, not, ◌&&◌, ◌==◌, nat_lt}
-use Rattle.std.proofs.lemmas.Bool.{ltb-true, lt-ltb, and_parts, and_from}
-use Rattle.std.proofs.lemmas.Bool.Decides.{eqb_tells}
-use Rattle.model_graph.specs.Walk.{Among, Simple}
-use Rattle.model_graph.specs.Cycle.{Cycle}
+use Rattle.model_graph.specs.{Walk.Among, Walk.Simple, Cycle.Cycle}
 use Rattle.model_graph.proofs.Members.{ℕ-can_tell, walk_links}
-use Rattle.model_run.specs.Nets.{Net, Tidy}
 use Rattle.model_run.specs.Events.{Text, Filed, Copy, Event, Posts, Exports, Comes, Has, exported, filed}
 use Rattle.model_run.specs.Rules.{IsTarget, IsSentOnce, HasSeenBy, Rule, Kept, Always, IsPossible, ListsAll, filing, keeping, sending, telling, keys}
-use Rattle.model_run.specs.RulesOrderly.{IsMet, IsNeeded, IsSettled}
-use Rattle.model_run.proofs.Targets.{some_same}
-use Rattle.model_run.proofs.Chain.{chain, chain-parts, chain-tidy}
+use Rattle.model_run.specs.{Nets.Net, Nets.Tidy, RulesOrderly.IsMet, RulesOrderly.IsNeeded, RulesOrderly.IsSettled}
+use Rattle.model_run.proofs.{Targets.some_same, Chain.chain, Chain.chain-parts, Chain.chain-tidy}
 
 -- the systems 0, 1 and so on below n
 abbrev pub polygon : ℕ → Net ℕ ℕ

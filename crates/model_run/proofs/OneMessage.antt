@@ -1,36 +1,23 @@
 -- One system posts, and then messages only move: the holders of the message, and their senders.
 use Rattle.std.proofs.Common.{◌≡◌, ◌⊎◌, inl, inr, refl, sym, subst, ap, ◌∙◌, ℕ, ◌≤◌, ◌==◌, arith, List, [], ◌∷◌, ◌++◌, length, take, map, Option, Some, None, ◌≢◌, ◌+◌}
-use Rattle.std.specs.Prelude.{Bool, true, false, if◌then◌else◌}
-use Rattle.std.specs.List.{AllByRecursion}
 use Rattle.std.proofs.lemmas.Bool.{cond-false, eqb-true, cond-true}
+use Rattle.std.specs.{Prelude.Bool, Prelude.true, Prelude.false, Prelude.if◌then◌else◌, List.AllByRecursion}
 use Rattle.echo_addr.specs.declared.address.Address.{Address}
 use Rattle.model_graph.specs.Walk.{Among}
 use Rattle.model_graph.proofs.Members.{Among-append_left}
 use Rattle.echo_packet.specs.Message.{Message}
-use Rattle.model_steps.specs.declared.packet.Packet.{Packet}
-use Rattle.model_steps.specs.declared.stamp.Stamp.{Stamp}
+use Rattle.model_steps.specs.{declared.packet.Packet.Packet, declared.stamp.Stamp.Stamp, Posting.posted, Posting.posting, Tossing.received, Tossing.sender_of, Tossing.tossing, Tossing.zone_of}
+use Rattle.model_steps.specs.Scanning.{scanned}
 use Rattle.echo_links.specs.Links.{LinkFile, has_area, is_link, same_address, upper}
 use Rattle.echo_links.proofs.Addresses.{same_address_decides}
-use Rattle.echo_filed.specs.Written.{echo_of}
-use Rattle.echo_filed.specs.Filed.{Filed, key_of}
-use Rattle.model_steps.specs.Posting.{posted, posting}
-use Rattle.model_steps.specs.Tossing.{received, sender_of, tossing, zone_of}
-use Rattle.model_steps.specs.Scanning.{scanned}
-use Rattle.model_run.specs.Event.{RunEvent}
+use Rattle.echo_filed.specs.{Written.echo_of, Filed.Filed, Filed.key_of, declared.key.Key.Key}
 use Rattle.model_run.specs.Run.{System, Run, after_event, change, coming, delivery, destination, filing, fresh, nth, posting_at, receiver, run_of, scanning, scanning_at, taking, tossing_at}
-use Rattle.model_run.specs.Orderly.{copies, origin, count, sent_count}
+use Rattle.model_run.specs.{Event.RunEvent, Orderly.copies, Orderly.origin, Orderly.count, Orderly.sent_count, Postings.IsMove, Postings.trial_moment, Postings.trial_posting, Postings.trial_draft}
+use Rattle.model_run.specs.{LawsOfRuns.LawsOfRuns, Exports.Export, Exports.sent_by}
 use Rattle.model_run.proofs.Lists.{Among-take, first_passes, nth-among, nth-change, yes_or_no}
-use Rattle.model_run.specs.Postings.{IsMove, trial_moment, trial_posting, trial_draft}
-use Rattle.model_run.proofs.HarmLists.{nth-changed, nth-map, nth-map_from}
-use Rattle.model_run.specs.LawsOfRuns.{LawsOfRuns}
-use Rattle.model_run.proofs.Resting.{copy-there, export-of, file-there}
-use Rattle.model_run.proofs.HarmSteps.{along, after_one_more, tossing-is, tossing-new}
-use Rattle.model_run.proofs.WholeRuns.{taking-file}
-use Rattle.model_run.proofs.Targets.{some_same}
-use Rattle.model_run.proofs.Areas.{upper-same}
-use Rattle.echo_filed.specs.declared.key.Key.{Key}
+use Rattle.model_run.proofs.{HarmLists.nth-changed, HarmLists.nth-map, HarmLists.nth-map_from, Resting.copy-there, Resting.export-of, Resting.file-there}
+use Rattle.model_run.proofs.{HarmSteps.along, HarmSteps.after_one_more, HarmSteps.tossing-is, HarmSteps.tossing-new, WholeRuns.taking-file, Targets.some_same, Areas.upper-same}
 use Rattle.echo_filed.proofs.Keys.{same_key_decides}
-use Rattle.model_run.specs.Exports.{Export, sent_by}
 
 -- the message that the system files
 abbrev pub post_of : LinkFile → List ℕ → Filed

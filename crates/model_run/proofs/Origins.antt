@@ -5,28 +5,17 @@ use Rattle.echo_addr.specs.declared.address.Address.{Address}
 use Rattle.model_graph.specs.Walk.{Among}
 use Rattle.model_graph.proofs.Members.{Among-append_left, Among-append_cases}
 use Rattle.echo_packet.specs.Message.{Message}
-use Rattle.model_steps.specs.declared.packet.Packet.{Packet}
-use Rattle.model_steps.specs.declared.draft.Draft.{Draft}
-use Rattle.model_steps.specs.declared.stamp.Stamp.{Stamp}
+use Rattle.model_steps.specs.{declared.packet.Packet.Packet, declared.draft.Draft.Draft, declared.stamp.Stamp.Stamp, Posting.posting, Tossing.received, Tossing.tossing, Tossing.sender_of}
+use Rattle.model_steps.specs.Scanning.{goes_to, scanned}
 use Rattle.echo_links.specs.Links.{LinkFile}
 use Rattle.echo_filed.specs.Filed.{Filed, key_of}
-use Rattle.model_steps.specs.Posting.{posting}
-use Rattle.model_steps.specs.Tossing.{received, tossing, sender_of}
-use Rattle.model_steps.specs.Scanning.{goes_to, scanned}
 use Rattle.model_run.specs.Run.{System, Run, filing, posting_at, tossing_at, scanning_at, purging_at, change, receiver, changing, taking, after_event, after_events, run_of, start}
-use Rattle.model_run.specs.Event.{RunEvent}
-use Rattle.model_run.specs.Fits.{FilesFit}
-use Rattle.model_run.specs.Orderly.{copies, origin}
-use Rattle.model_run.proofs.EventKinds.{each-kind}
-use Rattle.model_run.proofs.TosserPremises.{Laws}
+use Rattle.model_run.specs.{Event.RunEvent, Fits.FilesFit, Orderly.copies, Orderly.origin, Keeping.content_of}
 use Rattle.model_run.proofs.Lists.{Among-change, Among-filter_from, Among-filter_to, Among-drop, Among-take, nth-among, Among-map_to, Among-map_from}
-use Rattle.model_steps.proofs.Posted.{posted_own}
-use Rattle.model_steps.proofs.Received.{tossing_received}
 use Rattle.model_run.proofs.Bases.{AllMade, Kept-waiting, SystemOk, RunOk, event-made, event-ok, start-ok, scanned-from, waiting-valid}
-use Rattle.model_run.specs.Keeping.{content_of}
-use Rattle.model_run.proofs.Copies.{copied, copied-content, copied-key, copies-are}
-use Rattle.model_run.proofs.StandingTosses.{origin-is}
+use Rattle.model_run.proofs.{EventKinds.each-kind, TosserPremises.Laws, Copies.copied, Copies.copied-content, Copies.copied-key, Copies.copies-are, StandingTosses.origin-is}
 use Rattle.model_run.proofs.Filings.{filing-from as filing-new}
+use Rattle.model_steps.proofs.{Posted.posted_own, Received.tossing_received}
 
 -- a posting of some system has the key and the content of the message
 abbrev pub Origin : List System → Filed → Type 0

@@ -5,16 +5,9 @@ use Rattle.echo_addr.specs.declared.address.Address.{Address}
 use Rattle.model_graph.specs.Walk.{Among, Different}
 use Rattle.echo_links.specs.Links.{LinkFile, has_area, is_link, links_of}
 use Rattle.echo_links.proofs.Addresses.{same_address_decides}
-use Rattle.model_run.specs.Event.{RunEvent}
-use Rattle.model_run.specs.Run.{System, nth, run_of}
-use Rattle.model_run.specs.Tidy.{Carries, lists}
+use Rattle.model_run.specs.{Event.RunEvent, Run.System, Run.nth, Run.run_of, Tidy.Carries, Tidy.lists, LawsOfRuns.LawsOfRuns}
 use Rattle.model_run.proofs.Lists.{and-from, and-parts, any-from, any-to, nth-among, Among-map_to}
-use Rattle.model_run.specs.LawsOfRuns.{LawsOfRuns}
-use Rattle.model_run.proofs.HarmLists.{nth-map}
-use Rattle.model_run.proofs.Resting.{file-there}
-use Rattle.model_run.proofs.HarmSteps.{run-files}
-use Rattle.model_run.proofs.Targets.{some_same, none_some}
-use Rattle.model_run.proofs.Areas.{one_name as different-same, link-area, link-among}
+use Rattle.model_run.proofs.{HarmLists.nth-map, Resting.file-there, HarmSteps.run-files, Targets.some_same, Targets.none_some, Areas.one_name as different-same, Areas.link-area, Areas.link-among}
 
 -- in a list of different images an image has one index
 different-index : {X Y : Type 0} (g : X → Y) (xs : List X) → Different (map g xs) → (i j : ℕ) (x y : X) → nth i xs ≡ Some x → nth j xs ≡ Some y → g x ≡ g y → i ≡ j

@@ -1,38 +1,26 @@
 -- The number of some keys that each system lacks: it falls with each filed message.
 use Rattle.std.proofs.Common.{◌≡◌, ◌⊎◌, inl, inr, refl, sym, subst, ap, ◌∙◌, ℕ, zero, suc, ◌+◌, ◌<◌, ◌≤◌, arith, List, [], ◌∷◌, ◌++◌, Option, Some, None, ◌≢◌, length, take, drop, map}
+use Rattle.std.proofs.lemmas.{Bool.cases_eq, Bool.eqb-true, List.append_assoc, List.append-nil, List.drop_all}
 use Rattle.std.specs.Prelude.{Bool, true, false, if◌then◌else◌, ◌&&◌, filter, is_none}
+use Rattle.std.specs.List.{AllByRecursion}
 use Rattle.echo_addr.specs.declared.address.Address.{Address}
 use Rattle.model_graph.specs.Walk.{Among}
 use Rattle.model_graph.proofs.Members.{Among-append_left, Among-append_right}
 use Rattle.echo_packet.specs.Message.{Message}
-use Rattle.echo_filed.specs.declared.key.Key.{Key}
-use Rattle.echo_filed.specs.Filed.{Filed, key_of, same_key, key_with}
+use Rattle.echo_filed.specs.{declared.key.Key.Key, Filed.Filed, Filed.key_of, Filed.same_key, Filed.key_with, Written.echo_of}
 use Rattle.echo_filed.proofs.Keys.{same_key_decides}
 use Rattle.base_file.specs.Base.{is_known}
-use Rattle.model_steps.specs.Tossing.{received, tossing, sender_of}
+use Rattle.model_steps.specs.{Tossing.received, Tossing.tossing, Tossing.sender_of, declared.packet.Packet.Packet}
 use Rattle.model_run.specs.Run.{System, change, filing, tossing_at, Run, coming, delivery, destination, nth, receiver, run_of, scanning, scanning_at, taking, with_index}
+use Rattle.model_run.specs.{Event.RunEvent, Event.Scanning, Event.Delivery, Orderly.Settled, Orderly.copies, Orderly.origin, Exports.Export, Exports.exports, Tidy.lists, Grave.AllAreCarriers}
+use Rattle.model_run.specs.{Postings.IsMove, Postings.trial_moment, LawsOfRuns.LawsOfRuns}
 use Rattle.model_run.proofs.Lists.{any-from, any-to, not_both, Among-change, Among-filter_to, Among-take, and-from, and-parts, nth-among, nth-change, Among-map_to, Among-map_from}
 use Rattle.model_run.proofs.HarmSteps.{tossing-is, after_one_more, all-append, run-files, tossing-new}
-use Rattle.std.specs.List.{AllByRecursion}
-use Rattle.std.proofs.lemmas.Bool.{cases_eq, eqb-true}
-use Rattle.std.proofs.lemmas.List.{append_assoc, append-nil, drop_all}
-use Rattle.echo_text.specs.Refusal.{text_refusal}
-use Rattle.echo_text.specs.declared.fault.TextFault.{TextFault}
-use Rattle.echo_text.specs.Echo.{msgid_of}
-use Rattle.model_steps.specs.declared.packet.Packet.{Packet}
+use Rattle.model_run.proofs.{HarmLists.none_passes, HarmLists.among-nth, HarmLists.nth-index, HarmLists.nth-middle, Targets.some_same, Targets.none_some}
+use Rattle.model_run.proofs.Areas.{among-link, exported-tag, target-link}
+use Rattle.echo_text.specs.{Refusal.text_refusal, declared.fault.TextFault.TextFault, Echo.msgid_of}
 use Rattle.echo_links.specs.Links.{LinkFile, is_link, same_address}
 use Rattle.echo_links.proofs.Addresses.{same_address_decides}
-use Rattle.echo_filed.specs.Written.{echo_of}
-use Rattle.model_run.specs.Event.{RunEvent, Scanning, Delivery}
-use Rattle.model_run.specs.Orderly.{Settled, copies, origin}
-use Rattle.model_run.specs.Exports.{Export, exports}
-use Rattle.model_run.specs.Tidy.{lists}
-use Rattle.model_run.specs.Grave.{AllAreCarriers}
-use Rattle.model_run.specs.Postings.{IsMove, trial_moment}
-use Rattle.model_run.proofs.HarmLists.{none_passes, among-nth, nth-index, nth-middle}
-use Rattle.model_run.specs.LawsOfRuns.{LawsOfRuns}
-use Rattle.model_run.proofs.Targets.{some_same, none_some}
-use Rattle.model_run.proofs.Areas.{among-link, exported-tag, target-link}
 
 -- 1 for an unknown key
 abbrev pub weight : Bool → ℕ

@@ -1,23 +1,19 @@
 -- The packets of one scan, on every net.
 use Rattle.std.proofs.Common.{◌≡◌, ◌≢◌, inl, inr, refl, sym, subst, ap, ◌∙◌, ℕ, arith, List, [], ◌∷◌, drop, map}
-use Rattle.std.specs.Prelude.{true, filter, Some}
 use Rattle.std.proofs.lemmas.Bool.{cond-true, cond-false}
+use Rattle.std.specs.Prelude.{true, filter, Some}
 use Rattle.echo_addr.specs.declared.address.Address.{Address}
 use Rattle.model_graph.specs.Walk.{Among, Different}
 use Rattle.model_graph.proofs.Members.{Among-at}
-use Rattle.echo_filed.specs.declared.key.Key.{Key}
-use Rattle.model_steps.specs.declared.packet.Packet.{Packet}
-use Rattle.model_steps.specs.declared.stamp.Stamp.{Stamp}
-use Rattle.echo_links.specs.Links.{LinkFile}
-use Rattle.echo_filed.specs.Filed.{Filed}
+use Rattle.echo_filed.specs.{declared.key.Key.Key, Filed.Filed}
 use Rattle.model_steps.specs.Scanning.{copy_to, exported, goes_to, header_to, packet_to, packets_of, recipients, scanned}
-use Rattle.model_run.specs.Run.{System, destination}
+use Rattle.model_steps.specs.declared.{packet.Packet.Packet, stamp.Stamp.Stamp}
+use Rattle.echo_links.specs.Links.{LinkFile}
 use Rattle.model_run.specs.Orderly.{SameContent, copies, count, origin, sent_count}
-use Rattle.model_run.specs.Exports.{IsSentCopy}
-use Rattle.model_run.proofs.TosserPremises.{Laws}
+use Rattle.model_run.specs.{Run.System, Run.destination, Exports.IsSentCopy}
 use Rattle.model_run.proofs.Lists.{not_both, yes_or_no, any-from, any-to, filter-none, Among-filter_from, Among-filter_to, Among-map_to, Among-map_from}
-use Rattle.model_run.proofs.Bases.{Kept-waiting, SystemOk, scanned-from, waiting-valid}
 use Rattle.model_run.proofs.Copies.{Targeted, copied, copied-key, copies-are, goes-from, goes-to, packet-destination, target-recipient, targets-to, recipients-differ}
+use Rattle.model_run.proofs.{TosserPremises.Laws, Bases.Kept-waiting, Bases.SystemOk, Bases.scanned-from, Bases.waiting-valid}
 
 packet-origin : (file : LinkFile) (stamp : Stamp) (waiting : List Filed) (address : Address) → origin (packet_to file stamp waiting address) ≡ file.system
 unfolding packet_to header_to

@@ -1,32 +1,21 @@
 -- A scan exports the waiting messages, one at a time.
 use Rattle.std.proofs.Common.{◌≡◌, ◌≢◌, ◌⊎◌, ◌↔◌, inl, inr, refl, sym, subst, ap, ◌∙◌, ℕ, ◌+◌, arith, List, [], ◌∷◌, ◌++◌, append_assoc, length, take, drop, map, Some}
+use Rattle.std.proofs.lemmas.{Bool.cond-false, List.take-append-drop, List.take_all}
 use Rattle.std.specs.Prelude.{Bool, IsTrue, false, filter, ◌&&◌}
-use Rattle.std.proofs.lemmas.Bool.{cond-false}
-use Rattle.std.proofs.lemmas.List.{take-append-drop, take_all}
-use Rattle.echo_addr.specs.declared.address.Address.{Address}
-use Rattle.echo_addr.specs.declared.address.NetNode.{NetNode}
+use Rattle.echo_addr.specs.declared.address.{Address.Address, NetNode.NetNode}
 use Rattle.model_graph.specs.Walk.{Among, Different}
 use Rattle.model_graph.proofs.Members.{Among-at, Among-append_left, Among-append_right, Among-append_cases}
-use Rattle.model_steps.specs.declared.packet.Packet.{Packet}
-use Rattle.model_steps.specs.declared.stamp.Stamp.{Stamp}
-use Rattle.model_steps.specs.Scanning.{goes_to, scanned, targets}
+use Rattle.model_steps.specs.{declared.packet.Packet.Packet, declared.stamp.Stamp.Stamp, Scanning.goes_to, Scanning.scanned, Scanning.targets}
 use Rattle.echo_links.specs.Links.{same_address}
-use Rattle.echo_filed.specs.declared.key.Key.{Key}
-use Rattle.echo_filed.specs.Sets.{address_set}
-use Rattle.echo_filed.specs.Filed.{Filed, key_of, same_key}
-use Rattle.model_run.specs.Events.{Exports, Text, copy_to}
+use Rattle.echo_filed.specs.{declared.key.Key.Key, Sets.address_set, Filed.Filed, Filed.key_of, Filed.same_key}
 use Rattle.model_run.specs.Run.{System, Run, change, destination, nth, scanning_at}
-use Rattle.model_run.specs.Orderly.{count, sent_count}
 use Rattle.model_run.specs.Keeping.{Content, IsFiledIn, IsHistory, IsSent, copy_count, filed_as, said, sent_as}
-use Rattle.model_run.proofs.TosserPremises.{Laws, one_if}
+use Rattle.model_run.specs.{Events.Exports, Events.Text, Events.copy_to, Orderly.count, Orderly.sent_count}
 use Rattle.model_run.proofs.Lists.{yes_or_no, not_both, and-parts, filter-yes, filter-no, nth-append, Among-drop, Among-filter_from, Among-filter_to, same_list as Among-in, Among-map_to, Among-map_from}
-use Rattle.model_run.proofs.Bases.{Kept-length, SystemOk}
-use Rattle.model_run.proofs.Areas.{address_of}
 use Rattle.model_run.proofs.Copies.{copied, copied-key, goes-from, goes-to, targets-from, targets-to}
-use Rattle.model_run.proofs.ScanPackets.{scanned-copied, scanned-count, scanned-origin, target-packet}
-use Rattle.model_run.proofs.ExportLists.{sent-append}
 use Rattle.model_run.proofs.Histories.{RCopy, REvent, RFiled, filed-after, filed-before, filed-new}
-use Rattle.model_run.proofs.Targets.{some_same}
+use Rattle.model_run.proofs.{TosserPremises.Laws, TosserPremises.one_if, Bases.Kept-length, Bases.SystemOk, Areas.address_of}
+use Rattle.model_run.proofs.{ScanPackets.scanned-copied, ScanPackets.scanned-count, ScanPackets.scanned-origin, ScanPackets.target-packet, ExportLists.sent-append, Targets.some_same}
 use Rattle.model_run.proofs.WholeRuns.{IsDeliveredOnce}
 use Rattle.model_run.specs.Events as rules
 

@@ -1,41 +1,27 @@
 -- Properties of one system at all times, if no received text has a byte 00.
 use Rattle.std.proofs.Common.{◌≡◌, inl, inr, refl, sym, subst, ◌≤◌, arith, List, [], ◌∷◌, Option, Some, None, ◌≢◌, ap, ◌∙◌, ℕ, zero, suc, ◌+◌, ◌++◌, length, take, drop}
+use Rattle.std.proofs.lemmas.{Bool.cond-true, List.take-append-drop, List.take-append-le, List.take_all, List.Elements.filter-append}
 use Rattle.std.specs.Prelude.{true, filter}
 use Rattle.echo_addr.specs.declared.address.Address.{Address}
 use Rattle.model_graph.specs.Walk.{Among}
 use Rattle.echo_packet.specs.Message.{HasNoZero, Message}
-use Rattle.echo_text.specs.Echo.{EchoText, IsEcho}
-use Rattle.echo_text.specs.Refusal.{text_refusal}
+use Rattle.echo_text.specs.{Echo.EchoText, Echo.IsEcho, Refusal.text_refusal}
 use Rattle.echo_text.proofs.Reread.{read_is_echo}
 use Rattle.echo_links.specs.Links.{IsFile, LinkFile}
-use Rattle.echo_filed.specs.declared.key.Key.{Key}
-use Rattle.echo_filed.specs.Filed.{Filed, key_of, same_key}
-use Rattle.echo_filed.specs.Written.{echo_of}
+use Rattle.echo_filed.specs.{declared.key.Key.Key, Filed.Filed, Filed.key_of, Filed.same_key, Written.echo_of}
 use Rattle.echo_filed.proofs.Texts.{says_read}
 use Rattle.base_file.specs.Base.{is_known}
-use Rattle.model_steps.specs.Stamps.{is_stamp}
-use Rattle.model_steps.specs.Tossing.{received, tossing}
+use Rattle.model_steps.specs.{Stamps.is_stamp, Tossing.received, Tossing.tossing, declared.packet.Packet.Packet, declared.stamp.Stamp.Stamp, Posting.posting, Scanning.goes_to, Scanning.scanned}
 use Rattle.model_steps.proofs.Received.{tossing_received}
 use Rattle.model_run.specs.Run.{IsLater, System, filing, tossing_at, destination}
-use Rattle.model_run.specs.Orderly.{count, copies, origin, sent_count}
-use Rattle.model_run.proofs.Lists.{yes_or_no, Among-drop, Among-filter_from, Among-filter_to, Among-take, any-to}
-use Rattle.model_run.proofs.TosserPremises.{Laws}
-use Rattle.model_run.proofs.Bases.{HasKey, Kept-count, SystemOk, count-is, filing-ok, known-in_history, posting-ok, purging-ok, received-echo, scanning-ok, tossed-fresh, Kept-cursor, Kept-length, packet-ok, scanned-from, waiting-valid}
 use Rattle.model_run.specs.Lone.{AreOfPackets, IsOfPackets, LoneEvent, LoneSystem, PostHere, PurgeHere, ScanHere, TossHere, after_all_lone, after_lone, lone_at_first, lone_run, with_scanned, with_system}
-use Rattle.model_run.specs.Owed.{IsFromLink, IsOwed}
+use Rattle.model_run.specs.{Orderly.count, Orderly.copies, Orderly.origin, Orderly.sent_count, Owed.IsFromLink, Owed.IsOwed, Exports.IsSentCopy}
+use Rattle.model_run.proofs.Lists.{yes_or_no, Among-drop, Among-filter_from, Among-filter_to, Among-take, any-to}
+use Rattle.model_run.proofs.Bases.{HasKey, Kept-count, SystemOk, count-is, filing-ok, known-in_history, posting-ok, purging-ok, received-echo, scanning-ok, tossed-fresh, Kept-cursor, Kept-length, packet-ok, scanned-from, waiting-valid}
 use Rattle.model_run.proofs.Filings.{new-filed, events-last, filed-later, filing-grows, grown-later, tossing-grows, IsLoneLeft, event-left, first-left, Grows, run-append, run-file, left-length, run-left}
-use Rattle.std.proofs.lemmas.Bool.{cond-true}
-use Rattle.std.proofs.lemmas.List.{take-append-drop, take-append-le, take_all}
-use Rattle.std.proofs.lemmas.List.Elements.{filter-append}
-use Rattle.model_graph.proofs.Members.{Among-append_cases}
-use Rattle.model_steps.specs.declared.packet.Packet.{Packet}
-use Rattle.model_steps.specs.declared.stamp.Stamp.{Stamp}
-use Rattle.model_steps.specs.Posting.{posting}
-use Rattle.model_steps.specs.Scanning.{goes_to, scanned}
-use Rattle.model_run.specs.Exports.{IsSentCopy}
-use Rattle.model_run.proofs.ScanPackets.{scanned-copy, scanned-count, scanned-origin}
-use Rattle.model_run.proofs.Copies.{goes-from, goes-to}
+use Rattle.model_run.proofs.{TosserPremises.Laws, ScanPackets.scanned-copy, ScanPackets.scanned-count, ScanPackets.scanned-origin, Copies.goes-from, Copies.goes-to}
 use Rattle.model_run.proofs.ExportLists.{count-append, count-filter, sent-append}
+use Rattle.model_graph.proofs.Members.{Among-append_cases}
 use Rattle.model_run.proofs.TosserPremises as counts
 
 module _ (laws : Laws) where

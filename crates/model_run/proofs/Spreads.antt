@@ -1,16 +1,13 @@
 -- A posting came to every carrier from just one system: the consequences for the links.
 use Rattle.std.proofs.Common.{◌≡◌, ◌≢◌, ◌⊎◌, inl, inr, refl, sym, subst, ap, ◌∙◌, ℕ, zero, suc, ◌+◌, ◌≤◌, arith, IsTrue, List, [], ◌∷◌, ◌++◌, length, length-append, Some, None}
 use Rattle.std.specs.Prelude.{Bool, true, false}
-use Rattle.echo_addr.specs.declared.address.Address.{Address}
-use Rattle.echo_addr.specs.declared.address.NetNode.{NetNode}
-use Rattle.echo_addr.specs.Address.{net_node_of}
+use Rattle.echo_addr.specs.{declared.address.Address.Address, declared.address.NetNode.NetNode, Address.net_node_of}
 use Rattle.model_graph.specs.Walk.{Reaches}
 use Rattle.model_graph.proofs.Members.{Reaches-trans}
 use Rattle.echo_links.proofs.Addresses.{same_address_decides}
 use Rattle.echo_filed.specs.Filed.{Filed}
 use Rattle.model_steps.specs.Scanning.{is_seen_by}
-use Rattle.model_run.proofs.Lists.{not_both, yes_or_no}
-use Rattle.model_run.proofs.Targets.{some_same, none_some}
+use Rattle.model_run.proofs.{Lists.not_both, Lists.yes_or_no, Targets.some_same, Targets.none_some}
 
 -- y has the net and node of u or of a link of u
 abbrev pub IsNear : (Address → Address → Bool) → Address → Address → Type 0

@@ -1,36 +1,22 @@
 -- A scan keeps the rules.
 use Rattle.std.proofs.Common.{◌≡◌, ◌↔◌, inl, inr, refl, sym, subst, ap, ◌∙◌, ℕ, ◌+◌, ◌≤◌, arith, IsTrue, List, [], ◌∷◌, ◌++◌, take, drop, map, Some}
-use Rattle.std.specs.Prelude.{Bool, true}
 use Rattle.std.proofs.lemmas.List.{take-append-drop}
-use Rattle.echo_addr.specs.declared.address.Address.{Address}
-use Rattle.echo_addr.specs.declared.address.NetNode.{NetNode}
-use Rattle.echo_addr.specs.Address.{net_node_of}
+use Rattle.std.specs.Prelude.{Bool, true}
+use Rattle.echo_addr.specs.{declared.address.Address.Address, declared.address.NetNode.NetNode, Address.net_node_of}
 use Rattle.model_graph.specs.Walk.{Among}
 use Rattle.model_graph.proofs.Members.{Among-append_right, Among-append_cases}
-use Rattle.model_steps.specs.declared.stamp.Stamp.{Stamp}
-use Rattle.model_steps.specs.Scanning.{scanned, targets}
+use Rattle.model_steps.specs.{declared.stamp.Stamp.Stamp, Scanning.scanned, Scanning.targets}
 use Rattle.echo_links.specs.Links.{LinkFile, is_link, links_of, same_address}
-use Rattle.echo_filed.specs.Sets.{address_set}
-use Rattle.echo_filed.specs.declared.key.Key.{Key}
-use Rattle.echo_filed.specs.Filed.{Filed, key_of, same_key}
-use Rattle.model_run.specs.Nets.{Net}
-use Rattle.model_run.specs.Rules.{IsTarget, HasPlainSeenBy}
-use Rattle.model_run.proofs.Eras.{ByRules, one_more}
-use Rattle.model_run.proofs.Telling.{reported-plainly}
+use Rattle.echo_filed.specs.{Sets.address_set, declared.key.Key.Key, Filed.Filed, Filed.key_of, Filed.same_key}
 use Rattle.model_run.specs.Run.{System, Run, change, nth, scanning_at}
-use Rattle.model_run.specs.Orderly.{count, tag_of}
-use Rattle.model_run.specs.Tidy.{Tidy, lists}
-use Rattle.model_run.specs.AreaNets.{net_of}
-use Rattle.model_run.specs.Keeping.{filed_as}
-use Rattle.model_run.proofs.TosserPremises.{Laws, count-has}
+use Rattle.model_run.specs.{Nets.Net, Rules.IsTarget, Rules.HasPlainSeenBy, Orderly.count, Orderly.tag_of, Tidy.Tidy, Tidy.lists, AreaNets.net_of, Keeping.filed_as}
 use Rattle.model_run.proofs.Lists.{any-from, any-to, map-change, nth-among, Among-drop, same_list as Among-in, Among-map_to, Among-map_from}
-use Rattle.model_run.proofs.Bases.{SystemOk, count-is, RunOk, scanned-ok}
 use Rattle.model_run.proofs.Areas.{Wrote, address_of, key-tag, link-lists, lists-link, one-system, tidy-net}
 use Rattle.model_run.proofs.Copies.{copied, copied-content, copied-key, copied-seen, seen-copied, targets-from, targets-to}
 use Rattle.model_run.proofs.Histories.{REvent, RFiled, before-then, Equal, Standing, filed-event}
-use Rattle.model_run.proofs.ExportLists.{count-append, count-filter}
 use Rattle.model_run.proofs.Scanned.{export, exported-are, exports, filed-are, history-scans, waits, waits-from}
-use Rattle.model_run.proofs.WholeRuns.{IsDeliveredOnce}
+use Rattle.model_run.proofs.{Eras.ByRules, Eras.one_more, Telling.reported-plainly, TosserPremises.Laws, TosserPremises.count-has, Bases.SystemOk, Bases.count-is, Bases.RunOk, Bases.scanned-ok}
+use Rattle.model_run.proofs.{ExportLists.count-append, ExportLists.count-filter, WholeRuns.IsDeliveredOnce}
 use Rattle.model_run.specs.Events as rules
 
 module _ (laws : Laws) (files : List LinkFile) (tag : List ℕ) (mine : Key → Bool) (of_area : (k : Key) → IsTrue (mine k) → tag_of k ≡ tag) (tidy : Tidy files tag)

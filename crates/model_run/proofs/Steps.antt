@@ -1,14 +1,10 @@
 -- Each event keeps the invariant of a run by the rules.
 use Rattle.std.proofs.Common.{◌≡◌, ◌≢◌, ◌⊎◌, inl, inr, refl, sym, subst, ap, ◌∙◌, IsTrue, List, [], ◌∷◌, ◌++◌, map, Some, None, arith}
 use Rattle.std.proofs.lemmas.List.{map-append}
-use Rattle.model_graph.specs.Walk.{Among, Different}
-use Rattle.model_graph.specs.Beyond.{Beyond, IsWay}
-use Rattle.model_graph.proofs.Members.{CanTell, Among-append_left, Among-append_right, Among-append_cases}
-use Rattle.model_graph.proofs.Cycles.{one_way}
-use Rattle.model_run.specs.Nets.{Net, Tidy}
+use Rattle.model_graph.specs.{Walk.Among, Walk.Different, Beyond.Beyond, Beyond.IsWay}
+use Rattle.model_graph.proofs.{Members.CanTell, Members.Among-append_left, Members.Among-append_right, Members.Among-append_cases, Cycles.one_way}
 use Rattle.model_run.specs.Events.{Text, Filed, Copy, copy_to, Has}
-use Rattle.model_run.specs.Rules.{IsTarget, HasSeenBy}
-use Rattle.model_run.specs.RulesOrderly.{Compares, place, goal}
+use Rattle.model_run.specs.{Nets.Net, Nets.Tidy, Rules.IsTarget, Rules.HasSeenBy, RulesOrderly.Compares, RulesOrderly.place, RulesOrderly.goal}
 use Rattle.model_run.proofs.Targets.{simple, carriers_to, beyond-target, reported-parent, Parent, View, IsPoster, Good, Sent, IsSentTo, Invariant}
 use Rattle.model_run.proofs.Lists.{Among-map_to, Among-map_from, Different-append}
 

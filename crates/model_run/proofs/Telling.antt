@@ -1,9 +1,7 @@
 -- A plain SEEN-BY keeps the rule.
 use Rattle.std.proofs.Common.{◌≡◌, ◌≢◌, ◌⊎◌, inl, inr, refl, sym, ◌∙◌, IsTrue, List, [], ◌∷◌, subst, arith}
 use Rattle.model_graph.specs.Beyond.{Beyond}
-use Rattle.model_run.specs.Nets.{Net, Tidy}
-use Rattle.model_run.specs.Events.{Filed}
-use Rattle.model_run.specs.Rules.{HasSeenBy, HasPlainSeenBy}
+use Rattle.model_run.specs.{Nets.Net, Nets.Tidy, Events.Filed, Rules.HasSeenBy, Rules.HasPlainSeenBy}
 
 module _ {A N K C : Type 0} (net : Net A N) (tidy : Tidy net) (m : Filed A N K C) (to : List A) (x : A) (seen : List N)
     (link : IsTrue (net.linked m.at x)) (plain : HasPlainSeenBy net m to seen) where

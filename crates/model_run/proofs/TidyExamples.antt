@@ -1,16 +1,12 @@
 -- A net that is tidy: a triangle.
 use Rattle.std.proofs.Common.{◌≡◌, ◌≢◌, ◌⊎◌, inl, inr, refl, sym, subst, ap, ◌∙◌, ℕ, arith, IsTrue, List, [], ◌∷◌, codes}
 use Rattle.std.specs.Prelude.{true, false}
-use Rattle.echo_addr.specs.declared.address.Address.{Address}
-use Rattle.echo_addr.specs.Address.{net_node_of}
-use Rattle.echo_addr.specs.declared.address.NetNode.{NetNode}
+use Rattle.echo_addr.specs.{declared.address.Address.Address, Address.net_node_of, declared.address.NetNode.NetNode}
 use Rattle.model_graph.specs.Walk.{Among, Walk}
 use Rattle.echo_links.specs.Links.{LinkFile, links_of}
 use Rattle.model_run.specs.Tidy.{Carries, Tidy, lists}
-use Rattle.model_run.proofs.TosserLaws.{the_laws}
+use Rattle.model_run.proofs.{TosserLaws.the_laws, Lists.and-parts, Lists.any-from, Lists.not_both, Lists.Among-map_to, NetExamples.address, NetExamples.file, NetExamples.triangle}
 use Rattle.model_graph.proofs.Members.{Among-at}
-use Rattle.model_run.proofs.Lists.{and-parts, any-from, not_both, Among-map_to}
-use Rattle.model_run.proofs.NetExamples.{address, file, triangle}
 
 abbrev pub test : List ℕ
 test = codes "TEST"

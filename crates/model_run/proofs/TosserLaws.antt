@@ -1,34 +1,22 @@
 -- The laws of one tosser, proved.
 use Rattle.std.proofs.Common.{◌≡◌, inl, inr, refl, sym, ap, ◌∙◌, ℕ, arith, List, [], ◌∷◌, ◌++◌, length, codes, Option}
-use Rattle.std.specs.Prelude.{Bool, true}
-use Rattle.std.specs.List.{AllByRecursion}
-use Rattle.std.proofs.Math.Seq.{take-append_seam}
-use Rattle.std.proofs.lemmas.List.{length-append}
-use Rattle.echo_addr.specs.declared.address.Address.{Address}
-use Rattle.echo_addr.specs.Address.{IsAddress, address_text, address_in}
+use Rattle.std.proofs.{Math.Seq.take-append_seam, lemmas.List.length-append}
+use Rattle.std.specs.{Prelude.Bool, Prelude.true, List.AllByRecursion}
+use Rattle.echo_addr.specs.{declared.address.Address.Address, Address.IsAddress, Address.address_text, Address.address_in}
 use Rattle.echo_addr.proofs.Outcomes.{AddressOf-address_text, address_in-written}
 use Rattle.model_graph.specs.Walk.{Among, Different}
 use Rattle.model_graph.proofs.Members.{Contains-from_Among, Among-from_Contains}
-use Rattle.echo_filed.specs.declared.key.Key.TheVariants.{ById}
-use Rattle.model_steps.specs.declared.draft.Draft.{Draft}
-use Rattle.model_steps.specs.declared.stamp.Stamp.{Stamp}
+use Rattle.echo_filed.specs.{declared.key.Key.TheVariants.ById, Sets.address_before, Sets.address_set, Sets.entry_set, Sets.set_of, Filed.key_of, Filed.key_with}
+use Rattle.model_steps.specs.{declared.draft.Draft.Draft, declared.stamp.Stamp.Stamp, Posting.posted}
 use Rattle.echo_links.specs.Links.{IsFile, LinkFile, upper}
-use Rattle.echo_filed.specs.Sets.{address_before, address_set, entry_set, set_of}
-use Rattle.echo_filed.specs.Filed.{key_of, key_with}
 use Rattle.echo_text.specs.Ids.{id_of, serial_text}
-use Rattle.model_steps.specs.Posting.{posted}
 use Rattle.echo_links.proofs.Addresses.{same_address_decides}
-use Rattle.echo_filed.proofs.Choices.{contained_in, in_contained}
 use Rattle.echo_filed.proofs.Sets.{IsOrder, Ascending, set_ascending, set_only, set_keeps}
-use Rattle.echo_filed.proofs.Orders.{address_order, entry_set_is_set, same_entry_decides}
-use Rattle.echo_filed.proofs.Keys.{same_key_decides, stub_keeps_key, stub_of_stub}
-use Rattle.model_steps.proofs.Posted.{posted_id, posted_is_echo}
-use Rattle.model_steps.proofs.Copies.{exported_is_echo}
-use Rattle.echo_filed.proofs.Texts.{written_accepted, written_back}
-use Rattle.model_run.proofs.Lists.{not_both}
-use Rattle.model_run.proofs.TosserPremises.{Laws}
-use Rattle.model_run.specs.AreaNets.{IsTidyNet}
-use Rattle.model_run.specs.Tidy.{Tidy}
+use Rattle.echo_filed.proofs.{Choices.contained_in, Choices.in_contained, Orders.address_order, Orders.entry_set_is_set, Orders.same_entry_decides}
+use Rattle.echo_filed.proofs.{Keys.same_key_decides, Keys.stub_keeps_key, Keys.stub_of_stub, Texts.written_accepted, Texts.written_back}
+use Rattle.model_steps.proofs.{Posted.posted_id, Posted.posted_is_echo, Copies.exported_is_echo}
+use Rattle.model_run.proofs.{Lists.not_both, TosserPremises.Laws}
+use Rattle.model_run.specs.{AreaNets.IsTidyNet, Tidy.Tidy}
 use Rattle.model_run.proofs.Areas as areas
 
 -- an id names its system

@@ -2,21 +2,11 @@
 use Rattle.std.proofs.Common.{◌≡◌, ◌≢◌, ◌⊎◌, inl, inr, refl, sym, ap, ◌∙◌, ℕ, ◌+◌, ◌≤◌, arith, Bool, IsTrue, List, [], ◌∷◌, ◌++◌, cond, map, None}
 use Rattle.std.proofs.lemmas.Bool.{cases_Bool, both_ways}
 use Rattle.model_graph.specs.Walk.{Among, Different}
-use Rattle.echo_addr.specs.declared.address.Address.{Address}
-use Rattle.echo_addr.specs.declared.address.NetNode.{NetNode}
-use Rattle.echo_addr.specs.Address.{IsAddress}
-use Rattle.echo_text.specs.Echo.{EchoText, IsEcho}
-use Rattle.echo_text.specs.Refusal.{text_refusal}
-use Rattle.model_steps.specs.declared.draft.Draft.{Draft}
-use Rattle.model_steps.specs.declared.stamp.Stamp.{Stamp}
+use Rattle.echo_addr.specs.{declared.address.Address.Address, declared.address.NetNode.NetNode, Address.IsAddress}
+use Rattle.echo_text.specs.{Echo.EchoText, Echo.IsEcho, Refusal.text_refusal, Ids.id_of}
+use Rattle.model_steps.specs.{declared.draft.Draft.Draft, declared.stamp.Stamp.Stamp, Posting.IsAllowed, Posting.posted, Scanning.exported}
 use Rattle.echo_links.specs.Links.{LinkFile, same_address, upper, IsFile}
-use Rattle.echo_filed.specs.declared.key.Key.TheVariants.{ById}
-use Rattle.echo_filed.specs.Sets.{address_set, entry_set, same_entry}
-use Rattle.echo_filed.specs.Filed.{Filed, key_of, same_key}
-use Rattle.echo_text.specs.Ids.{id_of}
-use Rattle.model_steps.specs.Posting.{IsAllowed, posted}
-use Rattle.echo_filed.specs.Stubs.{stub_of}
-use Rattle.model_steps.specs.Scanning.{exported}
+use Rattle.echo_filed.specs.{declared.key.Key.TheVariants.ById, Sets.address_set, Sets.entry_set, Sets.same_entry, Filed.Filed, Filed.key_of, Filed.same_key, Stubs.stub_of}
 use Rattle.echo_filed.specs.Written.{echo_of, text_of}
 
 -- a test of equality

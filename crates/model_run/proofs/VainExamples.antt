@@ -1,30 +1,15 @@
 -- Nets that `check` refuses though their computed run does no harm: for these clauses a no is more careful than
 -- necessary. And a tidy net with a cycle, which a rule against all cycles would refuse.
 use Rattle.std.proofs.Common.{◌≡◌, ◌≢◌, inl, refl, ap, ℕ, arith, List, [], ◌∷◌, codes}
-use Rattle.std.specs.Prelude.{true, false}
-use Rattle.std.specs.Fmt.{digits}
-use Rattle.echo_addr.specs.declared.address.Address.{Address}
-use Rattle.echo_addr.specs.Entries.{entries, pair_of, tokens}
-use Rattle.echo_text.specs.Lines.{lines, trimmed, begins, after_word}
-use Rattle.echo_text.specs.Tail.{kept_of, path_lists, seen_lists}
-use Rattle.echo_text.specs.Echo.{msgid_of}
-use Rattle.echo_text.specs.Ids.{id_of}
-use Rattle.echo_text.specs.Refusal.{text_refusal}
-use Rattle.echo_filed.specs.Sets.{address_set, entry_set}
-use Rattle.model_steps.specs.Stamps.{date_of}
-use Rattle.echo_links.specs.Links.{LinkFile, links_of}
-use Rattle.echo_filed.specs.Written.{echo_of, short_lines, text_of}
-use Rattle.echo_filed.specs.Filed.{key_of}
-use Rattle.model_steps.specs.Posting.{post_refusal, posted, posted_lines, posting}
-use Rattle.echo_filed.specs.Stubs.{stub_of}
-use Rattle.model_steps.specs.Purging.{purged}
+use Rattle.std.specs.{Prelude.true, Prelude.false, Fmt.digits}
+use Rattle.echo_addr.specs.{declared.address.Address.Address, Entries.entries, Entries.pair_of, Entries.tokens}
+use Rattle.echo_text.specs.{Lines.lines, Lines.trimmed, Lines.begins, Lines.after_word, Tail.kept_of, Tail.path_lists, Tail.seen_lists, Echo.msgid_of, Ids.id_of, Refusal.text_refusal}
+use Rattle.echo_filed.specs.{Sets.address_set, Sets.entry_set, Written.echo_of, Written.short_lines, Written.text_of, Filed.key_of, Stubs.stub_of}
 use Rattle.model_steps.specs.Scanning.{copy_to, exported, header_to, packet_to, packets_of, recipients, scanned, targets}
-use Rattle.model_steps.specs.Tossing.{received, toss_outcome, tossing}
-use Rattle.model_run.specs.Event.{Delivery}
-use Rattle.model_run.specs.Run.{Run, run_of}
-use Rattle.model_run.specs.Orderly.{sent_count}
+use Rattle.model_steps.specs.{Stamps.date_of, Posting.post_refusal, Posting.posted, Posting.posted_lines, Posting.posting, Purging.purged, Tossing.received, Tossing.toss_outcome, Tossing.tossing}
+use Rattle.echo_links.specs.Links.{LinkFile, links_of}
+use Rattle.model_run.specs.{Event.Delivery, Run.Run, Run.run_of, Orderly.sent_count, Tidy.Tidy, Tidy.lists}
 use Rattle.model_graph.specs.Cycle.{NoCycle}
-use Rattle.model_run.specs.Tidy.{Tidy, lists}
 use Rattle.model_run.proofs.NetExamples.{address, all_done, carrier, far, file, first_key, line, post, scan, shown, triangle}
 use Rattle.model_run.proofs.TidyExamples.{test, triangle_tidy}
 

@@ -1,31 +1,20 @@
 -- Invariants of whole runs: the link files stay, and all is well formed.
 pub use Rattle.model_run.specs.States.{IsDeliveredOnce, files_of}
 use Rattle.std.proofs.Common.{◌≡◌, refl, subst, ap, ℕ, List, [], ◌∷◌, ◌++◌, length, take, map, Option, Some, arith, inl, inr, sym, ◌+◌, ◌==◌, IsTrue}
-use Rattle.std.specs.Prelude.{Bool, true}
+use Rattle.std.proofs.lemmas.{Bool.eqb-true, Bool.leb-true, List.drop_all}
+use Rattle.std.specs.{Prelude.Bool, Prelude.true, List.list_all, List.list_any}
 use Rattle.echo_addr.specs.declared.address.Address.{Address}
 use Rattle.model_graph.specs.Walk.{Among}
 use Rattle.echo_packet.specs.Message.{Message}
-use Rattle.model_steps.specs.declared.packet.Packet.{Packet}
-use Rattle.model_steps.specs.declared.draft.Draft.{Draft}
-use Rattle.model_steps.specs.declared.stamp.Stamp.{Stamp}
+use Rattle.model_steps.specs.{declared.packet.Packet.Packet, declared.draft.Draft.Draft, declared.stamp.Stamp.Stamp, Posting.posting, Tossing.sender_of, Tossing.tossing, Scanning.scanned}
 use Rattle.echo_links.specs.Links.{LinkFile}
 use Rattle.echo_filed.specs.Filed.{Filed}
-use Rattle.model_steps.specs.Posting.{posting}
-use Rattle.model_steps.specs.Tossing.{sender_of, tossing}
-use Rattle.model_steps.specs.Scanning.{scanned}
-use Rattle.model_run.specs.Event.{RunEvent}
 use Rattle.model_run.specs.Run.{System, Run, filing, fresh, posting_at, tossing_at, scanning_at, nth, taking, after_event, after_events, run_of, start, receiver, purging_at}
-use Rattle.model_run.specs.Fits.{FilesFit}
-use Rattle.model_run.proofs.EventKinds.{each-kind}
-use Rattle.model_run.proofs.TosserPremises.{Laws}
+use Rattle.model_run.specs.{Event.RunEvent, Fits.FilesFit, Orderly.Settled, World.is_settled, World.missing}
 use Rattle.model_run.proofs.Lists.{map-change, Among-map_from, nth-append, with_index-different, with_index-from, and-parts, any-from, yes_or_no}
 use Rattle.model_run.proofs.Bases.{AllMade, RunOk, event-made, event-ok, start-ok}
-use Rattle.std.specs.List.{list_all, list_any}
-use Rattle.std.proofs.lemmas.Bool.{eqb-true, leb-true}
-use Rattle.std.proofs.lemmas.List.{drop_all}
+use Rattle.model_run.proofs.{EventKinds.each-kind, TosserPremises.Laws}
 use Rattle.model_graph.proofs.Members.{Among-at}
-use Rattle.model_run.specs.Orderly.{Settled}
-use Rattle.model_run.specs.World.{is_settled, missing}
 
 pub filing-file : (s : System) (o : Option Filed) → (filing s o).file ≡ s.file
 filing-file s o = grind arith

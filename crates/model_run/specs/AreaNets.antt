@@ -1,11 +1,8 @@
 -- The net in one area, according to link files.
 use Rattle.std.specs.Prelude.{ℕ, List}
-use Rattle.echo_addr.specs.declared.address.Address.{Address}
-use Rattle.echo_addr.specs.declared.address.NetNode.{NetNode}
-use Rattle.echo_addr.specs.Address.{net_node_of}
+use Rattle.echo_addr.specs.{declared.address.Address.Address, declared.address.NetNode.NetNode, Address.net_node_of}
 use Rattle.echo_links.specs.Links.{LinkFile}
-use Rattle.model_run.specs.Nets.{Net, Tidy}
-use Rattle.model_run.specs.Tidy.{carries, lists}
+use Rattle.model_run.specs.{Nets.Net, Nets.Tidy, Tidy.carries, Tidy.lists}
 
 -- Which addresses have the area, which links each lists in it, and the net and node of each.
 abbrev pub net_of : List LinkFile → List ℕ → Net Address NetNode

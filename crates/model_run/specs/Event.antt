@@ -1,9 +1,7 @@
 -- Events of a net of tossers.
 use Rattle.std.specs.Prelude.{ℕ, List}
-use Rattle.model_steps.specs.declared.draft.Draft.{Draft}
-use Rattle.model_steps.specs.declared.stamp.Stamp.{Stamp}
-use Rattle.model_run.specs.declared.event.Event.{Event}
-use Rattle.model_run.specs.declared.event.Event.TheVariants.{Deliver, Post, Purge, Scan}
+use Rattle.model_steps.specs.declared.{draft.Draft.Draft, stamp.Stamp.Stamp}
+use Rattle.model_run.specs.declared.event.Event.{Event, TheVariants.Deliver, TheVariants.Post, TheVariants.Purge, TheVariants.Scan}
 
 -- A system posts, scans or purges; a packet comes, or its toss stops after its first messages. An index names a system
 -- in the list of files, or a packet in order of export.

@@ -1,17 +1,12 @@
 -- Which scan of which system made each packet of a run.
 use Rattle.std.specs.Prelude.{◌≡◌, ◌≢◌, ℕ, ◌+◌, ◌==◌, List, [], ◌∷◌, ◌++◌, map, filter, Option, Some, None, if◌then◌else◌}
-use Rattle.echo_addr.specs.declared.address.Address.{Address}
-use Rattle.echo_addr.specs.Address.{net_node_of}
+use Rattle.echo_addr.specs.{declared.address.Address.Address, Address.net_node_of}
 use Rattle.model_graph.specs.Walk.{Among}
-use Rattle.model_steps.specs.declared.packet.Packet.{Packet}
-use Rattle.model_steps.specs.declared.stamp.Stamp.{Stamp}
+use Rattle.model_steps.specs.{declared.packet.Packet.Packet, declared.stamp.Stamp.Stamp, Scanning.exported, Scanning.scanned, Scanning.targets, Stamps.is_stamp}
 use Rattle.echo_links.specs.Links.{LinkFile}
 use Rattle.echo_filed.specs.Filed.{Filed, key_of}
-use Rattle.model_steps.specs.Scanning.{exported, scanned, targets}
-use Rattle.model_steps.specs.Stamps.{is_stamp}
-use Rattle.model_run.specs.Event.{RunEvent, Scanning}
 use Rattle.model_run.specs.Run.{System, Run, after_event, nth, start}
-use Rattle.model_run.specs.Orderly.{SameContent}
+use Rattle.model_run.specs.{Event.RunEvent, Event.Scanning, Orderly.SameContent}
 
 -- A packet, the index of the system that made it, and the index of the scan that made it in the list of events.
 pub record Export : Type 0 where

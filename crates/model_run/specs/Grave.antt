@@ -1,10 +1,7 @@
 -- The grave faults of an area: with one of them, some run breaks the promise.
 use Rattle.std.specs.Prelude.{◌≡◌, ◌≢◌, ◌⊎◌, ℕ, IsTrue, List, map}
-use Rattle.echo_addr.specs.declared.address.Address.{Address}
-use Rattle.echo_addr.specs.Address.{net_node_of}
-use Rattle.model_graph.specs.Walk.{Different, Reaches}
-use Rattle.model_graph.specs.Cycle.{IsCycle}
-use Rattle.model_graph.specs.Loops.{HasUnlinked}
+use Rattle.echo_addr.specs.{declared.address.Address.Address, Address.net_node_of}
+use Rattle.model_graph.specs.{Walk.Different, Walk.Reaches, Cycle.IsCycle, Loops.HasUnlinked}
 use Rattle.echo_links.specs.Links.{LinkFile}
 use Rattle.model_run.specs.Tidy.{Carries, Joined, lists}
 

@@ -4,20 +4,12 @@ use Rattle.echo_addr.specs.declared.address.Address.{Address}
 use Rattle.model_graph.specs.Walk.{Among}
 use Rattle.echo_packet.specs.Message.{Message}
 use Rattle.echo_text.specs.Refusal.{text_refusal}
-use Rattle.model_steps.specs.declared.packet.Packet.{Packet}
-use Rattle.echo_links.specs.Links.{LinkFile}
-use Rattle.echo_filed.specs.declared.key.Key.{Key}
-use Rattle.echo_filed.specs.Filed.{Filed, key_of}
-use Rattle.model_steps.specs.Scanning.{targets}
-use Rattle.model_steps.specs.declared.draft.Draft.{Draft}
-use Rattle.model_steps.specs.declared.stamp.Stamp.{Stamp}
-use Rattle.model_steps.specs.Posting.{IsAllowed, post_refusal}
+use Rattle.model_steps.specs.{declared.packet.Packet.Packet, Scanning.targets, declared.draft.Draft.Draft, declared.stamp.Stamp.Stamp, Posting.IsAllowed, Posting.post_refusal}
 use Rattle.model_steps.specs.Tossing.{IsToBeFiled, received, tossing}
-use Rattle.model_run.specs.Event.{RunEvent}
+use Rattle.echo_links.specs.Links.{LinkFile}
+use Rattle.echo_filed.specs.{declared.key.Key.Key, Filed.Filed, Filed.key_of}
 use Rattle.model_run.specs.Run.{IsLater, System, destination, nth, run_of}
-use Rattle.model_run.specs.Orderly.{copies, count, origin, sent_count}
-use Rattle.model_run.specs.Exports.{Export, IsSentCopy, exports, sent_by}
-use Rattle.model_run.specs.Fits.{FilesFit}
+use Rattle.model_run.specs.{Event.RunEvent, Orderly.copies, Orderly.count, Orderly.origin, Orderly.sent_count, Exports.Export, Exports.IsSentCopy, Exports.exports, Exports.sent_by, Fits.FilesFit}
 
 -- The public laws of runs and steps.
 pub record LawsOfRuns (files : List LinkFile) : Type 0 where

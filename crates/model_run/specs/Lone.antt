@@ -4,11 +4,7 @@ use Rattle.echo_addr.specs.declared.address.Address.{Address}
 use Rattle.model_graph.specs.Walk.{Among}
 use Rattle.echo_packet.specs.Message.{HasNoZero, Message}
 use Rattle.echo_links.specs.Links.{LinkFile}
-use Rattle.model_steps.specs.declared.draft.Draft.{Draft}
-use Rattle.model_steps.specs.declared.packet.Packet.{Packet}
-use Rattle.model_steps.specs.declared.stamp.Stamp.{Stamp}
-use Rattle.model_steps.specs.Scanning.{scanned}
-use Rattle.model_steps.specs.Stamps.{is_stamp}
+use Rattle.model_steps.specs.{declared.draft.Draft.Draft, declared.packet.Packet.Packet, declared.stamp.Stamp.Stamp, Scanning.scanned, Stamps.is_stamp}
 use Rattle.model_run.specs.Run.{System, fresh, posting_at, purging_at, scanning_at, tossing_at}
 
 -- The system posts, tosses, scans or is purged. It may toss any messages under any sender. If the toss of a packet

@@ -1,7 +1,6 @@
 -- The systems of a net in one area, and which nets are tidy.
 use Rattle.std.specs.Prelude.{◌≡◌, Bool, IsTrue}
-use Rattle.model_graph.specs.Walk.{Connected}
-use Rattle.model_graph.specs.Cycle.{Polygons}
+use Rattle.model_graph.specs.{Walk.Connected, Cycle.Polygons}
 
 -- A net in one area: which addresses have it, which links each has in it, and the net and node of each.
 pub record Net (A N : Type 0) : Type 0 where

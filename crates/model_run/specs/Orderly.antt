@@ -3,13 +3,9 @@ use Rattle.std.specs.Prelude.{◌≡◌, ◌≢◌, ◌⊎◌, ℕ, ◌+◌, ◌
 use Rattle.echo_addr.specs.declared.address.Address.{Address}
 use Rattle.echo_text.specs.Refusal.{text_refusal}
 use Rattle.model_graph.specs.Walk.{Among}
-use Rattle.model_steps.specs.declared.packet.Packet.{Packet}
+use Rattle.model_steps.specs.{declared.packet.Packet.Packet, Tossing.received}
 use Rattle.echo_links.specs.Links.{has_area, same_address}
-use Rattle.echo_filed.specs.declared.key.Key.{Key}
-use Rattle.echo_filed.specs.declared.key.Key.TheVariants.{ByContent, ById}
-use Rattle.echo_filed.specs.Stubs.{stub_of}
-use Rattle.echo_filed.specs.Filed.{Filed, key_of, same_key}
-use Rattle.model_steps.specs.Tossing.{received}
+use Rattle.echo_filed.specs.{declared.key.Key.Key, declared.key.Key.TheVariants.ByContent, declared.key.Key.TheVariants.ById, Stubs.stub_of, Filed.Filed, Filed.key_of, Filed.same_key}
 use Rattle.model_run.specs.Run.{System, Run, destination}
 
 -- The area of a key.

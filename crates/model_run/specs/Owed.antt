@@ -1,15 +1,12 @@
 -- The messages that should be filed and sent.
 use Rattle.std.specs.Prelude.{◌≡◌, ◌≢◌, List, Some, None, true}
-use Rattle.echo_addr.specs.declared.address.Address.{Address}
-use Rattle.echo_addr.specs.Address.{net_node_of}
+use Rattle.echo_addr.specs.{declared.address.Address.Address, Address.net_node_of}
 use Rattle.model_graph.specs.Walk.{Among}
 use Rattle.echo_packet.specs.Message.{Message}
 use Rattle.echo_text.specs.Refusal.{text_refusal}
 use Rattle.echo_links.specs.Links.{LinkFile, is_link}
-use Rattle.echo_filed.specs.Filed.{Filed}
-use Rattle.echo_filed.specs.Written.{echo_of}
-use Rattle.model_steps.specs.Posting.{IsAllowed, posted}
-use Rattle.model_steps.specs.Tossing.{received}
+use Rattle.echo_filed.specs.{Filed.Filed, Written.echo_of}
+use Rattle.model_steps.specs.{Posting.IsAllowed, Posting.posted, Tossing.received}
 use Rattle.model_run.specs.Lone.{LoneEvent, PostHere, TossHere}
 
 -- The received message is echomail of an area, from a link of the area.

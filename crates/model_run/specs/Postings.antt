@@ -1,12 +1,10 @@
 -- One posting, and the events until the area is at rest.
 use Rattle.std.specs.Prelude.{ℕ, List, [], ◌∷◌, codes}
 use Rattle.std.specs.List.{AllByRecursion}
-use Rattle.model_steps.specs.declared.draft.Draft.{Draft}
-use Rattle.model_steps.specs.declared.stamp.Stamp.{Stamp}
+use Rattle.model_steps.specs.declared.{draft.Draft.Draft, stamp.Stamp.Stamp}
 use Rattle.echo_links.specs.Links.{LinkFile}
 use Rattle.model_run.specs.Event.{RunEvent, Posting, Scanning, Delivery, PartDelivery, Purging}
-use Rattle.model_run.specs.Run.{run_of}
-use Rattle.model_run.specs.Orderly.{Settled}
+use Rattle.model_run.specs.{Run.run_of, Orderly.Settled}
 
 -- An event that moves messages on: a scan, or a whole packet that arrives.
 abbrev pub IsMove : RunEvent → Type 0

@@ -1,10 +1,8 @@
 -- Which nets are tidy in an area.
 use Rattle.std.specs.Prelude.{◌≡◌, ◌&&◌, ℕ, Bool, IsTrue, List, map}
 use Rattle.std.specs.List.{list_any}
-use Rattle.echo_addr.specs.declared.address.Address.{Address}
-use Rattle.echo_addr.specs.Address.{net_node_of}
-use Rattle.model_graph.specs.Walk.{Different, Connected}
-use Rattle.model_graph.specs.Cycle.{Polygons}
+use Rattle.echo_addr.specs.{declared.address.Address.Address, Address.net_node_of}
+use Rattle.model_graph.specs.{Walk.Different, Walk.Connected, Cycle.Polygons}
 use Rattle.echo_links.specs.Links.{LinkFile, has_area, is_link, same_address}
 
 -- The system of this address has the area.

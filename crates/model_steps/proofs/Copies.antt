@@ -1,25 +1,16 @@
 -- The copies that a scan makes of a message, and their content in a toss.
 use Rattle.std.proofs.Common.{◌≡◌, ℕ, zero, suc, Bool, List, [], ◌∷◌, ◌++◌, map, drop, sym, ap, subst, ◌∙◌, Option, Some, None, arith, inl, inr}
+use Rattle.std.proofs.lemmas.{Bool.cases_Bool, Bool.cond-false, Bool.cond-true, List.Elements.All-append, List.Elements.All-from_recursion, List.Elements.recursion_from_All}
 use Rattle.std.specs.Prelude.{bytes_eq, filter, find, option_map, unwrap_or}
 use Rattle.std.specs.List.{AllByRecursion}
-use Rattle.std.proofs.lemmas.Bool.{cases_Bool, cond-false, cond-true}
-use Rattle.std.proofs.lemmas.List.Elements.{All-append, All-from_recursion, recursion_from_All}
-use Rattle.echo_addr.specs.declared.address.Address.{Address}
-use Rattle.echo_addr.specs.declared.address.NetNode.{NetNode}
-use Rattle.echo_addr.specs.Address.{IsAddress, net_node_of}
-use Rattle.echo_addr.specs.ShortLines.{IsNetNode}
-use Rattle.echo_text.specs.Echo.{EchoText, IsEcho}
-use Rattle.echo_text.specs.Refusal.{text_refusal}
-use Rattle.echo_filed.specs.Sets.{entry_before, entry_set}
-use Rattle.model_steps.specs.declared.stamp.Stamp.{Stamp}
-use Rattle.echo_links.specs.Links.{Area, IsArea, IsFile, LinkFile, links_of}
-use Rattle.echo_filed.specs.Filed.{Filed, IsFiled, key_of}
-use Rattle.base_file.specs.Base.{IsBase}
-use Rattle.model_steps.specs.Tossing.{received}
+use Rattle.echo_addr.specs.{declared.address.Address.Address, declared.address.NetNode.NetNode, Address.IsAddress, Address.net_node_of, ShortLines.IsNetNode}
+use Rattle.echo_text.specs.{Echo.EchoText, Echo.IsEcho, Refusal.text_refusal}
+use Rattle.echo_filed.specs.{Sets.entry_before, Sets.entry_set, Filed.Filed, Filed.IsFiled, Filed.key_of}
 use Rattle.model_steps.specs.Scanning.{copy_to, exported, goes_to, packet_to, packets_of, recipients, scanned}
-use Rattle.echo_filed.proofs.Sets.{set_all}
-use Rattle.echo_filed.proofs.Orders.{entry_set_is_set}
-use Rattle.echo_filed.proofs.Texts.{written_accepted, written_back}
+use Rattle.model_steps.specs.{declared.stamp.Stamp.Stamp, Tossing.received}
+use Rattle.echo_links.specs.Links.{Area, IsArea, IsFile, LinkFile, links_of}
+use Rattle.base_file.specs.Base.{IsBase}
+use Rattle.echo_filed.proofs.{Sets.set_all, Orders.entry_set_is_set, Texts.written_accepted, Texts.written_back}
 
 -- the links of the area that is found
 found_links : (p : Area → Bool) (areas : List Area) → AllByRecursion IsArea areas → AllByRecursion IsAddress (unwrap_or (option_map (λ area. area.links) (find p areas)) [])

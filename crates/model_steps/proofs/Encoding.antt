@@ -1,14 +1,11 @@
 -- The bytes of a packet, message by message.
 use Rattle.std.proofs.Common.{◌≡◌, ℕ, zero, suc, ◌+◌, ◌<◌, ◌≤◌, List, [], ◌∷◌, ◌++◌, length, take, get_or, sym, ap, subst, ◌∙◌, arith, append_assoc, length-append}
-use Rattle.std.specs.List.{AllByRecursion}
 use Rattle.std.proofs.lemmas.List.{take_more}
-use Rattle.echo_packet.specs.declared.header.Header.{Header}
-use Rattle.echo_packet.specs.Header.{IsHeader, header_bytes, word}
+use Rattle.std.specs.List.{AllByRecursion}
 use Rattle.echo_packet.specs.Message.{IsMessage, Message, Text, before, message_bytes, messages_bytes, numbers, zero_ended}
-use Rattle.echo_packet.specs.Packet.{PacketOf, packet_bytes}
-use Rattle.echo_packet.proofs.MessageByMessage.{messages_bytes-push}
+use Rattle.echo_packet.specs.{declared.header.Header.Header, Header.IsHeader, Header.header_bytes, Header.word, Packet.PacketOf, Packet.packet_bytes}
+use Rattle.echo_packet.proofs.{MessageByMessage.messages_bytes-push, Outcome.length-messages as counted}
 use Rattle.echo_filed.proofs.Plain.{all_append}
-use Rattle.echo_packet.proofs.Outcome.{length-messages as counted}
 
 -- a message with its own text length as the limit
 abbrev pub IsWhole : Message → Type 0

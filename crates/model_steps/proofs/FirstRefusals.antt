@@ -3,25 +3,17 @@ use Rattle.std.proofs.Common.{◌≡◌, ℕ, ◌==◌, ◌||◌, ◌↔◌, Boo
 use Rattle.std.specs.List.{list_any}
 use Rattle.echo_addr.specs.declared.address.Address.{Address}
 use Rattle.echo_packet.specs.Message.{Message}
-use Rattle.echo_text.specs.declared.fault.TextFault.{TextFault}
-use Rattle.echo_text.specs.declared.fault.TextFault.TheVariants as text
 use Rattle.echo_text.specs.Lines.{area_tag, first_line, is_area, is_tag, lines}
-use Rattle.echo_text.specs.Refusal.{text_refusal}
-use Rattle.echo_text.specs.Ids.{id_of, is_id}
-use Rattle.model_steps.specs.declared.draft.Draft.{Draft}
-use Rattle.model_steps.specs.declared.stamp.Stamp.{Stamp}
-use Rattle.model_steps.specs.declared.fault.PostFault.{PostFault}
-use Rattle.model_steps.specs.declared.fault.PostFault.TheVariants as fault
-use Rattle.model_steps.specs.declared.outcome.Outcome.{Outcome}
-use Rattle.model_steps.specs.declared.outcome.Outcome.TheVariants as outcome
-use Rattle.echo_links.specs.Links.{LinkFile, has_area, is_link}
-use Rattle.echo_filed.specs.Written.{echo_of}
-use Rattle.echo_filed.specs.Filed.{Filed, key_of}
-use Rattle.base_file.specs.Base.{is_known}
-use Rattle.model_steps.specs.Stamps.{is_stamp}
-use Rattle.echo_links.specs.Links.{upper}
+use Rattle.echo_text.specs.{declared.fault.TextFault.TextFault, Refusal.text_refusal, Ids.id_of, Ids.is_id}
+use Rattle.echo_text.specs.declared.fault.TextFault.TheVariants as text
 use Rattle.model_steps.specs.Posting.{IsAllowed, IsFirstRefusal, has_id, holds_zero, is_too_long, post_refusal}
+use Rattle.model_steps.specs.{declared.draft.Draft.Draft, declared.stamp.Stamp.Stamp, declared.fault.PostFault.PostFault, declared.outcome.Outcome.Outcome, Stamps.is_stamp}
 use Rattle.model_steps.specs.Tossing.{IsOutcome, outcome_after, received, toss_outcome}
+use Rattle.model_steps.specs.declared.fault.PostFault.TheVariants as fault
+use Rattle.model_steps.specs.declared.outcome.Outcome.TheVariants as outcome
+use Rattle.echo_links.specs.Links.{LinkFile, has_area, is_link, upper}
+use Rattle.echo_filed.specs.{Written.echo_of, Filed.Filed, Filed.key_of}
+use Rattle.base_file.specs.Base.{is_known}
 use Rattle.echo_filed.proofs.Choices.{same_some}
 use Rattle.model_steps.proofs.Posted.{allowed}
 

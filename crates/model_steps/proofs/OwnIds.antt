@@ -1,18 +1,11 @@
 -- The ids that a system gives.
 use Rattle.std.proofs.Common.{◌≡◌, ℕ, ◌+◌, ◌/◌, ◌%◌, ◌^◌, ◌<◌, ◌≤◌, false, nat_le, List, [], ◌∷◌, ◌++◌, length, map, decimal, codes, refl, arith, lit<}
+use Rattle.std.proofs.lemmas.{Bool.cond-false, Bool.leb-true, Bool.ne_eqb, Bool.or_from, Fmt.decimal_nonempty, List.length-append, List.Sums.AllPass-from_list_all}
 use Rattle.std.specs.List.{AllByRecursion, prefix_len, suffix_len}
-use Rattle.std.proofs.lemmas.Bool.{cond-false, leb-true, ne_eqb, or_from}
-use Rattle.std.proofs.lemmas.Fmt.{decimal_nonempty}
-use Rattle.std.proofs.lemmas.List.{length-append}
-use Rattle.std.proofs.lemmas.List.Sums.{AllPass-from_list_all}
-use Rattle.echo_addr.specs.declared.address.Address.{Address}
-use Rattle.echo_addr.specs.Address.{IsAddress, address_text}
-use Rattle.echo_addr.specs.Entries.{is_blank}
+use Rattle.echo_addr.specs.{declared.address.Address.Address, Address.IsAddress, Address.address_text, Entries.is_blank}
 use Rattle.echo_addr.proofs.Decimals.{IsDigit, digits_of_decimal}
 use Rattle.echo_text.specs.Ids.{hex_digit, id_of, serial_text}
-use Rattle.echo_filed.proofs.Trims.{joined_trim}
-use Rattle.echo_filed.proofs.Keys.{IsIdText}
-use Rattle.echo_filed.proofs.Plain.{IsLineByte, Plain, all_append, plain_address}
+use Rattle.echo_filed.proofs.{Trims.joined_trim, Keys.IsIdText, Plain.IsLineByte, Plain.Plain, Plain.all_append, Plain.plain_address}
 
 -- a digit to the base 16 is no control byte and no blank
 hex_digit_high : (n : ℕ) → n < 16 → 48 ≤ hex_digit n

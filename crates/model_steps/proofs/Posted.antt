@@ -1,26 +1,19 @@
 -- The message that a posting files.
 use Rattle.std.proofs.Common.{◌≡◌, ℕ, ◌==◌, ◌||◌, Bool, true, false, cond, not, List, [], ◌∷◌, ◌++◌, length, codes, refl, sym, ap, subst, ◌∙◌, Option, Some, None, is_none, arith, inl, inr}
-use Rattle.std.specs.Prelude.{bytes_eq, find, is_some}
-use Rattle.std.specs.List.{AllByRecursion, AllPass, list_all, list_any}
-use Rattle.std.specs.Cmp.Lexicographic.{bytes_decides}
 use Rattle.std.proofs.lemmas.Bool.{and_left, and_parts, and_right, cases_Bool, cond-false, cond-true, not-false, or_parts}
 use Rattle.std.proofs.lemmas.List.Elements.{All-from_recursion, recursion_from_All}
+use Rattle.std.specs.{Prelude.bytes_eq, Prelude.find, Prelude.is_some, List.AllByRecursion, List.AllPass, List.list_all, List.list_any, Cmp.Lexicographic.bytes_decides}
 use Rattle.echo_addr.specs.Address.{address_text}
 use Rattle.echo_text.specs.Lines.{begins, is_tag, lines, msgid_word, origin_word, trimmed}
-use Rattle.echo_text.specs.Tail.{is_tail_line, tail}
-use Rattle.echo_text.specs.Echo.{IsEcho, is_shed, msgid_of}
+use Rattle.echo_text.specs.{Tail.is_tail_line, Tail.tail, Echo.IsEcho, Echo.is_shed, Echo.msgid_of, Ids.id_of, Ids.is_id, Ids.is_zero, Ids.is_line_byte}
 use Rattle.echo_text.proofs.Tails.{all_tail, tail_later}
-use Rattle.model_steps.specs.declared.draft.Draft.{Draft}
-use Rattle.model_steps.specs.declared.stamp.Stamp.{Stamp}
-use Rattle.echo_text.specs.Ids.{id_of, is_id, is_zero, is_line_byte}
-use Rattle.echo_links.specs.Links.{Area, IsArea, IsFile, LinkFile, has_area}
-use Rattle.echo_filed.specs.Filed.{Filed}
-use Rattle.echo_filed.specs.Filed.{id_line}
 use Rattle.model_steps.specs.Posting.{IsAllowed, holds_zero, origin_line, post_refusal, posted, posted_lines, posting, reply_lines}
-use Rattle.echo_filed.proofs.Choices.{all_weaker}
-use Rattle.echo_filed.proofs.Keys.{msgid_first}
-use Rattle.model_steps.proofs.OwnIds.{own_id_is_id, plain_id}
+use Rattle.model_steps.specs.declared.{draft.Draft.Draft, stamp.Stamp.Stamp}
+use Rattle.echo_links.specs.Links.{Area, IsArea, IsFile, LinkFile, has_area}
+use Rattle.echo_filed.specs.Filed.{Filed, id_line}
 use Rattle.echo_filed.proofs.Plain.{IsLineByte, Plain, all_append, lines_plain, no_zero, plain_address, plain_if, plain_line}
+use Rattle.echo_filed.proofs.{Choices.all_weaker, Keys.msgid_first}
+use Rattle.model_steps.proofs.OwnIds.{own_id_is_id, plain_id}
 
 passed : {F : Type 0} (b : Bool) (f : F) (rest : Option F) → cond b (Some f) rest ≡ None → (b ≡ false) × (rest ≡ None)
 passed true f rest h = absurd (cc)

@@ -4,12 +4,12 @@ use Rattle.std.proofs.lemmas.Bool.{cond-false, not-false, not_from_true}
 use Rattle.echo_addr.specs.declared.address.Address.{Address}
 use Rattle.echo_packet.specs.Message.{Message}
 use Rattle.echo_text.specs.declared.fault.TextFault.{TextFault}
+use Rattle.model_steps.specs.Tossing.{IsToBeFiled, outcome_after, outcome_of_filed, received, toss_outcome, tossing, where_filed}
 use Rattle.model_steps.specs.declared.outcome.Outcome.{Outcome}
 use Rattle.model_steps.specs.declared.outcome.Outcome.TheVariants as outcome
 use Rattle.echo_links.specs.Links.{LinkFile, has_area, is_link}
 use Rattle.echo_filed.specs.Filed.{Filed, key_of}
 use Rattle.base_file.specs.Base.{is_known}
-use Rattle.model_steps.specs.Tossing.{IsToBeFiled, outcome_after, outcome_of_filed, received, toss_outcome, tossing, where_filed}
 
 some_filed : (o : Outcome) (x m : Filed) → where_filed o x ≡ Some m → (o ≡ outcome.Filed) × (m ≡ x)
 some_filed o x m h1 = grind arith

@@ -4,16 +4,13 @@ use Rattle.std.specs.Prelude.{◌≡◌, ℕ, ◌⊎◌, ◌==◌, ◌||◌, not
 use Rattle.std.specs.List.{list_any}
 use Rattle.echo_addr.specs.Address.{address_text}
 use Rattle.echo_text.specs.Lines.{lines, msgid_word, origin_word, reply_word, trimmed}
+use Rattle.echo_text.specs.Ids.{id_of, is_id, is_zero}
 use Rattle.echo_packet.specs.Message.{max_name, max_subject}
-use Rattle.model_steps.specs.declared.draft.Draft.{Draft}
-use Rattle.model_steps.specs.declared.stamp.Stamp.{Stamp}
-use Rattle.model_steps.specs.declared.fault.PostFault.{PostFault}
+use Rattle.model_steps.specs.{declared.draft.Draft.Draft, declared.stamp.Stamp.Stamp, declared.fault.PostFault.PostFault, Stamps.date_of, Stamps.is_stamp}
+use Rattle.model_steps.specs.SystemState.{SystemState, state_with}
 use Rattle.model_steps.specs.declared.fault.PostFault.TheVariants as fault
 use Rattle.echo_links.specs.Links.{LinkFile, has_area, upper}
 use Rattle.echo_filed.specs.Filed.{Filed, id_line}
-use Rattle.echo_text.specs.Ids.{id_of, is_id, is_zero}
-use Rattle.model_steps.specs.Stamps.{date_of, is_stamp}
-use Rattle.model_steps.specs.SystemState.{SystemState, state_with}
 
 -- The REPLY line, if the draft answers a message.
 abbrev pub reply_lines : List ℕ → List (List ℕ)

@@ -1,7 +1,6 @@
 -- Purging: of the text of a scanned message, only its id remains.
 use Rattle.std.specs.Prelude.{◌≡◌, ℕ, not, List, ◌++◌, map, take, drop, count_by, Result, Ok, Err}
-use Rattle.echo_filed.specs.Filed.{Filed}
-use Rattle.echo_filed.specs.Stubs.{is_stub, stub_of}
+use Rattle.echo_filed.specs.{Filed.Filed, Stubs.is_stub, Stubs.stub_of}
 use Rattle.model_steps.specs.SystemState.{SystemState}
 
 -- The base after a purge: the stubs of the messages before the cursor, then the others.

@@ -4,11 +4,8 @@ use Rattle.echo_addr.specs.declared.address.Address.{Address}
 use Rattle.echo_packet.specs.Message.{Message}
 use Rattle.echo_text.specs.Echo.{msgid_of}
 use Rattle.echo_links.specs.Links.{LinkFile}
-use Rattle.echo_filed.specs.Filed.{Filed}
-use Rattle.echo_filed.specs.Stubs.{is_stub}
-use Rattle.model_steps.specs.declared.packet.Packet.{Packet}
-use Rattle.model_steps.specs.declared.stamp.Stamp.{Stamp}
-use Rattle.model_steps.specs.Scanning.{copy_to, goes_to, header_to}
+use Rattle.echo_filed.specs.{Filed.Filed, Stubs.is_stub}
+use Rattle.model_steps.specs.{declared.packet.Packet.Packet, declared.stamp.Stamp.Stamp, Scanning.copy_to, Scanning.goes_to, Scanning.header_to}
 
 -- The message belongs to the area, and no purge removed its text.
 abbrev pub is_whole_in : List ℕ → Filed → Bool

@@ -1,21 +1,13 @@
 -- Scanning: the packets of the waiting messages.
 use Rattle.std.specs.Prelude.{◌≡◌, ℕ, ◌-◌, ◌&&◌, not, Bool, true, false, List, [], ◌∷◌, ◌++◌, map, length, drop, filter, replicate, option_map, unwrap_or, Result, Ok, Err}
 use Rattle.std.specs.List.{flat_map, list_any}
-use Rattle.echo_addr.specs.declared.address.Address.{Address}
-use Rattle.echo_addr.specs.Address.{net_node_of}
-use Rattle.echo_packet.specs.declared.header.Header.{Header}
-use Rattle.echo_packet.specs.Message.{Message}
+use Rattle.echo_addr.specs.{declared.address.Address.Address, Address.net_node_of}
+use Rattle.echo_packet.specs.{declared.header.Header.Header, Message.Message}
 use Rattle.echo_text.specs.Echo.{EchoText}
-use Rattle.model_steps.specs.declared.packet.Packet.{Packet}
-use Rattle.model_steps.specs.declared.stamp.Stamp.{Stamp}
-use Rattle.model_steps.specs.declared.fault.ScanFault.{ScanFault}
+use Rattle.model_steps.specs.{declared.packet.Packet.Packet, declared.stamp.Stamp.Stamp, declared.fault.ScanFault.ScanFault, Stamps.is_stamp, SystemState.SystemState}
 use Rattle.model_steps.specs.declared.fault.ScanFault.TheVariants as fault
 use Rattle.echo_links.specs.Links.{LinkFile, links_of, same_address}
-use Rattle.echo_filed.specs.Sets.{address_set, entry_set, same_entry}
-use Rattle.echo_filed.specs.Written.{text_of}
-use Rattle.echo_filed.specs.Filed.{Filed}
-use Rattle.model_steps.specs.Stamps.{is_stamp}
-use Rattle.model_steps.specs.SystemState.{SystemState}
+use Rattle.echo_filed.specs.{Sets.address_set, Sets.entry_set, Sets.same_entry, Written.text_of, Filed.Filed}
 
 -- The address sent the message here.
 abbrev pub is_sender : Filed → Address → Bool

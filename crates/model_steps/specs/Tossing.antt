@@ -1,18 +1,14 @@
 -- Tossing: the outcome of a received message.
 use Rattle.std.specs.Prelude.{◌≡◌, ℕ, ◌==◌, not, true, false, List, [], ◌∷◌, ◌++◌, if◌then◌else◌, Option, Some, None, option_to_list, Result, Ok, Err}
 use Rattle.echo_addr.specs.declared.address.Address.{Address}
-use Rattle.echo_packet.specs.declared.header.Header.{Header}
-use Rattle.echo_packet.specs.Message.{Message}
-use Rattle.echo_text.specs.declared.fault.TextFault.{TextFault}
+use Rattle.echo_packet.specs.{declared.header.Header.Header, Message.Message}
+use Rattle.echo_text.specs.{declared.fault.TextFault.TextFault, Refusal.text_refusal}
 use Rattle.echo_text.specs.declared.fault.TextFault.TheVariants as text
-use Rattle.echo_text.specs.Refusal.{text_refusal}
-use Rattle.model_steps.specs.declared.outcome.Outcome.{Outcome}
+use Rattle.model_steps.specs.{declared.outcome.Outcome.Outcome, SystemState.SystemState, SystemState.state_with}
 use Rattle.model_steps.specs.declared.outcome.Outcome.TheVariants as outcome
 use Rattle.echo_links.specs.Links.{LinkFile, has_area, is_link}
-use Rattle.echo_filed.specs.Written.{echo_of}
-use Rattle.echo_filed.specs.Filed.{Filed, key_of}
+use Rattle.echo_filed.specs.{Written.echo_of, Filed.Filed, Filed.key_of}
 use Rattle.base_file.specs.Base.{is_known}
-use Rattle.model_steps.specs.SystemState.{SystemState, state_with}
 
 -- The filed form of a received message.
 unfoldable pub received : Address → Message → Filed

@@ -4,20 +4,14 @@ ghost use Rattle.std.specs.Prelude.{◌≡◌, ◌↔◌, ℕ, List, [], ◌∷�
 ghost use Rattle.std.specs.List.{AllByRecursion, list_any};
 ghost use Rattle.echo_addr.specs.declared.address.Address.{Address};
 ghost use Rattle.echo_packet.specs.Message.{IsMessage, Message};
-ghost use Rattle.echo_text.specs.Echo.{IsEcho, msgid_of};
-ghost use Rattle.echo_text.specs.Refusal.{text_refusal};
-ghost use Rattle.model_steps.specs.declared.draft.Draft.{Draft};
-ghost use Rattle.model_steps.specs.declared.fault.PostFault.{PostFault};
-ghost use Rattle.model_steps.specs.declared.outcome.Outcome.{Outcome};
-ghost use Rattle.model_steps.specs.declared.stamp.Stamp.{Stamp};
-ghost use Rattle.echo_text.specs.Ids.{id_of};
+ghost use Rattle.echo_text.specs.{Echo.IsEcho, Echo.msgid_of, Refusal.text_refusal, Ids.id_of};
+ghost use Rattle.model_steps.specs.Posting.{IsAllowed, IsFirstRefusal, has_id, post_refusal, posting};
+ghost use Rattle.model_steps.specs.Tossing.{IsOutcome, IsToBeFiled, received, toss_outcome, tossing};
+ghost use Rattle.model_steps.specs.declared.{draft.Draft.Draft, fault.PostFault.PostFault, outcome.Outcome.Outcome, stamp.Stamp.Stamp};
+ghost use Rattle.model_steps.specs.{Scanning.copy_to, Scanning.exported, Scanning.scanned, Purging.purged};
 ghost use Rattle.echo_links.specs.Links.{IsFile, LinkFile, has_area};
 ghost use Rattle.echo_filed.specs.Filed.{Filed, HasSmallSender, key_of};
 ghost use Rattle.base_file.specs.Base.{IsBase};
-ghost use Rattle.model_steps.specs.Posting.{IsAllowed, IsFirstRefusal, has_id, post_refusal, posting};
-ghost use Rattle.model_steps.specs.Tossing.{IsOutcome, IsToBeFiled, received, toss_outcome, tossing};
-ghost use Rattle.model_steps.specs.Scanning.{copy_to, exported, scanned};
-ghost use Rattle.model_steps.specs.Purging.{purged};
 
 /// The exported copy of a message is echomail, its text is read back, and it has the key of the message.
 pub fn copy_laws()

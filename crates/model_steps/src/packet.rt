@@ -1,7 +1,5 @@
 ghost use Rattle.std.specs.Prelude.{◌≡◌, ◌+◌, ◌<◌, length, IfOk, OnErr};
-ghost use Rattle.echo_packet.specs.Header.{header_bytes};
-ghost use Rattle.echo_packet.specs.Message.{message_bytes};
-ghost use Rattle.echo_packet.specs.Packet.{PacketOf, packet_bytes};
+ghost use Rattle.echo_packet.specs.{Header.header_bytes, Message.message_bytes, Packet.PacketOf, Packet.packet_bytes};
 
 use disk_io::Watched;
 use echo_addr::Items;

@@ -1,7 +1,7 @@
 -- Packets that bring a message, one after another.
 use Rattle.std.proofs.Common.{◌≡◌, ◌∙◌, refl, sym, ap, ℕ, zero, suc, ◌+◌, ◌<◌, arith, true, cond, List, [], ◌∷◌, ◌++◌, append_assoc, drop, length, Option, Some, None}
-use Rattle.std.specs.Prelude.{nat_lt}
 use Rattle.std.proofs.lemmas.Bool.{cond-true, lt-ltb}
+use Rattle.std.specs.Prelude.{nat_lt}
 use Rattle.echo_addr.specs.declared.address.Address.{Address}
 use Rattle.echo_links.specs.Links.{same_address}
 use Rattle.echo_links.proofs.Addresses.{same_address_decides}
@@ -9,8 +9,7 @@ use Rattle.echo_filed.specs.declared.key.Key.{Key}
 use Rattle.model_steps.specs.declared.packet.Packet.{Packet}
 use Rattle.echo_packet.specs.Message.{Message}
 use Rattle.echo_net.specs.declared.drawing.Crossing.{Crossing}
-use Rattle.model_run.specs.Orderly.{copies, count, origin}
-use Rattle.model_run.specs.Run.{destination, nth}
+use Rattle.model_run.specs.{Orderly.copies, Orderly.count, Orderly.origin, Run.destination, Run.nth}
 use Rattle.model_why.proofs.Counting.{total}
 use Rattle.model_why.specs.Carrying.{crossing_at, crossings_from, step_of}
 

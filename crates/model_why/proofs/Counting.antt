@@ -3,21 +3,13 @@ use Rattle.std.proofs.Common.{◌≡◌, ◌∙◌, inl, inr, refl, sym, subst, 
 use Rattle.std.proofs.lemmas.List.{take_all}
 use Rattle.std.specs.Prelude.{◌&&◌, bytes_eq, filter, if◌then◌else◌, is_none, option_map, unwrap_or}
 use Rattle.echo_addr.specs.declared.address.Address.{Address}
-use Rattle.echo_packet.specs.Answer.{Answer, AnswersAsDescribed, Describes, Found}
-use Rattle.echo_packet.specs.Message.{Message}
-use Rattle.echo_packet.specs.Packet.{PacketOf}
-use Rattle.echo_text.specs.Echo.{msgid_of}
-use Rattle.echo_text.specs.Refusal.{text_refusal}
+use Rattle.echo_packet.specs.{Answer.Answer, Answer.AnswersAsDescribed, Answer.Describes, Answer.Found, Message.Message, Packet.PacketOf}
+use Rattle.echo_text.specs.{Echo.msgid_of, Refusal.text_refusal}
 use Rattle.echo_links.specs.Links.{same_address}
-use Rattle.echo_filed.specs.declared.key.Key.{Key}
-use Rattle.echo_filed.specs.declared.key.Key.TheVariants.{ById}
-use Rattle.echo_filed.specs.Filed.{Filed, key_of, key_with, same_key}
-use Rattle.echo_filed.specs.Written.{echo_of}
-use Rattle.model_steps.specs.declared.packet.Packet.{Packet}
-use Rattle.model_steps.specs.Tossing.{received}
+use Rattle.echo_filed.specs.{declared.key.Key.Key, declared.key.Key.TheVariants.ById, Filed.Filed, Filed.key_of, Filed.key_with, Filed.same_key, Written.echo_of}
+use Rattle.model_steps.specs.{declared.packet.Packet.Packet, Tossing.received}
 use Rattle.model_replay.specs.Worlds.{Fits, encoded, unlimited}
-use Rattle.model_run.specs.Run.{destination, nth}
-use Rattle.model_run.specs.Orderly.{copies, count, sent_count}
+use Rattle.model_run.specs.{Run.destination, Run.nth, Orderly.copies, Orderly.count, Orderly.sent_count}
 
 -- the number of copies in a packet for an address
 abbrev pub copies_for : Address → Key → Packet → ℕ

@@ -2,15 +2,9 @@
 use Rattle.std.proofs.Common.{◌≡◌, ◌∙◌, ◌⊎◌, inl, inr, refl, sym, subst, ap, ℕ, ◌≤◌, arith, List, length, Option, Some, None}
 use Rattle.echo_addr.specs.declared.address.Address.{Address}
 use Rattle.model_graph.specs.Walk.{Among}
-use Rattle.echo_filed.specs.declared.key.Key.{Key}
-use Rattle.echo_filed.specs.declared.key.Key.TheVariants.{ById}
-use Rattle.echo_filed.specs.Filed.{Filed, key_of}
-use Rattle.echo_filed.specs.Stubs.{stub_of, stub_with}
-use Rattle.model_run.specs.Run.{Run, System, nth}
-use Rattle.model_run.specs.Orderly.{IsPosting, count, sent_count}
-use Rattle.model_run.specs.Harms.{Harm}
-use Rattle.model_why.specs.declared.shown.Harm.{Harm as Reported}
-use Rattle.model_why.specs.declared.shown.Harm.TheVariants.{NeverGets, NeverSettles, SentAgain, SentOwn}
+use Rattle.echo_filed.specs.{declared.key.Key.Key, declared.key.Key.TheVariants.ById, Filed.Filed, Filed.key_of, Stubs.stub_of, Stubs.stub_with}
+use Rattle.model_run.specs.{Run.Run, Run.System, Run.nth, Orderly.IsPosting, Orderly.count, Orderly.sent_count, Harms.Harm}
+use Rattle.model_why.specs.declared.shown.Harm.{Harm as Reported, TheVariants.NeverGets, TheVariants.NeverSettles, TheVariants.SentAgain, TheVariants.SentOwn}
 use Rattle.model_why.specs.Found.{BreaksIt, HasHarm, HasPosted}
 use Rattle.model_why.proofs.Judged.{in-nth, nth-in}
 use Rattle.model_run.proofs.HarmLists.{nth-below as nth-there}

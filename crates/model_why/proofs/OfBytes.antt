@@ -3,12 +3,9 @@ use Rattle.std.proofs.Common.{◌≡◌, ◌⊎◌, ◌∙◌, inl, inr, sym, su
 use Rattle.std.specs.Prelude.{Result, Ok, Err}
 use Rattle.model_graph.specs.Walk.{Among}
 use Rattle.model_graph.proofs.Members.{Among-append_cases}
-use Rattle.echo_links.specs.declared.fault.LinkFault.{LinkFault}
+use Rattle.echo_links.specs.{declared.fault.LinkFault.LinkFault, LinkLines.LinksOf, LinkLines.file_of, Links.IsFile, Links.LinkFile}
 use Rattle.echo_links.specs.declared.fault.LinkFault.TheVariants as fault
-use Rattle.echo_links.specs.LinkLines.{LinksOf, file_of}
-use Rattle.echo_links.specs.Links.{IsFile, LinkFile}
-use Rattle.model_run.specs.Fits.{FilesFit}
-use Rattle.model_run.specs.Run.{nth}
+use Rattle.model_run.specs.{Fits.FilesFit, Run.nth}
 use Rattle.model_why.specs.Sources.{files_of}
 use Rattle.model_why.proofs.Counting.{nth-read}
 

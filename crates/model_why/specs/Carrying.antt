@@ -2,16 +2,12 @@
 use Rattle.std.specs.Prelude.{ℕ, ◌+◌, ◌&&◌, nat_le, nat_lt, Bool, count_by, if◌then◌else◌, List, [], ◌∷◌, ◌++◌, Option, Some, None}
 use Rattle.echo_addr.specs.declared.address.Address.{Address}
 use Rattle.echo_links.specs.Links.{LinkFile, same_address}
-use Rattle.echo_filed.specs.declared.key.Key.{Key}
-use Rattle.echo_filed.specs.declared.key.Key.TheVariants.{ById}
+use Rattle.echo_filed.specs.declared.key.Key.{Key, TheVariants.ById}
 use Rattle.model_steps.specs.declared.packet.Packet.{Packet}
 use Rattle.echo_net.specs.declared.drawing.Crossing.{Crossing}
 use Rattle.model_replay.specs.Counts.{packet_counts}
-use Rattle.model_run.specs.Orderly.{copies, count, origin}
-use Rattle.model_run.specs.Run.{destination, start}
-use Rattle.model_why.specs.declared.shown.Harm.{Harm}
-use Rattle.model_why.specs.declared.shown.Harm.TheVariants.{NeverGets, NeverSettles, SentAgain, SentOwn}
-use Rattle.model_why.specs.declared.shown.Shown.{Shown}
+use Rattle.model_run.specs.{Orderly.copies, Orderly.count, Orderly.origin, Run.destination, Run.start}
+use Rattle.model_why.specs.declared.shown.{Harm.Harm, Harm.TheVariants.NeverGets, Harm.TheVariants.NeverSettles, Harm.TheVariants.SentAgain, Harm.TheVariants.SentOwn, Shown.Shown}
 use Rattle.model_why.specs.Shown.{posting_and_moves, shown_run}
 
 -- The system that a harm names.

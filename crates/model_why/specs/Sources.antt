@@ -1,7 +1,6 @@
 -- The link files of some bytes.
 use Rattle.std.specs.Prelude.{ℕ, List, map}
-use Rattle.echo_links.specs.Links.{LinkFile}
-use Rattle.echo_links.specs.LinkLines.{file_of}
+use Rattle.echo_links.specs.{Links.LinkFile, LinkLines.file_of}
 
 -- The link file of each of these byte strings.
 abbrev pub files_of : List (List ℕ) → List LinkFile

@@ -3,8 +3,7 @@
 ghost use Rattle.std.specs.Prelude.{◌≡◌, ◌++◌, IfOk, OnOk, Some, None, if◌then◌else◌, nat_lt, option_copied};
 ghost use Rattle.echo_filed.specs.declared.key.Key.TheVariants.{ById};
 ghost use Rattle.model_replay.specs.Worlds.{Fits, IsWorldOf, encoded};
-ghost use Rattle.model_run.specs.Orderly.{copies, count, origin};
-ghost use Rattle.model_run.specs.Run.{Run, nth};
+ghost use Rattle.model_run.specs.{Orderly.copies, Orderly.count, Orderly.origin, Run.Run, Run.nth};
 ghost use Rattle.model_steps.specs.declared.packet.Packet.{Packet};
 ghost use Rattle.model_why.specs.Carrying.{crossing_at, crossings_from, found_crossings, shown_crossings, step_of, system_named};
 ghost use Rattle.model_why.specs.Sources.{files_of};

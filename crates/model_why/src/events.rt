@@ -1,8 +1,7 @@
 //! The events of a posting and of the moves after it.
 
 ghost use Rattle.std.specs.Prelude.{◌≡◌, IfOk, map};
-ghost use Rattle.model_run.specs.Event.{run_event};
-ghost use Rattle.model_run.specs.Postings.{trial_draft, trial_posting};
+ghost use Rattle.model_run.specs.{Event.run_event, Postings.trial_draft, Postings.trial_posting};
 ghost use Rattle.model_why.specs.Shown.{posting_and_moves, run_move};
 
 use echo_addr::Items;

@@ -1,8 +1,7 @@
 //! Why an area is not in order: a run that does harm.
 
 ghost use Rattle.std.specs.Prelude.{IfOk, IfSome};
-ghost use Rattle.model_why.specs.Found.{IsShown};
-ghost use Rattle.model_why.specs.Sources.{files_of};
+ghost use Rattle.model_why.specs.{Found.IsShown, Sources.files_of};
 
 use crate::confirming::confirmed;
 use crate::shown::Shown;

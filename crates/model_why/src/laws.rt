@@ -2,11 +2,8 @@
 
 ghost use Rattle.std.specs.Prelude.{ℕ, List};
 ghost use Rattle.echo_links.specs.Links.{LinkFile};
-ghost use Rattle.model_run.specs.Harms.{Harm};
-ghost use Rattle.model_run.specs.Orderly.{Orderly};
-ghost use Rattle.model_why.specs.declared.shown.Shown.{Shown};
-ghost use Rattle.model_why.specs.Found.{BreaksIt, IsShown};
-ghost use Rattle.model_why.specs.Shown.{shown_run};
+ghost use Rattle.model_run.specs.{Harms.Harm, Orderly.Orderly};
+ghost use Rattle.model_why.specs.{declared.shown.Shown.Shown, Found.BreaksIt, Found.IsShown, Shown.shown_run};
 
 use echo_filed::stub_laws;
 use model_run::{bases_are_what_was_filed, harms_break_the_promise};

@@ -1,12 +1,8 @@
 -- Why a file of a command cannot be used.
 use Rattle.std.specs.Prelude.{◌≡◌, ◌⊎◌, ◌<◌, ℕ, List, length, Option, Some, None}
-use Rattle.disk_io.specs.Device.{Failed}
-use Rattle.disk_io.specs.Disk.{DiskState, bytes_in}
-use Rattle.disk_io.specs.declared.disk_error.DiskError.{DiskError}
+use Rattle.disk_io.specs.{Device.Failed, Disk.DiskState, Disk.bytes_in, declared.disk_error.DiskError.DiskError}
 use Rattle.disk_io.specs.declared.disk_error.DiskError.TheVariants as disk_error
-use Rattle.cmd_status.specs.declared.fault.Fault.{Fault}
-use Rattle.cmd_status.specs.declared.fault.Fault.TheVariants.{OutOfMemory, TooLarge}
-use Rattle.cmd_status.specs.Ended.{IsCannotUse}
+use Rattle.cmd_status.specs.{declared.fault.Fault.Fault, declared.fault.Fault.TheVariants.OutOfMemory, declared.fault.Fault.TheVariants.TooLarge, Ended.IsCannotUse}
 
 -- The file with this path has more bytes than allowed.
 abbrev pub IsTooLarge : List ℕ → Fault → Type 0

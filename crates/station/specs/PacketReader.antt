@@ -1,7 +1,6 @@
 -- The state of a packet file's reader.
 use Rattle.std.specs.Prelude.{ℕ, List, Option, Some}
-use Rattle.station.specs.declared.packet_reader.PacketReader.{PacketReader}
-use Rattle.station.specs.declared.packet_reader.PacketReader.TheVariants.{Held, Streamed}
+use Rattle.station.specs.declared.packet_reader.PacketReader.{PacketReader, TheVariants.Held, TheVariants.Streamed}
 
 -- The bytes left to read, if they are known.
 abbrev pub held_remaining : {R : Type 0} → (R → Option (List ℕ)) → PacketReader R → Option (List ℕ)

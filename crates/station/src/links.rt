@@ -1,10 +1,7 @@
 //! The link file alone, and other files that are locked.
 ghost use Rattle.std.specs.Prelude.{◌≡◌, ◌≤◌, length, IfErr, IfOk, OnOk, Some, None};
-ghost use Rattle.disk_io.specs.Device.{Failed};
-ghost use Rattle.disk_io.specs.Disk.{Honestly};
-ghost use Rattle.disk_io.specs.Runs.{ChangesNothing};
-ghost use Rattle.station.specs.Faults.{FailsAt, HaveFailed, LinksUnread, most_links};
-ghost use Rattle.station.specs.Links.{AreLinks, NoLinks};
+ghost use Rattle.disk_io.specs.{Device.Failed, Disk.Honestly, Runs.ChangesNothing};
+ghost use Rattle.station.specs.{Faults.FailsAt, Faults.HaveFailed, Faults.LinksUnread, Faults.most_links, Links.AreLinks, Links.NoLinks};
 
 use crate::reading::{fault_at, read_links};
 use cmd_status::{Fault, FileLock};

@@ -1,13 +1,10 @@
 //! A command is run on a station.
 ghost use Rattle.std.specs.Prelude.{◌⊎◌, IsErrOf, OnOk};
-ghost use Rattle.disk_io.specs.Disk.{Honestly};
-ghost use Rattle.disk_io.specs.Runs.{ChangesNothing};
+ghost use Rattle.disk_io.specs.{Disk.Honestly, Runs.ChangesNothing};
 ghost use Rattle.cmd_status.specs.Devices.{output_of};
-ghost use Rattle.station.specs.Opening.{AreFree, HaveFailed};
-ghost use Rattle.station.specs.Place.{KeepsElsewhere};
+ghost use Rattle.station.specs.{Opening.AreFree, Opening.HaveFailed, Place.KeepsElsewhere, Running.IsRefusedFull, Running.RunsIn};
 ghost use Rattle.base_store.specs.declared.store_error.StoreError.TheVariants.{TooMany};
 ghost use Rattle.cmd_store.specs.declared.command_error.CommandError.TheVariants.{Store};
-ghost use Rattle.station.specs.Running.{IsRefusedFull, RunsIn};
 
 use crate::before::BeforeCommand;
 use crate::locks::Locks;

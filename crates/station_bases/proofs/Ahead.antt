@@ -1,10 +1,8 @@
 -- The part of a base file that was read ahead.
 use Rattle.std.proofs.Common.{◌≡◌, ◌≤◌, ◌+◌, ◌-◌, ◌++◌, ℕ, List, length, take, drop, sym, ap, subst, ◌∙◌, arith, length-append, length-drop}
 use Rattle.std.proofs.lemmas.List.{drop-drop, drop-take, length-take-le, take-append-drop, take-append-le, take-take}
-use Rattle.base_folder_store.specs.Ahead.{IsPartOf}
-use Rattle.base_folder_store.specs.declared.read_ahead.ReadAhead.{ReadAhead}
-use Rattle.station_bases.specs.Entries.{message_bytes}
-use Rattle.station_bases.specs.declared.entries.Entries.{Entries}
+use Rattle.base_folder_store.specs.{Ahead.IsPartOf, declared.read_ahead.ReadAhead.ReadAhead}
+use Rattle.station_bases.specs.{Entries.message_bytes, declared.entries.Entries.Entries}
 
 -- The messages have the bytes in the file after its head, and those that wait.
 pub message_long : (file : List ℕ) (e : Entries) (all : ℕ) → e.end ≤ length file → 16 ≤ e.end → all ≡ e.end - 16 + length e.waiting.items → length (message_bytes file e) ≡ all

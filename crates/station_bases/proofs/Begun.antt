@@ -1,18 +1,15 @@
 -- A folder that was begun, as an open station.
 use Rattle.std.proofs.Common.{◌≤◌, ℕ, Bool, List, arith}
 use Rattle.base_file.specs.Base.{Base}
-use Rattle.disk_io.specs.Disk.{DiskState, Honestly}
-use Rattle.disk_io.specs.Runs.{LeavesOnly}
+use Rattle.disk_io.specs.{Disk.DiskState, Disk.Honestly, Runs.LeavesOnly}
 use Rattle.disk_io.proofs.Moments.{weaker_run}
 use Rattle.base_log.specs.Moments.{KeepsOutside}
-use Rattle.station_bases.specs.Opening.{IsBegun, IsOfFolder}
+use Rattle.station_bases.specs.{Opening.IsBegun, Opening.IsOfFolder, InFolder.IsFolderShut, InFolder.IsOwnLinks, InFolder.folder_place}
 use Rattle.base_folder_store.specs.Held.{RepresentsBase, RepresentsBaseOrWasLeft}
 use Rattle.echo_links.specs.Links.{LinkFile}
 use Rattle.cmd_status.specs.declared.fault.Fault.{Fault}
 use Rattle.base_store.specs.Store.{StoreState}
-use Rattle.station.specs.Opening.{IsNotOpened, IsOpened}
-use Rattle.station.specs.Place.{KeepsElsewhere, RepresentsOrWasLeft}
-use Rattle.station_bases.specs.InFolder.{IsFolderShut, IsOwnLinks, folder_place}
+use Rattle.station.specs.{Opening.IsNotOpened, Opening.IsOpened, Place.KeepsElsewhere, Place.RepresentsOrWasLeft}
 
 module _ (keyed : ℕ → ℕ → List ℕ → ℕ) (path : List ℕ) (d0 : DiskState) where
   elsewhere_of : (d1 : DiskState) → KeepsOutside path d0 d1 → KeepsElsewhere (folder_place keyed path) d0 d1

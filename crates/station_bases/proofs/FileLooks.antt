@@ -1,25 +1,16 @@
 -- The reasons of failed calls of a store on a base file.
 use Rattle.std.proofs.Common.{◌≡◌, ◌≤◌, ◌⊎◌, ◌/◌, ◌^◌, ℕ, List, length, Result, Ok, Err, Some, refl, subst}
 use Rattle.std.specs.Prelude.{All, IsErrOf, OnErr, OnOk, ◌≢◌}
-use Rattle.disk_io.specs.Disk.{DiskState, Honestly, bytes_in}
-use Rattle.disk_io.specs.Runs.{LeavesOnly, OneStepOn}
-use Rattle.disk_atomic.specs.Changes.{ChangesOnly, HasOnDisk}
-use Rattle.disk_atomic.specs.Replacing.{Replaces}
-use Rattle.disk_atomic.specs.StagingPaths.{staging_path}
+use Rattle.disk_io.specs.{Disk.DiskState, Disk.Honestly, Disk.bytes_in, Runs.LeavesOnly, Runs.OneStepOn}
+use Rattle.disk_atomic.specs.{Changes.ChangesOnly, Changes.HasOnDisk, Replacing.Replaces, StagingPaths.staging_path}
 use Rattle.cmd_status.specs.Inputs.{IsBaseGiven}
-use Rattle.base_file.specs.Base.{Base}
-use Rattle.base_file.specs.BaseFile.{saved_bytes}
-use Rattle.base_store.specs.Store.{Commits, HasStoreCause, MayCommit, StoreState}
-use Rattle.base_store.specs.declared.store_error.StoreError.{StoreError}
+use Rattle.base_file.specs.{Base.Base, BaseFile.saved_bytes}
+use Rattle.base_store.specs.{Store.Commits, Store.HasStoreCause, Store.MayCommit, Store.StoreState, declared.store_error.StoreError.StoreError}
 use Rattle.base_store.specs.declared.store_error.StoreError.TheVariants as error
 use Rattle.base_folder_store.specs.Answers.{Answers, HasReadCause}
-use Rattle.station_bases.specs.Entries.{CanLookUp, HoldEntries, file_bytes}
-use Rattle.station_bases.specs.InFile.{IsHeld, IsOfFile, file_state}
-use Rattle.station_bases.specs.declared.entries.Entries.{Entries}
-use Rattle.station_bases.specs.declared.held.Held.TheVariants.{Apart}
-use Rattle.station_bases.proofs.EntryMore.{few_held, held_loads, many_held}
-use Rattle.station_bases.proofs.Written.{may_commit, put_now, put_run}
-use Rattle.station_bases.specs.declared.held.Held.{Held}
+use Rattle.station_bases.specs.{Entries.CanLookUp, Entries.HoldEntries, Entries.file_bytes, InFile.IsHeld, InFile.IsOfFile, InFile.file_state, declared.entries.Entries.Entries}
+use Rattle.station_bases.specs.declared.held.Held.{TheVariants.Apart, Held}
+use Rattle.station_bases.proofs.{EntryMore.few_held, EntryMore.held_loads, EntryMore.many_held, Written.may_commit, Written.put_now, Written.put_run}
 use Rattle.base_folder_store.proofs.Stated.{not_damaged}
 
 module _ {S T : Type 0} (path own : List ℕ) (held later : Held S T) (d0 d1 : DiskState) (p0 p1 : ℕ) where

@@ -3,22 +3,12 @@ use Rattle.std.proofs.Common.{◌≡◌, ◌≢◌, ◌↔◌, ◌≤◌, ◌++�
 use Rattle.std.proofs.lemmas.List.{drop_at}
 use Rattle.std.specs.Prelude.{IsSome}
 use Rattle.echo_filed.specs.Filed.{Filed}
-use Rattle.disk_io.specs.Disk.{DiskState, Files, IsIn, bytes_in}
-use Rattle.disk_io.specs.Runs.{OneStepOn}
-use Rattle.disk_io.specs.Synced.{IsOnDisk}
+use Rattle.disk_io.specs.{Disk.DiskState, Disk.Files, Disk.IsIn, Disk.bytes_in, Runs.OneStepOn, Synced.IsOnDisk}
 use Rattle.disk_io.proofs.Moments.{left_now}
-use Rattle.base_log.specs.AtRest.{IsStaged}
-use Rattle.base_log.specs.Log.{opened}
-use Rattle.base_log.specs.Names.{keys_of, log_of, messages_of}
-use Rattle.base_log.specs.Standing.{BaseBytes, IsEnded, Represents, base_at}
-use Rattle.base_log.specs.declared.log.End.{End}
-use Rattle.base_log.specs.declared.log.CommitRecord.{CommitRecord}
-use Rattle.base_log.proofs.Paths.{keys_in, log_in, messages_in}
-use Rattle.base_log.proofs.Same.{AreThere-same, RecordsBase-same}
-use Rattle.base_folder_store.specs.Held.{HoldsBase}
-use Rattle.base_folder_store.specs.Opened.{and_waiting, held_by, path_of}
-use Rattle.base_folder_store.specs.State.{IsUsable, state_of}
-use Rattle.base_folder_store.specs.declared.folder.Folder.{Folder}
+use Rattle.base_log.specs.{AtRest.IsStaged, Log.opened, Names.keys_of, Names.log_of, Names.messages_of, Standing.BaseBytes, Standing.IsEnded, Standing.Represents, Standing.base_at}
+use Rattle.base_log.specs.declared.log.{End.End, CommitRecord.CommitRecord}
+use Rattle.base_log.proofs.{Paths.keys_in, Paths.log_in, Paths.messages_in, Same.AreThere-same, Same.RecordsBase-same}
+use Rattle.base_folder_store.specs.{Held.HoldsBase, Opened.and_waiting, Opened.held_by, Opened.path_of, State.IsUsable, State.state_of, declared.folder.Folder.Folder}
 use Rattle.disk_atomic.specs.Changes.{ChangesOnly, DifferAt}
 use Rattle.station.specs.Beneath.{HoldsAsBefore, IsGivenBack}
 

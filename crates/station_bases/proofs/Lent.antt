@@ -6,8 +6,7 @@ use Rattle.disk_io.specs.Disk.{DiskState}
 use Rattle.disk_io.proofs.Moments.{left_now}
 use Rattle.disk_atomic.specs.Changes.{ChangesOnly}
 use Rattle.station.specs.Beneath.{IsGivenBack}
-use Rattle.station_bases.specs.InFile.{IsInFile, IsOfFile, file_state}
-use Rattle.station_bases.specs.declared.held.Held.{Held}
+use Rattle.station_bases.specs.{InFile.IsInFile, InFile.IsOfFile, InFile.file_state, declared.held.Held.Held}
 use Rattle.station_bases.proofs.Reach.{held_seen, reach_seen}
 
 module _ {S T : Type 0} (path own : List ℕ) (held : Held S T) (place : ℕ) (d e : DiskState) where

@@ -1,10 +1,7 @@
 -- The answer of loading the bytes of a base.
 use Rattle.std.proofs.Common.{◌≡◌, ◌≢◌, ◌<◌, ◌≤◌, ◌-◌, ◌^◌, ℕ, [], ap, Result, Ok, Err, arith, ⊎_elim}
 use Rattle.disk_io.specs.Device.{Failed}
-use Rattle.base_file.specs.Base.{Base}
-use Rattle.base_file.specs.BaseFile.{Loaded}
-use Rattle.base_file.specs.Loading.{AnswersLoad, CountsLoad}
-use Rattle.base_file.specs.declared.fault.BaseFault.{BaseFault}
+use Rattle.base_file.specs.{Base.Base, BaseFile.Loaded, Loading.AnswersLoad, Loading.CountsLoad, declared.fault.BaseFault.BaseFault}
 use Rattle.base_file.specs.declared.fault.BaseFault.TheVariants as fault
 use Rattle.base_file.proofs.OneBase.{ok_no_err}
 

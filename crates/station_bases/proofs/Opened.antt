@@ -1,22 +1,14 @@
 -- A base file opened as a store.
 use Rattle.std.proofs.Common.{◌≡◌, ◌≤◌, inr, ℕ, List, Option, Result, Ok, arith}
 use Rattle.std.specs.Prelude.{All, ◌≢◌, IfOk, IsSome}
-use Rattle.base_file.specs.Base.{Base}
-use Rattle.base_file.specs.BaseFile.{LoadOf}
+use Rattle.base_file.specs.{Base.Base, BaseFile.LoadOf, Loading.AnswersLoad, declared.fault.BaseFault.BaseFault}
 use Rattle.echo_filed.specs.Filed.{Filed}
-use Rattle.base_file.specs.Loading.{AnswersLoad}
-use Rattle.base_file.specs.declared.fault.BaseFault.{BaseFault}
-use Rattle.disk_io.specs.Disk.{DiskState, Honestly, bytes_in}
-use Rattle.disk_io.specs.Runs.{ChangesNothing}
+use Rattle.disk_io.specs.{Disk.DiskState, Disk.Honestly, Disk.bytes_in, Runs.ChangesNothing}
 use Rattle.disk_io.proofs.Moments.{weaker_run}
 use Rattle.echo_links.specs.Links.{LinkFile}
-use Rattle.cmd_status.specs.Inputs.{IsBaseGiven}
-use Rattle.cmd_status.specs.declared.fault.Fault.{Fault}
-use Rattle.station.specs.Links.{AreLinks}
-use Rattle.station.specs.Opening.{IsNotOpened, IsOpenFor, IsOpened}
-use Rattle.station.specs.Place.{IsOfPlace, KeepsElsewhere, RepresentsOrWasLeft}
-use Rattle.station_bases.specs.InFile.{IsHeld, IsWithinReach, RepresentsInFile, file_state}
-use Rattle.station_bases.specs.declared.held.Held.{Held}
+use Rattle.cmd_status.specs.{Inputs.IsBaseGiven, declared.fault.Fault.Fault}
+use Rattle.station.specs.{Links.AreLinks, Opening.IsNotOpened, Opening.IsOpenFor, Opening.IsOpened, Place.IsOfPlace, Place.KeepsElsewhere, Place.RepresentsOrWasLeft}
+use Rattle.station_bases.specs.{InFile.IsHeld, InFile.IsWithinReach, InFile.RepresentsInFile, InFile.file_state, declared.held.Held.Held}
 use Rattle.station_bases.specs.Reading.{IsFileShut, IsSettled, IsShutFor, file_place}
 
 pub same_loaded : (result : Result Base BaseFault) (base : Base) (size : ℕ) → AnswersLoad result (Ok (base.messages, base.cursor, size)) → IfOk result (λ b. base ≡ b)

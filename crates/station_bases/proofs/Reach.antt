@@ -1,15 +1,11 @@
 -- A base file that is unchanged.
 use Rattle.std.proofs.Common.{◌≡◌, ◌≤◌, ℕ, List, length, sym, ap, subst, Option, arith}
 use Rattle.std.specs.Prelude.{IsSome}
-use Rattle.disk_io.specs.Disk.{DiskState, bytes_in}
-use Rattle.disk_io.specs.Runs.{ChangesNothing}
+use Rattle.disk_io.specs.{Disk.DiskState, Disk.bytes_in, Runs.ChangesNothing}
 use Rattle.base_file.specs.Base.{Base}
 use Rattle.base_folder_store.specs.Ahead.{IsPartOf}
-use Rattle.station_bases.specs.Entries.{AreIndexed, CanLookUp, HoldEntries, IsWithinFile}
-use Rattle.station_bases.specs.InFile.{IsHeld, IsWithinReach}
-use Rattle.station_bases.specs.declared.held.Held.{Held}
-use Rattle.station_bases.specs.declared.held.Held.TheVariants.{Apart, Whole}
-use Rattle.station_bases.specs.declared.entries.Entries.{Entries}
+use Rattle.station_bases.specs.{Entries.AreIndexed, Entries.CanLookUp, Entries.HoldEntries, Entries.IsWithinFile, InFile.IsHeld, InFile.IsWithinReach, declared.held.Held.Held}
+use Rattle.station_bases.specs.declared.{held.Held.TheVariants.Apart, held.Held.TheVariants.Whole, entries.Entries.Entries}
 
 module _ (d0 d1 : DiskState) (path : List ℕ) (quiet : ChangesNothing d0 d1) where
   pub same_file : bytes_in (d1.seen path) ≡ bytes_in (d0.seen path)

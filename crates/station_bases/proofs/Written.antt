@@ -1,12 +1,9 @@
 -- A base that replaced its file.
 use Rattle.std.proofs.Common.{◌≡◌, ℕ, List, Some, subst, sym, arith}
 use Rattle.base_file.specs.Base.{Base}
-use Rattle.disk_io.specs.Disk.{DiskState, Files, Honestly}
-use Rattle.disk_io.specs.Runs.{ChangesNothing, LeavesOnly, OneStepOn}
+use Rattle.disk_io.specs.{Disk.DiskState, Disk.Files, Disk.Honestly, Runs.ChangesNothing, Runs.LeavesOnly, Runs.OneStepOn}
 use Rattle.disk_io.proofs.Moments.{weaker_run}
-use Rattle.disk_atomic.specs.Changes.{ChangesOnly, HasOnDisk}
-use Rattle.disk_atomic.specs.Replacing.{Replaces}
-use Rattle.disk_atomic.specs.StagingPaths.{staging_path}
+use Rattle.disk_atomic.specs.{Changes.ChangesOnly, Changes.HasOnDisk, Replacing.Replaces, StagingPaths.staging_path}
 use Rattle.cmd_status.specs.Inputs.{IsBaseGiven}
 use Rattle.base_store.specs.Store.{CommitsNothing, IsSameStore, KeepsOthers, MayCommit, StoreState}
 use Rattle.station_bases.specs.InFile.{IsHeld, IsInFile, IsOfFile, PutsBase, RepresentsInFile, file_state}

@@ -1,16 +1,12 @@
 -- A base in a file.
 use Rattle.std.specs.Prelude.{◌≡◌, ◌≢◌, ◌⊎◌, ◌/◌, ℕ, false, List, All, Option, length, slice_get}
-use Rattle.base_file.specs.Base.{Base}
-use Rattle.base_file.specs.BaseFile.{is_countable}
+use Rattle.base_file.specs.{Base.Base, BaseFile.is_countable}
 use Rattle.disk_io.specs.Disk.{DiskState, Files, bytes_in}
 use Rattle.echo_filed.specs.Filed.{Filed}
-use Rattle.disk_atomic.specs.Changes.{DifferAt}
+use Rattle.disk_atomic.specs.{Changes.DifferAt, StagingPaths.staging_path}
 use Rattle.cmd_status.specs.Inputs.{IsBaseGiven}
-use Rattle.disk_atomic.specs.StagingPaths.{staging_path}
 use Rattle.base_store.specs.Store.{StoreState}
-use Rattle.station_bases.specs.Entries.{CanLookUp, HasRoomFor, HoldEntries}
-use Rattle.station_bases.specs.declared.file_rest.FileRest.{FileRest}
-use Rattle.station_bases.specs.declared.held.Held.{Held}
+use Rattle.station_bases.specs.{Entries.CanLookUp, Entries.HasRoomFor, Entries.HoldEntries, declared.file_rest.FileRest.FileRest, declared.held.Held.Held}
 use Rattle.station_bases.specs.declared.held.Held.TheVariants.{Apart, Whole}
 
 -- The path has a base file of this base, or there is no file and the base is empty.

@@ -6,9 +6,8 @@ use Rattle.disk_io.specs.Disk.{DiskState, IsIn}
 use Rattle.base_folder_store.specs.Held.{RepresentsBase}
 use Rattle.station_bases.specs.Opening.{IsLockedOut, IsShut}
 use Rattle.echo_links.specs.Links.{LinkFile}
-use Rattle.station.specs.Links.{AreLinks}
+use Rattle.station.specs.{Links.AreLinks, Place.Place}
 use Rattle.cmd_status.specs.declared.fault.Fault.{Fault}
-use Rattle.station.specs.Place.{Place}
 
 -- The place of a base folder.
 abbrev pub folder_place : (ℕ → ℕ → List ℕ → ℕ) → List ℕ → Place

@@ -2,19 +2,14 @@
 use Rattle.std.specs.Prelude.{◌≡◌, ◌⊎◌, ◌↔◌, ℕ, Bool, List}
 use Rattle.echo_addr.specs.declared.address.Address.{Address}
 use Rattle.base_file.specs.Base.{Base}
-use Rattle.base_folder.specs.Ours.{IsLeftAlone, IsNotOurs, IsOfOther}
-use Rattle.base_folder.specs.OpenError.{IsReportedAs}
-use Rattle.base_folder.specs.declared.open_error.OpenError.{OpenError}
-use Rattle.base_folder.specs.declared.open_error.OpenError.TheVariants as unread
+use Rattle.base_folder.specs.{Ours.IsLeftAlone, Ours.IsNotOurs, Ours.IsOfOther, OpenError.IsReportedAs, declared.open_error.OpenError.OpenError}
 use Rattle.base_folder.specs.Unopened.{HasOpened, HaveRoom, IsOpenedFor}
-use Rattle.disk_io.specs.Disk.{DiskState, Files, Honestly, IsIn}
-use Rattle.disk_io.specs.Runs.{ChangesNothing, LeavesOnly}
+use Rattle.base_folder.specs.declared.open_error.OpenError.TheVariants as unread
+use Rattle.disk_io.specs.{Disk.DiskState, Disk.Files, Disk.Honestly, Disk.IsIn, Runs.ChangesNothing, Runs.LeavesOnly}
 use Rattle.base_log.specs.Moments.{KeepsOutside}
-use Rattle.base_folder_store.specs.Held.{RepresentsBase, RepresentsBaseOrWasLeft}
-use Rattle.base_folder_store.specs.declared.folder.Folder.{Folder}
+use Rattle.base_folder_store.specs.{Held.RepresentsBase, Held.RepresentsBaseOrWasLeft, declared.folder.Folder.Folder}
 use Rattle.echo_links.specs.Links.{LinkFile}
-use Rattle.station.specs.Faults.{FailsAt}
-use Rattle.station.specs.Links.{AreLinks, NoLinks}
+use Rattle.station.specs.{Faults.FailsAt, Links.AreLinks, Links.NoLinks}
 use Rattle.cmd_status.specs.declared.fault.Fault.{Fault}
 use Rattle.base_store.specs.Store.{StoreState}
 

@@ -1,13 +1,8 @@
 -- The reading of the files of a station with its base in a file.
 use Rattle.std.specs.Prelude.{◌≤◌, ◌⊎◌, ℕ, List}
-use Rattle.disk_io.specs.Disk.{DiskState}
-use Rattle.disk_io.specs.Runs.{ChangesNothing}
-use Rattle.station.specs.Faults.{FailsAt}
-use Rattle.station.specs.Links.{NoLinks}
-use Rattle.cmd_status.specs.declared.fault.Fault.{Fault}
-use Rattle.cmd_status.specs.Ended.{IsOutOfMemory}
-use Rattle.cmd_status.specs.Inputs.{IsBaseFault}
-use Rattle.station.specs.Place.{Place}
+use Rattle.disk_io.specs.{Disk.DiskState, Runs.ChangesNothing}
+use Rattle.station.specs.{Faults.FailsAt, Links.NoLinks, Place.Place}
+use Rattle.cmd_status.specs.{declared.fault.Fault.Fault, Ended.IsOutOfMemory, Inputs.IsBaseFault}
 use Rattle.station_bases.specs.InFile.{IsOfFile, RepresentsInFile}
 
 -- The place of a base file: its path, and its staging path for each system.

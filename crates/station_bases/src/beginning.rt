@@ -1,9 +1,7 @@
 //! A base folder of a station opened as a store.
 ghost use Rattle.std.specs.Prelude.{◌≡◌, ◌≤◌, ◌⊎◌, IfErr, IfOk, OnOk, Some};
-ghost use Rattle.base_folder.specs.Ours.{number_of};
-ghost use Rattle.base_folder.specs.Unopened.{OpensOnly};
-ghost use Rattle.disk_io.specs.Disk.{Honestly};
-ghost use Rattle.disk_io.specs.Runs.{ChangesNothing};
+ghost use Rattle.base_folder.specs.{Ours.number_of, Unopened.OpensOnly};
+ghost use Rattle.disk_io.specs.{Disk.Honestly, Runs.ChangesNothing};
 ghost use Rattle.base_log.specs.Opening.{AreAlone};
 ghost use Rattle.station.specs.Opening.{AreFree, HaveFailed};
 ghost use Rattle.station_bases.specs.Opening.{IsBegun, IsLockedOut, IsOfFolder, IsShut};

@@ -1,12 +1,10 @@
 //! A base file with its messages left in the file. In memory are the place and the digest of each, and chains for
 //! look-ups: some 24 bytes a message.
 ghost use Rattle.std.specs.Prelude.{◌≡◌, ◌≤◌, ◌<◌, ◌+◌, ◌-◌, ◌/◌, ◌++◌, List, length, IfOk, IsErrOf, IsSome, Some, drop, slice_get, take};
-ghost use Rattle.disk_io.specs.Disk.{Honestly, bytes_in};
-ghost use Rattle.disk_io.specs.Runs.{ChangesNothing, HasCause};
+ghost use Rattle.disk_io.specs.{Disk.Honestly, Disk.bytes_in, Runs.ChangesNothing, Runs.HasCause};
 ghost use Rattle.echo_filed.specs.Filed.{Filed};
 ghost use Rattle.base_store.specs.Keys.{AreWhereRecorded};
-ghost use Rattle.base_folder_store.specs.Answers.{Answers, HasReadCause, IsStoredOf};
-ghost use Rattle.base_folder_store.specs.Ahead.{IsPartOf};
+ghost use Rattle.base_folder_store.specs.{Answers.Answers, Answers.HasReadCause, Answers.IsStoredOf, Ahead.IsPartOf};
 ghost use Rattle.station_bases.specs.Entries.{CanLookUp, IsWithinFile, message_bytes};
 
 use base_file::MessageRoom;

@@ -2,8 +2,7 @@
 ghost use Rattle.std.specs.Prelude.{◌≡◌, ◌≤◌, ◌<◌, ◌+◌, ◌-◌, ◌/◌, ◌^◌, ◌++◌, ◌||◌, ℕ, false, List, length, IfErr, IfOk, IsErrOf, OnErr, OnOk};
 ghost use Rattle.echo_filed.specs.Filed.{key_of};
 ghost use Rattle.base_file.specs.Base.{Base, is_known};
-ghost use Rattle.base_store.specs.Keys.{digested};
-ghost use Rattle.base_store.specs.Store.{with_message};
+ghost use Rattle.base_store.specs.{Keys.digested, Store.with_message};
 ghost use Rattle.station_bases.specs.Entries.{AreIndexed, HasRoomFor, HoldEntries, IsUnsaved, SameButAdded, entry_digest};
 
 use crate::entries::{Entries, HEAD};

@@ -1,8 +1,7 @@
 //! What a store on a base file has but its disk.
 ghost use Rattle.std.specs.Prelude.{◌≡◌, ◌<◌, length, slice_get, IfOk, IsErrOf, OnOk};
 ghost use Rattle.std.specs.List.{list_any};
-ghost use Rattle.disk_io.specs.Disk.{Honestly};
-ghost use Rattle.disk_io.specs.Runs.{ChangesNothing};
+ghost use Rattle.disk_io.specs.{Disk.Honestly, Runs.ChangesNothing};
 ghost use Rattle.base_file.specs.Base.{Base as TheBase, is_known};
 ghost use Rattle.echo_filed.specs.Filed.{has_id};
 ghost use Rattle.base_store.specs.Store.{Commits, CommitsNothing, HasStoreCause, LooksOn, MayCommit};

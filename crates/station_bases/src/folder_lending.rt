@@ -1,7 +1,6 @@
 //! The disk of a station with a base folder is used for other files.
 ghost use Rattle.std.specs.Prelude.{◌≡◌, ◌≢◌, ◌↔◌, true, false, All, IsTrue, None};
-ghost use Rattle.disk_io.specs.Disk.{IsIn};
-ghost use Rattle.disk_io.specs.Runs.{ChangesNothing};
+ghost use Rattle.disk_io.specs.{Disk.IsIn, Runs.ChangesNothing};
 ghost use Rattle.base_folder_store.specs.State.{state_of};
 ghost use Rattle.base_store.specs.Store.{LooksOn};
 ghost use Rattle.station.specs.Beneath.{IsGivenBack};

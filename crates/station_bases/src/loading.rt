@@ -1,16 +1,10 @@
 //! The link file of a station is read, and its base file is opened.
 ghost use Rattle.std.specs.Prelude.{◌≡◌, ◌≢◌, ◌⊎◌, ◌↔◌, All, IfErr, IfNone, IfOk, IfSome, IsSome, IsTrue, OnOk, Some, None};
 ghost use Rattle.base_file.specs.Base.{Base as TheBase};
-ghost use Rattle.disk_io.specs.Device.{Failed};
-ghost use Rattle.disk_io.specs.Disk.{Honestly};
-ghost use Rattle.disk_io.specs.Runs.{ChangesNothing, HasCause};
-ghost use Rattle.station.specs.Links.{AreLinks};
-ghost use Rattle.cmd_status.specs.Ended.{IsOutOfMemory};
-ghost use Rattle.cmd_status.specs.Inputs.{IsBaseFault, IsBaseGiven};
-ghost use Rattle.station.specs.Opening.{AreFree, HaveFailed};
-ghost use Rattle.station.specs.Faults.{IsFaultAt};
-ghost use Rattle.station_bases.specs.InFile.{IsHeld, IsWithinReach, RepresentsInFile};
-ghost use Rattle.station_bases.specs.Reading.{IsFileShut, IsSettled, IsUnreadFor, ReadsOnly};
+ghost use Rattle.disk_io.specs.{Device.Failed, Disk.Honestly, Runs.ChangesNothing, Runs.HasCause};
+ghost use Rattle.station.specs.{Links.AreLinks, Opening.AreFree, Opening.HaveFailed, Faults.IsFaultAt};
+ghost use Rattle.cmd_status.specs.{Ended.IsOutOfMemory, Inputs.IsBaseFault, Inputs.IsBaseGiven};
+ghost use Rattle.station_bases.specs.{InFile.IsHeld, InFile.IsWithinReach, InFile.RepresentsInFile, Reading.IsFileShut, Reading.IsSettled, Reading.IsUnreadFor, Reading.ReadsOnly};
 
 use crate::entry_opening::open_entries;
 use crate::file_station::FileStation;

@@ -2,11 +2,8 @@
 ghost use Rattle.std.specs.Prelude.{◌≡◌, ◌≤◌, ◌⊎◌, ℕ, List, IfErr, IfOk, OnOk, Some};
 ghost use Rattle.base_file.specs.Base.{Base};
 ghost use Rattle.echo_addr.specs.declared.address.Address.{Address as TheAddress};
-ghost use Rattle.base_folder.specs.Ours.{IsOfOther};
-ghost use Rattle.base_folder.specs.Unopened.{HasOpened, HaveRoom, IsOpenedFor, OpensOnly};
-ghost use Rattle.disk_io.specs.Device.{Failed};
-ghost use Rattle.disk_io.specs.Disk.{Honestly};
-ghost use Rattle.disk_io.specs.Runs.{ChangesNothing};
+ghost use Rattle.base_folder.specs.{Ours.IsOfOther, Unopened.HasOpened, Unopened.HaveRoom, Unopened.IsOpenedFor, Unopened.OpensOnly};
+ghost use Rattle.disk_io.specs.{Device.Failed, Disk.Honestly, Runs.ChangesNothing};
 ghost use Rattle.base_log.specs.Opening.{AreAlone};
 ghost use Rattle.base_folder_store.specs.Held.{RepresentsBase};
 ghost use Rattle.station.specs.Opening.{AreFree, HaveFailed};

@@ -2,13 +2,10 @@
 ghost use Rattle.std.specs.Prelude.{◌≡◌, ◌≢◌, All, IfErr, IfOk, IsErrOf, OnOk, Some};
 ghost use Rattle.base_file.specs.BaseFile.{saved_bytes};
 ghost use Rattle.disk_io.specs.Runs.{HasCause, LeavesOnly, OneStepOn};
-ghost use Rattle.disk_atomic.specs.Changes.{ChangesOnly, HasOnDisk};
-ghost use Rattle.disk_atomic.specs.Replacing.{Replaces};
-ghost use Rattle.disk_atomic.specs.StagingPaths.{staging_path};
+ghost use Rattle.disk_atomic.specs.{Changes.ChangesOnly, Changes.HasOnDisk, Replacing.Replaces, StagingPaths.staging_path};
 ghost use Rattle.cmd_status.specs.Inputs.{IsBaseGiven};
 ghost use Rattle.base_folder_store.specs.Calls.{HasWriteCause};
-ghost use Rattle.station_bases.specs.Entries.{IsUnsaved};
-ghost use Rattle.station_bases.specs.InFile.{IsInFile, IsOfFile, IsUncounted, PutsBase};
+ghost use Rattle.station_bases.specs.{Entries.IsUnsaved, InFile.IsInFile, InFile.IsOfFile, InFile.IsUncounted, InFile.PutsBase};
 
 use base_file::{Base, BaseFault, saved_base_law};
 use base_store::StoreError;

@@ -4,12 +4,8 @@ use Rattle.std.specs.Prelude.{Err, IsErrOf}
 use Rattle.disk_atomic.specs.declared.placing_error.PlacingError.TheVariants as placing
 use Rattle.base_store.specs.Store.{StoreState}
 use Rattle.station.proofs.Failures.{failed_wider}
-use Rattle.station_scan.specs.Publishing.{HasPublishCause}
-use Rattle.station_scan.specs.Writing.{HasStopCause, publish_stop}
-use Rattle.station_scan.specs.declared.passing.PassStop.{PassStop}
-use Rattle.station_scan.specs.declared.passing.PassStop.TheVariants.{Placing}
-use Rattle.station_scan.specs.declared.publish_error.PublishError.{PublishError}
-use Rattle.station_scan.specs.declared.publish_error.PublishError.TheVariants.{Packets}
+use Rattle.station_scan.specs.{Publishing.HasPublishCause, Writing.HasStopCause, Writing.publish_stop, declared.passing.PassStop.PassStop, declared.passing.PassStop.TheVariants.Placing}
+use Rattle.station_scan.specs.declared.publish_error.PublishError.{PublishError, TheVariants.Packets}
 
 -- the staging files were removed
 module _ {S T : Type 0} (state : S → StoreState) (s0 s1 s2 : StoreState) (f0 f1 f2 : ℕ) (run : s2.disk.is_honest → s1.disk.is_honest) where

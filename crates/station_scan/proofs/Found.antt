@@ -1,15 +1,11 @@
 -- Leftover packets are found one by one.
 use Rattle.std.proofs.Common.{◌≡◌, ⊎_elim, ◌∙◌, ◌<◌, ◌≤◌, ℕ, List, [], ◌∷◌, ◌++◌, ap, arith, get_or, length, length-append, subst, sym}
+use Rattle.std.proofs.{lemmas.Bool.cases_lt, lemmas.List.get_or_append_left, Math.Seq.get_or-append_seam, lemmas.List.Elements.All-append, lemmas.List.Elements.Contains-append_left}
 use Rattle.std.specs.Prelude.{All, AllPairs, Contains, IsSome, Option}
-use Rattle.disk_atomic.specs.StagingPaths.{staging_path}
-use Rattle.std.proofs.lemmas.Bool.{cases_lt}
-use Rattle.std.proofs.lemmas.List.{get_or_append_left}
-use Rattle.std.proofs.Math.Seq.{get_or-append_seam}
-use Rattle.std.proofs.lemmas.List.Elements.{All-append, Contains-append_left}
+use Rattle.disk_atomic.specs.{StagingPaths.staging_path, declared.listing.StagedPacket.StagedPacket}
 use Rattle.disk_io.specs.Disk.{Files}
-use Rattle.disk_atomic.specs.declared.listing.StagedPacket.{StagedPacket}
-use Rattle.station_scan.specs.declared.finding.LeftPaths.{LeftPaths}
 use Rattle.station_scan.specs.Left.{Adds, AreFound, HaveOtherLeft, IsAmong, IsStagingThere, IsFound, IsFoundWhere}
+use Rattle.station_scan.specs.declared.finding.LeftPaths.{LeftPaths}
 
 -- one more behind those that are related to it
 pub pairs_more : {X : Type 0} (R : X → X → Type 0) (xs : List X) (y : X) → AllPairs R xs → All (λ (x : X). R x y) xs → AllPairs R (xs ++ y ∷ [])

@@ -1,27 +1,17 @@
 -- Leftover packets are finished.
 use Rattle.std.proofs.Common.{◌≡◌, ◌≢◌, inl, inr, ⊎_elim, ◌∙◌, ◌<◌, ℕ, List, [], ◌++◌, ap, arith, get_or, length, map, refl, subst, sym}
+use Rattle.std.proofs.lemmas.{Bool.cases_lt, List.get_or-map, List.length-map, List.Elements.All-contains, List.Elements.Contains-get_or}
 use Rattle.std.specs.Prelude.{All, Contains, Err, IsSome, None, Ok, OnOk, Result}
-use Rattle.std.proofs.lemmas.Bool.{cases_lt}
-use Rattle.std.proofs.lemmas.List.{get_or-map, length-map}
-use Rattle.std.proofs.lemmas.List.Elements.{All-contains, Contains-get_or}
-use Rattle.disk_io.specs.Disk.{DiskState, Files, IsIn}
-use Rattle.disk_io.specs.Runs.{ChangesNothing, LeavesOnly, OneStepOn}
+use Rattle.disk_io.specs.{Disk.DiskState, Disk.Files, Disk.IsIn, Runs.ChangesNothing, Runs.LeavesOnly, Runs.OneStepOn}
 use Rattle.disk_io.proofs.Moments.{no_call, then_nothing, weaker_run}
-use Rattle.disk_atomic.specs.Changes.{ChangesOnly}
 use Rattle.disk_atomic.specs.Finishing.{AreAway, AreLeftIn, FinishesEach, IsLeftIn, IsOfLeft, IsOver, IsThere}
-use Rattle.disk_atomic.specs.declared.finishing.Left.{Left}
-use Rattle.disk_atomic.specs.declared.placing_error.PlacingError.{PlacingError}
-use Rattle.disk_atomic.proofs.Changes.{only_nothing, then_only}
-use Rattle.disk_atomic.proofs.Ended.{quiet_then}
-use Rattle.station.proofs.StagingPaths.{staging_other}
-use Rattle.disk_atomic.specs.ListStaged.{AreListed, IsNumbered}
-use Rattle.station_scan.specs.Sending.{IsOffOwn}
+use Rattle.disk_atomic.specs.{Changes.ChangesOnly, declared.finishing.Left.Left, declared.placing_error.PlacingError.PlacingError, ListStaged.AreListed, ListStaged.IsNumbered}
 use Rattle.disk_atomic.specs.declared.listing.StagedPacket.{StagedPacket}
-use Rattle.station_scan.specs.declared.finding.LeftPaths.{LeftPaths}
-use Rattle.station_scan.specs.declared.sending.TwoPaths.{TwoPaths}
+use Rattle.disk_atomic.proofs.{Changes.only_nothing, Changes.then_only, Ended.quiet_then, Whole.on_ok_any as on_ok_so}
+use Rattle.station.proofs.StagingPaths.{staging_other}
 use Rattle.station_scan.specs.Left.{AreAllLeft, AreFound, AreFreeLeft, AreSameLeft, EndsLeft, EndsThese, IsStagingThere, IsFound, IsFreeFound, IsFoundWhere, IsEndedAt, IsLeftOf, IsSameLeft, IsOfNameOff, IsOfPaths, IsToFind}
+use Rattle.station_scan.specs.{Sending.IsOffOwn, declared.finding.LeftPaths.LeftPaths, declared.sending.TwoPaths.TwoPaths}
 use Rattle.station_scan.proofs.Names.{four_apart, name_staging_in, name_in}
-use Rattle.disk_atomic.proofs.Whole.{on_ok_any as on_ok_so}
 
 -- the packet with these paths
 as_left : LeftPaths → Left

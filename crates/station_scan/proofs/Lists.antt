@@ -1,10 +1,8 @@
 -- What a filter keeps, and a map changes.
 use Rattle.std.proofs.Common.{◌≡◌, ◌≢◌, ◌⊎◌, inl, inr, ◌∙◌, ◌<◌, ℕ, Bool, true, true≢false, List, [], ◌∷◌, get_or, length, map, filter, refl, sym, subst, ap, arith}
-use Rattle.std.specs.Prelude.{All, AllPairs, Contains, bytes_eq}
-use Rattle.std.specs.Cmp.Lexicographic.{bytes_decides}
-use Rattle.std.proofs.lemmas.Bool.{cases_Bool, cond-false, cond-true}
-use Rattle.std.proofs.lemmas.List.{get_or-map, length-map}
 use Rattle.std.proofs.lemmas.List.Elements.{All-cons, All-contains, All-contains_itself, All-filter, All-head, All-nil, All-tail, Contains-append_right, Contains-get_or, filter_passes}
+use Rattle.std.proofs.lemmas.{Bool.cases_Bool, Bool.cond-false, Bool.cond-true, List.get_or-map, List.length-map}
+use Rattle.std.specs.{Prelude.All, Prelude.AllPairs, Prelude.Contains, Prelude.bytes_eq, Cmp.Lexicographic.bytes_decides}
 
 -- ---- filters
 

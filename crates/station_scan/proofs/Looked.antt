@@ -1,19 +1,14 @@
 -- A store that was looked through, before packets were sent out with its commit.
 use Rattle.std.proofs.Common.{◌≡◌, ◌⊎◌, inl, inr, ⊎_elim, ◌∙◌, ℕ, List, refl, subst, arith}
 use Rattle.std.specs.Prelude.{All, Err, Ok, OnOk, Result}
-use Rattle.disk_io.specs.Disk.{DiskState, Files}
-use Rattle.disk_io.specs.Runs.{ChangesNothing, LeavesOnly, OneStepOn}
+use Rattle.disk_io.specs.{Disk.DiskState, Disk.Files, Runs.ChangesNothing, Runs.LeavesOnly, Runs.OneStepOn}
 use Rattle.disk_io.proofs.Moments.{then_run, weaker_run}
 use Rattle.disk_atomic.specs.declared.finishing.Left.{Left}
 use Rattle.cmd_store.specs.declared.command_error.CommandError.{CommandError}
 use Rattle.model_steps.specs.PacketFiles.{PacketFile}
-use Rattle.station_scan.specs.Left.{IsLeftOf}
-use Rattle.station_scan.specs.Publishing.{IsOnDisk}
 use Rattle.station_scan.specs.Scanning.{AreSentOut, CommitsScan, IsTaken, PreparesScan, SendsOut, StopsScan}
-use Rattle.station_scan.specs.declared.scan_error.ScanError.{ScanError}
-use Rattle.station_scan.specs.declared.scan_error.ScanError.TheVariants.{Staying}
-use Rattle.station_scan.proofs.Lefts.{finishes_none}
-use Rattle.station_scan.proofs.Stops.{put_wider}
+use Rattle.station_scan.specs.{Left.IsLeftOf, Publishing.IsOnDisk, declared.scan_error.ScanError.ScanError, declared.scan_error.ScanError.TheVariants.Staying}
+use Rattle.station_scan.proofs.{Lefts.finishes_none, Stops.put_wider}
 
 -- the same files are seen
 pub same_seen : (a b : DiskState) → ChangesNothing a b → b.seen ≡ a.seen

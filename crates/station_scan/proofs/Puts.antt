@@ -1,46 +1,25 @@
 -- Leftover packets are finished, and then the packets of a scan are put in place.
 use Rattle.std.proofs.Common.{◌≡◌, ◌⊎◌, inl, inr, ⊎_elim, ◌∙◌, ◌<◌, ℕ, List, [], ◌++◌, Result, Ok, Err, refl, sym, subst, append_assoc, arith}
-use Rattle.std.proofs.lemmas.Result.{on_ok_weaker}
+use Rattle.std.proofs.lemmas.{Result.on_ok_weaker, List.append_cancel_left, List.Elements.All-contains}
 use Rattle.std.specs.Prelude.{All, IfErr, IsErrOf, None, OnOk}
-use Rattle.std.proofs.lemmas.List.{append_cancel_left}
-use Rattle.std.proofs.lemmas.List.Elements.{All-contains}
 use Rattle.base_file.specs.Base.{Base}
-use Rattle.disk_io.specs.Disk.{DiskState, Files}
-use Rattle.disk_io.specs.Runs.{ChangesNothing}
+use Rattle.disk_io.specs.{Disk.DiskState, Disk.Files, Runs.ChangesNothing}
 use Rattle.disk_io.proofs.Moments.{then_nothing, weaker_run}
-use Rattle.disk_atomic.specs.StagingPaths.{dotted, staging_path}
-use Rattle.disk_atomic.specs.ListStaged.{IsNameByte}
-use Rattle.disk_atomic.specs.declared.finishing.Left.{Left}
-use Rattle.disk_atomic.specs.declared.placing_error.PlacingError.{PlacingError}
+use Rattle.disk_atomic.specs.{StagingPaths.dotted, StagingPaths.staging_path, ListStaged.IsNameByte, declared.finishing.Left.Left, declared.placing_error.PlacingError.PlacingError}
 use Rattle.disk_atomic.specs.declared.placing_error.PlacingError.TheVariants as placing
 use Rattle.cmd_status.specs.Devices.{Output}
-use Rattle.cmd_store.specs.Scanned.{ScansOn}
-use Rattle.cmd_store.specs.Stops.{store_answer}
-use Rattle.cmd_store.specs.declared.command_error.CommandError.{CommandError}
+use Rattle.cmd_store.specs.{Scanned.ScansOn, Stops.store_answer, declared.command_error.CommandError.CommandError}
 use Rattle.echo_toss.specs.PacketsIn.{state_in}
 use Rattle.model_steps.specs.PacketFiles.{PacketFile}
 use Rattle.base_store.specs.Store.{StoreState, all_scanned}
 use Rattle.base_store.specs.declared.store_error.StoreError.TheVariants as error
-use Rattle.station_scan.specs.Beneath.{IsUsedAt}
 use Rattle.station_scan.specs.Moved.{IsMoved, IsPutFrom, ScansFrom, StopsFrom, ReportsFrom, files_reported, from_number, left_cause, left_reported, reported_as}
-use Rattle.station_scan.specs.Fitting.{AreTaken}
-use Rattle.station_scan.specs.Left.{AreFreeLeft, EndsLeft, IsLeftOf, IsOfNameOff}
 use Rattle.station_scan.specs.Scanning.{IsPutOn, IsTaken, ScansOnStore, SendsOut, StopsScan, TriesOn, packets_in}
-use Rattle.station_scan.specs.Sending.{IsStagingOfPacket}
-use Rattle.station_scan.specs.Sends.{WasTriedFor}
-use Rattle.station_scan.specs.Stops.{IsOfPlacing, most}
-use Rattle.station_scan.specs.declared.pieces.Source.{Source}
-use Rattle.station_scan.specs.declared.scan_error.ScanError.{ScanError}
-use Rattle.station_scan.specs.declared.scan_error.ScanError.TheVariants.{Command, Placing, Staying}
-use Rattle.station_scan.specs.declared.sending.Sending.{Sending}
-use Rattle.station_scan.proofs.Lefts.{finishes_none}
-use Rattle.station_scan.proofs.Lists.{among}
-use Rattle.station_scan.proofs.Looked.{same_seen}
-use Rattle.station_scan.proofs.Names.{ending, not_staging, trial_no_path}
+use Rattle.station_scan.specs.{Beneath.IsUsedAt, Fitting.AreTaken, Left.AreFreeLeft, Left.EndsLeft, Left.IsLeftOf, Left.IsOfNameOff, Sending.IsStagingOfPacket, Sends.WasTriedFor}
+use Rattle.station_scan.specs.{Stops.IsOfPlacing, Stops.most, declared.pieces.Source.Source, declared.scan_error.ScanError.ScanError}
+use Rattle.station_scan.specs.declared.{scan_error.ScanError.TheVariants.Command, scan_error.ScanError.TheVariants.Placing, scan_error.ScanError.TheVariants.Staying, sending.Sending.Sending}
 use Rattle.station_scan.proofs.Outs.{is_ended, not_sent, sends_out, stopped_crash, stopped_only}
-use Rattle.station_scan.proofs.Scans.{stops_quiet}
-use Rattle.station_scan.proofs.Staged.{tried_after}
-use Rattle.station_scan.proofs.Stops.{put_wider}
+use Rattle.station_scan.proofs.{Lefts.finishes_none, Lists.among, Looked.same_seen, Names.ending, Names.not_staging, Names.trial_no_path, Scans.stops_quiet, Staged.tried_after, Stops.put_wider}
 use Rattle.station_scan.proofs.Reports.{reported_whole, reports_wider}
 
 -- a staging path is no packet's path

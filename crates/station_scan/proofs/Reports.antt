@@ -1,56 +1,31 @@
 -- A scan once its cursor was moved: its lines are printed, or it stops.
 use Rattle.std.proofs.Common.{◌≡◌, inl, inr, ⊎_elim, ◌∙◌, ◌≤◌, ◌<◌, ℕ, true, List, Result, Ok, Err, map, drop, refl, sym, subst, ap, arith}
-use Rattle.std.specs.Prelude.{IsErrOf}
-use Rattle.std.specs.List.{flat_map}
+use Rattle.std.specs.{Prelude.IsErrOf, List.flat_map}
 use Rattle.base_file.specs.Base.{Base}
-use Rattle.disk_io.specs.Disk.{DiskState, Files, Honestly}
-use Rattle.disk_io.specs.Runs.{ChangesNothing}
+use Rattle.disk_io.specs.{Disk.DiskState, Disk.Files, Disk.Honestly, Runs.ChangesNothing, declared.disk_error.DiskError.DiskError}
 use Rattle.disk_io.proofs.Moments.{then_nothing}
-use Rattle.disk_io.specs.declared.disk_error.DiskError.{DiskError}
 use Rattle.disk_io.specs.declared.disk_error.DiskError.TheVariants as disk
 use Rattle.disk_atomic.specs.declared.placing_error.PlacingError.{PlacingError}
 use Rattle.disk_atomic.specs.declared.placing_error.PlacingError.TheVariants as placing
 use Rattle.cmd_status.specs.Devices.{Output}
-use Rattle.cmd_report.specs.Scanned.{counted_line}
-use Rattle.cmd_store.specs.Answered.{AnswersOn, AreLines, RefusesNone}
-use Rattle.cmd_store.specs.Scanned.{ScansOn, files_scanned}
-use Rattle.cmd_store.specs.Stops.{store_answer}
-use Rattle.cmd_store.specs.declared.command_error.CommandError.{CommandError}
-use Rattle.cmd_store.specs.declared.command_error.CommandError.TheVariants.{Store}
+use Rattle.cmd_store.specs.{PacketLines.counted_line, Answered.AnswersOn, Answered.AreLines, Answered.RefusesNone, Scanned.ScansOn, Scanned.files_scanned, Stops.store_answer}
+use Rattle.cmd_store.specs.{declared.command_error.CommandError.CommandError, declared.command_error.CommandError.TheVariants.Store}
 use Rattle.cmd_store.proofs.Scans.{scan_printed}
-use Rattle.echo_toss.specs.declared.counting.CountedPacket.{CountedPacket}
-use Rattle.echo_toss.specs.Counts.{counted_of, counted_to, link_set}
-use Rattle.echo_toss.specs.Exports.{Outgoing as Sent, sent_of}
-use Rattle.echo_toss.specs.PacketsIn.{state_in}
+use Rattle.echo_toss.specs.{declared.counting.CountedPacket.CountedPacket, Counts.counted_of, Counts.counted_to, Counts.link_set, Exports.Outgoing as Sent, Exports.sent_of, PacketsIn.state_in}
 use Rattle.echo_toss.proofs.Counts.{all_counted}
-use Rattle.model_steps.specs.PacketFiles.{PacketFile}
-use Rattle.model_steps.specs.Scanning.{scanned}
-use Rattle.model_steps.specs.Stamps.{is_stamp}
-use Rattle.base_store.specs.Store.{LooksOn, StoreState, all_scanned}
-use Rattle.base_store.specs.declared.store_error.StoreError.{StoreError}
+use Rattle.model_steps.specs.{PacketFiles.PacketFile, Scanning.scanned, Stamps.is_stamp}
+use Rattle.base_store.specs.{Store.LooksOn, Store.StoreState, Store.all_scanned, declared.store_error.StoreError.StoreError}
 use Rattle.base_store.specs.declared.store_error.StoreError.TheVariants as error
 use Rattle.base_store.proofs.Runs.{same_twice}
-use Rattle.station_scan.specs.Beneath.{IsUsedAt}
 use Rattle.station_scan.specs.Moved.{HasReported, IsMoved, IsPutFrom, ScansFrom, SendsFrom, StopsFrom, ReportsFrom, files_reported, from_number, reported_as}
-use Rattle.station_scan.specs.Fitting.{AreTaken}
 use Rattle.station_scan.specs.Passing.{AreCounted, AreDropped, AreGoneOrSame, CanSend, HasStaged, IsPartOf, IsStagingTo, IsTakenFor, StopsPassing, all_sent, counts_in, is_made}
-use Rattle.station_scan.specs.Publishing.{KeepsStoreBut}
-use Rattle.station_scan.specs.Scanning.{IsTouched, packets_in}
-use Rattle.station_scan.specs.Sending.{IsStagingOfPacket}
-use Rattle.station_scan.specs.Sends.{WritesStaging}
-use Rattle.station_scan.specs.Stops.{IsOfPlacing, IsUnplanned, most}
-use Rattle.station_scan.specs.declared.pieces.Source.{Source}
-use Rattle.station_scan.specs.declared.publish_error.PublishError.{PublishError}
-use Rattle.station_scan.specs.declared.counting.LinkPacket.{LinkPacket}
-use Rattle.station_scan.specs.declared.scan_error.ScanError.{ScanError}
+use Rattle.station_scan.specs.{Beneath.IsUsedAt, Fitting.AreTaken, Publishing.KeepsStoreBut, Scanning.IsTouched, Scanning.packets_in, Sending.IsStagingOfPacket, Sends.WritesStaging}
+use Rattle.station_scan.specs.{Stops.IsOfPlacing, Stops.IsUnplanned, Stops.most, declared.pieces.Source.Source, declared.publish_error.PublishError.PublishError}
+use Rattle.station_scan.specs.declared.{counting.LinkPacket.LinkPacket, scan_error.ScanError.ScanError}
 use Rattle.station_scan.specs.declared.scan_error.ScanError.TheVariants.{Command, Placing, Staying, TooFar}
 use Rattle.station_scan.specs.declared.sending.Sending.{Sending}
-use Rattle.station_scan.proofs.Sendings.{few_keeps, sends_before, writes_before}
-use Rattle.station_scan.proofs.Files.{files_are, staging_files, taken_files}
-use Rattle.station_scan.proofs.Lefts.{quiet_start}
-use Rattle.station_scan.proofs.Passes.{can_still, counts_are}
-use Rattle.station_scan.proofs.Routes.{staging_named}
-use Rattle.station_scan.proofs.Published.{keeps_nothing, keeps_then, keeps_wider}
+use Rattle.station_scan.proofs.{Sendings.few_keeps, Sendings.sends_before, Sendings.writes_before, Files.files_are, Files.staging_files, Files.taken_files, Lefts.quiet_start}
+use Rattle.station_scan.proofs.{Passes.can_still, Passes.counts_are, Routes.staging_named, Published.keeps_nothing, Published.keeps_then, Published.keeps_wider}
 use Rattle.station_scan.proofs.Stops.{placing_why, put_whole, put_wider}
 
 -- ---- the printed lines

@@ -2,30 +2,20 @@
 use Rattle.std.proofs.Common.{◌⊎◌, inl, inr, ⊎_elim, ◌∙◌, ℕ, List, Result, Ok, Err, refl, subst, sym, ◌++◌, arith}
 use Rattle.std.specs.Prelude.{OnOk, get_or}
 use Rattle.base_file.specs.Base.{Base}
-use Rattle.disk_io.specs.Disk.{DiskState, Files}
-use Rattle.disk_io.specs.Runs.{ChangesNothing, LeavesOnly, OneStepOn}
+use Rattle.disk_io.specs.{Disk.DiskState, Disk.Files, Runs.ChangesNothing, Runs.LeavesOnly, Runs.OneStepOn}
 use Rattle.disk_io.proofs.Moments.{left_now, then_nothing, then_run, weaker_run}
 use Rattle.echo_links.specs.Links.{LinkFile}
-use Rattle.disk_atomic.specs.declared.finishing.Left.{Left}
-use Rattle.disk_atomic.specs.StagingPaths.{dotted, staging_path}
+use Rattle.disk_atomic.specs.{declared.finishing.Left.Left, StagingPaths.dotted, StagingPaths.staging_path}
 use Rattle.cmd_status.specs.Devices.{Output}
-use Rattle.model_steps.specs.PacketFiles.{PacketFile}
-use Rattle.model_steps.specs.declared.stamp.Stamp.{Stamp}
+use Rattle.model_steps.specs.{PacketFiles.PacketFile, declared.stamp.Stamp.Stamp}
 use Rattle.base_store.specs.Store.{StoreState, all_scanned}
 use Rattle.cmd_store.specs.declared.command_error.CommandError.{CommandError}
-use Rattle.station.specs.Opening.{IsOpenFor}
 use Rattle.station.specs.Place.{IsOfPlace, KeepsElsewhere, Place, RepresentsAlone, RepresentsOrWasLeft}
-use Rattle.station_scan.specs.Fitting.{AreFit}
-use Rattle.station_scan.specs.Left.{AreAllLeft, IsLeftOf}
-use Rattle.station_scan.specs.Publishing.{IsOnDisk, UnchangedExcept, KeepsStoreBut}
+use Rattle.station.specs.Opening.{IsOpenFor}
 use Rattle.station_scan.specs.Scanning.{AreSentOut, CommitsScan, IsPutAs, IsOnItsWay, IsPreparing, IsPutIn, IsPutOn, IsScanOn, IsTaken, IsTouched, MayLeave, PreparesScan, ScansOnStore, SendsOut, StopsScan, StopsScanIn, ReportsStop, packets_in}
-use Rattle.station_scan.specs.Sends.{IsOfThese}
-use Rattle.station_scan.specs.declared.scan_error.ScanError.{ScanError}
-use Rattle.station_scan.specs.declared.scan_error.ScanError.TheVariants.{Staying}
-use Rattle.station_scan.proofs.Lefts.{finishes_none}
-use Rattle.station_scan.proofs.Looked.{same_seen}
-use Rattle.station_scan.proofs.Published.{keeps_nothing, keeps_then, keeps_wider}
-use Rattle.station_scan.proofs.Stops.{put_wider}
+use Rattle.station_scan.specs.{Fitting.AreFit, Left.AreAllLeft, Left.IsLeftOf, Publishing.IsOnDisk, Publishing.UnchangedExcept, Publishing.KeepsStoreBut, Sends.IsOfThese}
+use Rattle.station_scan.specs.declared.scan_error.ScanError.{ScanError, TheVariants.Staying}
+use Rattle.station_scan.proofs.{Lefts.finishes_none, Looked.same_seen, Published.keeps_nothing, Published.keeps_then, Published.keeps_wider, Stops.put_wider}
 
 -- the same for another name of the same own paths
 module _ (Own Own2 : List ℕ → Type 0) (out : (m : List ℕ) → Own2 m → Own m) (outbound own : List ℕ) where

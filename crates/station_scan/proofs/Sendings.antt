@@ -1,47 +1,29 @@
 -- A scan once its cursor was moved: packets are sent out after a pass over the messages.
 use Rattle.std.proofs.Common.{◌≡◌, ◌⊎◌, inl, inr, ⊎_elim, ◌∙◌, ◌<◌, ℕ, List, [], Result, Ok, Err, length, sym, subst, ap, arith}
-use Rattle.std.proofs.lemmas.Result.{on_ok_weaker}
+use Rattle.std.proofs.lemmas.{Result.on_ok_weaker, Bool.cases_lt, List.append-nil, List.length-map}
 use Rattle.disk_atomic.proofs.Whole.{on_ok_any}
 use Rattle.std.specs.Prelude.{All, IfErr, IsErrOf, OnOk}
-use Rattle.std.proofs.lemmas.Bool.{cases_lt}
-use Rattle.std.proofs.lemmas.List.{append-nil, length-map}
 use Rattle.base_file.specs.Base.{Base}
-use Rattle.disk_io.specs.Device.{Failed}
-use Rattle.disk_io.specs.Disk.{DiskState, Files}
-use Rattle.disk_io.specs.Runs.{LeavesOnly, OneStepOn}
+use Rattle.disk_io.specs.{Device.Failed, Disk.DiskState, Disk.Files, Runs.LeavesOnly, Runs.OneStepOn}
 use Rattle.disk_io.proofs.Moments.{left_now, then_run, weaker_run}
 use Rattle.disk_io.specs.declared.disk_error.DiskError.TheVariants as disk
-use Rattle.disk_atomic.specs.Changes.{DifferAt}
-use Rattle.disk_atomic.specs.Outgoing.{IsAtStaging, IsFree}
-use Rattle.disk_atomic.specs.Trying.{WasTried}
-use Rattle.disk_atomic.specs.declared.outgoing.Outgoing.{Outgoing}
-use Rattle.disk_atomic.specs.declared.placing_error.PlacingError.{PlacingError}
+use Rattle.disk_atomic.specs.{Changes.DifferAt, Outgoing.IsAtStaging, Outgoing.IsFree, Trying.WasTried, declared.outgoing.Outgoing.Outgoing, declared.placing_error.PlacingError.PlacingError}
 use Rattle.disk_atomic.specs.declared.placing_error.PlacingError.TheVariants as placing
 use Rattle.model_steps.specs.PacketFiles.{PacketFile}
 use Rattle.base_store.specs.Store.{Commits, LeavesEither, MayCommit, StoreState, all_scanned}
 use Rattle.base_store.proofs.Runs.{same_twice}
 use Rattle.echo_toss.specs.Exports.{Outgoing as Sent}
 use Rattle.station.specs.Beneath.{HoldsAsBefore}
-use Rattle.station_scan.specs.Beneath.{IsUsedAt}
-use Rattle.station_scan.specs.Moved.{IsMoved, SendsFrom}
-use Rattle.station_scan.specs.Fitting.{AreTaken}
-use Rattle.station_scan.specs.Left.{IsOfNameOff}
 use Rattle.station_scan.specs.Passing.{AreFor, AreGrowing, CanSend, HasPassed, IsGrowingTo, IsStagingTo, all_sent, is_made, links_to}
 use Rattle.station_scan.specs.Publishing.{ArePublished, HasPublishCause, IsGoingAt, IsPublishedAt, IsTriedWith, KeepsStoreBut, MayPublish, PublishesOn, ended_before}
-use Rattle.station_scan.specs.Scanning.{packets_in}
 use Rattle.station_scan.specs.Sending.{HasBytes, IsAtItsPath, IsFreeAt, IsOfPacket, IsStagingGone, IsStagingOfPacket, IsWhole, for_address}
 use Rattle.station_scan.specs.Sends.{AreSentOn, IsOfThese, SendsThese, WasTriedFor, WritesStaging}
-use Rattle.station_scan.specs.Stops.{IsOfBase, IsOfPlacing, most, scan_done}
-use Rattle.station_scan.specs.declared.publish_error.PublishError.{PublishError}
-use Rattle.station_scan.specs.declared.publish_error.PublishError.TheVariants.{Packets}
-use Rattle.station_scan.specs.declared.counting.LinkPacket.{LinkPacket}
-use Rattle.station_scan.specs.declared.scan_error.ScanError.TheVariants.{Staying}
-use Rattle.station_scan.specs.declared.sending.Sending.{Sending}
+use Rattle.station_scan.specs.{Beneath.IsUsedAt, Moved.IsMoved, Moved.SendsFrom, Fitting.AreTaken, Left.IsOfNameOff, Scanning.packets_in}
+use Rattle.station_scan.specs.{Stops.IsOfBase, Stops.IsOfPlacing, Stops.most, Stops.scan_done, declared.publish_error.PublishError.PublishError}
+use Rattle.station_scan.specs.declared.{publish_error.PublishError.TheVariants.Packets, counting.LinkPacket.LinkPacket, scan_error.ScanError.TheVariants.Staying, sending.Sending.Sending}
 use Rattle.station_scan.proofs.Files.{are_whole, at_its_path, content_of, ended_has, file_to, files_are, files_bytes, files_to, growing_free, have_none, none_staging, of_packet, same_files, staging_files, staging_packet}
 use Rattle.station_scan.proofs.Published.{bytes_as, commits_used, holds_still, keeps_only, keeps_then, keeps_wider, path_as, store_wider, whole_as}
-use Rattle.station_scan.proofs.Routes.{staging_at, staging_named}
-use Rattle.station_scan.proofs.Staged.{tried_after}
-use Rattle.station_scan.proofs.Stops.{sent_why}
+use Rattle.station_scan.proofs.{Routes.staging_at, Routes.staging_named, Staged.tried_after, Stops.sent_why}
 
 -- ---- staging files are written, and then the packets are sent
 

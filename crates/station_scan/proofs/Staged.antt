@@ -1,18 +1,11 @@
 -- Packets in staging files, while a path is tried with the first of them.
 use Rattle.std.proofs.Common.{◌≡◌, ◌≢◌, ◌⊎◌, inl, inr, ⊎_elim, ◌∙◌, ◌<◌, ℕ, List, ap, arith, get_or, length, sym}
+use Rattle.std.proofs.lemmas.{Bool.cases_lt, List.get_or_default, List.Elements.All-contains, List.Elements.Contains-get_or}
 use Rattle.std.specs.Prelude.{All, Contains}
-use Rattle.std.proofs.lemmas.Bool.{cases_lt}
-use Rattle.std.proofs.lemmas.List.{get_or_default}
-use Rattle.std.proofs.lemmas.List.Elements.{All-contains, Contains-get_or}
-use Rattle.disk_io.specs.Disk.{DiskState}
-use Rattle.disk_io.specs.Runs.{ChangesNothing}
-use Rattle.disk_atomic.specs.Changes.{ChangesOnly, DifferAt, HasOnDisk}
+use Rattle.disk_io.specs.{Disk.DiskState, Runs.ChangesNothing}
 use Rattle.disk_atomic.specs.Outgoing.{ArePlaced, IsAtStaging, IsStaged, IsStagingFlushed, staged_in}
-use Rattle.disk_atomic.specs.Trying.{Tries, WasTried}
-use Rattle.disk_atomic.specs.declared.outgoing.Outgoing.{Outgoing}
-use Rattle.disk_atomic.proofs.Changes.{stays_on_disk, wider}
-use Rattle.disk_atomic.proofs.Packets.{path_not_staging}
-use Rattle.disk_atomic.proofs.Parts.{all_on_disk}
+use Rattle.disk_atomic.specs.{Changes.ChangesOnly, Changes.DifferAt, Changes.HasOnDisk, Trying.Tries, Trying.WasTried, declared.outgoing.Outgoing.Outgoing}
+use Rattle.disk_atomic.proofs.{Changes.stays_on_disk, Changes.wider, Packets.path_not_staging, Parts.all_on_disk}
 use Rattle.station_scan.specs.Publishing.{AreOpen, IsTrial, IsTriedWith, IsWritten}
 
 -- it was tried after a run at these paths

@@ -6,10 +6,8 @@ use Rattle.disk_atomic.specs.declared.placing_error.PlacingError.{PlacingError}
 use Rattle.disk_atomic.specs.declared.placing_error.PlacingError.TheVariants as placing
 use Rattle.base_store.specs.declared.store_error.StoreError.TheVariants as error
 use Rattle.cmd_store.specs.declared.command_error.CommandError.TheVariants.{Store}
-use Rattle.station_scan.specs.Stops.{IsOfPlacing, scan_done, stop_of}
-use Rattle.station_scan.specs.declared.scan_error.ScanError.{ScanError}
-use Rattle.station_scan.specs.declared.scan_error.ScanError.TheVariants.{Command, Placing}
-use Rattle.station_scan.specs.declared.publish_error.PublishError.{PublishError}
+use Rattle.station_scan.specs.{Stops.IsOfPlacing, Stops.scan_done, Stops.stop_of, declared.scan_error.ScanError.ScanError}
+use Rattle.station_scan.specs.declared.{scan_error.ScanError.TheVariants.Command, scan_error.ScanError.TheVariants.Placing, publish_error.PublishError.PublishError}
 use Rattle.station_scan.specs.declared.publish_error.PublishError.TheVariants.{Base as OfBase, Reading, Staging, Packets}
 
 module _ (failed taken far : Type 0) where

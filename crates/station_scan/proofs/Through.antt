@@ -2,22 +2,13 @@
 use Rattle.std.proofs.Common.{inl, inr, ⊎_elim, ◌∙◌, ℕ, List, get_or, subst, sym, arith}
 use Rattle.std.proofs.lemmas.Result.{on_ok_weaker}
 use Rattle.std.specs.Prelude.{All, Err, IfOk, Ok, OnOk, Result}
-use Rattle.disk_io.specs.Disk.{DiskState, Files}
-use Rattle.disk_io.specs.Runs.{ChangesNothing, LeavesOnly, OneStepOn}
+use Rattle.disk_io.specs.{Disk.DiskState, Disk.Files, Runs.ChangesNothing, Runs.LeavesOnly, Runs.OneStepOn}
 use Rattle.disk_io.proofs.Moments.{then_nothing, then_run, weaker_run}
-use Rattle.disk_atomic.specs.Changes.{HasOnDisk}
-use Rattle.disk_atomic.specs.Finishing.{FinishesEach, IsOfLeft, IsOver}
-use Rattle.disk_atomic.specs.Naming.{HasItsPath, NamesEach}
-use Rattle.disk_atomic.specs.Outgoing.{IsStaged, staged_in}
-use Rattle.disk_atomic.specs.declared.finishing.Left.{Left}
-use Rattle.disk_atomic.specs.declared.outgoing.Outgoing.{Outgoing}
-use Rattle.disk_atomic.specs.declared.placing_error.PlacingError.{PlacingError}
-use Rattle.disk_atomic.proofs.Changes.{left_there, only_nothing, then_only}
-use Rattle.disk_atomic.proofs.Ended.{quiet_then}
-use Rattle.station_scan.specs.Left.{AreAllLeft, EndsLeft, IsEndedAt, IsLeftOf}
-use Rattle.station_scan.specs.Publishing.{AreOpen, AreStaged}
-use Rattle.station_scan.proofs.Lefts.{finishes_none, on_ok_over, over_still}
-use Rattle.station_scan.proofs.Looked.{same_seen}
+use Rattle.disk_atomic.specs.{Changes.HasOnDisk, Finishing.FinishesEach, Finishing.IsOfLeft, Finishing.IsOver, Naming.HasItsPath, Naming.NamesEach, Outgoing.IsStaged, Outgoing.staged_in}
+use Rattle.disk_atomic.specs.declared.{finishing.Left.Left, outgoing.Outgoing.Outgoing, placing_error.PlacingError.PlacingError}
+use Rattle.disk_atomic.proofs.{Changes.left_there, Changes.only_nothing, Changes.then_only, Ended.quiet_then}
+use Rattle.station_scan.specs.{Left.AreAllLeft, Left.EndsLeft, Left.IsEndedAt, Left.IsLeftOf, Publishing.AreOpen, Publishing.AreStaged}
+use Rattle.station_scan.proofs.{Lefts.finishes_none, Lefts.on_ok_over, Lefts.over_still, Looked.same_seen}
 
 pub ok_gives : {T E : Type 0} (r : Result T E) (P Q : T → Type 0) → ((value : T) → P value → Q value) → IfOk r P → IfOk r Q
 ok_gives (Ok value) P Q gives is = gives value is

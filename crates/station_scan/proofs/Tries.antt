@@ -2,21 +2,16 @@
 use Rattle.std.proofs.Common.{◌⊎◌, inl, inr, ℕ, List, Result, Ok, Err, arith}
 use Rattle.std.specs.Prelude.{OnOk}
 use Rattle.base_file.specs.Base.{Base}
-use Rattle.disk_io.specs.Disk.{DiskState, Files}
-use Rattle.disk_io.specs.Runs.{ChangesNothing}
+use Rattle.disk_io.specs.{Disk.DiskState, Disk.Files, Runs.ChangesNothing}
 use Rattle.echo_links.specs.Links.{LinkFile}
 use Rattle.disk_atomic.specs.StagingPaths.{dotted, staging_path}
 use Rattle.station.specs.Place.{IsOfPlace, Place}
 use Rattle.cmd_status.specs.Devices.{Output}
-use Rattle.model_steps.specs.PacketFiles.{PacketFile}
-use Rattle.model_steps.specs.declared.stamp.Stamp.{Stamp}
+use Rattle.model_steps.specs.{PacketFiles.PacketFile, declared.stamp.Stamp.Stamp}
 use Rattle.base_store.specs.Store.{IsSameStore, StoreState}
 use Rattle.cmd_store.specs.Scanned.{ScansOn}
 use Rattle.echo_toss.specs.PacketsIn.{state_in}
-use Rattle.station_scan.specs.Left.{IsOfNameOff}
-use Rattle.station_scan.specs.Scanning.{IsTouched, IsTriedIn, ScanTries, TriesOn}
-use Rattle.station_scan.specs.Sends.{WasTriedFor}
-use Rattle.station_scan.specs.declared.scan_error.ScanError.{ScanError}
+use Rattle.station_scan.specs.{Left.IsOfNameOff, Scanning.IsTouched, Scanning.IsTriedIn, Scanning.ScanTries, Scanning.TriesOn, Sends.WasTriedFor, declared.scan_error.ScanError.ScanError}
 use Rattle.station_scan.proofs.Staged.{tried_after}
 
 -- it was tried on the disk as it was before the store was looked through

@@ -1,16 +1,12 @@
 -- A store after its disk was used for other files.
 use Rattle.std.proofs.Common.{ℕ, List}
-use Rattle.disk_io.specs.Disk.{DiskState}
-use Rattle.disk_io.specs.Runs.{ChangesNothing}
-use Rattle.disk_atomic.specs.Changes.{ChangesOnly}
+use Rattle.disk_io.specs.{Disk.DiskState, Runs.ChangesNothing}
+use Rattle.disk_atomic.specs.{Changes.ChangesOnly, Outgoing.IsAtStaging}
 use Rattle.disk_atomic.proofs.Changes.{only_nothing, then_only, wider}
 use Rattle.base_store.specs.Store.{LooksOn, StoreState}
 use Rattle.base_store.proofs.Runs.{same_twice}
 use Rattle.station.specs.Beneath.{HoldsAsBefore, IsGivenBack}
-use Rattle.disk_atomic.specs.Outgoing.{IsAtStaging}
-use Rattle.station_scan.specs.Beneath.{IsUsedAt}
-use Rattle.station_scan.specs.Writing.{IsBatchOff}
-use Rattle.station_scan.specs.declared.writing.Batch.{Batch}
+use Rattle.station_scan.specs.{Beneath.IsUsedAt, Writing.IsBatchOff, declared.writing.Batch.Batch}
 use Rattle.station_scan.proofs.Published.{own_not_staging}
 
 module _ (paths : List ℕ → Type 0) (s0 a b : StoreState) (d0 d1 : DiskState) (looks : LooksOn s0 a) (out : ChangesNothing s0.disk d0) (back : IsGivenBack a d0 d1 b) (off : (m : List ℕ) → s0.is_own m → paths m → ⊥)

@@ -1,27 +1,17 @@
 -- Packets that are written group by group, while their store is read.
 use Rattle.std.proofs.Common.{◌≡◌, inl, inr, ℕ, List, arith, get_or}
 use Rattle.std.specs.Prelude.{All, Bool, Err, IfOk, None, Ok, OnOk, Result, true}
-use Rattle.disk_io.specs.Disk.{DiskState, Honestly, IsIn}
-use Rattle.disk_io.specs.Runs.{ChangesNothing, KeepsNamed}
-use Rattle.disk_io.specs.declared.disk_error.DiskError.{DiskError}
-use Rattle.disk_atomic.specs.Changes.{ChangesOnly}
+use Rattle.disk_io.specs.{Disk.DiskState, Disk.Honestly, Disk.IsIn, Runs.ChangesNothing, Runs.KeepsNamed, declared.disk_error.DiskError.DiskError}
 use Rattle.disk_atomic.specs.Outgoing.{ArePlaced, CanGrowStaging, IsAtStaging, IsLonger, IsMade, IsFree, IsStagingGone, IsStagingOne, SendsBytes, staged_in}
-use Rattle.disk_atomic.specs.declared.outgoing.Outgoing.{Outgoing}
-use Rattle.disk_atomic.proofs.Changes.{only_start, then_only}
-use Rattle.disk_atomic.proofs.Growing.{are_both}
-use Rattle.disk_atomic.proofs.Packets.{path_not_staging}
-use Rattle.disk_atomic.proofs.Whole.{some_is_there}
+use Rattle.disk_atomic.specs.{Changes.ChangesOnly, declared.outgoing.Outgoing.Outgoing}
+use Rattle.disk_atomic.proofs.{Changes.only_start, Changes.then_only, Growing.are_both, Packets.path_not_staging, Whole.some_is_there}
 use Rattle.echo_addr.specs.declared.address.Address.{Address}
 use Rattle.base_store.specs.Store.{IsSameStore, StoreState}
 use Rattle.base_store.proofs.Runs.{same_store, same_twice}
 use Rattle.station.specs.Beneath.{AreSettledByOwn}
-use Rattle.station_scan.specs.Beneath.{IsUsedAt}
-use Rattle.station_scan.specs.Publishing.{AreGone, AreOpen, IsTriedWith, IsWritten}
-use Rattle.station_scan.specs.Writing.{IsBatchOff, IsBegun}
+use Rattle.station_scan.specs.{Beneath.IsUsedAt, Publishing.AreGone, Publishing.AreOpen, Publishing.IsTriedWith, Publishing.IsWritten, Writing.IsBatchOff, Writing.IsBegun}
 use Rattle.station_scan.specs.declared.writing.Batch.{Batch}
-use Rattle.station_scan.proofs.Published.{apart_still, holds_now, holds_still}
-use Rattle.station_scan.proofs.Staged.{tried_after}
-use Rattle.station_scan.proofs.Through.{open_through}
+use Rattle.station_scan.proofs.{Published.apart_still, Published.holds_now, Published.holds_still, Staged.tried_after, Through.open_through}
 
 -- ---- a store after several uses of its disk
 

@@ -1,8 +1,7 @@
 -- Packets with paths that belong to nothing else.
 use Rattle.std.specs.Prelude.{◌⊎◌, ℕ, List, All, AllPairs, map}
 use Rattle.disk_io.specs.Disk.{Files}
-use Rattle.disk_atomic.specs.declared.outgoing.Outgoing.{Outgoing}
-use Rattle.disk_atomic.specs.StagingPaths.{staging_path}
+use Rattle.disk_atomic.specs.{declared.outgoing.Outgoing.Outgoing, StagingPaths.staging_path}
 use Rattle.model_steps.specs.PacketFiles.{PacketFile}
 use Rattle.station_scan.specs.Sending.{HaveOtherPaths, IsFreeAt, IsNamed, IsOffOwn, file_paths}
 

@@ -1,17 +1,9 @@
 -- Leftover packets: the staging files that earlier scans left. A scan finishes them: it names or removes each.
 use Rattle.std.specs.Prelude.{◌≡◌, ◌≢◌, ◌⊎◌, ◌<◌, ◌≤◌, ℕ, List, [], ◌∷◌, ◌++◌, length, get_or, All, AllPairs, Contains, IsSome, None, OnOk, Result}
-use Rattle.disk_io.specs.Disk.{DiskState, Files}
-use Rattle.disk_io.specs.Runs.{LeavesOnly, OneStepOn}
-use Rattle.disk_atomic.specs.Changes.{ChangesOnly}
-use Rattle.disk_atomic.specs.Finishing.{FinishesEach, IsOfLeft, IsOver}
-use Rattle.disk_atomic.specs.declared.finishing.Left.{Left}
-use Rattle.disk_atomic.specs.declared.placing_error.PlacingError.{PlacingError}
-use Rattle.disk_atomic.specs.StagingPaths.{staging_path}
-use Rattle.disk_atomic.specs.declared.listing.StagedPacket.{StagedPacket}
-use Rattle.station_scan.specs.declared.finding.LeftPaths.{LeftPaths}
-use Rattle.disk_atomic.specs.ListStaged.{IsNumbered, HasStagingFile}
-use Rattle.disk_atomic.specs.ListStaged.{IsNameByte}
-use Rattle.station_scan.specs.Sending.{IsOffOwn, two_paths}
+use Rattle.disk_io.specs.{Disk.DiskState, Disk.Files, Runs.LeavesOnly, Runs.OneStepOn}
+use Rattle.disk_atomic.specs.{Changes.ChangesOnly, Finishing.FinishesEach, Finishing.IsOfLeft, Finishing.IsOver, declared.finishing.Left.Left, declared.placing_error.PlacingError.PlacingError}
+use Rattle.disk_atomic.specs.{StagingPaths.staging_path, declared.listing.StagedPacket.StagedPacket, ListStaged.IsNumbered, ListStaged.HasStagingFile, ListStaged.IsNameByte}
+use Rattle.station_scan.specs.{declared.finding.LeftPaths.LeftPaths, Sending.IsOffOwn, Sending.two_paths}
 
 -- It has the two paths of the listed packet, and its number. Neither path is the station's own.
 pub record IsFoundAs (Own : List ℕ → Type 0) (folder own : List ℕ) (packet : StagedPacket) (l : LeftPaths) : Type 0 where

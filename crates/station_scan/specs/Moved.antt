@@ -1,36 +1,21 @@
 -- A scan once its cursor was moved: its packets are sent out, or it stops while they are made.
 use Rattle.std.specs.Prelude.{◌≡◌, ◌≤◌, ◌⊎◌, ◌<◌, ℕ, List, Result, Ok, Err, IfErr, IsErrOf, OnOk}
 use Rattle.base_file.specs.Base.{Base}
-use Rattle.disk_io.specs.Device.{Failed}
-use Rattle.disk_io.specs.Disk.{DiskState, Files, Honestly}
-use Rattle.disk_io.specs.Runs.{LeavesOnly}
-use Rattle.disk_io.specs.declared.disk_error.DiskError.{DiskError}
+use Rattle.disk_io.specs.{Device.Failed, Disk.DiskState, Disk.Files, Disk.Honestly, Runs.LeavesOnly, declared.disk_error.DiskError.DiskError}
 use Rattle.disk_io.specs.declared.disk_error.DiskError.TheVariants as disk
-use Rattle.disk_atomic.specs.Changes.{DifferAt}
-use Rattle.disk_atomic.specs.declared.placing_error.PlacingError.{PlacingError}
+use Rattle.disk_atomic.specs.{Changes.DifferAt, declared.placing_error.PlacingError.PlacingError}
 use Rattle.disk_atomic.specs.declared.placing_error.PlacingError.TheVariants as placing
 use Rattle.cmd_status.specs.Devices.{Output}
 use Rattle.model_steps.specs.PacketFiles.{PacketFile}
 use Rattle.base_store.specs.Store.{HasStoreCause, LooksOn, StoreState, all_scanned}
 use Rattle.base_store.specs.declared.store_error.StoreError.TheVariants as error
-use Rattle.cmd_store.specs.Scanned.{ScansOn, files_scanned}
-use Rattle.cmd_store.specs.Stops.{store_answer}
-use Rattle.cmd_store.specs.declared.command_error.CommandError.{CommandError}
+use Rattle.cmd_store.specs.{Scanned.ScansOn, Scanned.files_scanned, Stops.store_answer, declared.command_error.CommandError.CommandError}
 use Rattle.cmd_store.specs.declared.command_error.CommandError.TheVariants.{Met, Store}
-use Rattle.echo_toss.specs.Bounds.{IsFullWhenRead}
-use Rattle.echo_toss.specs.PacketsIn.{state_in}
+use Rattle.echo_toss.specs.{Bounds.IsFullWhenRead, PacketsIn.state_in}
 use Rattle.station.specs.Beneath.{HoldsAsBefore}
-use Rattle.station_scan.specs.Beneath.{IsFullOnWay}
-use Rattle.station_scan.specs.Fitting.{AreTaken}
-use Rattle.station_scan.specs.Passing.{AreGoneOrSame}
-use Rattle.station_scan.specs.Publishing.{KeepsStoreBut}
-use Rattle.station_scan.specs.Scanning.{packets_in}
-use Rattle.station_scan.specs.Sending.{IsStagingOfPacket}
 use Rattle.station_scan.specs.Sends.{AreSentOn, IsOfThese, SendsThese, WasTriedFor, WritesStaging}
-use Rattle.station_scan.specs.Stops.{IsOfPlacing, most}
-use Rattle.station_scan.specs.declared.pieces.Source.{Source}
-use Rattle.station_scan.specs.declared.sending.Sending.{Sending}
-use Rattle.station_scan.specs.declared.scan_error.ScanError.{ScanError}
+use Rattle.station_scan.specs.{Beneath.IsFullOnWay, Fitting.AreTaken, Passing.AreGoneOrSame, Publishing.KeepsStoreBut, Scanning.packets_in, Sending.IsStagingOfPacket, Stops.IsOfPlacing, Stops.most}
+use Rattle.station_scan.specs.declared.{pieces.Source.Source, sending.Sending.Sending, scan_error.ScanError.ScanError}
 use Rattle.station_scan.specs.declared.scan_error.ScanError.TheVariants.{Command, Placing, Staying}
 
 -- The store committed this base, and holds it with the cursor at its end. The number is that of the cursor before.

@@ -2,25 +2,17 @@
 use Rattle.std.specs.Prelude.{◌≡◌, ◌⊎◌, ◌==◌, ℕ, Bool, true, not, nat_lt, ◌&&◌, List, ◌++◌, map, filter, drop, All, Contains, None}
 use Rattle.disk_io.specs.Disk.{DiskState, Files, Honestly, IsIn, bytes_in}
 use Rattle.disk_io.specs.Fixed.{AreBytes}
-use Rattle.disk_atomic.specs.Changes.{CanGrow}
-use Rattle.disk_atomic.specs.StagingPaths.{staging_path}
-use Rattle.disk_atomic.specs.declared.outgoing.Outgoing.{Outgoing}
+use Rattle.disk_atomic.specs.{Changes.CanGrow, StagingPaths.staging_path, declared.outgoing.Outgoing.Outgoing}
 use Rattle.echo_addr.specs.declared.address.Address.{Address}
-use Rattle.echo_packet.specs.Header.{header_bytes}
-use Rattle.echo_packet.specs.Message.{messages_bytes}
-use Rattle.model_steps.specs.Scanning.{header_to}
-use Rattle.model_steps.specs.Stamps.{is_stamp}
+use Rattle.echo_packet.specs.{Header.header_bytes, Message.messages_bytes}
+use Rattle.model_steps.specs.{Scanning.header_to, Stamps.is_stamp}
 use Rattle.base_file.specs.Base.{Base}
 use Rattle.echo_toss.specs.Counts.{copies_out, counted_to, counted_with, has_messages, link_set}
-use Rattle.echo_toss.specs.Exports.{Outgoing as Sent, sent_of}
-use Rattle.echo_toss.specs.declared.counting.CountedPacket.{CountedPacket}
-use Rattle.cmd_report.specs.Scanned.{packet_name}
+use Rattle.echo_toss.specs.{Exports.Outgoing as Sent, Exports.sent_of, declared.counting.CountedPacket.CountedPacket}
+use Rattle.cmd_store.specs.PacketLines.{packet_name}
 use Rattle.base_store.specs.Store.{StoreState}
 use Rattle.station.specs.Beneath.{AreSettledByOwn}
-use Rattle.station_scan.specs.Beneath.{IsUsedAt}
-use Rattle.station_scan.specs.Sending.{AreRoutes}
-use Rattle.station_scan.specs.declared.counting.LinkPacket.{LinkPacket}
-use Rattle.station_scan.specs.declared.publish_error.PublishError.{PublishError}
+use Rattle.station_scan.specs.{Beneath.IsUsedAt, Sending.AreRoutes, declared.counting.LinkPacket.LinkPacket, declared.publish_error.PublishError.PublishError}
 use Rattle.station_scan.specs.declared.publish_error.PublishError.TheVariants.{Base as OfBase, Packets, Reading, Staging}
 use Rattle.station_scan.specs.declared.sending.Sending.{Sending}
 

@@ -1,13 +1,9 @@
 //! Parts of a scan on the disk that a store uses.
 ghost use Rattle.std.specs.Prelude.{◌≡◌, ◌≢◌, ◌≤◌, ◌⊎◌, ℕ, List, true, false, All, IfOk, IsErrOf};
-ghost use Rattle.disk_io.specs.Device.{Failed};
-ghost use Rattle.disk_io.specs.Disk.{Honestly};
-ghost use Rattle.disk_io.specs.Runs.{HasCause, LeavesOnly, OneStepOn};
-ghost use Rattle.disk_atomic.specs.Naming.{HasItsPath, NamesEach};
+ghost use Rattle.disk_io.specs.{Device.Failed, Disk.Honestly, Runs.HasCause, Runs.LeavesOnly, Runs.OneStepOn};
 ghost use Rattle.disk_atomic.specs.Outgoing.{ArePlaced, IsFree, IsOfOne, IsStaged, staged_in};
-ghost use Rattle.disk_atomic.specs.Publishing.{IsApartFrom};
-ghost use Rattle.station_scan.specs.Beneath.{IsUsedAt};
-ghost use Rattle.station_scan.specs.Left.{AreFreeLeft, EndsLeft, IsOfNameOff};
+ghost use Rattle.disk_atomic.specs.{Naming.HasItsPath, Naming.NamesEach, Publishing.IsApartFrom};
+ghost use Rattle.station_scan.specs.{Beneath.IsUsedAt, Left.AreFreeLeft, Left.EndsLeft, Left.IsOfNameOff};
 
 use crate::finishing::finish_left;
 use crate::sending::Sending;

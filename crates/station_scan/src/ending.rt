@@ -1,11 +1,9 @@
 //! Packets in staging files come to their end, before a commit.
 ghost use Rattle.std.specs.Prelude.{◌≡◌, true, false, All, IfErr, IfOk, OnOk};
-ghost use Rattle.disk_io.specs.Disk.{Honestly};
-ghost use Rattle.disk_io.specs.Runs.{HasCause};
+ghost use Rattle.disk_io.specs.{Disk.Honestly, Runs.HasCause};
 ghost use Rattle.disk_atomic.specs.Outgoing.{IsAtStaging};
-ghost use Rattle.station_scan.specs.Beneath.{IsUsedAt};
 ghost use Rattle.station_scan.specs.Publishing.{AreStaged, HasStageCause, IsTriedWith, IsWritten, NoneStays, ended_in};
-ghost use Rattle.station_scan.specs.Writing.{CanStage};
+ghost use Rattle.station_scan.specs.{Beneath.IsUsedAt, Writing.CanStage};
 
 use crate::beneath::Used;
 use crate::pieces::Ends;

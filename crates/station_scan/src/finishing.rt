@@ -1,11 +1,7 @@
 //! The packets that earlier scans left are named or removed.
 ghost use Rattle.std.specs.Prelude.{◌≢◌, ◌≤◌, ◌⊎◌, List, All, IfOk, IsErrOf};
-ghost use Rattle.disk_io.specs.Device.{Failed};
-ghost use Rattle.disk_io.specs.Disk.{Honestly};
-ghost use Rattle.disk_atomic.specs.Changes.{ChangesOnly};
-ghost use Rattle.disk_atomic.specs.Finishing.{AreLeftIn};
-ghost use Rattle.disk_atomic.specs.Publishing.{HasPlacingCause};
-ghost use Rattle.disk_atomic.specs.declared.finishing.Left.{Left};
+ghost use Rattle.disk_io.specs.{Device.Failed, Disk.Honestly};
+ghost use Rattle.disk_atomic.specs.{Changes.ChangesOnly, Finishing.AreLeftIn, Publishing.HasPlacingCause, declared.finishing.Left.Left};
 ghost use Rattle.station_scan.specs.Left.{AreFreeLeft, AreSameLeft, EndsLeft, EndsThese, IsStagingThere, IsFreeFound, IsOfNameOff, IsOfPaths};
 
 use crate::finding::{LeftPaths, find_left};

@@ -1,8 +1,7 @@
 //! Whether packets go to paths that belong to nothing else.
 ghost use Rattle.std.specs.Prelude.{◌≡◌, ◌≢◌, true, false, All};
 ghost use Rattle.disk_atomic.specs.ListStaged.{IsNameByte};
-ghost use Rattle.station_scan.specs.Fitting.{IsOff};
-ghost use Rattle.station_scan.specs.Sending.{IsOffOwn};
+ghost use Rattle.station_scan.specs.{Fitting.IsOff, Sending.IsOffOwn};
 
 use crate::sending::TwoPaths;
 use disk_atomic::Outgoing;

@@ -1,12 +1,9 @@
 //! The staging files of packets grow by the copies of a group of messages.
 ghost use Rattle.std.specs.Prelude.{◌<◌, ◌++◌, ℕ, List, length, All, IsErrOf, OnOk};
 ghost use Rattle.disk_io.specs.Disk.{Honestly, IsIn};
-ghost use Rattle.disk_atomic.specs.Outgoing.{IsAtStaging, IsFree};
-ghost use Rattle.disk_atomic.specs.Publishing.{HasPlacingCause};
+ghost use Rattle.disk_atomic.specs.{Outgoing.IsAtStaging, Outgoing.IsFree, Publishing.HasPlacingCause};
 ghost use Rattle.echo_toss.specs.Exports.{Outgoing as Sent};
-ghost use Rattle.station_scan.specs.Beneath.{CanLend, IsUsedAt};
-ghost use Rattle.station_scan.specs.Passing.{AreGrowing, IsAppending, header_for};
-ghost use Rattle.station_scan.specs.Publishing.{AreGoing, IsWritten};
+ghost use Rattle.station_scan.specs.{Beneath.CanLend, Beneath.IsUsedAt, Passing.AreGrowing, Passing.IsAppending, Passing.header_for, Publishing.AreGoing, Publishing.IsWritten};
 ghost use Rattle.station_scan.specs.Writing.{IsBatchOff, IsBegun, IsOpen};
 
 use crate::beneath::Used;

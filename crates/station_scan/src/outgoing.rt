@@ -1,16 +1,12 @@
 //! The messages of a store are gone over once, and their packets sent out with its commit.
 ghost use Rattle.std.specs.Prelude.{◌≡◌, List, IfErr, OnOk};
 ghost use Rattle.base_file.specs.Base.{Base};
-ghost use Rattle.disk_io.specs.Device.{Failed};
-ghost use Rattle.disk_io.specs.Disk.{Honestly};
+ghost use Rattle.disk_io.specs.{Device.Failed, Disk.Honestly};
 ghost use Rattle.base_store.specs.Store.{Commits, MayCommit};
 ghost use Rattle.cmd_status.specs.Devices.{output_of};
 ghost use Rattle.echo_toss.specs.Exports.{Outgoing as Sent};
-ghost use Rattle.station_scan.specs.Moved.{HasScanCause, IsMoved, ScansFrom, SendsFrom};
-ghost use Rattle.station_scan.specs.Passing.{CanSend, HasPassed, IsMaking};
-ghost use Rattle.station_scan.specs.Publishing.{HasPublishCause, KeepsStoreBut};
-ghost use Rattle.station_scan.specs.Scanning.{IsTouched, packets_in};
-ghost use Rattle.station_scan.specs.Stops.{IsOfBase, scan_done};
+ghost use Rattle.station_scan.specs.{Moved.HasScanCause, Moved.IsMoved, Moved.ScansFrom, Moved.SendsFrom, Passing.CanSend, Passing.HasPassed, Passing.IsMaking};
+ghost use Rattle.station_scan.specs.{Publishing.HasPublishCause, Publishing.KeepsStoreBut, Scanning.IsTouched, Scanning.packets_in, Stops.IsOfBase, Stops.scan_done};
 
 use crate::beneath::Used;
 use crate::counting::{LinkPacket, made_of, print_made};

@@ -5,12 +5,9 @@ ghost use Rattle.base_store.specs.Store.{HasStoreCause, LooksOn};
 ghost use Rattle.disk_io.specs.Disk.{Honestly};
 ghost use Rattle.disk_atomic.specs.Publishing.{HasPlacingCause};
 ghost use Rattle.disk_atomic.specs.declared.placing_error.PlacingError.TheVariants as placing;
-ghost use Rattle.echo_toss.specs.Bounds.{IsFullWhenRead};
-ghost use Rattle.echo_toss.specs.Counts.{IsGroupFrom};
-ghost use Rattle.echo_toss.specs.Exports.{Outgoing as Sent};
-ghost use Rattle.station_scan.specs.Fitting.{IsOff};
+ghost use Rattle.echo_toss.specs.{Bounds.IsFullWhenRead, Counts.IsGroupFrom, Exports.Outgoing as Sent};
 ghost use Rattle.station_scan.specs.Passing.{AreTakenTo, CanSend, HasPassed, HasStaged, IsBetween, IsMaking, IsPartOf, IsTakenFor, begun_in, copied_in, with_group};
-ghost use Rattle.station_scan.specs.Writing.{HasStopCause};
+ghost use Rattle.station_scan.specs.{Fitting.IsOff, Writing.HasStopCause};
 
 use crate::beneath::Used;
 use crate::counting::{LinkPacket, begun_of, copied_of, packets_with};

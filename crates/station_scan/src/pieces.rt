@@ -1,6 +1,5 @@
 //! The pieces of a packet: its header, the copies of a group of messages, its end.
-ghost use Rattle.echo_packet.specs.Header.{header_bytes, word};
-ghost use Rattle.echo_packet.specs.Message.{messages_bytes};
+ghost use Rattle.echo_packet.specs.{Header.header_bytes, Header.word, Message.messages_bytes};
 ghost use Rattle.model_steps.specs.Scanning.{header_to};
 ghost use Rattle.echo_toss.specs.Counts.{copies_out};
 

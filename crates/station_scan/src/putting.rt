@@ -1,13 +1,10 @@
 //! The packets of the messages that waited are put under their names.
 ghost use Rattle.std.specs.Prelude.{◌≡◌, ◌≤◌, ◌⊎◌, ℕ, List, true, OnOk};
 ghost use Rattle.base_file.specs.Base.{Base};
-ghost use Rattle.disk_io.specs.Device.{Failed};
-ghost use Rattle.disk_io.specs.Disk.{Honestly};
+ghost use Rattle.disk_io.specs.{Device.Failed, Disk.Honestly};
 ghost use Rattle.cmd_status.specs.Devices.{output_of};
 ghost use Rattle.model_steps.specs.Stamps.{is_stamp};
-ghost use Rattle.station_scan.specs.Moved.{HasScanCause, IsMoved};
-ghost use Rattle.station_scan.specs.Publishing.{KeepsStoreBut};
-ghost use Rattle.station_scan.specs.Scanning.{IsTouched, ScansOnStore, TriesOn};
+ghost use Rattle.station_scan.specs.{Moved.HasScanCause, Moved.IsMoved, Publishing.KeepsStoreBut, Scanning.IsTouched, Scanning.ScansOnStore, Scanning.TriesOn};
 
 use crate::beneath::{Used, finish_on};
 use crate::outgoing::send_on;

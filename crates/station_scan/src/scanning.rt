@@ -1,13 +1,11 @@
 //! The command `scan` on a station.
 ghost use Rattle.std.specs.Prelude.{◌≤◌, ◌⊎◌, ℕ, List, IsErrOf, OnOk};
 ghost use Rattle.base_file.specs.Base.{Base};
-ghost use Rattle.disk_io.specs.Device.{Failed};
-ghost use Rattle.disk_io.specs.Disk.{Honestly};
-ghost use Rattle.disk_io.specs.Runs.{ChangesNothing};
+ghost use Rattle.disk_io.specs.{Device.Failed, Disk.Honestly, Runs.ChangesNothing};
 ghost use Rattle.cmd_status.specs.Devices.{output_of};
 ghost use Rattle.station.specs.Opening.{AreFree, HaveFailed};
-ghost use Rattle.station_scan.specs.Publishing.{UnchangedExcept, KeepsStoreBut};
 ghost use Rattle.station_scan.specs.Scanning.{IsScanFull, IsTouched, ScanTries, ScansIn, ScansOnStore, TriesOn};
+ghost use Rattle.station_scan.specs.Publishing.{UnchangedExcept, KeepsStoreBut};
 
 use crate::beneath::Used;
 use crate::putting::put_moved;

@@ -2,12 +2,11 @@
 ghost use Rattle.std.specs.Prelude.{◌≡◌, ◌≤◌, All, IfErr, IfOk, OnOk, map};
 ghost use Rattle.disk_atomic.specs.StagingPaths.{staging_path};
 ghost use Rattle.echo_toss.specs.Counts.{link_set};
-ghost use Rattle.station_scan.specs.Sending.{IsPlanned, IsSized, route_to, two_paths};
-ghost use Rattle.station_scan.specs.Stops.{IsUnplanned, most};
+ghost use Rattle.station_scan.specs.{Sending.IsPlanned, Sending.IsSized, Sending.route_to, Sending.two_paths, Stops.IsUnplanned, Stops.most};
 
 use crate::pieces::Source;
 use crate::scan_error::ScanError;
-use cmd_report::packet_name;
+use cmd_store::packet_name;
 use disk_atomic::staging_path;
 use echo_addr::{Address, Items};
 use echo_links::LinkFile;

@@ -1,13 +1,10 @@
 //! A pass that stops removes its staging files.
 ghost use Rattle.std.specs.Prelude.{◌≡◌, ◌<◌, ℕ, List, IfErr, IfOk, IsErrOf, None, OnOk};
 ghost use Rattle.base_file.specs.Base.{Base};
-ghost use Rattle.disk_io.specs.Disk.{Honestly};
-ghost use Rattle.disk_io.specs.Runs.{HasCause};
+ghost use Rattle.disk_io.specs.{Disk.Honestly, Runs.HasCause};
 ghost use Rattle.echo_toss.specs.Exports.{Outgoing as Sent};
-ghost use Rattle.station_scan.specs.Beneath.{IsUsedAt};
 ghost use Rattle.station_scan.specs.Passing.{AreCounted, CanSend, FitTo, HasPassed, IsStagingTo, IsTakenFor, StopsPassing};
-ghost use Rattle.station_scan.specs.Publishing.{HasPublishCause};
-ghost use Rattle.station_scan.specs.Writing.{publish_stop};
+ghost use Rattle.station_scan.specs.{Beneath.IsUsedAt, Publishing.HasPublishCause, Writing.publish_stop};
 
 use crate::beneath::Used;
 use crate::counting::{LinkPacket, empty_packets, made_of};

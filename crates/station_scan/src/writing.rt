@@ -1,11 +1,8 @@
 //! The staging files of packets, on the disk that a store uses.
 ghost use Rattle.std.specs.Prelude.{◌≡◌, true, false, All, IfOk, OnOk};
-ghost use Rattle.disk_io.specs.Disk.{Honestly};
-ghost use Rattle.disk_io.specs.Runs.{HasCause};
+ghost use Rattle.disk_io.specs.{Disk.Honestly, Runs.HasCause};
 ghost use Rattle.disk_atomic.specs.Outgoing.{IsAtStaging, IsFree, IsLonger, staged_in};
-ghost use Rattle.station_scan.specs.Beneath.{IsUsedAt};
-ghost use Rattle.station_scan.specs.Publishing.{AreGone, AreStaged, IsTriedWith, IsWritten};
-ghost use Rattle.station_scan.specs.Writing.{IsBatchOff, IsBegun, IsOpen};
+ghost use Rattle.station_scan.specs.{Beneath.IsUsedAt, Publishing.AreGone, Publishing.AreStaged, Publishing.IsTriedWith, Publishing.IsWritten, Writing.IsBatchOff, Writing.IsBegun, Writing.IsOpen};
 
 use crate::beneath::Used;
 use crate::staging::end_staging;

@@ -1,33 +1,22 @@
-//! Tests of formats and stations beyond examples/cases: calls that no command makes, answers that no command prints,
-//! calls that are refused memory, and devices that fail. Each module is named for the crate or the part that it tests.
-//! It promises nothing to other crates. Begin with `packet`.
+//! Tests of what no contract says: calls of the system, and answers that no command prints. It promises nothing to other
+//! crates.
+//!
+//! Files are read and made whole on a file system that fails at each call. Packets are opened on one that cuts files
+//! before a call. The disk of the program and a base folder on it are tried on files of the system. Begin with
+//! `real_disk`.
 #![tactic(auto)]
 
 #[cfg(test)]
-mod addr;
+mod bases;
 #[cfg(test)]
-mod base;
+mod checksums;
 #[cfg(test)]
-mod commands;
+mod fault_lines;
 #[cfg(test)]
-mod device;
+mod on_real_files;
 #[cfg(test)]
-mod filed;
+mod packets;
 #[cfg(test)]
-mod graph;
+mod real_disk;
 #[cfg(test)]
-mod links;
-#[cfg(test)]
-mod net;
-#[cfg(test)]
-mod nodelist;
-#[cfg(test)]
-mod packet;
-#[cfg(test)]
-mod replay;
-#[cfg(test)]
-mod stations;
-#[cfg(test)]
-mod text;
-#[cfg(test)]
-mod toss;
+mod system_files;

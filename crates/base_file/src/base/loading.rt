@@ -1,9 +1,8 @@
 //! Reads a base from a source.
 ghost use Rattle.std.specs.Prelude.{◌≡◌, ◌≤◌, [], length, IfErr, IfOk, IfSome, Result};
 ghost use Rattle.echo_packet.specs.Header.{AreBytes};
-ghost use Rattle.base_file.specs.declared.fault.BaseFault.{BaseFault as Fault};
-ghost use Rattle.base_file.specs.BaseFile.{LoadOf, Loaded};
 ghost use Rattle.base_file.specs.Loading.{AnswersLoad, CountsLoad, FailsToLoad, IsVersion, ReadsHead, ReadsVersion, TakesBase, TakesStored, TakesMessages, fault_behind};
+ghost use Rattle.base_file.specs.{declared.fault.BaseFault.BaseFault as Fault, BaseFile.LoadOf, BaseFile.Loaded};
 
 use crate::base::Base;
 use crate::fault::BaseFault;

@@ -3,12 +3,8 @@ ghost use Rattle.std.specs.Prelude.{◌≡◌, ◌^◌, ◌<◌, ◌≤◌, leng
 ghost use Rattle.std.specs.List.{flat_map, list_all};
 ghost use Rattle.disk_io.specs.Device.{Failed, Sends};
 ghost use Rattle.indexmap.specs.IndexMap.{values};
-ghost use Rattle.echo_filed.specs.declared.stored.Version.TheVariants.{Second};
-ghost use Rattle.echo_filed.specs.Stored.{is_short_enough, stored_bytes};
-ghost use Rattle.echo_filed.specs.Sending.{CountsUnsent};
-ghost use Rattle.base_file.specs.Base.{IsBase};
-ghost use Rattle.base_file.specs.BaseFile.{head_bytes, is_countable, saved_bytes, stored_from};
-ghost use Rattle.base_file.specs.Saving.{CountsSaved, Saves, ReportsTooMany};
+ghost use Rattle.echo_filed.specs.{declared.stored.Version.TheVariants.Second, Stored.is_short_enough, Stored.stored_bytes, Sending.CountsUnsent};
+ghost use Rattle.base_file.specs.{Base.IsBase, BaseFile.head_bytes, BaseFile.is_countable, BaseFile.saved_bytes, BaseFile.stored_from, Saving.CountsSaved, Saving.Saves, Saving.ReportsTooMany};
 
 use crate::base::Base;
 use crate::base::loading::SECOND;

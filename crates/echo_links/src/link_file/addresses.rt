@@ -1,9 +1,7 @@
 ghost use Rattle.std.specs.Prelude.{◌≡◌, ◌⊎◌, [], Some, None, true, false, map, MatchResult};
-ghost use Rattle.echo_addr.specs.Address.{address_in};
-ghost use Rattle.echo_addr.specs.Entries.{tokens};
+ghost use Rattle.echo_addr.specs.{Address.address_in, Entries.tokens};
 ghost use Rattle.echo_links.specs.declared.fault.LinkFault.TheVariants as link;
-ghost use Rattle.echo_links.specs.LinkLines.{first_of, is_one_address, links_fault};
-ghost use Rattle.echo_links.specs.LinkReading.{IsWordOf};
+ghost use Rattle.echo_links.specs.{LinkLines.first_of, LinkLines.is_one_address, LinkLines.links_fault, LinkReading.IsWordOf};
 
 use super::links::Links;
 use crate::fault::LinkFault;

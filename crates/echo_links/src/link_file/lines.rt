@@ -1,5 +1,4 @@
-ghost use Rattle.std.specs.Prelude.{◌≡◌, ◌<◌, ◌∷◌, length};
-ghost use Rattle.std.specs.List.{list_all, list_any};
+ghost use Rattle.std.specs.{Prelude.◌≡◌, Prelude.◌<◌, Prelude.◌∷◌, Prelude.length, List.list_all, List.list_any};
 ghost use Rattle.echo_links.specs.LinkLines.{file_lines, is_control_byte, is_skipped, is_space_or_tab, without_return};
 
 use memchr::memchr;

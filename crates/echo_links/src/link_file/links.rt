@@ -1,5 +1,4 @@
-ghost use Rattle.std.specs.Prelude.{◌≡◌};
-ghost use Rattle.std.specs.List.{list_any};
+ghost use Rattle.std.specs.{Prelude.◌≡◌, List.list_any};
 ghost use Rattle.echo_links.specs.Links.{same_address};
 
 use echo_addr::Address;

@@ -1,11 +1,9 @@
 ghost use Rattle.std.specs.Prelude.{◌≡◌, ◌⊎◌, ◌++◌, ◌∷◌, [], List, ℕ, Some, None, is_some, map, MatchResult};
-ghost use Rattle.echo_addr.specs.Address.{address_in};
-ghost use Rattle.echo_addr.specs.Entries.{tokens};
+ghost use Rattle.echo_addr.specs.{Address.address_in, Entries.tokens};
 ghost use Rattle.echo_text.specs.Lines.{trimmed};
 ghost use Rattle.echo_links.specs.declared.fault.LinkFault.TheVariants as link;
-ghost use Rattle.echo_links.specs.Links.{upper};
-ghost use Rattle.echo_links.specs.LinkLines.{after_first_of, first_of};
 ghost use Rattle.echo_links.specs.LinkReading.{Knows, ReadsLinkFile, TakesLine, area_refusal, name_refusal, system_refusal};
+ghost use Rattle.echo_links.specs.{Links.upper, LinkLines.after_first_of, LinkLines.first_of};
 
 use super::addresses::{links_in, system_in};
 use super::areas::Areas;

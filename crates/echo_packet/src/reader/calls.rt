@@ -1,11 +1,9 @@
 //! Opening a packet, and its next message.
 ghost use Rattle.std.specs.Prelude.{◌≡◌, ◌≢◌, ◌+◌, [], length, Err, IfOk, IfErr, IfSome};
 ghost use Rattle.std.specs.Io.KnownBytes.{Consumes};
-ghost use Rattle.echo_packet.specs.declared.fault.PacketFault.TheVariants.{Memory};
-ghost use Rattle.echo_packet.specs.Header.{IsHeader, header_bytes};
-ghost use Rattle.echo_packet.specs.Fault.{place_of};
 ghost use Rattle.echo_packet.specs.Next.{CountsFailures, FailsInMessage, IsWithin, NextFault, TakesNext, next_bytes};
 ghost use Rattle.echo_packet.specs.Reader.{FailsInFront, FrontFault, GoesOn, IsDropped, IsReading, KeepsFront, StaysOver, reader_given, reader_header, reader_limits, reader_place, reader_source};
+ghost use Rattle.echo_packet.specs.{declared.fault.PacketFault.TheVariants.Memory, Header.IsHeader, Header.header_bytes, Fault.place_of};
 
 use crate::fault::PacketFault;
 use crate::header::{HEADER_BYTES, Header, header_of, number_at};

@@ -1,9 +1,6 @@
 use Rattle.std.proofs.Common.{◌≡◌, ℕ, ◌<◌, ◌++◌, nat_eq, Bool, List, true, length, sym, ap, ◌∙◌, arith, rules}
-use Rattle.std.proofs.lemmas.List.{append-nil, nil_from_length}
-use Rattle.std.proofs.lemmas.Bool.{eqb-true}
-use Rattle.echo_filed.specs.Fields.{StopsIn}
-use Rattle.echo_filed.specs.Stored.{Stored, stored_bytes}
-use Rattle.echo_filed.specs.declared.stored.Version.TheVariants.{Second}
+use Rattle.std.proofs.lemmas.{List.append-nil, List.nil_from_length, Bool.eqb-true}
+use Rattle.echo_filed.specs.{Fields.StopsIn, Stored.Stored, Stored.stored_bytes, declared.stored.Version.TheVariants.Second}
 use Rattle.base_file.specs.Alone.{cursor_alone}
 use Rattle.base_file.proofs.LoneMessages.{none_cut, none_longer, none_wrong, read_alone}
 use Rattle.base_file.proofs.alone.read_message.Goals as goal

@@ -1,6 +1,5 @@
 use Rattle.std.proofs.Common.{◌≡◌, ◌∙◌, ◌-◌, true, ap, sym, length}
-use Rattle.std.specs.Prelude.{bytes_eq}
-use Rattle.std.specs.Cmp.Lexicographic.{bytes_decides}
+use Rattle.std.specs.{Prelude.bytes_eq, Cmp.Lexicographic.bytes_decides}
 use Rattle.base_file.proofs.Entries.{passes_at}
 use Rattle.base_file.proofs.base.is_tag_of_last.Goals as goal
 

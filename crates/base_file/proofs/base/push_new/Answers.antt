@@ -1,6 +1,5 @@
 use Rattle.std.proofs.Common.{◌≡◌, ◌∙◌, [], ◌++◌, ◌∷◌, None, not, ap, sym}
-use Rattle.std.specs.Prelude.{is_some}
-use Rattle.std.specs.Map.{lookup}
+use Rattle.std.specs.{Prelude.is_some, Map.lookup}
 use Rattle.indexmap.proofs.CallerLemmas.{insert_entry-new}
 use Rattle.echo_filed.proofs.DerivedKeys.{derived}
 use Rattle.base_file.proofs.Entries.{looked_up}

@@ -1,10 +1,7 @@
-use Rattle.std.proofs.Common.{◌∙◌, ap}
-use Rattle.std.proofs.lemmas.Bool.{or_parts}
+use Rattle.std.proofs.{Common.◌∙◌, Common.ap, lemmas.Bool.or_parts}
 use Rattle.echo_filed.specs.Stored.{has_tag, message_in}
-use Rattle.base_file.specs.BaseFile.{has_wrong_form}
-use Rattle.base_file.specs.Loading.{has_wrong_field, is_wrong}
-use Rattle.base_file.proofs.ShortForms.{found_short}
-use Rattle.base_file.proofs.Verdicts.{found_right}
+use Rattle.base_file.specs.{BaseFile.has_wrong_form, Loading.has_wrong_field, Loading.is_wrong}
+use Rattle.base_file.proofs.{ShortForms.found_short, Verdicts.found_right}
 use Rattle.base_file.proofs.judging.judged.Goals as goal
 
 pub key_of-requires : goal.key_of-requires

@@ -1,8 +1,7 @@
 use Rattle.std.proofs.Common.{◌∙◌, ap}
 use Rattle.echo_filed.specs.Stored.{has_tag, message_in}
 use Rattle.base_file.specs.Loading.{has_wrong_field}
-use Rattle.base_file.proofs.ShortForms.{found_short}
-use Rattle.base_file.proofs.Verdicts.{found_right}
+use Rattle.base_file.proofs.{ShortForms.found_short, Verdicts.found_right}
 use Rattle.base_file.proofs.judging.sound_message.Goals as goal
 
 pub has_wrong_form-requires : goal.has_wrong_form-requires

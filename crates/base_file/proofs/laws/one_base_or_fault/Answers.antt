@@ -1,5 +1,4 @@
-use Rattle.base_file.proofs.Loading.{load_outcome, only_outcome, outcome_loads}
-use Rattle.base_file.proofs.OneBase.{no_other_fault, one_fault, only_base, only_length}
+use Rattle.base_file.proofs.{Loading.load_outcome, Loading.only_outcome, Loading.outcome_loads, OneBase.no_other_fault, OneBase.one_fault, OneBase.only_base, OneBase.only_length}
 use Rattle.base_file.proofs.laws.one_base_or_fault.Goals as goal
 
 pub returns-clause-answered : goal.returns-clause-answered

@@ -1,9 +1,8 @@
 use Rattle.std.proofs.Common.{◌≡◌, ◌∙◌, ◌-◌, ◌≤◌, set, subst, sym, Option, arith}
-use Rattle.std.specs.Prelude.{IfSome}
 use Rattle.std.proofs.lemmas.List.{length-map}
+use Rattle.std.specs.Prelude.{IfSome}
 use Rattle.indexmap.specs.IndexMap.{values}
-use Rattle.echo_filed.specs.Filed.{Filed}
-use Rattle.echo_filed.specs.Stubs.{stub_of}
+use Rattle.echo_filed.specs.{Filed.Filed, Stubs.stub_of}
 use Rattle.base_file.proofs.Purges.{changed_goes_on, changed_lines_on, from_place, from_stubs, never_empty, stub_goes_on, stub_lines_on}
 use Rattle.base_file.proofs.purging.put_stubs.Goals as goal
 

@@ -1,5 +1,4 @@
-use Rattle.std.proofs.Common.{arith}
-use Rattle.std.proofs.lemmas.List.{append_assoc}
+use Rattle.std.proofs.{Common.arith, lemmas.List.append_assoc}
 use Rattle.base_file.specs.BaseFile.{head_bytes}
 use Rattle.base_folder.proofs.as_file.head_of.Goals as goal
 

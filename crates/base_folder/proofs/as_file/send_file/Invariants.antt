@@ -1,8 +1,7 @@
 -- The head and the messages before this one were sent.
 use Rattle.std.proofs.Common.{◌≡◌, ◌≤◌, ◌++◌, length, take}
 use Rattle.std.specs.Io.KnownBytes.{Appends}
-use Rattle.base_file.specs.Base.{Base}
-use Rattle.base_file.specs.BaseFile.{head_bytes}
+use Rattle.base_file.specs.{Base.Base, BaseFile.head_bytes}
 use Rattle.base_file.proofs.SavedMessages.{stored_all}
 use Rattle.echo_filed.specs.declared.stored.Version.TheVariants.{Second}
 use Rattle.base_folder.specs.Source.{LooksAt}

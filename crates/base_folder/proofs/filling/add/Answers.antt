@@ -1,13 +1,10 @@
 use Rattle.std.proofs.Common.{◌+◌, List, ℕ, refl, sym, ap, subst, ◌∙◌, arith}
-use Rattle.base_store.specs.Keys.{digested_key}
-use Rattle.echo_filed.specs.Filed.{key_of}
-use Rattle.base_file.specs.Alone.{IsStoredAlone}
-use Rattle.echo_filed.specs.declared.key.Key.{Key}
-use Rattle.base_folder_store.specs.Held.{digest_by}
-use Rattle.base_folder_store.specs.Opened.{held_by}
 use Rattle.std.proofs.lemmas.Result.{on_ok_weaker}
-use Rattle.base_folder_store.proofs.Causes.{done_both, handed_on}
-use Rattle.base_folder_store.proofs.Seen.{filed_more}
+use Rattle.base_store.specs.Keys.{digested_key}
+use Rattle.echo_filed.specs.{Filed.key_of, declared.key.Key.Key}
+use Rattle.base_file.specs.Alone.{IsStoredAlone}
+use Rattle.base_folder_store.specs.{Held.digest_by, Opened.held_by}
+use Rattle.base_folder_store.proofs.{Causes.done_both, Causes.handed_on, Seen.filed_more}
 use Rattle.base_folder.specs.Filled.{HoldsMany}
 use Rattle.base_folder.proofs.Fillings.{adds_none, many_more}
 use Rattle.base_folder.proofs.filling.add.Goals as goal

@@ -1,17 +1,14 @@
 use Rattle.std.proofs.Common.{◌≡◌, ◌∙◌, List, ℕ, OnOk, ap, arith, inr, subst}
 use Rattle.disk_io.specs.Disk.{Files}
 use Rattle.base_log.proofs.Keeping.{outside_twice}
-use Rattle.base_folder_store.specs.Held.{HoldsBase, RepresentsBase}
-use Rattle.base_folder_store.specs.Opened.{committed_by, held_by, path_of}
+use Rattle.base_folder_store.specs.{Held.HoldsBase, Held.RepresentsBase, Opened.committed_by, Opened.held_by, Opened.path_of}
 use Rattle.base_folder_store.proofs.Causes.{on_ok_none}
 use Rattle.base_folder.specs.Filled.{FillsAllOrNothing, IsKept, IsUncommitted, IsUnfilled, RepresentsMany, RepresentsNoneOr, RepresentsNoneOrWasLeft, no_messages}
 use Rattle.base_folder.specs.declared.fill_error.FillError.TheVariants as unfilled
 use Rattle.base_folder.proofs.Fillings.{cause_opened, cause_since, fill_since, full_at, never_many, opened_run, reads_folder, uncommitted_opened}
-use Rattle.base_folder.proofs.Lookings.{err_is}
-use Rattle.base_folder.proofs.Openings.{claimed_committed, claimed_named, claimed_opened, claimed_same}
-use Rattle.base_folder.proofs.Readings.{looks_none}
-use Rattle.base_folder.proofs.filling.fill.Given as given
+use Rattle.base_folder.proofs.{Lookings.err_is, Openings.claimed_committed, Openings.claimed_named, Openings.claimed_opened, Openings.claimed_same, Readings.looks_none}
 use Rattle.base_folder.proofs.filling.fill.Goals.{After-fill_opened}
+use Rattle.base_folder.proofs.filling.fill.Given as given
 use Rattle.base_folder.proofs.filling.fill.Goals as goal
 
 -- The opened folder, with its key, holds no message and is at the path.

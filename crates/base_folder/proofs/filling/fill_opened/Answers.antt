@@ -1,20 +1,15 @@
 use Rattle.std.proofs.Common.{◌≡◌, ◌+◌, ◌∙◌, ℕ, Err, inr, refl, sym, subst, arith}
 use Rattle.std.specs.Prelude.{IsErrOf}
-use Rattle.disk_io.specs.Disk.{Files}
-use Rattle.disk_io.specs.Runs.{LeavesOnly}
+use Rattle.disk_io.specs.{Disk.Files, Runs.LeavesOnly}
 use Rattle.base_log.specs.Standing.{BaseBytes, Represents}
-use Rattle.base_folder_store.specs.Calls.{CommitsOnly}
+use Rattle.base_folder_store.specs.{Calls.CommitsOnly, Held.HoldsBase, Held.RepresentsBase, Opened.committed_by, Opened.held_by, Opened.path_of}
 use Rattle.base_store.specs.declared.store_error.StoreError.TheVariants as store
-use Rattle.base_folder_store.specs.Held.{HoldsBase, RepresentsBase}
-use Rattle.base_folder_store.specs.Opened.{committed_by, held_by, path_of}
-use Rattle.base_folder_store.proofs.Causes.{handed_on, on_ok_none}
-use Rattle.base_folder_store.proofs.Runs.{run_to_commit, run_twice}
+use Rattle.base_folder_store.proofs.{Causes.handed_on, Causes.on_ok_none, Runs.run_to_commit, Runs.run_twice}
 use Rattle.base_folder.specs.Filled.{HoldsMany, IsUncommitted, RepresentsMany, RepresentsNoneOr, no_messages, unfilled_cause}
 use Rattle.base_folder.specs.declared.fill_error.FillError.TheVariants as unfilled
 use Rattle.base_folder.proofs.Fillings.{cause_since, cause_stored, fills_before, fills_run, filled_is_kept, many_none, many_stored, reads_folder, uncommitted_added, uncommitted_stored}
-use Rattle.base_folder.proofs.Lookings.{err_is}
+use Rattle.base_folder.proofs.{Lookings.err_is, filling.fill_opened.Goals.After-commit}
 use Rattle.base_folder.proofs.filling.fill_opened.Given as given
-use Rattle.base_folder.proofs.filling.fill_opened.Goals.{After-commit}
 use Rattle.base_folder.proofs.filling.fill_opened.Goals as goal
 
 run : (g : given.Over) (c : After-commit g)

@@ -1,5 +1,4 @@
-use Rattle.std.proofs.Common.{◌∙◌, [], sym}
-use Rattle.std.proofs.lemmas.List.{append-nil}
+use Rattle.std.proofs.{Common.◌∙◌, Common.[], Common.sym, lemmas.List.append-nil}
 use Rattle.base_folder.proofs.looking.is_steady.Goals as goal
 
 pub returns-then-len-clause-same : goal.returns-then-len-clause-same

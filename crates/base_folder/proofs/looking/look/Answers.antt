@@ -3,9 +3,7 @@ use Rattle.std.specs.Prelude.{IfSome}
 use Rattle.disk_io.specs.Disk.{Files}
 use Rattle.base_log.specs.Standing.{Represents}
 use Rattle.base_folder_store.specs.Opened.{held_by}
-use Rattle.base_folder.specs.Looked.{IsUnseen}
-use Rattle.base_folder.specs.Wrong.{IsSound}
-use Rattle.base_folder.specs.declared.looking.LookedFolder.{LookedFolder}
+use Rattle.base_folder.specs.{Looked.IsUnseen, Wrong.IsSound, declared.looking.LookedFolder.LookedFolder}
 use Rattle.base_folder.proofs.Lookings.{err_is}
 use Rattle.base_folder.proofs.looking.look.Goals as goal
 

@@ -1,7 +1,6 @@
 -- The earlier tries changed nothing, and on an honest disk there was no earlier one.
 use Rattle.std.proofs.Common.{◌≡◌, ◌≤◌}
-use Rattle.disk_io.specs.Disk.{Honestly}
-use Rattle.disk_io.specs.Runs.{ChangesNothing}
+use Rattle.disk_io.specs.{Disk.Honestly, Runs.ChangesNothing}
 use Rattle.base_folder.proofs.looking.look.Given as goal
 
 abbrev pub invariant-tries : goal.invariant-tries

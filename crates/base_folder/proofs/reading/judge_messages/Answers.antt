@@ -1,8 +1,6 @@
-use Rattle.std.proofs.Common.{arith}
-use Rattle.std.proofs.lemmas.Bool.{cases_lt}
+use Rattle.std.proofs.{Common.arith, lemmas.Bool.cases_lt}
 use Rattle.base_folder_store.proofs.Legible.{held_quiet}
-use Rattle.base_folder.proofs.Lookings.{err_is}
-use Rattle.base_folder.proofs.Readings.{looked_quiet, not_behind, not_past}
+use Rattle.base_folder.proofs.{Lookings.err_is, Readings.looked_quiet, Readings.not_behind, Readings.not_past}
 use Rattle.base_folder.proofs.reading.judge_messages.Goals as goal
 
 pub messages-init : goal.messages-init

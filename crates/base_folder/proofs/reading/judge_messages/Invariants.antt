@@ -1,9 +1,7 @@
 -- Each earlier message has the digest in its entry.
 use Rattle.std.proofs.Common.{◌≤◌, ◌<◌, ℕ}
-use Rattle.disk_io.specs.Disk.{Honestly}
-use Rattle.disk_io.specs.Runs.{ChangesNothing}
-use Rattle.base_folder_store.specs.Opened.{held_by}
-use Rattle.base_folder_store.specs.Vouched.{IsVouched}
+use Rattle.disk_io.specs.{Disk.Honestly, Runs.ChangesNothing}
+use Rattle.base_folder_store.specs.{Opened.held_by, Vouched.IsVouched}
 use Rattle.base_folder.proofs.reading.judge_messages.Given as goal
 
 abbrev pub invariant-messages : goal.invariant-messages

@@ -1,12 +1,7 @@
 use Rattle.std.proofs.Common.{◌≡◌, ◌+◌, ◌<◌, ◌^◌, ℕ, List, length, Result, refl, sym, ap, subst, arith}
 use Rattle.std.specs.Prelude.{IfOk}
-use Rattle.disk_io.specs.Disk.{DiskState, Honestly}
-use Rattle.disk_io.specs.declared.disk_error.DiskError.{DiskError}
-use Rattle.base_log.specs.AtRest.{HoldsNext, IsStaged}
-use Rattle.base_log.specs.Names.{folder_of}
-use Rattle.base_log.specs.Standing.{and_keys, and_messages, base_at}
-use Rattle.base_log.specs.declared.log.CommitRecord.{CommitRecord}
-use Rattle.base_log.specs.declared.log.End.{End}
+use Rattle.disk_io.specs.{Disk.DiskState, Disk.Honestly, declared.disk_error.DiskError.DiskError}
+use Rattle.base_log.specs.{AtRest.HoldsNext, AtRest.IsStaged, Names.folder_of, Standing.and_keys, Standing.and_messages, Standing.base_at, declared.log.CommitRecord.CommitRecord, declared.log.End.End}
 use Rattle.base_log.proofs.LeftOutside.{left_twice}
 use Rattle.base_folder_store.specs.Calls.{StagesBoth}
 use Rattle.base_folder_store.proofs.Runs.{run_twice}

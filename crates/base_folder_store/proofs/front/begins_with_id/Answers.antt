@@ -1,10 +1,6 @@
 use Rattle.std.proofs.Common.{◌≡◌, ◌<◌, List, ℕ, length, take, drop, sym, ap, ◌∙◌, arith}
-use Rattle.std.proofs.lemmas.Bool.{eqb-false}
-use Rattle.std.proofs.lemmas.List.{take_rest}
-use Rattle.std.proofs.lemmas.Slice.Eq.{bytes_eq-Decides}
-use Rattle.echo_text.specs.Echo.{msgid_of}
-use Rattle.echo_text.specs.Lines.{lines, msgid_word, trimmed}
-use Rattle.echo_text.specs.Tail.{kept_of}
+use Rattle.std.proofs.lemmas.{Bool.eqb-false, List.take_rest, Slice.Eq.bytes_eq-Decides}
+use Rattle.echo_text.specs.{Echo.msgid_of, Lines.lines, Lines.msgid_word, Lines.trimmed, Tail.kept_of}
 use Rattle.base_folder_store.proofs.Plain.{plain_id}
 use Rattle.base_folder_store.proofs.front.begins_with_id.Goals as goal
 

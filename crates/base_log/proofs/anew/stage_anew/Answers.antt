@@ -1,20 +1,14 @@
 use Rattle.std.proofs.Common.{List, ℕ, ◌≡◌, ◌≢◌, Some, [], sym, ◌∙◌, subst, arith, refl}
 use Rattle.std.specs.Prelude.{IsSome}
-use Rattle.disk_io.specs.Disk.{DiskState, IsIn}
-use Rattle.disk_io.specs.Runs.{ChangesNothing}
+use Rattle.disk_io.specs.{Disk.DiskState, Disk.IsIn, Runs.ChangesNothing}
 use Rattle.disk_io.proofs.Moments.{then_nothing, left_now}
-use Rattle.base_log.specs.declared.log.End.{End}
-use Rattle.base_log.specs.Names.{folder_of, log_of, messages_of, keys_of}
-use Rattle.base_log.specs.Moments.{StagesOnly, RepresentsAlone}
+use Rattle.base_log.specs.{declared.log.End.End, Names.folder_of, Names.log_of, Names.messages_of, Names.keys_of, Moments.StagesOnly, Moments.RepresentsAlone}
 use Rattle.base_log.specs.Standing.{BaseBytes, Represents, base_at}
 use Rattle.base_log.proofs.Keeping.{log_moved, on_disk_but_one, on_disk_quiet, outside_but_one, outside_quiet, outside_twice}
-use Rattle.base_log.proofs.Calls.{Made, but_one_call}
-use Rattle.base_log.proofs.Made.{keys_run, messages_run, outside_both}
 use Rattle.base_log.proofs.Paths.{keys_not_messages, keys_of-injective, log_not_keys, log_not_messages, messages_in, messages_not_keys, messages_of-injective}
-use Rattle.base_log.proofs.Renewed.{alone_run, same_base}
-use Rattle.base_log.proofs.Rested.{rest_same}
-use Rattle.base_log.proofs.anew.stage_anew.Given as given
+use Rattle.base_log.proofs.{Calls.Made, Calls.but_one_call, Made.keys_run, Made.messages_run, Made.outside_both, Renewed.alone_run, Renewed.same_base, Rested.rest_same}
 use Rattle.base_log.proofs.anew.stage_anew.Goals.{After-create, After-create-2}
+use Rattle.base_log.proofs.anew.stage_anew.Given as given
 use Rattle.base_log.proofs.anew.stage_anew.Goals as goal
 
 messages_made : (g : given.Over) (c : After-create g) → Made (g.D.Disk.state c.args.disk.now) (g.D.Disk.state c.create.new.self) (messages_of (folder_of c.args.names.now) c.args.number)

@@ -1,17 +1,11 @@
 use Rattle.std.proofs.Common.{List, ℕ, ◌≡◌, ◌+◌, ◌∷◌, [], ◌++◌, length, drop, ◌∙◌, subst, refl, arith}
-use Rattle.disk_io.specs.Disk.{bytes_in}
-use Rattle.disk_io.specs.Steps.{IsWrittenAt, TornWrite, ChangesFile}
-use Rattle.disk_io.specs.Runs.{OneStepOn, LeavesOnly}
-use Rattle.disk_io.specs.Synced.{IsOnDisk, KeepsOthers}
-use Rattle.base_log.specs.Names.{folder_of, log_of}
-use Rattle.base_log.specs.Log.{body_of}
+use Rattle.disk_io.specs.{Disk.bytes_in, Steps.IsWrittenAt, Steps.TornWrite, Steps.ChangesFile, Runs.OneStepOn, Runs.LeavesOnly, Synced.IsOnDisk, Synced.KeepsOthers}
+use Rattle.base_log.specs.{Names.folder_of, Names.log_of, Log.body_of}
 use Rattle.disk_io.proofs.Moments.{then_nothing}
-use Rattle.base_log.proofs.Keeping.{outside_quiet}
 use Rattle.base_log.proofs.Gates.{recorded_by-body_of, P, Ready, run_at_first, ready, run_record, done_record, run_gate, done_gate, same_gate}
 use Rattle.base_log.proofs.LeftOutside.{KeepsAround, around_changed, around_quiet, around_twice, left_quiet}
-use Rattle.base_log.proofs.Paths.{log_in}
+use Rattle.base_log.proofs.{Keeping.outside_quiet, Paths.log_in, committing.commit.Goals.After-sync-2, committing.commit.Goals.After-write_synced, committing.commit.Goals.After-write_synced-2}
 use Rattle.base_log.proofs.committing.commit.Given as given
-use Rattle.base_log.proofs.committing.commit.Goals.{After-sync-2, After-write_synced, After-write_synced-2}
 use Rattle.base_log.proofs.committing.commit.Goals as goal
 
 -- the record is written behind the closed gate

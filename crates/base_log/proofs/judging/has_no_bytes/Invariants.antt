@@ -1,7 +1,6 @@
 -- The files of the numbers before this one have no bytes.
 use Rattle.std.proofs.Common.{◌≡◌, ◌<◌, ◌≤◌, ℕ, []}
-use Rattle.disk_io.specs.Disk.{Honestly, bytes_in}
-use Rattle.disk_io.specs.Runs.{ChangesNothing}
+use Rattle.disk_io.specs.{Disk.Honestly, Disk.bytes_in, Runs.ChangesNothing}
 use Rattle.base_log.specs.Names.{messages_of, keys_of}
 use Rattle.base_log.proofs.judging.has_no_bytes.Given as goal
 

@@ -1,20 +1,13 @@
 use Rattle.std.proofs.Common.{List, ℕ, ◌≡◌, [], Option, Some, refl, sym, ◌∙◌, subst}
-use Rattle.std.specs.Prelude.{IsSome}
 use Rattle.std.proofs.lemmas.Result.{on_ok_weaker}
-use Rattle.disk_io.specs.Disk.{DiskState, Honestly, IsIn}
-use Rattle.disk_io.specs.Runs.{ChangesNothing, LeavesOnly}
-use Rattle.disk_io.specs.Synced.{IsOnDisk}
+use Rattle.std.specs.Prelude.{IsSome}
+use Rattle.disk_io.specs.{Disk.DiskState, Disk.Honestly, Disk.IsIn, Runs.ChangesNothing, Runs.LeavesOnly, Synced.IsOnDisk}
 use Rattle.disk_io.proofs.Moments.{then_nothing}
-use Rattle.base_log.specs.Names.{folder_of, log_of, messages_of, keys_of}
-use Rattle.base_log.specs.Moments.{KeepsOutside, RepresentsAlone}
-use Rattle.base_log.specs.Standing.{BaseBytes, Represents}
+use Rattle.base_log.specs.{Names.folder_of, Names.log_of, Names.messages_of, Names.keys_of, Moments.KeepsOutside, Moments.RepresentsAlone, Standing.BaseBytes, Standing.Represents}
 use Rattle.base_log.proofs.Keeping.{on_disk_but_one, on_disk_quiet, outside_but_one, outside_quiet, outside_twice}
-use Rattle.base_log.proofs.Calls.{Made, but_one_call}
-use Rattle.base_log.proofs.Empty.{log_alone_represented}
-use Rattle.base_log.proofs.Made.{log_both, log_first, outside_both}
-use Rattle.base_log.proofs.Paths.{log_not_messages, log_not_keys, messages_in, messages_not_keys}
+use Rattle.base_log.proofs.{Calls.Made, Calls.but_one_call, Empty.log_alone_represented, Made.log_both, Made.log_first, Made.outside_both}
+use Rattle.base_log.proofs.{Paths.log_not_messages, Paths.log_not_keys, Paths.messages_in, Paths.messages_not_keys, making.make_files.Goals.After-create, making.make_files.Goals.After-create-2}
 use Rattle.base_log.proofs.making.make_files.Given as given
-use Rattle.base_log.proofs.making.make_files.Goals.{After-create, After-create-2}
 use Rattle.base_log.proofs.making.make_files.Goals as goal
 
 messages_made : (g : given.Over) (c : After-create g) → Made (g.D.Disk.state c.args.disk.now) (g.D.Disk.state c.create.new.self) (messages_of (folder_of c.args.names.now) 0)

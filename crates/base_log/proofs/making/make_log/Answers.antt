@@ -1,12 +1,8 @@
 use Rattle.std.proofs.Common.{List, ℕ, ◌∙◌, subst}
-use Rattle.disk_io.specs.Disk.{IsIn}
-use Rattle.disk_io.specs.Steps.{TornWrite, ChangesFile}
-use Rattle.disk_io.specs.Runs.{LeavesOnly, OneStepOn}
+use Rattle.disk_io.specs.{Disk.IsIn, Steps.TornWrite, Steps.ChangesFile, Runs.LeavesOnly, Runs.OneStepOn}
 use Rattle.disk_io.proofs.Moments.{nothing_twice}
 use Rattle.base_log.specs.Names.{folder_of, log_of}
-use Rattle.base_log.proofs.Calls.{Made}
-use Rattle.base_log.proofs.Paths.{log_in}
-use Rattle.base_log.proofs.Empty.{was_left, made_run, named_run, gate_run}
+use Rattle.base_log.proofs.{Calls.Made, Paths.log_in, Empty.was_left, Empty.made_run, Empty.named_run, Empty.gate_run}
 use Rattle.base_log.proofs.making.make_log.Goals as goal
 
 pub returns-in_err-settle_all-clause-any_moment : goal.returns-in_err-settle_all-clause-any_moment

@@ -1,20 +1,14 @@
 use Rattle.std.proofs.Common.{List, ℕ, rules, ◌≡◌, ◌≢◌, ◌∙◌, inl, refl, ap, sym, subst, arith}
 use Rattle.std.specs.Prelude.{IsSome}
-use Rattle.disk_io.specs.Disk.{DiskState, Honestly}
+use Rattle.disk_io.specs.{Disk.DiskState, Disk.Honestly, Runs.ChangesNothing, Runs.LeavesOnly}
 use Rattle.disk_io.proofs.Moments.{then_nothing}
-use Rattle.disk_io.specs.Runs.{ChangesNothing, LeavesOnly}
-use Rattle.base_log.specs.Moments.{KeepsOutside}
 use Rattle.base_log.specs.Names.{AreNames, folder_of, log_of, messages_of, keys_of}
-use Rattle.base_log.specs.Opening.{HasFiles, RepresentsOrWasLeft}
-use Rattle.base_log.specs.Standing.{BaseBytes, base_at}
-use Rattle.base_log.specs.declared.log.CommitRecord.{CommitRecord}
-use Rattle.base_log.proofs.Keeping.{log_moved, outside_but_one, outside_quiet, outside_twice}
-use Rattle.base_log.proofs.Empty.{chained_alone, no_record}
+use Rattle.base_log.specs.{Moments.KeepsOutside, Opening.HasFiles, Opening.RepresentsOrWasLeft, Standing.BaseBytes, Standing.base_at, declared.log.CommitRecord.CommitRecord}
 use Rattle.base_log.proofs.Opened.{end_shut, end_recorded_base, files_others, files_settled, first_files, has_files, none_at, none_log, nothing_read}
 use Rattle.base_log.proofs.Paths.{log_in, messages_in, keys_in, messages_not_log, keys_not_log}
-use Rattle.base_log.proofs.Renewed.{same_base}
-use Rattle.base_log.proofs.opening.open.Given as given
+use Rattle.base_log.proofs.{Keeping.log_moved, Keeping.outside_but_one, Keeping.outside_quiet, Keeping.outside_twice, Empty.chained_alone, Empty.no_record, Renewed.same_base}
 use Rattle.base_log.proofs.opening.open.Goals.{After-make_files, After-settle_log}
+use Rattle.base_log.proofs.opening.open.Given as given
 use Rattle.base_log.proofs.opening.open.Goals as goal
 
 pub settle_log-requires-clause-ended : goal.settle_log-requires-clause-ended

@@ -1,18 +1,11 @@
 use Rattle.std.proofs.Common.{List, ℕ, ⊎_elim, arith}
-use Rattle.disk_io.specs.Disk.{DiskState, Honestly}
-use Rattle.disk_io.specs.Runs.{ChangesNothing, LeavesOnly}
+use Rattle.disk_io.specs.{Disk.DiskState, Disk.Honestly, Runs.ChangesNothing, Runs.LeavesOnly}
 use Rattle.disk_io.proofs.Moments.{nothing_twice}
-use Rattle.base_log.specs.Log.{IsShutAt}
-use Rattle.base_log.specs.Names.{folder_of, log_of}
-use Rattle.base_log.specs.Opening.{KeepsButOne, RepresentsOrWasLeft}
-use Rattle.base_log.specs.Standing.{BaseBytes, IsNew, Represents}
-use Rattle.base_log.proofs.Keeping.{but_one_quiet, but_one_twice, outside_quiet}
-use Rattle.base_log.proofs.Empty.{chained_quiet, represented_quiet, was_left}
-use Rattle.base_log.proofs.Opened.{made_read, new_few, shut_read, some_there}
-use Rattle.base_log.proofs.Paths.{log_in}
-use Rattle.base_log.proofs.Quiet.{new_quiet}
-use Rattle.base_log.proofs.opening.settle_log.Given as given
+use Rattle.base_log.specs.{Log.IsShutAt, Names.folder_of, Names.log_of, Opening.KeepsButOne, Opening.RepresentsOrWasLeft, Standing.BaseBytes, Standing.IsNew, Standing.Represents}
+use Rattle.base_log.proofs.{Keeping.but_one_quiet, Keeping.but_one_twice, Keeping.outside_quiet, Empty.chained_quiet, Empty.represented_quiet, Empty.was_left}
+use Rattle.base_log.proofs.{Opened.made_read, Opened.new_few, Opened.shut_read, Opened.some_there, Paths.log_in, Quiet.new_quiet}
 use Rattle.base_log.proofs.opening.settle_log.Goals.{After-make_log, After-sync}
+use Rattle.base_log.proofs.opening.settle_log.Given as given
 use Rattle.base_log.proofs.opening.settle_log.Goals as goal
 
 -- a run that changes no file but the log, and leaves the base that the folder represents

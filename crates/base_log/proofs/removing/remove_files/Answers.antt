@@ -1,16 +1,9 @@
 use Rattle.std.proofs.Common.{List, arith, ℕ, ◌≡◌, None, sym, ◌∙◌, subst}
 use Rattle.std.proofs.lemmas.Result.{on_ok_weaker}
 use Rattle.disk_io.proofs.Moments.{then_run}
-use Rattle.base_log.specs.AtRest.{IsAtRest}
-use Rattle.base_log.specs.Moments.{LeavesOutside, StagesOnly, RepresentsAlone}
-use Rattle.base_log.specs.Names.{IsOtherNumber, folder_of, keys_of, messages_of}
+use Rattle.base_log.specs.{AtRest.IsAtRest, Moments.LeavesOutside, Moments.StagesOnly, Moments.RepresentsAlone, Names.IsOtherNumber, Names.folder_of, Names.keys_of, Names.messages_of}
 use Rattle.base_log.specs.Standing.{BaseBytes, base_at}
-use Rattle.base_log.proofs.Keeping.{outside_twice}
-use Rattle.base_log.proofs.Calls.{cause_since}
-use Rattle.base_log.proofs.Empty.{alone_since}
-use Rattle.base_log.proofs.LeftOutside.{left_twice}
-use Rattle.base_log.proofs.Paths.{keys_others, messages_others, messages_not_keys}
-use Rattle.base_log.proofs.Removed.{base_others}
+use Rattle.base_log.proofs.{Keeping.outside_twice, Calls.cause_since, Empty.alone_since, LeftOutside.left_twice, Paths.keys_others, Paths.messages_others, Paths.messages_not_keys, Removed.base_others}
 use Rattle.base_log.proofs.removing.remove_files.Goals as goal
 
 pub remove_one-requires : goal.remove_one-requires

@@ -1,14 +1,10 @@
 use Rattle.std.proofs.Common.{List, arith, ℕ, rules, ◌∙◌}
 use Rattle.std.proofs.lemmas.Result.{on_ok_weaker}
-use Rattle.disk_io.specs.Disk.{IsIn}
-use Rattle.disk_io.specs.Steps.{TornRemoval}
+use Rattle.disk_io.specs.{Disk.IsIn, Steps.TornRemoval}
 use Rattle.disk_io.proofs.Moments.{then_nothing}
-use Rattle.base_log.specs.Moments.{RepresentsAlone}
-use Rattle.base_log.specs.Standing.{base_at}
-use Rattle.base_log.proofs.Keeping.{but_one_quiet, but_one_twice, outside_but_one}
-use Rattle.base_log.proofs.Calls.{but_one_call, cause_since}
-use Rattle.base_log.proofs.LeftOutside.{left_call, left_quiet, left_twice}
-use Rattle.base_log.proofs.Removed.{looked_run, not_there, removed_run, rest_others}
+use Rattle.base_log.specs.{Moments.RepresentsAlone, Standing.base_at}
+use Rattle.base_log.proofs.{Keeping.but_one_quiet, Keeping.but_one_twice, Keeping.outside_but_one, Calls.but_one_call, Calls.cause_since}
+use Rattle.base_log.proofs.{LeftOutside.left_call, LeftOutside.left_quiet, LeftOutside.left_twice, Removed.looked_run, Removed.not_there, Removed.removed_run, Removed.rest_others}
 use Rattle.base_log.proofs.removing.remove_one.Goals as goal
 
 pub returns-in_err-exists : goal.returns-in_err-exists

@@ -1,19 +1,10 @@
 use Rattle.std.proofs.Common.{◌≡◌, ◌≤◌, List, ℕ, ap, length, sym, subst, ◌∙◌, arith}
 use Rattle.std.specs.Prelude.{IsSome}
-use Rattle.disk_io.specs.Disk.{bytes_in}
-use Rattle.disk_io.specs.Steps.{IsWrittenAt, TornWrite}
-use Rattle.base_log.specs.AtRest.{IsStaged}
-use Rattle.base_log.specs.Growing.{counted, file_of}
-use Rattle.base_log.specs.Moments.{LeavesOutside, StagesOnly}
-use Rattle.base_log.specs.Names.{folder_of}
-use Rattle.base_log.specs.Standing.{base_at}
-use Rattle.base_log.specs.declared.log.CommitRecord.{CommitRecord}
-use Rattle.base_log.proofs.Keeping.{outside_kept}
-use Rattle.base_log.proofs.Calls.{Wrote, others_kept}
+use Rattle.disk_io.specs.{Disk.bytes_in, Steps.IsWrittenAt, Steps.TornWrite}
+use Rattle.base_log.specs.{AtRest.IsStaged, Growing.counted, Growing.file_of, Moments.LeavesOutside, Moments.StagesOnly, Names.folder_of, Standing.base_at, declared.log.CommitRecord.CommitRecord}
 use Rattle.base_log.proofs.Growing.{file_alone, file_inside, file_long, file_named, file_there, grown_next, grown_run, grown_staged}
-use Rattle.base_log.proofs.LeftOutside.{left_call}
+use Rattle.base_log.proofs.{Keeping.outside_kept, Calls.Wrote, Calls.others_kept, LeftOutside.left_call, staging.stage_bytes.Goals.After-counted, staging.stage_bytes.Goals.After-write_at}
 use Rattle.base_log.proofs.staging.stage_bytes.Given as given
-use Rattle.base_log.proofs.staging.stage_bytes.Goals.{After-counted, After-write_at}
 use Rattle.base_log.proofs.staging.stage_bytes.Goals as goal
 
 -- the path that is written

@@ -1,11 +1,10 @@
 use Rattle.std.proofs.Common.{◌≡◌, ◌+◌, ◌/◌, ◌<◌, List, length, arith, [], ◌∷◌, ◌++◌, sym, ap, subst, ◌∙◌}
-use Rattle.std.specs.Prelude.{Contains}
 use Rattle.std.proofs.lemmas.List.Elements.{Contains-append_left}
-use Rattle.base_store.specs.Expected.{are_set, place_in}
-use Rattle.base_store.specs.declared.expected.Place.{Place}
+use Rattle.std.specs.Prelude.{Contains}
+use Rattle.base_store.specs.{Expected.are_set, Expected.place_in, declared.expected.Place.Place}
 use Rattle.base_store.proofs.Found.{AreOnly, HasAllSet, added_one, only_more, passed_one}
-use Rattle.base_store.proofs.expected.find_all.Goals as goal
 use Rattle.base_store.proofs.expected.find_all.Goals.{then-are_set+in_ok-push, else-are_set}
+use Rattle.base_store.proofs.expected.find_all.Goals as goal
 
 pub returns-in_err-push-clause-kept : goal.returns-in_err-push-clause-kept
 returns-in_err-push-clause-kept c = λ p had. subst (λ (l : List Place). Contains l p) (sym c.in_err-push.ensures.items) (c.entries.invariant.kept p had)

@@ -1,5 +1,4 @@
-use Rattle.std.proofs.Common.{◌∙◌, sym, arith}
-use Rattle.std.proofs.lemmas.Result.{on_ok_weaker}
+use Rattle.std.proofs.{Common.◌∙◌, Common.sym, Common.arith, lemmas.Result.on_ok_weaker}
 use Rattle.cmd_check.proofs.Assumed.{assumed_added, not_so, nothing_added}
 use Rattle.cmd_check.proofs.assuming.push_assumed.Goals as goal
 

@@ -1,5 +1,4 @@
-use Rattle.std.proofs.Common.{List, get_or, sym}
-use Rattle.std.proofs.lemmas.List.{get_or_default}
+use Rattle.std.proofs.{Common.List, Common.get_or, Common.sym, lemmas.List.get_or_default}
 use Rattle.echo_addr.specs.declared.address.Address.{Address}
 use Rattle.echo_links.specs.LinkLines.{no_address}
 use Rattle.cmd_check.proofs.Assumed.{each_more, each_none}

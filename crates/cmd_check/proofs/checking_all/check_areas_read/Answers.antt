@@ -1,7 +1,6 @@
 use Rattle.std.proofs.Common.{◌∙◌, Global, inl, List, map, refl, subst, sym, Vec, ℕ}
+use Rattle.std.proofs.lemmas.{List.length-map, Result.err_from_is_err_and}
 use Rattle.std.specs.Option.{option_copied}
-use Rattle.std.proofs.lemmas.List.{length-map}
-use Rattle.std.proofs.lemmas.Result.{err_from_is_err_and}
 use Rattle.cmd_print.specs.Pushed.{Pushes}
 use Rattle.cmd_check.specs.CheckingAll.{AreAreasChecked, verdicts_status}
 use Rattle.cmd_check.proofs.AllAreas.{were_checked}

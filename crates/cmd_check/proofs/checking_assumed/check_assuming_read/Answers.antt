@@ -1,11 +1,9 @@
 use Rattle.std.proofs.Common.{◌++◌, ◌⊎◌, ◌∙◌, None, refl, sym, subst, List, ℕ, arith}
 use Rattle.std.proofs.lemmas.Result.{err_from_is_err_and}
-use Rattle.cmd_status.specs.Devices.{output_of}
-use Rattle.cmd_status.specs.Inputs.{AreLinkFiles, IsFirstFaultGiven}
+use Rattle.cmd_status.specs.{Devices.output_of, Inputs.AreLinkFiles, Inputs.IsFirstFaultGiven}
 use Rattle.echo_links.specs.Links.{LinkFile}
 use Rattle.cmd_check.specs.CheckingAssumed.{IsAssumedFault, IsCheckedWith}
-use Rattle.cmd_check.proofs.Assumed.{behind_none, both_read, text_refused, was_assumed}
-use Rattle.cmd_check.proofs.Printing.{printed_as}
+use Rattle.cmd_check.proofs.{Assumed.behind_none, Assumed.both_read, Assumed.text_refused, Assumed.was_assumed, Printing.printed_as}
 use Rattle.cmd_check.proofs.checking_assumed.check_assuming_read.Goals as goal
 
 pub returns-in_err-read_more : goal.returns-in_err-read_more

@@ -1,5 +1,4 @@
-use Rattle.std.proofs.Common.{arith}
-use Rattle.std.proofs.lemmas.Result.{err_from_is_err_and}
+use Rattle.std.proofs.{Common.arith, lemmas.Result.err_from_is_err_and}
 use Rattle.cmd_status.proofs.Giving.{link_refused}
 use Rattle.cmd_check.proofs.Assumed.{read_none, text_read}
 use Rattle.cmd_check.proofs.checking_assumed.read_more.Goals as goal

@@ -1,9 +1,7 @@
 use Rattle.std.proofs.Common.{None, refl}
-use Rattle.cmd_status.specs.Devices.{output_of}
-use Rattle.cmd_status.specs.Inputs.{IsFirstFaultGiven}
+use Rattle.cmd_status.specs.{Devices.output_of, Inputs.IsFirstFaultGiven}
 use Rattle.cmd_check.specs.Checking.{IsCheckVerdict}
-use Rattle.cmd_check.proofs.Printing.{printed_as}
-use Rattle.cmd_check.proofs.PicturesWhy.{was_pictured_why}
+use Rattle.cmd_check.proofs.{Printing.printed_as, PicturesWhy.was_pictured_why}
 use Rattle.cmd_check.proofs.picturing_why.picture_why_read.Goals as goal
 
 pub returns : goal.returns

@@ -1,8 +1,6 @@
 use Rattle.std.proofs.Common.{None, refl}
-use Rattle.cmd_status.specs.Devices.{output_of}
-use Rattle.cmd_status.specs.Inputs.{IsFirstFaultGiven}
-use Rattle.cmd_check.proofs.Printing.{printed_as}
-use Rattle.cmd_check.proofs.Reasons.{was_reasoned}
+use Rattle.cmd_status.specs.{Devices.output_of, Inputs.IsFirstFaultGiven}
+use Rattle.cmd_check.proofs.{Printing.printed_as, Reasons.was_reasoned}
 use Rattle.cmd_check.proofs.reasoning.why_read.Goals as goal
 
 pub returns : goal.returns

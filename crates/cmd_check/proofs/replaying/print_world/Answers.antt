@@ -1,5 +1,4 @@
-use Rattle.std.proofs.Common.{arith}
-use Rattle.std.proofs.lemmas.Result.{err_from_is_err_and}
+use Rattle.std.proofs.{Common.arith, lemmas.Result.err_from_is_err_and}
 use Rattle.cmd_check.proofs.Replays.{world_alone}
 use Rattle.cmd_check.proofs.replaying.print_world.Goals as goal
 

@@ -1,5 +1,4 @@
-use Rattle.std.proofs.Common.{arith}
-use Rattle.std.proofs.lemmas.Result.{on_ok_weaker}
+use Rattle.std.proofs.{Common.arith, lemmas.Result.on_ok_weaker}
 use Rattle.cmd_check.proofs.Reasons.{why_pushed}
 use Rattle.cmd_check.proofs.why_text.push_why.Goals as goal
 

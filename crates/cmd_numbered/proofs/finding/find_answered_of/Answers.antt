@@ -1,5 +1,4 @@
-use Rattle.std.proofs.Common.{add-one, arith}
-use Rattle.std.proofs.lemmas.Result.{err_from_is_err_and}
+use Rattle.std.proofs.{Common.add-one, Common.arith, lemmas.Result.err_from_is_err_and}
 use Rattle.base_folder.proofs.Fetchings.{unread_since}
 use Rattle.cmd_numbered.proofs.finding.find_answered_of.Goals as goal
 

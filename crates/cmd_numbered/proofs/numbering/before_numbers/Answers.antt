@@ -1,5 +1,4 @@
-use Rattle.std.proofs.Common.{arith, sym}
-use Rattle.std.proofs.lemmas.List.{take_all}
+use Rattle.std.proofs.{Common.arith, Common.sym, lemmas.List.take_all}
 use Rattle.cmd_numbered.proofs.numbering.before_numbers.Goals as goal
 
 pub returns-then-bytes-lt164 : goal.returns-then-bytes-lt164

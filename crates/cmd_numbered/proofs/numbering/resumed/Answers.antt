@@ -1,7 +1,5 @@
 use Rattle.std.proofs.Common.{◌≡◌, ◌∙◌, ◌+◌, ℕ, Bool, List, Option, add-one, ap, arith, option_copied, slice_get}
-use Rattle.base_folder.proofs.Fetchings.{unread_since}
-use Rattle.base_folder.proofs.Lookings.{err_is}
-use Rattle.base_folder.proofs.Readings.{looks_on}
+use Rattle.base_folder.proofs.{Fetchings.unread_since, Lookings.err_is, Readings.looks_on}
 use Rattle.std.specs.Prelude.{if◌then◌else◌}
 use Rattle.echo_filed.specs.Filed.{Filed}
 use Rattle.cmd_numbered.specs.Numbered.{is_last, resumed}

@@ -1,7 +1,6 @@
 use Rattle.std.proofs.Common.{◌≡◌, ◌∙◌, ◌<◌, arith, length, option_copied}
 use Rattle.std.specs.Prelude.{min}
-use Rattle.base_folder.proofs.Fetchings.{unread_since}
-use Rattle.base_folder.proofs.Lookings.{err_is}
+use Rattle.base_folder.proofs.{Fetchings.unread_since, Lookings.err_is}
 use Rattle.echo_toss.proofs.Resendings.{copies_of, next_resent}
 use Rattle.cmd_numbered.proofs.Resendings.{added_at}
 use Rattle.cmd_numbered.proofs.resending.copies_of.Goals as goal

@@ -1,6 +1,5 @@
 use Rattle.std.proofs.Common.{ap, append-nil, append_assoc, arith, length, ⊎_elim}
-use Rattle.std.proofs.lemmas.Bool.{cases_lt, true≢false}
-use Rattle.std.proofs.lemmas.List.{nil_from_length}
+use Rattle.std.proofs.lemmas.{Bool.cases_lt, Bool.true≢false, List.nil_from_length}
 use Rattle.cmd_show.proofs.area_counts.push_counts.Goals as goal
 
 pub areas-smaller : goal.areas-smaller

@@ -1,5 +1,4 @@
-use Rattle.cmd_status.specs.Devices.{output_of}
-use Rattle.cmd_status.specs.Inputs.{IsBaseFault}
+use Rattle.cmd_status.specs.{Devices.output_of, Inputs.IsBaseFault}
 use Rattle.std.proofs.Common.{Some, refl}
 use Rattle.cmd_show.specs.Listing.{IsBaseListed, IsListed}
 use Rattle.cmd_show.proofs.Fetchings.{in_pieces}

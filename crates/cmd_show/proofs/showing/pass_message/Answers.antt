@@ -1,7 +1,5 @@
-use Rattle.std.proofs.Common.{arith}
-use Rattle.std.proofs.lemmas.Result.{err_from_is_err_and}
-use Rattle.cmd_show.proofs.Printed.{message_passed}
-use Rattle.cmd_show.proofs.Pushed.{added_behind}
+use Rattle.std.proofs.{Common.arith, lemmas.Result.err_from_is_err_and}
+use Rattle.cmd_show.proofs.{Printed.message_passed, Pushed.added_behind}
 use Rattle.cmd_show.proofs.showing.pass_message.Goals as goal
 
 pub returns-in_err-push_message : goal.returns-in_err-push_message

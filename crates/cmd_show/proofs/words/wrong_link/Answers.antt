@@ -1,7 +1,5 @@
-use Rattle.std.proofs.Common.{◌∙◌, arith, sym}
-use Rattle.std.specs.List.{list_any}
-use Rattle.std.specs.Ordering.{is_eq}
-use Rattle.std.proofs.lemmas.Bool.{not-false, not-true}
+use Rattle.std.proofs.{Common.◌∙◌, Common.arith, Common.sym, lemmas.Bool.not-false, lemmas.Bool.not-true}
+use Rattle.std.specs.{List.list_any, Ordering.is_eq}
 use Rattle.echo_addr.specs.Entries.{tokens}
 use Rattle.echo_links.specs.Found.{address_order}
 use Rattle.cmd_show.proofs.WrongWords.{link_bad, link_repeated, link_seen, links_right, links_unseen}

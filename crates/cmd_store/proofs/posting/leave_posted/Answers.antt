@@ -1,9 +1,7 @@
-use Rattle.std.proofs.Common.{arith}
-use Rattle.std.proofs.lemmas.Result.{err_from_is_err_and}
+use Rattle.std.proofs.{Common.arith, lemmas.Result.err_from_is_err_and}
 use Rattle.cmd_status.proofs.Lines.{alone}
 use Rattle.base_store.proofs.Runs.{no_look}
-use Rattle.cmd_store.proofs.Commits.{looks_may}
-use Rattle.cmd_store.proofs.Printed.{prints_same}
+use Rattle.cmd_store.proofs.{Commits.looks_may, Printed.prints_same}
 use Rattle.cmd_store.proofs.posting.leave_posted.Goals as goal
 
 pub returns-in_err-push_posted-clause-printed : goal.returns-in_err-push_posted-clause-printed

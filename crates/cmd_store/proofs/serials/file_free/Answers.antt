@@ -1,6 +1,5 @@
-use Rattle.std.proofs.Common.{arith}
+use Rattle.std.proofs.{Common.arith, lemmas.Result.err_from_is_err_and}
 use Rattle.cmd_store.proofs.FreePostings.{filed_first, looks_known, none_looked, one_more_looked, refused_known, refused_on}
-use Rattle.std.proofs.lemmas.Result.{err_from_is_err_and}
 use Rattle.echo_toss.proofs.Bounds.{past_looked, past_wider}
 use Rattle.cmd_store.proofs.serials.file_free.Goals as goal
 

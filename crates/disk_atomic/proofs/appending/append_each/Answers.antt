@@ -2,10 +2,7 @@ use Rattle.std.proofs.Common.{◌≡◌, ◌∙◌, ◌<◌, ◌++◌, List, ℕ
 use Rattle.std.proofs.lemmas.List.{get_or_default}
 use Rattle.disk_io.specs.Fixed.{AreBytes}
 use Rattle.disk_atomic.specs.Outgoing.{AreApart, IsStagingOne, SendsBytes, staged_in}
-use Rattle.disk_atomic.proofs.Behind.{all_grow, one_longer, still_same}
-use Rattle.disk_atomic.proofs.Changes.{then_only}
-use Rattle.disk_atomic.proofs.Each.{behind}
-use Rattle.disk_atomic.proofs.Packets.{apart_back, nobody, staging_one}
+use Rattle.disk_atomic.proofs.{Behind.all_grow, Behind.one_longer, Behind.still_same, Changes.then_only, Each.behind, Packets.apart_back, Packets.nobody, Packets.staging_one}
 use Rattle.disk_atomic.proofs.appending.append_each.Goals as goal
 
 pub returns-in_err-append_piece-clause-changes : goal.returns-in_err-append_piece-clause-changes

@@ -1,12 +1,8 @@
 -- The files of the packets up to here have their pieces, and the others are as they were.
 use Rattle.std.proofs.Common.{◌≡◌, ◌<◌, ◌≤◌, ℕ, get_or, length}
-use Rattle.std.specs.Prelude.{All}
-use Rattle.std.specs.List.{AllWithin}
-use Rattle.disk_io.specs.Disk.{Honestly}
-use Rattle.disk_io.specs.Runs.{KeepsNamed}
-use Rattle.disk_atomic.specs.Changes.{ChangesOnly}
-use Rattle.disk_atomic.specs.Outgoing.{CanGrowStaging, IsLonger, IsStagingOne, SendsBytes}
-use Rattle.disk_atomic.specs.declared.outgoing.Outgoing.{Outgoing}
+use Rattle.std.specs.{Prelude.All, List.AllWithin}
+use Rattle.disk_io.specs.{Disk.Honestly, Runs.KeepsNamed}
+use Rattle.disk_atomic.specs.{Changes.ChangesOnly, Outgoing.CanGrowStaging, Outgoing.IsLonger, Outgoing.IsStagingOne, Outgoing.SendsBytes, declared.outgoing.Outgoing.Outgoing}
 use Rattle.disk_atomic.proofs.appending.append_each.Given as goal
 
 abbrev pub invariant-packets : goal.invariant-packets

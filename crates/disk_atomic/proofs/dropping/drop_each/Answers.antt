@@ -1,9 +1,7 @@
-use Rattle.std.proofs.Common.{◌<◌, arith, get_or, length}
-use Rattle.std.proofs.lemmas.List.Elements.{AllWithin-from_all}
+use Rattle.std.proofs.{Common.◌<◌, Common.arith, Common.get_or, Common.length, lemmas.List.Elements.AllWithin-from_all}
 use Rattle.disk_atomic.specs.Outgoing.{AreApart, IsStagingOne, IsStagingGone, IsStagingNamed}
-use Rattle.disk_atomic.proofs.Changes.{only_start, then_only}
-use Rattle.disk_atomic.proofs.Each.{ahead, among, behind, here}
 use Rattle.disk_atomic.proofs.Packets.{apart_back, staging_one, gone_stays, named_stays, nobody}
+use Rattle.disk_atomic.proofs.{Changes.only_start, Changes.then_only, Each.ahead, Each.among, Each.behind, Each.here}
 use Rattle.disk_atomic.proofs.dropping.drop_each.Goals as goal
 
 pub packets-init : goal.packets-init

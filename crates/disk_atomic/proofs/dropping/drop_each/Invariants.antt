@@ -1,9 +1,8 @@
 -- The earlier packets have no staging files, and the later ones are unchanged.
 use Rattle.std.proofs.Common.{◌≤◌, length}
 use Rattle.std.specs.List.{AllWithin}
-use Rattle.disk_atomic.specs.Changes.{ChangesOnly}
+use Rattle.disk_atomic.specs.{Changes.ChangesOnly, Outgoing.IsStagingOne, Outgoing.IsStagingGone, Outgoing.IsStagingNamed}
 use Rattle.disk_io.specs.Disk.{Honestly}
-use Rattle.disk_atomic.specs.Outgoing.{IsStagingOne, IsStagingGone, IsStagingNamed}
 use Rattle.disk_atomic.proofs.dropping.drop_each.Given as goal
 
 abbrev pub invariant-packets : goal.invariant-packets

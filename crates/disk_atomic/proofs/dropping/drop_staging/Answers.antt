@@ -1,11 +1,7 @@
 use Rattle.std.proofs.Common.{◌≡◌, get_or, inl, inr, sym, arith}
-use Rattle.disk_atomic.specs.Outgoing.{IsAtStaging, IsStagingOne}
-use Rattle.disk_atomic.specs.Changes.{ChangesOnly}
-use Rattle.disk_atomic.proofs.Changes.{only_nothing, then_only, wider}
-use Rattle.disk_atomic.proofs.Each.{among}
-use Rattle.disk_atomic.proofs.Whole.{on_ok_any}
+use Rattle.disk_atomic.specs.{Outgoing.IsAtStaging, Outgoing.IsStagingOne, Changes.ChangesOnly}
+use Rattle.disk_atomic.proofs.{Changes.only_nothing, Changes.then_only, Changes.wider, Each.among, Whole.on_ok_any, dropping.drop_staging.Goals.After-drop_one}
 use Rattle.disk_atomic.proofs.dropping.drop_staging.Given as given
-use Rattle.disk_atomic.proofs.dropping.drop_staging.Goals.{After-drop_one}
 use Rattle.disk_atomic.proofs.dropping.drop_staging.Goals as goal
 
 pub drop_each-requires-clause-named : goal.drop_each-requires-clause-named

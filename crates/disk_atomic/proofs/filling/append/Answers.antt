@@ -1,11 +1,8 @@
 use Rattle.std.proofs.Common.{◌≡◌, ◌+◌, List, ℕ, length, refl, arith}
-use Rattle.disk_io.specs.Disk.{bytes_in}
-use Rattle.disk_io.specs.Steps.{TornWrite}
+use Rattle.disk_io.specs.{Disk.bytes_in, Steps.TornWrite}
 use Rattle.disk_atomic.specs.Changes.{ChangesOnly}
-use Rattle.disk_atomic.proofs.Changes.{only_bytes}
-use Rattle.disk_atomic.proofs.Growing.{grown, written_behind}
+use Rattle.disk_atomic.proofs.{Changes.only_bytes, Growing.grown, Growing.written_behind, filling.append.Goals.After-write_at}
 use Rattle.disk_atomic.proofs.filling.append.Given as given
-use Rattle.disk_atomic.proofs.filling.append.Goals.{After-write_at}
 use Rattle.disk_atomic.proofs.filling.append.Goals as goal
 
 written : (g : given.Over) (c : After-write_at g) → ChangesOnly (λ m. m ≡ c.args.path.now) (g.D.Disk.state c.args.disk.now) (g.D.Disk.state c.write_at.new.self)

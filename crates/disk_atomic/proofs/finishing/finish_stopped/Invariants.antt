@@ -1,10 +1,8 @@
 use Rattle.std.proofs.Common.{◌≡◌, ◌≤◌, true, false, length}
-use Rattle.std.specs.Prelude.{All}
-use Rattle.std.specs.List.{AllWithin}
-use Rattle.disk_io.specs.Disk.{Honestly}
-use Rattle.disk_io.specs.Runs.{LeavesOnly, OneStepOn}
-use Rattle.disk_atomic.specs.Changes.{ChangesOnly}
+use Rattle.std.specs.{Prelude.All, List.AllWithin}
+use Rattle.disk_io.specs.{Disk.Honestly, Runs.LeavesOnly, Runs.OneStepOn}
 use Rattle.disk_atomic.specs.Finishing.{AreNamed, IsFreeOf, IsOfLeft, IsOver, KeepsFile}
+use Rattle.disk_atomic.specs.Changes.{ChangesOnly}
 use Rattle.disk_atomic.proofs.Ended.{FinishesSome, IsSameLeft}
 use Rattle.disk_atomic.proofs.finishing.finish_stopped.Given as goal
 

@@ -1,7 +1,6 @@
 use Rattle.std.proofs.Common.{◌≡◌, ◌∙◌, ◌+◌, ◌++◌, List, ℕ, ap, arith, drop, sym, take}
 use Rattle.disk_io.specs.Disk.{bytes_in}
-use Rattle.disk_atomic.proofs.Changes.{only_start, then_only}
-use Rattle.disk_atomic.proofs.Parts.{part_more, part_none}
+use Rattle.disk_atomic.proofs.{Changes.only_start, Changes.then_only, Parts.part_more, Parts.part_none}
 use Rattle.disk_atomic.proofs.keeping.copy_part.Goals as goal
 
 pub pieces-init : goal.pieces-init

@@ -1,7 +1,6 @@
 -- The copy has the earlier bytes.
 use Rattle.std.proofs.Common.{◌≡◌, ◌-◌, ◌≤◌, ◌++◌, take, drop}
-use Rattle.disk_io.specs.Disk.{Honestly, bytes_in}
-use Rattle.disk_io.specs.Runs.{KeepsNamed}
+use Rattle.disk_io.specs.{Disk.Honestly, Disk.bytes_in, Runs.KeepsNamed}
 use Rattle.disk_atomic.specs.Changes.{ChangesOnly, IsGrowing}
 use Rattle.disk_atomic.proofs.keeping.copy_part.Given as goal
 

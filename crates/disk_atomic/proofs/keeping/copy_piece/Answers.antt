@@ -1,7 +1,5 @@
-use Rattle.std.proofs.Common.{◌≡◌, List, ℕ, arith}
-use Rattle.std.proofs.lemmas.Result.{on_ok_weaker}
-use Rattle.disk_atomic.proofs.Changes.{only_nothing, then_only}
-use Rattle.disk_atomic.proofs.Parts.{still_grows}
+use Rattle.std.proofs.{Common.◌≡◌, Common.List, Common.ℕ, Common.arith, lemmas.Result.on_ok_weaker}
+use Rattle.disk_atomic.proofs.{Changes.only_nothing, Changes.then_only, Parts.still_grows}
 use Rattle.disk_atomic.proofs.keeping.copy_piece.Goals as goal
 
 pub append-requires : goal.append-requires

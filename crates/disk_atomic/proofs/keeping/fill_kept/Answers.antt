@@ -1,8 +1,5 @@
-use Rattle.std.proofs.Common.{◌≡◌, List, ℕ, arith}
-use Rattle.std.proofs.lemmas.Result.{on_ok_weaker}
-use Rattle.disk_atomic.proofs.Changes.{only_nothing, then_only}
-use Rattle.disk_atomic.proofs.Parts.{all_on_disk}
-use Rattle.disk_atomic.proofs.Whole.{on_ok_any}
+use Rattle.std.proofs.{Common.◌≡◌, Common.List, Common.ℕ, Common.arith, lemmas.Result.on_ok_weaker}
+use Rattle.disk_atomic.proofs.{Changes.only_nothing, Changes.then_only, Parts.all_on_disk, Whole.on_ok_any}
 use Rattle.disk_atomic.proofs.keeping.fill_kept.Goals as goal
 
 pub sync-requires : goal.sync-requires

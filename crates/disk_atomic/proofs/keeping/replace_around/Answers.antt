@@ -1,17 +1,11 @@
 use Rattle.std.proofs.Common.{◌≡◌, ◌⊎◌, inl, ℕ, List, arith}
 use Rattle.std.proofs.lemmas.Result.{on_ok_weaker}
-use Rattle.disk_io.specs.Disk.{bytes_in}
-use Rattle.disk_io.specs.Runs.{LeavesOnly, OneStepOn}
+use Rattle.disk_io.specs.{Disk.bytes_in, Runs.LeavesOnly, Runs.OneStepOn}
 use Rattle.disk_io.proofs.Moments.{then_nothing}
-use Rattle.disk_atomic.specs.Changes.{ChangesOnly}
-use Rattle.disk_atomic.specs.Keeping.{kept_bytes}
-use Rattle.disk_atomic.specs.Replacing.{Replaces}
-use Rattle.disk_atomic.proofs.Changes.{only_nothing, then_only, weaker_steps, wider}
-use Rattle.disk_atomic.proofs.Parts.{on_disk_as}
-use Rattle.disk_atomic.proofs.Replaced.{not_yet, renamed_only, replaced_run}
-use Rattle.disk_atomic.proofs.Whole.{some_is_there}
+use Rattle.disk_atomic.specs.{Changes.ChangesOnly, Keeping.kept_bytes, Replacing.Replaces}
+use Rattle.disk_atomic.proofs.{Changes.only_nothing, Changes.then_only, Changes.weaker_steps, Changes.wider, Parts.on_disk_as, Replaced.not_yet, Replaced.renamed_only, Replaced.replaced_run}
+use Rattle.disk_atomic.proofs.{Whole.some_is_there, keeping.replace_around.Goals.After-rename}
 use Rattle.disk_atomic.proofs.keeping.replace_around.Given as given
-use Rattle.disk_atomic.proofs.keeping.replace_around.Goals.{After-rename}
 use Rattle.disk_atomic.proofs.keeping.replace_around.Goals as goal
 
 pub rename-requires-clause-there : goal.rename-requires-clause-there

@@ -1,7 +1,6 @@
 use Rattle.std.proofs.Common.{◌≡◌, ◌∙◌, ◌++◌, List, ℕ, ap, drop, sym, take, arith}
 use Rattle.disk_io.specs.Disk.{bytes_in}
-use Rattle.disk_atomic.proofs.Changes.{then_only}
-use Rattle.disk_atomic.proofs.Parts.{all_kept, part_still}
+use Rattle.disk_atomic.proofs.{Changes.then_only, Parts.all_kept, Parts.part_still}
 use Rattle.disk_atomic.proofs.keeping.write_kept.Goals as goal
 
 pub copy_part-requires-clause-part : goal.copy_part-requires-clause-part

@@ -1,7 +1,6 @@
-use Rattle.std.proofs.Common.{◌∙◌, arith}
+use Rattle.std.proofs.Common.{◌∙◌, arith, ap}
 use Rattle.disk_atomic.proofs.Whole.{same_files}
 use Rattle.disk_io.specs.Disk.{bytes_in}
-use Rattle.std.proofs.Common.{ap}
 use Rattle.disk_atomic.proofs.naming.are_same.Goals as goal
 
 pub read_file-requires-2 : goal.read_file-requires-2

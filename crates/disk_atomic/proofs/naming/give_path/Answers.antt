@@ -1,7 +1,5 @@
-use Rattle.std.proofs.Common.{◌∙◌, true, false, arith}
-use Rattle.std.proofs.lemmas.Result.{IfOk-weaker}
-use Rattle.disk_atomic.proofs.Named.{gives_quiet}
-use Rattle.disk_atomic.proofs.Whole.{none_is_not_there, on_ok_any, there_unless}
+use Rattle.std.proofs.{Common.◌∙◌, Common.true, Common.false, Common.arith, lemmas.Result.IfOk-weaker}
+use Rattle.disk_atomic.proofs.{Named.gives_quiet, Whole.none_is_not_there, Whole.on_ok_any, Whole.there_unless}
 use Rattle.disk_atomic.proofs.naming.give_path.Goals as goal
 
 pub has_both-requires-clause-staging_there : goal.has_both-requires-clause-staging_there

@@ -1,13 +1,8 @@
 use Rattle.std.proofs.Common.{◌≡◌, ◌⊎◌, inl, ◌∙◌, ℕ, List, refl, arith}
-use Rattle.disk_io.specs.Disk.{Honestly}
-use Rattle.disk_io.specs.Steps.{TornRemoval}
-use Rattle.disk_io.specs.Runs.{LeavesOnly, OneStepOn}
-use Rattle.disk_atomic.specs.Changes.{ChangesOnly}
-use Rattle.disk_atomic.specs.Naming.{Gives, Names}
-use Rattle.disk_atomic.proofs.Changes.{only_path, then_only}
-use Rattle.disk_atomic.proofs.Named.{gives_quiet, moved_run}
+use Rattle.disk_io.specs.{Disk.Honestly, Steps.TornRemoval, Runs.LeavesOnly, Runs.OneStepOn}
+use Rattle.disk_atomic.specs.{Changes.ChangesOnly, Naming.Gives, Naming.Names}
+use Rattle.disk_atomic.proofs.{Changes.only_path, Changes.then_only, Named.gives_quiet, Named.moved_run, naming.name_packet.Goals.After-remove, naming.name_packet.Goals.After-sync_folder_of}
 use Rattle.disk_atomic.proofs.naming.name_packet.Given as given
-use Rattle.disk_atomic.proofs.naming.name_packet.Goals.{After-remove, After-sync_folder_of}
 use Rattle.disk_atomic.proofs.naming.name_packet.Goals as goal
 
 pub remove-requires : goal.remove-requires

@@ -1,12 +1,9 @@
 use Rattle.std.proofs.Common.{◌<◌, ◌∙◌, get_or, inr, ⊎_elim, length, arith}
 use Rattle.std.proofs.lemmas.Bool.{and_parts}
-use Rattle.disk_atomic.specs.Naming.{HasItsPath, Names, NamesEach, IsWholeAtEither}
-use Rattle.disk_atomic.specs.Outgoing.{AreApart, IsOfOne, IsStaged, staged_in}
+use Rattle.disk_atomic.specs.{Naming.HasItsPath, Naming.Names, Naming.NamesEach, Naming.IsWholeAtEither, Outgoing.AreApart, Outgoing.IsOfOne, Outgoing.IsStaged, Outgoing.staged_in}
 use Rattle.disk_atomic.proofs.Anchors.{anchor_stays, anchored_now, has_path, has_path_stays, IsAnchored, IsSameAt, same_stays, staged_stays, whole_now, whole_stays}
-use Rattle.disk_atomic.proofs.Changes.{then_only, then_steps}
 use Rattle.disk_atomic.proofs.Each.{ahead, among, behind, each, here}
-use Rattle.disk_atomic.proofs.Packets.{apart_back, nobody, of_one}
-use Rattle.disk_atomic.proofs.Whole.{none_is_not_there, one_false}
+use Rattle.disk_atomic.proofs.{Changes.then_only, Changes.then_steps, Packets.apart_back, Packets.nobody, Packets.of_one, Whole.none_is_not_there, Whole.one_false}
 use Rattle.disk_atomic.proofs.naming.name_packets.Goals as goal
 
 pub returns-in_err-all-clause-changes : goal.returns-in_err-all-clause-changes

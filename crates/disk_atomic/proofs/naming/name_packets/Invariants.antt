@@ -1,11 +1,7 @@
 use Rattle.std.proofs.Common.{◌≡◌, ◌≤◌, true, false, length}
-use Rattle.std.specs.Prelude.{All}
-use Rattle.std.specs.List.{AllWithin}
-use Rattle.disk_io.specs.Disk.{Honestly}
-use Rattle.disk_io.specs.Runs.{LeavesOnly, OneStepOn}
-use Rattle.disk_atomic.specs.Changes.{ChangesOnly}
-use Rattle.disk_atomic.specs.Naming.{HasItsPath, NamesEach}
-use Rattle.disk_atomic.specs.Outgoing.{IsFree, IsOfOne, IsStaged, staged_in}
+use Rattle.std.specs.{Prelude.All, List.AllWithin}
+use Rattle.disk_io.specs.{Disk.Honestly, Runs.LeavesOnly, Runs.OneStepOn}
+use Rattle.disk_atomic.specs.{Changes.ChangesOnly, Naming.HasItsPath, Naming.NamesEach, Outgoing.IsFree, Outgoing.IsOfOne, Outgoing.IsStaged, Outgoing.staged_in}
 use Rattle.disk_atomic.proofs.Anchors.{IsAnchored, IsSameAt}
 use Rattle.disk_atomic.proofs.naming.name_packets.Given as goal
 

@@ -2,13 +2,10 @@ use Rattle.std.proofs.Common.{◌≡◌, ◌⊎◌, inl, ◌∙◌, ℕ, List, a
 use Rattle.std.proofs.lemmas.Result.{on_ok_weaker}
 use Rattle.disk_io.specs.Runs.{LeavesOnly, OneStepOn}
 use Rattle.disk_io.proofs.Moments.{then_nothing}
-use Rattle.disk_atomic.specs.Changes.{ChangesOnly}
-use Rattle.disk_atomic.specs.Replacing.{Replaces}
-use Rattle.disk_atomic.proofs.Changes.{only_nothing, then_only, weaker_steps, wider}
-use Rattle.disk_atomic.proofs.Replaced.{not_yet, renamed_only, replaced_run}
-use Rattle.disk_atomic.proofs.Whole.{some_is_there}
-use Rattle.disk_atomic.proofs.replacing.replace_file.Given as given
+use Rattle.disk_atomic.specs.{Changes.ChangesOnly, Replacing.Replaces}
+use Rattle.disk_atomic.proofs.{Changes.only_nothing, Changes.then_only, Changes.weaker_steps, Changes.wider, Replaced.not_yet, Replaced.renamed_only, Replaced.replaced_run, Whole.some_is_there}
 use Rattle.disk_atomic.proofs.replacing.replace_file.Goals.{After-rename}
+use Rattle.disk_atomic.proofs.replacing.replace_file.Given as given
 use Rattle.disk_atomic.proofs.replacing.replace_file.Goals as goal
 
 pub rename-requires-clause-there : goal.rename-requires-clause-there

@@ -1,6 +1,4 @@
-use Rattle.std.proofs.Common.{get_or, arith}
-use Rattle.std.proofs.lemmas.List.{get_or_default}
-use Rattle.std.proofs.lemmas.List.Elements.{at_read, AllWithin-more}
+use Rattle.std.proofs.{Common.get_or, Common.arith, lemmas.List.get_or_default, lemmas.List.Elements.at_read, lemmas.List.Elements.AllWithin-more}
 use Rattle.disk_io.proofs.Moments.{nothing_twice}
 use Rattle.disk_atomic.proofs.Whole.{none_is_not_there, not_there}
 use Rattle.disk_atomic.proofs.staged.are_free.Goals as goal

@@ -1,7 +1,6 @@
 use Rattle.std.proofs.Common.{◌≤◌}
 use Rattle.std.specs.List.{AllWithin}
-use Rattle.disk_io.specs.Disk.{Honestly}
-use Rattle.disk_io.specs.Runs.{ChangesNothing}
+use Rattle.disk_io.specs.{Disk.Honestly, Runs.ChangesNothing}
 use Rattle.disk_atomic.specs.Outgoing.{IsFree}
 use Rattle.disk_atomic.proofs.staged.are_free.Given as goal
 

@@ -1,13 +1,10 @@
 use Rattle.std.proofs.Common.{get_or, ◌<◌, length, arith, refl}
 use Rattle.std.proofs.lemmas.List.Elements.{AllWithin-from_all, AllWithin-none}
 use Rattle.disk_io.specs.Steps.{TornMaking}
-use Rattle.disk_atomic.specs.Changes.{ChangesOnly}
-use Rattle.disk_atomic.specs.Outgoing.{AreApart, IsStagingOne, IsMade, IsStagingNamed}
-use Rattle.disk_atomic.proofs.Changes.{only_path, only_start, then_only}
-use Rattle.disk_atomic.proofs.Each.{ahead, among, behind, here}
+use Rattle.disk_atomic.specs.{Changes.ChangesOnly, Outgoing.AreApart, Outgoing.IsStagingOne, Outgoing.IsMade, Outgoing.IsStagingNamed}
 use Rattle.disk_atomic.proofs.Packets.{apart_back, At, staging_one, made_stays, named_stays, nobody}
+use Rattle.disk_atomic.proofs.{Changes.only_path, Changes.only_start, Changes.then_only, Each.ahead, Each.among, Each.behind, Each.here, staged.make_files.Goals.After-create}
 use Rattle.disk_atomic.proofs.staged.make_files.Given as given
-use Rattle.disk_atomic.proofs.staged.make_files.Goals.{After-create}
 use Rattle.disk_atomic.proofs.staged.make_files.Goals as goal
 
 pub packets-init : goal.packets-init

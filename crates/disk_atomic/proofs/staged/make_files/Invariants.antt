@@ -1,7 +1,6 @@
 use Rattle.std.proofs.Common.{◌≤◌, length}
 use Rattle.std.specs.List.{AllWithin}
-use Rattle.disk_atomic.specs.Changes.{ChangesOnly}
-use Rattle.disk_atomic.specs.Outgoing.{IsStagingOne, IsMade, IsStagingNamed}
+use Rattle.disk_atomic.specs.{Changes.ChangesOnly, Outgoing.IsStagingOne, Outgoing.IsMade, Outgoing.IsStagingNamed}
 use Rattle.disk_atomic.proofs.staged.make_files.Given as goal
 
 abbrev pub invariant-packets : goal.invariant-packets

@@ -1,10 +1,7 @@
 use Rattle.std.proofs.Common.{◌∙◌, get_or}
-use Rattle.disk_atomic.specs.Changes.{ChangesOnly}
-use Rattle.disk_atomic.specs.Outgoing.{IsStagingOne}
-use Rattle.disk_atomic.proofs.Changes.{only_nothing, then_only}
-use Rattle.disk_atomic.proofs.Packets.{made_through, path_not_staging}
+use Rattle.disk_atomic.specs.{Changes.ChangesOnly, Outgoing.IsStagingOne}
+use Rattle.disk_atomic.proofs.{Changes.only_nothing, Changes.then_only, Packets.made_through, Packets.path_not_staging, staged.make_packets.Goals.After-sync_folder_of-2}
 use Rattle.disk_atomic.proofs.staged.make_packets.Given as given
-use Rattle.disk_atomic.proofs.staged.make_packets.Goals.{After-sync_folder_of-2}
 use Rattle.disk_atomic.proofs.staged.make_packets.Goals as goal
 
 changes : (g : given.Over) (c : After-sync_folder_of-2 g) → ChangesOnly (IsStagingOne c.args.packets.now) (g.D.Disk.state c.args.disk.now) (g.D.Disk.state c.sync_folder_of-2.new.disk)

@@ -2,10 +2,8 @@ use Rattle.std.proofs.Common.{◌≡◌, ℕ, List, length, refl, arith}
 use Rattle.std.proofs.lemmas.Result.{on_ok_weaker}
 use Rattle.disk_io.specs.Steps.{TornWrite}
 use Rattle.disk_atomic.specs.Changes.{ChangesOnly}
-use Rattle.disk_atomic.proofs.Changes.{only_bytes, only_nothing, then_only}
-use Rattle.disk_atomic.proofs.Whole.{written_whole}
+use Rattle.disk_atomic.proofs.{Changes.only_bytes, Changes.only_nothing, Changes.then_only, Whole.written_whole, staging.fill_file.Goals.After-write_at}
 use Rattle.disk_atomic.proofs.staging.fill_file.Given as given
-use Rattle.disk_atomic.proofs.staging.fill_file.Goals.{After-write_at}
 use Rattle.disk_atomic.proofs.staging.fill_file.Goals as goal
 
 written : (g : given.Over) (c : After-write_at g) → ChangesOnly (λ m. m ≡ c.args.path.now) (g.D.Disk.state c.args.disk.now) (g.D.Disk.state c.write_at.new.self)

@@ -2,9 +2,8 @@ use Rattle.std.proofs.Common.{◌≡◌, ◌∙◌, ℕ, List, refl}
 use Rattle.std.proofs.lemmas.Result.{on_ok_weaker}
 use Rattle.disk_io.specs.Steps.{TornMaking}
 use Rattle.disk_atomic.specs.Changes.{ChangesOnly}
-use Rattle.disk_atomic.proofs.Changes.{only_nothing, only_path, then_only}
+use Rattle.disk_atomic.proofs.{Changes.only_nothing, Changes.only_path, Changes.then_only, staging.stage_file.Goals.After-create, staging.stage_file.Goals.After-sync_folder_of-2}
 use Rattle.disk_atomic.proofs.staging.stage_file.Given as given
-use Rattle.disk_atomic.proofs.staging.stage_file.Goals.{After-create, After-sync_folder_of-2}
 use Rattle.disk_atomic.proofs.staging.stage_file.Goals as goal
 
 pub fill_file-requires-clause-empty : goal.fill_file-requires-clause-empty

@@ -1,10 +1,8 @@
 use Rattle.std.proofs.Common.{◌≡◌, ◌∙◌, refl, sym, arith}
 use Rattle.disk_io.specs.Steps.{TornRemoval}
 use Rattle.disk_atomic.specs.Trying.{Tries}
-use Rattle.disk_atomic.proofs.Changes.{only_path}
-use Rattle.disk_atomic.proofs.Tried.{tries_flushed, tries_linked, tries_only, tries_then}
+use Rattle.disk_atomic.proofs.{Changes.only_path, Tried.tries_flushed, Tried.tries_linked, Tried.tries_only, Tried.tries_then, trying.try_link.Goals.After-remove}
 use Rattle.disk_atomic.proofs.trying.try_link.Given as given
-use Rattle.disk_atomic.proofs.trying.try_link.Goals.{After-remove}
 use Rattle.disk_atomic.proofs.trying.try_link.Goals as goal
 
 pub link_path-requires : goal.link_path-requires

@@ -1,6 +1,5 @@
 use Rattle.std.proofs.Common.{◌≡◌, ◌-◌, ◌≤◌, length, take, drop}
-use Rattle.disk_io.specs.Disk.{Honestly, bytes_in}
-use Rattle.disk_io.specs.Runs.{ChangesNothing}
+use Rattle.disk_io.specs.{Disk.Honestly, Disk.bytes_in, Runs.ChangesNothing}
 use Rattle.disk_io.proofs.part.fill_part.Given as goal
 
 abbrev pub invariant-reads : goal.invariant-reads

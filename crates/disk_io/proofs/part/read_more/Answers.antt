@@ -1,7 +1,5 @@
 use Rattle.std.proofs.Common.{◌≡◌, ◌≤◌, ◌<◌, ℕ, ◌+◌, ◌-◌, List, ◌++◌, length, take, drop, sym, ◌∙◌, ap, arith, length-take}
-use Rattle.std.proofs.Math.Seq.{take-add}
-use Rattle.std.proofs.lemmas.List.{drop_at, drop-drop, take-append-le}
-use Rattle.std.proofs.lemmas.Slice.{take-put_mid_below}
+use Rattle.std.proofs.{Math.Seq.take-add, lemmas.List.drop_at, lemmas.List.drop-drop, lemmas.List.take-append-le, lemmas.Slice.take-put_mid_below}
 use borrow.Rule.Slice.PartMut.{put_mid, post_of}
 use Rattle.disk_io.specs.Disk.{bytes_in}
 use Rattle.disk_io.proofs.part.read_more.Goals as goal

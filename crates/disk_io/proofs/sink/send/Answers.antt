@@ -1,6 +1,5 @@
 use Rattle.std.proofs.Common.{◌∙◌, refl, ap, length, arith, length-drop}
-use Rattle.std.proofs.lemmas.List.{take_rest}
-use Rattle.std.proofs.KnownBytes.{Appends-nil}
+use Rattle.std.proofs.{lemmas.List.take_rest, KnownBytes.Appends-nil}
 use Rattle.disk_io.proofs.Moving.{Appends-more_of}
 use Rattle.disk_io.proofs.sink.send.Goals as goal
 

@@ -1,8 +1,6 @@
 use Rattle.std.proofs.Common.{length}
-use Rattle.disk_io.specs.Steps.{TornWrite, ChangesFile}
-use Rattle.disk_io.specs.Runs.{OneStepOn}
-use Rattle.disk_io.proofs.Moments.{one_call, then_nothing}
-use Rattle.disk_io.proofs.Tearing.{TornWrite-none, ChangesFile-none}
+use Rattle.disk_io.specs.{Steps.TornWrite, Steps.ChangesFile, Runs.OneStepOn}
+use Rattle.disk_io.proofs.{Moments.one_call, Moments.then_nothing, Tearing.TornWrite-none, Tearing.ChangesFile-none}
 use Rattle.disk_io.proofs.synced.write_synced.Goals as goal
 
 pub returns-in_err-write_at-clause-any_moment : goal.returns-in_err-write_at-clause-any_moment

@@ -1,5 +1,4 @@
-use Rattle.std.proofs.Common.{◌≡◌, arith, length}
-use Rattle.std.proofs.lemmas.List.{with_items_is}
+use Rattle.std.proofs.{Common.◌≡◌, Common.arith, Common.length, lemmas.List.with_items_is}
 use Rattle.disk_system.proofs.Inputs.{piece_read}
 use Rattle.disk_system.proofs.input.read_piece.Goals as goal
 

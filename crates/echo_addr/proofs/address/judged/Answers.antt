@@ -1,5 +1,4 @@
-use Rattle.std.proofs.Common.{arith}
-use Rattle.std.proofs.lemmas.Bool.{eqb-true, eqb-false, true≢false, true_from_ne_false}
+use Rattle.std.proofs.{Common.arith, lemmas.Bool.eqb-true, lemmas.Bool.eqb-false, lemmas.Bool.true≢false, lemmas.Bool.true_from_ne_false}
 use Rattle.echo_addr.proofs.Outcomes.{refusal_empty, refusal_shape, refusal_digits, outcome_refused, outcome_numbers, parts_test, Capped-from_parts}
 use Rattle.echo_addr.proofs.address.judged.Goals as goal
 

@@ -1,6 +1,4 @@
-use Rattle.std.proofs.lemmas.List.Filters.{dedup_is}
-use Rattle.std.proofs.lemmas.List.Kept.{Contains-dedup, Contains-from_dedup, IsStrictlySortedBy-dedup}
-use Rattle.std.proofs.lemmas.List.Sorted.{Contains-permutation, IsPermutation-sym}
+use Rattle.std.proofs.lemmas.List.{Filters.dedup_is, Kept.Contains-dedup, Kept.Contains-from_dedup, Kept.IsStrictlySortedBy-dedup, Sorted.Contains-permutation, Sorted.IsPermutation-sym}
 use Rattle.echo_addr.proofs.ascending.put_in_order.Goals as goal
 
 pub returns : goal.returns

@@ -1,7 +1,6 @@
 use Rattle.std.proofs.Common.{[], sym, subst}
 use Rattle.echo_addr.specs.ShortLines.{ShortLines}
-use Rattle.echo_addr.proofs.Runs.{one_spelling, nothing_written, ShortLines-nil}
-use Rattle.echo_addr.proofs.Spellings.{every_list}
+use Rattle.echo_addr.proofs.{Runs.one_spelling, Runs.nothing_written, Runs.ShortLines-nil, Spellings.every_list}
 use Rattle.echo_addr.proofs.laws.one_spelling.Goals as goal
 
 pub returns-clause-same : goal.returns-clause-same

@@ -1,7 +1,6 @@
 use Rattle.std.proofs.Common.{◌∙◌}
-use Rattle.echo_charset.proofs.Fronts.{hidden-more, shown-more}
+use Rattle.echo_charset.proofs.{Fronts.hidden-more, Fronts.shown-more, word.are_shown.Goals.then-all, word.are_shown.Goals.else-all}
 use Rattle.echo_charset.proofs.word.are_shown.Goals as goal
-use Rattle.echo_charset.proofs.word.are_shown.Goals.{then-all, else-all}
 
 pub loop-i-preserved : goal.loop-i-preserved
 loop-i-preserved c =

@@ -1,5 +1,4 @@
-use Rattle.std.proofs.Common.{◌≡◌, subst, ◌++◌}
-use Rattle.std.proofs.lemmas.Result.{on_ok_weaker}
+use Rattle.std.proofs.{Common.◌≡◌, Common.subst, Common.◌++◌, lemmas.Result.on_ok_weaker}
 use Rattle.echo_filed.specs.Filed.{Filed}
 use Rattle.echo_export.specs.JsonLine.{echo_members, found_members}
 use Rattle.echo_export.proofs.Joins.{joined}

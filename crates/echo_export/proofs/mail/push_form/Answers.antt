@@ -1,5 +1,4 @@
-use Rattle.std.proofs.Common.{ap, ◌++◌, ◌∙◌, codes}
-use Rattle.std.proofs.lemmas.Result.{on_ok_weaker}
+use Rattle.std.proofs.{Common.ap, Common.◌++◌, Common.◌∙◌, Common.codes, lemmas.Result.on_ok_weaker}
 use Rattle.echo_export.specs.HeaderText.{mail_charset}
 use Rattle.echo_export.proofs.Joins.{joined}
 use Rattle.echo_export.proofs.mail.push_form.Goals as goal

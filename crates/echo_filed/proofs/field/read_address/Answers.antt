@@ -1,5 +1,4 @@
-use Rattle.std.proofs.Common.{arith}
-use Rattle.std.proofs.lemmas.Result.{err_from_is_err_and}
+use Rattle.std.proofs.{Common.arith, lemmas.Result.err_from_is_err_and}
 use Rattle.echo_filed.specs.Fields.{IsSmall, address_bytes}
 use Rattle.echo_filed.proofs.Taken.{address_reads, address_whole, fixed_breaks}
 use Rattle.echo_filed.proofs.field.read_address.Goals as goal

@@ -1,5 +1,4 @@
-use Rattle.std.proofs.Common.{arith, get_or}
-use Rattle.std.proofs.lemmas.Result.{err_from_is_err_and}
+use Rattle.std.proofs.{Common.arith, Common.get_or, lemmas.Result.err_from_is_err_and}
 use Rattle.echo_filed.specs.Fields.{IsByte, one_byte}
 use Rattle.echo_filed.proofs.Taken.{fixed_breaks, byte_whole}
 use Rattle.echo_filed.proofs.field.read_byte.Goals as goal

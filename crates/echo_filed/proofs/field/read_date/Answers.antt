@@ -1,5 +1,4 @@
-use Rattle.std.proofs.Common.{arith, refl}
-use Rattle.std.proofs.lemmas.Result.{err_from_is_err_and}
+use Rattle.std.proofs.{Common.arith, Common.refl, lemmas.Result.err_from_is_err_and}
 use Rattle.echo_filed.specs.Fields.{HasLength, itself}
 use Rattle.echo_filed.proofs.Taken.{fixed_breaks}
 use Rattle.echo_filed.proofs.field.read_date.Goals as goal

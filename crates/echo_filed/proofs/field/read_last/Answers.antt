@@ -1,11 +1,9 @@
 use Rattle.std.proofs.Common.{◌≡◌, [], List, ℕ, Bool, Option, true, false, refl, subst, sym}
 use Rattle.std.proofs.lemmas.Result.{err_from_is_err_and}
 use Rattle.disk_io.specs.declared.fixed.Broken.{Broken}
-use Rattle.echo_filed.specs.Stored.{after_length, after_long_length}
 use Rattle.echo_filed.specs.Fields.{Breaks, IsLongString, IsShortString, LastFits, last_of}
-use Rattle.echo_filed.proofs.Layouts.{ends_first, ends_second, nothing_field}
-use Rattle.echo_filed.proofs.StoredFields.{short_field, text_field}
-use Rattle.echo_filed.proofs.Taken.{breaks_as, breaks_behind}
+use Rattle.echo_filed.specs.Stored.{after_length, after_long_length}
+use Rattle.echo_filed.proofs.{Layouts.ends_first, Layouts.ends_second, Layouts.nothing_field, StoredFields.short_field, StoredFields.text_field, Taken.breaks_as, Taken.breaks_behind}
 use Rattle.echo_filed.proofs.field.read_last.Goals as goal
 
 -- the same break, with the test under another name

@@ -1,7 +1,5 @@
-use Rattle.std.proofs.Common.{arith}
-use Rattle.std.proofs.lemmas.Result.{err_from_is_err_and}
-use Rattle.echo_filed.specs.Stored.{long, long_at}
-use Rattle.echo_filed.specs.Fields.{IsLong}
+use Rattle.std.proofs.{Common.arith, lemmas.Result.err_from_is_err_and}
+use Rattle.echo_filed.specs.{Stored.long, Stored.long_at, Fields.IsLong}
 use Rattle.echo_filed.proofs.Taken.{fixed_breaks, long_whole}
 use Rattle.echo_filed.proofs.field.read_long.Goals as goal
 

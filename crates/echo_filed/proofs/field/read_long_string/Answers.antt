@@ -1,5 +1,4 @@
-use Rattle.std.proofs.Common.{arith}
-use Rattle.std.proofs.lemmas.Result.{err_from_is_err_and}
+use Rattle.std.proofs.{Common.arith, lemmas.Result.err_from_is_err_and}
 use Rattle.std.specs.List.{flat_map}
 use Rattle.echo_filed.specs.Fields.{itself}
 use Rattle.echo_filed.proofs.Taken.{part_breaks}

@@ -1,7 +1,6 @@
 -- The source gave the earlier parts.
 use Rattle.std.proofs.Common.{◌≡◌, ◌+◌, length}
-use Rattle.std.specs.Io.KnownBytes.{Consumes}
-use Rattle.std.specs.List.{flat_map}
+use Rattle.std.specs.{Io.KnownBytes.Consumes, List.flat_map}
 use Rattle.echo_filed.specs.Fields.{itself}
 use Rattle.echo_filed.proofs.field.read_long_string.Given as goal
 

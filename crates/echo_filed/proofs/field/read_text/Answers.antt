@@ -1,8 +1,6 @@
 use Rattle.std.proofs.lemmas.Result.{err_from_is_err_and}
-use Rattle.echo_filed.specs.Stored.{after_long_length, long}
-use Rattle.echo_filed.specs.Fields.{IsLong, IsLongString}
-use Rattle.echo_filed.proofs.Layouts.{ends_length}
-use Rattle.echo_filed.proofs.Taken.{breaks_as, counted_reads}
+use Rattle.echo_filed.specs.{Stored.after_long_length, Stored.long, Fields.IsLong, Fields.IsLongString}
+use Rattle.echo_filed.proofs.{Layouts.ends_length, Taken.breaks_as, Taken.counted_reads}
 use Rattle.echo_filed.proofs.field.read_text.Goals as goal
 
 pub returns-in_err-size-clause-read : goal.returns-in_err-size-clause-read

@@ -1,5 +1,4 @@
-use Rattle.echo_filed.proofs.Keys.{stub_keeps_key, stub_of_stub}
-use Rattle.echo_filed.proofs.StubTests.{stub_reported}
+use Rattle.echo_filed.proofs.{Keys.stub_keeps_key, Keys.stub_of_stub, StubTests.stub_reported}
 use Rattle.echo_filed.proofs.laws.stub_laws.Goals as goal
 
 pub returns-clause-keep_keys : goal.returns-clause-keep_keys

@@ -1,8 +1,7 @@
 use Rattle.std.proofs.Common.{◌≡◌, ◌∙◌, ◌++◌, false, ap, sym}
 use Rattle.disk_io.proofs.Devices.{SendsAll-front, SendsAll-then, SendsFront-more}
 use Rattle.echo_packet.proofs.SentMessage.{SendsAll-as, SendsFront-as, Sends-at_err, Sends-behind}
-use Rattle.echo_filed.specs.Stored.{Second, stored_as, stored_bytes}
-use Rattle.echo_filed.specs.Sending.{front_bytes, strings_bytes}
+use Rattle.echo_filed.specs.{Stored.Second, Stored.stored_as, Stored.stored_bytes, Sending.front_bytes, Sending.strings_bytes}
 use Rattle.echo_filed.proofs.Sendings.{Sends-as, id_sent, last_sent, stored_parts}
 use Rattle.echo_filed.proofs.sending.send_message.Goals as goal
 

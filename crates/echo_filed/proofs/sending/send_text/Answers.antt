@@ -1,7 +1,6 @@
 use Rattle.std.proofs.Common.{arith}
 use Rattle.echo_packet.proofs.SentMessage.{Sends-at_err}
-use Rattle.echo_filed.specs.Written.{text_of}
-use Rattle.echo_filed.specs.Stored.{after_long_length}
+use Rattle.echo_filed.specs.{Written.text_of, Stored.after_long_length}
 use Rattle.echo_filed.proofs.Sendings.{SendsFront-none}
 use Rattle.echo_filed.proofs.sending.send_text.Goals as goal
 

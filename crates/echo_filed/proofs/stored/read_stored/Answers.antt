@@ -1,8 +1,7 @@
 use Rattle.std.proofs.lemmas.Result.{err_from_is_err_and}
 use Rattle.echo_filed.specs.Stored.{has_tag}
-use Rattle.echo_filed.proofs.Layouts.{byte_field, fixed_field}
 use Rattle.echo_filed.proofs.StoredFields.{address_field, from_date, from_first, from_second, from_sender, from_subject, last_field, short_field}
-use Rattle.echo_filed.proofs.StoredTaken.{last_breaks, last_had, stored_breaks, stored_had}
+use Rattle.echo_filed.proofs.{Layouts.byte_field, Layouts.fixed_field, StoredTaken.last_breaks, StoredTaken.last_had, StoredTaken.stored_breaks, StoredTaken.stored_had}
 use Rattle.echo_filed.proofs.Taken.{breaks_first, breaks_second, reads_both}
 use Rattle.echo_filed.proofs.stored.read_stored.Goals as goal
 

@@ -1,6 +1,4 @@
-use Rattle.std.proofs.Common.{length, sym, ◌∙◌, arith}
-use Rattle.std.proofs.lemmas.Bool.{eqb-false, eqb-true}
-use Rattle.std.proofs.Math.Bool.{and-true}
+use Rattle.std.proofs.{Common.length, Common.sym, Common.◌∙◌, Common.arith, lemmas.Bool.eqb-false, lemmas.Bool.eqb-true, Math.Bool.and-true}
 use Rattle.echo_text.specs.Lines.{msgid_word}
 use Rattle.echo_filed.specs.Filed.{id_line}
 use Rattle.echo_filed.proofs.LinesOfIds.{more_alone, none_alone, one_alone}

@@ -1,8 +1,6 @@
 use Rattle.std.proofs.Common.{◌∙◌, ◌==◌, ◌&&◌, ◌∷◌, [], length, ap, sym, Some, None}
-use Rattle.std.specs.Prelude.{bytes_eq, option_copied}
-use Rattle.std.specs.Cmp.Lexicographic.{pointwise}
-use Rattle.echo_text.specs.Lines.{msgid_word}
-use Rattle.echo_text.specs.Echo.{msgid_of}
+use Rattle.std.specs.{Prelude.bytes_eq, Prelude.option_copied, Cmp.Lexicographic.pointwise}
+use Rattle.echo_text.specs.{Lines.msgid_word, Echo.msgid_of}
 use Rattle.echo_filed.specs.Filed.{id_line}
 use Rattle.echo_filed.proofs.Left.{is_stub_reported}
 use Rattle.echo_filed.proofs.stub.is_stub.Goals as goal

@@ -1,7 +1,6 @@
 use Rattle.std.proofs.Common.{subst, sym, arith}
 use Rattle.echo_filed.specs.Filed.{IsFiled}
-use Rattle.echo_filed.proofs.Left.{left}
-use Rattle.echo_filed.proofs.Stubs.{stub_filed}
+use Rattle.echo_filed.proofs.{Left.left, Stubs.stub_filed}
 use Rattle.echo_filed.proofs.stub.leave.Goals as goal
 
 pub returns : goal.returns

@@ -1,13 +1,9 @@
 use Rattle.std.proofs.Common.{◌≡◌, ◌∙◌, ◌∷◌, [], List, ℕ, ap, subst, sym, arith}
-use Rattle.std.specs.Prelude.{option_copied}
-use Rattle.echo_text.specs.Lines.{msgid_word}
-use Rattle.std.specs.List.{All}
 use Rattle.std.proofs.lemmas.List.Elements.{All-head}
-use Rattle.echo_text.specs.Echo.{IsLine, msgid_of}
-use Rattle.echo_filed.specs.Filed.{IsFiled, id_line}
-use Rattle.echo_filed.specs.Stubs.{stub_of}
-use Rattle.echo_filed.proofs.Left.{copied_or, left_line}
-use Rattle.echo_filed.proofs.Stubs.{stub_filed}
+use Rattle.std.specs.{Prelude.option_copied, List.All}
+use Rattle.echo_text.specs.{Lines.msgid_word, Echo.IsLine, Echo.msgid_of}
+use Rattle.echo_filed.specs.{Filed.IsFiled, Filed.id_line, Stubs.stub_of}
+use Rattle.echo_filed.proofs.{Left.copied_or, Left.left_line, Stubs.stub_filed}
 use Rattle.echo_filed.proofs.stub.stub_lines.Goals as goal
 
 pub lines_of_id-requires : goal.lines_of_id-requires

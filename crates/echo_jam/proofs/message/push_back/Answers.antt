@@ -1,9 +1,6 @@
-use Rattle.std.proofs.Common.{ℕ, ◌++◌, ◌∙◌, ap}
-use Rattle.std.proofs.lemmas.Result.{on_ok_weaker}
-use Rattle.echo_filed.specs.Filed.{Filed}
-use Rattle.echo_filed.specs.Stored.{long}
-use Rattle.echo_jam.specs.JamMessage.{jam_attribute}
-use Rattle.echo_jam.specs.Moment.{seconds_of}
+use Rattle.std.proofs.{Common.ℕ, Common.◌++◌, Common.◌∙◌, Common.ap, lemmas.Result.on_ok_weaker}
+use Rattle.echo_filed.specs.{Filed.Filed, Stored.long}
+use Rattle.echo_jam.specs.{JamMessage.jam_attribute, Moment.seconds_of}
 use Rattle.echo_stored.proofs.Joins.{joined}
 use Rattle.echo_jam.proofs.message.push_back.Goals as goal
 

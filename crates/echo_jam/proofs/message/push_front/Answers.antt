@@ -1,5 +1,4 @@
-use Rattle.std.proofs.Common.{[], ◌∷◌}
-use Rattle.std.proofs.lemmas.Result.{on_ok_weaker}
+use Rattle.std.proofs.{Common.[], Common.◌∷◌, lemmas.Result.on_ok_weaker}
 use Rattle.echo_filed.specs.Stored.{long}
 use Rattle.echo_packet.specs.Header.{word}
 use Rattle.echo_stored.proofs.Joins.{joined}

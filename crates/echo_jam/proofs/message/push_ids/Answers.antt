@@ -1,7 +1,5 @@
-use Rattle.std.proofs.Common.{ℕ, ◌++◌, ◌∙◌, ap}
-use Rattle.std.proofs.lemmas.Result.{on_ok_weaker}
-use Rattle.echo_filed.specs.Filed.{Filed}
-use Rattle.echo_filed.specs.Stored.{long}
+use Rattle.std.proofs.{Common.ℕ, Common.◌++◌, Common.◌∙◌, Common.ap, lemmas.Result.on_ok_weaker}
+use Rattle.echo_filed.specs.{Filed.Filed, Stored.long}
 use Rattle.echo_text.specs.Echo.{msgid_of, reply_of}
 use Rattle.echo_jam.specs.JamMessage.{id_crc}
 use Rattle.echo_stored.proofs.Joins.{joined}

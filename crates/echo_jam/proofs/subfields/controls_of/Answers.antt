@@ -1,8 +1,7 @@
 use Rattle.std.proofs.Common.{◌++◌, ◌∙◌, sym}
 use Rattle.echo_jam.specs.Subfields.{control_line}
-use Rattle.echo_jam.proofs.Searches.{no_more, one_more, too_short}
+use Rattle.echo_jam.proofs.{Searches.no_more, Searches.one_more, Searches.too_short, subfields.controls_of.Goals.then-fields-test+else-rest-ge8, subfields.controls_of.Goals.else-fields-test}
 use Rattle.echo_jam.proofs.subfields.controls_of.Goals as goal
-use Rattle.echo_jam.proofs.subfields.controls_of.Goals.{then-fields-test+else-rest-ge8, else-fields-test}
 
 pub fields-preserved : goal.fields-preserved
 fields-preserved c =

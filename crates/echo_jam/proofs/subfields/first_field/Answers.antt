@@ -1,7 +1,7 @@
 use Rattle.std.proofs.Common.{◌∙◌, ap, Some, sym}
 use Rattle.echo_jam.proofs.Searches.{found_here, found_later, found_none, none_left}
-use Rattle.echo_jam.proofs.subfields.first_field.Goals as goal
 use Rattle.echo_jam.proofs.subfields.first_field.Goals.{then-fields-test+else-rest-ge8, else-fields-test}
+use Rattle.echo_jam.proofs.subfields.first_field.Goals as goal
 
 pub returns-then-field_kind-kind : goal.returns-then-field_kind-kind
 returns-then-field_kind-kind c =

@@ -1,8 +1,6 @@
-use Rattle.std.proofs.Common.{inr, subst, sym, arith}
-use Rattle.std.proofs.lemmas.Result.{err_from_is_err_and}
+use Rattle.std.proofs.{Common.inr, Common.subst, Common.sym, Common.arith, lemmas.Result.err_from_is_err_and}
 use Rattle.echo_links.specs.Links.{IsFile}
-use Rattle.echo_links.proofs.LinkFiles.{file_is_file}
-use Rattle.echo_links.proofs.LinkSteps.{file_bad, file_homeless, file_said}
+use Rattle.echo_links.proofs.{LinkFiles.file_is_file, LinkSteps.file_bad, LinkSteps.file_homeless, LinkSteps.file_said}
 use Rattle.echo_links.proofs.link_file.judged.Goals as goal
 
 pub returns-in_err-reading : goal.returns-in_err-reading

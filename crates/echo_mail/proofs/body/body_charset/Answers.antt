@@ -1,6 +1,5 @@
 use Rattle.std.proofs.Common.{◌∙◌, ap, codes}
-use Rattle.echo_mail.specs.Body.{value_in}
-use Rattle.echo_mail.specs.Content.{charset_of}
+use Rattle.echo_mail.specs.{Body.value_in, Content.charset_of}
 use Rattle.echo_mail.proofs.body.body_charset.Goals as goal
 
 pub returns : goal.returns

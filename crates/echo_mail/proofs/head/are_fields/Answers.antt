@@ -1,6 +1,5 @@
-use Rattle.std.proofs.Common.{ap, length, sym, ◌∙◌}
+use Rattle.std.proofs.{Common.ap, Common.length, Common.sym, Common.◌∙◌, lemmas.Bool.eqb-true}
 use Rattle.std.specs.List.{list_all}
-use Rattle.std.proofs.lemmas.Bool.{eqb-true}
 use Rattle.echo_text.proofs.TextLines.{no_lines}
 use Rattle.echo_mail.specs.Head.{is_field}
 use Rattle.echo_mail.proofs.head.are_fields.Goals as goal

@@ -1,6 +1,5 @@
 use Rattle.std.proofs.Common.{ap, length, map, sym, ◌++◌, ◌∙◌}
-use Rattle.std.proofs.lemmas.Bool.{eqb-true}
-use Rattle.std.proofs.lemmas.List.{append-nil}
+use Rattle.std.proofs.lemmas.{Bool.eqb-true, List.append-nil}
 use Rattle.echo_text.proofs.TextLines.{no_lines}
 use Rattle.echo_mail.specs.Head.{field_of}
 use Rattle.echo_mail.proofs.head.fields_of.Goals as goal

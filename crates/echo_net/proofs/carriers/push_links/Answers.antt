@@ -1,5 +1,4 @@
-use Rattle.std.proofs.Common.{arith}
-use Rattle.std.proofs.lemmas.List.{append-nil}
+use Rattle.std.proofs.{Common.arith, lemmas.List.append-nil}
 use Rattle.echo_net.proofs.Collected.{links_found}
 use Rattle.echo_net.proofs.carriers.push_links.Goals as goal
 

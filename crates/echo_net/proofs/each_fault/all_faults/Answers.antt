@@ -1,9 +1,7 @@
-use Rattle.std.proofs.Common.{arith, vec_len}
-use Rattle.std.proofs.lemmas.Bool.{eqb-true}
-use Rattle.echo_net.proofs.AllFaults.{no_items, with_graph, without_graph}
-use Rattle.echo_net.proofs.Drawings.{sound_where_none}
-use Rattle.echo_net.proofs.each_fault.all_faults.Goals as goal
+use Rattle.std.proofs.{Common.arith, Common.vec_len, lemmas.Bool.eqb-true}
+use Rattle.echo_net.proofs.{AllFaults.no_items, AllFaults.with_graph, AllFaults.without_graph, Drawings.sound_where_none}
 use Rattle.echo_net.proofs.each_fault.all_faults.Goals.{then-is_empty+in_ok-graph+in_ok-push_pieces, else-is_empty}
+use Rattle.echo_net.proofs.each_fault.all_faults.Goals as goal
 
 pub area_graph-requires-clause-sound : goal.area_graph-requires-clause-sound
 area_graph-requires-clause-sound c = grind (arith, vec_len, eqb-true, sound_where_none, no_items)

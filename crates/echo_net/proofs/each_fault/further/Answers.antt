@@ -1,7 +1,5 @@
 use Rattle.std.proofs.Common.{subst, sym}
-use Rattle.echo_net.specs.declared.verdict.Verdict.{Verdict}
-use Rattle.echo_net.specs.AllFaults.{AreFurther}
-use Rattle.echo_net.specs.Faults.{IfNo, IsFirstFault}
+use Rattle.echo_net.specs.{declared.verdict.Verdict.Verdict, AllFaults.AreFurther, Faults.IfNo, Faults.IsFirstFault}
 use Rattle.echo_net.proofs.AllFaults.{others_of}
 use Rattle.echo_net.proofs.each_fault.further.Goals as goal
 

@@ -1,8 +1,7 @@
 use Rattle.std.proofs.Common.{◌∙◌, ap, sym, arith}
 use Rattle.echo_net.specs.AllFaults.{is_one_sided}
-use Rattle.echo_net.proofs.AllFaults.{one_kept, one_left}
+use Rattle.echo_net.proofs.{AllFaults.one_kept, AllFaults.one_left, each_fault.one_sided_links.Goals.then-is_one_sided+in_ok-push, each_fault.one_sided_links.Goals.else-is_one_sided}
 use Rattle.echo_net.proofs.each_fault.one_sided_links.Goals as goal
-use Rattle.echo_net.proofs.each_fault.one_sided_links.Goals.{then-is_one_sided+in_ok-push, else-is_one_sided}
 
 pub links-preserved : goal.links-preserved
 links-preserved c =

@@ -1,7 +1,5 @@
-use Rattle.std.proofs.Common.{arith}
-use Rattle.std.proofs.lemmas.Result.{on_ok_weaker}
-use Rattle.echo_net.proofs.AllFaults.{four}
-use Rattle.echo_net.proofs.Drawings.{links_in_order}
+use Rattle.std.proofs.{Common.arith, lemmas.Result.on_ok_weaker}
+use Rattle.echo_net.proofs.{AllFaults.four, Drawings.links_in_order}
 use Rattle.echo_net.proofs.each_fault.push_link_faults.Goals as goal
 
 pub returns : goal.returns

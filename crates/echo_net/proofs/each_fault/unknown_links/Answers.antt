@@ -1,8 +1,7 @@
 use Rattle.std.proofs.Common.{◌∙◌, ap, not, sym, arith}
 use Rattle.echo_net.specs.AllFaults.{is_unknown}
-use Rattle.echo_net.proofs.AllFaults.{one_kept, one_left}
+use Rattle.echo_net.proofs.{AllFaults.one_kept, AllFaults.one_left, each_fault.unknown_links.Goals.then-not-has_address+in_ok-push, each_fault.unknown_links.Goals.else-not-has_address}
 use Rattle.echo_net.proofs.each_fault.unknown_links.Goals as goal
-use Rattle.echo_net.proofs.each_fault.unknown_links.Goals.{then-not-has_address+in_ok-push, else-not-has_address}
 
 pub links-preserved : goal.links-preserved
 links-preserved c =

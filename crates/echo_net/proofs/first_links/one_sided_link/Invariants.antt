@@ -1,7 +1,6 @@
 use Rattle.std.proofs.Common.{◌<◌, ℕ, get_or}
 use Rattle.std.specs.Prelude.{Contains}
-use Rattle.echo_net.specs.declared.link.Link.{Link}
-use Rattle.echo_net.specs.Nets.{link}
+use Rattle.echo_net.specs.{declared.link.Link.Link, Nets.link}
 use Rattle.echo_net.proofs.first_links.one_sided_link.Given as goal
 
 abbrev pub invariant-links : goal.invariant-links

@@ -1,8 +1,7 @@
 use Rattle.std.proofs.Common.{◌∙◌, ℕ, List, ap}
 use Rattle.model_graph.specs.Rows.{linked}
 use Rattle.model_run.specs.Tidy.{Carries}
-use Rattle.echo_net.proofs.Collected.{all_carry, is_graph, same_links}
-use Rattle.echo_net.proofs.Owned.{in_order_from_sorted}
+use Rattle.echo_net.proofs.{Collected.all_carry, Collected.is_graph, Collected.same_links, Owned.in_order_from_sorted}
 use Rattle.echo_net.proofs.graph_faults.area_graph.Goals as goal
 
 pub rows-requires-clause-known : goal.rows-requires-clause-known

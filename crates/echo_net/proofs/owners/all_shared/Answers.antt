@@ -1,9 +1,7 @@
 use Rattle.std.proofs.Common.{◌+◌, ◌↔◌, ℕ, subst, List}
 use Rattle.std.specs.Prelude.{Contains}
 use Rattle.model_graph.specs.Walk.{IsAt}
-use Rattle.echo_net.specs.declared.link.Link.{Link}
-use Rattle.echo_net.specs.declared.owners.Owner.{Owner}
-use Rattle.echo_net.specs.Pairs.{IsShared}
+use Rattle.echo_net.specs.{declared.link.Link.Link, declared.owners.Owner.Owner, Pairs.IsShared}
 use Rattle.echo_net.proofs.Owned.{shared_from, shared_to}
 use Rattle.echo_net.proofs.owners.all_shared.Goals as goal
 

@@ -1,10 +1,8 @@
 use Rattle.std.proofs.Common.{◌+◌, ◌≤◌, sym, subst, ap, ◌∙◌, arith}
 use Rattle.echo_addr.specs.declared.address.Address.{Address}
 use Rattle.echo_net.specs.declared.owners.Owner.{Owner}
-use Rattle.echo_net.proofs.Orders.{same_exact, same_itself}
-use Rattle.echo_net.proofs.Twins.{AreAlikeBefore, no_pair_more, one_pair_more}
+use Rattle.echo_net.proofs.{Orders.same_exact, Orders.same_itself, Twins.AreAlikeBefore, Twins.no_pair_more, Twins.one_pair_more, owners.shared.Goals.then-eq+in_ok-push, owners.shared.Goals.else-eq}
 use Rattle.echo_net.proofs.owners.shared.Goals as goal
-use Rattle.echo_net.proofs.owners.shared.Goals.{then-eq+in_ok-push, else-eq}
 
 pub loop-place-preserved : goal.loop-place-preserved
 loop-place-preserved c =

@@ -1,9 +1,6 @@
 use Rattle.std.proofs.Common.{◌+◌, ◌++◌, ◌∷◌, [], ℕ, List, take, sym, subst, arith}
+use Rattle.std.proofs.lemmas.{Bool.some_since, Option.MatchOption-at_some, List.take_all, List.take_more, List.Elements.Contains-get_or}
 use Rattle.std.specs.List.{AllZip}
-use Rattle.std.proofs.lemmas.Bool.{some_since}
-use Rattle.std.proofs.lemmas.Option.{MatchOption-at_some}
-use Rattle.std.proofs.lemmas.List.{take_all, take_more}
-use Rattle.std.proofs.lemmas.List.Elements.{Contains-get_or}
 use Rattle.echo_addr.specs.declared.address.Address.{Address}
 use Rattle.echo_net.specs.declared.link.Link.{Link}
 use Rattle.model_graph.specs.Walk.{IsAt}

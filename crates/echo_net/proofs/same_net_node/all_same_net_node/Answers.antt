@@ -1,11 +1,7 @@
 use Rattle.std.proofs.Common.{◌↔◌, ℕ, subst, sym, List, map}
-use Rattle.std.specs.Prelude.{Contains}
-use Rattle.std.specs.List.Sorted.{IsStrictlySortedBy}
-use Rattle.echo_net.specs.declared.link.Link.{Link}
-use Rattle.echo_net.specs.declared.same_net_node.Neighbour.{Neighbour}
-use Rattle.echo_net.specs.Pairs.{IsTwin, neighbour_of}
-use Rattle.echo_net.proofs.Orders.{neighbour_order}
-use Rattle.echo_net.proofs.Twins.{has_places, is_twin}
+use Rattle.std.specs.{Prelude.Contains, List.Sorted.IsStrictlySortedBy}
+use Rattle.echo_net.specs.{declared.link.Link.Link, declared.same_net_node.Neighbour.Neighbour, Pairs.IsTwin, Pairs.neighbour_of}
+use Rattle.echo_net.proofs.{Orders.neighbour_order, Twins.has_places, Twins.is_twin}
 use Rattle.echo_net.proofs.same_net_node.all_same_net_node.Goals as goal
 
 pub all_twins-requires : goal.all_twins-requires

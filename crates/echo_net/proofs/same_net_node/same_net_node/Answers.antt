@@ -1,8 +1,6 @@
 use Rattle.std.proofs.Common.{◌+◌, ◌↔◌, ◌∙◌, ℕ, ap, subst, List, map}
 use Rattle.std.specs.Prelude.{Contains, slice_get}
-use Rattle.echo_net.specs.declared.link.Link.{Link}
-use Rattle.echo_net.specs.declared.same_net_node.Neighbour.{Neighbour}
-use Rattle.echo_net.specs.Pairs.{IsTwin, neighbour_of}
+use Rattle.echo_net.specs.{declared.link.Link.Link, declared.same_net_node.Neighbour.Neighbour, Pairs.IsTwin, Pairs.neighbour_of}
 use Rattle.echo_net.proofs.Twins.{twins_answer}
 use Rattle.echo_net.proofs.same_net_node.same_net_node.Goals as goal
 

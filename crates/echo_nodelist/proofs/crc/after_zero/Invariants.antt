@@ -1,6 +1,5 @@
 use Rattle.std.proofs.Common.{◌≡◌, ℕ, suc, ◌<◌, ◌∷◌, length, get_or, replicate}
-use Rattle.echo_nodelist.specs.Crc.{crc}
-use Rattle.echo_nodelist.specs.Tables.{IsTable}
+use Rattle.echo_nodelist.specs.{Crc.crc, Tables.IsTable}
 use Rattle.echo_nodelist.proofs.crc.after_zero.Given as goal
 
 abbrev pub invariant-entries : goal.invariant-entries

@@ -1,6 +1,5 @@
 use Rattle.std.proofs.Common.{[], get_or, ◌-◌, refl, append_assoc, arith}
-use Rattle.echo_nodelist.proofs.EightBytes.{first_eight}
-use Rattle.echo_nodelist.proofs.Registers.{crc_nil}
+use Rattle.echo_nodelist.proofs.{EightBytes.first_eight, Registers.crc_nil}
 use Rattle.echo_nodelist.proofs.crc.crc16.Goals as goal
 
 pub eights-init : goal.eights-init

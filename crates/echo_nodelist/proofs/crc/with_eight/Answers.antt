@@ -1,8 +1,7 @@
 use Rattle.std.proofs.Common.{◌/◌, ◌%◌, ◌^◌, ℕ, get_or, sym, ◌∙◌, arith}
-use Rattle.std.specs.Int.Bits.{bit_xor}
 use Rattle.std.proofs.lemmas.Nat.{xor_of_8}
-use Rattle.echo_nodelist.proofs.EightBytes.{crc_eight, xor_same}
-use Rattle.echo_nodelist.proofs.Registers.{table_entry}
+use Rattle.std.specs.Int.Bits.{bit_xor}
+use Rattle.echo_nodelist.proofs.{EightBytes.crc_eight, EightBytes.xor_same, Registers.table_entry}
 use Rattle.echo_nodelist.proofs.crc.with_eight.Goals as goal
 
 pub returns : goal.returns

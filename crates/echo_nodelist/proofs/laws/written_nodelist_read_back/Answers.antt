@@ -1,5 +1,4 @@
-use Rattle.echo_nodelist.proofs.Clean.{good_lines}
-use Rattle.echo_nodelist.proofs.ReadBack.{written_again}
+use Rattle.echo_nodelist.proofs.{Clean.good_lines, ReadBack.written_again}
 use Rattle.echo_nodelist.proofs.laws.written_nodelist_read_back.Goals as goal
 
 pub returns-clause-again : goal.returns-clause-again

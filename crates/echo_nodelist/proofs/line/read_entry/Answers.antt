@@ -1,9 +1,8 @@
 use Rattle.std.proofs.Common.{◌≡◌, ◌∷◌, refl, sym, inr, ap, ◌∙◌, arith, Ok}
-use Rattle.echo_nodelist.specs.declared.line.Line.TheVariants.{Entry}
+use Rattle.echo_nodelist.specs.{declared.line.Line.TheVariants.Entry, Raw.is_comma}
 use Rattle.echo_nodelist.proofs.Entries.{an_entry, few_fields, field_cut, no_keyword, no_number, one_field, two_fields}
-use Rattle.std.specs.List.{slice_split}
-use Rattle.echo_nodelist.specs.Raw.{is_comma}
 use Rattle.echo_nodelist.proofs.line.read_entry.Goals.{After-len}
+use Rattle.std.specs.List.{slice_split}
 use Rattle.echo_nodelist.proofs.line.read_entry.Goals as goal
 
 -- the fields in front

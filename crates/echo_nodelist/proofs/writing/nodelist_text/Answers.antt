@@ -1,5 +1,4 @@
-use Rattle.std.proofs.Common.{arith}
-use Rattle.std.proofs.lemmas.List.{take_all}
+use Rattle.std.proofs.{Common.arith, lemmas.List.take_all}
 use Rattle.echo_nodelist.specs.Written.{nodelist_text}
 use Rattle.echo_nodelist.proofs.writing.nodelist_text.Goals as goal
 

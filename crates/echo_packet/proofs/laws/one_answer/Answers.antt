@@ -1,6 +1,5 @@
 use Rattle.std.proofs.Common.{sym, ◌∙◌}
-use Rattle.echo_packet.proofs.Existence.{some_answer}
-use Rattle.echo_packet.proofs.Outcome.{only_one}
+use Rattle.echo_packet.proofs.{Existence.some_answer, Outcome.only_one}
 use Rattle.echo_packet.proofs.laws.one_answer.Goals as goal
 
 pub returns : goal.returns

@@ -1,9 +1,7 @@
 use Rattle.std.proofs.Common.{◌≡◌, ◌∙◌, length, ap, arith, Err}
 use Rattle.std.proofs.lemmas.Result.{err_from_is_err_and}
 use Rattle.echo_packet.specs.Message.{Numbers, DateTime, ToName, FromName, Subject, Text, max_name, max_subject}
-use Rattle.echo_packet.specs.Fault.{IsTooLong}
-use Rattle.echo_packet.specs.Field.{IsShort, IsOpen, IsPast, Never}
-use Rattle.echo_packet.specs.Next.{FailsBehind}
+use Rattle.echo_packet.specs.{Fault.IsTooLong, Field.IsShort, Field.IsOpen, Field.IsPast, Field.Never, Next.FailsBehind}
 use Rattle.echo_packet.proofs.FieldsSoFar.{has-none, has-numbers, has-date, has-to_name, has-from_name, has-subject, has-text, field-fails, made_of, at_exit, tells-numbers, tells-date, tells-to_name, tells-from_name, tells-subject, tells-text}
 use Rattle.echo_packet.proofs.message.read_fields.Goals as goal
 

@@ -1,9 +1,8 @@
 use Rattle.std.proofs.Common.{◌∙◌, ap, sym, arith, [], Err}
 use Rattle.std.proofs.lemmas.Result.{err_from_is_err_and}
-use Rattle.echo_packet.specs.Header.{word}
-use Rattle.echo_packet.specs.Next.{FailsInMessage, NextFault}
-use Rattle.echo_packet.proofs.FieldsSoFar.{at_exit, at_exit_if}
+use Rattle.echo_packet.specs.{Header.word, Next.FailsInMessage, Next.NextFault}
 use Rattle.echo_packet.proofs.NextNumber.{number-bytes, number-cut, number-inside, number-lost, then-inside, number-other, number-many, number-then, takes-whole}
+use Rattle.echo_packet.proofs.FieldsSoFar.{at_exit, at_exit_if}
 use Rattle.echo_packet.proofs.message.read_next.Goals as goal
 
 pub returns-in_err-fixed_at-clause-fault : goal.returns-in_err-fixed_at-clause-fault

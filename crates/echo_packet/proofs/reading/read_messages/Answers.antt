@@ -1,7 +1,5 @@
-use Rattle.std.proofs.Common.{Option, inr, subst, arith}
-use Rattle.std.proofs.lemmas.Result.{err_from_is_err_and}
-use Rattle.echo_packet.specs.Message.{Message}
-use Rattle.echo_packet.specs.Next.{NextFault}
+use Rattle.std.proofs.{Common.Option, Common.inr, Common.subst, Common.arith, lemmas.Result.err_from_is_err_and}
+use Rattle.echo_packet.specs.{Message.Message, Next.NextFault}
 use Rattle.echo_packet.proofs.Slices.{slice-opens, slice-gives, slice-ends, slice-fails}
 use Rattle.echo_packet.proofs.reading.read_messages.Goals as goal
 

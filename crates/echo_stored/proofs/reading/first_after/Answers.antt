@@ -1,5 +1,4 @@
-use Rattle.std.proofs.Common.{ap, length, sym, ◌∙◌}
-use Rattle.std.proofs.lemmas.Bool.{eqb-true}
+use Rattle.std.proofs.{Common.ap, Common.length, Common.sym, Common.◌∙◌, lemmas.Bool.eqb-true}
 use Rattle.echo_text.specs.Echo.{first_after}
 use Rattle.echo_text.proofs.TextLines.{no_lines}
 use Rattle.echo_stored.proofs.reading.first_after.Goals as goal

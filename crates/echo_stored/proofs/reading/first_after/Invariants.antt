@@ -1,7 +1,6 @@
 -- The first value in the lines that are left is that of all.
 use Rattle.std.proofs.Common.{◌≡◌, length}
-use Rattle.echo_text.specs.Lines.{lines}
-use Rattle.echo_text.specs.Echo.{first_after}
+use Rattle.echo_text.specs.{Lines.lines, Echo.first_after}
 use Rattle.echo_stored.proofs.reading.first_after.Given as goal
 
 abbrev pub invariant-lines : goal.invariant-lines

@@ -1,5 +1,4 @@
-use Rattle.std.proofs.Common.{arith}
-use Rattle.std.proofs.lemmas.Bool.{eqb-false}
+use Rattle.std.proofs.{Common.arith, lemmas.Bool.eqb-false}
 use Rattle.echo_text.proofs.Tags.{tag_by_bytes}
 use Rattle.echo_text.proofs.area.is_tag.Goals as goal
 

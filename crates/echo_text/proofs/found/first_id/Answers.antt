@@ -1,5 +1,4 @@
-use Rattle.std.proofs.Common.{arith}
-use Rattle.std.proofs.lemmas.Bool.{eqb-true}
+use Rattle.std.proofs.{Common.arith, lemmas.Bool.eqb-true}
 use Rattle.echo_text.proofs.TextLines.{no_lines}
 use Rattle.echo_text.proofs.found.first_id.Goals as goal
 

@@ -1,6 +1,5 @@
 use Rattle.std.proofs.Common.{◌≡◌, length}
-use Rattle.echo_text.specs.Lines.{lines}
-use Rattle.echo_text.specs.Echo.{first_after}
+use Rattle.echo_text.specs.{Lines.lines, Echo.first_after}
 use Rattle.echo_text.proofs.found.first_id.Given as goal
 
 abbrev pub invariant-lines : goal.invariant-lines

@@ -1,5 +1,4 @@
-use Rattle.echo_text.proofs.OneReading.{one_answer, one_count, one_echo}
-use Rattle.echo_text.proofs.Reread.{read_is_echo}
+use Rattle.echo_text.proofs.{OneReading.one_answer, OneReading.one_count, OneReading.one_echo, Reread.read_is_echo}
 use Rattle.echo_text.proofs.laws.one_reading.Goals as goal
 
 pub returns-clause-echo : goal.returns-clause-echo

@@ -1,6 +1,5 @@
 use Rattle.std.proofs.Common.{◌≡◌, ◌+◌, ◌++◌, length}
-use Rattle.echo_text.specs.Lines.{lines}
-use Rattle.echo_text.specs.Tail.{all_dropped, all_entries, lists_of}
+use Rattle.echo_text.specs.{Lines.lines, Tail.all_dropped, Tail.all_entries, Tail.lists_of}
 use Rattle.echo_text.proofs.listed.entries_into.Given as goal
 
 abbrev pub invariant-lines : goal.invariant-lines

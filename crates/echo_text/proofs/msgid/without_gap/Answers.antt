@@ -1,5 +1,4 @@
-use Rattle.std.proofs.Common.{arith}
-use Rattle.std.proofs.lemmas.List.Folds.{length-prefix_len}
+use Rattle.std.proofs.{Common.arith, lemmas.List.Folds.length-prefix_len}
 use Rattle.echo_text.proofs.msgid.without_gap.Goals as goal
 
 pub returns-clause-value : goal.returns-clause-value

@@ -1,6 +1,5 @@
 use Rattle.std.proofs.Common.{arith}
-use Rattle.echo_text.proofs.Reread.{read_is_echo}
-use Rattle.echo_text.proofs.SaidAfter.{answers_fault, answers_memory, front_accepted, parts_are}
+use Rattle.echo_text.proofs.{Reread.read_is_echo, SaidAfter.answers_fault, SaidAfter.answers_memory, SaidAfter.front_accepted, SaidAfter.parts_are}
 use Rattle.echo_text.proofs.reading.view_text.Goals as goal
 
 pub returns-in_err-front : goal.returns-in_err-front

@@ -1,7 +1,6 @@
 use Rattle.std.proofs.Common.{ap, sym, take, ◌∙◌, arith}
 use Rattle.std.proofs.lemmas.List.{take_rest}
-use Rattle.echo_text.specs.Lines.{first_line, lines}
-use Rattle.echo_text.specs.Tail.{is_tail_line}
+use Rattle.echo_text.specs.{Lines.first_line, Lines.lines, Tail.is_tail_line}
 use Rattle.echo_text.proofs.LastLines.{Starts, all_is_tail, body_found, ends_at_end, ends_earlier, no_body, tail_found}
 use Rattle.echo_text.proofs.tail.body_len.Goals as goal
 

@@ -1,6 +1,4 @@
-use Rattle.std.proofs.Common.{arith}
-use Rattle.std.proofs.lemmas.Bool.{eqb-true}
-use Rattle.std.proofs.lemmas.List.{append-nil}
+use Rattle.std.proofs.{Common.arith, lemmas.Bool.eqb-true, lemmas.List.append-nil}
 use Rattle.echo_text.proofs.TextLines.{no_lines}
 use Rattle.echo_text.proofs.tail.push_kept.Goals as goal
 

@@ -1,8 +1,6 @@
 use Rattle.std.proofs.Common.{◌≡◌, ◌++◌, length}
 use Rattle.std.specs.List.{filter, flat_map}
-use Rattle.echo_text.specs.Lines.{lines}
-use Rattle.echo_text.specs.Tail.{is_kept_control}
-use Rattle.echo_text.specs.Echo.{ended}
+use Rattle.echo_text.specs.{Lines.lines, Tail.is_kept_control, Echo.ended}
 use Rattle.echo_text.proofs.tail.push_kept.Given as goal
 
 abbrev pub invariant-lines : goal.invariant-lines

@@ -1,5 +1,4 @@
-use Rattle.std.proofs.Common.{arith}
-use Rattle.std.proofs.lemmas.List.{take_rest}
+use Rattle.std.proofs.{Common.arith, lemmas.List.take_rest}
 use Rattle.echo_text.specs.Lines.{after_word}
 use Rattle.echo_text.proofs.words.after_word.Goals as goal
 

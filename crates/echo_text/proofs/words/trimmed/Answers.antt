@@ -1,6 +1,4 @@
-use Rattle.std.proofs.Common.{arith}
-use Rattle.std.proofs.lemmas.List.{take_rest}
-use Rattle.std.proofs.lemmas.List.Folds.{length-prefix_len}
+use Rattle.std.proofs.{Common.arith, lemmas.List.take_rest, lemmas.List.Folds.length-prefix_len}
 use Rattle.echo_text.specs.Lines.{trimmed}
 use Rattle.echo_text.proofs.words.trimmed.Goals as goal
 

@@ -1,9 +1,6 @@
-use Rattle.std.proofs.Common.{arith, append_assoc}
-use Rattle.std.proofs.lemmas.List.{append-nil, drop_all}
+use Rattle.std.proofs.{Common.arith, Common.append_assoc, lemmas.List.append-nil, lemmas.List.drop_all, lemmas.Result.err_from_is_err_and}
 use Rattle.base_store.proofs.Runs.{looks_twice}
-use Rattle.echo_toss.proofs.Counts.{all_counted, group_counted}
-use Rattle.std.proofs.lemmas.Result.{err_from_is_err_and}
-use Rattle.echo_toss.proofs.Bounds.{full_read, handed_many}
+use Rattle.echo_toss.proofs.{Counts.all_counted, Counts.group_counted, Bounds.full_read, Bounds.handed_many}
 use Rattle.echo_toss.proofs.counting.counted_from.Goals as goal
 
 pub groups-preserved : goal.groups-preserved

@@ -3,8 +3,7 @@ use Rattle.std.proofs.Common.{◌≡◌, ◌≤◌, ◌-◌, ◌++◌, List, len
 use Rattle.disk_io.specs.Disk.{Honestly}
 use Rattle.base_file.specs.Base.{Base}
 use Rattle.base_store.specs.Store.{LooksOn}
-use Rattle.echo_toss.specs.Counts.{counted_to, link_set}
-use Rattle.echo_toss.specs.Exports.{Outgoing, sent_of}
+use Rattle.echo_toss.specs.{Counts.counted_to, Counts.link_set, Exports.Outgoing, Exports.sent_of}
 use Rattle.echo_toss.proofs.counting.counted_from.Given as goal
 
 abbrev pub invariant-groups : goal.invariant-groups

@@ -1,5 +1,4 @@
-use Rattle.std.proofs.Common.{arith, get_or, append_assoc}
-use Rattle.std.proofs.lemmas.List.{drop_more}
+use Rattle.std.proofs.{Common.arith, Common.get_or, Common.append_assoc, lemmas.List.drop_more}
 use Rattle.echo_toss.proofs.Counts.{no_area, there_at}
 use Rattle.echo_toss.proofs.counting.link_set.Goals as goal
 

@@ -2,8 +2,7 @@ use Rattle.std.proofs.Common.{◌≡◌, sym, subst, [], refl, None, arith}
 use Rattle.echo_filed.specs.Filed.{IsFiled}
 use Rattle.model_steps.specs.Posting.{posted}
 use Rattle.model_steps.proofs.Kept.{posted_filed}
-use Rattle.echo_toss.proofs.Drafted.{posted_is}
-use Rattle.echo_toss.proofs.Judged.{draft_allowed}
+use Rattle.echo_toss.proofs.{Drafted.posted_is, Judged.draft_allowed}
 use Rattle.echo_toss.proofs.drafting.posted.Goals as goal
 
 pub date_of-requires : goal.date_of-requires

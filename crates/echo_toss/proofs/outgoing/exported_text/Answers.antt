@@ -1,7 +1,5 @@
 use Rattle.std.proofs.Common.{◌++◌, ◌∷◌, [], List, AllPairs, ap, sym, subst, ◌∙◌, arith}
-use Rattle.echo_addr.specs.declared.address.NetNode.{NetNode}
-use Rattle.echo_addr.specs.Address.{net_node_of}
-use Rattle.echo_addr.specs.ShortLines.{ComesBefore}
+use Rattle.echo_addr.specs.{declared.address.NetNode.NetNode, Address.net_node_of, ShortLines.ComesBefore}
 use Rattle.echo_text.specs.Echo.{EchoText, IsEcho}
 use Rattle.model_steps.proofs.Copies.{exported_is_echo}
 use Rattle.echo_packet.specs.Message.{HasNoZero}

@@ -1,5 +1,4 @@
-use Rattle.std.proofs.Common.{arith}
-use Rattle.std.proofs.lemmas.Result.{err_from_is_err_and}
+use Rattle.std.proofs.{Common.arith, lemmas.Result.err_from_is_err_and}
 use Rattle.echo_toss.proofs.PacketTosses.{unopened}
 use Rattle.echo_toss.proofs.packets.check_destination.Goals as goal
 

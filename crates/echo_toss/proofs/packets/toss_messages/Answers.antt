@@ -2,11 +2,9 @@ use Rattle.std.proofs.Common.{◌∙◌, ◌+◌, ap, arith, refl}
 use Rattle.std.proofs.lemmas.Result.{err_from_is_err_and}
 use Rattle.base_store.proofs.Runs.{commits_none, goes_on_twice}
 use Rattle.model_steps.specs.Tossing.{toss_outcome, tossing}
-use Rattle.echo_toss.specs.Tallies.{all_counted, tally_with}
-use Rattle.echo_toss.specs.Stores.{and_filed}
-use Rattle.echo_toss.proofs.Bounds.{handed_many, past_after, past_wider}
-use Rattle.echo_toss.proofs.PacketTosses.{one_more_taken}
+use Rattle.echo_toss.specs.{Tallies.all_counted, Tallies.tally_with, Stores.and_filed}
 use Rattle.echo_toss.proofs.PacketsIn.{all_counted-tally_with, begun, read_all, read_faulty, read_so_far}
+use Rattle.echo_toss.proofs.{Bounds.handed_many, Bounds.past_after, Bounds.past_wider, PacketTosses.one_more_taken}
 use Rattle.echo_toss.proofs.packets.toss_messages.Goals as goal
 
 pub messages-init : goal.messages-init

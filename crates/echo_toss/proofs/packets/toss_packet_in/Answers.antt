@@ -1,8 +1,6 @@
 use Rattle.std.proofs.Common.{[], refl, arith}
-use Rattle.echo_toss.specs.Tallies.{tally_of}
-use Rattle.echo_toss.specs.PacketsIn.{state_in}
-use Rattle.echo_toss.proofs.Stops.{tossed_part}
-use Rattle.echo_toss.proofs.PacketsIn.{tossed_all, tossed_none}
+use Rattle.echo_toss.specs.{Tallies.tally_of, PacketsIn.state_in}
+use Rattle.echo_toss.proofs.{Stops.tossed_part, PacketsIn.tossed_all, PacketsIn.tossed_none}
 use Rattle.echo_toss.proofs.packets.toss_packet_in.Goals as goal
 
 pub returns-in-Ok-toss_messages-clause-tossed : goal.returns-in-Ok-toss_messages-clause-tossed

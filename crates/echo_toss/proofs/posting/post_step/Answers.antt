@@ -1,5 +1,4 @@
-use Rattle.std.proofs.Common.{arith}
-use Rattle.std.proofs.lemmas.Result.{err_from_is_err_and}
+use Rattle.std.proofs.{Common.arith, lemmas.Result.err_from_is_err_and}
 use Rattle.base_store.proofs.Runs.{looks_then_commits}
 use Rattle.echo_toss.proofs.Bounds.{full_now, no_room_now, past_looked}
 use Rattle.echo_toss.proofs.posting.post_step.Goals as goal

@@ -1,5 +1,4 @@
-use Rattle.std.proofs.Common.{arith}
-use Rattle.std.proofs.lemmas.Result.{on_ok_weaker}
+use Rattle.std.proofs.{Common.arith, lemmas.Result.on_ok_weaker}
 use Rattle.echo_toss.proofs.Resendings.{whole}
 use Rattle.echo_toss.proofs.resending.push_resent.Goals as goal
 

@@ -1,6 +1,5 @@
 use Rattle.std.proofs.Common.{arith}
-use Rattle.law_stations.proofs.AnyReader.{tosses-answered, tosses-known}
-use Rattle.law_stations.proofs.Runs.{toss-does, stays-where-met}
+use Rattle.law_stations.proofs.{AnyReader.tosses-answered, AnyReader.tosses-known, Runs.toss-does, Runs.stays-where-met}
 use Rattle.law_stations.proofs.commands.toss_as_may.Goals as goal
 
 pub returns-clause-does : goal.returns-clause-does

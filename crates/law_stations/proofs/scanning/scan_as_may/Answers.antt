@@ -1,5 +1,4 @@
-use Rattle.law_stations.proofs.ScanEvents.{scan-does}
-use Rattle.law_stations.proofs.ScanStays.{scan-stays}
+use Rattle.law_stations.proofs.{ScanEvents.scan-does, ScanStays.scan-stays}
 use Rattle.law_stations.proofs.scanning.scan_as_may.Goals as goal
 
 pub returns-clause-does : goal.returns-clause-does

@@ -1,9 +1,8 @@
 use Rattle.std.proofs.Common.{◌≡◌, ◌+◌, ◌<◌, ◌++◌, ℕ, Option, Some, None, List, [], ◌∷◌, length, set, slice_index_or, sym, ap, ◌∙◌, subst, ◌≤◌, arith}
 use Rattle.std.proofs.lemmas.List.{get_or_read}
 use Rattle.model_graph.specs.Blocks.{block_of, LastMembers}
-use Rattle.model_graph.proofs.Rows.{LastMembers-made, LastMembers-left_out}
+use Rattle.model_graph.proofs.{Rows.LastMembers-made, Rows.LastMembers-left_out, blocks.block_lists.Goals.then-block-members+in_ok-push, blocks.block_lists.Goals.else-block-members+in_ok-push-2}
 use Rattle.model_graph.proofs.blocks.block_lists.Goals as goal
-use Rattle.model_graph.proofs.blocks.block_lists.Goals.{then-block-members+in_ok-push, else-block-members+in_ok-push-2}
 
 pub members-preserved : goal.members-preserved
 members-preserved c =

@@ -1,6 +1,5 @@
 use Rattle.std.proofs.Common.{◌<◌, ℕ, length}
-use Rattle.model_graph.specs.Rows.{linked}
-use Rattle.model_graph.specs.Blocks.{block_of, top_of, rank_of, IsInBlock}
+use Rattle.model_graph.specs.{Rows.linked, Blocks.block_of, Blocks.top_of, Blocks.rank_of, Blocks.IsInBlock}
 use Rattle.model_graph.proofs.division.are_blocks.Given as goal
 
 abbrev pub invariant-members : goal.invariant-members

@@ -1,6 +1,5 @@
 use Rattle.std.proofs.Common.{◌≡◌, ◌<◌, ℕ, false, IsTrue, length, get_or}
-use Rattle.model_graph.specs.Rows.{linked}
-use Rattle.model_graph.specs.Blocks.{block_of, top_of, IsFullyLinked}
+use Rattle.model_graph.specs.{Rows.linked, Blocks.block_of, Blocks.top_of, Blocks.IsFullyLinked}
 use Rattle.model_graph.proofs.fullness.full_blocks.Given as goal
 
 abbrev pub invariant-members : goal.invariant-members

@@ -1,6 +1,5 @@
 use Rattle.std.proofs.Common.{◌≡◌, ◌<◌, ◌≤◌, ℕ, IsTrue}
-use Rattle.model_graph.specs.Rows.{linked}
-use Rattle.model_graph.specs.Blocks.{block_of}
+use Rattle.model_graph.specs.{Rows.linked, Blocks.block_of}
 use Rattle.model_graph.proofs.fullness.is_fully_linked.Given as goal
 
 abbrev pub invariant-walking : goal.invariant-walking

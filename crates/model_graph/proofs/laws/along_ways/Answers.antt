@@ -1,6 +1,5 @@
 use Rattle.std.proofs.Common.{IsTrue}
-use Rattle.model_graph.proofs.Members.{ℕ-can_tell}
-use Rattle.model_graph.proofs.Cycles.{along_ways}
+use Rattle.model_graph.proofs.{Members.ℕ-can_tell, Cycles.along_ways}
 use Rattle.model_graph.proofs.laws.along_ways.Goals as goal
 
 pub returns : goal.returns

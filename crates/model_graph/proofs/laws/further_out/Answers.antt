@@ -1,6 +1,5 @@
 use Rattle.std.proofs.Common.{arith}
-use Rattle.model_graph.proofs.Members.{ℕ-can_tell}
-use Rattle.model_graph.proofs.Cycles.{Beyond-trans, further}
+use Rattle.model_graph.proofs.{Members.ℕ-can_tell, Cycles.Beyond-trans, Cycles.further}
 use Rattle.model_graph.proofs.laws.further_out.Goals as goal
 
 pub returns : goal.returns

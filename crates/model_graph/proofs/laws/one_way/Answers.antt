@@ -1,6 +1,5 @@
 use Rattle.std.proofs.Common.{arith}
-use Rattle.model_graph.proofs.Members.{ℕ-can_tell}
-use Rattle.model_graph.proofs.Cycles.{has_one_way, beyond_or_link, way-not_beyond}
+use Rattle.model_graph.proofs.{Members.ℕ-can_tell, Cycles.has_one_way, Cycles.beyond_or_link, Cycles.way-not_beyond}
 use Rattle.model_graph.proofs.laws.one_way.Goals as goal
 
 pub returns : goal.returns

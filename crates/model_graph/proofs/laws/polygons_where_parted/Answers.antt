@@ -1,5 +1,5 @@
-use Rattle.model_graph.proofs.Members.{ℕ-can_tell}
 use Rattle.model_graph.proofs.Cycles.{Parted-from_Polygons, Polygons-from_Parted, Polygons-from_no_cycle, AllParted-from_NoCycle, NoCycle-from_AllParted}
+use Rattle.model_graph.proofs.Members.{ℕ-can_tell}
 use Rattle.model_graph.proofs.laws.polygons_where_parted.Goals as goal
 
 pub returns : goal.returns

@@ -1,9 +1,6 @@
 use Rattle.std.proofs.Common.{◌≡◌, ◌<◌, ◌≤◌, ℕ, Bool, Option, Some, List, length, get_or, sym, ◌∙◌, ap, arith}
-use Rattle.std.proofs.lemmas.List.{get_or_read}
-use Rattle.std.proofs.lemmas.Option.{same_Some}
-use Rattle.model_graph.specs.Rows.{linked}
-use Rattle.model_graph.specs.Levels.{level_of}
-use Rattle.model_graph.specs.Floods.{Flooding}
+use Rattle.std.proofs.lemmas.{List.get_or_read, Option.same_Some}
+use Rattle.model_graph.specs.{Rows.linked, Levels.level_of, Floods.Flooding}
 use Rattle.model_graph.proofs.Floods.{level_within, Flooding-step}
 use Rattle.model_graph.proofs.levels.flood.Goals as goal
 

@@ -1,7 +1,5 @@
 use Rattle.std.proofs.Common.{◌+◌, ◌-◌, length}
-use Rattle.model_graph.specs.Rows.{linked}
-use Rattle.model_graph.specs.Floods.{Flooding}
-use Rattle.model_graph.specs.Visits.{unlevelled}
+use Rattle.model_graph.specs.{Rows.linked, Floods.Flooding, Visits.unlevelled}
 use Rattle.model_graph.proofs.levels.flood.Given as goal
 
 abbrev pub invariant-flooding : goal.invariant-flooding

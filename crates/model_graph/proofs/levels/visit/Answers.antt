@@ -1,12 +1,9 @@
 use Rattle.std.proofs.Common.{◌≡◌, ◌<◌, ℕ, length, ◌+◌, false, List, Option, None, Some, get_or, not, set, is_some, sym, ◌∙◌, ap, subst, refl, arith}
 use Rattle.std.proofs.lemmas.List.{get_or_read}
-use Rattle.model_graph.specs.Rows.{links_at, IsGraph}
-use Rattle.model_graph.specs.Levels.{level_of}
-use Rattle.model_graph.specs.Visits.{Visited}
-use Rattle.model_graph.proofs.Rows.{holds_at}
-use Rattle.model_graph.proofs.Floods.{none_from, some_from, Visited-passed, Visited-made}
-use Rattle.model_graph.proofs.levels.visit.Goals as goal
+use Rattle.model_graph.specs.{Rows.links_at, Rows.IsGraph, Levels.level_of, Visits.Visited}
+use Rattle.model_graph.proofs.{Rows.holds_at, Floods.none_from, Floods.some_from, Floods.Visited-passed, Floods.Visited-made}
 use Rattle.model_graph.proofs.levels.visit.Goals.{then-other-without+then-is_none+in_ok-push, else-other-without, else-other-without-via-then-other-without+else-is_none, else-other-without-via-else-other-without}
+use Rattle.model_graph.proofs.levels.visit.Goals as goal
 
 -- a link of a graph is a member
 link_inside : (rows : List (List ℕ)) (member k : ℕ) (links : List ℕ) → IsGraph rows → links ≡ links_at rows member → k < length links → get_or links k 0 < length rows

@@ -1,11 +1,8 @@
-use Rattle.std.proofs.Common.{length}
-use Rattle.std.proofs.lemmas.Bool.{both_ways}
-use Rattle.model_graph.specs.Rows.{linked}
-use Rattle.model_graph.specs.Blocks.{block_of, top_of, rank_of, full_of}
-use Rattle.model_graph.proofs.PinchSearch.{Simple-from_graph}
-use Rattle.model_graph.proofs.BlockWalks.{one_side, no_pinch_in_full}
-use Rattle.model_graph.proofs.pinching.first_around.Goals as goal
+use Rattle.std.proofs.{Common.length, lemmas.Bool.both_ways}
+use Rattle.model_graph.specs.{Rows.linked, Blocks.block_of, Blocks.top_of, Blocks.rank_of, Blocks.full_of}
+use Rattle.model_graph.proofs.{PinchSearch.Simple-from_graph, BlockWalks.one_side, BlockWalks.no_pinch_in_full}
 use Rattle.model_graph.proofs.pinching.first_around.Goals.{then-is_in_full-via-then-is_in_full, then-is_in_full-via-else-is_in_full+then-not-has_unlinked}
+use Rattle.model_graph.proofs.pinching.first_around.Goals as goal
 
 pub returns-then-is_in_full : goal.returns-then-is_in_full
 returns-then-is_in_full c =

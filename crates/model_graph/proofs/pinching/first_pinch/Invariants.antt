@@ -1,6 +1,5 @@
 use Rattle.std.proofs.Common.{◌<◌, ℕ}
-use Rattle.model_graph.specs.Rows.{linked}
-use Rattle.model_graph.specs.Pinches.{IsPinch}
+use Rattle.model_graph.specs.{Rows.linked, Pinches.IsPinch}
 use Rattle.model_graph.proofs.pinching.first_pinch.Given as goal
 
 abbrev pub invariant-members : goal.invariant-members

@@ -1,13 +1,9 @@
 use Rattle.std.proofs.Common.{ℕ, List, length, get_or, sym, ◌∙◌, arith, below_more}
-use Rattle.std.proofs.lemmas.Bool.{ltb-true}
-use Rattle.model_graph.specs.Rows.{linked}
-use Rattle.std.proofs.lemmas.Option.{MatchOption-at_some, MatchOption-at_none}
-use Rattle.model_graph.specs.Pinches.{IsPinch}
-use Rattle.model_graph.proofs.PinchSearch.{FirstHere-here, no_pinch_at, row_link, Simple-from_graph}
-use Rattle.model_graph.specs.Blocks.{block_of, top_of, rank_of}
-use Rattle.model_graph.proofs.BlockWalks.{no_pinch_covered}
-use Rattle.model_graph.proofs.pinching.first_pinch_at.Goals as goal
+use Rattle.std.proofs.lemmas.{Bool.ltb-true, Option.MatchOption-at_some, Option.MatchOption-at_none}
+use Rattle.model_graph.specs.{Rows.linked, Pinches.IsPinch, Blocks.block_of, Blocks.top_of, Blocks.rank_of}
+use Rattle.model_graph.proofs.{PinchSearch.FirstHere-here, PinchSearch.no_pinch_at, PinchSearch.row_link, PinchSearch.Simple-from_graph, BlockWalks.no_pinch_covered}
 use Rattle.model_graph.proofs.pinching.first_pinch_at.Goals.{then-chosen-at, else-chosen-at}
+use Rattle.model_graph.proofs.pinching.first_pinch_at.Goals as goal
 
 pub first_around-requires-clause-within : goal.first_around-requires-clause-within
 first_around-requires-clause-within c =

@@ -1,6 +1,5 @@
 use Rattle.std.proofs.Common.{◌<◌, ℕ, get_or}
-use Rattle.model_graph.specs.Rows.{linked}
-use Rattle.model_graph.specs.Pinches.{IsPinch}
+use Rattle.model_graph.specs.{Rows.linked, Pinches.IsPinch}
 use Rattle.model_graph.proofs.pinching.first_pinch_at.Given as goal
 
 abbrev pub invariant-links : goal.invariant-links

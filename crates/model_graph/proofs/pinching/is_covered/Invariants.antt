@@ -1,6 +1,5 @@
 use Rattle.std.proofs.Common.{◌<◌, ◌≢◌, ℕ, IsTrue, get_or}
-use Rattle.model_graph.specs.Rows.{linked}
-use Rattle.model_graph.specs.Blocks.{block_of, top_of, OnOneSide}
+use Rattle.model_graph.specs.{Rows.linked, Blocks.block_of, Blocks.top_of, Blocks.OnOneSide}
 use Rattle.model_graph.proofs.pinching.is_covered.Given as goal
 
 abbrev pub invariant-links : goal.invariant-links

@@ -1,12 +1,7 @@
 use Rattle.std.proofs.Common.{ℕ, Bool, Option, Some, None, MatchOption, ◌≡◌, ◌∙◌, refl}
 use Rattle.std.proofs.lemmas.Option.{MatchOption-at_some}
-use Rattle.model_graph.specs.declared.pinching.Pinch.{Pinch}
-use Rattle.model_graph.specs.Rows.{linked}
-use Rattle.model_graph.specs.Pinches.{IsPinch, FirstPinch}
-use Rattle.model_graph.proofs.Cycles.{Polygons-from_Parted}
-use Rattle.model_graph.proofs.Members.{ℕ-can_tell}
-use Rattle.model_graph.proofs.PinchSearch.{Simple-from_graph, Parted-from_no_pinch}
-use Rattle.model_graph.proofs.Rings.{NamedLoop-written}
+use Rattle.model_graph.specs.{declared.pinching.Pinch.Pinch, Rows.linked, Pinches.IsPinch, Pinches.FirstPinch}
+use Rattle.model_graph.proofs.{Cycles.Polygons-from_Parted, Members.ℕ-can_tell, PinchSearch.Simple-from_graph, PinchSearch.Parted-from_no_pinch, Rings.NamedLoop-written}
 use Rattle.model_graph.proofs.polygons.loop_of.Goals as goal
 
 first_of : (links : ℕ → ℕ → Bool) (found : Option Pinch) (pinch : Pinch) → found ≡ Some pinch → MatchOption found ((b a c : ℕ) → ¬ IsPinch links b a c) (λ pinch. FirstPinch links pinch.at pinch.one pinch.other) → FirstPinch links pinch.at pinch.one pinch.other

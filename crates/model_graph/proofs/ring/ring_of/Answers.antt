@@ -1,12 +1,7 @@
 use Rattle.std.proofs.Common.{◌≡◌, ◌≢◌, ◌-◌, ◌<◌, ℕ, suc, Option, Some, None, IsSome, List, length, refl, sym, ◌∙◌, subst, arith}
 use Rattle.std.proofs.lemmas.List.{get_or_read}
-use Rattle.model_graph.specs.Rows.{linked, IsGraph}
-use Rattle.model_graph.specs.Levels.{level_of, AreLevels}
-use Rattle.model_graph.specs.Pinches.{IsPinch}
-use Rattle.model_graph.specs.Descents.{SmallestAt}
-use Rattle.model_graph.proofs.Members.{Around-sym}
-use Rattle.model_graph.proofs.Floods.{level_cases, level_within}
-use Rattle.model_graph.proofs.PinchSearch.{Simple-from_graph, level_from_around}
+use Rattle.model_graph.specs.{Rows.linked, Rows.IsGraph, Levels.level_of, Levels.AreLevels, Pinches.IsPinch, Descents.SmallestAt}
+use Rattle.model_graph.proofs.{Members.Around-sym, Floods.level_cases, Floods.level_within, PinchSearch.Simple-from_graph, PinchSearch.level_from_around}
 use Rattle.model_graph.proofs.Descending.{Descent-push, lower_exists, FirstWalk-from_descent}
 use Rattle.model_graph.proofs.ring.ring_of.Goals as goal
 

@@ -1,7 +1,5 @@
 use Rattle.std.proofs.Common.{◌≡◌, ◌∷◌, ℕ, List, Some}
-use Rattle.model_graph.specs.Rows.{linked}
-use Rattle.model_graph.specs.Levels.{level_of}
-use Rattle.model_graph.specs.Descents.{Descent}
+use Rattle.model_graph.specs.{Rows.linked, Levels.level_of, Descents.Descent}
 use Rattle.model_graph.proofs.ring.ring_of.Given as goal
 
 abbrev pub invariant-descending : goal.invariant-descending

@@ -1,5 +1,4 @@
-use Rattle.std.proofs.Common.{below_more, arith}
-use Rattle.std.proofs.lemmas.Bool.{both_ways, false≢true}
+use Rattle.std.proofs.{Common.below_more, Common.arith, lemmas.Bool.both_ways, lemmas.Bool.false≢true}
 use Rattle.model_graph.proofs.sound.rows_ascend.Goals as goal
 
 pub returns-then-not-is_ascending : goal.returns-then-not-is_ascending

@@ -2,8 +2,7 @@ use Rattle.std.proofs.Common.{false, ◌≡◌, ◌∙◌, Some, sym, ap, subst}
 use Rattle.std.proofs.lemmas.Result.{on_ok_weaker}
 use Rattle.model_run.specs.Run.{destination, nth}
 use Rattle.model_replay.specs.Worlds.{Exported, WorldState, own_addresses, encoded}
-use Rattle.model_replay.proofs.Changes.{read-nth}
-use Rattle.model_replay.proofs.Runs.{led-nowhere, led-to}
+use Rattle.model_replay.proofs.{Changes.read-nth, Runs.led-nowhere, Runs.led-to}
 use Rattle.model_replay.proofs.happening.deliver.Goals as goal
 
 pub returns-in-Some-clause-first : goal.returns-in-Some-clause-first

@@ -1,13 +1,10 @@
 use Rattle.std.proofs.Common.{◌≡◌, ◌∙◌, List, ℕ, Result, Ok, Err, sym, ap, subst}
-use Rattle.std.specs.Prelude.{OnOk}
 use Rattle.std.proofs.lemmas.Result.{on_ok_weaker}
-use Rattle.model_run.specs.Event.{run_event}
-use Rattle.model_run.specs.declared.event.Event.{Event}
+use Rattle.std.specs.Prelude.{OnOk}
+use Rattle.model_run.specs.{Event.run_event, declared.event.Event.Event, Run.Run, Run.after_event}
 use Rattle.model_run.specs.declared.event.Event.TheVariants as event
-use Rattle.model_run.specs.Run.{Run, after_event}
 use Rattle.model_replay.specs.Worlds.{IsWorldOf, WorldState, after_posting, with_change}
-use Rattle.model_replay.proofs.Deliveries.{delivery-run}
-use Rattle.model_replay.proofs.Runs.{posted-run, purged-run, scanned-run}
+use Rattle.model_replay.proofs.{Deliveries.delivery-run, Runs.posted-run, Runs.purged-run, Runs.scanned-run}
 use Rattle.model_replay.proofs.happening.happen.Goals as goal
 
 -- two facts of one answer

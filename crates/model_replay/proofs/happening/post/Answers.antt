@@ -1,5 +1,4 @@
-use Rattle.std.proofs.Common.{◌<◌, length, arith}
-use Rattle.std.proofs.lemmas.Result.{on_ok_weaker}
+use Rattle.std.proofs.{Common.◌<◌, Common.length, Common.arith, lemmas.Result.on_ok_weaker}
 use Rattle.model_replay.specs.Worlds.{after_posting}
 use Rattle.model_replay.proofs.Changes.{addresses_stay, with_past, with_set}
 use Rattle.model_replay.proofs.happening.post.Goals as goal

@@ -1,5 +1,4 @@
-use Rattle.std.proofs.Common.{arith}
-use Rattle.std.proofs.lemmas.Result.{on_ok_weaker}
+use Rattle.std.proofs.{Common.arith, lemmas.Result.on_ok_weaker}
 use Rattle.model_replay.proofs.Changes.{posted-after, refused-after}
 use Rattle.model_replay.proofs.happening.post_at.Goals as goal
 

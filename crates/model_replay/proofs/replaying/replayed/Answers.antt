@@ -1,12 +1,9 @@
 use Rattle.std.proofs.Common.{◌∙◌, List, [], map, take, sym, ap, subst, arith}
 use Rattle.std.proofs.lemmas.List.{take_all}
 use Rattle.echo_addr.specs.declared.address.Address.{Address}
-use Rattle.model_run.specs.Event.{run_event}
-use Rattle.model_run.specs.Run.{Run, run_of}
+use Rattle.model_run.specs.{Event.run_event, Run.Run, Run.run_of}
 use Rattle.model_replay.specs.Worlds.{IsWorldOf, LeadsToFirst, WorldState, own_addresses}
-use Rattle.model_replay.proofs.Counted.{counts-more}
-use Rattle.model_replay.proofs.Runs.{addresses-first, event-more, first-run}
-use Rattle.model_replay.proofs.Taken.{run-taken}
+use Rattle.model_replay.proofs.{Counted.counts-more, Runs.addresses-first, Runs.event-more, Runs.first-run, Taken.run-taken}
 use Rattle.model_replay.proofs.replaying.replayed.Goals as goal
 
 pub events-init : goal.events-init

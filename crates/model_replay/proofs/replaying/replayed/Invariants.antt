@@ -1,8 +1,6 @@
 use Rattle.std.proofs.Common.{◌≡◌, map, take}
-use Rattle.model_run.specs.Event.{run_event}
-use Rattle.model_run.specs.Run.{run_of, start}
-use Rattle.model_replay.specs.Counts.{packet_counts}
-use Rattle.model_replay.specs.Worlds.{IsWorldOf, LeadsToFirst, own_addresses}
+use Rattle.model_run.specs.{Event.run_event, Run.run_of, Run.start}
+use Rattle.model_replay.specs.{Counts.packet_counts, Worlds.IsWorldOf, Worlds.LeadsToFirst, Worlds.own_addresses}
 use Rattle.model_replay.proofs.replaying.replayed.Given as goal
 
 -- the world is that of the events so far; the packets after each are counted; each address leads to its first system

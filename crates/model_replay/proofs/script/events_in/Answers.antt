@@ -1,7 +1,4 @@
-use Rattle.std.proofs.Common.{◌∙◌, arith, length, sym}
-use Rattle.std.proofs.lemmas.Bool.{eqb-true}
-use Rattle.std.proofs.lemmas.List.{drop_all}
-use Rattle.std.proofs.lemmas.Result.{err_from_is_err_and}
+use Rattle.std.proofs.{Common.◌∙◌, Common.arith, Common.length, Common.sym, lemmas.Bool.eqb-true, lemmas.List.drop_all, lemmas.Result.err_from_is_err_and}
 use Rattle.model_replay.proofs.Scripts.{lines_done, lines_more, lines_other}
 use Rattle.model_replay.proofs.script.events_in.Goals as goal
 

@@ -1,8 +1,7 @@
 use Rattle.std.proofs.Common.{◌+◌, ◌<◌, length, drop, cond, refl, sym, ap, ◌∙◌, arith}
 use Rattle.model_run.specs.World.{area_count}
-use Rattle.model_replay.proofs.Readings.{count-step}
+use Rattle.model_replay.proofs.{Readings.count-step, world.count_from.Goals.then-is_of_area, world.count_from.Goals.else-is_of_area}
 use Rattle.model_replay.proofs.world.count_from.Goals as goal
-use Rattle.model_replay.proofs.world.count_from.Goals.{then-is_of_area, else-is_of_area}
 
 pub loop-i-preserved : goal.loop-i-preserved
 loop-i-preserved g c =

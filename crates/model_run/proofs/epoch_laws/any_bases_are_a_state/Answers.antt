@@ -1,5 +1,4 @@
-use Rattle.model_run.proofs.TosserLaws.{the_laws}
-use Rattle.model_run.proofs.States.{any-state}
+use Rattle.model_run.proofs.{TosserLaws.the_laws, States.any-state}
 use Rattle.model_run.proofs.epoch_laws.any_bases_are_a_state.Goals as goal
 
 pub returns : goal.returns

@@ -1,7 +1,5 @@
 use Rattle.model_run.specs.Epochs.{after_epochs}
-use Rattle.model_run.proofs.TosserLaws.{the_laws}
-use Rattle.model_run.proofs.Bases.{filed-once}
-use Rattle.model_run.proofs.Renewal.{epochs-ok}
+use Rattle.model_run.proofs.{TosserLaws.the_laws, Bases.filed-once, Renewal.epochs-ok}
 use Rattle.model_run.proofs.epoch_laws.each_message_is_filed_once_over_changes.Goals as goal
 
 pub returns : goal.returns

@@ -1,5 +1,4 @@
-use Rattle.model_run.proofs.TosserLaws.{the_laws}
-use Rattle.model_run.proofs.NewPostings.{posting-new}
+use Rattle.model_run.proofs.{TosserLaws.the_laws, NewPostings.posting-new}
 use Rattle.model_run.proofs.epoch_laws.postings_are_new.Goals as goal
 
 pub returns : goal.returns

@@ -1,5 +1,4 @@
-use Rattle.model_run.proofs.TosserLaws.{the_laws}
-use Rattle.model_run.proofs.States.{changed-state, first-state, later-state}
+use Rattle.model_run.proofs.{TosserLaws.the_laws, States.changed-state, States.first-state, States.later-state}
 use Rattle.model_run.proofs.epoch_laws.states_lead_to_states.Goals as goal
 
 pub returns : goal.returns

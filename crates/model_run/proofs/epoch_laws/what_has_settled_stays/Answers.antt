@@ -1,5 +1,4 @@
-use Rattle.model_run.proofs.TosserLaws.{the_laws}
-use Rattle.model_run.proofs.Changes.{settled-stays}
+use Rattle.model_run.proofs.{TosserLaws.the_laws, Changes.settled-stays}
 use Rattle.model_run.proofs.epoch_laws.what_has_settled_stays.Goals as goal
 
 pub returns : goal.returns

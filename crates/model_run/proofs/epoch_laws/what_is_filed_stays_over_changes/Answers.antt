@@ -1,5 +1,4 @@
-use Rattle.model_run.proofs.TosserLaws.{the_laws}
-use Rattle.model_run.proofs.Renewal.{epochs-outlive}
+use Rattle.model_run.proofs.{TosserLaws.the_laws, Renewal.epochs-outlive}
 use Rattle.model_run.proofs.epoch_laws.what_is_filed_stays_over_changes.Goals as goal
 
 pub returns : goal.returns

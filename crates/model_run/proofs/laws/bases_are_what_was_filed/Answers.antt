@@ -1,6 +1,4 @@
-use Rattle.model_run.proofs.TosserLaws.{the_laws}
-use Rattle.model_run.proofs.Bases.{Kept-at, Kept-length, Kept-waiting}
-use Rattle.model_run.proofs.EachSystem.{run-kept}
+use Rattle.model_run.proofs.{TosserLaws.the_laws, Bases.Kept-at, Bases.Kept-length, Bases.Kept-waiting, EachSystem.run-kept}
 use Rattle.model_run.proofs.laws.bases_are_what_was_filed.Goals as goal
 
 pub returns : goal.returns

@@ -1,7 +1,5 @@
 use Rattle.model_run.specs.Run.{run_of}
-use Rattle.model_run.proofs.TosserLaws.{the_laws}
-use Rattle.model_run.proofs.Bases.{filed-once}
-use Rattle.model_run.proofs.WholeRuns.{run-ok}
+use Rattle.model_run.proofs.{TosserLaws.the_laws, Bases.filed-once, WholeRuns.run-ok}
 use Rattle.model_run.proofs.laws.each_message_is_filed_once.Goals as goal
 
 pub returns : goal.returns

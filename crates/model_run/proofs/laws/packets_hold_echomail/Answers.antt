@@ -1,13 +1,10 @@
 use Rattle.std.proofs.Common.{List, ap}
 use Rattle.std.specs.Prelude.{Option, is_none, map}
 use Rattle.echo_packet.specs.Message.{Message}
-use Rattle.echo_text.specs.Refusal.{text_refusal}
-use Rattle.echo_text.specs.declared.fault.TextFault.{TextFault}
+use Rattle.echo_text.specs.{Refusal.text_refusal, declared.fault.TextFault.TextFault}
 use Rattle.model_steps.specs.Tossing.{received}
 use Rattle.model_run.specs.Orderly.{origin}
-use Rattle.model_run.proofs.Lists.{filter-all}
-use Rattle.model_run.proofs.TosserLaws.{the_laws}
-use Rattle.model_run.proofs.WholeRuns.{run-made}
+use Rattle.model_run.proofs.{Lists.filter-all, TosserLaws.the_laws, WholeRuns.run-made}
 use Rattle.model_run.proofs.laws.packets_hold_echomail.Goals as goal
 
 pub returns : goal.returns

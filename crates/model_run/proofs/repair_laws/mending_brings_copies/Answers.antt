@@ -1,8 +1,5 @@
 use Rattle.std.proofs.Common.{inl, inr}
-use Rattle.model_run.proofs.Bases.{same-parts}
-use Rattle.model_run.proofs.Repair.{all_resent_of, mended-content, mended-known, tossing-in}
-use Rattle.model_run.proofs.States.{base-echo}
-use Rattle.model_run.proofs.TosserLaws.{the_laws}
+use Rattle.model_run.proofs.{Bases.same-parts, Repair.all_resent_of, Repair.mended-content, Repair.mended-known, Repair.tossing-in, States.base-echo, TosserLaws.the_laws}
 use Rattle.model_run.proofs.repair_laws.mending_brings_copies.Goals as goal
 
 pub returns : goal.returns

@@ -1,5 +1,4 @@
-use Rattle.model_run.proofs.Saying.{all-say}
-use Rattle.model_run.proofs.TosserLaws.{the_laws}
+use Rattle.model_run.proofs.{Saying.all-say, TosserLaws.the_laws}
 use Rattle.model_run.proofs.repair_laws.repairs_keep_the_content.Goals as goal
 
 pub returns : goal.returns

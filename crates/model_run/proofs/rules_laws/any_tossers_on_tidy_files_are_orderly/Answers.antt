@@ -1,8 +1,6 @@
 use Rattle.std.proofs.Common.{IsTrue}
 use Rattle.echo_links.specs.Links.{same_address}
-use Rattle.model_run.proofs.Eras.{every_run-orderly}
-use Rattle.model_run.proofs.TosserPremises.{Tells-can}
-use Rattle.model_run.proofs.TosserLaws.{the_laws, tidy-net}
+use Rattle.model_run.proofs.{Eras.every_run-orderly, TosserPremises.Tells-can, TosserLaws.the_laws, TosserLaws.tidy-net}
 use Rattle.model_run.specs.AreaNets.{net_of}
 use Rattle.model_run.proofs.rules_laws.any_tossers_on_tidy_files_are_orderly.Goals as goal
 

@@ -2,16 +2,8 @@ use Rattle.std.proofs.Common.{◌≡◌, subst, List}
 use Rattle.std.specs.Prelude.{IsTrue}
 use Rattle.echo_links.specs.Links.{LinkFile}
 use Rattle.echo_filed.specs.declared.key.Key.{Key}
-use Rattle.model_run.specs.Keeping.{in_area}
-use Rattle.model_run.specs.Orderly.{tag_of}
-use Rattle.model_run.specs.Run.{start}
-use Rattle.model_run.proofs.Areas.{bytes-same}
-use Rattle.model_run.proofs.Bases.{start-ok}
-use Rattle.model_run.proofs.Changes.{fresh-none}
-use Rattle.model_run.proofs.Histories.{Standing}
-use Rattle.model_run.proofs.StandingRuns.{events-stand, none-stands}
-use Rattle.model_run.proofs.TosserLaws.{the_laws}
-use Rattle.model_run.proofs.WholeRuns.{fresh-files}
+use Rattle.model_run.specs.{Keeping.in_area, Orderly.tag_of, Run.start}
+use Rattle.model_run.proofs.{Areas.bytes-same, Bases.start-ok, Changes.fresh-none, Histories.Standing, StandingRuns.events-stand, StandingRuns.none-stands, TosserLaws.the_laws, WholeRuns.fresh-files}
 use Rattle.model_run.proofs.rules_laws.this_tosser_keeps_the_rules.Goals as goal
 
 pub returns : goal.returns

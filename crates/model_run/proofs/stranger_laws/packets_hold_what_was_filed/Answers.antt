@@ -1,8 +1,6 @@
 use Rattle.std.proofs.Common.{ap, ◌∙◌}
 use Rattle.echo_links.specs.Links.{LinkFile}
-use Rattle.model_run.proofs.TosserLaws.{the_laws}
-use Rattle.model_run.proofs.Filings.{run-file}
-use Rattle.model_run.proofs.SentSoFar.{copy-owed, end-sent}
+use Rattle.model_run.proofs.{TosserLaws.the_laws, Filings.run-file, SentSoFar.copy-owed, SentSoFar.end-sent}
 use Rattle.model_run.proofs.stranger_laws.packets_hold_what_was_filed.Goals as goal
 
 pub returns : goal.returns

@@ -1,6 +1,4 @@
-use Rattle.model_run.proofs.TosserLaws.{the_laws}
-use Rattle.model_run.proofs.Filings.{run-new, run-posted}
-use Rattle.model_run.proofs.SentSoFar.{run-due}
+use Rattle.model_run.proofs.{TosserLaws.the_laws, Filings.run-new, Filings.run-posted, SentSoFar.run-due}
 use Rattle.model_run.proofs.stranger_laws.what_is_due_is_filed.Goals as goal
 
 pub returns : goal.returns

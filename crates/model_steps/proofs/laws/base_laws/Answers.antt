@@ -1,5 +1,4 @@
-use Rattle.model_steps.proofs.Kept.{posting_keeps, tossing_keeps}
-use Rattle.model_steps.proofs.Purged.{purge_keeps}
+use Rattle.model_steps.proofs.{Kept.posting_keeps, Kept.tossing_keeps, Purged.purge_keeps}
 use Rattle.model_steps.proofs.laws.base_laws.Goals as goal
 
 pub returns-clause-posted : goal.returns-clause-posted

@@ -1,9 +1,8 @@
 use Rattle.std.proofs.Common.{◌≡◌, ◌+◌, ◌∙◌, refl, sym, Bool, true, false, cond, arith, take}
 use Rattle.echo_addr.specs.declared.address.Address.{Address}
 use Rattle.echo_filed.specs.declared.key.Key.TheVariants.{ById}
-use Rattle.model_why.proofs.Counting.{total, total-more}
+use Rattle.model_why.proofs.{Counting.total, Counting.total-more, copies.count_copies.Goals.then-branch, copies.count_copies.Goals.else-branch}
 use Rattle.model_why.proofs.copies.count_copies.Goals as goal
-use Rattle.model_why.proofs.copies.count_copies.Goals.{then-branch, else-branch}
 
 pub messages-preserved : goal.messages-preserved
 messages-preserved c =

@@ -1,8 +1,7 @@
 use Rattle.std.proofs.Common.{◌≡◌, take}
 use Rattle.echo_filed.specs.declared.key.Key.TheVariants.{ById}
 use Rattle.model_replay.specs.Worlds.{IsWorldOf}
-use Rattle.model_run.specs.Orderly.{sent_count}
-use Rattle.model_run.specs.Run.{Run}
+use Rattle.model_run.specs.{Orderly.sent_count, Run.Run}
 use Rattle.model_why.proofs.copies.sent_times.Given as goal
 
 -- the copies of the packets so far are counted

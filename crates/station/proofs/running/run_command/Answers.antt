@@ -1,7 +1,7 @@
 use Rattle.std.proofs.Common.{◌≡◌, ◌≤◌, ap, arith, inl, inr, refl}
+use Rattle.station.proofs.Ran.{elsewhere_after, looks_of, looks_open, past_of, refused_run, run_on, stopped_on}
 use Rattle.station.proofs.Failures.{failed_wider}
 use Rattle.cmd_store.specs.Stops.{store_answer}
-use Rattle.station.proofs.Ran.{elsewhere_after, looks_of, looks_open, past_of, refused_run, run_on, stopped_on}
 use Rattle.station.proofs.running.run_command.Goals as goal
 
 pub returns-in-Ok-prepare-clause-runs : goal.returns-in-Ok-prepare-clause-runs

@@ -1,6 +1,5 @@
 -- The bytes up to here are plain.
-use Rattle.std.specs.Prelude.{◌≢◌}
-use Rattle.std.specs.List.{AllWithin}
+use Rattle.std.specs.{Prelude.◌≢◌, List.AllWithin}
 use Rattle.station_bases.proofs.folder_lending.is_plain.Given as goal
 
 abbrev pub invariant-bytes : goal.invariant-bytes

@@ -1,7 +1,5 @@
-use Rattle.std.proofs.Common.{arith}
-use Rattle.std.proofs.lemmas.Bool.Decides.{Decides-eqb}
+use Rattle.std.proofs.{Common.arith, lemmas.Bool.Decides.Decides-eqb, lemmas.Slice.Eq.strip_prefix_is}
 use Rattle.std.specs.Prelude.{◌++◌, None, codes}
-use Rattle.std.proofs.lemmas.Slice.Eq.{strip_prefix_is}
 use Rattle.station_bases.proofs.Lent.{prefix_by, prefix_none}
 use Rattle.station_bases.proofs.lending.is_ending.Goals as goal
 

@@ -1,12 +1,9 @@
 use Rattle.std.proofs.Common.{List, ℕ, Option, Ok, sym, subst}
 use Rattle.std.specs.Prelude.{IfSome}
 use Rattle.disk_io.specs.Disk.{bytes_in}
-use Rattle.base_file.specs.Base.{Base}
-use Rattle.base_file.specs.BaseFile.{LoadOf}
-use Rattle.station_bases.specs.Entries.{HoldEntries}
-use Rattle.station_bases.specs.declared.entries.Entries.{Entries}
-use Rattle.station_bases.proofs.Opened.{given_loads}
-use Rattle.station_bases.proofs.Reach.{same_file}
+use Rattle.base_file.specs.{Base.Base, BaseFile.LoadOf}
+use Rattle.station_bases.specs.{Entries.HoldEntries, declared.entries.Entries.Entries}
+use Rattle.station_bases.proofs.{Opened.given_loads, Reach.same_file}
 use Rattle.station_bases.proofs.loading.open_apart.Goals as goal
 
 pub returns-in-Some-clause-held : goal.returns-in-Some-clause-held

@@ -1,10 +1,8 @@
 use Rattle.std.proofs.Common.{arith, inl, inr, subst, sym}
 use Rattle.std.proofs.lemmas.Result.{err_from_is_err_and}
 use Rattle.echo_addr.specs.declared.address.Address.{Address}
-use Rattle.base_folder.specs.Ours.{IsOfOther}
-use Rattle.base_folder.specs.Unopened.{IsOpenedFor}
-use Rattle.disk_io.specs.Device.{Failed}
-use Rattle.disk_io.specs.Disk.{Files}
+use Rattle.base_folder.specs.{Ours.IsOfOther, Unopened.IsOpenedFor}
+use Rattle.disk_io.specs.{Device.Failed, Disk.Files}
 use Rattle.station.specs.Opening.{HaveFailed}
 use Rattle.station.proofs.Failures.{failed_wider}
 use Rattle.station_bases.proofs.FolderOpened.{not_opened, opens_since, quiet_represented}

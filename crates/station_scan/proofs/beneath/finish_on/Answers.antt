@@ -1,8 +1,6 @@
 use Rattle.std.proofs.Common.{refl, subst, sym, arith}
 use Rattle.station_scan.specs.Left.{AreFreeLeft, IsOfNameOff}
-use Rattle.station_scan.proofs.Looked.{same_seen}
-use Rattle.station_scan.proofs.Through.{ends_through}
-use Rattle.station_scan.proofs.UsedDisks.{held, used}
+use Rattle.station_scan.proofs.{Looked.same_seen, Through.ends_through, UsedDisks.held, UsedDisks.used}
 use Rattle.station_scan.proofs.beneath.finish_on.Goals as goal
 
 pub give_back-store-requires : goal.give_back-store-requires

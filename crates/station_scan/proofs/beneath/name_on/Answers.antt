@@ -1,11 +1,7 @@
 use Rattle.std.proofs.Common.{◌≡◌, refl, subst, true, All}
 use Rattle.disk_io.specs.Disk.{Files}
-use Rattle.disk_atomic.specs.Naming.{HasItsPath}
-use Rattle.disk_atomic.specs.Outgoing.{IsOfOne, staged_in}
-use Rattle.station_scan.proofs.Published.{own_not_of}
-use Rattle.station_scan.proofs.Through.{are_staged, have_their_paths, names_through, ok_gives}
-use Rattle.station_scan.proofs.Looked.{same_seen}
-use Rattle.station_scan.proofs.UsedDisks.{held, used}
+use Rattle.disk_atomic.specs.{Naming.HasItsPath, Outgoing.IsOfOne, Outgoing.staged_in}
+use Rattle.station_scan.proofs.{Published.own_not_of, Through.are_staged, Through.have_their_paths, Through.names_through, Through.ok_gives, Looked.same_seen, UsedDisks.held, UsedDisks.used}
 use Rattle.station_scan.proofs.beneath.name_on.Goals as goal
 
 pub give_back-store-requires : goal.give_back-store-requires

@@ -1,9 +1,7 @@
 -- The routes so far have their packets.
 use Rattle.std.proofs.Common.{◌≡◌, [], map, take}
 use Rattle.std.specs.Prelude.{All}
-use Rattle.station_scan.specs.Passing.{IsCounted}
-use Rattle.station_scan.specs.declared.counting.LinkPacket.{LinkPacket}
-use Rattle.station_scan.specs.declared.sending.Route.{Route}
+use Rattle.station_scan.specs.{Passing.IsCounted, declared.counting.LinkPacket.LinkPacket, declared.sending.Route.Route}
 use Rattle.station_scan.proofs.counting.empty_packets.Given as goal
 
 abbrev pub invariant-routes : goal.invariant-routes

@@ -1,5 +1,4 @@
-use Rattle.std.proofs.Common.{arith}
-use Rattle.std.proofs.lemmas.Result.{err_from_is_err_and}
+use Rattle.std.proofs.{Common.arith, lemmas.Result.err_from_is_err_and}
 use Rattle.station_scan.proofs.counting.print_made.Goals as goal
 
 pub returns-in_err-counts-clause-answers : goal.returns-in_err-counts-clause-answers

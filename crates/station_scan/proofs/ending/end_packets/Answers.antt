@@ -1,8 +1,6 @@
-use Rattle.std.proofs.Common.{arith}
-use Rattle.std.proofs.lemmas.Result.{on_ok_weaker}
+use Rattle.std.proofs.{Common.arith, lemmas.Result.on_ok_weaker}
 use Rattle.disk_atomic.specs.Outgoing.{IsAtStaging}
-use Rattle.station_scan.proofs.Through.{ok_gives}
-use Rattle.station_scan.proofs.Written.{tried_written, used_twice}
+use Rattle.station_scan.proofs.{Through.ok_gives, Written.tried_written, Written.used_twice}
 use Rattle.station_scan.proofs.ending.end_packets.Goals as goal
 
 pub returns-in-Ok-clause-used : goal.returns-in-Ok-clause-used

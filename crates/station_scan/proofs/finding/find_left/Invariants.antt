@@ -1,9 +1,7 @@
 -- The listed packets up to here are found.
 use Rattle.std.proofs.Common.{◌≤◌}
-use Rattle.std.specs.Prelude.{All}
-use Rattle.std.specs.List.{AllWithin}
-use Rattle.disk_io.specs.Disk.{Honestly}
-use Rattle.disk_io.specs.Runs.{ChangesNothing}
+use Rattle.std.specs.{Prelude.All, List.AllWithin}
+use Rattle.disk_io.specs.{Disk.Honestly, Runs.ChangesNothing}
 use Rattle.station_scan.specs.Left.{AreFound, IsStagingThere, IsFoundWhere}
 use Rattle.station_scan.proofs.finding.find_left.Given as goal
 

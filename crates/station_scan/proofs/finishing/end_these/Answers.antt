@@ -1,5 +1,4 @@
-use Rattle.std.proofs.Common.{subst, sym, arith}
-use Rattle.std.proofs.lemmas.Result.{err_from_is_err_and}
+use Rattle.std.proofs.{Common.subst, Common.sym, Common.arith, lemmas.Result.err_from_is_err_and}
 use Rattle.disk_atomic.specs.Finishing.{IsOfLeft}
 use Rattle.disk_atomic.proofs.Changes.{only_nothing, then_only, wider}
 use Rattle.station_scan.specs.Left.{AreSameLeft, IsOfPaths}

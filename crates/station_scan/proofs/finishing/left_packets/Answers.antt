@@ -1,6 +1,4 @@
-use Rattle.std.proofs.Common.{⊎_elim, arith, get_or, vec_len}
-use Rattle.std.proofs.lemmas.Bool.{cases_lt}
-use Rattle.std.proofs.lemmas.List.{get_or_default}
+use Rattle.std.proofs.{Common.⊎_elim, Common.arith, Common.get_or, Common.vec_len, lemmas.Bool.cases_lt, lemmas.List.get_or_default}
 use Rattle.station_scan.proofs.finishing.left_packets.Goals as goal
 
 pub paths-preserved : goal.paths-preserved

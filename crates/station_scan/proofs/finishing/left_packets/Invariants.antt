@@ -1,8 +1,7 @@
 -- The packets of the paths up to here are there.
 use Rattle.std.proofs.Common.{◌≡◌, ◌<◌, ℕ, length, get_or}
 use Rattle.disk_atomic.specs.declared.finishing.Left.{Left}
-use Rattle.station_scan.specs.declared.finding.LeftPaths.{LeftPaths}
-use Rattle.station_scan.specs.Left.{IsSameLeft}
+use Rattle.station_scan.specs.{declared.finding.LeftPaths.LeftPaths, Left.IsSameLeft}
 use Rattle.station_scan.proofs.finishing.left_packets.Given as goal
 
 abbrev pub invariant-paths : goal.invariant-paths

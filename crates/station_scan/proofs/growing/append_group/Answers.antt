@@ -1,18 +1,11 @@
 use Rattle.std.proofs.Common.{◌<◌, ℕ, List, Result, refl, subst}
-use Rattle.std.specs.Prelude.{All, OnOk}
-use Rattle.disk_io.specs.Disk.{Honestly, IsIn}
-use Rattle.disk_io.specs.declared.disk_error.DiskError.{DiskError}
-use Rattle.disk_atomic.specs.Outgoing.{IsAtStaging, IsLonger}
-use Rattle.disk_atomic.specs.declared.placing_error.PlacingError.{PlacingError}
-use Rattle.std.specs.Prelude.{length}
+use Rattle.std.specs.Prelude.{All, OnOk, length}
+use Rattle.disk_io.specs.{Disk.Honestly, Disk.IsIn, declared.disk_error.DiskError.DiskError}
+use Rattle.disk_atomic.specs.{Outgoing.IsAtStaging, Outgoing.IsLonger, declared.placing_error.PlacingError.PlacingError}
 use Rattle.echo_packet.specs.Message.{messages_bytes}
 use Rattle.echo_toss.specs.Counts.{copies_out}
-use Rattle.station_scan.specs.Passing.{header_for}
-use Rattle.station_scan.specs.Publishing.{AreOpen, IsWritten}
-use Rattle.station_scan.specs.declared.writing.Batch.{Batch}
-use Rattle.station_scan.proofs.Grown.{all_appended, copied_grow, first_staging, open_growing}
-use Rattle.station_scan.proofs.Passes.{used_wider}
-use Rattle.station_scan.proofs.Written.{off_still, used_twice}
+use Rattle.station_scan.specs.{Passing.header_for, Publishing.AreOpen, Publishing.IsWritten, declared.writing.Batch.Batch}
+use Rattle.station_scan.proofs.{Grown.all_appended, Grown.copied_grow, Grown.first_staging, Grown.open_growing, Passes.used_wider, Written.off_still, Written.used_twice}
 use Rattle.station_scan.proofs.growing.append_group.Goals as goal
 
 pub append_on-store-requires : goal.append_on-store-requires

@@ -1,20 +1,16 @@
 use Rattle.std.proofs.Common.{◌≡◌, ◌≤◌, ◌∙◌, List, Result, Err, ap, arith, subst, sym}
-use Rattle.std.specs.Prelude.{IfErr, IfOk, Vec}
-use Rattle.std.specs.declared.alloc.Global.{Global}
+use Rattle.std.specs.{Prelude.IfErr, Prelude.IfOk, Prelude.Vec, declared.alloc.Global.Global}
 use Rattle.disk_io.specs.Device.{Failed}
 use Rattle.base_store.specs.Store.{all_scanned}
 use Rattle.cmd_status.specs.Devices.{output_of}
-use Rattle.station_scan.specs.declared.counting.LinkPacket.{LinkPacket}
-use Rattle.station.proofs.Failures.{failed_wider}
-use Rattle.station_scan.specs.Moved.{ScansFrom}
-use Rattle.station_scan.specs.Passing.{HasPassed, IsStagingTo, StopsPassing}
-use Rattle.station_scan.specs.declared.publish_error.PublishError.{PublishError}
+use Rattle.station_scan.specs.{declared.counting.LinkPacket.LinkPacket, Moved.ScansFrom, Passing.HasPassed, Passing.IsStagingTo, Passing.StopsPassing, declared.publish_error.PublishError.PublishError}
 use Rattle.station_scan.specs.declared.publish_error.PublishError.TheVariants.{Base as OfBase, Packets, Reading, Staging}
+use Rattle.station_scan.specs.declared.scan_error.ScanError.{ScanError}
+use Rattle.station.proofs.Failures.{failed_wider}
 use Rattle.disk_atomic.specs.declared.placing_error.PlacingError.{PlacingError}
 use Rattle.disk_atomic.specs.declared.placing_error.PlacingError.TheVariants as placing
-use Rattle.station_scan.specs.declared.scan_error.ScanError.{ScanError}
-use Rattle.station_scan.proofs.Passes.{can_still, staged_keeps, used_looked}
 use Rattle.station_scan.proofs.Reports.{err_of, scans_reading, scans_reported, scans_staying, scans_wider, touched_after, touched_looked}
+use Rattle.station_scan.proofs.Passes.{can_still, staged_keeps, used_looked}
 use Rattle.station_scan.proofs.outgoing.send_on.Goals as goal
 
 pub send_made-requires : goal.send_made-requires

@@ -1,11 +1,8 @@
 use Rattle.std.proofs.Common.{◌≡◌, ◌≢◌, ◌<◌, ◌∙◌, ⊎_elim, List, ap, arith, length, map, refl, subst, sym}
-use Rattle.std.proofs.lemmas.Result.{on_ok_weaker}
+use Rattle.std.proofs.lemmas.{Result.on_ok_weaker, Bool.eqb-false, Bool.eqb-true}
 use Rattle.std.specs.Prelude.{All}
-use Rattle.std.proofs.lemmas.Bool.{eqb-false, eqb-true}
-use Rattle.disk_atomic.specs.declared.outgoing.Outgoing.{Outgoing}
-use Rattle.disk_atomic.specs.declared.placing_error.PlacingError.TheVariants.{Taken}
-use Rattle.station_scan.specs.Fitting.{IsOff}
-use Rattle.station_scan.specs.Passing.{begun_in, copied_in, with_group}
+use Rattle.disk_atomic.specs.declared.{outgoing.Outgoing.Outgoing, placing_error.PlacingError.TheVariants.Taken}
+use Rattle.station_scan.specs.{Fitting.IsOff, Passing.begun_in, Passing.copied_in, Passing.with_group}
 use Rattle.station_scan.proofs.Passes.{begun_going, copied_going, group_appending, group_making, group_staged, group_taken, group_unfit, none_making, none_staged, staged_none}
 use Rattle.station_scan.proofs.passing.add_group.Goals as goal
 

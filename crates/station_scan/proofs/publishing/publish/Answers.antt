@@ -1,7 +1,6 @@
 use Rattle.std.specs.Prelude.{All, Bool, OnOk, Result}
 use Rattle.std.proofs.Common.{subst, arith}
-use Rattle.station_scan.specs.Publishing.{IsWritten, ended_before, ended_in}
-use Rattle.station_scan.specs.declared.publish_error.PublishError.{PublishError}
+use Rattle.station_scan.specs.{Publishing.IsWritten, Publishing.ended_before, Publishing.ended_in, declared.publish_error.PublishError.PublishError}
 use Rattle.station_scan.proofs.Published.{publish_keeps, published_from, publishing, staging_keeps, stopping, stops_before, stops_from}
 use Rattle.station_scan.proofs.publishing.publish.Goals as goal
 

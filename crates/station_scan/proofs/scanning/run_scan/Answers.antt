@@ -1,13 +1,10 @@
 use Rattle.std.proofs.Common.{◌≡◌, ◌≤◌, ◌⊎◌, Err, arith, inl, inr, refl}
 use Rattle.disk_io.specs.Device.{Failed}
-use Rattle.station.proofs.Failures.{failed_wider}
+use Rattle.station.proofs.{Failures.failed_wider, Ran.looks_of, Ran.looks_open, Ran.stopped_on}
 use Rattle.cmd_store.specs.declared.command_error.CommandError.TheVariants.{Met}
 use Rattle.cmd_status.specs.Devices.{output_of}
 use Rattle.station.specs.Opening.{HaveFailed}
-use Rattle.station.proofs.Ran.{looks_of, looks_open, stopped_on}
-use Rattle.station_scan.proofs.Runs.{scan_keeps, scanned_on}
-use Rattle.station_scan.proofs.Stops.{failed_too}
-use Rattle.station_scan.proofs.Tries.{scan_tries}
+use Rattle.station_scan.proofs.{Runs.scan_keeps, Runs.scanned_on, Stops.failed_too, Tries.scan_tries}
 use Rattle.station_scan.proofs.scanning.run_scan.Goals as goal
 
 pub returns-in-Ok-prepare-clause-runs : goal.returns-in-Ok-prepare-clause-runs

@@ -4,10 +4,7 @@ use Rattle.station.proofs.Failures.{failed_wider}
 use Rattle.cmd_status.specs.Devices.{output_of}
 use Rattle.cmd_store.specs.declared.command_error.CommandError.TheVariants.{Store}
 use Rattle.station_scan.specs.Moved.{IsMoved}
-use Rattle.station_scan.proofs.Lefts.{quiet_start}
-use Rattle.station_scan.proofs.Published.{keeps_nothing}
-use Rattle.station_scan.proofs.Scans.{moved_keeps, scans_moved, scans_stopped}
-use Rattle.station_scan.proofs.Tries.{tries_moved}
+use Rattle.station_scan.proofs.{Lefts.quiet_start, Published.keeps_nothing, Scans.moved_keeps, Scans.scans_moved, Scans.scans_stopped, Tries.tries_moved}
 use Rattle.station_scan.proofs.scanning.scan_kept.Goals as goal
 
 pub returns-in-Ok-clause-scans : goal.returns-in-Ok-clause-scans

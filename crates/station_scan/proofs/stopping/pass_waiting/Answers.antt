@@ -1,9 +1,6 @@
 use Rattle.std.proofs.Common.{List, refl, subst, sym, arith}
-use Rattle.station_scan.specs.Passing.{HasStaged, IsPartOf}
-use Rattle.station_scan.specs.declared.counting.LinkPacket.{LinkPacket}
-use Rattle.station_scan.specs.declared.publish_error.PublishError.TheVariants.{Staging}
-use Rattle.station_scan.proofs.Causes.{publish_stop_cause, publish_stop_taken}
-use Rattle.station_scan.proofs.Passes.{can_still, making_new, stops_dropped, stops_none}
+use Rattle.station_scan.specs.{Passing.HasStaged, Passing.IsPartOf, declared.counting.LinkPacket.LinkPacket, declared.publish_error.PublishError.TheVariants.Staging}
+use Rattle.station_scan.proofs.{Causes.publish_stop_cause, Causes.publish_stop_taken, Passes.can_still, Passes.making_new, Passes.stops_dropped, Passes.stops_none}
 use Rattle.station_scan.proofs.stopping.pass_waiting.Goals as goal
 
 pub pass_on-store-requires : goal.pass_on-store-requires

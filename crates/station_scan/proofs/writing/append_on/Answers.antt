@@ -1,9 +1,7 @@
 use Rattle.std.proofs.Common.{inl, refl}
 use Rattle.disk_atomic.specs.Outgoing.{IsAtStaging, IsStagingOne}
 use Rattle.disk_atomic.proofs.Changes.{wider}
-use Rattle.station_scan.proofs.UsedDisks.{staged_ready, staged_used}
-use Rattle.station_scan.proofs.Through.{open_through}
-use Rattle.station_scan.proofs.Written.{longer_through, opened_if}
+use Rattle.station_scan.proofs.{UsedDisks.staged_ready, UsedDisks.staged_used, Through.open_through, Written.longer_through, Written.opened_if}
 use Rattle.station_scan.proofs.writing.append_on.Goals as goal
 
 pub give_back-store-requires : goal.give_back-store-requires

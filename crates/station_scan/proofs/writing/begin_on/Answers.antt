@@ -1,9 +1,7 @@
 use Rattle.std.proofs.Common.{◌≡◌, ◌∙◌, All, false, get_or, inl, refl}
 use Rattle.disk_atomic.specs.Outgoing.{IsAtStaging, IsFree, IsStagingOne}
 use Rattle.disk_atomic.proofs.Changes.{wider}
-use Rattle.station_scan.proofs.UsedDisks.{staged_ready, staged_used}
-use Rattle.station_scan.proofs.Through.{ok_gives}
-use Rattle.station_scan.proofs.Written.{begun_if}
+use Rattle.station_scan.proofs.{UsedDisks.staged_ready, UsedDisks.staged_used, Through.ok_gives, Written.begun_if}
 use Rattle.station_scan.proofs.writing.begin_on.Goals as goal
 
 pub give_back-store-requires : goal.give_back-store-requires

@@ -1,6 +1,5 @@
 use Rattle.std.proofs.Common.{refl, arith}
-use Rattle.station_scan.proofs.UsedDisks.{staged_ready, staged_used}
-use Rattle.station_scan.proofs.Written.{gone_through}
+use Rattle.station_scan.proofs.{UsedDisks.staged_ready, UsedDisks.staged_used, Written.gone_through}
 use Rattle.station_scan.proofs.writing.drop_on.Goals as goal
 
 pub give_back-store-requires : goal.give_back-store-requires

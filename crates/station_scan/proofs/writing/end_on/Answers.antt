@@ -1,9 +1,6 @@
 use Rattle.std.proofs.Common.{◌≡◌, refl, true, arith}
 use Rattle.station_scan.specs.Publishing.{AreStaged}
-use Rattle.station_scan.proofs.UsedDisks.{staged_ready, staged_used}
-use Rattle.station_scan.proofs.Staged.{tried_quiet}
-use Rattle.station_scan.proofs.Through.{ok_gives, open_through, staged_through}
-use Rattle.station_scan.proofs.Written.{same_through}
+use Rattle.station_scan.proofs.{UsedDisks.staged_ready, UsedDisks.staged_used, Staged.tried_quiet, Through.ok_gives, Through.open_through, Through.staged_through, Written.same_through}
 use Rattle.station_scan.proofs.writing.end_on.Goals as goal
 
 pub give_back-store-requires : goal.give_back-store-requires

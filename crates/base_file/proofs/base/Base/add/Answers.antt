@@ -1,7 +1,5 @@
 use Rattle.std.proofs.Common.{◌≡◌, ◌∙◌, ◌++◌, ◌∷◌, [], List, ℕ, ap, subst, true, if◌then◌else◌}
-use Rattle.std.specs.Prelude.{IfOk, bytes_eq}
-use Rattle.std.specs.List.{list_any}
-use Rattle.std.specs.Map.{values_of}
+use Rattle.std.specs.{Prelude.IfOk, Prelude.bytes_eq, List.list_any, Map.values_of}
 use Rattle.echo_filed.specs.Filed.{IsFiled}
 use Rattle.base_file.specs.Base.{Base}
 use Rattle.base_file.proofs.Entries.{entries_after, messages_after, still_entries}

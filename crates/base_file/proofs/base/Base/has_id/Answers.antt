@@ -1,11 +1,8 @@
 use Rattle.std.proofs.Common.{◌≡◌, ◌∙◌, ap, subst, sym, ℕ, false, Bool, List, get_or, take, Vec, Global}
+use Rattle.std.proofs.lemmas.{Bool.or_from, List.take_all, List.Folds.list_any_more}
 use Rattle.std.specs.List.{AllByRecursion, list_any}
-use Rattle.std.proofs.lemmas.Bool.{or_from}
-use Rattle.std.proofs.lemmas.List.{take_all}
-use Rattle.std.proofs.lemmas.List.Folds.{list_any_more}
 use Rattle.echo_filed.specs.declared.key.Key.TheVariants.{ById}
-use Rattle.base_file.specs.Base.{Base, is_known}
-use Rattle.base_file.specs.Entries.{HasTagIn}
+use Rattle.base_file.specs.{Base.Base, Base.is_known, Entries.HasTagIn}
 use Rattle.base_file.proofs.Entries.{any_map, known_by_id, no_such_id}
 use Rattle.base_file.proofs.base.Base.has_id.Goals as goal
 

@@ -1,6 +1,5 @@
 use Rattle.std.proofs.Common.{arith}
-use Rattle.base_file.proofs.Purges.{count_left}
-use Rattle.base_file.proofs.StubBases.{stub_entries}
+use Rattle.base_file.proofs.{Purges.count_left, StubBases.stub_entries}
 use Rattle.base_file.proofs.base.Base.purge.Goals as goal
 
 pub invariant_of-self : goal.invariant_of-self

@@ -1,6 +1,4 @@
-use Rattle.std.proofs.Common.{arith}
-use Rattle.std.proofs.lemmas.Result.{err_from_is_err_and}
-use Rattle.std.proofs.KnownBytes.{Appends-nil}
+use Rattle.std.proofs.{Common.arith, lemmas.Result.err_from_is_err_and, KnownBytes.Appends-nil}
 use Rattle.base_file.proofs.SavedMessages.{saved_some}
 use Rattle.base_file.proofs.base.Base.save.Goals as goal
 

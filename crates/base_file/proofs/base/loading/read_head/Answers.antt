@@ -1,5 +1,4 @@
-use Rattle.std.proofs.Common.{◌++◌, arith}
-use Rattle.std.proofs.KnownBytes.{Consumes-trans}
+use Rattle.std.proofs.{Common.◌++◌, Common.arith, KnownBytes.Consumes-trans}
 use Rattle.echo_filed.specs.Stored.{long}
 use Rattle.base_file.specs.BaseFile.{magic}
 use Rattle.base_file.proofs.Failing.{cursor_cut, cut_fails, head_taken, number_cut}

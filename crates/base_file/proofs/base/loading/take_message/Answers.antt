@@ -1,8 +1,7 @@
 use Rattle.std.proofs.Common.{false, true, arith}
 use Rattle.echo_filed.specs.Filed.{key_of}
 use Rattle.base_file.specs.Base.{is_known}
-use Rattle.base_file.proofs.Entries.{known_unless}
-use Rattle.base_file.proofs.Verdicts.{known_damaged, wrong_damaged}
+use Rattle.base_file.proofs.{Entries.known_unless, Verdicts.known_damaged, Verdicts.wrong_damaged}
 use Rattle.base_file.proofs.base.loading.take_message.Goals as goal
 
 pub returns-then-branch-clause-taken : goal.returns-then-branch-clause-taken

@@ -1,6 +1,4 @@
-use Rattle.std.proofs.Common.{arith}
-use Rattle.std.proofs.lemmas.List.{length-append}
-use Rattle.std.proofs.lemmas.Result.{err_from_is_err_and}
+use Rattle.std.proofs.{Common.arith, lemmas.List.length-append, lemmas.Result.err_from_is_err_and}
 use Rattle.base_file.proofs.Failing.{message_fails, taken_more}
 use Rattle.base_file.proofs.base.loading.take_messages.Goals as goal
 

@@ -1,6 +1,5 @@
-use Rattle.std.proofs.Common.{◌≡◌, arith, subst, Bool}
+use Rattle.std.proofs.{Common.◌≡◌, Common.arith, Common.subst, Common.Bool, lemmas.List.length-map}
 use Rattle.std.specs.Prelude.{IfOk}
-use Rattle.std.proofs.lemmas.List.{length-map}
 use Rattle.indexmap.specs.IndexMap.{values}
 use Rattle.base_file.proofs.SavedMessages.{countable_if, not_countable}
 use Rattle.base_file.proofs.base.saving.are_countable.Goals as goal

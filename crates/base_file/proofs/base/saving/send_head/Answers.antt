@@ -1,8 +1,7 @@
 use Rattle.std.proofs.Common.{◌++◌}
 use Rattle.disk_io.proofs.Devices.{SendsAll-front, SendsFront-more}
 use Rattle.echo_packet.proofs.SentMessage.{SendsAll-as, SendsFront-as, Sends-at_err, Sends-behind}
-use Rattle.echo_filed.specs.declared.stored.Version.TheVariants.{Second}
-use Rattle.echo_filed.specs.Stored.{long}
+use Rattle.echo_filed.specs.{declared.stored.Version.TheVariants.Second, Stored.long}
 use Rattle.echo_filed.proofs.Sendings.{Sends-as}
 use Rattle.base_file.specs.BaseFile.{head_bytes, magic}
 use Rattle.base_file.proofs.base.saving.send_head.Goals as goal

@@ -3,8 +3,7 @@ use Rattle.std.specs.List.{flat_map}
 use Rattle.disk_io.proofs.Devices.{SendsAll-front, SendsAll-then, SendsFront-more}
 use Rattle.echo_packet.proofs.SentMessage.{SendsAll-as, SendsFront-as, Sends-at_err}
 use Rattle.indexmap.specs.IndexMap.{values}
-use Rattle.echo_filed.specs.declared.stored.Version.TheVariants.{Second}
-use Rattle.echo_filed.specs.Stored.{is_short_enough, stored_as, stored_bytes}
+use Rattle.echo_filed.specs.{declared.stored.Version.TheVariants.Second, Stored.is_short_enough, Stored.stored_as, Stored.stored_bytes}
 use Rattle.base_file.specs.BaseFile.{stored_at, stored_from}
 use Rattle.base_file.proofs.SavedMessages.{all_more, all_parts, enough_here, stored_all, stored_here}
 use Rattle.base_file.proofs.base.saving.send_messages.Goals as goal

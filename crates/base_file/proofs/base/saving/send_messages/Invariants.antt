@@ -3,8 +3,7 @@ use Rattle.std.proofs.Common.{◌≡◌, take}
 use Rattle.std.specs.List.{flat_map}
 use Rattle.disk_io.specs.Device.{SendsAll}
 use Rattle.indexmap.specs.IndexMap.{values}
-use Rattle.echo_filed.specs.declared.stored.Version.TheVariants.{Second}
-use Rattle.echo_filed.specs.Stored.{stored_bytes}
+use Rattle.echo_filed.specs.{declared.stored.Version.TheVariants.Second, Stored.stored_bytes}
 use Rattle.base_file.specs.BaseFile.{stored_from}
 use Rattle.base_file.proofs.base.saving.send_messages.Given as goal
 

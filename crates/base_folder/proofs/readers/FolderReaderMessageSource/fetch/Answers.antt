@@ -1,11 +1,8 @@
 use Rattle.std.proofs.Common.{◌≡◌, ◌∙◌, ◌<◌, length, sym, arith}
 use Rattle.std.specs.Prelude.{slice_get}
-use Rattle.echo_filed.specs.Filed.{Filed}
-use Rattle.echo_filed.specs.Stored.{message_in}
-use Rattle.echo_filed.specs.declared.stored.Version.TheVariants.{Second}
+use Rattle.echo_filed.specs.{Filed.Filed, Stored.message_in, declared.stored.Version.TheVariants.Second}
 use Rattle.base_folder_store.specs.Opened.{held_by}
-use Rattle.base_folder_store.proofs.Causes.{answers_error}
-use Rattle.base_folder_store.proofs.Seen.{message_at}
+use Rattle.base_folder_store.proofs.{Causes.answers_error, Seen.message_at}
 use Rattle.base_folder.proofs.Readings.{looked_quiet, read_at, sees_quiet}
 use Rattle.base_folder.proofs.readers.FolderReaderMessageSource.fetch.Goals as goal
 

@@ -4,9 +4,7 @@ use Rattle.disk_io.specs.Disk.{DiskState, Honestly}
 use Rattle.base_log.specs.Moments.{LeavesOutside}
 use Rattle.base_log.proofs.LeftOutside.{left_twice}
 use Rattle.base_store.specs.declared.store_error.StoreError.{StoreError}
-use Rattle.base_folder_store.specs.Calls.{IsAcknowledged}
-use Rattle.base_folder_store.specs.Opened.{committed_by, held_by, path_of}
-use Rattle.base_folder_store.specs.declared.folder.Folder.{Folder}
+use Rattle.base_folder_store.specs.{Calls.IsAcknowledged, Opened.committed_by, Opened.held_by, Opened.path_of, declared.folder.Folder.Folder}
 use Rattle.base_folder_store.proofs.Runs.{run_staged, run_to_commit, stays_twice}
 use Rattle.base_folder_store.proofs.folder.Folder.acknowledge.Goals as goal
 

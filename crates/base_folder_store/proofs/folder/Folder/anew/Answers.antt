@@ -1,17 +1,9 @@
 use Rattle.std.proofs.Common.{◌≡◌, ℕ, List, refl, sym, ap, subst, ◌∙◌, arith}
-use Rattle.base_log.specs.Names.{AreNames, folder_of, keys_of, messages_of}
-use Rattle.base_log.specs.Standing.{base_at}
-use Rattle.base_log.specs.declared.log.CommitRecord.{CommitRecord}
+use Rattle.base_log.specs.{Names.AreNames, Names.folder_of, Names.keys_of, Names.messages_of, Standing.base_at, declared.log.CommitRecord.CommitRecord}
 use Rattle.base_log.proofs.Renewed.{alone_first, alone_run}
-use Rattle.base_folder_store.specs.Calls.{StagesOnly}
-use Rattle.base_folder_store.specs.Left.{IsStagedIn}
-use Rattle.base_folder_store.specs.Opened.{path_of}
-use Rattle.base_folder_store.specs.declared.folder.Folder.{Folder}
-use Rattle.base_folder_store.proofs.Beside.{readable_others}
-use Rattle.base_folder_store.proofs.Staged.{outside_same}
-use Rattle.base_folder_store.proofs.Waits.{written_held}
+use Rattle.base_folder_store.specs.{Calls.StagesOnly, Left.IsStagedIn, Opened.path_of, declared.folder.Folder.Folder}
+use Rattle.base_folder_store.proofs.{Beside.readable_others, Staged.outside_same, Waits.written_held, folder.Folder.anew.Goals.After-stage_anew}
 use Rattle.base_folder_store.proofs.folder.Folder.anew.Given as given
-use Rattle.base_folder_store.proofs.folder.Folder.anew.Goals.{After-stage_anew}
 use Rattle.base_folder_store.proofs.folder.Folder.anew.Goals as goal
 
 pub returns-in_err-names-clause-run : goal.returns-in_err-names-clause-run

@@ -1,12 +1,9 @@
 use Rattle.std.proofs.Common.{◌≢◌, ◌<◌, List, ℕ, subst, arith}
 use Rattle.std.proofs.lemmas.Result.{on_ok_weaker}
-use Rattle.base_log.specs.Moments.{LeavesOutside}
-use Rattle.base_log.specs.Opening.{AreGone}
+use Rattle.base_log.specs.{Moments.LeavesOutside, Opening.AreGone}
 use Rattle.base_log.proofs.LeftOutside.{left_twice}
 use Rattle.base_folder_store.specs.Opened.{committed_by, held_by, path_of}
-use Rattle.base_folder_store.proofs.Beside.{rest_held, rest_open}
-use Rattle.base_folder_store.proofs.Causes.{handed_on, on_ok_from}
-use Rattle.base_folder_store.proofs.Runs.{run_from_commit}
+use Rattle.base_folder_store.proofs.{Beside.rest_held, Beside.rest_open, Causes.handed_on, Causes.on_ok_from, Runs.run_from_commit}
 use Rattle.base_folder_store.proofs.folder.Folder.commit.Goals as goal
 
 pub returns-clause-stays : goal.returns-clause-stays

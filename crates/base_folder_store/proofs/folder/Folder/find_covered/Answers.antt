@@ -1,13 +1,10 @@
 use Rattle.std.proofs.Common.{◌≡◌, ◌<◌, ◌≤◌, ◌*◌, ◌/◌, ℕ, Bool, List, get_or, length, sym, ◌∙◌, arith}
-use Rattle.std.specs.List.{list_any}
 use Rattle.std.proofs.lemmas.List.Folds.{list_any_at}
+use Rattle.std.specs.List.{list_any}
 use Rattle.disk_io.proofs.Moments.{nothing_twice}
 use Rattle.echo_filed.specs.Filed.{Filed}
 use Rattle.base_folder_store.specs.Opened.{held_by}
-use Rattle.base_folder_store.proofs.Bases.{recorded_quiet}
-use Rattle.base_folder_store.proofs.Causes.{answers_error}
-use Rattle.base_folder_store.proofs.Legible.{keys_all, legible_quiet}
-use Rattle.base_folder_store.proofs.Looked.{none_found, passed_on, some_message, stored_of}
+use Rattle.base_folder_store.proofs.{Bases.recorded_quiet, Causes.answers_error, Legible.keys_all, Legible.legible_quiet, Looked.none_found, Looked.passed_on, Looked.some_message, Looked.stored_of}
 use Rattle.base_folder_store.proofs.folder.Folder.find_covered.Goals as goal
 
 -- the number of messages below a bound

@@ -1,10 +1,8 @@
 use Rattle.std.proofs.Common.{◌≡◌, ◌/◌, ◌<◌, ◌≤◌, ℕ, List, false, length, get_or}
-use Rattle.disk_io.specs.Disk.{Honestly}
-use Rattle.disk_io.specs.Runs.{ChangesNothing}
+use Rattle.disk_io.specs.{Disk.Honestly, Runs.ChangesNothing}
 use Rattle.echo_filed.specs.Filed.{Filed}
 use Rattle.base_store.specs.Keys.{AreWhereRecorded}
-use Rattle.base_folder_store.specs.Answers.{HaveDigest}
-use Rattle.base_folder_store.specs.Opened.{held_by}
+use Rattle.base_folder_store.specs.{Answers.HaveDigest, Opened.held_by}
 use Rattle.base_folder_store.proofs.folder.Folder.find_covered.Given as goal
 
 abbrev pub invariant-entries : goal.invariant-entries

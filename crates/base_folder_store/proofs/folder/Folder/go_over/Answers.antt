@@ -2,8 +2,7 @@ use Rattle.std.proofs.Common.{arith}
 use Rattle.disk_io.proofs.Moments.{nothing_twice}
 use Rattle.base_store.proofs.Runs.{quiet_disk}
 use Rattle.base_folder_store.specs.Opened.{held_by}
-use Rattle.base_folder_store.proofs.Cached.{indexed_held}
-use Rattle.base_folder_store.proofs.Legible.{held_quiet, legible_quiet}
+use Rattle.base_folder_store.proofs.{Cached.indexed_held, Legible.held_quiet, Legible.legible_quiet}
 use Rattle.base_folder_store.proofs.folder.Folder.go_over.Goals as goal
 
 pub pieces-init : goal.pieces-init

@@ -1,6 +1,5 @@
 use Rattle.std.proofs.Common.{◌≡◌, ◌-◌, ◌≤◌}
-use Rattle.disk_io.specs.Disk.{Honestly}
-use Rattle.disk_io.specs.Runs.{ChangesNothing}
+use Rattle.disk_io.specs.{Disk.Honestly, Runs.ChangesNothing}
 use Rattle.base_store.specs.Index.{IsIndexOf, covered}
 use Rattle.base_folder_store.specs.Opened.{held_by}
 use Rattle.base_folder_store.proofs.folder.Folder.go_over.Given as goal

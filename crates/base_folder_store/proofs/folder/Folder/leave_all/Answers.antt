@@ -1,16 +1,10 @@
 use Rattle.std.proofs.Common.{◌≡◌, ℕ, length, sym, ap, subst, ◌∙◌, arith}
 use Rattle.base_log.specs.Standing.{BaseBytes}
-use Rattle.base_folder_store.specs.Calls.{StagesOnly}
-use Rattle.base_folder_store.specs.Held.{HoldsBase}
-use Rattle.base_folder_store.specs.Left.{changed_in}
-use Rattle.base_folder_store.specs.Opened.{committed_by, path_of}
-use Rattle.base_folder_store.proofs.Beside.{committed_others, many_readable}
-use Rattle.base_store.proofs.Causes.{failed_since}
-use Rattle.base_folder_store.proofs.Causes.{handed_on}
-use Rattle.base_folder_store.proofs.Runs.{run_none, run_twice}
-use Rattle.base_folder_store.proofs.Stubbed.{at_most_one}
-use Rattle.base_folder_store.proofs.folder.Folder.leave_all.Given as given
+use Rattle.base_folder_store.specs.{Calls.StagesOnly, Held.HoldsBase, Left.changed_in, Opened.committed_by, Opened.path_of}
+use Rattle.base_folder_store.proofs.{Beside.committed_others, Beside.many_readable, Causes.handed_on, Runs.run_none, Runs.run_twice, Stubbed.at_most_one}
 use Rattle.base_folder_store.proofs.folder.Folder.leave_all.Goals.{After-leave_next}
+use Rattle.base_store.proofs.Causes.{failed_since}
+use Rattle.base_folder_store.proofs.folder.Folder.leave_all.Given as given
 use Rattle.base_folder_store.proofs.folder.Folder.leave_all.Goals as goal
 
 pub messages-init : goal.messages-init

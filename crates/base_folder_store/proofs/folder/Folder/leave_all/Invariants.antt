@@ -1,10 +1,7 @@
 use Rattle.std.proofs.Common.{◌≡◌, ◌≤◌, ℕ, List}
 use Rattle.disk_io.specs.Disk.{Honestly}
 use Rattle.base_file.specs.Base.{Base}
-use Rattle.base_folder_store.specs.Calls.{StagesOnly}
-use Rattle.base_folder_store.specs.Held.{HoldsBase}
-use Rattle.base_folder_store.specs.Left.{IsPurgedTo, changed_in}
-use Rattle.base_folder_store.specs.Opened.{committed_by, path_of}
+use Rattle.base_folder_store.specs.{Calls.StagesOnly, Held.HoldsBase, Left.IsPurgedTo, Left.changed_in, Opened.committed_by, Opened.path_of}
 use Rattle.base_folder_store.proofs.folder.Folder.leave_all.Given as goal
 
 abbrev pub invariant-messages : goal.invariant-messages

@@ -1,34 +1,19 @@
 use Rattle.std.proofs.Common.{◌≡◌, ◌<◌, ◌≤◌, ◌+◌, ◌/◌, ℕ, List, nat_lt, not, ◌&&◌, length, get_or, refl, sym, ap, subst, ◌∙◌, arith}
 use Rattle.disk_io.specs.Disk.{DiskState}
-use Rattle.echo_filed.specs.Filed.{Filed}
-use Rattle.echo_filed.specs.Stored.{Stored, message_in, stored_bytes}
-use Rattle.echo_filed.specs.declared.stored.Version.TheVariants.{Second}
-use Rattle.echo_filed.specs.Stubs.{is_stub}
+use Rattle.echo_filed.specs.{Filed.Filed, Stored.Stored, Stored.message_in, Stored.stored_bytes, declared.stored.Version.TheVariants.Second, Stubs.is_stub}
 use Rattle.base_log.specs.Standing.{BaseBytes}
 use Rattle.base_log.proofs.Quiet.{base_quiet}
-use Rattle.base_file.specs.Alone.{IsStoredAlone}
-use Rattle.base_file.specs.Base.{Base}
+use Rattle.base_file.specs.{Alone.IsStoredAlone, Base.Base}
 use Rattle.base_store.specs.Keys.{HasBytesOf, AreWhereRecorded, digest_at}
-use Rattle.base_folder_store.specs.Answers.{IsStoredOf}
-use Rattle.base_folder_store.specs.Calls.{StagesOnly}
-use Rattle.base_folder_store.specs.Held.{HoldsBase}
-use Rattle.base_folder_store.specs.Left.{HoldsLeft, IsLeftOf, IsPurgedTo, left_if}
-use Rattle.base_folder_store.specs.Opened.{committed_by, held_by, path_of}
-use Rattle.base_folder_store.specs.declared.folder.Folder.{Folder}
-use Rattle.base_folder_store.specs.declared.leaving.Left.{Left}
-use Rattle.base_folder_store.specs.declared.reading.StoredMessage.{StoredMessage}
-use Rattle.base_folder_store.proofs.Bases.{open_quiet, recorded_where}
+use Rattle.base_folder_store.specs.{Answers.IsStoredOf, Calls.StagesOnly, Held.HoldsBase, Left.HoldsLeft, Left.IsLeftOf, Left.IsPurgedTo, Left.left_if}
+use Rattle.base_folder_store.specs.{Opened.committed_by, Opened.held_by, Opened.path_of, declared.folder.Folder.Folder, declared.leaving.Left.Left, declared.reading.StoredMessage.StoredMessage}
 use Rattle.base_folder_store.proofs.Beside.{committed_others, many_readable, readable_others, readable_held, readable_quiet, recorded_readable}
-use Rattle.base_store.proofs.Causes.{failed_since}
-use Rattle.base_folder_store.proofs.Causes.{handed_on, purge_cause}
-use Rattle.base_folder_store.proofs.Fits.{room_left, shorter_more}
-use Rattle.base_folder_store.proofs.Legible.{held_quiet, keys_all, legible_open, messages_all}
-use Rattle.base_folder_store.proofs.Looked.{some_message}
-use Rattle.base_folder_store.proofs.Runs.{run_quiet, run_twice}
-use Rattle.base_folder_store.proofs.Stated.{not_damaged}
+use Rattle.base_folder_store.proofs.{Bases.open_quiet, Bases.recorded_where, Causes.handed_on, Causes.purge_cause, Fits.room_left, Fits.shorter_more}
+use Rattle.base_folder_store.proofs.{Legible.held_quiet, Legible.keys_all, Legible.legible_open, Legible.messages_all, Looked.some_message, Runs.run_quiet, Runs.run_twice, Stated.not_damaged}
 use Rattle.base_folder_store.proofs.Stubbed.{IsBelow, changed_step, is_below, left_more}
-use Rattle.base_folder_store.proofs.folder.Folder.leave_next.Given as given
 use Rattle.base_folder_store.proofs.folder.Folder.leave_next.Goals.{After-stored, After-stage_left}
+use Rattle.base_store.proofs.Causes.{failed_since}
+use Rattle.base_folder_store.proofs.folder.Folder.leave_next.Given as given
 use Rattle.base_folder_store.proofs.folder.Folder.leave_next.Goals as goal
 
 pub stored-requires-clause-legible : goal.stored-requires-clause-legible

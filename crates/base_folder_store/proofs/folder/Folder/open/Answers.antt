@@ -1,9 +1,5 @@
 use Rattle.std.proofs.Common.{◌≡◌, List, ℕ, refl, sym, subst, arith}
-use Rattle.base_log.specs.AtRest.{IsAtRest}
-use Rattle.base_log.specs.Moments.{KeepsOutside}
-use Rattle.base_log.specs.Opening.{AreAlone}
-use Rattle.base_log.specs.Reading.{IsLogIn}
-use Rattle.base_log.specs.Standing.{Represents, base_at}
+use Rattle.base_log.specs.{AtRest.IsAtRest, Moments.KeepsOutside, Opening.AreAlone, Reading.IsLogIn, Standing.Represents, Standing.base_at}
 use Rattle.base_store.proofs.Runs.{quiet_disk}
 use Rattle.base_folder_store.specs.declared.folder.Folder.{Folder}
 use Rattle.base_folder_store.proofs.Bases.{opened_bytes, opened_is}

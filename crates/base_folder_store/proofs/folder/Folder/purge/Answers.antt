@@ -1,20 +1,11 @@
 use Rattle.std.proofs.Common.{◌≡◌, ◌≤◌, ℕ, List, [], length, refl, sym, ap, subst, ◌∙◌, arith}
 use Rattle.disk_io.specs.Disk.{Honestly}
-use Rattle.base_log.specs.Standing.{BaseBytes}
-use Rattle.base_log.specs.declared.log.CommitRecord.{CommitRecord}
-use Rattle.base_log.specs.declared.log.End.{End}
-use Rattle.base_folder_store.specs.Calls.{CommitsOnly}
-use Rattle.base_folder_store.specs.Held.{HoldsBase}
-use Rattle.base_folder_store.specs.Left.{first_left}
-use Rattle.base_folder_store.specs.Opened.{committed_by, held_by, path_of}
-use Rattle.base_folder_store.specs.declared.folder.Folder.{Folder}
-use Rattle.base_folder_store.proofs.Beside.{cursor_open, many_readable, rest_readable}
+use Rattle.base_log.specs.{Standing.BaseBytes, declared.log.CommitRecord.CommitRecord, declared.log.End.End}
+use Rattle.base_folder_store.specs.{Calls.CommitsOnly, Held.HoldsBase, Left.first_left, Opened.committed_by, Opened.held_by, Opened.path_of, declared.folder.Folder.Folder}
+use Rattle.base_folder_store.proofs.{Beside.cursor_open, Beside.many_readable, Beside.rest_readable, Causes.handed_on, Causes.on_ok_none, Runs.run_from_commit}
+use Rattle.base_folder_store.proofs.{Stubbed.changed_whole, Stubbed.left_none, Stubbed.left_whole, folder.Folder.purge.Goals.After-leave_all}
 use Rattle.base_store.proofs.Causes.{failed_since}
-use Rattle.base_folder_store.proofs.Causes.{handed_on, on_ok_none}
-use Rattle.base_folder_store.proofs.Runs.{run_from_commit}
-use Rattle.base_folder_store.proofs.Stubbed.{changed_whole, left_none, left_whole}
 use Rattle.base_folder_store.proofs.folder.Folder.purge.Given as given
-use Rattle.base_folder_store.proofs.folder.Folder.purge.Goals.{After-leave_all}
 use Rattle.base_folder_store.proofs.folder.Folder.purge.Goals as goal
 
 pub anew-requires-clause-readable : goal.anew-requires-clause-readable

@@ -1,18 +1,10 @@
 use Rattle.std.proofs.Common.{◌≡◌, ◌-◌, ◌/◌, ◌∙◌, Some, length, min, refl, subst, sym, arith}
 use Rattle.std.specs.Prelude.{slice_get}
-use Rattle.base_log.specs.Names.{keys_of}
-use Rattle.base_log.specs.Standing.{BaseBytes}
+use Rattle.base_log.specs.{Names.keys_of, Standing.BaseBytes}
 use Rattle.base_store.specs.Keys.{HasBytesOf, IsPieceOf}
-use Rattle.echo_filed.specs.Filed.{Filed}
-use Rattle.echo_filed.specs.Stored.{message_in}
-use Rattle.echo_filed.specs.declared.stored.Version.TheVariants.{Second}
-use Rattle.base_folder_store.specs.Ahead.{IsPartOf}
-use Rattle.base_folder_store.specs.Opened.{held_by, path_of}
-use Rattle.base_folder_store.proofs.Ahead.{part_kept}
-use Rattle.base_folder_store.proofs.Causes.{answers_give}
-use Rattle.base_folder_store.proofs.Legible.{held_quiet, keys_all}
-use Rattle.base_folder_store.proofs.Numbered.{piece_has, piece_of}
-use Rattle.base_folder_store.proofs.Seen.{message_at}
+use Rattle.echo_filed.specs.{Filed.Filed, Stored.message_in, declared.stored.Version.TheVariants.Second}
+use Rattle.base_folder_store.specs.{Ahead.IsPartOf, Opened.held_by, Opened.path_of}
+use Rattle.base_folder_store.proofs.{Ahead.part_kept, Causes.answers_give, Legible.held_quiet, Legible.keys_all, Numbered.piece_has, Numbered.piece_of, Seen.message_at}
 use Rattle.base_folder_store.proofs.folder.Folder.read.Goals as goal
 
 pub returns-then-ends-written-clause-read : goal.returns-then-ends-written-clause-read

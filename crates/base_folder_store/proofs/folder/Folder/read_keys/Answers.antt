@@ -1,9 +1,7 @@
 use Rattle.std.proofs.Common.{◌≡◌, ◌*◌, ℕ, List, ◌++◌, take, drop, arith}
 use Rattle.disk_io.specs.Disk.{DiskState, bytes_in}
-use Rattle.base_folder_store.specs.Opened.{IsLegible, held_by}
-use Rattle.base_folder_store.specs.declared.folder.Folder.{Folder}
-use Rattle.base_folder_store.proofs.Legible.{keys_all}
-use Rattle.base_folder_store.proofs.Numbered.{piece_of}
+use Rattle.base_folder_store.specs.{Opened.IsLegible, Opened.held_by, declared.folder.Folder.Folder}
+use Rattle.base_folder_store.proofs.{Legible.keys_all, Numbered.piece_of}
 use Rattle.base_folder_store.proofs.folder.Folder.read_keys.Goals as goal
 
 -- the bytes that were read are a part of the keys

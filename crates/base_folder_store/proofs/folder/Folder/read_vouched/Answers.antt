@@ -2,11 +2,8 @@ use Rattle.std.proofs.Common.{◌≡◌, ◌∙◌, ℕ, List, refl, sym, ap, ar
 use Rattle.std.proofs.lemmas.Bool.{true≢false}
 use Rattle.base_file.specs.Alone.{IsStoredAlone}
 use Rattle.base_store.specs.Keys.{digested}
-use Rattle.echo_filed.specs.Filed.{Filed}
-use Rattle.echo_filed.specs.Stored.{Stored, message_in, stored_bytes}
-use Rattle.echo_filed.specs.declared.stored.Version.TheVariants.{Second}
-use Rattle.base_folder_store.specs.Held.{digest_by}
-use Rattle.base_folder_store.specs.Vouched.{IsThere}
+use Rattle.echo_filed.specs.{Filed.Filed, Stored.Stored, Stored.message_in, Stored.stored_bytes, declared.stored.Version.TheVariants.Second}
+use Rattle.base_folder_store.specs.{Held.digest_by, Vouched.IsThere}
 use Rattle.base_log.specs.Standing.{BaseBytes}
 use Rattle.base_folder_store.proofs.Causes.{answers_error}
 use Rattle.base_folder_store.proofs.folder.Folder.read_vouched.Goals as goal

@@ -1,17 +1,10 @@
 use Rattle.std.proofs.Common.{◌≡◌, ℕ, List, subst, arith}
 use Rattle.disk_io.specs.Disk.{DiskState, Honestly}
-use Rattle.base_log.specs.AtRest.{IsAtRest}
-use Rattle.base_log.specs.Moments.{LeavesOutside}
-use Rattle.base_log.specs.Names.{folder_of}
-use Rattle.base_log.specs.Opening.{AreGone}
-use Rattle.base_log.proofs.LeftOutside.{left_start}
-use Rattle.base_log.proofs.Renewed.{alone_first, alone_run}
-use Rattle.base_folder_store.specs.Calls.{StagesOnly}
-use Rattle.base_folder_store.specs.Opened.{committed_by, path_of}
-use Rattle.base_folder_store.proofs.Staged.{outside_same}
-use Rattle.base_folder_store.specs.declared.folder.Folder.{Folder}
+use Rattle.base_log.specs.{AtRest.IsAtRest, Moments.LeavesOutside, Names.folder_of, Opening.AreGone}
+use Rattle.base_log.proofs.{LeftOutside.left_start, Renewed.alone_first, Renewed.alone_run}
+use Rattle.base_folder_store.specs.{Calls.StagesOnly, Opened.committed_by, Opened.path_of, declared.folder.Folder.Folder}
+use Rattle.base_folder_store.proofs.{Staged.outside_same, folder.Folder.remove_former.Goals.After-remove_files}
 use Rattle.base_folder_store.proofs.folder.Folder.remove_former.Given as given
-use Rattle.base_folder_store.proofs.folder.Folder.remove_former.Goals.{After-remove_files}
 use Rattle.base_folder_store.proofs.folder.Folder.remove_former.Goals as goal
 
 -- the run before its first call

@@ -1,17 +1,11 @@
 use Rattle.std.proofs.Common.{◌≡◌, ◌<◌, ◌-◌, ◌/◌, ℕ, length, min, arith}
-use Rattle.std.specs.Prelude.{Vec}
-use Rattle.std.specs.declared.alloc.Global.{Global}
+use Rattle.std.specs.{Prelude.Vec, declared.alloc.Global.Global}
 use Rattle.base_store.specs.Keys.{HasBytesOf, IsPieceOf}
-use Rattle.echo_filed.specs.Stored.{Stored, stored_bytes}
-use Rattle.echo_filed.specs.declared.stored.Version.TheVariants.{Second}
-use Rattle.base_folder_store.specs.Answers.{IsStoredOf}
-use Rattle.base_folder_store.specs.Opened.{held_by}
-use Rattle.base_folder_store.specs.declared.reading.StoredMessage.{StoredMessage}
-use Rattle.base_folder_store.proofs.Causes.{answers_error, answers_whole}
-use Rattle.base_folder_store.proofs.Legible.{held_quiet, keys_all}
-use Rattle.base_folder_store.proofs.Numbered.{first_digest, piece_has}
-use Rattle.base_folder_store.proofs.folder.Folder.stored.Given as given
+use Rattle.echo_filed.specs.{Stored.Stored, Stored.stored_bytes, declared.stored.Version.TheVariants.Second}
+use Rattle.base_folder_store.specs.{Answers.IsStoredOf, Opened.held_by, declared.reading.StoredMessage.StoredMessage}
+use Rattle.base_folder_store.proofs.{Causes.answers_error, Causes.answers_whole, Legible.held_quiet, Legible.keys_all, Numbered.first_digest, Numbered.piece_has}
 use Rattle.base_folder_store.proofs.folder.Folder.stored.Goals.{After-stored_by}
+use Rattle.base_folder_store.proofs.folder.Folder.stored.Given as given
 use Rattle.base_folder_store.proofs.folder.Folder.stored.Goals as goal
 
 -- the entry that was read

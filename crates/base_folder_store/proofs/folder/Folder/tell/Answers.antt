@@ -1,13 +1,8 @@
 use Rattle.std.proofs.Common.{refl, sym, subst, arith}
-use Rattle.disk_io.specs.Disk.{DiskState, Honestly}
-use Rattle.disk_io.specs.Runs.{LeavesOnly}
-use Rattle.base_log.specs.Moments.{IsBeforeOrAfter, KeepsOutside}
-use Rattle.base_log.specs.Standing.{BaseBytes, base_at}
-use Rattle.base_folder_store.specs.Calls.{CommitsOnly}
-use Rattle.base_folder_store.specs.Opened.{IsWritten, committed_by, held_by, path_of}
-use Rattle.base_folder_store.specs.declared.folder.Folder.{Folder}
-use Rattle.base_folder_store.proofs.Staged.{committed_held, committed_open, committed_recorded}
-use Rattle.base_folder_store.proofs.Waits.{written_held}
+use Rattle.disk_io.specs.{Disk.DiskState, Disk.Honestly, Runs.LeavesOnly}
+use Rattle.base_log.specs.{Moments.IsBeforeOrAfter, Moments.KeepsOutside, Standing.BaseBytes, Standing.base_at}
+use Rattle.base_folder_store.specs.{Calls.CommitsOnly, Opened.IsWritten, Opened.committed_by, Opened.held_by, Opened.path_of, declared.folder.Folder.Folder}
+use Rattle.base_folder_store.proofs.{Staged.committed_held, Staged.committed_open, Staged.committed_recorded, Waits.written_held}
 use Rattle.base_folder_store.proofs.folder.Folder.tell.Goals as goal
 
 pub returns-clause-stays : goal.returns-clause-stays

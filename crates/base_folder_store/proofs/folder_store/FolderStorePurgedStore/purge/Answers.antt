@@ -1,12 +1,7 @@
-use Rattle.std.proofs.Common.{◌≡◌, inr, sym, subst}
-use Rattle.std.proofs.lemmas.Result.{on_ok_weaker}
+use Rattle.std.proofs.{Common.◌≡◌, Common.inr, Common.sym, Common.subst, lemmas.Result.on_ok_weaker}
 use Rattle.base_log.specs.Standing.{BaseBytes}
-use Rattle.base_folder_store.specs.Held.{HoldsBase}
-use Rattle.base_folder_store.specs.Opened.{committed_by, held_by}
-use Rattle.base_folder_store.specs.State.{IsCached, IsUsable, state_of}
-use Rattle.base_folder_store.proofs.Causes.{at_error}
-use Rattle.base_folder_store.proofs.Stated.{may_commit, usable_after}
-use Rattle.base_folder_store.proofs.WhereSo.{may_commit_where}
+use Rattle.base_folder_store.specs.{Held.HoldsBase, Opened.committed_by, Opened.held_by, State.IsCached, State.IsUsable, State.state_of}
+use Rattle.base_folder_store.proofs.{Causes.at_error, Stated.may_commit, Stated.usable_after, WhereSo.may_commit_where}
 use Rattle.base_folder_store.proofs.folder_store.FolderStorePurgedStore.purge.Goals as goal
 
 pub returns-clause-count : goal.returns-clause-count

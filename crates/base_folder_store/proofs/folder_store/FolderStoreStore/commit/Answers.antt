@@ -1,7 +1,5 @@
 use Rattle.base_folder_store.specs.State.{IsCached, state_of}
-use Rattle.base_folder_store.proofs.Cached.{cached_same}
-use Rattle.base_folder_store.proofs.Stated.{committed, may_commit, stages}
-use Rattle.base_folder_store.proofs.WhereSo.{commits_where, may_commit_where, nothing_where}
+use Rattle.base_folder_store.proofs.{Cached.cached_same, Stated.committed, Stated.may_commit, Stated.stages, WhereSo.commits_where, WhereSo.may_commit_where, WhereSo.nothing_where}
 use Rattle.base_folder_store.proofs.folder_store.FolderStoreStore.commit.Goals as goal
 
 pub returns-clause-committed : goal.returns-clause-committed

@@ -1,17 +1,11 @@
 use Rattle.std.proofs.Common.{◌≡◌, inl, Some, sym, arith}
-use Rattle.std.specs.Prelude.{slice_get}
 use Rattle.std.proofs.lemmas.Result.{err_from_is_err_and}
+use Rattle.std.specs.Prelude.{slice_get}
 use Rattle.base_file.specs.Base.{Base}
 use Rattle.echo_filed.specs.Filed.{Filed}
-use Rattle.base_folder_store.specs.State.{IsCached, state_of, where_so}
-use Rattle.base_folder_store.specs.Opened.{held_by}
-use Rattle.base_folder_store.proofs.Bases.{recorded_where}
-use Rattle.base_folder_store.proofs.Causes.{handed_on}
-use Rattle.base_folder_store.proofs.Legible.{held_quiet, legible_open}
-use Rattle.base_folder_store.proofs.Cached.{indexed_held, parts_held}
-use Rattle.base_folder_store.proofs.Seen.{many_messages}
-use Rattle.base_folder_store.proofs.Stated.{handed_cause, looks, none_there}
-use Rattle.base_folder_store.proofs.WhereSo.{looks_where}
+use Rattle.base_folder_store.specs.{State.IsCached, State.state_of, State.where_so, Opened.held_by}
+use Rattle.base_folder_store.proofs.{Bases.recorded_where, Causes.handed_on, Legible.held_quiet, Legible.legible_open, Cached.indexed_held, Cached.parts_held, Seen.many_messages}
+use Rattle.base_folder_store.proofs.{Stated.handed_cause, Stated.looks, Stated.none_there, WhereSo.looks_where}
 use Rattle.base_folder_store.proofs.folder_store.FolderStoreStore.fetch.Goals as goal
 
 pub returns-then-place-count-clause-cause : goal.returns-then-place-count-clause-cause

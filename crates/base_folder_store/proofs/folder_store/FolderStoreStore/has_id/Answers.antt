@@ -2,14 +2,9 @@ use Rattle.std.proofs.Common.{◌≡◌, inl, Bool, arith}
 use Rattle.std.specs.List.{list_any}
 use Rattle.echo_filed.specs.Filed.{has_id}
 use Rattle.base_file.specs.Base.{Base}
-use Rattle.base_folder_store.specs.Opened.{held_by}
-use Rattle.base_folder_store.specs.State.{IsCached, state_of, where_so}
-use Rattle.base_folder_store.proofs.Bases.{recorded_where}
-use Rattle.base_folder_store.proofs.Cached.{indexed_held, parts_held}
-use Rattle.base_folder_store.proofs.Legible.{held_quiet, legible_open}
-use Rattle.base_folder_store.proofs.Seen.{id_digest}
-use Rattle.base_folder_store.proofs.Stated.{answered, looks, read_cause}
-use Rattle.base_folder_store.proofs.WhereSo.{looks_where}
+use Rattle.base_folder_store.specs.{Opened.held_by, State.IsCached, State.state_of, State.where_so}
+use Rattle.base_folder_store.proofs.{Bases.recorded_where, Cached.indexed_held, Cached.parts_held, Legible.held_quiet, Legible.legible_open, Seen.id_digest}
+use Rattle.base_folder_store.proofs.{Stated.answered, Stated.looks, Stated.read_cause, WhereSo.looks_where}
 use Rattle.base_folder_store.proofs.folder_store.FolderStoreStore.has_id.Goals as goal
 
 pub returns-clause-found : goal.returns-clause-found

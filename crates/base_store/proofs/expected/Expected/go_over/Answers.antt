@@ -1,7 +1,5 @@
 use Rattle.std.proofs.Common.{◌≡◌, ◌+◌, ◌/◌, Bool, List, length, true, refl, sym, subst}
-use Rattle.base_store.specs.Expected.{are_set}
-use Rattle.base_store.specs.Keys.{digest_at}
-use Rattle.base_store.specs.declared.expected.Expected.{Expected}
+use Rattle.base_store.specs.{Expected.are_set, Keys.digest_at, declared.expected.Expected.Expected}
 use Rattle.base_store.proofs.Found.{found_more, found_some}
 use Rattle.base_store.proofs.expected.Expected.go_over.Goals as goal
 

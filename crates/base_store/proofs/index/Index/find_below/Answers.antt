@@ -1,12 +1,8 @@
 use Rattle.std.proofs.Common.{◌≡◌, ◌≢◌, ◌<◌, ◌/◌, ℕ, List, length, sym, ap, subst, ◌∙◌, arith}
 use Rattle.std.proofs.lemmas.Bool.{cond-false}
-use Rattle.base_store.specs.Chains.{AreChains}
-use Rattle.base_store.specs.Index.{IsIndexOf, covered}
-use Rattle.base_store.specs.Keys.{digest_at}
-use Rattle.base_store.specs.declared.index.Index.{Index}
-use Rattle.base_store.proofs.Found.{none_map, own_digest, some_map}
+use Rattle.base_store.specs.{Chains.AreChains, Index.IsIndexOf, Index.covered, Keys.digest_at, declared.index.Index.Index}
+use Rattle.base_store.proofs.{Found.none_map, Found.own_digest, Found.some_map, index.Index.find_below.Goals.After-find_below-2}
 use Rattle.base_store.proofs.index.Index.find_below.Goals as goal
-use Rattle.base_store.proofs.index.Index.find_below.Goals.{After-find_below-2}
 
 -- it covers its own keys
 own : (c : After-find_below-2) → covered c.args.self.now c.args.digest ≡ length c.args.self.now.keys.items / 16

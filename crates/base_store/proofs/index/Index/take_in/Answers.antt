@@ -1,10 +1,8 @@
 use Rattle.std.proofs.Common.{◌≡◌, ◌/◌, true, length, sym, ◌∙◌, arith}
 use Rattle.std.proofs.lemmas.Bool.{cond-false, cond-true}
-use Rattle.base_store.specs.Expected.{is_expected}
-use Rattle.base_store.specs.Index.{covered}
-use Rattle.base_store.proofs.Found.{kept_more, taken_size}
+use Rattle.base_store.specs.{Expected.is_expected, Index.covered}
+use Rattle.base_store.proofs.{Found.kept_more, Found.taken_size, index.Index.take_in.Goals.After-extend_from_slice}
 use Rattle.base_store.proofs.index.Index.take_in.Goals as goal
-use Rattle.base_store.proofs.index.Index.take_in.Goals.{After-extend_from_slice}
 
 pub returns-then-has-clause-index : goal.returns-then-has-clause-index
 returns-then-has-clause-index c = λ keys at is was.

@@ -1,6 +1,5 @@
 use Rattle.std.proofs.Common.{ap, refl, sym, ◌∙◌}
-use Rattle.std.specs.Prelude.{bytes_eq}
-use Rattle.std.specs.List.{list_any}
+use Rattle.std.specs.{Prelude.bytes_eq, List.list_any}
 use Rattle.echo_addr.specs.Entries.{tokens}
 use Rattle.cmd_show.specs.Before.{SaidBefore}
 use Rattle.cmd_show.proofs.Judging.{links_refused}

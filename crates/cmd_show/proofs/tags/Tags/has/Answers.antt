@@ -1,6 +1,5 @@
 use Rattle.std.proofs.Common.{ap, ◌∙◌}
-use Rattle.std.specs.Prelude.{bytes_eq}
-use Rattle.std.specs.List.{list_any}
+use Rattle.std.specs.{Prelude.bytes_eq, List.list_any}
 use Rattle.cmd_show.proofs.TagKeys.{any_key}
 use Rattle.cmd_show.proofs.tags.Tags.has.Goals as goal
 

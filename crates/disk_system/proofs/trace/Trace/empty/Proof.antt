@@ -1,5 +1,5 @@
 -- A trace without calls, empty at run time.
-use Rattle.std.proofs.Common.{[], ◌∷◌, refl}
+use Rattle.std.proofs.{Common.[], Common.◌∷◌, Common.refl, raw_atomic.Walks.proved}
 use base.Fml.{ftrue}
 use types.Kit.{‵, raw, ◌$◌, ◌∵◌, !, qed, keep, join, suffices, done}
 use types.Part.{agg}
@@ -8,11 +8,9 @@ use types.ByLocal.{alloc_all, pass_all, free_all, look_at, sets}
 use denote.Steps.{nothing}
 use denote.Triple.Entry.{on_entry}
 use denote.Triple.Walked.{Stays, says, ends_at}
-use Rattle.std.proofs.raw_atomic.Walks.{proved}
-use Rattle.disk_system.proofs.Silent.{silence, breaks_silence}
+use Rattle.disk_system.proofs.{Silent.silence, Silent.breaks_silence, trace.Trace.empty.Statement.statement}
 use Rattle.disk_system.specs.declared.trace.Trace.{Trace}
 use Rattle.disk_system.specs.contracts.trace.Trace.empty as f
-use Rattle.disk_system.proofs.trace.Trace.empty.Statement.{statement}
 use Rattle.disk_system.proofs.trace.Trace.empty.Code as code
 
 abbrev stayed : Stays f.ended.signature.params f.ended.kept

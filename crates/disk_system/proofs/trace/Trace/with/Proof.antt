@@ -1,5 +1,5 @@
 -- A trace with one call more, empty at run time.
-use Rattle.std.proofs.Common.{List, [], ◌∷◌, refl}
+use Rattle.std.proofs.{Common.List, Common.[], Common.◌∷◌, Common.refl, raw_atomic.Walks.proved}
 use base.Fml.{ftrue}
 use mir.Syntax.{named}
 use mir.Val.{Val}
@@ -15,14 +15,11 @@ use denote.Signature.{Slot, plain, named_lft, types_at}
 use denote.Steps.{nothing}
 use denote.Triple.Entry.{alive}
 use denote.Triple.Walked.{Stays, stay_dropped, Goes-dropped, says, ends_at}
-use Rattle.std.proofs.raw_atomic.Walks.{proved}
-use Rattle.disk_system.proofs.Silent.{silence, breaks_silence}
-use Rattle.disk_system.specs.Noted.{note_of}
-use Rattle.disk_system.specs.declared.trace.Trace.{Trace}
+use Rattle.disk_system.proofs.{Silent.silence, Silent.breaks_silence, trace.Trace.with.Statement.statement}
+use Rattle.disk_system.specs.{Noted.note_of, declared.trace.Trace.Trace}
 use Rattle.disk_system.specs.contracts.trace.Call as call
 use Rattle.disk_system.specs.contracts.trace.Trace as trace
 use Rattle.disk_system.specs.contracts.trace.Trace.with as f
-use Rattle.disk_system.proofs.trace.Trace.with.Statement.{statement}
 use Rattle.disk_system.proofs.trace.Trace.with.Code as code
 
 abbrev earlier : Slot 3

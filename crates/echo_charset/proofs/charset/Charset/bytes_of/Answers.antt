@@ -1,8 +1,7 @@
 use Rattle.std.proofs.Common.{◌≡◌, ℕ, List, true, ◌∙◌, sym}
-use Rattle.std.specs.Str.{IsUtf8}
 use Rattle.std.proofs.lemmas.Str.{utf8_lossy-IsUtf8}
-use Rattle.echo_charset.specs.declared.charset.Charset.{Charset}
-use Rattle.echo_charset.specs.Charset.{decoded_text, is_utf8}
+use Rattle.std.specs.Str.{IsUtf8}
+use Rattle.echo_charset.specs.{declared.charset.Charset.Charset, Charset.decoded_text, Charset.is_utf8}
 use Rattle.echo_charset.proofs.charset.Charset.bytes_of.Goals as goal
 
 -- UTF-8 is itself

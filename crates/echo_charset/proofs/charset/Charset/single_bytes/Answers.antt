@@ -1,12 +1,8 @@
 use Rattle.std.proofs.Common.{◌≡◌, ℕ, List, [], ◌∷◌, ◌++◌, ◌∙◌, refl, sym, ap, append_assoc, arith, length, subst}
-use Rattle.std.specs.List.{Contains}
-use Rattle.std.specs.Str.{IsUtf8, chars, encode_utf8_all}
-use Rattle.std.proofs.lemmas.Grind.{flat_map-append}
-use Rattle.std.proofs.lemmas.List.Elements.{Contains-append_left, Contains-push}
-use Rattle.std.proofs.lemmas.List.{append-nil}
 use Rattle.std.proofs.lemmas.Str.{IsUtf8-past_char, chars-nil, chars_past_char, encodes-append, encodes-chars}
-use Rattle.echo_charset.specs.declared.charset.Charset.{Charset}
-use Rattle.echo_charset.specs.Charset.{character, characters}
+use Rattle.std.proofs.lemmas.{Grind.flat_map-append, List.Elements.Contains-append_left, List.Elements.Contains-push, List.append-nil}
+use Rattle.std.specs.{List.Contains, Str.IsUtf8, Str.chars, Str.encode_utf8_all}
+use Rattle.echo_charset.specs.{declared.charset.Charset.Charset, Charset.character, Charset.characters}
 use Rattle.echo_charset.proofs.charset.Charset.single_bytes.Goals as goal
 
 -- one more byte says one more character

@@ -1,10 +1,7 @@
 use Rattle.std.proofs.Common.{◌≡◌, ◌∙◌, ap, sym, List, Result, Ok, Err, Option, Some, None}
 use Rattle.std.specs.Prelude.{IfOk, option_copied}
-use Rattle.echo_addr.specs.declared.address.Address.{Address}
-use Rattle.echo_addr.specs.declared.address.NetNode.{NetNode}
-use Rattle.echo_filed.specs.declared.key.Key.{Key}
-use Rattle.echo_filed.specs.declared.key.Key.TheVariants.{ByContent, ById}
-use Rattle.echo_filed.specs.Filed.{Filed, key_of}
+use Rattle.echo_addr.specs.declared.address.{Address.Address, NetNode.NetNode}
+use Rattle.echo_filed.specs.{declared.key.Key.Key, declared.key.Key.TheVariants.ByContent, declared.key.Key.TheVariants.ById, Filed.Filed, Filed.key_of}
 use Rattle.echo_filed.proofs.Keys.{key_reported}
 use Rattle.echo_filed.proofs.key.Key.of_front.Goals as goal
 

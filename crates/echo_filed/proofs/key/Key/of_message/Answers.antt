@@ -1,9 +1,7 @@
 use Rattle.std.proofs.Common.{◌≡◌, ◌∙◌, ap, subst, sym, Some, None}
 use Rattle.std.specs.Prelude.{IfOk, option_copied}
 use Rattle.echo_text.specs.Echo.{msgid_of}
-use Rattle.echo_filed.specs.declared.key.Key.{Key}
-use Rattle.echo_filed.specs.declared.key.Key.TheVariants.{ByContent, ById}
-use Rattle.echo_filed.specs.Filed.{key_of}
+use Rattle.echo_filed.specs.{declared.key.Key.Key, declared.key.Key.TheVariants.ByContent, declared.key.Key.TheVariants.ById, Filed.key_of}
 use Rattle.echo_filed.proofs.Keys.{key_reported}
 use Rattle.echo_filed.proofs.key.Key.of_message.Goals as goal
 

@@ -1,6 +1,4 @@
-use Rattle.std.proofs.Common.{◌∙◌, arith, length, sym}
-use Rattle.std.proofs.lemmas.Bool.{eqb-true}
-use Rattle.std.proofs.lemmas.List.{drop_all}
+use Rattle.std.proofs.{Common.◌∙◌, Common.arith, Common.length, Common.sym, lemmas.Bool.eqb-true, lemmas.List.drop_all}
 use Rattle.echo_links.proofs.LinkSteps.{lines_done, lines_more}
 use Rattle.echo_links.proofs.link_file.reading.read_lines.Goals as goal
 

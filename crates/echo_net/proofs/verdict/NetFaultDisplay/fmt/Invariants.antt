@@ -1,6 +1,5 @@
 use Rattle.std.proofs.Common.{take}
-use Rattle.std.specs.List.{flat_map}
-use Rattle.std.specs.Fmt.{HasWritten, IsPlainFormatter}
+use Rattle.std.specs.{List.flat_map, Fmt.HasWritten, Fmt.IsPlainFormatter}
 use Rattle.echo_net.specs.Printed.{after_blank}
 use Rattle.echo_net.proofs.verdict.NetFaultDisplay.fmt.Given as goal
 

@@ -1,6 +1,5 @@
 use Rattle.std.proofs.Common.{◌≡◌, ◌≤◌, List, ℕ, arith, length, subst, sym}
-use Rattle.echo_packet.specs.Header.{AreBytes}
-use Rattle.echo_packet.specs.Message.{HasNoZero, IsString}
+use Rattle.echo_packet.specs.{Header.AreBytes, Message.HasNoZero, Message.IsString}
 use Rattle.echo_packet.proofs.packed.Packed.from_parts.Goals as goal
 
 -- the items of a string without 00 that is short enough

@@ -1,7 +1,6 @@
 use Rattle.std.proofs.Common.{◌∙◌, sym, subst, arith}
 use Rattle.echo_packet.specs.Header.{IsHeader}
-use Rattle.echo_packet.proofs.Headers.{IsHeader-header_of}
-use Rattle.echo_packet.proofs.Fronts.{front-taken}
+use Rattle.echo_packet.proofs.{Headers.IsHeader-header_of, Fronts.front-taken}
 use Rattle.echo_packet.proofs.reader.calls.read_header.Goals as goal
 
 pub returns-clause-header : goal.returns-clause-header

@@ -1,7 +1,6 @@
 use Rattle.std.proofs.Common.{ℕ, List, subst, sym, arith}
 use Rattle.echo_text.specs.Echo.{FrontOf}
-use Rattle.echo_text.proofs.Reread.{read_is_echo}
-use Rattle.echo_text.proofs.SaidAfter.{parts_are}
+use Rattle.echo_text.proofs.{Reread.read_is_echo, SaidAfter.parts_are}
 use Rattle.echo_text.proofs.echo.FrontView.echo_into.Goals as goal
 
 pub invariant_of-echo : goal.invariant_of-echo

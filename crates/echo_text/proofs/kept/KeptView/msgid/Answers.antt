@@ -1,7 +1,6 @@
 use Rattle.std.proofs.Common.{ap, sym, ◌∙◌, arith}
 use Rattle.std.specs.Option.{option_or}
-use Rattle.echo_text.specs.Lines.{lines}
-use Rattle.echo_text.specs.Echo.{msgid_of}
+use Rattle.echo_text.specs.{Lines.lines, Echo.msgid_of}
 use Rattle.echo_text.proofs.KeptLines.{msgid_of_parts}
 use Rattle.echo_text.proofs.kept.KeptView.msgid.Goals as goal
 

@@ -1,7 +1,6 @@
 use Rattle.std.proofs.Common.{ap, sym, ◌∙◌, arith}
 use Rattle.std.specs.Option.{option_or}
-use Rattle.echo_text.specs.Lines.{lines}
-use Rattle.echo_text.specs.Echo.{reply_of}
+use Rattle.echo_text.specs.{Lines.lines, Echo.reply_of}
 use Rattle.echo_text.proofs.KeptLines.{reply_of_parts}
 use Rattle.echo_text.proofs.kept.KeptView.reply.Goals as goal
 

@@ -1,6 +1,5 @@
 use Rattle.std.proofs.Common.{ap, sym, ◌∙◌}
-use Rattle.echo_text.specs.Lines.{lines}
-use Rattle.echo_text.specs.Echo.{tear_of}
+use Rattle.echo_text.specs.{Lines.lines, Echo.tear_of}
 use Rattle.echo_text.proofs.KeptLines.{tear_of_parts}
 use Rattle.echo_text.proofs.kept.KeptView.tear.Goals as goal
 

@@ -1,6 +1,5 @@
 use Rattle.std.proofs.Common.{ap, ◌∙◌}
-use Rattle.std.specs.Str.{bytes_eq}
-use Rattle.std.specs.Cmp.Lexicographic.{pointwise}
+use Rattle.std.specs.{Str.bytes_eq, Cmp.Lexicographic.pointwise}
 use Rattle.echo_text.specs.Lines.{lines}
 use Rattle.echo_text.proofs.EndedLines.{same_lines}
 use Rattle.echo_text.proofs.kept.LinesPartialEq.eq.Goals as goal

@@ -1,7 +1,6 @@
 use Rattle.std.proofs.Common.{◌∙◌, ap, refl, sym}
-use Rattle.echo_text.specs.Ids.{is_id_trimmed}
+use Rattle.echo_text.specs.{Ids.is_id_trimmed, Lines.trimmed}
 use Rattle.echo_text.proofs.IdTests.{no_parts}
-use Rattle.echo_text.specs.Lines.{trimmed}
 use Rattle.echo_text.proofs.msgid.MsgId.read.Goals as goal
 
 pub returns-in-None : goal.returns-in-None

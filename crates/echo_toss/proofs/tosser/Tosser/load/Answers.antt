@@ -1,10 +1,7 @@
 use Rattle.std.proofs.Common.{IfSome, Ok, Result, subst, arith}
 use Rattle.std.proofs.lemmas.Result.{err_from_is_err_and}
 use Rattle.echo_packet.specs.Header.{AreBytes}
-use Rattle.base_file.specs.declared.fault.BaseFault.{BaseFault as Fault}
-use Rattle.base_file.specs.Base.{Base}
-use Rattle.base_file.specs.BaseFile.{LoadOf, Loaded}
-use Rattle.base_file.specs.Loading.{AnswersLoad}
+use Rattle.base_file.specs.{declared.fault.BaseFault.BaseFault as Fault, Base.Base, BaseFile.LoadOf, BaseFile.Loaded, Loading.AnswersLoad}
 use Rattle.echo_toss.proofs.tosser.Tosser.load.Goals as goal
 
 pub returns-in_err-base-clause-only : goal.returns-in_err-base-clause-only

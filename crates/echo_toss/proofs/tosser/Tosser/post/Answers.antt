@@ -1,10 +1,8 @@
 use Rattle.std.proofs.Common.{refl, subst, sym, ap}
 use Rattle.base_file.specs.Base.{Base}
-use Rattle.model_steps.specs.SystemState.{SystemState}
-use Rattle.model_steps.specs.Posting.{PostStep}
-use Rattle.echo_toss.proofs.Judged.{is_fault}
+use Rattle.model_steps.specs.{SystemState.SystemState, Posting.PostStep}
+use Rattle.echo_toss.proofs.{Judged.is_fault, tosser.Tosser.post.Goals.in-Ok, tosser.Tosser.post.Goals.in-Err-Refused, tosser.Tosser.post.Goals.in-Err-Store}
 use Rattle.echo_toss.proofs.tosser.Tosser.post.Goals as goal
-use Rattle.echo_toss.proofs.tosser.Tosser.post.Goals.{in-Ok, in-Err-Refused, in-Err-Store}
 
 pub returns : goal.returns
 returns g c =

@@ -1,10 +1,8 @@
 use Rattle.std.proofs.Common.{refl, subst}
 use Rattle.model_steps.specs.SystemState.{SystemState}
-use Rattle.echo_toss.specs.PacketSteps.{PacketStep}
-use Rattle.echo_toss.specs.PacketsIn.{state_in}
-use Rattle.echo_toss.proofs.PacketsIn.{tossed_at}
+use Rattle.echo_toss.specs.{PacketSteps.PacketStep, PacketsIn.state_in}
+use Rattle.echo_toss.proofs.{PacketsIn.tossed_at, tosser.Tosser.toss.Goals.in-Ok, tosser.Tosser.toss.Goals.in-Err}
 use Rattle.echo_toss.proofs.tosser.Tosser.toss.Goals as goal
-use Rattle.echo_toss.proofs.tosser.Tosser.toss.Goals.{in-Ok, in-Err}
 
 pub returns-clause-tossed : goal.returns-clause-tossed
 returns-clause-tossed g c =

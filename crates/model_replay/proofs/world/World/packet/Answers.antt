@@ -1,5 +1,4 @@
-use Rattle.std.proofs.Common.{arith}
-use Rattle.std.proofs.lemmas.Result.{IfOk-weaker}
+use Rattle.std.proofs.{Common.arith, lemmas.Result.IfOk-weaker}
 use Rattle.model_replay.proofs.Readings.{bytes-are}
 use Rattle.model_replay.proofs.world.World.packet.Goals as goal
 

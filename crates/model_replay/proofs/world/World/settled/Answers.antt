@@ -1,6 +1,5 @@
 use Rattle.std.proofs.Common.{◌==◌, ◌&&◌, ap, sym, ◌∙◌, not, List, length}
-use Rattle.std.specs.Prelude.{count_by, nat_le}
-use Rattle.std.specs.List.{list_all}
+use Rattle.std.specs.{Prelude.count_by, Prelude.nat_le, List.list_all}
 use Rattle.model_steps.specs.SystemState.{SystemState}
 use Rattle.model_replay.specs.Worlds.{Exported, WorldState}
 use Rattle.model_replay.proofs.Readings.{settled-is}

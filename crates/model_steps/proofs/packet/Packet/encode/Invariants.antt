@@ -1,9 +1,7 @@
 use Rattle.std.proofs.Common.{◌≡◌, ◌++◌, false, length, take}
 use Rattle.std.specs.List.{AllByRecursion}
 use Rattle.disk_io.specs.Watched.{watched_device}
-use Rattle.echo_packet.specs.Header.{header_bytes}
-use Rattle.echo_packet.specs.Message.{IsMessage, messages_bytes}
-use Rattle.echo_packet.specs.Writer.{has_stopped, writer_below}
+use Rattle.echo_packet.specs.{Header.header_bytes, Message.IsMessage, Message.messages_bytes, Writer.has_stopped, Writer.writer_below}
 use Rattle.model_steps.proofs.packet.Packet.encode.Given as goal
 
 abbrev pub invariant-messages : goal.invariant-messages

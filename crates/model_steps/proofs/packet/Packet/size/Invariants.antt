@@ -1,6 +1,5 @@
 use Rattle.std.proofs.Common.{◌≡◌, ◌+◌, length, take}
-use Rattle.echo_packet.specs.Header.{header_bytes}
-use Rattle.echo_packet.specs.Message.{messages_bytes}
+use Rattle.echo_packet.specs.{Header.header_bytes, Message.messages_bytes}
 use Rattle.model_steps.proofs.packet.Packet.size.Given as goal
 
 abbrev pub invariant-messages : goal.invariant-messages

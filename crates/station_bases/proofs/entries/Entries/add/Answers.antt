@@ -1,10 +1,8 @@
 use Rattle.std.proofs.Common.{◌≡◌, ◌++◌, ℕ, List, length, ◌||◌, refl, sym, ap, subst, ◌∙◌, arith, length-append}
 use Rattle.std.proofs.lemmas.Bool.{or_parts}
-use Rattle.base_store.specs.Chains.{AreChains}
-use Rattle.base_store.specs.Keys.{entry}
+use Rattle.base_store.specs.{Chains.AreChains, Keys.entry}
 use Rattle.base_store.proofs.Indexed.{chains_stay}
-use Rattle.echo_filed.specs.Stored.{is_short}
-use Rattle.echo_filed.specs.declared.stored.Version.TheVariants.{Second}
+use Rattle.echo_filed.specs.{Stored.is_short, declared.stored.Version.TheVariants.Second}
 use Rattle.station_bases.proofs.EntryMore.{added}
 use Rattle.station_bases.proofs.entries.Entries.add.Goals as goal
 

@@ -1,16 +1,12 @@
 use Rattle.std.proofs.Common.{◌≡◌, ◌≢◌, ◌<◌, ◌≤◌, ◌/◌, ℕ, Bool, List, get_or, length, sym, subst, ◌∙◌, arith}
-use Rattle.std.specs.List.{list_any}
 use Rattle.std.proofs.lemmas.List.Folds.{list_any_at}
-use Rattle.disk_io.specs.Disk.{DiskState, bytes_in}
-use Rattle.disk_io.specs.Runs.{ChangesNothing}
+use Rattle.std.specs.List.{list_any}
+use Rattle.disk_io.specs.{Disk.DiskState, Disk.bytes_in, Runs.ChangesNothing}
 use Rattle.disk_io.proofs.Moments.{nothing_twice}
 use Rattle.echo_filed.specs.Filed.{Filed}
-use Rattle.base_store.specs.Chains.{AreChains}
-use Rattle.base_store.specs.Keys.{AreWhereRecorded, digest_at}
-use Rattle.base_folder_store.proofs.Causes.{answers_error}
-use Rattle.base_folder_store.proofs.Looked.{none_found, passed_on, some_message, stored_of}
-use Rattle.station_bases.specs.Entries.{message_bytes}
-use Rattle.station_bases.specs.declared.entries.Entries.{Entries}
+use Rattle.base_store.specs.{Chains.AreChains, Keys.AreWhereRecorded, Keys.digest_at}
+use Rattle.base_folder_store.proofs.{Causes.answers_error, Looked.none_found, Looked.passed_on, Looked.some_message, Looked.stored_of}
+use Rattle.station_bases.specs.{Entries.message_bytes, declared.entries.Entries.Entries}
 use Rattle.station_bases.proofs.Reach.{reach_still, same_file}
 use Rattle.station_bases.proofs.entries.Entries.search.Goals as goal
 

@@ -1,6 +1,5 @@
 use Rattle.std.proofs.Common.{◌≡◌, ◌/◌, ◌<◌, ◌≤◌, ℕ, List, false, length, get_or}
-use Rattle.disk_io.specs.Disk.{Honestly, bytes_in}
-use Rattle.disk_io.specs.Runs.{ChangesNothing}
+use Rattle.disk_io.specs.{Disk.Honestly, Disk.bytes_in, Runs.ChangesNothing}
 use Rattle.echo_filed.specs.Filed.{Filed}
 use Rattle.base_store.specs.Keys.{AreWhereRecorded}
 use Rattle.base_folder_store.specs.Answers.{HaveDigest}

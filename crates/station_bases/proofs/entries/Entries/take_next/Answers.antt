@@ -1,17 +1,12 @@
 use Rattle.std.proofs.Common.{◌≡◌, ◌+◌, ◌-◌, ◌++◌, ◌&&◌, ◌||◌, not, nat_lt, ℕ, List, Bool, false, drop, map, Option, sym, ap, subst, ◌∙◌, arith}
-use Rattle.std.specs.Prelude.{IfSome}
 use Rattle.std.proofs.lemmas.Bool.{or_parts}
+use Rattle.std.specs.Prelude.{IfSome}
 use Rattle.disk_io.specs.Disk.{bytes_in}
 use Rattle.base_file.specs.Base.{is_known}
 use Rattle.base_store.specs.Keys.{digested_key, entry}
-use Rattle.echo_filed.specs.Stored.{message_in}
-use Rattle.echo_filed.specs.declared.stored.Version.TheVariants.{Second}
-use Rattle.station_bases.specs.Entries.{AreEntriesOf, entry_digest}
-use Rattle.station_bases.specs.EntryOpening.{IsSoundIn}
-use Rattle.station_bases.specs.declared.entries.Entries.{Entries}
-use Rattle.station_bases.specs.declared.entry_opening.Sound.{Sound}
-use Rattle.station_bases.proofs.EntryJudged.{files_judged, judged_more}
-use Rattle.station_bases.proofs.Reach.{same_file}
+use Rattle.echo_filed.specs.{Stored.message_in, declared.stored.Version.TheVariants.Second}
+use Rattle.station_bases.specs.{Entries.AreEntriesOf, Entries.entry_digest, EntryOpening.IsSoundIn, declared.entries.Entries.Entries, declared.entry_opening.Sound.Sound}
+use Rattle.station_bases.proofs.{EntryJudged.files_judged, EntryJudged.judged_more, Reach.same_file}
 use Rattle.station_bases.proofs.entries.Entries.take_next.Goals as goal
 
 late : (past short : Bool) → (not past && short) ≡ false → past ≡ false → short ≡ false

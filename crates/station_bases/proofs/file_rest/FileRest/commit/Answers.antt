@@ -3,10 +3,8 @@ use Rattle.std.specs.Prelude.{OnOk}
 use Rattle.disk_io.specs.Runs.{ChangesNothing}
 use Rattle.base_store.specs.Store.{Commits, HasStoreCause, MayCommit}
 use Rattle.base_store.proofs.Runs.{quiet_disk}
-use Rattle.station_bases.specs.InFile.{file_state}
-use Rattle.station_bases.specs.declared.held.Held.TheVariants.{Apart, Whole}
-use Rattle.station_bases.proofs.FileLooks.{apart_cause, apart_committed, apart_either}
-use Rattle.station_bases.proofs.Written.{quiet_commits}
+use Rattle.station_bases.specs.{InFile.file_state, declared.held.Held.TheVariants.Apart, declared.held.Held.TheVariants.Whole}
+use Rattle.station_bases.proofs.{FileLooks.apart_cause, FileLooks.apart_committed, FileLooks.apart_either, Written.quiet_commits}
 use Rattle.station_bases.proofs.file_rest.FileRest.commit.Goals as goal
 
 pub returns-in-Apart-clause-committed : goal.returns-in-Apart-clause-committed

@@ -1,8 +1,6 @@
 use Rattle.std.proofs.Common.{◌≢◌, All, List, ℕ, subst, sym}
-use Rattle.station.specs.Links.{AreLinks}
-use Rattle.station.specs.Opening.{IsOpened}
-use Rattle.station_bases.specs.InFile.{IsHeld, IsWithinReach, file_state}
-use Rattle.station_bases.specs.Reading.{file_place}
+use Rattle.station.specs.{Links.AreLinks, Opening.IsOpened}
+use Rattle.station_bases.specs.{InFile.IsHeld, InFile.IsWithinReach, InFile.file_state, Reading.file_place}
 use Rattle.station_bases.proofs.Opened.{is_not_opened, is_opened}
 use Rattle.station_bases.proofs.file_station.FileStationOpenStation.open.Goals as goal
 

@@ -1,8 +1,6 @@
 use Rattle.std.proofs.Common.{◌≡◌, ◌∷◌, ◌++◌, ◌∙◌, [], List, ℕ, None, length, arith, subst, sym}
-use Rattle.std.specs.Prelude.{bytes_eq, find}
-use Rattle.std.specs.BTreeMap.{insert_entry}
-use Rattle.echo_links.specs.Links.{Area}
-use Rattle.echo_links.specs.Found.{LeadToAreas}
+use Rattle.std.specs.{Prelude.bytes_eq, Prelude.find, BTreeMap.insert_entry}
+use Rattle.echo_links.specs.{Links.Area, Found.LeadToAreas}
 use Rattle.echo_links.proofs.Found.{area_added, tag_order}
 use Rattle.echo_links.proofs.link_file.areas.Areas.push.Goals as goal
 

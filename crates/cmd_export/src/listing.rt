@@ -1,0 +1,40 @@
+//! `list` and `export` of a base folder: the messages that are asked for are all read before a line is printed.
+
+use crate::bases::{asked_area, list_query};
+use cmd_input::{Progress, look_into};
+use cmd_repair::list_ids;
+use cmd_show::{ExportQuery, export_messages, list_areas_of, list_messages};
+use cmd_status::{Fault, Status};
+use cmd_words::ListWords;
+use disk_io::Sink;
+
+/// `list` of the base folder that the words name, from this number on.
+pub(crate) fn list_folder<'a, W: Sink>(
+    rt: &HostRuntime,
+    words: &ListWords<'a>,
+    first: u64,
+    progress: &Progress<'_>,
+    out: &mut W,
+) -> Result<Status, Fault<'a>> {
+    let mut messages = look_into(rt, words.base, first, Some(progress))?;
+    if words.areas {
+        return list_areas_of(rt.alloc(), words.base, &mut messages, out);
+    }
+    if words.ids {
+        let area = asked_area(words);
+        return list_ids(rt.alloc(), area, words.base, &mut messages, out);
+    }
+    let asked = list_query(words, first);
+    list_messages(rt.alloc(), &asked, words.base, &mut messages, out)
+}
+
+/// `export` of this base folder.
+pub(crate) fn export_folder<'a, W: Sink>(
+    rt: &HostRuntime,
+    base: &'a str,
+    asked: &ExportQuery<'_>,
+    out: &mut W,
+) -> Result<u128, Fault<'a>> {
+    let mut messages = look_into(rt, base, asked.first, None)?;
+    export_messages(rt.alloc(), asked, base, &mut messages, out)
+}

@@ -1,0 +1,195 @@
+//! `export --msg`: messages of a base as files of a folder. The lock of the folder is held from before the base is read
+//! until the last file is written. So two runs at once add each message once.
+
+use base_folder::MessageSource;
+use cmd_input::{
+    folder_fault, folder_path, is_folder, load_base, locked_folder, look_into, output_fault,
+    read_file,
+};
+use cmd_numbered::{
+    ExportError, Exported, LastFile, MessageFile, MessageFolder, export_files, is_left, number_in,
+    tell_exported,
+};
+use cmd_status::{Fault, Status, ended, number_of};
+use cmd_words::ExportStoredWords;
+use disk_io::Sink;
+use disk_system::{
+    BY_UMASK, NewFile, OutputFault, create_file, flush_folder, folder_of, remove_left,
+};
+use std::alloc::AllocError;
+use std::fs::File;
+use std::{fs, io, str};
+
+/// The word in the staging path of a message where other files have the address of a system.
+const OWN: &str = "msg";
+
+/// How many bytes show that a file is the message that is to be written: its sender's name.
+const MESSAGE_KNOWN_BY: usize = 36;
+
+// The stored message of the greatest number in a folder, and its path.
+#[derive(Drop)]
+struct Last {
+    number: u32,
+    path: String,
+}
+
+// A folder that gets files. It reports on `errors` why a file was not made.
+#[derive(Drop)]
+struct FolderFiles<'r, 'a, E: Sink> {
+    rt: &'r HostRuntime,
+    folder: &'a str,
+    errors: &'r mut E,
+}
+
+impl<E: Sink> MessageFolder for FolderFiles<'_, '_, E> {
+    ghost use Rattle.std.specs.Prelude.{None};
+
+    ghost made = { λ folder. None };
+
+    fn make(&mut self, file: &MessageFile) -> Result<(), Status> {
+        let name = str::from_utf8(file.name.as_slice()).unwrap_or("");
+        match file_path(self.rt, self.folder, name) {
+            Ok(path) => self.make_at(path.as_str(), file),
+            Err(_) => Err(output_fault(OutputFault::Memory, "").report(self.errors)),
+        }
+    }
+}
+
+impl<E: Sink> FolderFiles<'_, '_, E> {
+    // Makes the file at this path. Its name is on the disk then, so after a power cut the first ones of several files are
+    // there.
+    fn make_at(&mut self, path: &str, file: &MessageFile) -> Result<(), Status> {
+        let new = NewFile {
+            path,
+            own: OWN,
+            bytes: file.bytes.as_slice(),
+            known_by: MESSAGE_KNOWN_BY,
+            mode: BY_UMASK,
+        };
+        let made = match create_file(self.rt.alloc(), self.rt, new) {
+            Ok(()) => flush_folder(self.rt, folder_of(path)),
+            failed => failed,
+        };
+        made.map_err(|fault| output_fault(fault, path).report(self.errors))
+    }
+}
+
+/// `export --msg DIR --area TAG [--from I] BASE`: the number is judged first. The folder is locked before the base is
+/// read, and a fault of the base counts before one of the folder. Each file is made before the next message is read.
+pub(crate) fn run_export_stored<W: Sink, E: Sink>(
+    rt: &HostRuntime,
+    words: &ExportStoredWords<'_>,
+    out: &mut W,
+    errors: &mut E,
+) -> Status {
+    let (locked, exported) = match export_into(rt, words, errors) {
+        Ok(exported) => exported,
+        Err(fault) => return fault.report(errors),
+    };
+    let line = match tell_exported(rt.alloc(), &exported, out) {
+        Ok(()) => Ok(Status::Good),
+        Err(fault) => Err(fault),
+    };
+    let _ = locked.unlock();
+    match exported.stop {
+        None => ended(line, errors),
+        Some(ExportError::Message(fault)) => fault.report(errors),
+        Some(ExportError::File(status)) => status,
+    }
+}
+
+// Makes the files, and returns the folder under its lock.
+fn export_into<'a, E: Sink>(
+    rt: &HostRuntime,
+    words: &ExportStoredWords<'a>,
+    errors: &mut E,
+) -> Result<(File, Exported<'a>), Fault<'a>> {
+    let first = match words.from {
+        Some(word) => number_of(word)?,
+        None => 0,
+    };
+    let folder = words.folder;
+    let locked = locked_folder(rt, folder);
+    let mut files = FolderFiles { rt, folder, errors };
+    if is_folder(rt, words.base) {
+        let mut messages = look_into(rt, words.base, 0, None)?;
+        let locked = locked?;
+        let exported = export_messages(words, first, &mut messages, &mut files)?;
+        return Ok((locked, exported));
+    }
+    let mut messages = load_base(rt, words.base)?;
+    let locked = locked?;
+    let exported = export_messages(words, first, &mut messages, &mut files)?;
+    Ok((locked, exported))
+}
+
+// Makes the files of these messages.
+fn export_messages<'a, M: MessageSource, E: Sink>(
+    words: &ExportStoredWords<'a>,
+    first: u64,
+    messages: &mut M,
+    files: &mut FolderFiles<'_, 'a, E>,
+) -> Result<Exported<'a>, Fault<'a>>
+    requires { (M.state messages.old).is_ready }
+{
+    let (number, bytes) = last_stored(files.rt, files.folder)?;
+    let last = LastFile {
+        number,
+        bytes: bytes.as_ref().map(|bytes| bytes.as_slice()),
+    };
+    let area = words.area.as_bytes();
+    export_files(
+        files.rt.alloc(),
+        area,
+        first,
+        last,
+        words.base,
+        messages,
+        files,
+    )
+}
+
+// The greatest number of a stored message in the folder, 0 where it has none, and the bytes of that one.
+fn last_stored<'a>(rt: &HostRuntime, folder: &'a str) -> Result<(u32, Option<Vec<u8>>), Fault<'a>> {
+    match last_name(rt, folder)? {
+        Some(Last { number, path }) => match read_file(rt, path.as_str(), usize::MAX) {
+            Ok(bytes) => Ok((number, Some(bytes))),
+            Err(Fault::OutOfMemory) => Err(Fault::OutOfMemory),
+            Err(_) => Err(Fault::CannotUse(folder)),
+        },
+        None => Ok((0, None)),
+    }
+}
+
+// The stored message of the greatest number in the folder. A name that is not UTF-8 has no number. Staging files that
+// stopped runs left are removed.
+fn last_name<'a>(rt: &HostRuntime, folder: &'a str) -> Result<Option<Last>, Fault<'a>> {
+    let names = fs::read_dir(rt, folder).map_err(|error| folder_fault(&error, folder))?;
+    let mut last: Option<Last> = None;
+    for entry in names {
+        let entry = match entry {
+            Ok(entry) => entry,
+            Err(error) if error.kind() == io::ErrorKind::InvalidFilename => continue,
+            Err(error) => return Err(folder_fault(&error, folder)),
+        };
+        let name = entry.file_name();
+        if is_left(name.as_bytes()) {
+            remove_left(rt, file_path(rt, folder, name)?.as_str());
+        }
+        if let Some(number) = number_in(name.as_bytes()) {
+            let greatest = last.as_ref().map_or(0, |last| last.number);
+            if number >= greatest {
+                let path = file_path(rt, folder, name)?;
+                last = Some(Last { number, path });
+            }
+        }
+    }
+    Ok(last)
+}
+
+// The path of a file of the folder.
+fn file_path(rt: &HostRuntime, folder: &str, name: &str) -> Result<String, AllocError> {
+    let mut path = folder_path(rt, folder)?;
+    path.push_str(name)?;
+    Ok(path)
+}

@@ -1,0 +1,49 @@
+//! Runs a command that reads no base, by its words.
+
+use crate::linking::run_links;
+use crate::nets::{run_check, run_picture, run_replay, run_why};
+use crate::printing::{run_nodelist, run_show};
+use cmd_input::{Progress, names_of};
+use cmd_status::{Status, ended};
+use cmd_words::NetWords;
+use disk_io::Sink;
+
+/// Runs the command of these words. The words are borrowed, so no case has to be proved to drop those of another.
+pub fn run_net<W: Sink, E: Sink>(
+    rt: &HostRuntime,
+    words: &NetWords<'_>,
+    progress: &Progress<'_>,
+    out: &mut W,
+    errors: &mut E,
+) -> Status {
+    match words {
+        NetWords::Show { hex, text, packet } => {
+            ended(run_show(rt, *hex, *text, *packet, out), errors)
+        }
+        NetWords::Nodelist { find, file } => ended(run_nodelist(rt, *find, *file, out), errors),
+        NetWords::Check(words) => ended(
+            run_check(rt, words, &names_of(rt, &words.links), out),
+            errors,
+        ),
+        NetWords::Links { areas, links } => {
+            run_links(rt, *areas, &names_of(rt, links), out, errors)
+        }
+        NetWords::Why { assume, tag, links } => ended(
+            run_why(rt, assume.as_slice(), *tag, &names_of(rt, links), out),
+            errors,
+        ),
+        NetWords::Picture {
+            why,
+            assume,
+            tag,
+            links,
+        } => ended(
+            run_picture(rt, *why, assume.as_slice(), *tag, &names_of(rt, links), out),
+            errors,
+        ),
+        NetWords::Replay { script, links } => {
+            let links = names_of(rt, links);
+            ended(run_replay(rt, *script, &links, progress, out), errors)
+        }
+    }
+}

@@ -1,9 +1,0 @@
-mod Effects
-mod Gone
-mod Moved
-mod Named
-mod Rewritten
-mod SecondPath
-mod Settled
-mod Steps
-mod Tears

@@ -1,0 +1,105 @@
+"""Looks at the settings of a station, and says what to do."""
+from __future__ import annotations
+
+import os
+import shutil
+from os.path import exists
+from typing import Iterator
+
+from .calls import call, program
+from .faults import Status, Stopped
+from .mailer import Finding, configuration, look_at_mailer
+from .printing import shown_path
+from .station import Station
+
+TOOLS = (
+    ("7z", "bundles of arj, lzh and 7z go to bad/"),
+    ("flock", "the scripts need it"),
+    ("awk", "the scripts need it"),
+)
+OTHERS_MAY = 0o077
+
+
+def look_at_links(station: Station) -> Iterator[Finding]:
+    """The link file, and the lines of `peers` for its links."""
+    ran = call(program(), "links", "--areas", station.at("links"))
+    yield Finding("link file", ran.status == Status.GOOD, ran.first_line())
+    try:
+        station.load()
+    except Stopped as fault:
+        yield Finding("peers", False, str(fault))
+        return
+    if not exists(station.at("peers")):
+        yield Finding("peers", False, "no such file: bundles, netmail and passwords are not looked at. An empty one is enough")
+        return
+    yield Finding("peers", True)
+    is_closed = not os.stat(station.at("peers")).st_mode & OTHERS_MAY
+    yield Finding("peers is closed to others", is_closed, "chmod 600 peers")
+    yield from look_at_passwords(station)
+
+
+def look_at_passwords(station: Station) -> Iterator[Finding]:
+    """Whether each link has a line with a password. The check of packets by binkd does not see into bundles."""
+    links, peers = station.links(), station.peers
+    for link in sorted(links - set(peers.peers)):
+        yield Finding("link %s has a PEER line" % link, False, "any link can send in its name: check-pkthdr does not see into bundles")
+    for link in sorted(links & set(peers.peers)):
+        advice = "any link can send in its name: check-pkthdr does not see into bundles"
+        yield Finding("link %s has a packet password" % link, bool(peers.peer(link).password), advice)
+    for address in sorted(set(peers.peers) - links):
+        is_known = address in (station.own, peers.route) or address in peers.real_of or not station.areas
+        yield Finding("peer %s is a link" % address, is_known, "no AREA line names it")
+
+
+def look_at_folders(station: Station) -> Iterator[Finding]:
+    """Whether the folders are on one file system that has hard links."""
+    folders = (station.folder, station.inbound, station.outbound, station.packets)
+    devices = {os.stat(folder).st_dev for folder in folders if exists(folder)}
+    yield Finding("one file system", len(devices) == 1, "INBOUND, OUTBOUND, PACKETS and the station have to be on one")
+    yield Finding("hard links", has_hard_links(station), "base, packets and gate need them")
+
+
+def has_hard_links(station: Station) -> bool:
+    """Tries a hard link in the station's folder."""
+    probe = station.at("doctor.probe")
+    try:
+        with open(probe, "wb"):
+            os.link(probe, probe + ".2")
+        return True
+    except OSError:
+        return False
+    finally:
+        for path in (probe, probe + ".2"):
+            station.disk.unlink(path)
+
+
+def look_at_tools() -> Iterator[Finding]:
+    """Whether the programs are there that a station calls."""
+    yield Finding("echonet", shutil.which(program()) is not None, "it is not on the PATH; or set ECHONET")
+    for tool, why in TOOLS:
+        yield Finding(tool, shutil.which(tool) is not None, why)
+
+
+def doctor(station: Station, words: list[str]) -> int:
+    """The word `doctor`."""
+    has_bad = False
+
+    def show(findings: Iterator[Finding]) -> None:
+        nonlocal has_bad
+        for finding in findings:
+            has_bad = has_bad or not finding.is_good
+            mark = "good" if finding.is_good else "BAD "
+            print("%s %s%s" % (mark, finding.what, "" if finding.is_good else ": " + finding.advice), flush=True)
+
+    show(look_at_links(station))
+    if not hasattr(station, "peers"):
+        return Status.HAND
+    show(look_at_folders(station))
+    show(look_at_tools())
+    path = configuration(station, words)
+    if path is None:
+        print("no binkd configuration looked at: doctor PATH")
+    else:
+        print("looks at %s" % shown_path(path))
+        show(look_at_mailer(station, path))
+    return Status.HAND if has_bad else Status.GOOD
