@@ -2,7 +2,7 @@ use Rattle.std.proofs.Common.{◌∙◌, ap, arith, length, map, refl, sym}
 use Rattle.std.proofs.lemmas.{Bool.eqb-true, List.drop_all, Result.err_from_is_err_and}
 use Rattle.std.specs.{List.list_any, Prelude.bytes_eq}
 use Rattle.echo_links.specs.LinkLines.{file_lines}
-use Rattle.cmd_repair.proofs.Reading.{goes_on, stops, words_more}
+use Rattle.cmd_repair.proofs.Readings.{goes_on, stops, words_more}
 use Rattle.cmd_repair.proofs.reading.read_ids.Goals as goal
 
 pub lines-preserved : goal.lines-preserved
