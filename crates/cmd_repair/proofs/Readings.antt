@@ -1,10 +1,9 @@
 -- A list is read line by line.
 use Rattle.std.proofs.Common.{◌≡◌, ℕ, ◌+◌, ◌-◌, Bool, true, false, List, [], ◌∷◌, ◌++◌, map, Option, Some, inl, inr, refl, sym, ap, ◌∙◌, append_assoc, arith}
+use Rattle.std.proofs.lemmas.Bool.{cases_Bool, cond-true, cond-false}
 use Rattle.std.specs.Prelude.{filter, if◌then◌else◌}
-use Rattle.std.proofs.lemmas.{Bool.cases_Bool, Bool.cond-true, Bool.cond-false}
 use Rattle.echo_links.specs.LinkLines.{file_lines}
-use Rattle.cmd_repair.specs.declared.reading.Stage.{Stage, TheVariants.Start}
-use Rattle.cmd_repair.specs.IdList.{id_words, is_wrong, stage_after, wrong_line}
+use Rattle.cmd_repair.specs.{declared.reading.Stage.Stage, declared.reading.Stage.TheVariants.Start, IdList.id_words, IdList.is_wrong, IdList.stage_after, IdList.wrong_line}
 use Rattle.cmd_repair.specs.Words.{id_word, is_id_line}
 
 module _ (area bytes rest line after : List ℕ) (number : ℕ) (stage next : Stage)
