@@ -145,14 +145,15 @@ def check_links(place):
     wanted = ["SYSTEM 1:10/2", "AREA JTEST 1:10/1 1:10/3", "AREA MTEST 1:10/1 1:10/3"]
     bases = ["JTEST jam %s/bases/jtest" % place, "MTEST msg %s/bases/mtest" % place]
     run(place, "crashexport crashmail.prefs areas.bbs AREASBBS")
-    point = ["links-from: point 1:10/3.7"]
+    bad = ["links-from: areas for bad mail and defaults: 1, first 'BAD'"]
+    point = ["links-from: points: 1, first 1:10/3.7"]
     for form in ("crashmail 1:10/2 crashmail.prefs", "areas.bbs 1:10/2 areas.bbs"):
-        expect(form, run(place, "links-from " + form), (wanted, point))
+        expect(form, run(place, "links-from " + form), (wanted, bad + point))
         expect(form, run(place, "links-from --bases " + form)[0], bases)
     write(place + "/short.bbs", b"A title ! Bob\r\n; a note\r\n!bases/jtest jtest 1 3 .7\r\nbases/m MTEST 10/1 1:10/3 3\r\n"
           b"#X OTHER 20/5 6 2:5020/7 x\r\n\x1a")
     expect("short addresses", run(place, "links-from areas.bbs 1:10/2 short.bbs"),
-           (wanted + ["AREA OTHER 1:20/5 1:20/6 2:5020/7"], point + ["links-from: not understood in OTHER: 'x'"]))
+           (wanted + ["AREA OTHER 1:20/5 1:20/6 2:5020/7"], point + ["links-from: links that are not understood: 1, first 'x' in OTHER"]))
     write(place + "/hpt", b"""Address 1:10/2@fidonet
 EchoAreaDefaults -b Jam -lr 10
 EchoArea JTEST bases/jtest -d "of 2:5020/9 \x85" -dupecheck del 1:10/1 -r 1:10/3.7 1:10/3@fidonet # 1:10/8
@@ -164,8 +165,9 @@ LocalArea HERE bases/here
 """)
     expect("hpt", run(place, "links-from hpt 1:10/2 hpt"), (
         wanted + ["AREA ALL"],
-        ["links-from: 1:10/1 of JTEST is read-only there, and a link in both ways here"] + point +
-        ["links-from: area 'ELSE' of 2:5020/2", "links-from: not understood in ALL: '1:*/*'"]))
+        ["links-from: links in one way there, in both ways here: 1, first 1:10/1 of JTEST, read-only",
+         "links-from: areas of another own address (--aka writes them): 1, first 'ELSE' of 2:5020/2"] + point +
+        ["links-from: links that are not understood: 1, first '1:*/*' in ALL"]))
     expect("hpt", run(place, "links-from --bases hpt 1:10/2 hpt")[0], ["JTEST jam bases/jtest", "MTEST msg bases/m"])
 
 

@@ -20,7 +20,9 @@ make -s install DESTDIR="$root/one" PREFIX=/usr > /dev/null || exit 1
 for file in bin/echonet share/man/man1/echonet.1 share/echonet/{post,reader,readers,toss-inbound,scan-outbound,station}.sh \
   share/echonet/{jam-lock,printable.awk,echonet.service,echonet.timer,echonet.logrotate,settings} share/doc/echonet/{README,OPERATORS,FORMATS}.md \
   share/bash-completion/completions/echonet share/zsh/site-functions/_echonet \
-  share/fish/vendor_completions.d/echonet.fish share/echonet/move/{links-from,packets.py}; do
+  share/fish/vendor_completions.d/echonet.fish share/echonet/move/{packets.py,net-page.css,net-page.js} \
+  {bin/,share/echonet/move/,share/bash-completion/completions/,share/zsh/site-functions/_}{links-from,links-seen,net-page} \
+  share/man/man1/{links-from,links-seen,net-page}.1 share/fish/vendor_completions.d/{links-from,links-seen,net-page}.fish; do
   check "$file is there" "$([ -s "$root/one/usr/$file" ] && echo yes)" yes
 done
 for folder in net nets; do
@@ -30,6 +32,11 @@ for tool in jam msg; do
   check "$tool-to-packets" "$("$root/one/usr/share/echonet/move/$tool-to-packets" 2>&1; echo $?)" \
     "usage: $tool-to-packets FROM TO TAG PATH > PACKET"$'\n4'
 done
+for tool in links-from links-seen net-page; do
+  check "$tool on the PATH" "$(PATH=$root/one/usr/bin:$PATH "$tool" 2>&1 | head -c ${#tool})" "$tool"
+done
+check 'options of links-seen' "$(bash -c '. "$1"; complete -p links-seen' - "$root/one/usr/share/bash-completion/completions/links-seen")" \
+  "complete -o default -W '--least --own --since --zone' links-seen"
 check 'the program' "$(cmp bin/echonet "$root/one/usr/bin/echonet" && echo same)" same
 
 # The completions in a real bash: the commands of the help, and the options of each command's help.
@@ -115,9 +122,14 @@ if command -v logrotate > /dev/null; then
 fi
 
 if command -v dpkg-deb > /dev/null; then
-  package=$(make -s deb) || exit 1
+  made=$(PATH=/usr/bin:/bin make -s deb) || exit 1
+  package=$(head -n 1 <<< "$made")
+  check 'the sum that make deb prints' "$(sed -n 's/^sha256 //p' <<< "$made")" "$(sha256sum "$package" | cut -d ' ' -f 1)"
+  check 'the commit in the package' "$(dpkg-deb -f "$package" Commit)" "$(sed -n 's/^commit //p' <<< "$made")"
+  command -v objdump > /dev/null && check 'the C library that it needs' "$(dpkg-deb -f "$package" Depends)" \
+    "libc6 (>= $(objdump -T bin/echonet | grep -o 'GLIBC_[0-9.]*' | cut -d _ -f 2 | sort -V | tail -1))"
   check 'the package has what is installed' \
-    "$(dpkg-deb -c "$package" | awk '$1 ~ /^-/ { print $6 }' | grep -c .)" \
+    "$(dpkg-deb -c "$package" | awk '$1 !~ /^d/ { print $6 }' | grep -c .)" \
     "$(make -s install DESTDIR="$root/two" PREFIX=/usr > /dev/null; files "$root/two" | grep -c .)"
   if [ "$(id -u)" -eq 0 ]; then
     fresh=$root/fresh

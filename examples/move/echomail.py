@@ -136,8 +136,9 @@ def moment_of(date: bytes) -> Optional[str]:
 def text_of_jam(message: jam.Message) -> bytes:
     """The text of a message of a JAM base, with its control lines in front of it and behind it."""
     front = b"".join(FRONT[kind] + content + b"\r" for kind, content in message.fields if kind in FRONT)
-    behind = [BEHIND[kind] + content + b"\r" for kind, content in message.fields if kind in BEHIND]
+    behind = [(kind, BEHIND[kind] + content + b"\r") for kind, content in message.fields if kind in BEHIND]
     body = message.text.replace(b"\0", b"")
     if body and not body.rstrip(b"\n").endswith(b"\r"):
         body += b"\r"
-    return (front + body + b"".join(sorted(behind, key=lambda line: line.startswith(b"\x01")))).replace(b"\0", b"")
+    ordered = sorted(behind, key=lambda found: found[0] == jam.PATH)
+    return (front + body + b"".join(line for _, line in ordered)).replace(b"\0", b"")

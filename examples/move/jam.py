@@ -94,9 +94,10 @@ class Base:
         CrashMail 1.7 spoils headers when it links replies. Its headers and texts are stored one behind another, so the
         right numbers are those that lead from one message to the next. If none do, the numbers count as in the file.
         """
-        heads = (self.head(place) for place in self.places)
-        last, numbers = 0, next(heads, None)
-        behind = (0,) * TEXT_AT + (self.text_end,) * 4
+        heads: Iterator[Optional[tuple[int, ...]]] = map(self.head, self.places)
+        last = 0
+        numbers: Optional[tuple[int, ...]] = next(heads, None)
+        behind: tuple[int, ...] = (0,) * TEXT_AT + (self.text_end,) * 4
         for number, place in enumerate(self.places, 1):
             is_last = number == len(self.places)
             following = behind if is_last else next(heads)

@@ -47,10 +47,12 @@ class Fault(NamedTuple):
 
 
 class Verdict(NamedTuple):
-    """What `check` says of an area: the faults, the assumed systems, and all lines as printed."""
+    """What `check` says of an area: the faults, the assumed systems, those of them behind which nothing was seen, and
+    all lines as printed."""
     tag: str
     faults: tuple[Fault, ...]
     assumed: tuple[Address, ...]
+    unseen: tuple[Address, ...]
     lines: tuple[str, ...]
 
     def cost(self) -> str:
@@ -128,6 +130,7 @@ class Program:
 def verdict_of(lines: list[str]) -> Verdict:
     """The verdict of the lines of an area."""
     faults, assumed = [], []
+    unseen: tuple[Address, ...] = ()
     tag = lines[0].split(" ")[1].replace("\\\\", "\\")
     for line in lines:
         word, *rest = line.split(" ")
@@ -136,7 +139,9 @@ def verdict_of(lines: list[str]) -> Verdict:
             faults.append(Fault(code, name, tuple(address_in(address) for address in addresses)))
         elif word == "assumed":
             assumed.append(address_in(rest[0]))
-    return Verdict(tag, tuple(faults), tuple(assumed), tuple(lines))
+        elif word == "unseen":
+            unseen = tuple(map(address_in, rest))
+    return Verdict(tag, tuple(faults), tuple(assumed), unseen, tuple(lines))
 
 
 class Area:

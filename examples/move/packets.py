@@ -4,17 +4,18 @@ import re
 import struct
 import sys
 import time
+from typing import NoReturn
 
 LOCAL_AND_SENT = {"jam": (1, 16), "msg": (256, 8)}
 
 
-def end(status, line):
+def end(status: int, line: str) -> NoReturn:
     """Ends with a line on standard error."""
     print("%s: %s" % (sys.argv[0].rpartition("/")[2], line), file=sys.stderr)
     sys.exit(status)
 
 
-def address_of(word):
+def address_of(word: str) -> list[int]:
     """Zone, net and node of an address."""
     numbers = [int(number) for number in re.split("[:/]", word)] if re.fullmatch("[0-9]+:[0-9]+/[0-9]+", word) else [65536]
     if max(numbers) > 32767:
@@ -25,7 +26,7 @@ def address_of(word):
 class Packet:
     """A packet of one area. FROM, TO, TAG and the path of the base are the arguments of the command line."""
 
-    def __init__(self, kind):
+    def __init__(self, kind: str) -> None:
         if len(sys.argv) != 5:
             print("usage: %s FROM TO TAG PATH > PACKET" % sys.argv[0].rpartition("/")[2], file=sys.stderr)
             sys.exit(4)
@@ -40,22 +41,22 @@ class Packet:
             zone, to_zone, b""))
 
     @staticmethod
-    def write(content):
+    def write(content: bytes) -> None:
         """Adds bytes to the packet."""
         sys.stdout.buffer.write(content)
 
-    def count(self, what):
+    def count(self, what: str) -> None:
         """Counts something that the last line reports."""
         self.counts[what] = self.counts.get(what, 0) + 1
 
-    def field(self, content, most):
+    def field(self, content: bytes, most: int) -> bytes:
         """A name or a subject, cut to what a packet holds."""
         content = content.split(b"\0")[0]
         if len(content) > most:
             self.count("names or subjects cut")
         return content[:most] + b"\0"
 
-    def add(self, date, to, by, subject, text, attribute):
+    def add(self, date: bytes, to: bytes, by: bytes, subject: bytes, text: bytes, attribute: int) -> None:
         """Adds a message. The text is without its AREA line."""
         if attribute & self.local and not attribute & self.sent:
             self.count("never sent by the old tosser")
@@ -67,7 +68,7 @@ class Packet:
         self.write(b"AREA:" + self.tag.encode() + b"\r" + text + b"\0")
         self.count("messages")
 
-    def finish(self):
+    def finish(self) -> NoReturn:
         """Ends the packet, and reports the counts. The status is 1 if the operator should look at something."""
         self.write(b"\0\0")
         sys.stdout.buffer.flush()

@@ -131,14 +131,24 @@ class Section:
         return '<li><span class="cost %s">%s %s</span>: %s<ul class="files">%s</ul></li>' % (
             CLASSES[cost], fault.code, cost, escape(sentence(fault, self.area)), "".join("<li>%s</li>" % line for line in lines))
 
+    def unseen(self) -> str:
+        """What an assumed system means for the verdict."""
+        if self.area.verdict.unseen:
+            return ("<p>Nothing was seen behind these systems, which have no file here: %s. So there a loop may still bring mail twice, "
+                    "or a way may join parts that are apart here.</p>") % ", ".join(map(nets.shown, self.area.verdict.unseen))
+        if self.area.verdict.assumed:
+            return "<p>%s has no file here. What it exchanges with others was not seen.</p>" % ", ".join(map(nets.shown, self.area.verdict.assumed))
+        return ""
+
     def faults(self) -> str:
         """All faults."""
         faults = self.area.verdict.faults
         if not faults:
-            return '<p class="cost good">No fault: each message reaches each system once.</p>'
+            words = "No fault in what was seen." if self.area.verdict.assumed else "No fault: each message reaches each system once."
+            return '<p class="cost good">%s</p>%s' % (words, self.unseen())
         more = "<p>And %d more: <code>echonet check --more %s</code> prints them.</p>" % (
             len(faults) - MOST_FAULTS, escape(self.area.tag)) if len(faults) > MOST_FAULTS else ""
-        return '<ul class="faults">%s</ul>%s' % ("".join(map(self.fault, faults[:MOST_FAULTS])), more)
+        return '<ul class="faults">%s</ul>%s' % ("".join(map(self.fault, faults[:MOST_FAULTS])), more) + self.unseen()
 
     def labels(self) -> dict[Pair, str]:
         """The numbers of the packets of a run, at the links over which they go."""

@@ -97,12 +97,13 @@ class JamBase(Source):
 
     def quick(self, message: jam.Message, zones: Zones) -> Optional[Mail]:
         """The message by its subfields alone, if its text cannot add to them."""
-        path, found = None, b""
+        path: Optional[bytes] = None
+        found = b""
         for kind, content in message.fields:
             if kind == jam.PATH:
                 if b"\r" in content:
                     return None
-                path = content if path is None else path + b"\r" + content
+                path = content if path is None else b"\r".join((path, content))
             elif kind == jam.MSGID and not found:
                 found = content.replace(b"\0", b"").strip(echomail.BLANKS)
             elif kind == jam.KLUDGE and content[:5] in (b"MSGID", b"PATH:"):

@@ -49,6 +49,7 @@ class Page(html.parser.HTMLParser):
         return [element for element in self.elements if element[0] == tag and (name is None or element[1].get(name) == value)]
 
 
+@unittest.skipIf(shutil.which("dot") is None, "there is no Graphviz")
 class Case(unittest.TestCase):
     """A test in a folder of its own."""
 
@@ -63,7 +64,9 @@ class Case(unittest.TestCase):
 
     def make(self, *words, cwd=None):
         """Makes a page, and reads it."""
-        ended = fixtures.run("net-page", "--why", "--title", "A & B", self.page, *words, cwd=cwd)
+        options = [word for word in words if word.startswith("--")]
+        files = [word for word in words if not word.startswith("--")]
+        ended = fixtures.run("net-page", "--why", "--title", "A & B", *options, self.page, *files, cwd=cwd)
         self.assertEqual((ended.status, ended.out, ended.fault), (0, "", ""))
         return Page(self.page)
 
@@ -150,6 +153,18 @@ class Contents(Case):
         self.assertEqual([element[2] for element in page.all("th", "scope", "row")], ["SIDE", "TWIN", "LOOP", "SELF", "GOOD"])
 
 
+    @unittest.skipIf("--assume-missing" not in fixtures.echonet("check", "--help").out, "the program has no --assume-missing")
+    def test_assumed(self):
+        """Assumed systems are drawn, and what lies behind them is said to be unseen."""
+        files = self.net(a="SYSTEM 1:10/1\nAREA T 1:10/2 1:10/3\nAREA U 1:10/2\n")
+        page = self.make("--assume-missing", *files)
+        sections = {element[1]["id"]: element[2] for element in page.all("section")}
+        self.assertIn("Nothing was seen behind these systems, which have no file here: 1:10/2, 1:10/3.", sections["a0"])
+        self.assertIn("1:10/2 has no file here. What it exchanges with others was not seen.", sections["a1"])
+        self.assertEqual(sorted(element[1]["class"] for element in page.all("g")), ["assumed"] * 3 + ["system"] * 2)
+        self.assertEqual([element[1]["class"] for element in page.all("path") if "id" in element[1]], ["link"] * 3)
+
+
 class Safety(Case):
     """Texts of link files are texts."""
 
@@ -187,7 +202,7 @@ class Safety(Case):
         self.assertFalse(os.path.exists(self.page))
 
 
-@unittest.skipIf(browser.NAME is None, "there is no Chromium")
+@unittest.skipIf(browser.NAME is None or shutil.which("dot") is None, "there is no Chromium or no Graphviz")
 class InBrowser(Case):
     """The pages in a headless browser."""
 

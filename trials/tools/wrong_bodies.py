@@ -1,6 +1,7 @@
 """Tries wrong versions of the tools: the tests have to refuse each. A version is one line of a tool that another replaces.
 
-Arguments: modules of tests, by default all. Each version is tried with the tests of its tool until one fails.
+Arguments: modules of tests, by default all. Each version is tried with the tests of its tool, or with those that it
+names, until one fails.
 """
 import os
 import shutil
@@ -24,9 +25,9 @@ def with_line(folder, name, line, wrong):
         file.write(content.replace(line, wrong))
 
 
-def refused(module, folder):
-    """Whether a test of a module fails with the tools of a folder."""
-    done = subprocess.run([sys.executable, "-m", "unittest", "--failfast", module], cwd=fixtures.HERE, check=False,
+def refused(module, folder, name):
+    """Whether a test of a module with a name fails with the tools of a folder."""
+    done = subprocess.run([sys.executable, "-m", "unittest", "--failfast", "-k", name, module], cwd=fixtures.HERE, check=False,
                           env={**os.environ, "TOOLS": folder}, stdout=subprocess.DEVNULL, stderr=subprocess.DEVNULL)
     return done.returncode != 0
 
@@ -35,12 +36,12 @@ def main():
     """Tries all versions of some tools."""
     modules, passed, tried = sys.argv[1:] or sorted(WRONG), [], 0
     for module in modules:
-        for name, line, wrong in WRONG[module]:
+        for name, line, wrong, *test in WRONG[module]:
             with tempfile.TemporaryDirectory() as place:
                 folder = os.path.join(place, "tools")
                 with_line(folder, name, line, wrong)
                 tried += 1
-                if not refused(module, folder):
+                if not refused(module, folder, test[0] if test else "test"):
                     passed.append("%s: %s" % (name, wrong))
                     print("PASSES: %s: %s" % (name, wrong), flush=True)
     print("wrong_bodies.py: %d wrong versions, %d refused" % (tried, tried - len(passed)))

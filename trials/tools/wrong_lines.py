@@ -1,4 +1,5 @@
-"""Wrong versions of the tools, for wrong_bodies.py: by module of tests, each the file, a line, and the line in its place."""
+"""Wrong versions of the tools, for wrong_bodies.py: by module of tests, each the file, a line, the line in its place, and which
+tests have to refuse it, by default all of the module."""
 
 LINKS_SEEN = [
     # Systems of different areas are linked.
@@ -72,4 +73,51 @@ LINKS_SEEN = [
      "            if not end or content[at:at + 2] != b\"\\2\\0\":"),
 ]
 
-WRONG = {"test_links_seen": LINKS_SEEN}
+NET_PAGE = [
+    # Texts of link files are code.
+    ("page.py", "    return html.escape(nets.plain(text))", "    return nets.plain(text)", "test_texts"),
+    ("page.py", "        return '<span class=\"place\">%s:%d:</span> <code>%s</code>' % (html.escape(file.path),",
+     "        return '<span class=\"place\">%s:%d:</span> <code>%s</code>' % (file.path,", "test_texts"),
+    ("drawing.py", "% html.escape(\"%s %s\" % (nets.shown(system), name))", "% (\"%s %s\" % (nets.shown(system), name))", "test_texts"),
+    ("nets.py", "            name = plain(line.strip", "            name = str(line.strip", "test_texts"),
+    ("nets.py", "    return LinkFile(plain(path),", "    return LinkFile(path,", "test_texts"),
+    ("page.py", "style-src %s; script-src %s;", "style-src %s; script-src 'unsafe-inline' %s; script-src-elem *;", "test_no_code_runs"),
+    # What the page shows is not what the commands print.
+    ("page.py", "        self.areas.sort(key=lambda area: (nets.HARM.index(area.verdict.cost()), area.tag))", "        pass", "test_order"),
+    ("nets.py", "        return min((COSTS[fault.code] for fault in self.faults), key=HARM.index, default=\"\")",
+     "        return max((COSTS[fault.code] for fault in self.faults), key=HARM.index, default=\"\")", "test_order"),
+    ("nets.py", "    for at, line in enumerate(lines, 1):", "    for at, line in enumerate(lines):", "test_places"),
+    ("page.py", "for system in dict.fromkeys(fault.addresses) for line in self.lines_of_system",
+     "for system in fault.addresses[:1] for line in self.lines_of_system", "test_places"),
+    ("nets.py", "\"check\", \"--all\", \"--more\", *self.options", "\"check\", \"--all\", *self.options", "test_places"),
+    ("drawing.py", "        if there != back:\n            links[pair].add", "        if there and not back:\n            links[pair].clear", "test_pictures"),
+    ("drawing.py", "            for one, other in zip(fault.addresses, fault.addresses[1:] + fault.addresses[:1]):",
+     "            for one, other in zip(fault.addresses, fault.addresses[1:]):", "test_pictures"),
+    ("runs.py", "if link != self.sender and link[1:] not in self.seen]", "if link != self.sender]", "test_steps"),
+    ("runs.py", "        links = sorted(set(self.line.links))", "        links = sorted(set(self.line.links), reverse=True)", "test_steps"),
+    # The steps.
+    ("net-page.js", "{ ArrowRight: 1, ArrowLeft: -1 }", "{ ArrowRight: -1, ArrowLeft: 1 }", "InBrowser.test_steps"),
+    ("net-page.js", "(packet.isBack ? 1 - part : part)", "(packet.isBack ? part : 1 - part)", "InBrowser.test_steps"),
+    ("net-page.js", "      if (number <= at && step.dataset.has)", "      if (number === at && step.dataset.has)", "InBrowser.test_steps"),
+    # Readers, telephones, paper.
+    ("net-page.css", "  thead { position: absolute; left: -99rem; }", "  table { min-width: 50rem; }", "test_telephone"),
+    ("net-page.css", "  :root { --paper: #fff; --ink: #000; --pale: #444; --box: #fff; }", "", "test_dark"),
+    ("drawing.py", "<svg role=\"img\" aria-labelledby=\"%st\"", "<svg data-name=\"%st\"", "test_reader"),
+]
+
+LINKS_FROM = [
+    ("forms.py", "            yield from hpt_file(reader, state, reader.near(path, words[1]), reader.named(path, words[1]))", "            pass"),
+    ("forms.py", "            self.left.out(\"included files that cannot be read\", ascii(word))", "            pass"),
+    ("forms.py", "            self.left.out(\"files included again\", ascii(word))\n            return []", "            pass"),
+    ("forms.py", "lambda found: self.variables.get(found[1].lower(), os.environ.get(found[1], found[0]))", "lambda found: found[0]"),
+    ("forms.py", "        if example not in examples:", "        if not examples:"),
+    ("forms.py", "            area.own = word[2:]", "            pass"),
+    ("forms.py", "                yield area\n        elif word == \"echoarea\"", "                pass\n        elif word == \"echoarea\""),
+    ("forms.py", "            elif name.lower() == \"areafile\" and not section and value:", "            elif name.lower() == \"areafile\" and value:"),
+    ("forms.py", "                    own_of[node] = value", "                    pass"),
+    ("links-from", "        elif area.tag in found.setdefault(address, {}):", "        elif area.tag in found.setdefault(own, {}):"),
+    ("links-from", "for address in found if found[address]}", "for address in [own]}"),
+    ("links-from", "            left.out(\"points\", \"%s.%d\" % (shown(last), point))", "            links.append(last)"),
+]
+
+WRONG = {"test_links_seen": LINKS_SEEN, "test_net_page": NET_PAGE, "test_links_from": LINKS_FROM}

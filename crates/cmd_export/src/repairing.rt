@@ -8,8 +8,8 @@ use cmd_input::{
     LinkLock, MAX_INPUT, folder_path, is_folder, load_base, look_into, output_fault, read_given,
 };
 use cmd_repair::{KnownIds, SendFault, check_linked, push_nothing, read_ids, send_all};
-use cmd_report::{push_counted, repair_name};
 use cmd_status::{Fault, FileLock, Status, print_rest};
+use cmd_store::{push_counted, repair_name};
 use cmd_words::ResendWords;
 use disk_io::{Disk, Sink, Watched};
 use disk_system::{

@@ -9,8 +9,8 @@ use cmd_input::{
 };
 use cmd_numbered::{resend, resend_of};
 use cmd_repair::check_linked;
-use cmd_report::{push_packet, resent_name};
 use cmd_status::{Fault, FileLock, Status, number_of, parse_address, print_rest};
+use cmd_store::{push_packet, resent_name};
 use cmd_words::ResendWords;
 use disk_io::{Disk, Sink};
 use disk_system::{
