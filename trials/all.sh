@@ -47,6 +47,7 @@ each python3 trials/realnet.py &
 wait
 each python3 trials/mixed.py
 each python3 trials/stations.py 300 "$cores"
+each python3 trials/repairs.py 200 "$cores"
 each python3 trials/hostile.py "$inputs" "$cores"
 each python3 trials/nets.py &
 each python3 trials/grown.py "$size" $(((cores + 1) / 2)) &
