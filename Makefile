@@ -5,6 +5,7 @@
 # - `make show-examples`: what `show` prints of the packets in examples/packets.
 # - `make cases`: what each command prints and leaves in the tables of examples/cases.
 # - `make story`: three systems on real files. `make net-test`: the scripts of station.
+# - `make station-test`: the program echonet-station, and what it does with files. It needs Python 3.9.
 # - `make manual-test`: the manual page against the program's help.
 # - `make small-nets`: the verdicts on all small nets against the definitions.
 # - `make tools-test`: the tools of examples/move. Some of it needs graphviz and chromium.
@@ -14,7 +15,7 @@
 #
 # `make install` copies the program, its manual page, the scripts, the documents and the shell completions to PREFIX,
 # below DESTDIR if that is set. `make uninstall` removes them. `make deb` makes a Debian package of the same files.
-.PHONY: all quick quick-test test edits edit-table crate-table times seconds demo show-examples cases story net-test manual-test small-nets tools-test follow interop trials install uninstall deb toolchain clean
+.PHONY: all quick quick-test test edits edit-table crate-table times seconds demo show-examples cases story net-test station-test manual-test small-nets tools-test follow interop trials install uninstall deb toolchain clean
 PREFIX = /usr/local
 
 # The program that these targets run. After the gate, that is the one in crates/echonet/out.
@@ -103,6 +104,9 @@ story: $(program)
 net-test: $(program)
 	scripts/net-test.sh $(program)
 	scripts/net-test.sh $(program) folders
+
+station-test: $(program)
+	cd station/tests && ECHONET=$(abspath $(program)) python3 -m unittest
 
 manual-test: $(program)
 	scripts/manual.sh docs/echonet.1 $(program)

@@ -20,6 +20,7 @@ CHANGES = {
     "cmd_base/hard_links": "copies of files that a snapshot shares, before a base folder is opened",
     "cmd_base/scan_files": "calls of RealDisk, passed on; packets under temporary names",
     "cmd_export/converting": "convert into a file",
+    "cmd_export/repairing": "a packet of all that a link is to get",
     "cmd_export/resending": "a packet that is made again",
     "cmd_export/stored": "export into stored messages",
     "cmd_jam/jam": "export into a JAM base",
@@ -54,6 +55,7 @@ OVER_ANY_DISK = {
     "log_end": "base_folder",
     "read_folder": "base_folder",
     "fill": "base_folder",
+    "check_owner": "cmd_export",
 }
 CALLS = re.compile(r"\bfs::|\brt::Files\b|\bOpenOptions\b|\bFileExt\b|\bmake_new\b|\bcreate_file\b|\bbegin_file\b")
 CHANGING = re.compile(
@@ -99,7 +101,7 @@ def check_disks(path, text):
 
 for name, crate in OVER_ANY_DISK.items():
     sources = "".join(open(it).read() for it in glob.glob(f"crates/{crate}/src/*.rt"))
-    if not re.search(rf"\bpub fn {name}\s*<[^()]*\bD: Disk\b", sources):
+    if not re.search(rf"\bpub(?:\(crate\))? fn {name}\s*<[^()]*\bD: Disk\b", sources):
         wrong.append(f"{crate} has no `{name}` over any disk")
 for path in sorted(glob.glob("crates/*/src/**/*.rt", recursive=True)):
     crate = path.split("/")[1]

@@ -1,7 +1,11 @@
 #!/usr/bin/env bash
-# completions.sh PROGRAM bash|zsh|fish: prints completions of `echonet` for a shell, made from the program's own help.
+# completions.sh PROGRAM bash|zsh|fish: prints completions of `echonet` or `echonet-station` for a shell, made from the
+# program's own help. The command is the first word, or the second one after the folder of a station.
 set -eu
 program=$1 shell=$2
+called=$(basename "$program")
+case $called in *-station) place=2 ;; *) place=1 called=echonet ;; esac
+function=_${called//-/_}
 helps=$(mktemp -d)
 trap 'rm -rf "$helps"' EXIT
 
@@ -36,18 +40,21 @@ table() {
 }
 
 in_bash() {
-  cat <<'END'
-# Completions of echonet for bash.
-_echonet() {
-  local word=${COMP_WORDS[COMP_CWORD]} options
-  if [ "$COMP_CWORD" -eq 1 ]; then
-END
-  echo "    mapfile -t COMPREPLY < <(compgen -W '$(commands | cut -d'|' -f1 | tr '\n' ' ')--help --version' -- \"\$word\")"
-  cat <<'END'
-    return
+  echo "# Completions of $called for bash."
+  echo "$function() {"
+  echo "  local word=\${COMP_WORDS[COMP_CWORD]} options"
+  if [ $place -eq 2 ]; then
+    echo '  if [ "$COMP_CWORD" -eq 1 ]; then'
+    echo '    compopt -o filenames 2> /dev/null'
+    echo '    mapfile -t COMPREPLY < <(compgen -d -- "$word"; compgen -W "--help --version" -- "$word")'
+    printf '    return\n  fi\n'
+    general=
+  else
+    general='--help --version'
   fi
-  case ${COMP_WORDS[1]} in
-END
+  echo "  if [ \"\$COMP_CWORD\" -eq $place ]; then"
+  echo "    mapfile -t COMPREPLY < <(compgen -W '$(commands | cut -d'|' -f1 | tr '\n' ' ')$general' -- \"\$word\")"
+  printf '    return\n  fi\n  case ${COMP_WORDS[%d]} in\n' $place
   table | while read -r name options; do echo "    $name) options='${options% }' ;;"; done
   cat <<'END'
     *) options= ;;
@@ -57,8 +64,8 @@ END
     *) compopt -o filenames 2> /dev/null; mapfile -t COMPREPLY < <(compgen -f -- "$word") ;;
   esac
 }
-complete -F _echonet echonet
 END
+  echo "complete -F $function $called"
 }
 
 # A text for single quotes. Brackets and colons are escaped.
@@ -67,9 +74,12 @@ zsh_text() {
 }
 
 in_zsh() {
-  printf '#compdef echonet\n# Completions of echonet for zsh.\n_echonet() {\n  local -a commands\n  commands=(\n'
+  printf '#compdef %s\n# Completions of %s for zsh.\n%s() {\n  local -a commands\n  commands=(\n' "$called" "$called" "$function"
   commands | zsh_commands
-  printf '  )\n  if (( CURRENT == 2 )); then\n    _describe command commands\n    return\n  fi\n  case $words[2] in\n'
+  printf '  )\n'
+  if [ $place -eq 2 ]; then printf '  if (( CURRENT == 2 )); then\n    _files -/\n    return\n  fi\n'; fi
+  printf '  if (( CURRENT == %d )); then\n    _describe command commands\n    return\n  fi\n' $((place + 1))
+  printf '  case $words[%d] in\n' $((place + 1))
   commands | while IFS='|' read -r name _; do
     [ "$name" = help ] && continue
     printf '    %s) _arguments' "$name"
@@ -79,7 +89,7 @@ in_zsh() {
     done
     printf " '*:file:_files' ;;\n"
   done
-  printf '  esac\n}\n_echonet "$@"\n'
+  printf '  esac\n}\n%s "$@"\n' "$function"
 }
 
 zsh_commands() {
@@ -89,14 +99,19 @@ zsh_commands() {
 }
 
 in_fish() {
-  echo '# Completions of echonet for fish.'
+  echo "# Completions of $called for fish."
+  begun=__fish_use_subcommand
+  if [ $place -eq 2 ]; then
+    begun="'test (count (commandline -opc)) -eq 2'"
+    echo "complete -c $called -n 'test (count (commandline -opc)) -eq 1' -f -a '(__fish_complete_directories)'"
+  fi
   commands | while IFS='|' read -r name text; do
-    printf "complete -c echonet -n __fish_use_subcommand -f -a %s -d '%s'\n" "$name" "${text//\'/\\\'}"
+    printf "complete -c $called -n %s -f -a %s -d '%s'\n" "$begun" "$name" "${text//\'/\\\'}"
   done
   commands | while IFS='|' read -r name _; do
     [ "$name" = help ] && continue
     options "$name" | while IFS='|' read -r option value text; do
-      printf "complete -c echonet -n '__fish_seen_subcommand_from %s' -l %s%s -d '%s'\n" \
+      printf "complete -c $called -n '__fish_seen_subcommand_from %s' -l %s%s -d '%s'\n" \
         "$name" "${option#--}" "${value:+ -r}" "${text//\'/\\\'}"
     done
   done

@@ -18,12 +18,12 @@ stations   | station_scan | a scan with its packets
            | station | lock, open, run one command
 commands   | cmd_store | those that change a base, on any store
            | cmd_check | those that judge a net, or try one out
-           | cmd_show cmd_numbered | those that print or export
-           | cmd_report cmd_print echo_export | words, lines, forms
+           | cmd_show cmd_numbered cmd_repair | those that print, export or repair
+           | cmd_print echo_export | lines, forms
 verdicts   | echo_net model_replay model_plan model_why | check, replay and why, as functions
 tosser     | echo_toss | the steps of one system, on any store
 model      | model_run | runs of systems, tidy areas, any tossers, harm, the headline
-           | model_graph model_blocks | cycles and walks; a cycle of each block
+           | model_graph | cycles and walks
 stores     | base_folder base_folder_store | a base folder
            | base_store | the trait, a base in memory, keys
 disks      | disk_atomic base_log | whole files; the log of a base folder

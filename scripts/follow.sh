@@ -1,8 +1,9 @@
 #!/usr/bin/env bash
 # Follows the sessions of a document from its first line to its last in an empty folder. It runs each line
-# `    $ COMMAND`, and compares the output with the lines below it. Serials of eight hexadecimal digits, timestamps and
-# dates may differ. Arguments: the document, the program, and the folder that has `examples`, by default the sources.
-# If headings follow, only the sessions right below these are run.
+# `    $ COMMAND`, and compares the output with the lines below it. Serials of eight hexadecimal digits, timestamps, dates
+# and ages may differ. A document calls the empty folder /home/fido, and the folder of the scripts /usr/share/echonet.
+# Arguments: the document, the program, and the folder that has `examples` and `station`, by default the sources. If
+# headings follow, only the sessions right below these are run.
 set -eu
 cd "$(dirname "$0")/.."
 document=$(realpath "${1:-docs/OPERATORS.md}")
@@ -16,11 +17,13 @@ place=$(mktemp -d)
 mkdir "$place/bin" "$place/empty"
 ln -s "$program" "$place/bin/echonet"
 ln -s "$sources" "$place/echonet"
+scripts=$(realpath "$sources/station")
+ln -s "$scripts/echonet-station" "$place/bin/echonet-station"
 export HOME=$place PATH=$place/bin:$PATH:/usr/sbin LC_ALL=C
 
 # Ends the mailers of a session that did not end them.
 end_mailers() {
-  for file in "$place"/empty/*/binkd.pid; do
+  for file in "$place"/empty/*/binkd.pid "$place"/empty/*/*/binkd.pid; do
     if [ -e "$file" ]; then kill "$(cat "$file")" || true; fi
   done
   rm -rf "$place"
@@ -30,7 +33,8 @@ cd "$place/empty"
 
 # Replaces what differs from day to day.
 alike() {
-  sed -E 's/\b[0-9a-f]{8}\b/SERIAL/g; s/[0-9]{4}-[0-9]{2}-[0-9]{2}[T ][0-9:]{8}/MOMENT/g
+  sed -E "s,$place/empty,/home/fido,g; s,$scripts,/usr/share/echonet,g; s,PATH=[^;]*; ,," |
+    sed -E 's/\b[0-9a-f]{8}\b/SERIAL/g; s/ [0-9]+s( ago)?$/ AGE/; s/[0-9]{4}-[0-9]{2}-[0-9]{2}[T ][0-9:]{8}/MOMENT/g
     s/[0-9]{2} [A-Z][a-z]{2} [0-9]{2}  [0-9:]{8}/DATE/g'
 }
 

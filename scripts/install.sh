@@ -1,5 +1,5 @@
 #!/usr/bin/env bash
-# install.sh ROOT PREFIX: installs below ROOT and PREFIX. It copies the program, its manual page and shell
+# install.sh ROOT PREFIX: installs below ROOT and PREFIX. It copies both programs, their manual pages and shell
 # completions. It also copies the scripts of station, the tools of examples/move, the examples of packaging, and the
 # documents with their nets. Three tools also get a name in bin. The unit gets the paths below PREFIX. uninstall.sh
 # removes the same files.
@@ -12,9 +12,12 @@ program=bin/echonet
 install -D -m 755 "$program" "$to/bin/echonet"
 install -d "$to/share/man/man1"
 install -m 644 docs/*.1 "$to/share/man/man1"
-install -d "$to/share/echonet/move" "$to/share/doc/echonet/pictures" "$to/share/doc/echonet/examples"
+install -d "$to/share/echonet/echonet_station" "$to/share/echonet/move" "$to/share/doc/echonet/pictures" "$to/share/doc/echonet/examples"
 install -m 755 station/*.sh station/jam-lock "$to/share/echonet"
 chmod 644 "$to/share/echonet/station.sh"
+install -m 755 station/echonet-station "$to/share/echonet"
+install -m 644 station/echonet_station/*.py "$to/share/echonet/echonet_station"
+ln -sfn ../share/echonet/echonet-station "$to/bin/echonet-station"
 install -m 644 station/printable.awk packaging/echonet.timer packaging/echonet.logrotate packaging/settings \
   "$to/share/echonet"
 install -m 755 examples/move/{jam-to-packets,msg-to-packets,links-from,links-seen,net-page} "$to/share/echonet/move"
@@ -47,3 +50,8 @@ all_completions() {
 }
 all_completions completions.sh "$program"
 for tool in links-from links-seen net-page; do all_completions tool_completions.sh "examples/move/$tool"; done
+if command -v python3 > /dev/null; then
+  all_completions completions.sh station/echonet-station
+  # Compiled modules start sooner. A package compiles them where it is installed.
+  if [ -z "$1" ]; then python3 -m compileall -q "$to/share/echonet/echonet_station"; fi
+fi

@@ -4,6 +4,10 @@
 # of a program, which is then built and run. bin/order lists the crates to prove, with their processes and niceness.
 #
 # Two runs of `rt` wait for each other if both need the same crate. So each crate is proved in a tree of its own.
+#
+# The first proof of a crate starts from nothing, and keeps nothing but the library. This has what other crates can cite
+# and no checked proofs, so the crates above it load less. From the second proof on, the proofs are kept in
+# crates/NAME/out/incremental, and only what changed is proved.
 set -u
 cd "$(dirname "$0")/.." || exit 3
 top=$PWD
@@ -25,9 +29,16 @@ put_back
 trap put_back EXIT
 trap 'exit 3' HUP INT TERM
 
+# A library without checked proofs fits only the libraries that it was built over.
+for lower in $(scripts/below.sh "$name"); do
+  if [ "crates/$lower/out/rlib/stamp" -nt "crates/$name/out/rlib/stamp" ]; then rm -rf "crates/$name/out/rlib"; fi
+done
+
 scripts/tree.sh "$tree" "$name"
 whole=yes
 if [ -d "crates/$name/out/incremental" ]; then whole=no; fi
+words=()
+if [ $whole = yes ] && [ ! -e "bin/proved/$name" ]; then words=(--from-nothing); fi
 if [ -d "crates/$name/out" ]; then mv -T "crates/$name/out" "$tree/crates/$name/out"; fi
 
 read -r jobs spare < <(awk -v name="$name" '$1 == name { print $2, $3 }' bin/order)
@@ -36,10 +47,9 @@ renice -n "$spare" $$ > /dev/null 2>&1
 
 begun=$SECONDS
 if [ "$kind" = run ]; then
-  (cd "$tree/crates/$name" && "$top/scripts/rt.py" run --jobs "$jobs" -- "${@:3}") > "$log" 2>&1
+  (cd "$tree/crates/$name" && "$top/scripts/rt.py" "${words[@]}" run --jobs "$jobs" -- "${@:3}") > "$log" 2>&1
 else
-  # Such a library has what other crates can cite and no checked proofs, so the crates above it load less.
-  (cd "$tree/crates/$name" && "$top/scripts/rt.py" lib --jobs "$jobs" --statements) > "$log" 2>&1
+  (cd "$tree/crates/$name" && "$top/scripts/rt.py" "${words[@]}" lib --jobs "$jobs") > "$log" 2>&1
 fi
 status=$?
 if [ $status -ne 0 ]; then
@@ -57,4 +67,5 @@ if [ $whole = yes ]; then
 fi
 touch "bin/proved/$name"
 proved=$(awk '{ print "bin/proved/" $1 }' bin/order | xargs ls 2> /dev/null | wc -l)
-echo "$name: proved, $proved of $(wc -l < bin/order)"
+minutes=$((($(date +%s) - $(stat -c %Y bin/order)) / 60))
+echo "$name: proved, $proved of $(wc -l < bin/order), $minutes min"

@@ -1,7 +1,12 @@
 #!/usr/bin/env python3
-"""Runs the toolchain's `rt` with the same arguments. To learn whether a crate has to be proved, `rt` takes a sum of
-its sources and of all crates below it. It does so again for each path down to a crate: minutes where there are many
-thousand paths. Here each sum is taken once for each question, so a later change is seen."""
+"""Runs the toolchain's `rt` with the same arguments, and with two changes.
+
+To learn whether a crate has to be proved, `rt` takes a sum of its sources and of all crates below it. It does so again
+for each path down to a crate: minutes where there are many thousand paths. Here each sum is taken once for each
+question, so a later change is seen.
+
+With `--from-nothing` as the first argument, a crate that has no kept proofs is proved in one go, and none are kept. A
+library then has what other crates can cite, and no checked proofs, so the crates above it load less."""
 import importlib.machinery
 import importlib.util
 import os
@@ -29,13 +34,30 @@ def once(plain):
     return stamp
 
 
+def from_nothing(plain, keeping):
+    def call(crate, command, *words):
+        if words[:1] == ("build",) and keeping[0] in words and not crate.has_kept():
+            at = words.index(keeping[0])
+            words = words[:at] + (() if crate.is_program else ("--statements",)) + words[at + len(keeping):]
+        return plain(crate, command, *words)
+
+    return call
+
+
+words = sys.argv[1:]
+is_from_nothing = words[:1] == ["--from-nothing"]
+if is_from_nothing:
+    del words[0]
 try:
     loader = importlib.machinery.SourceFileLoader("rt", path)
     rt = importlib.util.module_from_spec(importlib.util.spec_from_loader("rt", loader))
     loader.exec_module(rt)
-    rt.rtlib.Crate.stamp = once(rt.rtlib.Crate.stamp)
+    Crate = rt.rtlib.Crate
+    Crate.stamp = once(Crate.stamp)
+    if is_from_nothing:
+        Crate.call = from_nothing(Crate.call, rt.rtlib.KEPT)
     main = rt.main
 except (AttributeError, ImportError, SyntaxError):
     # Another toolchain may lack these names.
-    os.execv(path, [path, *sys.argv[1:]])
-sys.exit(main(sys.argv[1:]))
+    os.execv(path, [path, *words])
+sys.exit(main(words))

@@ -24,13 +24,14 @@ if [ $# -ne 1 ]; then
 fi
 begun=0
 held=''
+lettered=0
 
-# Frees the link that this run holds. A failed command of the shell ends the script with 1, and before the run begins
-# also with 2.
+# Frees the link that this run holds. Status 1 reports letters that stay. A failed command of the shell also ends the
+# script with 1, and before the run begins with 2.
 clean_up() {
   ended=$?
   if [ -n "$held" ]; then release; fi
-  if [ $ended -eq 1 ]; then exit 3; fi
+  if [ $ended -eq 1 ] && [ $lettered -ne 1 ]; then exit 3; fi
   if [ $ended -ne 0 ] && [ $ended -ne 4 ] && [ $begun -eq 0 ]; then exit 3; fi
 }
 trap clean_up EXIT
@@ -198,6 +199,15 @@ refuse_to_hand_over() {
   if [ $status -eq 0 ]; then status=2; fi
 }
 
+# Letters get packets of their own. Their status counts if the scan had none. The lines on letters that stay go to
+# standard error.
+pack_letters() {
+  printed=$("$tool" "$station" letters --locked) || lettered=$?
+  printf '%s\n' "$printed" | sed '/^keeps /d; /^$/d'
+  printf '%s\n' "$printed" | sed -n '/^keeps /p' >&2
+  if [ $status -eq 0 ]; then status=$lettered; fi
+}
+
 end_left
 release_left
 status=0
@@ -205,11 +215,10 @@ scanned=$("$program" scan --explain --at now "$station/links" "$station/base" "$
 if [ -n "$scanned" ]; then printf '%s\n' "$scanned" || status=3; fi
 sync "$station"
 
-# Letters get packets of their own. Their status counts if the scan had none.
 undressed=0
 if [ $peered -eq 1 ] && [ -n "$own" ]; then
   if is_any "$station"/netmail/*.[mM][sS][gG] "$station/letters/plan"; then
-    "$tool" "$station" letters --locked || { lettered=$?; if [ $status -eq 0 ]; then status=$lettered; fi; }
+    pack_letters
   fi
   if is_any "$station"/scanned/*.pkt; then "$tool" "$station" dress --locked || undressed=$?; fi
 fi

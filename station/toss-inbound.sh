@@ -252,9 +252,12 @@ has_gate_work() {
     "$inbound"/*.[tT][hH]? "$inbound"/*.[fF][rR]? "$inbound"/*.[sS][aA]? "$inbound"/*.[sS][uU]? "$station"/gate/*.in
 }
 
-# The gate takes the files in. Its status is 1 if it put something aside.
+# The gate takes the files in. Its status is 1 if it put something aside. The lines that say so go to standard error, as
+# those of this script.
 pass_gate() {
-  "$tool" "$station" gate --locked || gated=$?
+  "$tool" "$station" gate --locked > "$told" || gated=$?
+  sed '/^put aside /d' "$told"
+  sed -n '/^put aside /p' "$told" >&2
   case $gated in
     0 | 2) ;;
     1) aside=1 ;;

@@ -42,6 +42,10 @@ each python3 trials/links_seen.py &
 each python3 trials/tools/wrong_bodies.py &
 each python3 trials/answers.py &
 each python3 trials/terminal.py &
+each python3 trials/dressed.py &
+each python3 trials/station_full.py &
+each python3 trials/station_kills.py &
+each python3 trials/realnet.py &
 wait
 each python3 trials/mixed.py
 each python3 trials/stations.py 300 "$cores"

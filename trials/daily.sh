@@ -198,6 +198,22 @@ expect "without Python the run is refused" [ "$status $(grep -c unlocked fault) 
 run env PATH="$work/tools" "$work/tools/sh" "$scripts/reader.sh" --jam --unlocked one NEWS one/jam
 expect "with --unlocked it posts" grep -q '^posted NEWS' said
 
+# The mail of cron for a station with `peers`: what the gate puts aside, and letters that nobody takes.
+rm -rf peered
+"$scripts/echonet-station" peered new 1:10/1 Alpha 1:10/2 host secret TEST > said
+sed -i /ROUTE/d peered/peers
+peered=$(sed 's/one/peered/g' <<< "$line")
+printf 'PK\3\4damaged' > peered/inbound/0000ff9c.mo0
+touch -d '1 hour ago' peered/inbound/0000ff9c.mo0
+cp peered/inbound/0000ff9c.mo0 bundle
+mkdir peered/netmail
+stored peered/netmail/2.msg Unrouted 0000
+printf '\012\0\011\0' | dd of=peered/netmail/2.msg bs=1 seek=166 conv=notrunc 2> fault
+PATH=$scripts:$PATH sh -c "$peered" > mail 2>&1 < /dev/null || true
+expect "the mail has what the gate put aside, and why" grep -q '^put aside 0000ff9c.mo0: gate: damaged' mail
+expect "and a letter that stays" grep -q '^keeps 2.msg ' mail
+expect "and both statuses" [ "$(grep -c 'toss: status 1' mail) $(grep -c 'scan: status 1' mail)" = "1 1" ]
+
 # All areas of a reader by one run: three areas, of which the last is in a folder with a blank in its name.
 rm -rf one/base one/msg one/jam*
 mkdir -p one/base one/read

@@ -122,7 +122,12 @@ if command -v logrotate > /dev/null; then
 fi
 
 if command -v dpkg-deb > /dev/null; then
-  package=$(make -s deb) || exit 1
+  made=$(PATH=/usr/bin:/bin make -s deb) || exit 1
+  package=$(head -n 1 <<< "$made")
+  check 'the sum that make deb prints' "$(sed -n 's/^sha256 //p' <<< "$made")" "$(sha256sum "$package" | cut -d ' ' -f 1)"
+  check 'the commit in the package' "$(dpkg-deb -f "$package" Commit)" "$(sed -n 's/^commit //p' <<< "$made")"
+  command -v objdump > /dev/null && check 'the C library that it needs' "$(dpkg-deb -f "$package" Depends)" \
+    "libc6 (>= $(objdump -T bin/echonet | grep -o 'GLIBC_[0-9.]*' | cut -d _ -f 2 | sort -V | tail -1))"
   check 'the package has what is installed' \
     "$(dpkg-deb -c "$package" | awk '$1 !~ /^d/ { print $6 }' | grep -c .)" \
     "$(make -s install DESTDIR="$root/two" PREFIX=/usr > /dev/null; files "$root/two" | grep -c .)"

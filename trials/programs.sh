@@ -2,6 +2,7 @@
 # programs.sh: installs the programs that trials and `make interop` run beside echonet, from the packages of Debian. It
 # needs root. A package that the system does not offer is left out, with a line, and so are the trials that need it.
 set -eu
+cd "$(dirname "$0")/.."
 export DEBIAN_FRONTEND=noninteractive
 apt-get update -qq
 offered=()
@@ -13,4 +14,12 @@ for package in binkd crashmail ifmail ifcico jamnntpd zip unzip arj lhasa p7zip-
   fi
 done
 apt-get -o DPkg::Lock::Timeout=600 install -qq --no-install-recommends "${offered[@]}" > /dev/null
+
+# ifgate wants a mail server and a news server. Its programs run without these, so they are only unpacked.
+if [ -n "$(apt-cache policy ifgate | sed -n 's/^  Candidate: [^(]//p')" ]; then
+  mkdir -p bin/programs
+  (cd bin/programs && apt-get -q download ifgate 2> /dev/null > download.log && dpkg-deb -x ifgate_*.deb .)
+  apt-get -o DPkg::Lock::Timeout=600 install -qq --no-install-recommends libgdbm-compat4 > /dev/null
+  offered+=(ifgate)
+fi
 echo "installed ${offered[*]}"

@@ -57,6 +57,7 @@ def put_aside(station: Station, path: str, came: str, why: str, sender: str = "-
     disk.write(place + ".why", (reason + "\n").encode("utf-8", "backslashreplace"))
     disk.sync(folder)
     disk.rename(path, place)
+    disk.unlink(path)  # after a power cut it may be a second name of that file: then nothing was renamed
     disk.sync(folder)
     station.has_put_aside = True
     station.say("put aside %s: %s" % (shown(os.fsencode(name)), reason))

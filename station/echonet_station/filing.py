@@ -98,9 +98,12 @@ class Filing:
 
     def remember(self, digest: bytes) -> None:
         """Notes that a letter was filed."""
-        known = self.begin()
+        known, path = self.begin(), self.station.at("netmail.known")
         if digest not in known:
-            self.disk.append(self.station.at("netmail.known"), digest + b"\n")
+            is_new = not exists(path)
+            self.disk.append(path, digest + b"\n")
+            if is_new:
+                self.disk.sync(self.station.folder)
             known.add(digest)
 
 

@@ -19,6 +19,7 @@ FILES = ("links", "peers", "binkd.conf")
 FOLDERS = ("base", "inbound", "strangers", "partly", "outbound")
 # binkd and cron read these words: no blanks, quotes or signs with a meaning of their own.
 PLAIN = re.compile(r"[!$%&()*+,\-./0-9:;<=>?@A-Z\[\]^_`a-z{|}~]+")
+TAG = re.compile(r"[!-~]+")
 PLAIN_PATH = re.compile(r"[\w./@+:,=-]+")
 
 
@@ -106,6 +107,9 @@ def order_of(folder: str, words: list[str]) -> Order:
             raise Stopped(Status.COMMAND, "the %s has a blank, a quote or another sign that binkd reads" % what)
     if re.search(r'[\x00-\x1f\x7f"\\]', words[1]):
         raise Stopped(Status.COMMAND, "the name has a quote, a backslash or a control byte")
+    for tag in words[5:]:
+        if not TAG.fullmatch(tag):
+            raise Stopped(Status.COMMAND, "a tag has a blank or a control byte")
     place = os.path.realpath(folder)
     if not PLAIN_PATH.fullmatch(place):
         raise Stopped(Status.COMMAND, "the path of the station has a blank or another sign that binkd reads")

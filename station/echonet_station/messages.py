@@ -16,7 +16,9 @@ LIMITS = (("to", 35), ("from", 35), ("subject", 71))
 # A whole message of echomail without anything to repair.
 USUAL = re.compile(rb"\x02\x00.{32}[^\0]{0,35}\0[^\0]{0,35}\0[^\0]{0,71}\0(\n*AREA:[^\0]*)\0", re.S)
 # How a message begins, with its DateTime: where reading goes on after damage.
-BEGIN = re.compile(rb"\x02\x00.{12}[ 0-9][0-9] [A-Z][a-z][a-z] [0-9][0-9]  [0-9][0-9]:[0-9][0-9]:[0-9][0-9]\0", re.S)
+DATE = rb"[ 0-9][0-9] [A-Z][a-z][a-z] [0-9][0-9]  [0-9][0-9]:[0-9][0-9]:[0-9][0-9]\0"
+BEGIN = re.compile(rb"\x02\x00.{12}" + DATE, re.S)
+ANY_DATE = re.compile(DATE)
 FIRST_LINE = re.compile(rb"\n*AREA:")
 
 
@@ -80,7 +82,7 @@ def read_messages(packet: Packet) -> Iterator[Union[Message, Damage]]:
         if packet.memory[place : place + 2] == END:
             # A spoiled byte may have made this end. All tossers ignore what is behind it.
             found: Union[Message, Damage] = Damage(place, "an end before messages")
-            if not BEGIN.search(packet.memory, place + 2):
+            if not ANY_DATE.search(packet.memory, place + 2):
                 return
         else:
             found = careful_message(packet, place)
@@ -131,6 +133,9 @@ def careful_message(packet: Packet, place: int) -> Union[Message, Damage]:
         return Damage(place, "P1 Truncated")
     if end - at > MOST_TEXT:
         return Damage(place, "P5 TextTooLong")
+    inner = BEGIN.search(memory, place + 2, min(end + FIELDS_AT, size))
+    if inner and inner.start() <= end:
+        return Damage(place, "P3 NotMessage")  # spoiled bytes that took the beginning of a message
     return Message(place, at, end + 1, bool(FIRST_LINE.match(memory, at)), names, too_long)
 
 

@@ -56,7 +56,7 @@ def print_help(words: list[str]) -> Optional[int]:
 
 def run(words: list[str]) -> int:
     """Runs a command line. Returns its status."""
-    is_plain = len(words) >= 2 and words[1] in SCRIPTS and not any(word in HELPS for word in words)
+    is_plain = len(words) >= 2 and words[1] in SCRIPTS and not any(word in (*HELPS, "help") for word in words[:3])
     if not is_plain:
         status = print_help(words)
         if status is not None:
@@ -102,8 +102,6 @@ def work(folder: str, name: str, words: list[str], is_locked: bool) -> int:
 def main(words: list[str]) -> int:
     """Runs a command line. Whatever Python raises is a failure of the device: its own status 1 means another thing."""
     try:
-        sys.stdout.reconfigure(encoding="utf-8", errors="surrogateescape")  # type: ignore[union-attr]
-        sys.stderr.reconfigure(encoding="utf-8", errors="backslashreplace")  # type: ignore[union-attr]
         status = int(run(words))
         sys.stdout.flush()
         return status

@@ -24,6 +24,7 @@ ENCRYPTED = 1
 PIECE = 1 << 16
 PROGRAMS = ("7z", "7zz", "7za")
 UNREAD = (Kind.ARC, Kind.ZOO)
+BAD_PLACES = (errno.EINVAL, errno.EOVERFLOW, None)  # what a spoiled index makes of a seek
 
 
 def run_child(path: str, folder: str, writing: int) -> NoReturn:
@@ -56,6 +57,8 @@ def unpacked(path: str, folder: str) -> Unpacked:
     except OSError as fault:
         if fault.errno == errno.EFBIG:
             result.fault = TOO_LARGE
+        elif fault.errno in BAD_PLACES:
+            result.fault = "damaged: %s" % type(fault).__name__
         else:
             result.failed = fault.strerror or str(fault)
     except subprocess.TimeoutExpired:
@@ -98,8 +101,10 @@ def unpack_member(archive: zipfile.ZipFile, member: zipfile.ZipInfo, path: str) 
     try:
         with archive.open(member) as content, open(path, "wb") as copy:
             shutil.copyfileobj(content, copy, PIECE)
-    except OSError:
-        raise
+    except OSError as fault:
+        if fault.errno not in BAD_PLACES:
+            raise
+        return "damaged: %s" % type(fault).__name__
     except Exception as fault:
         return "damaged: %s" % type(fault).__name__
     return None

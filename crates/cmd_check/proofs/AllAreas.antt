@@ -10,7 +10,8 @@ use Rattle.echo_net.specs.{declared.verdict.Verdict.Verdict, declared.verdict.Ve
 use Rattle.cmd_status.proofs.Lines.{alone}
 use Rattle.cmd_print.specs.Pushed.{Pushes}
 use Rattle.cmd_check.specs.CheckingAll.{AreAreasChecked, CheckAllAnswers, IsAllChecked, IsAreaChecked, no_count, verdicts_status}
-use Rattle.cmd_check.specs.{AreaTags.AreAllTags, Checking.IsCheckVerdict, Checking.RunsAreOrderly, Further.IsVerdictShown, Further.areas_line}
+use Rattle.model_run.specs.AnyState.{NewMessagesAreInOrder}
+use Rattle.cmd_check.specs.{AreaTags.AreAllTags, Checking.IsCheckVerdict, Further.IsVerdictShown, Further.areas_line}
 use Rattle.cmd_check.proofs.Checks.{one_reading}
 
 -- a verdict that is not counted as a no is a yes
@@ -25,7 +26,7 @@ yes_is_none (No fault) is = absurd is
 module _ (files : List LinkFile) (list : Option (List Line)) (more : Bool) where
   -- the lines of the verdict on an area
   pub area_checked : (tag : List ℕ) (verdict : Verdict) (noes : ℕ) (old new : List ℕ) → IsCheckVerdict files tag verdict
-      → (IsYes verdict → RunsAreOrderly files tag) → noes ≡ no_count verdict → Pushes (IsVerdictShown files tag list more verdict) old new
+      → (IsYes verdict → NewMessagesAreInOrder files tag) → noes ≡ no_count verdict → Pushes (IsVerdictShown files tag list more verdict) old new
       → Pushes (IsAreaChecked files list more tag noes) old new
   area_checked tag verdict noes old new judged runs is pushed = grind (arith, none_is_yes)
 
@@ -76,7 +77,7 @@ module _ (files : List LinkFile) (list : Option (List Line)) (more : Bool) where
 
   -- no verdict is a no exactly if each area is tidy
   in_order : (tags : List (List ℕ)) (noes : ℕ) (lines : List ℕ) → AreAreasChecked files list more tags noes lines → noes ≡ 0
-      → AllByRecursion (λ tag. Tidy files tag × RunsAreOrderly files tag) tags
+      → AllByRecursion (λ tag. Tidy files tag × NewMessagesAreInOrder files tag) tags
   in_order [] noes lines checked is = tt
   in_order (tag ∷ tags) noes lines checked is =
       let own = checked.is_first in
@@ -115,10 +116,10 @@ pub were_checked : (nodelist : Option (List ℕ)) (list : Option (List Line)) (m
     → Pushes (AreAreasChecked files list more tags noes) none front → lines ≡ front ++ areas_line more areas noes → status ≡ verdicts_status noes
     → IsAllChecked nodelist more inputs lines status
 were_checked nodelist list more inputs files tags noes areas none front lines status is_list are are_tags count nothing pushed whole ended =
-    let ordered : status ≡ Good → AllByRecursion (λ tag. Tidy files tag × RunsAreOrderly files tag) tags =
+    let ordered : status ≡ Good → AllByRecursion (λ tag. Tidy files tag × NewMessagesAreInOrder files tag) tags =
     λ good. in_order files list more tags noes pushed.lines pushed.are (status_good noes (sym ended ∙ good)) in
-    let in_all : status ≡ Good → (tag : List ℕ) → IsCarried files tag → Tidy files tag × RunsAreOrderly files tag =
-    λ good tag carried. of_tag (λ t. Tidy files t × RunsAreOrderly files t) tags tag (ordered good) ((are_tags.members tag).1 carried) in
+    let in_all : status ≡ Good → (tag : List ℕ) → IsCarried files tag → Tidy files tag × NewMessagesAreInOrder files tag =
+    λ good tag carried. of_tag (λ t. Tidy files t × NewMessagesAreInOrder files t) tags tag (ordered good) ((are_tags.members tag).1 carried) in
     record {
       files = files;
       are_files = are;
@@ -142,5 +143,5 @@ were_checked nodelist list more inputs files tags noes areas none front lines st
 -- a 0 holds for each run in each area
 pub headline_of_all : (nodelist : Option (List ℕ)) (more : Bool) (inputs : List (List ℕ)) (stopped : Option Fault) (old new : Output)
     (answer : Result Status Fault) → CheckAllAnswers nodelist more inputs stopped old new answer → answer ≡ Ok Good
-    → (links : List LinkFile) → AreLinkFiles inputs links → (tag : List ℕ) → IsCarried links tag → Tidy links tag × RunsAreOrderly links tag
+    → (links : List LinkFile) → AreLinkFiles inputs links → (tag : List ℕ) → IsCarried links tag → Tidy links tag × NewMessagesAreInOrder links tag
 headline_of_all nodelist more inputs stopped old new answer h1 h2 links h3 tag h4 = grind (arith, one_reading)

@@ -5,7 +5,8 @@ use Rattle.echo_links.specs.Links.{LinkFile, upper}
 use Rattle.echo_nodelist.specs.declared.line.Line.{Line}
 use Rattle.model_run.specs.Tidy.{Tidy}
 use Rattle.echo_net.specs.{declared.verdict.Verdict.Verdict, declared.verdict.Verdict.TheVariants.Yes, declared.verdict.Verdict.TheVariants.No, Faults.IsYes}
-use Rattle.cmd_check.specs.Checking.{CheckAnswers, IsChecked, IsCheckVerdict, RunsAreOrderly, verdict_status}
+use Rattle.model_run.specs.AnyState.{NewMessagesAreInOrder}
+use Rattle.cmd_check.specs.Checking.{CheckAnswers, IsChecked, IsCheckVerdict, verdict_status}
 use Rattle.cmd_check.specs.Further.{IsVerdictShown}
 use Rattle.cmd_print.specs.Pushed.{Pushes}
 use Rattle.cmd_status.proofs.Lines.{alone}
@@ -27,7 +28,7 @@ of_same P f g t u same_files same_tag holds =
 -- the lines of the verdict on link files that were read
 pub was_checked : (nodelist : Option (List ℕ)) (list : Option (List Line)) (more : Bool) (tag t : List ℕ) (inputs : List (List ℕ)) (files : List LinkFile) (verdict : Verdict)
     (none lines : List ℕ) (status : Status) → IsNodelistGiven nodelist list → AreLinkFiles inputs files → t ≡ upper tag
-    → IsCheckVerdict files t verdict → (IsYes verdict → RunsAreOrderly files t) → none ≡ [] → Pushes (IsVerdictShown files t list more verdict) none lines
+    → IsCheckVerdict files t verdict → (IsYes verdict → NewMessagesAreInOrder files t) → none ≡ [] → Pushes (IsVerdictShown files t list more verdict) none lines
     → status ≡ verdict_status verdict → IsChecked nodelist more tag inputs lines status
 was_checked nodelist list more tag t inputs files verdict none lines status is_list are raised judged runs nothing pushed ended = grind (arith, of_same, alone, good_is_yes, yes_is_good)
 
@@ -44,5 +45,5 @@ one_reading (bytes ∷ inputs) (x ∷ a) (y ∷ b) p q =
 -- a 0 holds for each run
 pub headline : (nodelist : Option (List ℕ)) (more : Bool) (tag : List ℕ) (inputs : List (List ℕ)) (stopped : Option Fault) (old new : Output)
     (answer : Result Status Fault) → CheckAnswers nodelist more tag inputs stopped old new answer → answer ≡ Ok Good
-    → (links : List LinkFile) → AreLinkFiles inputs links → Tidy links (upper tag) × RunsAreOrderly links (upper tag)
+    → (links : List LinkFile) → AreLinkFiles inputs links → Tidy links (upper tag) × NewMessagesAreInOrder links (upper tag)
 headline nodelist more tag inputs stopped old new answer h1 h2 links h3 = grind (arith, one_reading)

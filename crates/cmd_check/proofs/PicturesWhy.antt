@@ -1,18 +1,19 @@
 -- The answer of `picture --why`, from those of its parts.
 use Rattle.std.proofs.Common.{◌≡◌, ℕ, List, Option, refl, sym, ap, ◌∙◌}
+use Rattle.std.specs.Prelude.{IfSome}
 use Rattle.echo_links.specs.Links.{LinkFile, upper}
 use Rattle.echo_net.specs.{declared.drawing.Crossing.Crossing, declared.drawing.Drawing.Drawing, declared.verdict.Verdict.Verdict, Drawn.IsDrawing}
-use Rattle.model_why.specs.{declared.shown.Shown.Shown, Carrying.found_crossings, Sources.files_of}
+use Rattle.model_why.specs.{declared.shown.Shown.Shown, Carrying.found_crossings, Found.IsShown, Sources.files_of}
 use Rattle.cmd_status.specs.{declared.status.Status.Status, Inputs.AreLinkFiles}
-use Rattle.cmd_check.specs.{Checking.IsCheckVerdict, Checking.verdict_status, Explained.IsFoundFirst, PicturingWhy.IsPicturedWhy}
+use Rattle.cmd_check.specs.{Checking.IsCheckVerdict, Checking.verdict_status, PicturingWhy.IsPicturedWhy}
 use Rattle.cmd_print.specs.Pictured.{picture_lines}
-use Rattle.cmd_check.proofs.{Checks.good_is_yes, Checks.of_same, Checks.yes_is_good, Explaining.given_files, Explaining.was_explained}
+use Rattle.cmd_check.proofs.{Checks.good_is_yes, Checks.of_same, Checks.yes_is_good, Explaining.given_files, Explaining.was_shown}
 
 -- the verdict, the picture and the run of link files that were read
 pub record IsDrawnWhy (inputs : List (List ℕ)) (files : List LinkFile) (t : List ℕ) (verdict : Verdict) (drawing : Drawing) (found : Option Shown) : Type 0 where
   pub judged : IsCheckVerdict files t verdict
   pub drawn : IsDrawing files t verdict drawing
-  pub first : IsFoundFirst (files_of inputs) t verdict found
+  pub shown : IfSome found (IsShown (files_of inputs) t)
 
 -- its lines
 pub was_pictured_why : (tag t : List ℕ) (inputs : List (List ℕ)) (files : List LinkFile) (verdict : Verdict) (drawing : Drawing) (found : Option Shown) (crossings : List Crossing) (lines : List ℕ) (status : Status)
@@ -30,7 +31,7 @@ was_pictured_why tag t inputs files verdict drawing found crossings lines status
       drawing = drawing;
       is_drawing = of_same (λ f u. IsDrawing f u verdict drawing) files files t (upper tag) same raised done.drawn;
       found = found;
-      explained = was_explained tag t inputs files verdict found are raised judged_upper done.first;
+      shown = was_shown tag t inputs files found are raised done.shown;
       printed = whole
           ∙ ap (picture_lines t verdict drawing) crossed
           ∙ (λ i. picture_lines (raised i) verdict drawing (found_crossings (given i) (raised i) found));

@@ -1,15 +1,15 @@
 -- The answer of `why`, from those of its parts.
-use Rattle.std.specs.{Prelude.codes, Prelude.Contains, Prelude.◌↔◌, List.flat_map, List.Sorted.IsStrictlySortedBy, Ordering.nat_cmp}
+use Rattle.std.specs.{Prelude.codes, Prelude.Contains, Prelude.IfSome, Prelude.◌↔◌, List.flat_map, List.Sorted.IsStrictlySortedBy, Ordering.nat_cmp}
 use Rattle.std.proofs.Common.{◌≡◌, ◌++◌, ℕ, List, [], Option, refl, sym, subst, append_assoc, ◌∙◌, arith}
 use Rattle.echo_links.specs.Links.{LinkFile, upper}
 use Rattle.echo_net.specs.declared.verdict.Verdict.{Verdict}
-use Rattle.model_why.specs.{declared.shown.Shown.Shown, Sources.files_of}
+use Rattle.model_why.specs.{declared.shown.Shown.Shown, Found.IsShown, Sources.files_of}
 use Rattle.cmd_status.specs.{declared.status.Status.Status, Inputs.AreLinkFiles}
 use Rattle.cmd_check.specs.Whys.{AreNamed, AreWhyLines, found_lines, named_in, who_line}
-use Rattle.cmd_check.specs.{Checking.IsCheckVerdict, Checking.verdict_status, Explained.IsFoundFirst, Reasoning.IsReasoned}
+use Rattle.cmd_check.specs.{Checking.IsCheckVerdict, Checking.verdict_status, Reasoning.IsReasoned}
 use Rattle.cmd_print.specs.{Checked.verdict_line, Pushed.Pushes}
 use Rattle.cmd_status.proofs.Lines.{alone}
-use Rattle.cmd_check.proofs.{Checks.good_is_yes, Checks.of_same, Checks.yes_is_good, Explaining.was_explained}
+use Rattle.cmd_check.proofs.{Checks.good_is_yes, Checks.of_same, Checks.yes_is_good, Explaining.was_shown}
 use Rattle.echo_net.proofs.Drawings.{held_again}
 
 -- lines added to none
@@ -30,9 +30,9 @@ why_pushed files paths tag verdict found systems old noted known new named first
 
 -- a run that goes wrong on link files that were read is printed
 pub was_reasoned : (tag t : List ℕ) (inputs paths : List (List ℕ)) (files : List LinkFile) (verdict : Verdict) (found : Option Shown) (lines : List ℕ) (status : Status)
-    → AreLinkFiles inputs files → t ≡ upper tag → IsCheckVerdict files t verdict → IsFoundFirst (files_of inputs) t verdict found
+    → AreLinkFiles inputs files → t ≡ upper tag → IsCheckVerdict files t verdict → IfSome found (IsShown (files_of inputs) t)
     → AreWhyLines files paths t verdict found lines → status ≡ verdict_status verdict → IsReasoned tag inputs paths lines status
-was_reasoned tag t inputs paths files verdict found lines status are raised judged first whole ended =
+was_reasoned tag t inputs paths files verdict found lines status are raised judged shown whole ended =
     let same : files ≡ files = refl in
     let judged_upper : IsCheckVerdict files (upper tag) verdict = of_same (λ f u. IsCheckVerdict f u verdict) files files t (upper tag) same raised judged in
     record {
@@ -41,7 +41,7 @@ was_reasoned tag t inputs paths files verdict found lines status are raised judg
       verdict = verdict;
       is_verdict = judged_upper;
       found = found;
-      explained = was_explained tag t inputs files verdict found are raised judged_upper first;
+      shown = was_shown tag t inputs files found are raised shown;
       printed = subst (λ (u : List ℕ). AreWhyLines files paths u verdict found lines) raised whole;
       status_is = ended;
       tidy = (

@@ -4,7 +4,7 @@ use Rattle.cmd_status.specs.{Devices.Output, declared.fault.Fault.Fault, declare
 use Rattle.cmd_status.specs.{Ended.Answers, Inputs.AreLinkFiles, Inputs.IsFirstFaultGiven, Inputs.IsNodelistGiven}
 use Rattle.echo_links.specs.Links.{LinkFile, upper}
 use Rattle.echo_nodelist.specs.declared.line.Line.{Line}
-use Rattle.model_run.specs.{Event.RunEvent, Orderly.Orderly, Run.run_of, Tidy.Tidy}
+use Rattle.model_run.specs.{AnyState.NewMessagesAreInOrder, Tidy.Tidy}
 use Rattle.echo_net.specs.declared.verdict.Verdict.{Verdict, TheVariants.Yes, TheVariants.No}
 use Rattle.echo_net.specs.{Faults.IfNo, Faults.IfYes, Faults.IsFirstFault, Faults.IsYes, Nets.carrier_count, Nets.linked_pairs}
 use Rattle.cmd_check.specs.Further.{IsVerdictShown}
@@ -21,12 +21,8 @@ pub record IsCheckVerdict (files : List LinkFile) (tag : List ℕ) (verdict : Ve
   pub counted : IfYes verdict (λ systems links. (systems ≡ carrier_count files tag) × (links ≡ linked_pairs files tag))
   pub first : IfNo verdict (IsFirstFault files tag)
 
--- Every run on these files is orderly in the area.
-abbrev pub RunsAreOrderly : List LinkFile → List ℕ → Type 0
-RunsAreOrderly files tag = (events : List RunEvent) → Orderly (run_of files events) tag
-
 -- The link files and the nodelist have no fault. These are the lines of the verdict on the area of the tag in upper
--- case. The status is 0 exactly if the area is tidy, and then every run is orderly.
+-- case. The status is 0 exactly if the area is tidy, and then each new message of it is in order from any state on.
 pub record IsChecked (nodelist : Option (List ℕ)) (more : Bool) (tag : List ℕ) (inputs : List (List ℕ)) (lines : List ℕ) (status : Status) : Type 0 where
   pub files : List LinkFile
   pub are_files : AreLinkFiles inputs files
@@ -37,7 +33,7 @@ pub record IsChecked (nodelist : Option (List ℕ)) (more : Bool) (tag : List �
   pub printed : IsVerdictShown files (upper tag) list more verdict lines
   pub status_is : status ≡ verdict_status verdict
   pub tidy : (status ≡ Good) ↔ Tidy files (upper tag)
-  pub orderly : status ≡ Good → RunsAreOrderly files (upper tag)
+  pub orderly : status ≡ Good → NewMessagesAreInOrder files (upper tag)
 
 -- The right result of checking an area.
 abbrev pub CheckAnswers : Option (List ℕ) → Bool → List ℕ → List (List ℕ) → Option Fault → Output → Output → Result Status Fault → Type 0

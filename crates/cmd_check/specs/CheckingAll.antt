@@ -6,21 +6,22 @@ use Rattle.echo_links.specs.Links.{LinkFile}
 use Rattle.echo_nodelist.specs.declared.line.Line.{Line}
 use Rattle.model_run.specs.Tidy.{Tidy}
 use Rattle.echo_net.specs.{declared.verdict.Verdict.Verdict, declared.verdict.Verdict.TheVariants.Yes, declared.verdict.Verdict.TheVariants.No, Faults.IsCarried}
-use Rattle.cmd_check.specs.{AreaTags.AreAllTags, Checking.IsCheckVerdict, Checking.RunsAreOrderly, Further.IsVerdictShown, Further.areas_line}
+use Rattle.model_run.specs.AnyState.{NewMessagesAreInOrder}
+use Rattle.cmd_check.specs.{AreaTags.AreAllTags, Checking.IsCheckVerdict, Further.IsVerdictShown, Further.areas_line}
 
 -- 1 for a no, 0 for a yes.
 abbrev pub no_count : Verdict → ℕ
 no_count (Yes systems links) = 0
 no_count (No fault) = 1
 
--- The lines of `check` on an area of these files, and the number of verdicts that are a no. If it is 0, every run is
--- orderly in the area.
+-- The lines of `check` on an area of these files, and the number of verdicts that are a no. If it is 0, each new message of
+-- the area is in order.
 pub record IsAreaChecked (files : List LinkFile) (list : Option (List Line)) (more : Bool) (tag : List ℕ) (noes : ℕ) (lines : List ℕ) : Type 0 where
   pub verdict : Verdict
   pub is_verdict : IsCheckVerdict files tag verdict
   pub printed : IsVerdictShown files tag list more verdict lines
   pub counted : noes ≡ no_count verdict
-  pub orderly : noes ≡ 0 → RunsAreOrderly files tag
+  pub orderly : noes ≡ 0 → NewMessagesAreInOrder files tag
 
 -- Lines of one kind and then of another, and the number of verdicts of both that are a no.
 pub record AreJoined (First Rest : ℕ → List ℕ → Type 0) (noes : ℕ) (lines : List ℕ) : Type 0 where
@@ -44,7 +45,7 @@ verdicts_status noes = if noes == 0 then Good else Differs
 
 -- The link files and the nodelist have no fault. These are the lines of the verdict on each area that a file has,
 -- ascending by tag, and their count if it is requested. The status is 0 exactly if each of these areas is tidy. Then
--- every run is orderly in each.
+-- each new message of each is in order.
 pub record IsAllChecked (nodelist : Option (List ℕ)) (more : Bool) (inputs : List (List ℕ)) (lines : List ℕ) (status : Status) : Type 0 where
   pub files : List LinkFile
   pub are_files : AreLinkFiles inputs files
@@ -58,7 +59,7 @@ pub record IsAllChecked (nodelist : Option (List ℕ)) (more : Bool) (inputs : L
   pub whole : lines ≡ front ++ areas_line more (length tags) noes
   pub status_is : status ≡ verdicts_status noes
   pub tidy : (status ≡ Good) ↔ ((tag : List ℕ) → IsCarried files tag → Tidy files tag)
-  pub orderly : status ≡ Good → (tag : List ℕ) → IsCarried files tag → RunsAreOrderly files tag
+  pub orderly : status ≡ Good → (tag : List ℕ) → IsCarried files tag → NewMessagesAreInOrder files tag
 
 -- The right result of checking all areas.
 abbrev pub CheckAllAnswers : Option (List ℕ) → Bool → List (List ℕ) → Option Fault → Output → Output → Result Status Fault → Type 0

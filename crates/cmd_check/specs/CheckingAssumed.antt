@@ -5,7 +5,8 @@ use Rattle.echo_addr.specs.declared.address.Address.{Address}
 use Rattle.echo_links.specs.Links.{LinkFile, upper}
 use Rattle.model_run.specs.Tidy.{Tidy}
 use Rattle.cmd_status.specs.{Devices.Output, declared.fault.Fault.Fault, declared.status.Status.Status, Ended.Answers, Inputs.AreLinkFiles, Inputs.IsFirstFaultGiven, Inputs.IsLinkFault}
-use Rattle.cmd_check.specs.{Assuming.AreAssumed, Assuming.assumed_line, Checking.IsChecked, Checking.RunsAreOrderly}
+use Rattle.model_run.specs.AnyState.{NewMessagesAreInOrder}
+use Rattle.cmd_check.specs.{Assuming.AreAssumed, Assuming.assumed_line, Checking.IsChecked}
 
 -- The lines of `check` on these files, and then a line for each assumed system.
 pub record IsCheckedWith (nodelist : Option (List ℕ)) (more : Bool) (tag : List ℕ) (inputs : List (List ℕ)) (assumed : List Address) (lines : List ℕ) (status : Status) : Type 0 where
@@ -14,7 +15,7 @@ pub record IsCheckedWith (nodelist : Option (List ℕ)) (more : Bool) (tag : Lis
   pub whole : lines ≡ front ++ flat_map assumed_line assumed
 
 -- The same for the given files, followed by those of the assumed systems. The status is 0 exactly if the area is tidy
--- with these. Then every run is orderly in which each assumed system has that file.
+-- with these. Then each new message is in order if each assumed system has that file.
 pub record IsCheckedAssuming (nodelist : Option (List ℕ)) (more : Bool) (tag : List ℕ) (inputs : List (List ℕ)) (assumed : List Address) (lines : List ℕ) (status : Status) : Type 0 where
   pub files : List LinkFile
   pub are_files : AreLinkFiles inputs files
@@ -22,14 +23,14 @@ pub record IsCheckedAssuming (nodelist : Option (List ℕ)) (more : Bool) (tag :
   pub are_assumed : AreAssumed files (upper tag) assumed texts
   pub checked : IsCheckedWith nodelist more tag (inputs ++ texts) assumed lines status
 
--- The promise of a 0: with the files of the assumed systems the area is tidy, and every run is orderly in it.
+-- The promise of a 0: with the files of the assumed systems the area is tidy, and each new message of it is in order.
 pub record IsPromisedAssuming (files : List LinkFile) (tag : List ℕ) (assumed : List Address) : Type 0 where
   pub texts : List (List ℕ)
   pub are_assumed : AreAssumed files tag assumed texts
   pub others : List LinkFile
   pub are_others : AreLinkFiles texts others
   pub tidy : Tidy (files ++ others) tag
-  pub orderly : RunsAreOrderly (files ++ others) tag
+  pub orderly : NewMessagesAreInOrder (files ++ others) tag
 
 -- Further link files are read after others.
 pub record ReadsMore (texts : List (List ℕ)) (old new : List LinkFile) : Type 0 where

@@ -6,7 +6,6 @@ pub mod Assuming
 pub mod CheckingAssumed
 pub mod Picturing
 pub mod Whys
-pub mod Explained
 pub mod Reasoning
 pub mod Replayed
 pub mod Replaying

@@ -4,7 +4,8 @@ ghost use Rattle.cmd_status.specs.{Devices.output_of, declared.status.Status.The
 ghost use Rattle.echo_links.specs.Links.{LinkFile, upper};
 ghost use Rattle.model_run.specs.Tidy.{Tidy};
 ghost use Rattle.echo_net.specs.Faults.{IfNo, IsFirstFault};
-ghost use Rattle.cmd_check.specs.{Checking.CheckAnswers, Checking.RunsAreOrderly, Checking.verdict_status, Further.IsVerdictShown};
+ghost use Rattle.model_run.specs.AnyState.{NewMessagesAreInOrder};
+ghost use Rattle.cmd_check.specs.{Checking.CheckAnswers, Checking.verdict_status, Further.IsVerdictShown};
 ghost use Rattle.cmd_print.specs.Pushed.{Pushes};
 
 use crate::further_text::push_further;
@@ -39,8 +40,8 @@ pub fn check<'a, W: Sink>(
     out: &mut W,
 ) -> Result<Status, Fault<'a>>
     ensures answer { CheckAnswers (option_copied besides.entry.nodelist) besides.entry.more tag.now files.now stopped.entry (output_of W.contents W.failures W.holds out.old) (output_of W.contents W.failures W.holds out.new) result }
-    // What a 0 promises: the area is tidy, and every run on these link files is orderly in it.
-    ensures headline { result ≡ Ok Good → (links : List LinkFile) → AreLinkFiles files.now links → Tidy links (upper tag.now) × RunsAreOrderly links (upper tag.now) }
+    // What a 0 promises: the area is tidy, and each new message of it is in order, from any state on.
+    ensures headline { result ≡ Ok Good → (links : List LinkFile) → AreLinkFiles files.now links → Tidy links (upper tag.now) × NewMessagesAreInOrder links (upper tag.now) }
 {
     check_given(alloc, besides, tag, files, stopped, out)
 }

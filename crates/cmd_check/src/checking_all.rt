@@ -6,7 +6,7 @@ ghost use Rattle.model_run.specs.Tidy.{Tidy};
 ghost use Rattle.echo_net.specs.Faults.{IsCarried, IsSharedSystem};
 ghost use Rattle.cmd_print.specs.Pushed.{Pushes};
 ghost use Rattle.cmd_check.specs.CheckingAll.{AreAreasChecked, CheckAllAnswers, IsAreaChecked, no_count, verdicts_status};
-ghost use Rattle.cmd_check.specs.Checking.{RunsAreOrderly};
+ghost use Rattle.model_run.specs.AnyState.{NewMessagesAreInOrder};
 
 use crate::area_tags::area_tags;
 use crate::checking::{Besides, push_check};
@@ -31,8 +31,8 @@ pub fn check_all<'a, W: Sink>(
     out: &mut W,
 ) -> Result<Status, Fault<'a>>
     ensures answer { CheckAllAnswers (option_copied besides.entry.nodelist) besides.entry.more files.now stopped.entry (output_of W.contents W.failures W.holds out.old) (output_of W.contents W.failures W.holds out.new) result }
-    // What a 0 promises: each area is tidy, and every run on these link files is orderly in it.
-    ensures headline { result ≡ Ok Good → (links : List LinkFile) → AreLinkFiles files.now links → (tag : List ℕ) → IsCarried links tag → Tidy links tag × RunsAreOrderly links tag }
+    // What a 0 promises: each area is tidy, and each new message of it is in order, from any state on.
+    ensures headline { result ≡ Ok Good → (links : List LinkFile) → AreLinkFiles files.now links → (tag : List ℕ) → IsCarried links tag → Tidy links tag × NewMessagesAreInOrder links tag }
 {
     check_areas(alloc, besides, files, stopped, out)
 }

@@ -26,7 +26,7 @@ pub fn check_assuming<'a, W: Sink>(
     out: &mut W,
 ) -> Result<Status, Fault<'a>>
     ensures answer { CheckAssumingAnswers (option_copied besides.entry.nodelist) besides.entry.more tag.now files.now assumed.now stopped.entry (output_of W.contents W.failures W.holds out.old) (output_of W.contents W.failures W.holds out.new) result }
-    // What a 0 promises: with the files of the assumed systems the area is tidy, and every run is orderly in it.
+    // What a 0 promises: with the files of the assumed systems the area is tidy, and each new message of it is in order.
     ensures headline { result ≡ Ok Good → (links : List LinkFile) → AreLinkFiles files.now links → IsPromisedAssuming links (upper tag.now) assumed.now }
 {
     check_assuming_given(alloc, besides, tag, files, assumed, stopped, out)

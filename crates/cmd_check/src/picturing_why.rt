@@ -62,7 +62,7 @@ fn crossings_found(
     verdict: &Verdict,
     hasher: RandomState,
 ) -> Result<Vec<Crossing>, AllocError>
-    ensures { IfOk result (λ all. AreCrossings files.now tag.now verdict.now all.items) }
+    ensures { IfOk result (λ all. AreCrossings files.now tag.now all.items) }
 {
     let found = explain(alloc, files, tag, verdict, hasher)?;
     crossings(alloc, files, tag, found.as_ref(), hasher)

@@ -20,9 +20,8 @@ use std::hash::RandomState;
 /// events. They are a script for `replay`. Before the events a note for each system in them has its address and the path of
 /// its file. A file after the last path has none.
 ///
-/// By V3, V5, V7 and V8 a run is found that breaks the promise. By V4 it is one of any kind if no file has the
-/// address. The status is that of `check`. For a faulty file nothing is printed. The first fault is returned.
-/// `stopped` is why no further file was read, and comes last. Look-ups go by the hasher.
+/// The status is that of `check`. For a faulty file nothing is printed. The first fault is returned. `stopped` is why
+/// no further file was read, and comes last. Look-ups go by the hasher.
 pub fn why<'a, W: Sink>(
     alloc: Global,
     tag: &[u8],

@@ -3,8 +3,10 @@
 use crate::files::reported_bytes;
 use crate::listing::{export_folder, list_folder};
 use base_file::BaseFault;
+use base_folder::BaseReader;
 use cmd_input::{Progress, is_folder, read_file};
 use cmd_print::ListForm;
+use cmd_repair::list_ids;
 use cmd_show::{ExportQuery, ListQuery, export, list, list_areas, tell_lost};
 use cmd_status::{Fault, Status, number_of};
 use cmd_words::{ExportWords, ListWords};
@@ -12,7 +14,7 @@ use disk_io::Sink;
 use echo_export::Form;
 use std::collections::hash_map::RandomState;
 
-/// `list [--short | --areas] [--area TAG] [--from I] BASE`: it judges the number first, then the base. Of a folder it
+/// `list [--short | --areas | --ids] [--area TAG] [--from I] BASE`: it judges the number first, then the base. Of a folder it
 /// reads only the messages asked for. A missing seed for the hasher is a failed read.
 pub(crate) fn run_list<'a, W: Sink>(
     rt: &HostRuntime,
@@ -27,12 +29,42 @@ pub(crate) fn run_list<'a, W: Sink>(
     if is_folder(rt, words.base) {
         return list_folder(rt, words, first, progress, out);
     }
+    if words.ids {
+        return list_file_ids(rt, words, progress, out);
+    }
     let hasher = RandomState::new(rt).map_err(|_| Fault::Base(BaseFault::Read))?;
     let bytes = reported_bytes(rt, words.base, progress)?;
     if words.areas {
         return list_areas(rt.alloc(), &bytes, hasher, out);
     }
     list(rt.alloc(), &list_query(words, first), &bytes, hasher, out)
+}
+
+// `list --ids` of a base file.
+fn list_file_ids<'a, W: Sink>(
+    rt: &HostRuntime,
+    words: &ListWords<'a>,
+    progress: &Progress<'_>,
+    out: &mut W,
+) -> Result<Status, Fault<'a>> {
+    let hasher = RandomState::new(rt).map_err(|_| Fault::Base(BaseFault::Read))?;
+    let bytes = reported_bytes(rt, words.base, progress)?;
+    let mut messages = BaseReader::read(rt.alloc(), &bytes, hasher)?;
+    list_ids(
+        rt.alloc(),
+        asked_area(words),
+        words.base,
+        &mut messages,
+        out,
+    )
+}
+
+/// The area of `list --ids`, which the command line has.
+pub(crate) fn asked_area<'a>(words: &ListWords<'a>) -> &'a [u8] {
+    match words.area {
+        Some(tag) => tag.as_bytes(),
+        None => &[],
+    }
 }
 
 /// The messages that the words ask for, from this number on, and their form.

@@ -4,7 +4,7 @@
 //!
 //! Begin with `commands`, which picks the command. `bases` and `listing` have `list` and `export`, for a base file and for
 //! a folder. `files` reads a base file while a terminal shows the progress. `export --msg` is in `stored` (a file for each
-//! message). `resending` has `resend`, and `converting` has `convert`.
+//! message). `resending` has `resend`, `repairing` the same with `--all` or `--has`, and `converting` has `convert`.
 #![tactic(auto)]
 
 mod bases;
@@ -12,6 +12,7 @@ mod commands;
 mod converting;
 mod files;
 mod listing;
+mod repairing;
 mod resending;
 mod stored;
 

@@ -1,7 +1,8 @@
 //! `list` and `export` of a base folder: the messages that are asked for are all read before a line is printed.
 
-use crate::bases::list_query;
+use crate::bases::{asked_area, list_query};
 use cmd_input::{Progress, look_into};
+use cmd_repair::list_ids;
 use cmd_show::{ExportQuery, export_messages, list_areas_of, list_messages};
 use cmd_status::{Fault, Status};
 use cmd_words::ListWords;
@@ -18,6 +19,10 @@ pub(crate) fn list_folder<'a, W: Sink>(
     let mut messages = look_into(rt, words.base, first, Some(progress))?;
     if words.areas {
         return list_areas_of(rt.alloc(), words.base, &mut messages, out);
+    }
+    if words.ids {
+        let area = asked_area(words);
+        return list_ids(rt.alloc(), area, words.base, &mut messages, out);
     }
     let asked = list_query(words, first);
     list_messages(rt.alloc(), &asked, words.base, &mut messages, out)

@@ -1,14 +1,16 @@
-//! `resend`: a packet that was lost is made again. The lock of the link file is held until the packet has its name.
+//! `resend`: a packet that was lost is made again; `repairing` makes that of all messages. The lock of the link file is held until the packet has its name.
 ghost use Rattle.std.specs.Prelude.{◌≡◌, None};
 
+use crate::repairing::run_repair;
 use base_file::BaseFault;
 use base_folder::{judge_owner, log_end};
 use cmd_input::{
     LinkLock, folder_path, is_folder, is_strange, look_into, moment_of, output_fault, read_file,
 };
 use cmd_numbered::{resend, resend_of};
-use cmd_report::{push_packet, resent_name};
+use cmd_repair::check_linked;
 use cmd_status::{Fault, FileLock, Status, number_of, parse_address, print_rest};
+use cmd_store::{push_packet, resent_name};
 use cmd_words::ResendWords;
 use disk_io::{Disk, Sink};
 use disk_system::{
@@ -26,8 +28,8 @@ use std::str;
 const PACKET_KNOWN_BY: usize = 4;
 
 /// `resend --area TAG --to ADDRESS [--from I] --at STAMP LINKS BASE DIR`: the address, the number and the stamp are judged
-/// first, then the link file, then the base. The line is printed before the packet is written. Without messages there is
-/// neither.
+/// first, then the link file, then whether the address is a link of the area, then the base. The line is printed before the
+/// packet is written. Without messages there is neither.
 pub(crate) fn run_resend<W: Sink, E: Sink>(
     rt: &HostRuntime,
     words: &ResendWords<'_>,
@@ -38,6 +40,9 @@ pub(crate) fn run_resend<W: Sink, E: Sink>(
         Ok(asked) => asked,
         Err(fault) => return fault.report(errors),
     };
+    if words.all || words.has.is_some() {
+        return run_repair(rt, words, asked, out, errors);
+    }
     let mut disk = RealDisk::new(rt, Unknown);
     let mut lock = LinkLock::ahead(rt, words.place.links);
     match packet_of(rt, &mut disk, &mut lock, words, asked) {
@@ -74,6 +79,8 @@ fn packet_of<'a, D: Disk, L: FileLock>(
 {
     let hasher = RandomState::new(rt).map_err(|_| Fault::Base(BaseFault::Read))?;
     let links = links_at(rt.alloc(), disk, lock, words.place.links)?;
+    let area = asked.area.to_ascii_uppercase(rt.alloc())?;
+    check_linked(&links, &area, asked.to)?;
     check_owner(rt, disk, words.place.base, links.system())?;
     if is_folder(rt, words.place.base) {
         let mut messages = look_into(rt, words.place.base, 0, None)?;
@@ -83,8 +90,8 @@ fn packet_of<'a, D: Disk, L: FileLock>(
     resend(rt.alloc(), asked, links, &base, hasher)
 }
 
-// A fault, where the base is a folder of another system.
-fn check_owner<'a, D: Disk>(
+/// A fault, where the base is a folder of another system.
+pub(crate) fn check_owner<'a, D: Disk>(
     rt: &HostRuntime,
     disk: &mut D,
     base: &'a str,
@@ -137,6 +144,9 @@ fn put_packet<E: Sink>(
     packet: &Packet,
     errors: &mut E,
 ) -> Status {
+    if !is_folder(rt, folder) {
+        return Fault::CannotUse(folder).report(errors);
+    }
     let path = match path_of(rt, folder, asked) {
         Ok(path) => path,
         Err(_) => return Fault::OutOfMemory.report(errors),

@@ -263,6 +263,9 @@ fn explain_resend<E: Sink>(met: FaultLine<'_>, words: &ResendWords<'_>, errors: 
     explain_word(met, Fault::BadAddress, form, Some(words.to), errors);
     explain_word(met, Fault::BadNumber, WordForm::Number, words.from, errors);
     explain_moment(met, words.at, None, errors);
+    if let Some(list) = words.has {
+        explain_path(met, list, Usage::File, errors);
+    }
     let _ = explain_links(met, words.place.links, errors);
     explain_path(met, words.place.base, Usage::Base, errors);
     explain_path(met, words.folder, Usage::Folder, errors);

@@ -1,7 +1,7 @@
 //! The message that `post` posts.
 ghost use Rattle.std.specs.Prelude.{◌≡◌, [], None, IfSome};
 
-use cmd_report::NewMessage;
+use cmd_store::NewMessage;
 use cmd_words::PostWords;
 use model_steps::Stamp;
 

@@ -58,6 +58,12 @@ pub enum Fault<'a> {
     /// A line of a script, counted from 1, of another form.
     #[error("script line {0}")]
     ScriptLine(u64),
+    /// A line of a list of ids, counted from 1, of another form.
+    #[error("list line {0}")]
+    ListLine(u64),
+    /// The address is no link of the area.
+    #[error("not linked {0}")]
+    NotLinked(Address),
     /// A file, or standard input as `-`, has more bytes than allowed.
     #[error("file too large {path}", path = Shown(.0))]
     TooLarge(&'a str),
@@ -165,6 +171,8 @@ impl Fault<'_> {
             | Fault::BadSerial
             | Fault::BadNumber
             | Fault::ScriptLine(_)
+            | Fault::ListLine(_)
+            | Fault::NotLinked(_)
             | Fault::TooLarge(_) => Status::Refused,
         }
     }

@@ -28,5 +28,5 @@ pub use locked::FileLock;
 pub use options::{number_of, parse_address, serial_of, stamp_of};
 pub use packet_names::{PacketName, StreamPackets};
 pub use printing::{pass_on, print_rest};
-pub use progress::{MessageProgress, Unwatched};
+pub use progress::MessageProgress;
 pub use status::{Status, ended};

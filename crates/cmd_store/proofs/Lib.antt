@@ -1,3 +1,7 @@
+pub mod Noted
+pub mod NotedIn
+pub mod FreeSerials
+pub mod Tossings
 pub mod Commits
 pub mod Printed
 pub mod Postings

@@ -1,7 +1,6 @@
 -- Postings into a store.
 use Rattle.std.proofs.Common.{◌≡◌, ℕ, List, None, Result, Err, arith}
 use Rattle.base_file.specs.Base.{Base}
-use Rattle.cmd_report.specs.{declared.posting.NewMessage.NewMessage, Lines.posted_line, Posted.draft_given}
 use Rattle.echo_links.specs.Links.{LinkFile}
 use Rattle.cmd_status.specs.Devices.{Output}
 use Rattle.model_steps.specs.{declared.draft.Draft.Draft, Posting.post_refusal, Posting.posted, SystemState.SystemState}
@@ -9,7 +8,8 @@ use Rattle.base_store.specs.Store.{HasStoreCause, StoreState, with_message}
 use Rattle.echo_text.specs.Ids.{id_of}
 use Rattle.echo_toss.specs.{declared.step_error.PostStepError.PostStepError, Stores.IsPostStop, Stores.post_answer}
 use Rattle.echo_toss.specs.declared.step_error.PostStepError.TheVariants as post
-use Rattle.cmd_store.specs.{declared.command_error.CommandError.CommandError, Answered.PrintsAll, Posted.Posts, Posted.PostsOn, Stops.post_stop, Stops.store_answer}
+use Rattle.cmd_store.specs.{declared.drafting.NewMessage.NewMessage, Lines.posted_line, Drafts.draft_given, declared.command_error.CommandError.CommandError, Answered.PrintsAll, Posted.Posts}
+use Rattle.cmd_store.specs.{Posted.PostsOn, Stops.post_stop, Stops.store_answer}
 use Rattle.cmd_store.proofs.Printed.{answered}
 
 -- a posting that stopped

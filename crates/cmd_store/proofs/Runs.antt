@@ -2,12 +2,11 @@
 use Rattle.std.proofs.Common.{◌≡◌, ℕ, Bool, List, [], Option, Result, Ok, Err, subst}
 use Rattle.std.specs.Prelude.{OnOk}
 use Rattle.base_file.specs.Base.{Base}
-use Rattle.cmd_report.specs.Coming.{Coming}
 use Rattle.echo_links.specs.Links.{LinkFile}
 use Rattle.echo_packet.specs.declared.limits.Limits.{Limits}
 use Rattle.cmd_status.specs.{declared.fault.Fault.Fault, Devices.Device, Devices.Output}
 use Rattle.base_store.specs.{Store.StoreState, declared.store_error.StoreError.StoreError}
-use Rattle.cmd_store.specs.{declared.command_error.CommandError.CommandError, Answered.HasCommitted, Tossed.Tosses, Tossed.TossesFiles, Tossed.TossesOn, Tossed.TossesTo}
+use Rattle.cmd_store.specs.{Coming.Coming, declared.command_error.CommandError.CommandError, Answered.HasCommitted, Tossed.Tosses, Tossed.TossesFiles, Tossed.TossesOn, Tossed.TossesTo}
 
 -- no line was there before the first packet
 pub none_before : {R : Type 0} (honest : Type 0) (noting : Bool) (limits : Limits) (device : R → Device) (file : LinkFile) (base : Base) (files left : List Coming) (none more : List ℕ) (result : Result (Option Fault) StoreError) (new : StoreState) → none ≡ []

@@ -1,7 +1,6 @@
 -- Packets that are tossed into a store, as packets that are tossed at a system.
 use Rattle.std.proofs.Common.{◌≡◌, ◌++◌, ℕ, Bool, true, false, List, Option, Some, None, Result, Ok, Err, refl, sym, subst, inl, arith}
 use Rattle.base_file.specs.Base.{Base}
-use Rattle.cmd_report.specs.{Lines.tally_line, TossedPacket.ReportsPacket, TossedPacket.TossRun, TossedPacket.TossesPacketBy, TossedPacket.fault_of, NotedPacket.NotesPacket}
 use Rattle.echo_links.specs.Links.{LinkFile}
 use Rattle.echo_packet.specs.declared.limits.Limits.{Limits}
 use Rattle.cmd_status.specs.{declared.fault.Fault.Fault, declared.fault.Fault.TheVariants.OutOfMemory, declared.fault.Fault.TheVariants.TossMemory, Devices.Device}
@@ -11,7 +10,8 @@ use Rattle.echo_toss.specs.PacketsIn.{HoldsUnlessFailed, cause_in, packet_answer
 use Rattle.echo_toss.specs.declared.{fault.TossFault.TossFault, step_error.StoppedToss.StoppedToss, step_error.TossStepError.TossStepError, tally.Tally.Tally}
 use Rattle.echo_toss.specs.PacketSteps.{CountsToss, PacketStep}
 use Rattle.echo_toss.specs.declared.step_error.TossStepError.TheVariants as toss
-use Rattle.cmd_store.specs.Tossed.{ReportsIn, ReportsStop, TossesNext, run_at}
+use Rattle.cmd_store.specs.{Lines.tally_line, TossedPacket.ReportsPacket, TossedPacket.TossRun, TossedPacket.TossesPacketBy, TossedPacket.fault_of, NotedPacket.NotesPacket, Tossed.ReportsIn}
+use Rattle.cmd_store.specs.{Tossed.ReportsStop, Tossed.TossesNext, Tossed.run_at}
 
 -- the notes on a packet, or no notes if its messages are not noted
 abbrev pub NotesIf : Bool → Limits → SystemState → Option (List ℕ) → Result Tally TossFault → SystemState → List ℕ → List ℕ → Type 0

@@ -3,12 +3,12 @@ use Rattle.std.specs.Prelude.{◌≡◌, ℕ, Bool, true, false, List}
 use Rattle.base_file.specs.Base.{Base}
 use Rattle.disk_io.specs.Disk.{Honestly}
 use Rattle.base_store.specs.Store.{CommitsNothing, MayCommit, StoreState}
-use Rattle.cmd_report.specs.{declared.posting.NewMessage.NewMessage, declared.replying.Answer.Answer, Posted.draft_given}
 use Rattle.echo_filed.specs.Filed.{Filed}
 use Rattle.echo_links.specs.Links.{LinkFile}
 use Rattle.echo_toss.specs.Bounds.{IsPastBound}
 use Rattle.model_steps.specs.{declared.draft.Draft.Draft, Posting.posted}
-use Rattle.cmd_store.specs.{declared.letter.Letter.Letter, declared.mailed.MailWords.MailWords, Mailed.IsPosting}
+use Rattle.cmd_store.specs.{declared.drafting.NewMessage.NewMessage, declared.answering.Answer.Answer, Drafts.draft_given, declared.letter.Letter.Letter, declared.mailed.MailWords.MailWords}
+use Rattle.cmd_store.specs.{Mailed.IsPosting}
 
 -- The store was full, so a commit did nothing.
 pub record IsUncommitted (old new : StoreState) : Type 0 where

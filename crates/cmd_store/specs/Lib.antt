@@ -1,3 +1,14 @@
+pub mod Notes
+pub mod NotedPacket
+pub mod NotedIn
+pub mod Lines
+pub mod PacketLines
+pub mod Drafts
+pub mod Serials
+pub mod AnswerWords
+pub mod Coming
+pub mod TossedPacket
+pub mod TossRuns
 pub mod Bounded
 pub mod Stops
 pub mod Answered

@@ -1,13 +1,12 @@
 -- Posting a mail on a store.
 use Rattle.std.specs.Prelude.{◌≡◌, List, ℕ, Result, Ok, Err}
 use Rattle.base_file.specs.Base.{Base}
-use Rattle.cmd_report.specs.declared.posting.NewMessage.{NewMessage}
 use Rattle.echo_links.specs.Links.{LinkFile}
 use Rattle.echo_mail.specs.Mail.{mail_in}
 use Rattle.cmd_status.specs.Devices.{Output}
 use Rattle.model_steps.specs.SystemState.{SystemState}
-use Rattle.cmd_store.specs.{FreeSerial.PostsAs, FreeSerial.PostsAsOn, declared.command_error.CommandError.CommandError, declared.fault.LetterFault.LetterFault, declared.letter.Letter.Letter}
-use Rattle.cmd_store.specs.{declared.mailed.MailWords.MailWords, declared.mail_posting.PostMail.PostMail, Letter.LetterAnswers, Mailed.IsPosting}
+use Rattle.cmd_store.specs.{declared.drafting.NewMessage.NewMessage, FreeSerial.PostsAs, FreeSerial.PostsAsOn, declared.command_error.CommandError.CommandError, declared.fault.LetterFault.LetterFault}
+use Rattle.cmd_store.specs.{declared.letter.Letter.Letter, declared.mailed.MailWords.MailWords, declared.mail_posting.PostMail.PostMail, Letter.LetterAnswers, Mailed.IsPosting}
 
 -- The letter of the mail with its request, or the fault of the mail.
 abbrev pub ReadsMail : MailWords → List ℕ → Result PostMail LetterFault → Type 0

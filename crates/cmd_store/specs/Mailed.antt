@@ -1,7 +1,6 @@
 -- The words that post a mail.
 use Rattle.std.specs.Prelude.{◌≡◌}
-use Rattle.cmd_report.specs.declared.posting.NewMessage.{NewMessage}
-use Rattle.cmd_store.specs.declared.{letter.Letter.Letter, mailed.MailWords.MailWords}
+use Rattle.cmd_store.specs.declared.{drafting.NewMessage.NewMessage, letter.Letter.Letter, mailed.MailWords.MailWords}
 
 -- The words that post a letter.
 pub record IsPosting (letter : Letter) (asked : MailWords) (words : NewMessage) : Type 0 where

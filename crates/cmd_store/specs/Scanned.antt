@@ -2,9 +2,8 @@
 use Rattle.std.specs.Prelude.{◌≡◌, true, false, ℕ, List, map, Result, Ok, Err}
 use Rattle.std.specs.List.{flat_map}
 use Rattle.model_steps.specs.{PacketFiles.PacketFile, declared.fault.ScanFault.TheVariants.BadStamp, declared.stamp.Stamp.Stamp, Scanning.scanned, Stamps.is_stamp, SystemState.SystemState}
-use Rattle.cmd_report.specs.Scanned.{file_sent, line_sent}
 use Rattle.cmd_status.specs.{declared.fault.Fault.Fault, declared.fault.Fault.TheVariants.Scan, Devices.Output}
-use Rattle.cmd_store.specs.{declared.command_error.CommandError.CommandError, Answered.AnswersOn}
+use Rattle.cmd_store.specs.{PacketLines.file_sent, PacketLines.line_sent, declared.command_error.CommandError.CommandError, Answered.AnswersOn}
 
 -- The scan of a system: a line for each of its packets, and their files.
 pub record IsScannedAt (stamp : Stamp) (system : SystemState) (lines : List ℕ) (files : List PacketFile) : Type 0 where

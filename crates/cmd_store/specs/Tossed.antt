@@ -4,12 +4,12 @@ use Rattle.std.specs.Io.KnownBytes.{Appends}
 use Rattle.base_file.specs.Base.{Base}
 use Rattle.echo_links.specs.Links.{LinkFile}
 use Rattle.echo_packet.specs.declared.limits.Limits.{Limits}
-use Rattle.cmd_report.specs.{Coming.Coming, Tossed.IsRunPrinted, Tossed.TossesEachBy, Tossed.run_begun, TossedPacket.TossRun, TossedPacket.TossesPacketBy, TossedPacket.fault_of, Lines.tally_line}
 use Rattle.cmd_status.specs.{declared.fault.Fault.Fault, declared.fault.Fault.TheVariants.TossMemory, Devices.Device, Devices.Output, Ended.CannotPrint, Ended.PassesAll, Lines.WritesFront}
 use Rattle.base_store.specs.{Store.StoreState, declared.store_error.StoreError.StoreError}
 use Rattle.echo_toss.specs.{declared.step_error.StoppedToss.StoppedToss, declared.step_error.TossStepError.TossStepError, declared.tally.Tally.Tally, PacketsIn.state_in}
 use Rattle.echo_toss.specs.declared.step_error.TossStepError.TheVariants as toss
-use Rattle.cmd_store.specs.declared.command_error.CommandError.{CommandError, TheVariants.Met, TheVariants.Store}
+use Rattle.cmd_store.specs.{Coming.Coming, TossRuns.IsRunPrinted, TossRuns.TossesEachBy, TossRuns.run_begun, TossedPacket.TossRun, TossedPacket.TossesPacketBy, TossedPacket.fault_of, Lines.tally_line}
+use Rattle.cmd_store.specs.{declared.command_error.CommandError.CommandError, declared.command_error.CommandError.TheVariants.Met, declared.command_error.CommandError.TheVariants.Store}
 
 -- A system with this base tosses the packet files within these limits, up to the first fault, and then has the next
 -- base. If the answers are honest, these are the given files.

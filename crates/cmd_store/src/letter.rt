@@ -4,10 +4,10 @@ ghost use Rattle.std.specs.Option.{option_or};
 ghost use Rattle.echo_mail.specs.{Area.area_in, Body.text_of, Body.value_in, Mail.mail_in};
 ghost use Rattle.cmd_store.specs.Letter.{IsArea, IsBody, LetterAnswers, LetterOf, answered_id, are_wide, field, true_id};
 
+use crate::answering::is_id;
 use crate::charset_line::{is_wide, with_line};
 use crate::fault::LetterFault;
 use crate::writing::{bytes_in, name_in, words_in};
-use cmd_report::is_id;
 use echo_addr::Items;
 use echo_charset::Charset;
 use echo_mail::{Field, Mail, area_in, body_text, exported_id, read_mail, value_in};

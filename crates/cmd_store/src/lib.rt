@@ -12,36 +12,51 @@
 //!
 //! Begin with `command` (what a command promises) and `command_error` (why a command stopped). Then `posting`,
 //! `replying`, `purging` and `tossing`, each one command, and `scanning` (the lines of a scan). `leaving` prints lines and
-//! commits the store, and `serials` chooses the serial of a posting. For mail: `fault` (why a mail is not posted), `writing` (the words of a
-//! mail in a charset), `charset_line` (the line of that charset), `letter` (the words of a mail), `mailed` (the words
-//! of the posting) and `mail_posting` (the command). `laws` has what holds of exported ids.
+//! commits the store, and `serials` chooses the serial of a posting. `drafting` has the words of a posting, and `answering`
+//! those that a message gives to its answer. `lines` has the printed lines, and `packet_lines` those of packets, with their
+//! names. For a toss `coming` opens packet files one after the other, `storing` tosses a packet and notes its messages
+//! (`note`), and `packet_fault` is why that stopped. For mail: `fault` (why a mail is not posted), `writing` (the words of
+//! a mail in a charset), `charset_line` (the line of that charset), `letter` (the words of a mail), `mailed` (the words of
+//! the posting) and `mail_posting` (the command). `laws` has what holds of exported ids.
 #![tactic(auto)]
 
+mod answering;
 mod charset_line;
+mod coming;
 mod command;
 mod command_error;
+mod drafting;
 mod fault;
 mod laws;
 mod leaving;
 mod letter;
+mod lines;
 mod mail_posting;
 mod mailed;
+mod note;
+mod packet_fault;
+mod packet_lines;
 mod posting;
 mod purging;
 mod replying;
 mod scanning;
 mod serials;
+mod storing;
 mod tossing;
 mod writing;
 
+pub use answering::Answer;
+pub use coming::PacketFiles;
 pub use command::StoreCommand;
 pub use command_error::CommandError;
+pub use drafting::NewMessage;
 pub use fault::LetterFault;
 pub use laws::exported_ids_are_answered;
 pub use leaving::commit_on;
 pub use letter::{Letter, MailDefaults, letter_in};
 pub use mail_posting::PostMail;
 pub use mailed::MailWords;
+pub use packet_lines::{packet_name, push_counted, push_packet, repair_name, resent_name};
 pub use posting::Post;
 pub use purging::Purge;
 pub use replying::Reply;

@@ -1,8 +1,8 @@
 //! The words with which a mail is posted.
 ghost use Rattle.cmd_store.specs.Mailed.{IsPosting};
 
+use crate::drafting::NewMessage;
 use crate::letter::{Letter, MailDefaults};
-use cmd_report::NewMessage;
 use echo_charset::Charset;
 use model_steps::Stamp;
 

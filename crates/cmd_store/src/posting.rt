@@ -2,20 +2,20 @@
 ghost use Rattle.std.specs.Prelude.{false, IfErr, IsErrOf, OnOk};
 ghost use Rattle.disk_io.specs.Disk.{Honestly};
 ghost use Rattle.base_file.specs.Base.{Base};
-ghost use Rattle.cmd_report.specs.Lines.{posted_line};
 ghost use Rattle.cmd_status.specs.Devices.{output_of};
 ghost use Rattle.base_store.specs.{Store.Commits, Store.HasStoreCause, Store.MayCommit, declared.store_error.StoreError.TheVariants.TooMany};
 ghost use Rattle.echo_text.specs.Ids.{id_of};
 ghost use Rattle.echo_toss.specs.PacketsIn.{state_in};
+ghost use Rattle.cmd_store.specs.{Lines.posted_line, Bounded.AddsPosted, Bounded.IsStoppedFull, Bounded.IsUncommitted, FreeSerial.PostsAs, FreeSerial.PostsAsOn, Stops.store_answer};
 ghost use Rattle.cmd_store.specs.Answered.{CommitsNoneWhereMet, HasCommitted, LooksWhereMet, MayMake, PrintsAll};
-ghost use Rattle.cmd_store.specs.{Bounded.AddsPosted, Bounded.IsStoppedFull, Bounded.IsUncommitted, FreeSerial.PostsAs, FreeSerial.PostsAsOn, Stops.store_answer};
 
 use crate::command::StoreCommand;
 use crate::command_error::CommandError;
+use crate::drafting::{NewMessage, draft_of};
 use crate::leaving::leave;
+use crate::lines::push_posted;
 use crate::serials::file_as;
 use base_store::{PurgedStore, Store};
-use cmd_report::{NewMessage, draft_of, push_posted};
 use disk_io::Sink;
 use echo_links::LinkFile;
 use std::alloc::Global;

@@ -8,11 +8,12 @@ ghost use Rattle.echo_toss.specs.PacketsIn.{state_in};
 ghost use Rattle.cmd_store.specs.{Answered.CommitsNoneWhereMet, Answered.HasCommitted, Answered.MayMake, Bounded.AddsReply, Bounded.IsStoppedFull, Replied.FindsOn, Replied.Replies, Replied.RepliesOn};
 ghost use Rattle.cmd_store.specs.Stops.{store_answer};
 
+use crate::answering::{Answer, ReplyFields, found_in};
 use crate::command::StoreCommand;
 use crate::command_error::CommandError;
+use crate::drafting::NewMessage;
 use crate::posting::post_as;
 use base_store::{PurgedStore, Store, StoreError};
-use cmd_report::{Answer, NewMessage, ReplyFields, found_in};
 use cmd_status::Fault;
 use disk_io::Sink;
 use echo_links::LinkFile;

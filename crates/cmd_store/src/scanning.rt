@@ -1,11 +1,10 @@
 //! The lines of the packets of a scan are printed.
 ghost use Rattle.std.specs.{Prelude.◌≡◌, Prelude.Ok, List.flat_map};
-ghost use Rattle.cmd_report.specs.Scanned.{counted_line};
 ghost use Rattle.cmd_status.specs.Devices.{output_of};
-ghost use Rattle.cmd_store.specs.{Answered.AnswersOn, Answered.AreLines, Answered.RefusesNone, Stops.store_answer};
+ghost use Rattle.cmd_store.specs.{PacketLines.counted_line, Answered.AnswersOn, Answered.AreLines, Answered.RefusesNone, Stops.store_answer};
 
 use crate::command_error::CommandError;
-use cmd_report::push_counted;
+use crate::packet_lines::push_counted;
 use cmd_status::print_rest;
 use disk_io::Sink;
 use echo_toss::CountedPacket;

@@ -7,8 +7,8 @@ ghost use Rattle.base_store.specs.{Store.CommitsNothing, Store.GoesOn, Store.Has
 ghost use Rattle.echo_toss.specs.{declared.step_error.PostStepError.TheVariants.Refused, Stores.LooksWhereRefused, Stores.post_answer, Bounds.IsPastBound};
 ghost use Rattle.cmd_store.specs.{Bounded.AddsDraft, FreeSerial.FilesAs};
 
+use crate::drafting::NewMessage;
 use base_store::Store;
-use cmd_report::NewMessage;
 use echo_links::LinkFile;
 use echo_toss::{PostStepError, post_step};
 use model_steps::{Draft, PostFault};

@@ -2,17 +2,19 @@
 ghost use Rattle.std.specs.Prelude.{◌≡◌, false, IfErr, IsErrOf, OnOk};
 ghost use Rattle.disk_io.specs.Disk.{Honestly};
 ghost use Rattle.base_file.specs.Base.{Base};
-ghost use Rattle.cmd_report.specs.{Lines.HasTallyRoom, TossedPacket.TossRun};
 ghost use Rattle.cmd_status.specs.Devices.{device_of, output_of};
 ghost use Rattle.base_store.specs.Store.{CommitsNothing, GoesOn, HasStoreCause};
+ghost use Rattle.cmd_store.specs.{Lines.HasTallyRoom, TossedPacket.TossRun, Answered.CommitsNoneWhereMet, Answered.MayMake, Bounded.IsStoppedFull, Stops.store_answer};
 ghost use Rattle.cmd_store.specs.Tossed.{PrintsRun, ReportsIn, Tosses, TossesFiles, TossesIn, TossesNext, TossesOn, TossesTo};
-ghost use Rattle.cmd_store.specs.{Answered.CommitsNoneWhereMet, Answered.MayMake, Bounded.IsStoppedFull, Stops.store_answer};
 ghost use Rattle.echo_toss.specs.Bounds.{AddsReceived, IsPastBound};
 
+use crate::coming::PacketFiles;
 use crate::command::StoreCommand;
 use crate::command_error::CommandError;
+use crate::lines::{MOST_TALLY, push_tally};
+use crate::packet_fault::fault_of;
+use crate::storing::toss_noting_in;
 use base_store::{PurgedStore, Store, StoreError};
-use cmd_report::{MOST_TALLY, PacketFiles, fault_of, push_tally, toss_noting_in};
 use cmd_status::{Fault, print_rest};
 use disk_io::{Sink, Source};
 use echo_links::LinkFile;

@@ -30,6 +30,8 @@ pub(crate) enum Form {
     FlagUnless(&'static str),
     /// `--NAME`, not with any of these options
     FlagUnlessAny(&'static [&'static str]),
+    /// `--NAME`, only with the first of these options and not with the others
+    FlagWith(&'static str, &'static [&'static str]),
     /// `--NAME VALUE`, optional
     Option(&'static str),
     /// `--NAME VALUE`, optional, only with the first of these options and not with the others
@@ -357,6 +359,11 @@ pub(crate) const READING: &[Entry] = &[
                 "Prints one line for each area",
             ),
             Word(
+                "ids",
+                Form::FlagWith("area", &["short", "areas", "from"]),
+                "Prints the ids of the area's messages, ascending",
+            ),
+            Word(
                 "area",
                 Form::Option("TAG"),
                 "Prints only the messages of this area, in letters of either case",
@@ -417,6 +424,16 @@ pub(crate) const READING: &[Entry] = &[
         "Makes a packet that was lost again, of scanned messages of an area for one link",
         ending!("echonet resend --area TEST --to 1:10/2 --at now links base outbound"),
         &[
+            Word(
+                "all",
+                Form::FlagUnless("has"),
+                "Sends all messages of the area, also those that wait or came from the link",
+            ),
+            Word(
+                "has",
+                Form::Option("LIST"),
+                "Sends all but the messages that this list of the link names, printed there by list --ids; - is standard input",
+            ),
             Word("area", Form::Needed("TAG"), AREA),
             Word(
                 "to",

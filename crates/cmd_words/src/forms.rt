@@ -16,6 +16,7 @@ fn argument<'a>(alloc: Global, word: Word) -> Result<Arg<'a>, AllocError> {
         Form::Flag => Ok(flag(arg, name)),
         Form::FlagUnless(other) => flag(arg, name).conflicts_with(other),
         Form::FlagUnlessAny(others) => flag(arg, name).conflicts_with_all(others),
+        Form::FlagWith(needed, others) => option_with(flag(arg, name), needed, others),
         Form::Option(value) => Ok(arg.long(name).value_name(value)),
         Form::OptionWith(value, needed, others) => {
             option_with(arg.long(name).value_name(value), needed, others)

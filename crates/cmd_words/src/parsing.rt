@@ -231,6 +231,7 @@ fn list_words<'a>(matches: &ArgMatches<'a>) -> Option<Words<'a>> {
     Some(Words::Base(BaseWords::List(ListWords {
         short: matches.get_flag("short"),
         areas: matches.get_flag("areas"),
+        ids: matches.get_flag("ids"),
         area: matches.get_str("area"),
         from: matches.get_str("from"),
         base: matches.get_str("BASE")?,
@@ -267,6 +268,8 @@ fn export_jam_words<'a>(matches: &ArgMatches<'a>) -> Option<Words<'a>> {
 
 fn resend_words<'a>(matches: &ArgMatches<'a>) -> Option<Words<'a>> {
     Some(Words::Base(BaseWords::Resend(ResendWords {
+        all: matches.get_flag("all"),
+        has: matches.get_str("has"),
         area: matches.get_str("area")?,
         to: matches.get_str("to")?,
         from: matches.get_str("from"),

@@ -152,6 +152,7 @@ pub struct ReplyWords<'a> {
 pub struct ListWords<'a> {
     pub short: bool,
     pub areas: bool,
+    pub ids: bool,
     pub area: Option<&'a str>,
     pub from: Option<&'a str>,
     pub base: &'a str,
@@ -202,9 +203,11 @@ pub struct ScanWords<'a> {
     pub folder: &'a str,
 }
 
-/// The words of `resend`.
+/// The words of `resend`. With `all` it sends all messages, and those that the list `has` does not name.
 #[derive(Drop)]
 pub struct ResendWords<'a> {
+    pub all: bool,
+    pub has: Option<&'a str>,
     pub area: &'a str,
     pub to: &'a str,
     pub from: Option<&'a str>,

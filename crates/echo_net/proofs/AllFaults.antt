@@ -1,21 +1,20 @@
 -- Every fault of the files and their links: the lists hold exactly these, in order.
-use Rattle.std.proofs.Common.{◌≡◌, ◌<◌, ◌+◌, ◌&&◌, ◌||◌, ◌==◌, ◌↔◌, ℕ, Bool, true, false, not, IsTrue, List, [], ◌∷◌, ◌++◌, filter, length, map, take, get_or, refl, sym, ap, subst, ◌∙◌, append-nil, append_assoc, arith, inl, inr}
+use Rattle.std.proofs.Common.{◌≡◌, ◌<◌, ◌+◌, ◌&&◌, ◌||◌, ◌==◌, ◌↔◌, ℕ, Bool, true, false, not, IsTrue, List, [], ◌∷◌, ◌++◌, filter, length, take, drop, get_or, refl, sym, ap, subst, ◌∙◌, append-nil, append_assoc, arith, inl, inr}
 use Rattle.std.proofs.lemmas.{Bool.and_from, Bool.and_parts, Bool.cases_lt, List.take_more, List.Elements.filter-append, List.Kept.IsStrictlySortedBy-filter}
 use Rattle.std.specs.{Prelude.Contains, Cmp.both_ways, List.list_any, List.Sorted.IsStrictlySortedBy}
 use Rattle.echo_addr.specs.declared.address.Address.{Address}
-use Rattle.echo_links.specs.Links.{LinkFile, has_area, same_address}
+use Rattle.echo_links.specs.Links.{LinkFile, has_area}
 use Rattle.model_graph.proofs.Members.{Among-from_Contains, Contains-from_Among}
 use Rattle.model_run.proofs.Lists.{Among-filter_from, Among-filter_to}
 use Rattle.echo_filed.specs.Sets.{address_before}
-use Rattle.model_run.specs.Tidy.{Joined, carries, lists}
+use Rattle.model_run.specs.Tidy.{carries, lists}
 use Rattle.echo_net.specs.declared.verdict.NetFault.TheVariants.{NoSuchArea, TwoFiles, SelfLink, Unknown, OneSided, SameNetNode, Apart, Loop}
-use Rattle.echo_net.specs.AllFaults.{AddsApart, AddsLinkFaults, AddsRounds, AddsTwoFiles, AppliesTo, AreAllFaults, AreFurther, AreLinkFaults, IsAhead, fault_of, fault_where, in_preference, is_one_sided, is_self_link, is_unknown, loop_fault, names_fault}
-use Rattle.echo_net.specs.Faults.{AllAreAnswered, AllAreKnown, AreSoundLinks, HaveOneFileEach, IfNo, IsFirstFault, NoneListsItself}
-use Rattle.echo_net.specs.declared.{link.Link.Link, verdict.NetFault.NetFault, verdict.Verdict.Verdict, verdict.Verdict.TheVariants.No}
-use Rattle.echo_net.specs.{Drawn.AreLinksInOrder, Drawn.back, Drawn.has_address, Drawn.has_link, Firsts.HasTwin, Firsts.pair_before, Nets.link, Nets.systems}
-use Rattle.echo_net.proofs.Drawings.{carriers_held, links_held, links_in_order, apart_first, apart_later}
+use Rattle.echo_net.specs.AllFaults.{AddsLinkFaults, AddsTwoFiles, AppliesTo, AreAllFaults, AreFurther, AreLinkFaults, fault_where, in_preference, is_one_sided, is_self_link, is_unknown}
+use Rattle.echo_net.specs.Faults.{AllAreAnswered, AllAreKnown, AreSoundLinks, HaveOneFileEach, IsFirstFault, NoneListsItself}
+use Rattle.echo_net.specs.{declared.link.Link.Link, declared.verdict.NetFault.NetFault, declared.verdict.Verdict.TheVariants.No, Drawn.AreLinksInOrder, Drawn.back, Drawn.has_address, Drawn.has_link}
+use Rattle.echo_net.specs.{Firsts.HasTwin, Firsts.pair_before, Nets.link, Nets.systems}
 use Rattle.echo_net.proofs.Collected.{is_carried, not_carried, twin_from, twin_to, Different-apart}
-use Rattle.echo_net.proofs.{Rounds.named_first, Orders.link_order, Orders.not_before_itself, Orders.same_exact, Orders.same_itself}
+use Rattle.echo_net.proofs.{Drawings.carriers_held, Drawings.links_held, Drawings.links_in_order, Orders.link_order, Orders.not_before_itself, Orders.same_exact, Orders.same_itself}
 use Rattle.echo_net.specs.declared.each_fault.Kind.TheVariants as kinds
 
 -- one more item of a filtered list
@@ -186,84 +185,51 @@ module _ (files : List LinkFile) (tag : List ℕ) (all : List NetFault) (r : Are
   first_of_links (Apart a b) h passes = absurd cc
   first_of_links (Loop loop) h passes = absurd cc
 
-  -- sound links have no fault
-  pub none_of_sound : AreSoundLinks files tag → all ≡ []
-  none_of_sound sound =
-      let some : list_any (λ file. has_area file tag) files ≡ true = sound.some in
-      let none_twice = no_two_files sound.one_file in
-      let none_self = no_self_links sound.no_self in
-      let all_known = no_unknown sound.known in
-      let all_answered = no_one_sided sound.both in
-      let no_twins = no_links (AppliesTo files tag kinds.SameNetNode) r.same_net_nodes r.are_same_net_nodes (grind (arith, not_before_itself)) in
-      r.whole ∙ (λ i. in_preference (some i) (none_twice i) (none_self i) (all_known i) (all_answered i) (no_twins i))
+pub no_items : (all : List NetFault) → length all ≡ 0 → all ≡ []
+no_items [] none = refl
+no_items (fault ∷ all) none = absurd (omega arith)
 
--- the additions after the faults of files and links
-module _ (files : List LinkFile) (tag : List ℕ) (all : List NetFault) (r : AreLinkFaults files tag all) where
-  pub with_graph : AreSoundLinks files tag → (parts new : List NetFault) → AddsApart files tag all parts → AddsRounds files tag parts new → AreAllFaults files tag new
-  with_graph sound parts new apart loops = grind (arith, append_assoc)
+-- the faults of the graph, if there are none of files and links
+pub with_graph : (files : List LinkFile) (tag : List ℕ) (all new : List NetFault) → AreLinkFaults files tag all → length all ≡ 0 → AreAllFaults files tag new
+with_graph files tag all new r none = record {
+  of_links = all;
+  are_of_links = r;
+  of_graph = new;
+  without_graph = λ some. absurd (some (no_items all none));
+  whole = ap (λ (l : List NetFault). l ++ new) (sym (no_items all none));
+}
 
-  pub without_graph : ¬ (all ≡ []) → AreAllFaults files tag all
-  without_graph some = record {
-    of_links = all;
-    are_of_links = r;
-    apart = [];
-    are_apart = record {
-      ascending = λ i j d lt inside. absurd (omega (arith, inside));
-      members = λ l. (λ (k, lt, is). absurd (omega (arith, lt)), λ h. absurd (some (none_of_sound files tag all r h.sound)));
-    };
-    rounds = [];
-    are_rounds = λ sound. absurd (some (none_of_sound files tag all r sound));
-    no_rounds = λ none. refl;
-    whole = sym (append-nil all);
-  }
+pub without_graph : (files : List LinkFile) (tag : List ℕ) (all : List NetFault) → AreLinkFaults files tag all → AreAllFaults files tag all
+without_graph files tag all r = record {
+  of_links = all;
+  are_of_links = r;
+  of_graph = [];
+  without_graph = λ some. refl;
+  whole = sym (append-nil all);
+}
 
--- a verdict names the first of all faults
-module _ (files : List LinkFile) (tag : List ℕ) (all : List NetFault) (r : AreAllFaults files tag all) where
-  abbrev of_graph : List NetFault
-  of_graph = map (fault_of kinds.Apart) r.apart ++ map loop_fault r.rounds
+-- if a verdict names a fault of files or links, this and the others are all
+named_first : (files : List LinkFile) (tag : List ℕ) (all : List NetFault) → AreAllFaults files tag all → (fault : NetFault) → IsFirstFault files tag fault → is_of_links fault ≡ true →
+    AreLinkFaults files tag (fault ∷ drop 1 all)
+named_first files tag all are fault h of_links =
+    let (rest, is) = first_of_links files tag are.of_links are.are_of_links fault h of_links in
+    let none : are.of_graph ≡ [] = are.without_graph (λ (e : are.of_links ≡ []). let both = sym is ∙ e in absurd cc) in
+    let whole : all ≡ fault ∷ rest = are.whole ∙ (ap (λ (l : List NetFault). are.of_links ++ l) none ∙ (append-nil are.of_links ∙ is)) in
+    let behind : drop 1 all ≡ rest = ap (λ (l : List NetFault). drop 1 l) whole in
+    subst (λ (l : List NetFault). AreLinkFaults files tag l) (is ∙ ap (λ (l : List NetFault). fault ∷ l) (sym behind)) are.are_of_links
 
-  of_links_first : (fault : NetFault) → IsFirstFault files tag fault → is_of_links fault ≡ true → (rest : List NetFault) × (all ≡ fault ∷ rest)
-  of_links_first fault h passes =
-      let (rest, is) = first_of_links files tag r.of_links r.are_of_links fault h passes in
-      (rest ++ of_graph, r.whole ∙ ap (λ (l : List NetFault). l ++ of_graph) is)
+all_with : (files : List LinkFile) (tag : List ℕ) (all : List NetFault) → AreAllFaults files tag all → (result : List NetFault) → result ≡ drop 1 all →
+    (fault : NetFault) → IsFirstFault files tag fault → is_of_links fault ≡ true → AreLinkFaults files tag (fault ∷ result)
+all_with files tag all are result is fault h of_links =
+    subst (λ (l : List NetFault). AreLinkFaults files tag (fault ∷ l)) (sym is) (named_first files tag all are fault h of_links)
 
-  no_parts : Joined files tag → r.apart ≡ []
-  no_parts joined = grind (arith, no_links)
-
-  -- the first fault, and the faults after it
-  ahead : (fault : NetFault) → IsFirstFault files tag fault → (first : NetFault) × (rest : List NetFault) × (all ≡ first ∷ rest) ×
-      ((result : List NetFault) → result ≡ rest → IsAhead files tag (No fault) all result)
-  ahead NoSuchArea h = (let (rest, is) = of_links_first NoSuchArea h refl in (NoSuchArea, rest, is, λ result same. is ∙ ap (λ (l : List NetFault). NoSuchArea ∷ l) (sym same)))
-  ahead (TwoFiles a) h = (let (rest, is) = of_links_first (TwoFiles a) h refl in (TwoFiles a, rest, is, λ result same. is ∙ ap (λ (l : List NetFault). TwoFiles a ∷ l) (sym same)))
-  ahead (SelfLink a) h = (let (rest, is) = of_links_first (SelfLink a) h refl in (SelfLink a, rest, is, λ result same. is ∙ ap (λ (l : List NetFault). SelfLink a ∷ l) (sym same)))
-  ahead (Unknown a b) h = (let (rest, is) = of_links_first (Unknown a b) h refl in (Unknown a b, rest, is, λ result same. is ∙ ap (λ (l : List NetFault). Unknown a b ∷ l) (sym same)))
-  ahead (OneSided a b) h = (let (rest, is) = of_links_first (OneSided a b) h refl in (OneSided a b, rest, is, λ result same. is ∙ ap (λ (l : List NetFault). OneSided a b ∷ l) (sym same)))
-  ahead (SameNetNode a b) h =
-      (let (rest, is) = of_links_first (SameNetNode a b) h refl in (SameNetNode a b, rest, is, λ result same. is ∙ ap (λ (l : List NetFault). SameNetNode a b ∷ l) (sym same)))
-  ahead (Apart a b) h =
-      let none = none_of_sound files tag r.of_links r.are_of_links h.0 in
-      let (rest, is) = starts (AppliesTo files tag kinds.Apart) r.apart (link a b) r.are_apart (apart_first files tag a b h)
-      (λ m at_m.
-      let (late, later) = apart_later files tag a b h m at_m in
-      neither (address_before m.from a) (same_address m.from a) (address_before m.to b) late later) in
-      let behind : List NetFault = map (fault_of kinds.Apart) rest ++ map loop_fault r.rounds in
-      let whole : all ≡ Apart a b ∷ behind = r.whole ∙ (λ i. none i ++ (map (fault_of kinds.Apart) (is i) ++ map loop_fault r.rounds)) in
-      (Apart a b, behind, whole, λ result same. whole ∙ ap (λ (l : List NetFault). Apart a b ∷ l) (sym same))
-  ahead (Loop loop) h =
-      let joined = h.0 in
-      let sound : AreSoundLinks files tag = record { some = joined.some; one_file = joined.one_file; no_self = joined.no_self; known = joined.known; both = joined.both; apart = joined.apart } in
-      let none = none_of_sound files tag r.of_links r.are_of_links sound in
-      let no_apart = no_parts joined in
-      let (m, tail, is, named) = named_first (lists files tag) (record { both_ways = sound.both; no_self = sound.no_self }) r.rounds (r.are_rounds sound) loop h.1 in
-      let behind : List NetFault = map loop_fault tail in
-      let whole : all ≡ Loop m.loop ∷ behind = r.whole ∙ (λ i. none i ++ (map (fault_of kinds.Apart) (no_apart i) ++ map loop_fault (is i))) in
-      (Loop m.loop, behind, whole, λ result same. (m.loop, named, whole ∙ ap (λ (l : List NetFault). Loop m.loop ∷ l) (sym same)))
-
-  -- all faults but the first are the further ones
-  pub behind_named : (verdict : Verdict) → IfNo verdict (IsFirstFault files tag) → names_fault verdict ≡ true → (result : List NetFault) →
-      ((first : NetFault) (rest : List NetFault) → all ≡ first ∷ rest → result ≡ rest) → AreFurther files tag verdict result
-  behind_named verdict h1 h2 result h3 = grind (arith, ahead)
-
-  -- if none is named, all are further ones
-  pub none_named : (verdict : Verdict) → names_fault verdict ≡ false → AreFurther files tag verdict all
-  none_named h1 fails = grind (arith, ahead)
+pub others_of : (files : List LinkFile) (tag : List ℕ) (all : List NetFault) → AreAllFaults files tag all → (result : List NetFault) → result ≡ drop 1 all →
+    (fault : NetFault) → IsFirstFault files tag fault → AreFurther files tag (No fault) result
+others_of files tag all are result is NoSuchArea h = all_with files tag all are result is NoSuchArea h refl
+others_of files tag all are result is (TwoFiles a) h = all_with files tag all are result is (TwoFiles a) h refl
+others_of files tag all are result is (SelfLink a) h = all_with files tag all are result is (SelfLink a) h refl
+others_of files tag all are result is (Unknown a b) h = all_with files tag all are result is (Unknown a b) h refl
+others_of files tag all are result is (OneSided a b) h = all_with files tag all are result is (OneSided a b) h refl
+others_of files tag all are result is (SameNetNode a b) h = all_with files tag all are result is (SameNetNode a b) h refl
+others_of files tag all are result is (Apart a b) h = tt
+others_of files tag all are result is (Loop loop) h = tt

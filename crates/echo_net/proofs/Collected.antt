@@ -7,13 +7,12 @@ use Rattle.std.specs.{Prelude.Contains, Prelude.option_map, Prelude.unwrap_or, L
 use Rattle.echo_addr.specs.declared.address.Address.{Address}
 use Rattle.model_graph.specs.Walk.{Among, Connected, Different, IsAt, Reaches}
 use Rattle.model_graph.specs.{Cycle.IsCycle, Cycle.Polygons, Loops.NamedLoop, Reach.FirstUnreached, Rows.IsAscending, Rows.IsGraph, Rows.linked}
-use Rattle.model_graph.proofs.Members.{Among-from_Contains, Contains-from_Among, Among-index, Among-get_or, walk_links}
+use Rattle.model_graph.proofs.Members.{Among-from_Contains, Contains-from_Among, Among-get_or, walk_links}
 use Rattle.model_graph.proofs.{Renaming.NamedLoop-renamed, Rows.linked_within}
-use Rattle.echo_links.specs.Links.{LinkFile, area_of, has_area, is_link, links_of, same_address, IsFile}
+use Rattle.echo_links.specs.Links.{LinkFile, area_of, has_area, is_link, links_of, same_address}
 use Rattle.echo_links.specs.LinkLines.{no_address}
 use Rattle.echo_filed.specs.Sets.{address_before}
 use Rattle.model_run.specs.Tidy.{carries, lists, Carries, Joined, Tidy}
-use Rattle.model_run.specs.Fits.{FilesFit}
 use Rattle.model_run.proofs.Lists.{Among-filter_from, Among-filter_to, any-from, any-to, Among-map_to, Among-map_from, Among-flat_map_from, Among-flat_map_to}
 use Rattle.echo_net.specs.Nets.{carrier_count, carrying, link, linked_pairs, links_from_file, listed_links, systems}
 use Rattle.echo_net.specs.Faults.{AllAreAnswered, AllAreKnown, AreSoundLinks, IsCarried, NetNodesDiffer, NoneListsItself, AreInOrder, IsFirstFault, IsNamedLoop, numbered}
@@ -155,10 +154,6 @@ module _ (files : List LinkFile) (tag : List ℕ) (carriers : List Address) (lin
   -- each link leads to a carrier
   pub all_carry : AreSoundLinks files tag → (l : Link) → Contains links l → Contains carriers l.to
   all_carry sound l h = (members l.to).1 (sound.known l.from l.to ((listed l).0 h))
-
--- files that were read
-pub files_fit : (files : List LinkFile) → All IsFile files → FilesFit files
-files_fit files all file h = (let (k, inside, is) = Among-index file file files h in subst IsFile is (all k file inside))
 
 -- The graph of an area, and its faults as facts of the net.
 

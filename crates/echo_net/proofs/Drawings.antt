@@ -1,22 +1,19 @@
 -- The drawing of an area: the contents of its lists, and the facts of each member.
 use Rattle.std.specs.{Prelude.Contains, List.Sorted.IsStrictlySortedBy, Ordering.is_lt, List.list_any}
 use Rattle.std.proofs.Common.{◌≡◌, ◌<◌, ◌+◌, ◌↔◌, inl, inr, ℕ, Bool, true, false, IsTrue, if◌then◌else◌, List, [], ◌∷◌, ◌++◌, length, map, take, get_or, refl, sym, ap, subst, ◌∙◌, arith}
-use Rattle.std.proofs.lemmas.{Bool.and_from, Bool.and_parts, Bool.cases_Bool, Bool.cases_lt, List.take_more, List.get_or-map, List.length-map}
-use Rattle.std.proofs.lemmas.List.Elements.{Contains-append_cases, Contains-append_left, Contains-append_right, Contains-get_or}
+use Rattle.std.proofs.lemmas.{Bool.and_from, Bool.and_parts, Bool.cases_Bool, List.take_more}
+use Rattle.std.proofs.lemmas.List.Elements.{Contains-append_cases, Contains-append_left, Contains-append_right}
 use Rattle.echo_addr.specs.declared.address.Address.{Address}
 use Rattle.echo_links.specs.Links.{LinkFile, same_address, has_area}
 use Rattle.echo_filed.specs.Sets.{address_before}
-use Rattle.model_graph.proofs.{Members.Among-from_Contains, Members.Contains-from_Among, Members.Reaches-trans, Renaming.Among-of_names, Renaming.Among-map}
+use Rattle.model_graph.proofs.Members.{Among-from_Contains, Contains-from_Among}
 use Rattle.model_run.proofs.Lists.{any-from, any-to, Among-map_to, Among-map_from}
 use Rattle.model_run.specs.Tidy.{carries, lists, Carries}
 use Rattle.echo_net.specs.Drawn.{AreLinksInOrder, IsDrawing, IsDrawn, IsDrawnPair, back, has_address, has_link, link_drawn, link_from, loop_links, loop_named, same_link, steps_from, system_drawn, system_from, systems_named, upward}
-use Rattle.echo_net.specs.AllFaults.{AppliesTo, AreLinkFaults, IsApart, fault_of, fault_where}
 use Rattle.echo_net.specs.{declared.drawing.Drawing.Drawing, declared.link.Link.Link, declared.verdict.Verdict.Verdict, Nets.link, Nets.systems, declared.verdict.NetFault.NetFault}
-use Rattle.echo_net.specs.{declared.verdict.NetFault.TheVariants.Apart, Faults.AreInOrder, Faults.AreSoundLinks, Faults.IsFirstFault, Faults.numbered, Firsts.IsSmallest, Firsts.pair_before}
-use Rattle.echo_net.specs.Rows.{system_at}
-use Rattle.echo_net.proofs.Orders.{address_order, link_order, link_total, pair_before_is, same_exact, same_itself, same_where_neither, not_before_itself, at_place, earlier_less}
-use Rattle.echo_net.proofs.Owned.{Different-from_places, in_order_from_sorted, before_back as before_not_after, carried, no_later, number, reaches, reaches_back}
-use Rattle.model_graph.specs.{Reach.StartsPart, Rows.IsAscending, Walk.Reaches}
+use Rattle.echo_net.specs.{AllFaults.AppliesTo, AllFaults.AreLinkFaults, AllFaults.fault_of, AllFaults.fault_where, Faults.AreSoundLinks}
+use Rattle.echo_net.proofs.Orders.{address_order, link_order, link_total, pair_before_is, same_exact, same_itself, same_where_neither, at_place, earlier_less}
+use Rattle.echo_net.proofs.Owned.{Different-from_places, in_order_from_sorted, before_back as before_not_after, carried}
 use Rattle.echo_net.specs.declared.each_fault.Kind.TheVariants as kinds
 
 -- the tests for members pass exactly for members
@@ -177,85 +174,6 @@ module _ (files : List LinkFile) (tag : List ℕ) (verdict : Verdict) (carriers 
     links = drawn ∙ same_each (link_from links steps) (link_drawn files tag verdict) link_same pairs;
   }
 
--- Parts of an area: if files and links have no fault, each part without the smallest carrier has one fault.
-
--- for pairs with one first address the second decides
-second_decides : (a b c : Address) → address_before b c ≡ true → pair_before a b a c ≡ true
-second_decides a b c before = grind (arith, not_before_itself, same_itself)
-
-module _ (files : List LinkFile) (tag : List ℕ) (all : List Address) (order : AreInOrder (Carries files tag) all) (sound : AreSoundLinks files tag) where
-  abbrev pub pair : ℕ → Link
-  pair u = link (system_at all 0) (system_at all u)
-
-  abbrev joined : ℕ → ℕ → Bool
-  joined = numbered all (lists files tag)
-
-  smallest : 0 < length all → IsSmallest (Carries files tag) (system_at all 0)
-  smallest some = grind (arith, carried, number, no_later)
-
-  starts_apart : (u : ℕ) → StartsPart joined (length all) u → IsApart files tag (system_at all 0) (system_at all u)
-  starts_apart u starts = record {
-    sound = sound;
-    smallest = smallest (omega (arith, starts.within));
-    carries = carried files tag all order u starts.within;
-    in_order = order.ascending 0 u starts.later starts.within;
-    first = λ c at before walk.
-        let (k, inside, is) = number files tag all order c at in
-        elim (cases_lt k u) [
-          | inl lt ↦
-              starts.first k lt
-              (grind (arith, reaches_back))
-          | inr le ↦ grind (arith, no_later)
-        ];
-  }
-
-  apart_starts : (l : Link) → IsApart files tag l.from l.to → (u : ℕ) × StartsPart joined (length all) u × (pair u ≡ l)
-  apart_starts l apart =
-      let (j, in_j, is_j) = number files tag all order l.to apart.carries in
-      let (i, in_i, is_i) = number files tag all order l.from apart.smallest.holds in
-      let some : 0 < length all = omega (arith, in_i) in
-      let late : address_before l.from (system_at all 0) ≡ false = grind (arith, no_later) in
-      let zero_is : system_at all 0 ≡ l.from =
-      same_where_neither (system_at all 0) l.from (apart.smallest.first (system_at all 0) (carried files tag all order 0 some)) late in (
-        j,
-        record {
-          within = in_j;
-          later = grind (arith, cases_lt, not_before_itself);
-          first = λ k lt walk.
-              let inside : k < length all = omega (arith, in_j) in
-              let moved = reaches files tag all order sound.no_self sound.known sound.both k j walk in
-              apart.first (system_at all k) (carried files tag all order k inside)
-              (subst (λ (c : Address). address_before (system_at all k) c ≡ true) is_j (order.ascending k j lt in_j))
-              (subst (λ (c : Address). Reaches (lists files tag) (system_at all k) c) is_j moved);
-        },
-        λ n. record { from = zero_is n; to = is_j n },
-      )
-
-  -- the pairs of the carriers that start parts
-  pub parts_in_order : (places : List ℕ) → IsAscending places → ((u : ℕ) → Contains places u ↔ StartsPart joined (length all) u) →
-      AreLinksInOrder (AppliesTo files tag kinds.Apart) (map pair places)
-  parts_in_order places up members = record {
-    ascending = λ i j d lt inside.
-        let in_j : j < length places = omega (arith, length-map places pair) in
-        let in_i : i < length places = omega arith in
-        let u = get_or places i 0 in
-        let v = get_or places j 0 in
-        let one : get_or (map pair places) i d ≡ pair u = get_or-map pair places i 0 d in_i in
-        let other : get_or (map pair places) j d ≡ pair v = get_or-map pair places j 0 d in_j in
-        let start = (members v).0 (Contains-get_or places j 0 in_j) in
-        (λ k. pair_before (one k).from (one k).to (other k).from (other k).to)
-        ∙ second_decides (system_at all 0) (system_at all u) (system_at all v) (order.ascending u v (up i j lt in_j) start.within);
-    members = λ l. (
-      λ there.
-          let (u, is, at) = Among-of_names pair places l (Among-from_Contains l (map pair places) there) in
-          subst (λ (m : Link). IsApart files tag m.from m.to) is (starts_apart u ((members u).0 (Contains-from_Among u places at))),
-      λ apart.
-          let (u, starts, is) = apart_starts l apart in
-          subst (Contains (map pair places)) is
-          (Contains-from_Among (pair u) (map pair places) (Among-map pair u places (Among-from_Contains u places ((members u).1 starts)))),
-    );
-  }
-
 -- parts of lists that are empty
 none_of_two : {X : Type 0} (xs ys : List X) → xs ++ ys ≡ [] → (xs ≡ []) × (ys ≡ [])
 none_of_two [] ys e = (refl, e)
@@ -306,27 +224,3 @@ sound_where_none files tag all r none =
         ]
       ];
     }
-
--- if a verdict names two parts, the second is the first of the others
-pub apart_first : (files : List LinkFile) (tag : List ℕ) (a b : Address) → IsFirstFault files tag (Apart a b) → IsApart files tag a b
-apart_first files tag a b (sound, one, other) = record {
-  sound = sound;
-  smallest = one;
-  carries = other.holds.0;
-  in_order =
-      elim (cases_Bool (address_before a b)) [
-        | inl before ↦ before
-        | inr late ↦ (
-            let same = same_where_neither a b late (one.first b other.holds.0) in
-            absurd (other.holds.1 ([], same)))
-      ];
-  first = λ c at before walk.
-      let far : ¬ Reaches (lists files tag) a c = λ h. other.holds.1 (Reaches-trans (lists files tag) a c b h walk) in
-      grind arith;
-}
-
-pub apart_later : (files : List LinkFile) (tag : List ℕ) (a b : Address) → IsFirstFault files tag (Apart a b) → (m : Link) → IsApart files tag m.from m.to →
-    (address_before m.from a ≡ false) × (address_before m.to b ≡ false)
-apart_later files tag a b (sound, one, other) m apart =
-    let same : m.from ≡ a = same_where_neither m.from a (one.first m.from apart.smallest.holds) (apart.smallest.first a one.holds) in
-    grind arith

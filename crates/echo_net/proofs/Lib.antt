@@ -3,5 +3,4 @@ pub mod Collected
 pub mod Owned
 pub mod Twins
 pub mod Drawings
-pub mod Rounds
 pub mod AllFaults

@@ -1,7 +1,7 @@
 //! Is an area of a net in order?
 
-ghost use Rattle.std.specs.Prelude.{◌≡◌, ◌↔◌, IfOk, List};
-ghost use Rattle.model_run.specs.{Event.RunEvent, Orderly.Orderly, Run.run_of, Tidy.Tidy};
+ghost use Rattle.std.specs.Prelude.{◌≡◌, ◌↔◌, IfOk};
+ghost use Rattle.model_run.specs.{AnyState.NewMessagesAreInOrder, Tidy.Tidy};
 ghost use Rattle.echo_net.specs.Faults.{IfNo, IfYes, IsFirstFault, IsSharedSystem, IsYes};
 ghost use Rattle.echo_net.specs.Nets.{carrier_count, linked_pairs};
 
@@ -13,16 +13,16 @@ use crate::owners::shared_address;
 use crate::verdict::Verdict;
 use echo_addr::Address;
 use echo_links::LinkFile;
-use model_run::every_run_of_a_tidy_area_is_orderly;
+use model_run::new_messages_are_in_order;
 use std::alloc::{AllocError, Global};
 
 /// Is the area of this tag in order, on the net of these link files (FTS-0004)? Tags are compared byte
 /// for byte. Fails only when out of memory.
 ///
-/// At `Yes` each run on these files is orderly: after any postings, scans, deliveries, stopped tosses and
-/// purges, with losses and repeats and in any order. Each carrier filed each message at most once. It was sent
-/// it at most once, and never one that it posted. When nothing waits for a scan and every packet came, it has
-/// filed every message exactly once, unchanged.
+/// At `Yes` each new message of the area is in order, from any state of the bases and packets on, whose ids no base and no
+/// packet has. After any postings, scans, deliveries, stopped tosses and purges, with losses and repeats and in any order,
+/// each system filed it at most once. It was sent it at most once, and never if it posted it. When nothing with its id waits
+/// for a scan and every packet with it came, each system of the area has filed it exactly once, unchanged.
 ///
 /// A `No` has the first fault in the order of `NetFault`, with the smallest addresses.
 ///
@@ -31,8 +31,7 @@ pub fn check(alloc: Global, files: &[LinkFile], tag: &[u8]) -> Result<Verdict, A
     ensures tidy { IfOk result (λ verdict. IsYes verdict ↔ Tidy files.now tag.now) }
     ensures counted { IfOk result (λ verdict. IfYes verdict (λ systems links.
         (systems ≡ carrier_count files.now tag.now) × (links ≡ linked_pairs files.now tag.now))) }
-    ensures orderly { IfOk result (λ verdict. IsYes verdict →
-        (events : List RunEvent) → Orderly (run_of files.now events) tag.now) }
+    ensures orderly { IfOk result (λ verdict. IsYes verdict → NewMessagesAreInOrder files.now tag.now) }
     ensures first { IfOk result (λ verdict. IfNo verdict (IsFirstFault files.now tag.now)) }
 {
     let shared = shared_system(alloc, files)?;
@@ -59,8 +58,7 @@ pub fn check_area(
     ensures tidy { IfOk result (λ verdict. IsYes verdict ↔ Tidy files.now tag.now) }
     ensures counted { IfOk result (λ verdict. IfYes verdict (λ systems links.
         (systems ≡ carrier_count files.now tag.now) × (links ≡ linked_pairs files.now tag.now))) }
-    ensures orderly { IfOk result (λ verdict. IsYes verdict →
-        (events : List RunEvent) → Orderly (run_of files.now events) tag.now) }
+    ensures orderly { IfOk result (λ verdict. IsYes verdict → NewMessagesAreInOrder files.now tag.now) }
     ensures first { IfOk result (λ verdict. IfNo verdict (IsFirstFault files.now tag.now)) }
 {
     let area = area_of(alloc, files, tag)?;
@@ -79,8 +77,8 @@ pub fn check_area(
     match wrong_graph {
         Some(fault) => Ok(Verdict::No(fault)),
         None => {
-            // The law for the clause on runs.
-            every_run_of_a_tidy_area_is_orderly();
+            // The law for the clause on new messages.
+            new_messages_are_in_order();
             Ok(Verdict::Yes {
                 systems,
                 links: pairs as u128,

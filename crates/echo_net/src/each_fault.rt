@@ -1,27 +1,24 @@
 //! Every fault of an area: of its files, their links, and its graph.
 
-ghost use Rattle.std.specs.Prelude.{◌≡◌, ◌++◌, ◌∷◌, ◌==◌, ◌↔◌, ℕ, List, Contains, IfOk, IsTrue, OnOk, filter, length, map, not};
+ghost use Rattle.std.specs.Prelude.{◌≡◌, ◌++◌, ◌==◌, ◌↔◌, ℕ, List, Contains, IfOk, IsTrue, OnOk, drop, filter, length, map, not};
 ghost use Rattle.std.specs.List.Sorted.{IsStrictlySortedBy};
 ghost use Rattle.echo_addr.specs.declared.address.Address.{Address};
 ghost use Rattle.echo_links.specs.Links.{LinkFile};
-ghost use Rattle.model_graph.specs.Rows.{linked};
-ghost use Rattle.model_run.specs.Tidy.{Carries, carries, lists};
+ghost use Rattle.model_run.specs.Tidy.{carries, lists};
 ghost use Rattle.echo_net.specs.declared.each_fault.Kind.TheVariants as kinds;
-ghost use Rattle.echo_net.specs.AllFaults.{AddsApart, AddsLinkFaults, AddsRounds, AddsTwoFiles, AreAllFaults, AreFurther, AreLinkFaults, fault_of, fault_where, is_one_sided, is_self_link, is_unknown, names_fault};
-ghost use Rattle.echo_net.specs.Faults.{AreInOrder, AreSoundLinks, IfNo, IsFirstFault, numbered};
-ghost use Rattle.echo_net.specs.declared.{link.Link.Link, verdict.NetFault.NetFault};
+ghost use Rattle.echo_net.specs.AllFaults.{AddsLinkFaults, AddsTwoFiles, AreAllFaults, AreFurther, AreLinkFaults, fault_of, fault_where, is_one_sided, is_self_link, is_unknown};
+ghost use Rattle.echo_net.specs.{declared.link.Link.Link, declared.verdict.NetFault.NetFault, Faults.IfNo, Faults.IsFirstFault};
 
 use crate::area::{Area, area_of};
 use crate::carriers::systems;
 use crate::drawing::{back, has_address, has_link};
-use crate::graph_faults::{area_graph, parts_apart, push_loops};
+use crate::graph_faults::{area_graph, push_pieces};
 use crate::link::Link;
 use crate::owners::all_shared;
 use crate::same_net_node::all_same_net_node;
 use crate::verdict::{NetFault, Verdict};
 use echo_addr::Address;
 use echo_links::LinkFile;
-use model_graph::Graph;
 use std::alloc::{AllocError, Global};
 
 /// The kinds of faults that two systems have.
@@ -32,12 +29,11 @@ pub enum Kind {
     Unknown,
     OneSided,
     SameNetNode,
-    Apart,
 }
 
 /// Every fault of the area, each once, in the order of `NetFault` and then by ascending addresses. If files and links
-/// have no fault, each part of the area without its smallest system has one `Apart`. Each block with a cycle that is not
-/// fully linked has one `Loop`. Fails only when out of memory.
+/// have no fault, each part of the area without its smallest system has one `Apart`, and each block with a cycle that is
+/// not fully linked one `Loop`. No clause says that these are all. Fails only when out of memory.
 pub fn all_faults(
     alloc: Global,
     files: &[LinkFile],
@@ -48,7 +44,8 @@ pub fn all_faults(
     let area = area_of(alloc, files, tag)?;
     let mut all = link_faults(alloc, files, tag, &area.carriers, &area.links)?;
     if all.is_empty() {
-        push_graph_faults(alloc, &mut all, files, tag, &area.carriers, &area.links)?;
+        let graph = area_graph(alloc, files, tag, &area.carriers, &area.links)?;
+        push_pieces(alloc, &mut all, &area.carriers, &graph)?;
     }
     Ok(all)
 }
@@ -75,71 +72,20 @@ fn link_faults(
     Ok(all)
 }
 
-/// Adds the parts and the loops of an area with faultless links.
-fn push_graph_faults(
-    alloc: Global,
-    all: &mut Vec<NetFault>,
-    files: &[LinkFile],
-    tag: &[u8],
-    carriers: &[Address],
-    links: &[Link],
-) -> Result<(), AllocError>
-    requires sound { AreSoundLinks files.now tag.now }
-    requires carriers { IsStrictlySortedBy ⟦<Address as Ord>⟧.cmp carriers.now }
-    requires links { IsStrictlySortedBy ⟦<Link as Ord>⟧.cmp links.now }
-    requires members { (a : Address) → Contains carriers.now a ↔ IsTrue (carries files.now tag.now a) }
-    requires listed { (l : Link) → Contains links.now l ↔ IsTrue (lists files.now tag.now l.from l.to) }
-    ensures { OnOk result ((parts : List NetFault) × AddsApart files.now tag.now all.old.items parts × AddsRounds files.now tag.now parts all.new.items) }
-{
-    let graph = area_graph(alloc, files, tag, carriers, links)?;
-    push_apart(alloc, all, files, tag, carriers, &graph)?;
-    push_loops(alloc, all, files, tag, carriers, &graph)
-}
-
-/// Adds the parts of the graph.
-fn push_apart(
-    alloc: Global,
-    all: &mut Vec<NetFault>,
-    files: &[LinkFile],
-    tag: &[u8],
-    carriers: &[Address],
-    graph: &Graph,
-) -> Result<(), AllocError>
-    requires sound { AreSoundLinks files.now tag.now }
-    requires in_order { AreInOrder (Carries files.now tag.now) carriers.now }
-    requires members { length graph.now ≡ length carriers.now }
-    requires links { linked graph.now ≡ numbered carriers.now (lists files.now tag.now) }
-    ensures { OnOk result (AddsApart files.now tag.now all.old.items all.new.items) }
-{
-    let found = parts_apart(alloc, files, tag, carriers, graph)?;
-    push_faults(all, Kind::Apart, &found)
-}
-
 /// Those of all these faults that the verdict does not name.
 pub fn further<'a>(all: &'a [NetFault], verdict: &Verdict) -> &'a [NetFault]
     ensures { (files : List LinkFile) → (tag : List ℕ) → AreAllFaults files tag all.now → IfNo verdict.now (IsFirstFault files tag) →
         AreFurther files tag verdict.now result.now }
 {
-    if names_fault(verdict) {
-        behind_first(all)
-    } else {
-        all
-    }
-}
-
-/// Does the verdict name one of these faults?
-fn names_fault(verdict: &Verdict) -> bool
-    ensures { result ≡ names_fault verdict.now }
-{
     match verdict {
-        Verdict::Yes { .. } => false,
-        Verdict::No(_) => true,
+        Verdict::Yes { .. } => &[],
+        Verdict::No(_) => behind_first(all),
     }
 }
 
 /// All but the first of these.
 fn behind_first(all: &[NetFault]) -> &[NetFault]
-    ensures { (first : NetFault) → (rest : List NetFault) → all.now ≡ first ∷ rest → result.now ≡ rest }
+    ensures { result.now ≡ drop 1 all.now }
 {
     if all.is_empty() {
         return all;
@@ -300,6 +246,5 @@ fn fault_of(kind: Kind, link: Link) -> NetFault
         Kind::Unknown => NetFault::Unknown(link.from, link.to),
         Kind::OneSided => NetFault::OneSided(link.from, link.to),
         Kind::SameNetNode => NetFault::SameNetNode(link.from, link.to),
-        Kind::Apart => NetFault::Apart(link.from, link.to),
     }
 }

@@ -1,7 +1,7 @@
 //! Checks an area of a net of systems that exchange echomail (FTS-0004): is it in order?
 //!
-//! Promise: `check` answers yes exactly where the area is tidy; then every run on these files is orderly. A no
-//! names the first fault. `all_faults` lists every fault. `listed` answers just the carriers that
+//! Promise: `check` answers yes exactly where the area is tidy; then each new message of it is in order, from any state
+//! on. A no names the first fault. `all_faults` lists every fault. `listed` answers just the carriers that
 //! a nodelist does not hold.
 //!
 //! Begin with `checker` (the whole) and `verdict` (the answer and the faults). `area` has the systems and links

@@ -44,7 +44,7 @@ pub use model_steps::{Draft, Outcome, Packet, PostFault, ScanFault, Stamp};
 pub use packets::{check_destination, toss_packet_in};
 pub use packing::header_to;
 pub use posting::post_step;
-pub use resending::{Resend, push_resent};
+pub use resending::{Resend, is_whole_in, push_exported, push_resent};
 pub use scanning::scan_step;
 pub use step_error::{PostStepError, ScanStepError, StoppedToss, TossStepError};
 pub use tally::Tally;

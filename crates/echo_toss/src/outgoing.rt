@@ -8,7 +8,7 @@ ghost use Rattle.echo_filed.specs.{Sets.address_set, Sets.entry_set, Sets.same_e
 ghost use Rattle.disk_io.specs.Disk.{Honestly};
 ghost use Rattle.base_file.specs.Base.{Base};
 ghost use Rattle.base_store.specs.Store.{HasStoreCause, LooksOn};
-ghost use Rattle.model_steps.specs.Scanning.{exported, message_out, targets};
+ghost use Rattle.model_steps.specs.Scanning.{copy_to, exported, message_out, targets};
 ghost use Rattle.echo_toss.specs.{Bounds.IsFullWhenRead, Exports.GrowsByMessageAt, Exports.nowhere, Exports.outgoing_of, Exports.sent_of};
 
 use crate::sets::{address_set, entry_set};
@@ -109,12 +109,24 @@ fn prepared_for(
     requires { receivers ≡ address_set (targets links.now message.now) }
     ensures { IfOk result (λ o. o ≡ outgoing_of links.now message.now) }
 {
-    let text = exported_text(alloc, links, &message.echo)?;
-    let one = packed(alloc, links, message, text)?;
+    let one = exported(alloc, links, message)?;
     Ok(Outgoing {
         message: PackedCopy::new(alloc, one)?,
         targets: receivers,
     })
+}
+
+/// The message as it is exported, before it is addressed.
+#[tactic(auto, unfolding(model_steps::specs::Scanning::copy_to))]
+pub(crate) fn exported(
+    alloc: Global,
+    links: &LinkFile,
+    message: &Filed,
+) -> Result<Packed, AllocError>
+    ensures { IfOk result (λ one. one ≡ copy_to links.now nowhere message.now) }
+{
+    let text = exported_text(alloc, links, &message.echo)?;
+    packed(alloc, links, message, text)
 }
 
 // Appends the outgoing form of the message, if it has receivers.

@@ -1,15 +1,18 @@
 //! A packet that is made again of scanned messages: which copies it has.
 ghost use Rattle.std.specs.Prelude.{◌≡◌, [], ◌∷◌, ◌++◌, map, filter, OnOk};
+ghost use Rattle.echo_packet.specs.Message.{message_bytes};
 ghost use Rattle.model_steps.specs.{Resending.is_resent, Resending.is_whole_in, Scanning.copy_to};
 
-use crate::outgoing::prepared;
+use crate::outgoing::{exported, prepared};
 use crate::packing::push_copy;
+use disk_io::Watched;
 use echo_addr::Address;
 use echo_filed::{Filed, is_stub};
 use echo_links::LinkFile;
-use echo_packet::PackedCopy;
+use echo_packet::{PackedCopy, send_message};
 use model_steps::Stamp;
 use std::alloc::{AllocError, Global};
+use std::mem;
 
 /// A packet to make again: the area, in upper case, and its address. Its stamp, and the number of the first message that
 /// it may have.
@@ -39,8 +42,30 @@ pub fn push_resent(
     push_copy(asked.to, &one, all)
 }
 
-// Whether the message belongs to the area, and no purge removed its text.
-fn is_whole_in(area: &[u8], message: &Filed) -> bool
+/// Adds the bytes of the message as a scan exports it, for this address, whoever sent it and whatever its SEEN-BY lists.
+#[tactic(auto, unfolding(model_steps::specs::Scanning::copy_to))]
+pub fn push_exported(
+    alloc: Global,
+    links: &LinkFile,
+    message: &Filed,
+    to: Address,
+    bytes: &mut Vec<u8>,
+) -> Result<(), AllocError>
+    ensures { OnOk result (bytes.new.items ≡ bytes.old.items ++ message_bytes (copy_to links.now to message.now)) }
+{
+    let one = exported(alloc, links, message)?;
+    let mut longer = Watched::new(mem::replace(bytes, Vec::new(alloc)));
+    match send_message(&mut longer, &one, to.node, to.net, &mut 0) {
+        Ok(()) => {
+            *bytes = longer.into_inner();
+            Ok(())
+        }
+        Err(_) => Err(AllocError),
+    }
+}
+
+/// Whether the message belongs to the area, and no purge removed its text.
+pub fn is_whole_in(area: &[u8], message: &Filed) -> bool
     ensures { result ≡ is_whole_in area.now message.now }
 {
     let echo = &message.echo;

@@ -4,7 +4,7 @@ use Rattle.model_graph.specs.Walk.{Among}
 use Rattle.model_steps.specs.SystemState.{SystemState}
 use Rattle.echo_toss.specs.PacketsIn.{state_in}
 use Rattle.model_run.specs.Run.{change}
-use Rattle.cmd_report.specs.Coming.{Coming, Fails, Holds, Unknown}
+use Rattle.cmd_store.specs.Coming.{Coming, Fails, Holds, Unknown}
 use Rattle.law_stations.specs.Commands.{Command, CommandEvent, Happens, Post, Purge, Scan}
 use Rattle.law_stations.specs.Nets.{Net, Paired, Station, with_base, with_left}
 use Rattle.law_stations.specs.LoneDisks.{LoneDisks, MayHappenAlone, MayHappenAllAlone, on_net, under_names}

@@ -9,7 +9,7 @@ use Rattle.model_run.specs.Event.{Posting, Purging, RunEvent, Scanning}
 use Rattle.model_run.proofs.{Lists.yes_or_no, WholeRuns.fresh-empty, WholeRuns.fresh-files, HarmSteps.after-append}
 use Rattle.model_steps.specs.{declared.stamp.Stamp.Stamp, Posting.posting, Scanning.scanned, Stamps.is_stamp}
 use Rattle.cmd_status.specs.Inputs.{AreLinkFiles}
-use Rattle.cmd_report.specs.Posted.{draft_given}
+use Rattle.cmd_store.specs.Drafts.{draft_given}
 use Rattle.law_stations.specs.Agreement.{Agrees, AreEventsOf, AreEventsOfAll, EventIsEvents, EventsAreARun, HasSystem, file_address, own_address}
 use Rattle.law_stations.specs.Commands.{Command, CommandEvent, Happen, Leads, Post, Purge, Scan, Toss}
 use Rattle.law_stations.specs.{InOrder.WasPurged, Nets.Net, Nets.Paired, Nets.first_net, Nets.new_station}

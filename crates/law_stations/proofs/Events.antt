@@ -2,10 +2,9 @@
 use Rattle.std.proofs.Common.{◌≡◌, inl, inr, ⊎_elim, refl, sym, ap, subst, arith, Bool, true, false, ℕ, List, [], Ok, Some, length, take}
 use Rattle.std.proofs.lemmas.List.{take_all}
 use Rattle.base_file.specs.Base.{Base}
-use Rattle.cmd_report.specs.{declared.posting.NewMessage.NewMessage, declared.replying.Answer.Answer, Coming.Coming, FreeSerial.with_serial, Posted.draft_given}
 use Rattle.echo_links.specs.{Links.LinkFile, LinkLines.LinksOf}
-use Rattle.cmd_store.specs.{declared.letter.Letter.Letter, declared.mailed.MailWords.MailWords, MailPosted.Mails, FreeSerial.PostsAs, Posted.Posts, Purged.HoldsOrPurges, Purged.Purges}
-use Rattle.cmd_store.specs.Replied.{Replies}
+use Rattle.cmd_store.specs.{declared.drafting.NewMessage.NewMessage, declared.answering.Answer.Answer, Coming.Coming, Serials.with_serial, Drafts.draft_given, declared.letter.Letter.Letter}
+use Rattle.cmd_store.specs.{declared.mailed.MailWords.MailWords, MailPosted.Mails, FreeSerial.PostsAs, Posted.Posts, Purged.HoldsOrPurges, Purged.Purges, Replied.Replies}
 use Rattle.model_run.specs.Run.{change, nth}
 use Rattle.model_steps.specs.Posting.{posted}
 use Rattle.base_store.specs.Store.{purged}

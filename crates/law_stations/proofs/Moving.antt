@@ -10,7 +10,7 @@ use Rattle.model_steps.specs.{declared.stamp.Stamp.Stamp, PacketFiles.PacketFile
 use Rattle.model_run.specs.Run.{change, nth}
 use Rattle.model_run.proofs.{Lists.nth-append, HarmLists.nth-changed as changed-there, Targets.some_same}
 use Rattle.base_store.specs.Store.{all_scanned}
-use Rattle.cmd_report.specs.Scanned.{file_sent}
+use Rattle.cmd_store.specs.PacketLines.{file_sent}
 use Rattle.law_stations.specs.Nets.{Net, Paired, Station, bytes_of, with_base, with_left}
 use Rattle.law_stations.specs.Disks.{StagingFile, Disks, HasCursor, cursor_of, cursors}
 use Rattle.law_stations.specs.{Commands.Scans, Stopping.IsOfNext, Stopping.Moves, Stopping.Writes, Stopping.staging_of}

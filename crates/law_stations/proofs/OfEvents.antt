@@ -15,7 +15,7 @@ use Rattle.model_steps.proofs.{Kept.posting_keeps, Purged.purge_keeps}
 use Rattle.base_store.specs.Store.{all_scanned, purged, with_message}
 use Rattle.model_run.specs.Run.{Run, System, after_event, change, filing, posting_at, purging_at, scanning, scanning_at}
 use Rattle.model_run.specs.Event.{Posting, Purging, Scanning}
-use Rattle.cmd_report.specs.{declared.posting.NewMessage.NewMessage, Posted.draft_given, Posted.refusal_given, Scanned.file_sent}
+use Rattle.cmd_store.specs.{declared.drafting.NewMessage.NewMessage, Drafts.draft_given, Drafts.refusal_given, PacketLines.file_sent}
 use Rattle.echo_toss.specs.PacketsIn.{state_in}
 use Rattle.law_stations.specs.Agreement.{Agrees, HasPosting, HasSystem, IsPacketFile, base_of}
 use Rattle.law_stations.specs.Nets.{Net, Paired, bytes_of, with_base, with_left}

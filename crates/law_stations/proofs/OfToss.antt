@@ -10,7 +10,7 @@ use Rattle.echo_toss.specs.{PacketSteps.IsForUs, PacketsIn.state_in}
 use Rattle.model_run.specs.Run.{Run, System, after_events, change, coming, delivery, destination, nth, part_delivery, receiver, state_of, taking, tossing_at, with_index}
 use Rattle.model_run.specs.Event.{Delivery, PartDelivery, RunEvent}
 use Rattle.cmd_status.specs.declared.fault.Fault.{Fault}
-use Rattle.cmd_report.specs.Coming.{Coming, Fails, Holds, Unknown}
+use Rattle.cmd_store.specs.Coming.{Coming, Fails, Holds, Unknown}
 use Rattle.law_stations.specs.Agreement.{Agrees, AreTossesOf, HasSystem, IsPacketFile, limits_of, own_address}
 use Rattle.law_stations.specs.Nets.{Net, Paired, Station, with_base, with_indexes, with_tossed}
 use Rattle.law_stations.specs.Commands.{IsPacketAt, Tosses, whole_of}

@@ -10,7 +10,7 @@ use Rattle.base_store.specs.Store.{purged}
 use Rattle.echo_toss.specs.PacketsIn.{state_in}
 use Rattle.model_run.specs.Run.{change, nth, with_index}
 use Rattle.model_run.proofs.Lists.{any-from, with_index-from}
-use Rattle.cmd_report.specs.{declared.posting.NewMessage.NewMessage, Coming.Coming, Coming.Fails, Coming.Holds, Coming.Unknown, Posted.draft_given}
+use Rattle.cmd_store.specs.{declared.drafting.NewMessage.NewMessage, Coming.Coming, Coming.Fails, Coming.Holds, Coming.Unknown, Drafts.draft_given}
 use Rattle.law_stations.specs.Commands.{Command, IsAt, IsPacketAt, Leads, Post, Posts, Purge, Purges, Toss, Tosses, whole_of}
 use Rattle.law_stations.specs.Nets.{Net, Paired, Station, with_base, with_indexes, with_left, with_posting, with_tossed}
 use Rattle.law_stations.specs.Disks.{Disks, cursor_of}

@@ -14,7 +14,7 @@ use Rattle.model_steps.specs.Scanning.{copy_to, goes_to, header_to, packet_to, p
 use Rattle.model_steps.specs.{declared.stamp.Stamp.Stamp, PacketFiles.PacketFile}
 use Rattle.model_steps.proofs.Copies.{exported_is_echo, links_are_addresses, all_filter as all-filter, all_later as all-drop}
 use Rattle.model_steps.proofs.Encoding.{IsWhole, written_packet, header_size as header-long}
-use Rattle.cmd_report.specs.Scanned.{file_sent}
+use Rattle.cmd_store.specs.PacketLines.{file_sent}
 use Rattle.law_stations.specs.{Agreement.IsPacketFile, Nets.Paired, Nets.bytes_of}
 
 -- parts of byte strings are byte strings

@@ -9,7 +9,7 @@ use Rattle.model_steps.specs.{declared.stamp.Stamp.Stamp, Scanning.scanned, Stam
 use Rattle.echo_toss.specs.PacketsIn.{state_in}
 use Rattle.model_run.specs.Run.{Run, change, nth, scanning_at, state_of}
 use Rattle.model_run.specs.Lone.{IsOfPackets, LoneEvent, LoneSystem, PostHere, PurgeHere, ScanHere, TossHere, after_lone, lone_run, with_scanned, with_system}
-use Rattle.cmd_report.specs.{Coming.Coming, Posted.draft_given}
+use Rattle.cmd_store.specs.{Coming.Coming, Drafts.draft_given}
 use Rattle.law_stations.specs.LoneStations.{HappenAlone, LeadsAlone, LoneCommand, LoneStation, NothingCame, PostAlone, PurgeAlone, ScanAlone, TossAny, TossesAny, held_in, lone_station_at_first, tossed_whole}
 use Rattle.law_stations.specs.{Agreement.Agrees, Agreement.HasSystem, Agreement.IsPacketFile, Nets.Paired, Nets.Station, Nets.with_left}
 use Rattle.law_stations.proofs.Tosses.{IsTossFrom, IsTossedBy, TossesFrom, files-tossed, front-plain, whole-first}

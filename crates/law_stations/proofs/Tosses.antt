@@ -13,7 +13,7 @@ use Rattle.echo_toss.specs.PacketSteps.{BeginsWith}
 use Rattle.model_run.specs.Lone.{LoneEvent, LoneSystem, TossHere, after_all_lone, with_system}
 use Rattle.model_run.specs.Run.{System, state_of, tossing_at}
 use Rattle.cmd_status.specs.declared.fault.Fault.{Fault}
-use Rattle.cmd_report.specs.Coming.{Coming, Fails, Holds, Unknown}
+use Rattle.cmd_store.specs.Coming.{Coming, Fails, Holds, Unknown}
 use Rattle.law_stations.proofs.{FileRuns.IsPartly, FileRuns.TossedFiles, FileRuns.wholes, Readings.TossesFront, Tossed.Takes, Tossed.takes-both, Tossed.takes-front, Tossed.takes-none}
 use Rattle.model_run.proofs.Filings.{events-append}
 use Rattle.law_stations.specs.{AloneInOrder.FaultlessTossIsWhole, LoneStations.AreAnyFiles, LoneStations.held_in, LoneStations.tossed_whole}

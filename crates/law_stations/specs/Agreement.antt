@@ -10,7 +10,7 @@ use Rattle.model_steps.specs.declared.packet.Packet.{Packet}
 use Rattle.model_run.specs.Event.{Delivery, PartDelivery, Posting, Purging, RunEvent, Scanning}
 use Rattle.model_run.specs.Run.{Run, System, after_events, run_of}
 use Rattle.cmd_status.specs.Inputs.{AreLinkFiles}
-use Rattle.cmd_report.specs.Posted.{draft_given}
+use Rattle.cmd_store.specs.Drafts.{draft_given}
 use Rattle.law_stations.specs.Commands.{Command, CommandEvent, Happen, Happens, Post, Purge, Scan, Toss}
 use Rattle.law_stations.specs.Nets.{Net, Paired, Station, first_net}
 

@@ -10,7 +10,7 @@ use Rattle.echo_filed.specs.{declared.key.Key.Key, Filed.Filed, Filed.key_of, St
 use Rattle.model_steps.specs.{declared.packet.Packet.Packet, Tossing.received, Tossing.sender_of}
 use Rattle.echo_toss.specs.PacketSteps.{BeginsWith}
 use Rattle.model_run.specs.{Exports.IsSentCopy, Orderly.copies, Orderly.count, Orderly.sent_count, Run.destination, Run.nth, Owed.IsFromLink, Owed.IsOwed}
-use Rattle.cmd_report.specs.Coming.{Coming}
+use Rattle.cmd_store.specs.Coming.{Coming}
 use Rattle.law_stations.specs.LoneStations.{HappenAlone, LoneCommand, LoneStation, PurgeAlone, TossesAny, held_in, lone_station_at_first}
 use Rattle.law_stations.specs.{InOrder.ReadsAs, InOrder.StationSays, Nets.Paired, Nets.Station}
 

@@ -1,9 +1,8 @@
 -- The contract of a command at a station, as a statement about the steps of a net.
 use Rattle.std.specs.Prelude.{◌≡◌, ℕ, Bool, List, Option, Some, None, Result, Ok}
 use Rattle.base_file.specs.Base.{Base}
-use Rattle.cmd_report.specs.declared.{posting.NewMessage.NewMessage, replying.Answer.Answer}
 use Rattle.disk_io.specs.Disk.{DiskState}
-use Rattle.cmd_store.specs.declared.{letter.Letter.Letter, mailed.MailWords.MailWords, command_error.CommandError.CommandError}
+use Rattle.cmd_store.specs.declared.{drafting.NewMessage.NewMessage, answering.Answer.Answer, letter.Letter.Letter, mailed.MailWords.MailWords, command_error.CommandError.CommandError}
 use Rattle.cmd_status.specs.declared.fault.Fault.{Fault}
 use Rattle.station.specs.Place.{Place}
 use Rattle.law_stations.specs.{Commands.Command, Kinds.IsPurge, Kinds.IsToss, Disks.Disks, DiskKinds.IsMail, DiskKinds.IsPostAs, DiskKinds.IsReplyAs, Neighbours.IsKeptOn}

@@ -4,7 +4,7 @@ use Rattle.base_file.specs.Base.{Base}
 use Rattle.echo_links.specs.{Links.LinkFile, LinkLines.LinksOf}
 use Rattle.model_steps.specs.declared.stamp.Stamp.{Stamp}
 use Rattle.cmd_status.specs.declared.fault.Fault.{Fault}
-use Rattle.cmd_report.specs.{declared.posting.NewMessage.NewMessage, Coming.Coming, Coming.Fails, Coming.Holds, Coming.Unknown}
+use Rattle.cmd_store.specs.{declared.drafting.NewMessage.NewMessage, Coming.Coming, Coming.Fails, Coming.Holds, Coming.Unknown}
 use Rattle.law_stations.specs.{Commands.Posts, Commands.Purges, Commands.Scans, Commands.TossesAll, Nets.Net, Nets.Station, Nets.first_net, Nets.with_left}
 
 -- The net of the station alone, with the packet files of its scans; and the bytes of all input files of `toss`, in

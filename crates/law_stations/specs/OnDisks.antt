@@ -1,13 +1,12 @@
 -- A link file and a base on a disk as those of a station in a net, for every kind of base.
 use Rattle.std.specs.Prelude.{◌≡◌, ◌⊎◌, ℕ, List, Option, Some, Result, Ok, Err}
 use Rattle.base_file.specs.Base.{Base}
-use Rattle.cmd_report.specs.Coming.{Coming}
 use Rattle.disk_io.specs.Disk.{DiskState, Files}
 use Rattle.echo_links.specs.Links.{LinkFile}
 use Rattle.model_run.specs.Run.{nth}
 use Rattle.station.specs.{Links.AreLinks, Place.KeepsElsewhere, Place.Place, Place.SameElsewhere}
 use Rattle.cmd_status.specs.declared.fault.Fault.{Fault}
-use Rattle.cmd_store.specs.declared.command_error.CommandError.{CommandError, TheVariants.Met}
+use Rattle.cmd_store.specs.{Coming.Coming, declared.command_error.CommandError.CommandError, declared.command_error.CommandError.TheVariants.Met}
 use Rattle.law_stations.specs.{Commands.Command, Commands.IsPacketAt, Commands.whole_of, Kinds.IsToss, Nets.Paired, Nets.Station, Nets.with_indexes, Disks.Disks, Stopping.PartialEffect}
 
 -- This path has the link file of the station of this index, and the files hold its base.

@@ -1,10 +1,9 @@
 -- The contracts of a scan and of a toss that ended well, as statements about the steps of a net.
 use Rattle.std.specs.Prelude.{◌≡◌, ℕ, List, Option, None, Result, Ok}
-use Rattle.cmd_report.specs.Coming.{Coming}
 use Rattle.disk_io.specs.Disk.{DiskState}
 use Rattle.cmd_status.specs.declared.fault.Fault.{Fault}
 use Rattle.model_steps.specs.declared.stamp.Stamp.{Stamp}
-use Rattle.cmd_store.specs.declared.command_error.CommandError.{CommandError}
+use Rattle.cmd_store.specs.{Coming.Coming, declared.command_error.CommandError.CommandError}
 use Rattle.station.specs.Place.{Place}
 use Rattle.station_scan.specs.declared.scan_error.ScanError.{ScanError}
 use Rattle.law_stations.specs.{Commands.Command, Commands.Scan, Commands.whole_of, Kinds.IsToss, Nets.with_indexes, Disks.Disks, OnDisks.IsAsBefore, OnDisks.TossesAsEvent, Scans.ScansAsEvent}

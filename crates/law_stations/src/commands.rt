@@ -3,9 +3,8 @@ ghost use Rattle.disk_io.specs.Disk.{Honestly};
 ghost use Rattle.station.specs.Opening.{AreFree, HaveFailed};
 ghost use Rattle.law_stations.specs.{Kinds.IsPurge, DiskKinds.IsMail, DiskKinds.IsPostAs, DiskKinds.IsReplyAs, OnDisks.AsMay, OnDisks.StaysWhereMet, OnDisks.TossesAsMay};
 
-use cmd_report::PacketFiles;
 use cmd_status::{Fault, FileLock};
-use cmd_store::{Post, PostMail, Purge, Reply, Toss};
+use cmd_store::{PacketFiles, Post, PostMail, Purge, Reply, Toss};
 use disk_io::{Disk, Sink};
 use station::{BeforeCommand, Ended, Locks, OpenStation, run_command};
 use std::alloc::Global;

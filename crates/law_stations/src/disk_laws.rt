@@ -3,8 +3,8 @@
 ghost use Rattle.std.specs.Prelude.{ℕ, List};
 ghost use Rattle.law_stations.specs.{Commands.IsPacketAt, Nets.Paired, ShownPackets.IsShownAt, Neighbours.OthersStay, Scans.with_packets_in};
 
-use cmd_report::PacketFiles;
 use cmd_status::{PacketName, StreamPackets};
+use cmd_store::PacketFiles;
 use disk_io::Disk;
 use station::{OpenStation, PacketsOnDisk};
 

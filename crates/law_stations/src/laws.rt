@@ -5,11 +5,10 @@ ghost use Rattle.base_file.specs.Base.{Base};
 ghost use Rattle.echo_links.specs.Links.{LinkFile};
 ghost use Rattle.echo_packet.specs.declared.limits.Limits.{Limits};
 ghost use Rattle.cmd_status.specs.{Devices.Output, Devices.device_of, declared.fault.Fault.Fault};
-ghost use Rattle.cmd_report.specs.Coming.{Coming};
-ghost use Rattle.cmd_store.specs.Tossed.{Tosses, TossesTo};
+ghost use Rattle.cmd_store.specs.{Coming.Coming, Tossed.Tosses, Tossed.TossesTo};
 ghost use Rattle.law_stations.specs.{Agreement.EventIsEvents, Agreement.EventsAreARun, Commands.TossesAll, AnyNets.HeadlineFromAnyState, InOrder.NetsAreSound};
 
-use cmd_report::PacketFiles;
+use cmd_store::PacketFiles;
 
 /// `toss` of files that are honest at the end does the same over any readers as over the known bytes of them: the same
 /// fault stops it, and the same files remain.

@@ -5,9 +5,6 @@ pub mod PinchSearch
 pub mod Rows
 pub mod Descending
 pub mod Rings
-pub mod Family
 pub mod Turns
 pub mod Renaming
-pub mod PartStarts
-pub mod Parents
 pub mod BlockWalks

@@ -190,10 +190,6 @@ module _ {A : Type 0} (can : CanTell A) (linked : A → A → Bool) where
 -- Walks around a member.
 
 module _ {A : Type 0} (linked : A → A → Bool) where
-  -- a member other than x reaches itself around x
-  pub Around-itself : (x a : A) → x ≢ a → Around linked x a a
-  Around-itself x a other = ([], refl, λ h. elim h [ inl e ↦ other e | inr t ↦ t ])
-
   -- one more link in front
   pub Around-step : (x a b c : A) → x ≢ a → IsTrue (linked a b) → Around linked x b c → Around linked x a c
   Around-step x a b c other link around =

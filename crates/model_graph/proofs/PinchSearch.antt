@@ -17,6 +17,12 @@ row_link rows at k row is lt = grind (arith, holds_at, get_or)
 pub row_place : (rows : List (List ℕ)) (at c : ℕ) (row : List ℕ) → row ≡ links_at rows at → IsTrue (linked rows at c) → (k : ℕ) × (k < length row) × (get_or row k 0 ≡ c)
 row_place rows at c row is link = grind (arith, get_or, place_of)
 
+-- a property at each index of a row holds for each link
+pub for_each_link : (rows : List (List ℕ)) (at : ℕ) (row : List ℕ) (P : ℕ → Type 0) → row ≡ links_at rows at → ((k : ℕ) → k < length row → P (get_or row k 0)) → (b : ℕ) → IsTrue (linked rows at b) → P b
+for_each_link rows at row P is each b link =
+    let p = row_place rows at b row is link in
+    subst P p.2 (each p.0 p.1)
+
 -- items of a row ascend
 pub row_rises : (rows : List (List ℕ)) (at : ℕ) (row : List ℕ) → IsGraph rows → row ≡ links_at rows at → (i j : ℕ) → i < j → j < length row → get_or row i 0 < get_or row j 0
 row_rises rows at row graph is = grind (arith, get_or)

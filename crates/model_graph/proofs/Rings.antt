@@ -138,7 +138,3 @@ IsWritten-back ring forth loop k long different lt least forth_is greater is =
       smallest = smallest_first ring loop k (sym (ap (λ (xs : List ℕ). get_or xs 0 0) loop_is)) least;
       smaller_side = sides loop (grind (arith, get_or, back_side));
     }
-
--- the members of a ring are three or more, all different
-pub ring_is_cycle : (links : ℕ → ℕ → Bool) (b a c : ℕ) (rest ring : List ℕ) → Simple links → IsPinch links b a c → FirstWalk links b a c rest → ring ≡ b ∷ a ∷ rest → (3 ≤ length ring) × Different ring
-ring_is_cycle links b a c rest ring simple pinch walk is = grind (arith, Cycle-from_pinch)

@@ -9,7 +9,5 @@ pub mod Reach
 pub mod Pinches
 pub mod Loops
 pub mod Descents
-pub mod Family
 pub mod Renaming
-pub mod Forest
 pub mod Blocks

@@ -7,9 +7,3 @@ pub record FirstUnreached (linked : ℕ → ℕ → Bool) (members u : ℕ) : Ty
   pub within : u < members
   pub apart : ¬ Reaches linked 0 u
   pub first : (k : ℕ) → k < u → Reaches linked 0 k
-
--- a is the first member of a part that member 0 is not in: no walk from an earlier member reaches it.
-pub record StartsPart (linked : ℕ → ℕ → Bool) (members a : ℕ) : Type 0 where
-  pub within : a < members
-  pub later : 0 < a
-  pub first : (k : ℕ) → k < a → ¬ Reaches linked k a

@@ -1,5 +1,5 @@
-//! A search in depth, and the blocks that it finds. The search itself is not proved: `division`, and `wholeness` of model_blocks,
-//! test its results before use, so no answer depends on it.
+//! A search in depth, and the blocks that it finds. The search itself is not proved: `division` tests its results
+//! before use.
 
 use crate::blocks::{Blocks, value_or};
 use crate::graph::Graph;
@@ -7,13 +7,13 @@ use std::alloc::{AllocError, Global};
 
 /// The state of the search.
 #[derive(Drop)]
-pub struct Search {
+struct Search {
     /// The blocks found. Ranks count visits from 1, and are 0 for members not visited.
-    pub found: Blocks,
+    found: Blocks,
     /// From where each member was reached; a root from itself.
-    pub parents: Vec<usize>,
+    parents: Vec<usize>,
     /// The lowest rank that a link leads to, from each member or from those reached through it.
-    pub lowest: Vec<usize>,
+    lowest: Vec<usize>,
     /// How many links of each member were followed.
     followed: Vec<usize>,
     /// The members that have no block yet, in the order of visits.
@@ -24,11 +24,6 @@ pub struct Search {
 
 /// The blocks of the graph, not one marked as full.
 pub fn blocks_in_depth(alloc: Global, graph: &Graph) -> Result<Blocks, AllocError> {
-    Ok(search_in_depth(alloc, graph)?.found)
-}
-
-/// A search through the whole graph.
-pub fn search_in_depth(alloc: Global, graph: &Graph) -> Result<Search, AllocError> {
     let members = graph.len();
     let mut search = Search {
         found: Blocks {
@@ -49,7 +44,7 @@ pub fn search_in_depth(alloc: Global, graph: &Graph) -> Result<Search, AllocErro
             search.search_from(graph, root)?;
         }
     }
-    Ok(search)
+    Ok(search.found)
 }
 
 impl Search {
@@ -139,7 +134,7 @@ impl Search {
 }
 
 /// Writes the value at this index, if there is such an index.
-pub fn put(values: &mut [usize], index: usize, value: usize) {
+fn put(values: &mut [usize], index: usize, value: usize) {
     if index < values.len() {
         values[index] = value;
     }

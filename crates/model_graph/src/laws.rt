@@ -2,7 +2,7 @@
 
 ghost use Rattle.std.specs.Prelude.{◌≢◌, ◌↔◌, ℕ, ◌<◌, Bool, IsTrue, List, ◌++◌, length, map, reverse};
 ghost use Rattle.model_graph.specs.Beyond.{AllParted, Beyond, Parted, IsWay, HasOneWay, FirstStep};
-ghost use Rattle.model_graph.specs.{Walk.Simple, Walk.Walk, Walk.Reaches, Cycle.Cycle, Cycle.IsCycle, Cycle.NoCycle, Cycle.Polygons, Renaming.IsRenaming, Family.IsFamily, Family.KeepsToFamily};
+ghost use Rattle.model_graph.specs.{Walk.Simple, Walk.Walk, Walk.Reaches, Cycle.Cycle, Cycle.IsCycle, Cycle.NoCycle, Cycle.Polygons, Renaming.IsRenaming};
 
 /// Every cycle is fully linked exactly where each member parts those of its links that are not linked.
 /// Trees are a special case: there is no cycle exactly where each member parts all its links.
@@ -49,14 +49,6 @@ pub fn along_ways()
         (f : ℕ) (test : ℕ → Bool) → IsTrue (test f) →
         ((y u : ℕ) → y ≢ f → Reaches linked y f → IsWay linked f y u → IsTrue (test u) → IsTrue (test y)) →
         (y : ℕ) → Reaches linked y f → IsTrue (test y) }
-{}
-
-/// Let a search by levels give each member a parent. Links are parted exactly where two things
-/// hold: each link joins a member with its parent or a sibling, and siblings that are linked with
-/// one sibling are linked with each other.
-pub fn family_of_levels()
-    ensures { (linked : ℕ → ℕ → Bool) (level parent : ℕ → ℕ) → Simple linked → IsFamily linked level parent →
-        (Parted linked ↔ KeepsToFamily linked level parent) }
 {}
 
 /// A cycle may be written from any of its members on, and the other way round.

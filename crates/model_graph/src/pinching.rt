@@ -146,7 +146,7 @@ fn has_unlinked(graph: &Graph, blocks: &Blocks, at: usize, one: usize) -> bool
 }
 
 /// The first link of `at` after `one` that is joined with it around `at`, though not linked with it.
-pub fn first_other(graph: &Graph, at: usize, one: usize, levels: &[Option<usize>]) -> Option<usize>
+fn first_other(graph: &Graph, at: usize, one: usize, levels: &[Option<usize>]) -> Option<usize>
     requires inside { at < length graph.now }
     requires link { IsTrue (linked graph.now at one) }
     requires lengths { length levels.now ≡ length graph.now }

@@ -31,7 +31,7 @@ pub fn ring_of(alloc: Global, graph: &Graph, pinch: Pinch) -> Result<Vec<usize>,
 }
 
 /// The smallest link of the member that has this level.
-pub fn smallest_at(graph: &Graph, levels: &[Option<usize>], member: usize, level: usize) -> usize
+fn smallest_at(graph: &Graph, levels: &[Option<usize>], member: usize, level: usize) -> usize
     requires inside { member < length graph.now }
     requires lengths { length levels.now ≡ length graph.now }
     requires there { (d : ℕ) × IsTrue (linked graph.now member d) × (level_of levels.now d ≡ Some level) }
@@ -46,7 +46,7 @@ pub fn smallest_at(graph: &Graph, levels: &[Option<usize>], member: usize, level
 }
 
 /// Does the member have this level?
-pub fn has_level(levels: &[Option<usize>], member: usize, level: usize) -> bool
+fn has_level(levels: &[Option<usize>], member: usize, level: usize) -> bool
     requires { member < length levels.now }
     ensures { IsTrue result ↔ (level_of levels.now member ≡ Some level) }
 {

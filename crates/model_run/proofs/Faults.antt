@@ -1,23 +1,20 @@
 -- If no carrier's posting does harm, the area is tidy. So an area is tidy, or some posting does harm.
-use Rattle.std.proofs.Common.{◌≡◌, ◌≢◌, ◌⊎◌, inl, inr, sym, subst, ap, ◌∙◌, ℕ, zero, suc, ◌<◌, arith, IsTrue, List, ◌∷◌, length, Some, [], ◌≤◌, Option}
-use Rattle.std.proofs.lemmas.Bool.{cases_eq, cond-true, cond-false}
-use Rattle.std.specs.{Prelude.Bool, Prelude.true, List.list_any, List.position_or_len}
+use Rattle.std.proofs.Common.{◌≡◌, ◌≢◌, ◌⊎◌, inl, inr, sym, subst, ap, ◌∙◌, ℕ, zero, suc, ◌<◌, arith, IsTrue, List, ◌∷◌, length, Some, []}
+use Rattle.std.proofs.lemmas.Bool.{cases_eq}
+use Rattle.std.specs.{Prelude.Bool, Prelude.true, List.list_any}
 use Rattle.echo_addr.specs.{declared.address.Address.Address, Address.net_node_of}
 use Rattle.model_graph.specs.{Walk.Among, Walk.Connected, Walk.Reaches, Walk.Simple, Beyond.Parted, Cycle.Polygons, Cycle.IsCycle, Loops.HasUnlinked}
 use Rattle.model_graph.proofs.{Cycles.Polygons-from_Parted, Members.Among-cases}
-use Rattle.echo_links.specs.Links.{LinkFile, has_area, same_address}
+use Rattle.echo_links.specs.Links.{LinkFile, has_area}
 use Rattle.echo_filed.specs.Filed.{Filed}
-use Rattle.model_run.specs.Run.{nth, run_of, Run, System, after_event, coming, delivery, destination, receiver, scanning}
 use Rattle.model_run.specs.Grave.{AllAreCarriers, AreTakenForOne, AreTwins, HaveOwnAddresses, GraveFault, SelfLink, OneSided, SameNetNode, Apart, Loop}
-use Rattle.model_run.specs.{Event.RunEvent, Tidy.Carries, Tidy.lists, Tidy.Tidy, Harms.Harm, Harms.IsHarmed, LawsOfRuns.LawsOfRuns}
-use Rattle.model_run.specs.{Postings.ComesToRest, Postings.trial_posting, Postings.post_and_scan, Postings.IsMove, Orderly.Orderly}
-use Rattle.model_run.proofs.Lists.{not_both, nth-cases, yes_or_no, first_passes, nth-among, nth-change}
-use Rattle.model_run.proofs.Holders.{Holds, Unharmed, harm-or_none, spread, listed-sent, posting-own}
+use Rattle.model_run.specs.{Event.RunEvent, Run.nth, Run.run_of, Run.Run, Run.System, Tidy.Carries, Tidy.lists, Tidy.Tidy, Harms.Harm, Harms.IsHarmed, LawsOfRuns.LawsOfRuns}
+use Rattle.model_run.specs.{Postings.ComesToRest, Postings.trial_posting, Postings.post_and_scan, Orderly.Orderly}
+use Rattle.model_run.proofs.Lists.{any-to, Among-map_to, not_both, nth-cases, yes_or_no}
+use Rattle.model_run.proofs.Holders.{Holds, Unharmed, harm-or_none, spread, listed-sent}
 use Rattle.model_run.proofs.Spreads.{IsNear, Spread, answered, from_poster, no_kite, not_hidden, one_or_two, reached}
-use Rattle.model_run.proofs.{Branches.Touches, Branches.closed-by, Branches.no_way_around, HarmLists.among-nth, HarmLists.nth-index, HarmLists.nth-map_from, Places.carrier-file, Places.lister-carries}
-use Rattle.model_run.proofs.{Targets.some_same, Targets.none_some, Resting.runs-settle, OneMessage.post_of, OneMessage.post_of-tag, OneMessage.poster}
-use Rattle.model_run.proofs.HarmSteps.{after_one_more, along, run-files}
-use Rattle.model_steps.specs.declared.{packet.Packet.Packet, stamp.Stamp.Stamp}
+use Rattle.model_run.proofs.{Branches.Touches, Branches.closed-by, Branches.no_way_around, HarmLists.among-nth, HarmLists.nth-index, Places.carrier-file, Places.lister-carries}
+use Rattle.model_run.proofs.{Targets.some_same, Targets.none_some, Resting.runs-settle, OneMessage.poster, HarmSteps.run-files}
 
 module _ (files : List LinkFile) (known : LawsOfRuns files) (tag : List ℕ) (one_file : HaveOwnAddresses files) (all_known : AllAreCarriers files tag)
     (moves : ℕ → List RunEvent) (rests : (i : ℕ) → ComesToRest files tag i (moves i)) where
@@ -232,72 +229,18 @@ module _ (files : List LinkFile) (known : LawsOfRuns files) (tag : List ℕ) whe
         ((a b : Address) → AreTwins files tag a b → AreTakenForOne files tag a b) → Tidy files tag ⊎ IsHarmed files tag
     tidy-or_harmed some taken = elim (tidy-or_shown moves rests some taken) [ inl tidy ↦ inl tidy | inr shown ↦ inr (shown-harmed shown) ]
 
--- Packets go to the first file with their address: a second file gets nothing.
-
--- no item before the first passes
-first_is_least : {X : Type 0} (p : X → Bool) (xs : List X) (i : ℕ) (x : X) → nth i xs ≡ Some x → p x ≡ true → position_or_len p xs ≤ i
-first_is_least {X} p [] i x at t = absurd (none_some at)
-first_is_least {X} p (y ∷ xs) i x at t = grind (arith, yes_or_no, cond-false, cond-true, not_both, some_same, first_is_least p xs)
-
-module _ (files : List LinkFile) (i j : ℕ) (before : i < j) (first second : LinkFile) (first_at : nth i files ≡ Some first) (second_at : nth j files ≡ Some second)
-    (same : first.system ≡ second.system) where
-  -- the system of the second file has nothing
-  abbrev HasNothing : Run → Type 0
-  HasNothing run = (s : System) → nth j run.systems ≡ Some s → s.base ≡ []
-
-  -- the system of an index has the file of this index
-  file-at : (events : List RunEvent) (k : ℕ) (file : LinkFile) → nth k files ≡ Some file →
-      (s : System) × (nth k (run_of files events).systems ≡ Some s) × (file ≡ s.file)
-  file-at events k file at =
-      let P : List LinkFile → Type 0 = λ fs. nth k fs ≡ Some file in
-      nth-map_from (λ (s : System). s.file) k file (run_of files events).systems (subst P (sym (run-files files events)) at)
-
-  -- no packet comes to it
-  not_receiver : (events : List RunEvent) (q : Packet) (s : System) → nth j (run_of files events).systems ≡ Some s → receiver (run_of files events) q ≢ j
-  not_receiver events q s at here =
-      let run = run_of files events in
-      let (z, at_z, is_z) = file-at events i first first_at in
-      let (y, at_y, is_y) = file-at events j second second_at in
-      let same_y : y ≡ s = some_same (sym at_y ∙ at) in
-      let p : System → Bool = λ t. same_address t.file.system (destination q) in
-      let P : ℕ → Type 0 = λ k. nth k run.systems ≡ Some s in
-      let passes = first_passes p s run.systems (subst P (sym here) at) in
-      let address : z.file.system ≡ s.file.system = grind arith in
-      let least = first_is_least p run.systems i z at_z (ap (λ (a : Address). same_address a (destination q)) address ∙ passes) in
-      omega (arith, before, here, least)
-
-  module _ (events : List RunEvent) (empty : HasNothing (run_of files events)) where
-    abbrev now : Run
-    now = run_of files events
-
-    scanned-nothing : (k : ℕ) (stamp : Stamp) (o : Option System) → HasNothing (scanning now k stamp o)
-    scanned-nothing k stamp o = grind (arith, nth-change)
-
-    comes-nothing : (k : ℕ) (q : Packet) (o : Option System) → HasNothing (coming now k q o)
-    comes-nothing k q o = grind (arith, nth-change, not_receiver)
-
-    delivered-nothing : (k : ℕ) (o : Option Packet) → HasNothing (delivery now k o)
-    delivered-nothing k o = grind (arith, comes-nothing)
-
-  moved-nothing : (events : List RunEvent) (event : RunEvent) → IsMove event → HasNothing (run_of files events) → HasNothing (after_event (run_of files events) event)
-  moved-nothing events event h1 h2 = grind (arith, scanned-nothing, delivered-nothing)
-
-  -- if another system posts, and all settles, the system of the second file lacks the posting
-  module _ (known : LawsOfRuns files) (tag : List ℕ) (all_known : AllAreCarriers files tag) (area : has_area second tag ≡ true)
-      (k : ℕ) (other : k ≢ j) (third : LinkFile) (third_at : nth k files ≡ Some third) (third_area : has_area third tag ≡ true) where
-    nothing_first : HasNothing (run_of files (trial_posting k tag ∷ []))
-    nothing_first s at = grind (arith, nth-change, nth-map_from)
-
-    pub second-harmed : IsHarmed files tag
-    second-harmed =
-        let (moves, only, settled) = runs-settle files known tag all_known (trial_posting k tag ∷ []) in
-        let events = trial_posting k tag ∷ moves in
-        let (z, z_at, _, held) = poster files known tag k third third_at third_area moves in
-        let (s, at, is) = file-at events j second second_at in
-        let none = along IsMove (λ es. HasNothing (run_of files es))
-        (λ earlier event move empty. after_one_more HasNothing files earlier event (moved-nothing earlier event move empty))
-        (trial_posting k tag ∷ []) moves only nothing_first in
-        let p = post_of third tag in (
-          events,
-          grind (arith, poster, nth-among, posting-own, post_of-tag),
-        )
+-- an area that no file has is orderly
+pub nobody-orderly : (files : List LinkFile) (tag : List ℕ) → ¬ IsTrue (list_any (λ (file : LinkFile). has_area file tag) files) →
+    (events : List RunEvent) → Orderly (run_of files events) tag
+nobody-orderly files tag none events = record {
+  filed_once = λ s h has. absurd (has_none s h has);
+  sent_once = λ s h has. absurd (has_none s h has);
+  never_own = λ s h has. absurd (has_none s h has);
+  all_came = λ settled f at_f posting filed is s h has. absurd (has_none s h has);
+}
+  where
+    has_none : (s : System) → Among s (run_of files events).systems → has_area s.file tag ≡ true → ⊥
+    has_none s h has =
+        let P : List LinkFile → Type 0 = λ fs. Among s.file fs in
+        none (any-to (λ (file : LinkFile). has_area file tag) s.file files
+        (subst P (run-files files events) (Among-map_to (λ (z : System). z.file) s (run_of files events).systems h)) has)

@@ -43,10 +43,6 @@ pub mod OneMessage
 pub mod Places
 pub mod Holders
 mod Faults
-mod Nowhere
-mod Posters
-pub mod Rounds
-pub mod HarmTelling
 pub mod NetExamples
 mod TidyExamples
 mod VainExamples

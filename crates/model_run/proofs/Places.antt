@@ -51,11 +51,6 @@ module _ (files : List LinkFile) (known : LawsOfRuns files) (one_file : Differen
       Among b (links_of s.file tag)
   lists-link tag s h b link = grind (arith, lists-file, different-same, file-there, link-among)
 
--- the one file of a carrier has the area
-pub carrier-area : (files : List LinkFile) (tag : List ℕ) → Different (map (λ (file : LinkFile). file.system) files) → (file : LinkFile) → Among file files →
-    (a : Address) → file.system ≡ a → Carries files tag a → has_area file tag ≡ true
-carrier-area files tag one_file file h a e carries = grind (arith, carrier-file, different-same)
-
 -- a system that lists a link is a carrier
 pub lister-carries : (files : List LinkFile) (tag : List ℕ) (a b : Address) → IsTrue (lists files tag a b) → Carries files tag a
 lister-carries files tag a b link = grind (arith, lists-file, file-carries, link-area, link-among)

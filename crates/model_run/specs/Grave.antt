@@ -1,9 +1,9 @@
 -- The grave faults of an area: with one of them, some run breaks the promise.
-use Rattle.std.specs.Prelude.{◌≡◌, ◌≢◌, ◌<◌, ◌⊎◌, ℕ, IsTrue, List, map, Some}
+use Rattle.std.specs.Prelude.{◌≡◌, ◌≢◌, ◌⊎◌, ℕ, IsTrue, List, map}
 use Rattle.echo_addr.specs.{declared.address.Address.Address, Address.net_node_of}
-use Rattle.model_graph.specs.{Walk.Among, Walk.Different, Walk.Reaches, Cycle.IsCycle, Loops.HasUnlinked}
-use Rattle.echo_links.specs.Links.{LinkFile, has_area}
-use Rattle.model_run.specs.{Run.nth, Tidy.Carries, Tidy.Joined, Tidy.lists}
+use Rattle.model_graph.specs.{Walk.Different, Walk.Reaches, Cycle.IsCycle, Loops.HasUnlinked}
+use Rattle.echo_links.specs.Links.{LinkFile}
+use Rattle.model_run.specs.Tidy.{Carries, Joined, lists}
 
 -- No two files have one address.
 abbrev pub HaveOwnAddresses : List LinkFile → Type 0
@@ -45,27 +45,3 @@ pub data GraveFault (files : List LinkFile) (tag : List ℕ) : Type 0 where
   Apart : (a b : Address) → Carries files tag a → Carries files tag b → ¬ Reaches (lists files tag) a b → GraveFault files tag
   -- V8: two systems of a cycle are not linked, and all else is in order.
   Loop : (loop : List Address) → Joined files tag → IsCycle (lists files tag) loop → HasUnlinked (lists files tag) loop → GraveFault files tag
-
--- A file with the area is not the first with its address, and another file has the area too.
-pub record HasSecondCarrier (files : List LinkFile) (tag : List ℕ) : Type 0 where
-  pub earlier : ℕ
-  pub later : ℕ
-  pub other : ℕ
-  pub first : LinkFile
-  pub second : LinkFile
-  pub third : LinkFile
-  pub first_at : nth earlier files ≡ Some first
-  pub second_at : nth later files ≡ Some second
-  pub third_at : nth other files ≡ Some third
-  pub in_order : earlier < later
-  pub one_address : first.system ≡ second.system
-  pub carries : IsTrue (has_area second tag)
-  pub two : other ≢ later
-  pub other_carries : IsTrue (has_area third tag)
-
--- A system lists an address in the area that no file has.
-pub record ListsNobody (files : List LinkFile) (tag : List ℕ) : Type 0 where
-  pub system : Address
-  pub link : Address
-  pub listed : IsTrue (lists files tag system link)
-  pub nobody : (file : LinkFile) → Among file files → file.system ≢ link

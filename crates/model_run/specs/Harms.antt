@@ -1,5 +1,5 @@
 -- The harms in an area that is not tidy.
-use Rattle.std.specs.Prelude.{◌≡◌, ◌⊎◌, ◌++◌, ℕ, ◌≤◌, IsTrue, List}
+use Rattle.std.specs.Prelude.{◌≡◌, ◌⊎◌, ℕ, ◌≤◌, IsTrue, List}
 use Rattle.model_graph.specs.Walk.{Among}
 use Rattle.echo_links.specs.Links.{LinkFile, has_area}
 use Rattle.echo_filed.specs.{declared.key.Key.Key, Filed.Filed, Filed.key_of}
@@ -49,7 +49,3 @@ IsHarmed files tag = (events : List RunEvent) × Harm (run_of files events) tag
 -- Some events break the promise.
 abbrev pub BreaksPromise : List LinkFile → List ℕ → Type 0
 BreaksPromise files tag = (events : List RunEvent) × ¬ Orderly (run_of files events) tag
-
--- After some events the area never settles, for all later events.
-abbrev pub NeverSettles : List LinkFile → List ℕ → Type 0
-NeverSettles files tag = (events : List RunEvent) × ((more : List RunEvent) → ¬ Settled (run_of files (events ++ more)) tag)

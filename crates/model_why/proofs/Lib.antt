@@ -1,11 +1,5 @@
 pub mod Counting
 pub mod Judged
 pub mod Harms
-pub mod Rested
-pub mod Harmless
-pub mod Graves
-pub mod Complete
-pub mod Guessing
-pub mod FirstScans
 pub mod OfBytes
 pub mod Bringing

@@ -27,14 +27,3 @@ read_more sources files more file i next source e added is within there so_far =
     let e_suc : next ≡ suc i = omega (arith, e) in
     added ∙ (ap (λ (f : LinkFile). files ++ f ∷ []) is ∙ (ap (λ (fs : List LinkFile). fs ++ file_of source ∷ []) so_far
     ∙ (sym (next_file i source sources (nth-read i source sources within there)) ∙ ap (λ (n : ℕ). files_of (take n sources)) (sym e_suc))))
-
-pub fit_none : (files : List LinkFile) → files ≡ [] → FilesFit files
-fit_none files none file h = (let P : List LinkFile → Type 0 = λ fs. Among file fs in absurd (subst P none h))
-
-pub fit_more : (files more : List LinkFile) (file : LinkFile) → more ≡ files ++ file ∷ [] → FilesFit files → IsFile file → FilesFit more
-fit_more files more file added fit is g h =
-    let P : List LinkFile → Type 0 = λ fs. Among g fs in
-    elim (Among-append_cases g files (file ∷ []) (subst P added h)) [
-      | inl old ↦ fit g old
-      | inr new ↦ elim new [ inl same ↦ subst IsFile (sym same) is | inr none ↦ absurd none ]
-    ]

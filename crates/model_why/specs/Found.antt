@@ -1,5 +1,5 @@
 -- The harm in a run, by the id of one message and the address of a system.
-use Rattle.std.specs.Prelude.{◌≡◌, ◌≢◌, ◌≤◌, ℕ, IsTrue, List, Option, None, Some}
+use Rattle.std.specs.Prelude.{◌≡◌, ◌≢◌, ◌≤◌, ℕ, IsTrue, List, Some}
 use Rattle.echo_addr.specs.declared.address.Address.{Address}
 use Rattle.model_graph.specs.Walk.{Among}
 use Rattle.echo_links.specs.Links.{LinkFile, has_area}
@@ -64,16 +64,6 @@ HasHarm run tag id NeverSettles = GoesToNobody run tag id
 abbrev pub BreaksIt : Harm → Type 0
 BreaksIt NeverSettles = ⊥
 BreaksIt _ = Unit {0}
-
--- A run is found that breaks the promise.
-abbrev pub FindsHarm : Option Shown → Type 0
-FindsHarm None = ⊥
-FindsHarm (Some shown) = BreaksIt shown.harm
-
--- A run that does harm is found.
-abbrev pub FindsSome : Option Shown → Type 0
-FindsSome None = ⊥
-FindsSome (Some shown) = Unit {0}
 
 -- The shown run is on these link files, and has the harm.
 abbrev pub IsShown : List LinkFile → List ℕ → Shown → Type 0

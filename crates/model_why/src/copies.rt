@@ -1,6 +1,6 @@
 //! Copies of one message in the packets of a net.
 
-ghost use Rattle.std.specs.Prelude.{◌≡◌, ◌↔◌, ◌&&◌, false, IfOk, IsTrue, bytes_eq, is_none, unwrap_or, option_copied, option_map, if◌then◌else◌, map, filter};
+ghost use Rattle.std.specs.Prelude.{◌≡◌, ◌&&◌, false, IfOk, IsTrue, bytes_eq, is_none, unwrap_or, option_copied, option_map, if◌then◌else◌, map, filter};
 ghost use Rattle.echo_addr.specs.declared.address.Address.{Address as Sender};
 ghost use Rattle.echo_filed.specs.{declared.key.Key.TheVariants.ById, Filed.key_of, Filed.same_key};
 ghost use Rattle.echo_links.specs.Links.{same_address};
@@ -128,7 +128,7 @@ fn is_of(of: &[u8], msgid: Option<&[u8]>, tag: &[u8], id: &[u8]) -> bool
 
 /// Whether the message was posted at the system that filed it, with this tag and id.
 pub(crate) fn is_posting(message: &Filed, tag: &[u8], id: &[u8]) -> bool
-    ensures { IsTrue result ↔ (IsPosting tag.now message.now × (key_of message.now ≡ ById tag.now id.now)) }
+    ensures { IsTrue result → (IsPosting tag.now message.now × (key_of message.now ≡ ById tag.now id.now)) }
 {
     let echo = &message.echo;
     match message.sender {

@@ -1,13 +1,11 @@
 //! Whether a guess of the harm is right for a net.
 
-ghost use Rattle.std.specs.Prelude.{◌≡◌, ◌≢◌, ◌≤◌, IfOk, IfSome, IsTrue, None, Some, false, true, ℕ};
+ghost use Rattle.std.specs.Prelude.{◌≡◌, ◌≢◌, IfOk, IfSome, IsTrue, Some};
 ghost use Rattle.model_graph.specs.Walk.{Among};
-ghost use Rattle.echo_filed.specs.declared.key.Key.TheVariants.{ById};
-ghost use Rattle.echo_links.specs.Links.{has_area, same_address};
-ghost use Rattle.model_run.specs.{Orderly.sent_count, Run.Run, Run.System, Run.nth, World.area_count, World.is_settled};
+ghost use Rattle.echo_links.specs.Links.{same_address};
+ghost use Rattle.model_run.specs.Run.{Run, System, nth};
 ghost use Rattle.model_replay.specs.Worlds.{IsWorldOf};
-ghost use Rattle.model_why.specs.{Found.BreaksIt, Found.CarriesAt, Found.HasHarm, Found.PostedAt, Guesses.GuessBreaks, Guesses.IsRight, Guesses.IsToNobody};
-ghost use Rattle.model_why.specs.Resting.{DoesNoHarm, IsWell, PostsFirst};
+ghost use Rattle.model_why.specs.Found.{CarriesAt, HasHarm, PostedAt};
 
 use crate::copies::{is_posting, sent_times};
 use crate::shown::Harm;
@@ -17,7 +15,7 @@ use model_replay::World;
 use model_run::settled_runs_settle_each_area;
 use std::alloc::{AllocError, Global};
 
-/// The harm that the guess names, exactly if the guess is right for the net. The message has this tag and id, and the
+/// The harm that the guess names, if the guess is right for the net. The message has this tag and id, and the
 /// system of index `poster` posted it. Fails only when out of memory.
 pub(crate) fn judge(
     alloc: Global,
@@ -27,83 +25,13 @@ pub(crate) fn judge(
     id: &[u8],
     guess: Guess,
 ) -> Result<Option<Harm>, AllocError>
-    ensures harm { IfOk result (λ found. IfSome found (λ harm. (run : Run) → IsWorldOf world.now run → HasHarm run tag.now id.now harm)) }
-    ensures breaks { IfOk result (λ found. GuessBreaks guess → IfSome found BreaksIt) }
-    ensures none { IfOk result (λ found. found ≡ None → (run : Run) → IsWorldOf world.now run → PostsFirst run poster tag.now id.now →
-        ¬ IsRight run poster tag.now id.now guess) }
+    ensures { IfOk result (λ found. IfSome found (λ harm. (run : Run) → IsWorldOf world.now run → HasHarm run tag.now id.now harm)) }
 {
     match guess {
         Guess::Again(system) => sent_again(alloc, world, system, tag, id),
         Guess::Own => sent_own(alloc, world, poster, tag, id),
         Guess::Lacking(system) => Ok(never_got(world, poster, system, tag, id)),
         Guess::Nobody(to) => gone_to_nobody(alloc, world, to, tag, id),
-    }
-}
-
-/// The break of the promise in the net, or none if the message does no harm although all has settled. The message has
-/// this tag and id, and the system of index `poster` posted it. Fails only when out of memory.
-pub(crate) fn judge_all(
-    alloc: Global,
-    world: &World,
-    poster: usize,
-    tag: &[u8],
-    id: &[u8],
-) -> Result<Option<Harm>, AllocError>
-    ensures harm { IfOk result (λ found. IfSome found (λ harm. (run : Run) → IsWorldOf world.now run → HasHarm run tag.now id.now harm)) }
-    ensures breaks { IfOk result (λ found. IfSome found BreaksIt) }
-    ensures none { IfOk result (λ found. found ≡ None → (run : Run) → IsWorldOf world.now run → PostsFirst run poster tag.now id.now → is_settled run ≡ true →
-        DoesNoHarm run poster tag.now id.now) }
-{
-    let own = sent_own(alloc, world, poster, tag, id)?;
-    match own {
-        Some(harm) => Ok(Some(harm)),
-        None => {
-            let found = at_carriers(alloc, world, poster, tag, id)?;
-            Ok(found)
-        }
-    }
-}
-
-// The break of the promise at the first carrier that shows one.
-fn at_carriers(
-    alloc: Global,
-    world: &World,
-    poster: usize,
-    tag: &[u8],
-    id: &[u8],
-) -> Result<Option<Harm>, AllocError>
-    ensures harm { IfOk result (λ found. IfSome found (λ harm. (run : Run) → IsWorldOf world.now run → HasHarm run tag.now id.now harm)) }
-    ensures breaks { IfOk result (λ found. IfSome found BreaksIt) }
-    ensures none { IfOk result (λ found. found ≡ None → (run : Run) → IsWorldOf world.now run → PostsFirst run poster tag.now id.now → is_settled run ≡ true →
-        (i : ℕ) (s : System) → nth i run.systems ≡ Some s → has_area s.file tag.now ≡ true → IsWell run tag.now id.now s) }
-{
-    'systems: for system in 0..world.systems() {
-        let found = harm_at(alloc, world, poster, system, tag, id)?;
-        if let Some(harm) = found {
-            return Ok(Some(harm));
-        }
-    }
-    Ok(None)
-}
-
-// The break of the promise at the carrier of index `system`.
-fn harm_at(
-    alloc: Global,
-    world: &World,
-    poster: usize,
-    system: usize,
-    tag: &[u8],
-    id: &[u8],
-) -> Result<Option<Harm>, AllocError>
-    ensures harm { IfOk result (λ found. IfSome found (λ harm. (run : Run) → IsWorldOf world.now run → HasHarm run tag.now id.now harm)) }
-    ensures breaks { IfOk result (λ found. IfSome found BreaksIt) }
-    ensures none { IfOk result (λ found. found ≡ None → (run : Run) → IsWorldOf world.now run → PostsFirst run poster tag.now id.now → is_settled run ≡ true →
-        (s : System) → nth system run.systems ≡ Some s → has_area s.file tag.now ≡ true → IsWell run tag.now id.now s) }
-{
-    let again = sent_again(alloc, world, system, tag, id)?;
-    match again {
-        Some(harm) => Ok(Some(harm)),
-        None => Ok(never_got(world, poster, system, tag, id)),
     }
 }
 
@@ -115,10 +43,7 @@ fn sent_again(
     tag: &[u8],
     id: &[u8],
 ) -> Result<Option<Harm>, AllocError>
-    ensures harm { IfOk result (λ found. IfSome found (λ harm. (run : Run) → IsWorldOf world.now run → HasHarm run tag.now id.now harm)) }
-    ensures breaks { IfOk result (λ found. IfSome found BreaksIt) }
-    ensures none { IfOk result (λ found. found ≡ None → (run : Run) → IsWorldOf world.now run → (s : System) → nth system run.systems ≡ Some s → has_area s.file tag.now ≡ true →
-        sent_count s.file.system (ById tag.now id.now) run.packets ≤ 1) }
+    ensures { IfOk result (λ found. IfSome found (λ harm. (run : Run) → IsWorldOf world.now run → HasHarm run tag.now id.now harm)) }
 {
     let Some(address) = carrier_at(world, system, tag) else {
         return Ok(None);
@@ -138,10 +63,7 @@ fn sent_own(
     tag: &[u8],
     id: &[u8],
 ) -> Result<Option<Harm>, AllocError>
-    ensures harm { IfOk result (λ found. IfSome found (λ harm. (run : Run) → IsWorldOf world.now run → HasHarm run tag.now id.now harm)) }
-    ensures breaks { IfOk result (λ found. IfSome found BreaksIt) }
-    ensures none { IfOk result (λ found. found ≡ None → (run : Run) → IsWorldOf world.now run → PostsFirst run poster tag.now id.now → (s : System) → nth poster run.systems ≡ Some s →
-        sent_count s.file.system (ById tag.now id.now) run.packets ≡ 0) }
+    ensures { IfOk result (λ found. IfSome found (λ harm. (run : Run) → IsWorldOf world.now run → HasHarm run tag.now id.now harm)) }
 {
     let Some(address) = poster_at(world, poster, tag, id) else {
         return Ok(None);
@@ -155,10 +77,7 @@ fn sent_own(
 
 // Whether all has settled, and the carrier of index `system` lacks what that of index `poster` posted.
 fn never_got(world: &World, poster: usize, system: usize, tag: &[u8], id: &[u8]) -> Option<Harm>
-    ensures harm { IfSome result (λ harm. (run : Run) → IsWorldOf world.now run → HasHarm run tag.now id.now harm) }
-    ensures breaks { IfSome result BreaksIt }
-    ensures none { result ≡ None → (run : Run) → IsWorldOf world.now run → PostsFirst run poster tag.now id.now → is_settled run ≡ true →
-        (s : System) → nth system run.systems ≡ Some s → has_area s.file tag.now ≡ true → 1 ≤ area_count tag.now s.base }
+    ensures { IfSome result (λ harm. (run : Run) → IsWorldOf world.now run → HasHarm run tag.now id.now harm) }
 {
     poster_at(world, poster, tag, id)?;
     let address = carrier_at(world, system, tag)?;
@@ -180,8 +99,7 @@ fn gone_to_nobody(
     tag: &[u8],
     id: &[u8],
 ) -> Result<Option<Harm>, AllocError>
-    ensures harm { IfOk result (λ found. IfSome found (λ harm. (run : Run) → IsWorldOf world.now run → HasHarm run tag.now id.now harm)) }
-    ensures none { IfOk result (λ found. found ≡ None → (run : Run) → IsWorldOf world.now run → ¬ IsToNobody run tag.now id.now to) }
+    ensures { IfOk result (λ found. IfSome found (λ harm. (run : Run) → IsWorldOf world.now run → HasHarm run tag.now id.now harm)) }
 {
     if !is_nobody(world, to) {
         return Ok(None);
@@ -195,8 +113,7 @@ fn gone_to_nobody(
 
 // Whether no system has the address.
 fn is_nobody(world: &World, to: Address) -> bool
-    ensures yes { IsTrue result → (run : Run) → IsWorldOf world.now run → (s : System) → Among s run.systems → s.file.system ≢ to }
-    ensures no { result ≡ false → (run : Run) → IsWorldOf world.now run → (s : System) × Among s run.systems × (s.file.system ≡ to) }
+    ensures { IsTrue result → (run : Run) → IsWorldOf world.now run → (s : System) → Among s run.systems → s.file.system ≢ to }
 {
     'systems: for i in 0..world.systems() {
         if has_address(world, i, to) {
@@ -218,8 +135,7 @@ fn has_address(world: &World, i: usize, to: Address) -> bool
 
 // The address of the system of this index, if it has the area.
 fn carrier_at(world: &World, i: usize, tag: &[u8]) -> Option<Address>
-    ensures some { IfSome result (λ a. (run : Run) → IsWorldOf world.now run → CarriesAt run i tag.now a) }
-    ensures none { result ≡ None → (run : Run) → IsWorldOf world.now run → (s : System) → nth i run.systems ≡ Some s → has_area s.file tag.now ≡ false }
+    ensures { IfSome result (λ a. (run : Run) → IsWorldOf world.now run → CarriesAt run i tag.now a) }
 {
     let file = world.links(i)?;
     if !file.has_area(tag) {
@@ -230,8 +146,7 @@ fn carrier_at(world: &World, i: usize, tag: &[u8]) -> Option<Address>
 
 // The address of the system of this index, if the first message of its base is the posting of this id.
 fn poster_at(world: &World, i: usize, tag: &[u8], id: &[u8]) -> Option<Address>
-    ensures some { IfSome result (λ a. (run : Run) → IsWorldOf world.now run → PostedAt run i tag.now id.now a) }
-    ensures none { result ≡ None → (run : Run) → IsWorldOf world.now run → ¬ PostsFirst run i tag.now id.now }
+    ensures { IfSome result (λ a. (run : Run) → IsWorldOf world.now run → PostedAt run i tag.now id.now a) }
 {
     let address = carrier_at(world, i, tag)?;
     let message = world.message(i, 0)?;

@@ -1,18 +1,16 @@
 //! Link files, read from their bytes as often as they are needed.
 
 ghost use Rattle.std.specs.Prelude.{◌≡◌, IfOk};
-ghost use Rattle.echo_links.specs.{LinkLines.file_of, Links.IsFile};
-ghost use Rattle.model_run.specs.Fits.{FilesFit};
+ghost use Rattle.echo_links.specs.LinkLines.{file_of};
 ghost use Rattle.model_why.specs.Sources.{files_of};
 
 use echo_addr::Items;
-use echo_links::{LinkFile, link_file_law};
+use echo_links::LinkFile;
 use std::alloc::{AllocError, Global};
 
 /// The link files of these bytes. Fails if some bytes are no link file, and when out of memory.
 pub(crate) fn read_files(alloc: Global, sources: &[Items<u8>]) -> Result<Vec<LinkFile>, AllocError>
-    ensures read { IfOk result (λ files. files.items ≡ files_of sources.now) }
-    ensures fit { IfOk result (λ files. FilesFit files.items) }
+    ensures { IfOk result (λ files. files.items ≡ files_of sources.now) }
 {
     let mut files = Vec::new(alloc);
     'sources: for source in sources {
@@ -24,10 +22,8 @@ pub(crate) fn read_files(alloc: Global, sources: &[Items<u8>]) -> Result<Vec<Lin
 
 // The link file of these bytes.
 fn read_file(alloc: Global, bytes: &[u8]) -> Result<LinkFile, AllocError>
-    ensures read { IfOk result (λ file. file ≡ file_of bytes.now) }
-    ensures fit { IfOk result IsFile }
+    ensures { IfOk result (λ file. file ≡ file_of bytes.now) }
 {
-    link_file_law();
     match LinkFile::read(alloc, bytes) {
         Ok(file) => Ok(file),
         Err(_) => Err(AllocError),

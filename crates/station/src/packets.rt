@@ -1,14 +1,14 @@
 //! The packet files of `toss` on a disk: each is opened when its turn comes.
 ghost use Rattle.std.specs.Prelude.{◌≡◌, ◌≤◌, Some, map, IfOk};
 ghost use Rattle.disk_io.specs.{Disk.Honestly, Runs.ChangesNothing, Runs.HasCause};
-ghost use Rattle.cmd_report.specs.Coming.{Opens};
+ghost use Rattle.cmd_store.specs.Coming.{Opens};
 ghost use Rattle.station.specs.{PacketReader.held_remaining, PacketsFound.IsFound, Faults.HasSize, PacketsOnDisk.coming_at, PacketsOnDisk.most_held};
 
 use crate::held_bytes::HeldBytes;
 use crate::packet_reader::PacketReader;
 use crate::reading::size_of;
-use cmd_report::PacketFiles;
 use cmd_status::{Fault, PacketName, StreamPackets};
+use cmd_store::PacketFiles;
 use disk_io::{Disk, DiskError, read_part};
 use std::alloc::{AllocError, Global};
 

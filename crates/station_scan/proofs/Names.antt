@@ -9,7 +9,7 @@ use Rattle.echo_filed.specs.Sets.{address_before, address_set}
 use Rattle.echo_filed.proofs.{Choices.all_weaker, Orders.address_order, Sets.ascending_pairs, Sets.set_ascending}
 use Rattle.echo_links.specs.Links.{LinkFile, links_of}
 use Rattle.echo_toss.specs.Counts.{link_set}
-use Rattle.cmd_report.specs.Scanned.{packet_name}
+use Rattle.cmd_store.specs.PacketLines.{packet_name}
 use Rattle.station_scan.specs.Sending.{IsSized}
 use Rattle.disk_io.specs.Disk.{IsIn}
 use Rattle.disk_atomic.specs.{StagingPaths.staging_path, ListStaged.IsNameByte}

@@ -8,7 +8,7 @@ use Rattle.base_file.specs.Base.{Base}
 use Rattle.disk_io.specs.{Disk.DiskState, Disk.Honestly, Runs.ChangesNothing, declared.disk_error.DiskError.DiskError}
 use Rattle.disk_atomic.specs.{Outgoing.IsAtStaging, Outgoing.IsFree, Outgoing.IsStagingGone, declared.outgoing.Outgoing.Outgoing, StagingPaths.staging_path}
 use Rattle.disk_atomic.proofs.Changes.{only_nothing, then_only, wider}
-use Rattle.cmd_report.specs.Scanned.{packet_name}
+use Rattle.cmd_store.specs.PacketLines.{packet_name}
 use Rattle.echo_addr.specs.declared.address.Address.{Address}
 use Rattle.echo_toss.specs.Counts.{Group, IsGroupFrom, copies_out, counted_to, counted_with, has_messages, link_set}
 use Rattle.echo_toss.specs.{declared.counting.CountedPacket.CountedPacket, Exports.Outgoing as Sent, Exports.sent_of}

@@ -9,7 +9,7 @@ use Rattle.model_steps.specs.{Scanning.header_to, Stamps.is_stamp}
 use Rattle.base_file.specs.Base.{Base}
 use Rattle.echo_toss.specs.Counts.{copies_out, counted_to, counted_with, has_messages, link_set}
 use Rattle.echo_toss.specs.{Exports.Outgoing as Sent, Exports.sent_of, declared.counting.CountedPacket.CountedPacket}
-use Rattle.cmd_report.specs.Scanned.{packet_name}
+use Rattle.cmd_store.specs.PacketLines.{packet_name}
 use Rattle.base_store.specs.Store.{StoreState}
 use Rattle.station.specs.Beneath.{AreSettledByOwn}
 use Rattle.station_scan.specs.{Beneath.IsUsedAt, Sending.AreRoutes, declared.counting.LinkPacket.LinkPacket, declared.publish_error.PublishError.PublishError}

@@ -5,10 +5,9 @@ use Rattle.disk_io.specs.{Disk.DiskState, Disk.Files, Runs.LeavesOnly, Runs.OneS
 use Rattle.echo_links.specs.Links.{LinkFile}
 use Rattle.disk_atomic.specs.{Changes.DifferAt, Finishing.FinishesEach, Finishing.IsOfLeft, Trying.WasTried, declared.finishing.Left.Left, StagingPaths.dotted, StagingPaths.staging_path}
 use Rattle.cmd_status.specs.{declared.fault.Fault.Fault, Devices.Output}
-use Rattle.cmd_report.specs.Scanned.{file_sent}
 use Rattle.model_steps.specs.{PacketFiles.PacketFile, Scanning.scanned, declared.stamp.Stamp.Stamp}
 use Rattle.base_store.specs.{Store.StoreState, Store.all_scanned, declared.store_error.StoreError.TheVariants.Damaged, declared.store_error.StoreError.TheVariants.Device}
-use Rattle.cmd_store.specs.{Scanned.ScansOn, declared.command_error.CommandError.CommandError, declared.command_error.CommandError.TheVariants.Store}
+use Rattle.cmd_store.specs.{PacketLines.file_sent, Scanned.ScansOn, declared.command_error.CommandError.CommandError, declared.command_error.CommandError.TheVariants.Store}
 use Rattle.echo_toss.specs.PacketsIn.{state_in}
 use Rattle.station.specs.{Place.Place, Place.RepresentsOrWasLeft, Running.IsNotRun, Running.IsStopped}
 use Rattle.station_scan.specs.Left.{AreAllLeft, AreFreeLeft, IsEnded, IsEndedAt, IsLeftOf, IsOfName}

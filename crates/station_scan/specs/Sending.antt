@@ -4,7 +4,7 @@ use Rattle.disk_io.specs.{Fixed.AreBytes, Disk.DiskState, Disk.Files}
 use Rattle.echo_addr.specs.declared.address.Address.{Address}
 use Rattle.echo_links.specs.Links.{LinkFile}
 use Rattle.echo_toss.specs.Counts.{link_set}
-use Rattle.cmd_report.specs.Scanned.{packet_name}
+use Rattle.cmd_store.specs.PacketLines.{packet_name}
 use Rattle.model_steps.specs.PacketFiles.{PacketFile}
 use Rattle.disk_atomic.specs.{Changes.HasOnDisk, declared.outgoing.Outgoing.Outgoing, ListStaged.IsNameByte, StagingPaths.dotted, StagingPaths.staging_path}
 use Rattle.station_scan.specs.declared.sending.{Route.Route, Sending.Sending, TwoPaths.TwoPaths}

@@ -6,7 +6,7 @@ ghost use Rattle.station_scan.specs.{Sending.IsPlanned, Sending.IsSized, Sending
 
 use crate::pieces::Source;
 use crate::scan_error::ScanError;
-use cmd_report::packet_name;
+use cmd_store::packet_name;
 use disk_atomic::staging_path;
 use echo_addr::{Address, Items};
 use echo_links::LinkFile;

@@ -2,8 +2,8 @@
 ghost use Rattle.std.specs.Prelude.{true};
 
 use crate::system_files::disk::{Disk, State};
-use cmd_report::PacketFiles;
 use cmd_status::{Fault, PacketName, StreamPackets};
+use cmd_store::PacketFiles;
 use disk_io::Source;
 use disk_system::{NoFiles, RealDisk};
 use station::{PacketReader, packets_on_disk};

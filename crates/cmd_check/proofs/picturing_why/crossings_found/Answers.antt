@@ -3,7 +3,6 @@ use Rattle.cmd_check.proofs.picturing_why.crossings_found.Goals as goal
 
 pub returns : goal.returns
 returns c =
-    let found = c.in_ok-found.ensures in
     IfOk-weaker c.crossings.result _ _
-    (λ all are. (c.in_ok-found.found, record { shown = found.shown; exact = found.exact; nowhere = found.nowhere }, are))
+    (λ all are. (c.in_ok-found.found, c.in_ok-found.ensures, are))
     (rw c.as_ref.ensures.value at c.crossings.ensures)

@@ -12,6 +12,6 @@ returns g c given are raised =
     printed_as _ _ (IsFirstFaultGiven None c.args.files.now None) (output_of g.W.Write.contents g.W.Sink.failures g.W.Sink.holds c.args.out.now) (output_of g.W.Write.contents g.W.Sink.failures g.W.Sink.holds c.print_picture.new.out) c.print_picture.result
     (λ lines status is. (
       was_pictured_why given c.args.tag.now c.args.files.now c.args.links.now c.in_ok-verdict.verdict c.in_ok-drawing.drawing crossed.0 c.in_ok-crossings.crossings.items lines status are raised
-          (record { judged = judged; drawn = c.in_ok-drawing.ensures; first = crossed.1 }) crossed.2 is.0 is.1,
+          (record { judged = judged; drawn = c.in_ok-drawing.ensures; shown = crossed.1 }) crossed.2 is.0 is.1,
       refl,
     )) (rw c.deref.ensures.value at c.print_picture.ensures)

@@ -1,8 +1,7 @@
 use Rattle.std.proofs.{Common.refl, Common.◌∙◌, Common.arith, lemmas.Result.err_from_is_err_and}
 use Rattle.base_store.proofs.Runs.{looks_commit, looks_then_commits}
 use Rattle.cmd_store.proofs.{Commits.makes_none, Commits.met_looking, Replies.met_looked, Replies.reply_crash, Replies.reply_stopped}
-use Rattle.cmd_report.specs.declared.posting.NewMessage.{NewMessage}
-use Rattle.cmd_store.specs.Bounded.{AddsPosted}
+use Rattle.cmd_store.specs.{declared.drafting.NewMessage.NewMessage, Bounded.AddsPosted}
 use Rattle.echo_toss.proofs.Bounds.{full_now, past_looked, past_wider}
 use Rattle.cmd_store.proofs.replying.reply_on.Goals as goal
 

@@ -1,7 +1,7 @@
 use Rattle.std.proofs.{Common.sym, Common.subst, Common.arith, lemmas.Option.MatchOption-at_some}
 use Rattle.model_run.specs.Tidy.{Carries}
 use Rattle.echo_net.specs.Faults.{AreInOrder, AreSoundLinks, IsFirstFault}
-use Rattle.echo_net.proofs.{Collected.at_none, Collected.files_fit, Collected.not_tidy, Owned.in_order_from_sorted}
+use Rattle.echo_net.proofs.{Collected.at_none, Collected.not_tidy, Owned.in_order_from_sorted}
 use Rattle.echo_net.proofs.checker.check_area.Goals as goal
 
 pub returns-in-Some-clause-tidy : goal.returns-in-Some-clause-tidy
@@ -22,4 +22,4 @@ pub returns-in-Some-wrong_graph-clause-tidy : goal.returns-in-Some-wrong_graph-c
 returns-in-Some-wrong_graph-clause-tidy = grind (arith, not_tidy, MatchOption-at_some)
 
 pub returns-clause-orderly : goal.returns-clause-orderly
-returns-clause-orderly c = grind (arith, at_none, files_fit)
+returns-clause-orderly c = grind (arith, at_none)

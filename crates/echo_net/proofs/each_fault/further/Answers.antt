@@ -1,10 +1,10 @@
-use Rattle.std.proofs.Common.{◌∙◌, sym}
-use Rattle.echo_net.proofs.AllFaults.{behind_named, none_named}
+use Rattle.std.proofs.Common.{subst, sym}
+use Rattle.echo_net.specs.{declared.verdict.Verdict.Verdict, AllFaults.AreFurther, Faults.IfNo, Faults.IsFirstFault}
+use Rattle.echo_net.proofs.AllFaults.{others_of}
 use Rattle.echo_net.proofs.each_fault.further.Goals as goal
 
-pub returns-then-names_fault : goal.returns-then-names_fault
-returns-then-names_fault c files tag are first =
-    behind_named files tag c.args.all.now are c.args.verdict.now first (sym c.names_fault.ensures ∙ c.if-names_fault.true) c.behind_first.result.now c.behind_first.ensures
-
-pub returns-else-names_fault : goal.returns-else-names_fault
-returns-else-names_fault c files tag are first = none_named files tag c.args.all.now are c.args.verdict.now (sym c.names_fault.ensures ∙ c.if-names_fault.false)
+pub returns-in-No : goal.returns-in-No
+returns-in-No c files tag are first =
+    let named = subst (λ (v : Verdict). IfNo v (IsFirstFault files tag)) c.in-No.is first in
+    subst (λ (v : Verdict). AreFurther files tag v c.behind_first.result.now) (sym c.in-No.is)
+    (others_of files tag c.args.all.now are c.behind_first.result.now c.behind_first.ensures c.in-No.field-0 named)

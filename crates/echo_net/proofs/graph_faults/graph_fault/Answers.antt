@@ -28,7 +28,7 @@ pub systems_at-requires : goal.systems_at-requires
 systems_at-requires c =
     let all : List Address = c.args.carriers.now in
     let joined = numbered all (lists c.args.files.now c.args.tag.now) in
-    let places : List ℕ = c.in-Some-round.places.items in
+    let places : List ℕ = c.in-Some-round.named.round.items in
     let named : NamedLoop (linked c.args.graph.now) places = grind (arith, MatchOption-at_some) in
     let cycle = (subst (λ (l : ℕ → ℕ → Bool). NamedLoop l places) c.requires.links named).cycle in
     let simple = simple_numbers c.args.files.now c.args.tag.now all c.requires.in_order c.requires.sound.no_self c.requires.sound.known c.requires.sound.both in
@@ -39,7 +39,7 @@ pub returns-in_ok-systems-in-Some-round : goal.returns-in_ok-systems-in-Some-rou
 returns-in_ok-systems-in-Some-round c =
     let all : List Address = c.args.carriers.now in
     let joined = numbered all (lists c.args.files.now c.args.tag.now) in
-    let places : List ℕ = c.in-Some-round.places.items in
+    let places : List ℕ = c.in-Some-round.named.round.items in
     let found = renamed (linked c.args.graph.now) joined (length c.args.graph.now) (length all) c.in_ok-apart.apart c.requires.links c.requires.members c.in_ok-apart.ensures in
     let whole = at_none (Connected (λ i. i < length all) joined) (FirstUnreached joined (length all)) c.in_ok-apart.apart c.in_default.not-Some found in
     let named : NamedLoop (linked c.args.graph.now) places = grind (arith, MatchOption-at_some) in

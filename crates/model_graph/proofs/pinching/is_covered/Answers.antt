@@ -1,6 +1,6 @@
 use Rattle.std.proofs.Common.{◌≢◌, IsTrue, arith}
 use Rattle.model_graph.specs.{Rows.linked, Blocks.block_of, Blocks.top_of, Blocks.OnOneSide}
-use Rattle.model_graph.proofs.Family.{for_each_link}
+use Rattle.model_graph.proofs.PinchSearch.{for_each_link}
 use Rattle.model_graph.proofs.pinching.is_covered.Goals as goal
 
 pub returns : goal.returns

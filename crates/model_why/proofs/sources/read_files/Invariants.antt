@@ -1,11 +1,7 @@
 use Rattle.std.proofs.Common.{◌≡◌, take}
-use Rattle.model_run.specs.Fits.{FilesFit}
 use Rattle.model_why.specs.Sources.{files_of}
 use Rattle.model_why.proofs.sources.read_files.Given as goal
 
--- the files so far are those of their bytes, and were read
+-- the files so far are those of their bytes
 abbrev pub invariant-sources : goal.invariant-sources
-invariant-sources l = record {
-  read : l.files.items ≡ files_of (take l.source-index l.sources);
-  fit : FilesFit l.files.items;
-}
+invariant-sources l = l.files.items ≡ files_of (take l.source-index l.sources)

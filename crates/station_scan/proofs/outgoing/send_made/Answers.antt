@@ -2,9 +2,8 @@ use Rattle.std.proofs.Common.{◌≡◌, Err, Ok, Result, inl, inr, refl, subst,
 use Rattle.std.specs.{Prelude.List, Prelude.None, Prelude.OnOk, List.flat_map}
 use Rattle.disk_io.specs.{Device.Failed, declared.disk_error.DiskError.DiskError}
 use Rattle.base_store.specs.Store.{all_scanned}
-use Rattle.cmd_report.specs.Scanned.{counted_line}
 use Rattle.cmd_status.specs.Devices.{output_of}
-use Rattle.cmd_store.specs.{Answered.AnswersOn, Answered.AreLines, Answered.RefusesNone, Stops.store_answer, declared.command_error.CommandError.CommandError}
+use Rattle.cmd_store.specs.{PacketLines.counted_line, Answered.AnswersOn, Answered.AreLines, Answered.RefusesNone, Stops.store_answer, declared.command_error.CommandError.CommandError}
 use Rattle.echo_toss.specs.Exports.{Outgoing as Sent}
 use Rattle.station_scan.specs.Passing.{AreCounted, IsAllOf, IsPartOf, IsStagingTo, counts_in}
 use Rattle.station_scan.specs.declared.scan_error.ScanError.TheVariants.{Command, Staying}

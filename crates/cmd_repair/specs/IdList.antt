@@ -1,0 +1,42 @@
+-- A list of ids that is read: its first wrong line, and the words of its ids.
+use Rattle.std.specs.Prelude.{◌≡◌, ℕ, ◌+◌, ◌-◌, Bool, true, false, List, [], ◌∷◌, map, filter, if◌then◌else◌, bytes_eq, Option, Some, None, Result, Ok, Err, ◌⊎◌}
+use Rattle.std.specs.List.{list_any}
+use Rattle.echo_links.specs.LinkLines.{file_lines}
+use Rattle.cmd_status.specs.{declared.fault.Fault.Fault, declared.fault.Fault.TheVariants.ListLine, Ended.IsOutOfMemory}
+use Rattle.cmd_repair.specs.declared.reading.Stage.{Stage, TheVariants.Start, TheVariants.Ids, TheVariants.Ended, TheVariants.Wrong}
+use Rattle.cmd_repair.specs.Words.{area_words, id_word, is_end_line, is_id_line}
+
+-- The next stage of a list of this area after a line. It had so many ids before.
+abbrev pub stage_after : List ℕ → ℕ → Stage → List ℕ → Stage
+stage_after area ids Start line = if bytes_eq line (area_words area) then Ids else Wrong
+stage_after area ids Ids line = if is_id_line line then Ids else if is_end_line ids line then Ended else Wrong
+stage_after area ids Ended line = Wrong
+stage_after area ids Wrong line = Wrong
+
+abbrev pub is_wrong : Stage → Bool
+is_wrong Wrong = true
+is_wrong _ = false
+
+-- The first wrong line from the line of this number on, or the one after the last if the list is cut. The lines between
+-- the first and the last are those of ids, one each.
+abbrev pub wrong_line : List ℕ → ℕ → Stage → List (List ℕ) → Option ℕ
+wrong_line area number Ended [] = None
+wrong_line area number _ [] = Some number
+wrong_line area number stage (line ∷ later) =
+    if is_wrong (stage_after area (number - 2) stage line) then Some number
+    else wrong_line area (number + 1) (stage_after area (number - 2) stage line) later
+
+-- The words of the ids in these lines.
+abbrev pub id_words : List (List ℕ) → List (List ℕ)
+id_words lines = map id_word (filter is_id_line lines)
+
+-- The bytes are a list of the area that has exactly these words.
+pub record IsIdList (area bytes : List ℕ) (words : List (List ℕ)) : Type 0 where
+  pub right : wrong_line area 1 Start (file_lines bytes) ≡ None
+  pub members : (word : List ℕ) → list_any (bytes_eq word) words ≡ list_any (bytes_eq word) (id_words (file_lines bytes))
+
+-- The right answer if a list of ids is read.
+abbrev pub ReadsIds : List ℕ → List ℕ → Result (List (List ℕ)) Fault → Type 0
+ReadsIds area bytes (Ok words) = IsIdList area bytes words
+ReadsIds area bytes (Err fault) =
+    IsOutOfMemory fault ⊎ ((number : ℕ) × (wrong_line area 1 Start (file_lines bytes) ≡ Some number) × (fault ≡ ListLine number))

@@ -1,0 +1,4 @@
+pub mod Words
+pub mod IdList
+pub mod IdsListed
+pub mod Repair

@@ -1,0 +1,79 @@
+//! A list of ids is read, as `list --ids` prints it.
+ghost use Rattle.std.specs.Prelude.{◌≡◌, ◌++◌, IfOk, List, ℕ};
+ghost use Rattle.cmd_repair.specs.IdList.{ReadsIds, is_wrong, stage_after};
+ghost use Rattle.cmd_repair.specs.Words as words;
+
+use crate::known::KnownIds;
+use crate::words::{id_word, is_end_line, is_id_line, push_area};
+use cmd_status::Fault;
+use echo_links::split_line;
+use std::alloc::{AllocError, Global};
+
+/// How far a list was read: to its front, to the ids, behind its last line, or to a wrong line.
+#[derive(Clone, Copy, Debug, PartialEq, Eq)]
+pub enum Stage {
+    Start,
+    Ids,
+    Ended,
+    Wrong,
+}
+
+/// The ids that a list of the area names; the tag is in upper case. The fault is the first wrong line, or the one after
+/// the last if the list is cut.
+pub fn read_ids<'a, 'b>(
+    alloc: Global,
+    area: &[u8],
+    bytes: &'a [u8],
+) -> Result<KnownIds<'a>, Fault<'b>>
+    ensures { ReadsIds area.now bytes.now result }
+{
+    let mut first = Vec::new(alloc);
+    push_area(&mut first, area)?;
+    let mut words = Vec::new(alloc);
+    let mut rest = bytes;
+    let mut number: u64 = 1;
+    let mut stage = Stage::Start;
+    'lines: while !rest.is_empty() {
+        let (line, after) = split_line(rest);
+        stage = stage_after(alloc, &first, number.saturating_sub(2), stage, line)?;
+        if is_wrong(stage) {
+            return Err(Fault::ListLine(number));
+        }
+        if is_id_line(line) {
+            words.push(id_word(line))?;
+        }
+        number += 1;
+        rest = after;
+    }
+    match stage {
+        Stage::Ended => Ok(KnownIds::of(words)),
+        _ => Err(Fault::ListLine(number)),
+    }
+}
+
+fn is_wrong(stage: Stage) -> bool
+    ensures { result ≡ is_wrong stage }
+{
+    match stage {
+        Stage::Wrong => true,
+        _ => false,
+    }
+}
+
+// The stage after a line. `first` has the words of the first line.
+fn stage_after(
+    alloc: Global,
+    first: &[u8],
+    ids: u64,
+    stage: Stage,
+    line: &[u8],
+) -> Result<Stage, AllocError>
+    ensures { (area : List ℕ) → first.now ≡ words.area_words area → IfOk result (λ next. next ≡ stage_after area ids stage line.now) }
+{
+    match stage {
+        Stage::Start if first == line => Ok(Stage::Ids),
+        Stage::Ids if is_id_line(line) => Ok(Stage::Ids),
+        Stage::Ids if is_end_line(alloc, ids, line)? => Ok(Stage::Ended),
+        _ => Ok(Stage::Wrong),
+    }
+}

@@ -1,4 +1,0 @@
-pub mod Noted
-pub mod NotedIn
-pub mod FreeSerials
-pub mod Tossings

@@ -1,8 +1,0 @@
--- The lines of the packets so far were added.
-use Rattle.std.proofs.Common.{◌≡◌, ◌++◌, take}
-use Rattle.std.specs.List.{flat_map}
-use Rattle.cmd_report.specs.Scanned.{counted_line}
-use Rattle.cmd_report.proofs.scanning.push_counted.Given as goal
-
-abbrev pub invariant-packets : goal.invariant-packets
-invariant-packets l = l.lines.items ≡ l.initial.lines.items ++ flat_map counted_line (take l.packet-index l.packets)

@@ -1,0 +1,37 @@
+-- A packet is tossed with notes into a store, message by message.
+use Rattle.std.proofs.Common.{◌≡◌, ◌≤◌, ℕ, List, [], refl, ap, arith, Option}
+use Rattle.echo_addr.specs.declared.address.Address.{Address}
+use Rattle.base_file.specs.Base.{Base}
+use Rattle.disk_io.specs.Disk.{Honestly}
+use Rattle.echo_links.specs.Links.{LinkFile}
+use Rattle.echo_packet.specs.declared.limits.Limits.{Limits}
+use Rattle.base_store.specs.Store.{CommitsNothing, GoesOn, StoreState}
+use Rattle.base_store.proofs.Runs.{looks_commit, looks_go_on, no_look}
+use Rattle.echo_toss.specs.{declared.tally.Tally.Tally, PacketsIn.state_in, Tallies.all_counted, Tallies.tally_of}
+use Rattle.cmd_store.proofs.Noted.{HasNoted, none_noted}
+
+-- the store took the messages with their notes and goes on, no read failed, and there is room
+pub record HasNotedIn (limits : Limits) (sender : Address) (file : LinkFile) (old mid : StoreState) (first now : ℕ) (before left : Option (List ℕ)) (given at : ℕ) (tally : Tally) (text noted : List ℕ) (failed still : ℕ) (room : Type 0) : Type 0 where
+  pub each : Honestly mid.disk ((base : Base) → old.keeps base
+      → (next : Base) × HasNoted limits sender (state_in file base) before left given at tally (state_in file next) text noted failed still room × mid.keeps next)
+  pub on : GoesOn old mid
+  pub commits : CommitsNothing old mid
+  pub counted : all_counted tally ≡ given
+  pub within : given ≤ limits.messages
+  pub device : still ≡ failed
+  pub later : first ≤ now
+  pub free : room
+
+-- before the first message
+pub begun_noted : (limits : Limits) (sender : Address) (file : LinkFile) (old : StoreState) (first : ℕ) (before : Option (List ℕ)) (tally : Tally) (text : List ℕ) (failed : ℕ) (room : Type 0) → old.is_ready → tally ≡ tally_of [] → room
+    → HasNotedIn limits sender file old old first first before before 0 58 tally text text failed failed room
+begun_noted limits sender file old first before tally text failed room ready none free = record {
+  each = λ honest base kept. (base, none_noted limits sender (state_in file base) before tally text failed room none free, kept);
+  on = looks_go_on old old (no_look old ready);
+  commits = looks_commit old old ready (no_look old ready);
+  counted = ap all_counted none;
+  within = omega arith;
+  device = refl;
+  later = omega arith;
+  free = free;
+}

@@ -1,0 +1,8 @@
+-- The lines of the packets so far were added.
+use Rattle.std.proofs.Common.{◌≡◌, ◌++◌, take}
+use Rattle.std.specs.List.{flat_map}
+use Rattle.cmd_store.specs.PacketLines.{counted_line}
+use Rattle.cmd_store.proofs.packet_lines.push_counted.Given as goal
+
+abbrev pub invariant-packets : goal.invariant-packets
+invariant-packets l = l.lines.items ≡ l.initial.lines.items ++ flat_map counted_line (take l.packet-index l.packets)

@@ -1,0 +1,17 @@
+//! Why a packet was not tossed whole, as a fault.
+ghost use Rattle.std.specs.Prelude.{◌≡◌};
+ghost use Rattle.cmd_store.specs.TossedPacket.{fault_of};
+
+use cmd_status::Fault;
+use echo_toss::TossCause;
+
+/// Why a packet was not tossed whole, as it is reported.
+pub fn fault_of<'a>(cause: TossCause) -> Fault<'a>
+    ensures { result ≡ fault_of cause }
+{
+    match cause {
+        TossCause::NotForUs(address) => Fault::NotForUs(address),
+        TossCause::Memory => Fault::TossMemory,
+        TossCause::Packet(fault) => Fault::Packet(fault),
+    }
+}

@@ -1,0 +1,111 @@
+"""How long runs take, and how much memory. A loaded machine is given more time: the limits hold for time of the
+processor."""
+import os
+import resource
+import unittest
+import zipfile
+from typing import NamedTuple
+
+import build
+from build import END, echomail, header, message
+
+MEGABYTE = 1 << 20
+MESSAGES = 60000
+PACKET_SIZE = 37 * MEGABYTE
+
+
+# Runs a command in a process that is small itself, since a child begins with the memory of its parent.
+MEASURE = """
+import os, sys
+child = os.fork()
+if child == 0:
+    os.dup2(os.open(os.devnull, os.O_RDWR), 1)
+    os.execvp(sys.argv[1], sys.argv[1:])
+_, ended, used = os.wait4(child, 0)
+print(ended >> 8 if ended & 255 == 0 else 99, used.ru_utime + used.ru_stime, used.ru_maxrss * 1024)
+"""
+
+
+class Measured(NamedTuple):
+    """How a run ended, its seconds of processor time, and its memory."""
+
+    status: int
+    seconds: float
+    memory: int
+
+
+def measured(*words: str) -> Measured:
+    """Runs a program."""
+    ran = build.subprocess.run([build.sys.executable, "-S", "-c", MEASURE, *words], stdout=-1, check=True, timeout=300)
+    status, seconds, memory = ran.stdout.split()
+    return Measured(int(status), float(seconds), int(memory))
+
+
+class Limits(build.StationCase):
+    """Large and many files, and none."""
+
+    def large_packet(self) -> bytes:
+        """A packet of 37 MB with 60,000 messages."""
+        size = PACKET_SIZE // MESSAGES
+        short = len(echomail(1))
+        filler = b"x" * 79 + b"\r"
+        body = (filler * 20)[: size - short]
+        ready = [echomail(number).replace(b"--- x", body + b"--- x") for number in range(MESSAGES)]
+        return header(password=b"secret") + b"".join(ready) + END
+
+    def gate_within(self, most_seconds: float, most_memory: int) -> None:
+        """Runs the gate, and compares what it took with its limits."""
+        ran = measured(build.sys.executable, build.TOOL, self.top, "gate")
+        self.assertEqual(ran.status, 0)
+        self.assertLess(ran.seconds, most_seconds)
+        self.assertLess(ran.memory, most_memory)
+
+    def test_nothing_to_do(self):
+        """The script does not even start the program."""
+        path = os.path.join(build.STATION, "toss-inbound.sh")
+        build.subprocess.run([path, self.top], check=True, timeout=100)
+        before = resource.getrusage(resource.RUSAGE_CHILDREN)
+        build.subprocess.run([path, self.top], check=True, timeout=100)
+        after = resource.getrusage(resource.RUSAGE_CHILDREN)
+        self.assertLess(after.ru_utime + after.ru_stime - before.ru_utime - before.ru_stime, 0.1)
+        self.assertNotIn("gate", self.names())
+
+    def test_large_bundle(self):
+        content = self.large_packet()
+        self.put("inbound/0000ff90.su0", build.zipped(("x.pkt", content), method=zipfile.ZIP_DEFLATED))
+        self.gate_within(3, 64 * MEGABYTE)
+        self.assertEqual(self.content("tossing", "00000001.pkt"), header() + content[58:])
+
+    def test_large_packet(self):
+        content = self.large_packet()
+        self.put("inbound/a.pkt", content)
+        self.gate_within(3, 64 * MEGABYTE)
+        self.assertEqual(self.content("tossing", "00000001.pkt"), header() + content[58:])
+
+    def test_large_packet_with_letters(self):
+        text = message(b"hello\r" * 100)
+        content = header(password=b"secret") + b"".join(echomail(number) + (text if number % 100 == 0 else b"") for number in range(20000)) + END
+        self.put("inbound/a.pkt", content)
+        self.gate_within(3, 64 * MEGABYTE)
+        self.assertEqual(len(self.names("netmail")), 1)
+
+    def test_many_packets(self):
+        for number in range(200):
+            self.put("inbound/%03d.pkt" % number, build.packet(echomail(number)))
+        self.gate_within(1, 64 * MEGABYTE)
+        self.assertEqual(len(self.passed()), 200)
+
+    def test_status_of_many_areas(self):
+        tags = ["AREA%03d" % number for number in range(100)]
+        self.put("links", ("SYSTEM 2:5020/100\n" + "".join("AREA %s 2:5020/1\n" % tag for tag in tags)).encode())
+        os.makedirs(self.at("base"))
+        self.put("inbound/a.pkt", build.packet(*(echomail(number, tag=tag.encode()) for number, tag in enumerate(tags))))
+        self.assertEqual(self.run_tool("toss").returncode, 0)
+        listed = measured(build.program(), "list", "--areas", self.at("base"))
+        ran = measured(build.sys.executable, build.TOOL, self.top, "status")
+        self.assertEqual((listed.status, ran.status), (0, 0))
+        self.assertLess(ran.seconds - listed.seconds, 0.25)  # a program that is checked while it runs lists slowly
+
+
+if __name__ == "__main__":
+    unittest.main()

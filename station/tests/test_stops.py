@@ -1,0 +1,259 @@
+"""Runs that are killed, or lose their power, before each change of a file. They run again, and nothing is lost or used
+twice."""
+import os
+import random
+import re
+import struct
+import unittest
+
+import build
+from build import END, OWN, echomail, header, ids_in, letter, packet, stored, zipped
+from echonet_station import gate as gate_module
+from echonet_station import unpacking
+from stopping import Stop, StoppingDisk, copy_state, put_state
+
+CUTS = 3  # power cuts at each place
+OTHER = header(by=(21, 1, 1, 0), to=(21, 1, 100, 0), password=b"fsx") + echomail(99) + END
+
+
+class Stopping(build.StationCase):
+    """Stops a run at each place, and looks at what a second one makes of it."""
+
+    def run_once(self, disk=None) -> None:
+        """The run that is stopped."""
+        raise NotImplementedError
+
+    def look(self, where: str) -> None:
+        """What has to hold in the end."""
+        raise NotImplementedError
+
+    def stop_everywhere(self) -> int:
+        """Stops at each place, by a kill and by power cuts. Returns how many places there are."""
+        begin = copy_state(self.top)
+        place = 0
+        while True:
+            place += 1
+            for number in range(CUTS + 1):
+                put_state(self.top, begin)
+                disk = StoppingDisk(self.top, place)
+                try:
+                    self.run_once(disk)
+                    return place - 1
+                except Stop:
+                    pass
+                chance = random.Random(1000 * place + number)
+                if number:
+                    disk.cut(chance, chance.choice((0.0, 0.2, 0.5, 0.8, 1.0)))
+                for _ in range(2):
+                    self.run_once()
+                self.look("place %d, %s" % (place, "cut %d" % number if number else "kill"))
+
+
+class Gate(Stopping):
+    """Received files of all kinds."""
+
+    peers = build.PEERS + "LEAVE 21:1/100\n"
+
+    def setUp(self) -> None:
+        super().setUp()
+        # In this process: a fork for each run would take most of the time.
+        self.addCleanup(setattr, gate_module, "unpack", gate_module.unpack)
+        gate_module.unpack = unpacking.unpacked
+        mixed = packet(letter(91), echomail(5), letter(92, 7), letter(93, 100, b"\1TOPT 7\r"), echomail(6))
+        bundle = (("x", packet(echomail(1), echomail(2))), ("../../y", packet(echomail(3), letter(90))), ("read.me", b"hello"))
+        self.put("inbound/0000aaaa.mo0", zipped(*bundle))
+        self.put("inbound/0000bbbb.SU1", zipped(("x", header() + echomail(4) + END), ("o", OTHER), ("y", packet(echomail(12), password=b"x"))))
+        self.put("inbound/1.pkt", mixed)
+        self.put("inbound/2.pkt", packet(echomail(7), echomail(8))[:-60])
+        self.put("inbound/3.pkt", packet(echomail(9), password=b"wrong"))
+        self.put("inbound/4.pkt", packet(echomail(10, by=b"B" * 50), echomail(11)))
+        self.put("inbound/5.pkt", header(by=(2, 5020, 9, 0)) + echomail(13).replace(b"2:5020/1 ", b"2:5020/9 ") + END)
+        self.put("inbound/6.su9", b"")
+
+    def run_once(self, disk=None) -> None:
+        self.gate(disk)
+
+    def look(self, where: str) -> None:
+        packets = self.passed()
+        got = ids_in(b"".join(packets.values()))
+        self.assertEqual(set(got), {1, 2, 3, 5, 6, 7, 10, 11}, where)
+        self.assertTrue(any(b"2:5020/9 0000000d" in content for content in packets.values()), where)
+        letters = [number for name in self.names("netmail") for number in ids_in(self.content("netmail", name))]
+        self.assertEqual(sorted(letters), [90, 91, 93], where)
+        wanted = ["0000aaaa.mo0", "0000bbbb.SU1.1.pkt", "0000bbbb.SU1.3.pkt", "1.letters.pkt", "2.pkt", "3.pkt"]
+        self.assertEqual(self.names("bad"), sorted(wanted + [name + ".why" for name in wanted]), where)
+        for name in wanted:
+            self.assertTrue(self.reason(name).startswith("gate: "), where)
+        self.assertEqual([self.content("inbound", name) for name in self.names("inbound")], [OTHER], where)
+        self.assertEqual(self.names("gate"), [], where)
+        for name in self.names("tossing"):
+            self.assertTrue(os.path.exists(self.at("tossing", name[:8] + ".pkt")), (where, name))
+        for content in packets.values():
+            self.assertEqual((content[24:34], content[38:58], content[-2:]), (bytes(10), bytes(20), END), where)
+
+    def test_each_place(self):
+        self.assertGreater(self.stop_everywhere(), 80)
+
+
+class Reused(Stopping):
+    """A number that is used again: what an earlier packet left must not make a letter vanish."""
+
+    def run_once(self, disk=None) -> None:
+        self.gate(disk)
+        if disk is None:
+            self.put("inbound/b.pkt", packet(letter(92)))
+            self.gate()
+
+    def setUp(self) -> None:
+        super().setUp()
+        self.put("inbound/a.pkt", packet(letter(91)))
+
+    def look(self, where: str) -> None:
+        letters = [number for name in self.names("netmail") for number in ids_in(self.content("netmail", name))]
+        self.assertEqual(sorted(letters), [91, 92], where)
+
+    def test_each_place(self):
+        self.assertGreater(self.stop_everywhere(), 10)
+
+
+class Outgoing(Stopping):
+    """Letters, and packets of a scan."""
+
+    def setUp(self) -> None:
+        super().setUp()
+        self.put("netmail/2.msg", stored(b"out 2\r"))
+        self.put("netmail/3.msg", stored(b"\1TOPT 7\rto the point\r", to=OWN))
+        self.put("netmail/4.msg", stored(b"sent before\r", attributes=0x109))
+        self.put("netmail/5.msg", stored(b"received\r", attributes=1))
+        for node in (1, 2):
+            self.put("scanned/2.5020.%d.0.pkt" % node, header(OWN, (2, 5020, node, 0)) + echomail(node, seen=b"5020/1 31000/7") + END)
+        for name in ("letters", "netmail"):
+            os.makedirs(self.at(name), exist_ok=True)
+
+    def run_once(self, disk=None) -> None:
+        self.outgoing(disk)
+
+    def look(self, where: str) -> None:
+        packets = {name: self.content("scanned", name) for name in self.names("scanned")}
+        mail = b"".join(packets.values())
+        self.assertEqual((mail.count(b"out 2"), mail.count(b"to the point"), mail.count(b"sent before")), (1, 1, 0), where)
+        self.assertEqual(sorted(ids_in(mail)), [1, 2], where)
+        self.assertNotIn(b"31000/7", b"".join(packet[58:] for packet in packets.values()), where)
+        for name, content in packets.items():
+            self.assertEqual(content[26:32] == b"secret", name.startswith("2.5020.1."), where)
+        marks = [struct.unpack_from("<H", self.content("netmail", "%d.msg" % number), 186)[0] & 8 for number in (2, 3, 4, 5)]
+        self.assertEqual(marks, [8, 8, 8, 0], where)
+        self.assertEqual(self.names("letters"), [], where)
+
+    def test_each_place(self):
+        self.assertGreater(self.stop_everywhere(), 20)
+
+
+class Retoss(Stopping):
+    """Files of bad/ on their way back."""
+
+    def setUp(self) -> None:
+        super().setUp()
+        self.put("bad/1.pkt", packet(echomail(1)))
+        self.put("bad/1.pkt.why", b"gate: wrong packet password of 2:5020/1\n")
+        self.put("bad/2.pkt", header() + echomail(2) + END)
+        self.put("bad/2.pkt.why", b"filed 0 known 0 notecho 0 badtag 0 noarea 1 notlinked 0\nmessage 1 at 58 noarea area NEW\n")
+
+    def run_once(self, disk=None) -> None:
+        from echonet_station.bad_files import bad_files
+        from echonet_station.retoss import move_back
+        from echonet_station.station import Station
+
+        station = Station(self.top, disk)
+        station.load()
+        move_back(station, bad_files(station))
+        if disk is None:
+            self.gate()
+
+    def look(self, where: str) -> None:
+        got = ids_in(b"".join(self.passed().values()))
+        self.assertEqual(set(got), {1, 2}, where)
+        self.assertEqual([name for name in self.names("bad") if not name.endswith(".why")], [], where)
+
+    def test_each_place(self):
+        self.assertGreater(self.stop_everywhere(), 10)
+
+
+class Full(build.StationCase):
+    """Each change of a file fails once, as on a full disk. Then there is room, and all goes on."""
+
+    def test_gate(self):
+        mixed = packet(letter(91), echomail(5), letter(92, 7), echomail(6))
+        self.put("inbound/0000aaaa.mo0", zipped(("x", packet(echomail(1), echomail(2))), ("read.me", b"hello")))
+        self.put("inbound/1.pkt", mixed)
+        self.put("inbound/2.pkt", packet(echomail(7)))
+        self.put("inbound/3.pkt", packet(echomail(9), password=b"wrong"))
+        begin, place = copy_state(self.top), 0
+        while True:
+            place += 1
+            put_state(self.top, begin)
+            disk = StoppingDisk(self.top, place, OSError(28, "No space left on device"))
+            try:
+                status, _ = self.gate(disk)
+            except OSError:
+                status = 3
+            if disk.count < place:
+                break
+            self.assertEqual(status, 3, place)
+            self.gate()
+            got = ids_in(b"".join(self.passed().values()))
+            self.assertEqual(set(got), {1, 2, 5, 6, 7}, place)
+            letters = [number for name in self.names("netmail") for number in ids_in(self.content("netmail", name))]
+            self.assertEqual(letters, [91], place)
+            wanted = ["0000aaaa.mo0", "1.letters.pkt", "3.pkt"]
+            self.assertEqual(self.names("bad"), sorted(wanted + [name + ".why" for name in wanted]), place)
+            self.assertEqual((self.names("gate"), self.names("inbound")), ([], []), place)
+        self.assertGreater(place, 40)
+
+
+class FullForReal(build.StationCase):
+    """The system refuses to write more than a few bytes of each file."""
+
+    def test_no_room(self):
+        self.put("inbound/1.pkt", packet(*(echomail(number) for number in range(1, 40))))
+        self.put("inbound/2.pkt", header(by=(2, 5020, 9, 0)) + echomail(50) + END)
+        command = "ulimit -f 1; exec \"$0\" \"$@\""
+        words = ["/bin/sh", "-c", command, build.sys.executable, build.TOOL, self.top, "gate"]
+        ran = build.subprocess.run(words, capture_output=True, check=False, timeout=100)
+        self.assertEqual(ran.returncode, 3, ran.stderr)
+        self.assertRegex(ran.stderr.decode(), r"^echonet-station: gate/00000001\.in: File too large\n$")
+        self.assertEqual(sorted(self.passed()), ["2.pkt"])
+        self.assertEqual(self.names("gate"), ["00000001.in", "00000001.name"])
+        self.assertEqual(self.gate()[0], 0)
+        self.assertEqual(sorted(ids_in(b"".join(self.passed().values()))), [*range(1, 40), 50])
+
+
+class Killed(build.StationCase):
+    """Two runs at once, and runs that a signal ends."""
+
+    def test_at_once(self):
+        wanted = set()
+        for number in range(1, 41):
+            wanted.add(number)
+            content = packet(echomail(number), letter(1000 + number))
+            name = "inbound/%d.pkt" % number if number % 2 else "inbound/%08d.su0" % number
+            self.put(name, content if number % 2 else zipped(("x", content)))
+        chance = random.Random(7)
+        words = [build.sys.executable, build.TOOL, self.top, "gate"]
+        for _ in range(8):
+            runs = [build.subprocess.Popen(words, stdout=-3, stderr=-3) for _ in range(2)]
+            try:
+                runs[0].wait(chance.uniform(0.05, 0.4))
+            except build.subprocess.TimeoutExpired:
+                runs[0].kill()
+            for run in runs:
+                run.wait(100)
+        self.assertEqual(self.gate()[0], 0)
+        self.assertEqual(set(ids_in(b"".join(self.passed().values()))), wanted)
+        letters = [number for name in self.names("netmail") for number in ids_in(self.content("netmail", name))]
+        self.assertEqual(sorted(letters), [1000 + number for number in sorted(wanted)])
+        self.assertEqual((self.names("inbound"), self.names("gate"), self.names("bad")), ([], [], []))
+
+
+if __name__ == "__main__":
+    unittest.main()
