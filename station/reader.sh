@@ -2,7 +2,7 @@
 # reader.sh STATION AREA DIR: lets a reader such as GoldED read and write an area in the folder DIR of stored messages
 # (N.msg).
 # reader.sh --jam STATION AREA PATH: the same in the JAM base PATH (PATH.jhr and so on).
-# reader.sh STATION FILE: the same for all areas of FILE (readers.sh).
+# reader.sh [--unlocked | --areadef] STATION FILE: readers.sh, which does the same for all areas of FILE.
 #
 # In a folder it posts what an editor wrote (Local, not Sent, and under no id of the base), and moves it to
 # DIR/posted. A refused message goes to DIR/refused, with the fault and the note on it in NAME.why. Then the new
@@ -34,7 +34,7 @@ if [ "${1:-}" = --jam ]; then
     unlocked=yes
     shift
   fi
-elif [ $# -eq 2 ]; then
+elif [ $# -eq 2 ] || [ "${1:-}" = --areadef ] || [ "${1:-}" = --unlocked ]; then
   exec "$here/readers.sh" "$@"
 fi
 if [ $# -ne 3 ]; then

@@ -17,7 +17,10 @@ files() { (cd "$1" && find . ! -type d | sort); }
 
 # Installed and removed.
 make -s install DESTDIR="$root/one" PREFIX=/usr > /dev/null || exit 1
-for file in bin/echonet share/man/man1/echonet.1 share/echonet/{post,reader,readers,toss-inbound,scan-outbound,station}.sh \
+for file in bin/echonet bin/echonet-station share/man/man1/echonet.1 share/man/man1/echonet-station.1 \
+  share/echonet/echonet-station share/echonet/echonet_station/{start,gate,unpacking}.py \
+  share/bash-completion/completions/echonet-station share/zsh/site-functions/_echonet-station \
+  share/fish/vendor_completions.d/echonet-station.fish share/echonet/{post,reader,readers,toss-inbound,scan-outbound,station}.sh \
   share/echonet/{jam-lock,printable.awk,echonet.service,echonet.timer,echonet.logrotate,settings} share/doc/echonet/{README,OPERATORS,FORMATS}.md \
   share/bash-completion/completions/echonet share/zsh/site-functions/_echonet \
   share/fish/vendor_completions.d/echonet.fish share/echonet/move/{packets.py,net-page.css,net-page.js} \
@@ -69,6 +72,22 @@ for command in $commands; do
   done
 done
 check 'a program that fails completes nothing' "$(scripts/completions.sh /bin/false bash 2>&1; echo $?)" 1
+
+# The same of echonet-station, whose command is the second word.
+station_complete() {
+  bash -c '. "$1"; shift; COMP_WORDS=(echonet-station "$@"); COMP_CWORD=$#; _echonet_station; printf "%s\n" "${COMPREPLY[@]}"' \
+    - "$root/one/usr/share/bash-completion/completions/echonet-station" "$@" | sort
+}
+tool=$root/one/usr/bin/echonet-station
+commands=$("$tool" --help | sed -n '/^Commands:/,/^$/s/^  \([a-z]*\) .*/\1/p')
+check 'there are words' "$([ "$(wc -w <<< "$commands")" -ge 13 ] && echo yes)" yes
+check 'words' "$(station_complete one '')" "$(sort <<< "$commands")"
+for command in $commands; do
+  check "options of echonet-station $command" "$(station_complete one "$command" --)" \
+    "$("$tool" "$command" --help | sed -n '/^Options:/,/^$/p' | grep -o -- '--[a-z][a-z-]*' | sort -u)"
+done
+mkdir -p "$root/folders/one"
+check 'folders of stations' "$(cd "$root/folders" && station_complete o)" one
 echo text > "$root/some file"
 check 'files' "$(cd "$root" && complete show some)" 'some file'
 

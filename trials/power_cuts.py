@@ -1,6 +1,7 @@
 """Cuts the power under the program and the scripts of station, and judges what the disk has then.
 
-Stations on one disk post, toss, scan, purge, convert and export, on base files and base folders, or by the scripts.
+Stations on one disk post, toss, scan, purge, convert and export, on base files and base folders, or by the scripts,
+also with packet passwords and zip bundles.
 At the same time another program flushes files of its own. At each cut (power.py) the file system is mounted again.
 
 - What ended with status 0 is there, whole and once.
@@ -10,8 +11,10 @@ At the same time another program flushes files of its own. At each cut (power.py
 
 Some disks are flushed whole before some files get their names: after that, btrfs keeps no order among unflushed
 names. At last all is done with an `fsync` that does nothing. There cuts have to do harm.
-Arguments: how many cuts (2000), and the file systems (ext4 xfs btrfs). SEED makes the same again.
+Arguments: how many cuts (2000), and the file systems (ext4 xfs btrfs). SEED makes the same again. ONLY names one kind
+of stations (commands, scripts, peered).
 """
+import io
 import os
 import random
 import shutil
@@ -21,6 +24,7 @@ import sys
 import tempfile
 import threading
 import time
+import zipfile
 from os.path import join
 from typing import NamedTuple
 
@@ -29,7 +33,7 @@ import making
 import power
 import stored
 from contents import PROGRAM, TOP
-from judge import LINKS, Judge, Message, content, files_of, number_of, packet_of, texts_of
+from judge import LINKED, LINKS, Judge, Message, content, files_of, number_of, packet_of, texts_of
 
 NO_FLUSH = b"int fsync(int f) { (void)f; return 0; }\nint fdatasync(int f) { (void)f; return 0; }\n"
 
@@ -75,10 +79,12 @@ class Step(NamedTuple):
 
 
 def make(path, given):
-    """Makes a file as a mailer does: afterwards it is on the disk under its name."""
+    """Makes a file as a mailer does: afterwards it is on the disk under its name. Its time is an hour ago: nothing waits
+    for a program that may still write it."""
     with open(path + ".part", "wb") as file:
         file.write(given)
         file.flush()
+        os.utime(path + ".part", (time.time() - 3600, time.time() - 3600))
         os.fsync(file.fileno())
     os.rename(path + ".part", path)
     flush(os.path.dirname(path))
@@ -369,14 +375,58 @@ def in_front(work, source):
     return path
 
 
-# Stations whose commands run without the scripts, and those of the scripts, and the steps of each disk.
+class Peered(Scripts):
+    """The same with a file `peers`: packets have passwords, and half of those that arrive are in zip bundles."""
+    passing = Scripts.passing + [("inbound", ".mo0"), ("gate", ""), ("letters", "")]
+    password = b"secret\0\0"
+
+    def begin(self, folder):
+        super().begin(folder)
+        make(join(folder, "peers"), b"".join(b"PEER %s PASSWORD secret\n" % making.shown(link).encode() for link in LINKED))
+
+    def do(self, judge, folder, step, wanted=0):
+        if step.what != "arrive":
+            return super().do(judge, folder, step, wanted)
+        packet = packet_of(step.messages)
+        packet = packet[:26] + self.password + packet[34:]
+        serial = step.messages[0].serial
+        if serial % 2:
+            make(join(folder, "inbound", "%08x.pkt" % serial), packet)
+        else:
+            bundle = io.BytesIO()
+            with zipfile.ZipFile(bundle, "w", zipfile.ZIP_DEFLATED) as archive:
+                archive.writestr("%08x.pkt" % serial, packet)
+            make(join(folder, "inbound", "%08x.mo0" % serial), bundle.getvalue())
+        return 0
+
+    def look(self, judge, folder, done, opened):
+        may = all_of(done) + opened.messages
+        judge.texts(self.name + ": base", texts_of(join(folder, "base")), self.filed(done), may)
+        packets = {name: packet for name, (step, packet) in self.mailed.items() if step in done or step is opened}
+        packets.update(files_of(join(folder, "packets"), ".pkt"))
+        for name, packet in packets.items():
+            judge.expect("%s: the password of %s" % (self.name, name), packet[26:34] == self.password)
+            packets[name] = packet[:26] + bytes(8) + packet[34:]
+        judge.packets(self.name, packets, self.filed(before_last(done, "scan")), may)
+
+    def again(self, judge, folder, done, opened):
+        if not opened.messages or opened.what != "arrive":
+            return super().again(judge, folder, done, opened)
+        serial = opened.messages[0].serial
+        name = "%08x.%s" % (serial, "pkt" if serial % 2 else "mo0")
+        return done + [opened] if os.path.exists(join(folder, "inbound", name)) else done
+
+
+# Stations whose commands run without the scripts, those of the scripts, and the steps of each disk.
 STATIONS = {
     "commands": (120, lambda: [Plain("file", False), Plain("folder", True), Exports("out_of_file", False), Exports("out_of_folder", True)]),
-    "scripts": (60, lambda: [Scripts("scripts_file", False), Scripts("scripts_folder", True)])}
+    "scripts": (60, lambda: [Scripts("scripts_file", False), Scripts("scripts_folder", True)]),
+    "peered": (60, lambda: [Peered("peered_file", False), Peered("peered_folder", True)])}
+SHARES = {"commands": 0.7, "scripts": 0.15, "peered": 0.15}
 
 
 def main(words):
-    """Half of the cuts are on the first file system, and a quarter under scripts. Then there are some without
+    """Half of the cuts are on the first file system, and three in ten under scripts. Then there are some without
     flushes."""
     why, there = power.enter(), power.kinds(words[1:])
     if why or not there:
@@ -388,7 +438,9 @@ def main(words):
     for kind in there:
         share = count if len(there) == 1 else count / 2 if kind == there[0] else count / 2 / (len(there) - 1)
         for what, (steps, stations) in STATIONS.items():
-            left = round(share * (0.75 if what == "commands" else 0.25))
+            if os.environ.get("ONLY", what) != what:
+                continue
+            left = round(share * SHARES[what])
             while left > 0:
                 some, chance = min(left, 125), random.Random("%d %s %s %d" % (seed, kind, what, left))
                 bad += session(kind, stations(), chance, steps, some)

@@ -99,6 +99,16 @@ class Accept(Handwork):
         self.assertEqual(self.say("accept", "NEW")[0], 2)
         self.assertEqual(self.say("accept", "NEW", "x")[0], 4)
 
+    def test_a_refused_line(self):
+        """`echonet` judges the new file before it replaces the old one."""
+        self.bring(packet(echomail(1, tag=b"NEW")))
+        text = build.LINKS + "AREA BAD 2:5020/1 2:5020/1\n"
+        self.put("links", text.encode())
+        status, lines = self.say("accept", "NEW")
+        self.assertEqual((status, self.content("links"), self.names("bad")), (2, text.encode(), ["1.pkt", "1.pkt.why"]))
+        self.assertIn("L6 RepeatedLink", lines[0])
+        self.assertNotIn("links.new", self.names())
+
     def test_a_point(self):
         self.bring(build.header(by=(2, 5020, 100, 7), plus=True) + echomail(1, tag=b"NEW") + build.END)
         self.assertEqual(self.say("accept"), (0, ["new area NEW from 2:31000/7 1 messages"]))

@@ -95,6 +95,31 @@ class Gate(Stopping):
         self.assertGreater(self.stop_everywhere(), 80)
 
 
+class Few(Stopping):
+    """A bundle with a bad member, a packet with a password and a letter, and one that is refused."""
+
+    def setUp(self) -> None:
+        super().setUp()
+        self.addCleanup(setattr, gate_module, "unpack", gate_module.unpack)
+        gate_module.unpack = unpacking.unpacked
+        self.put("inbound/0000aaaa.mo0", zipped(("x", packet(echomail(1))), ("read.me", b"hello")))
+        self.put("inbound/1.pkt", packet(echomail(2), letter(91)))
+        self.put("inbound/2.pkt", packet(echomail(3), password=b"wrong"))
+
+    def run_once(self, disk=None) -> None:
+        self.gate(disk)
+
+    def look(self, where: str) -> None:
+        self.assertEqual(set(ids_in(b"".join(self.passed().values()))), {1, 2}, where)
+        self.assertEqual([ids_in(self.content("netmail", name)) for name in self.names("netmail")], [[91]], where)
+        wanted = ["0000aaaa.mo0", "0000aaaa.mo0.why", "2.pkt", "2.pkt.why"]
+        self.assertEqual((self.names("bad"), self.names("gate"), self.names("inbound")), (wanted, [], []), where)
+        self.assertTrue(self.reason("2.pkt").startswith("gate: wrong packet password"), where)
+
+    def test_each_place(self):
+        self.assertGreater(self.stop_everywhere(), 30)
+
+
 class Reused(Stopping):
     """A number that is used again: what an earlier packet left must not make a letter vanish."""
 

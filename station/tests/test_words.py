@@ -4,7 +4,7 @@ import re
 import unittest
 
 import build
-from echonet_station.words import WORDS
+from echonet_station.words import ALL_STATUSES, WORDS
 
 
 class Help(build.StationCase):
@@ -39,6 +39,34 @@ class Help(build.StationCase):
         for word in ("toss", "gate", "retoss", "new"):
             self.assertEqual(self.run_tool(word, "--help").returncode, 0)
         self.assertEqual(self.names(), ["inbound", "links", "peers"])
+
+
+class Manual(unittest.TestCase):
+    """The manual page says what the help says."""
+
+    def setUp(self) -> None:
+        page = build.content(os.path.join(build.STATION, "..", "docs", "echonet-station.1")).decode()
+        self.page = re.sub(r"\\f[A-Z]", "", page.replace("\\-", "-"))
+
+    def test_words(self):
+        commands = self.page.split(".SH COMMANDS")[1].split(".SH EXIT")[0]
+        heads = dict(re.findall(r"^\.SS ([a-z]+) ?(.*)$", commands, re.M))
+        self.assertEqual(list(heads), [word.name for word in WORDS])
+        for word in WORDS:
+            options = "".join("[%s] " % name for name, _ in word.options)
+            usage = word.usage.replace("[OPTIONS] ", options).replace("[OPTIONS]", options.strip())
+            self.assertEqual(heads[word.name], re.sub("[<>]", "", usage), word.name)
+            part = commands.split(".SS " + word.name)[1].split("\n.SS ")[0]
+            self.assertEqual(re.findall(r"^\.B (--[a-z]+)$", part, re.M), [name for name, _ in word.options])
+
+    def test_statuses(self):
+        part = self.page.split(".SH EXIT STATUS")[1].split(".SH ")[0]
+        self.assertEqual(tuple("  ".join(pair) for pair in re.findall(r"^\.B ([0-9])\n(.*)$", part, re.M)), ALL_STATUSES)
+
+    def test_faults_of_peers(self):
+        faults = re.findall(r"K[1-6] [A-Za-z]+", build.content(os.path.join(build.STATION, "echonet_station", "peers.py")).decode())
+        for fault in set(faults):
+            self.assertIn(fault, self.page)
 
 
 class Statuses(build.StationCase):
