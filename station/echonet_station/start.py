@@ -37,10 +37,13 @@ def print_help(words: list[str]) -> Optional[int]:
     """Prints help, if the command line asks for it."""
     from .words import BY_NAME, general_help
 
-    if not words or words[0] == "help" or (words[0] in HELPS):
+    if not words:
+        print(general_help(), file=sys.stderr)
+        return 4
+    if words[0] in (*HELPS, "help"):
         names = [word for word in words[1:] if word in BY_NAME]
         print(BY_NAME[names[0]].help() if names else general_help())
-        return 0 if words else 4
+        return 0
     if words[0] == "--version":
         from .calls import program
 
