@@ -38,6 +38,8 @@ each python3 trials/jam_beside.py &
 each python3 trials/jamnntpd.py &
 each python3 trials/readers.py &
 each python3 trials/moving.py &
+each python3 trials/links_seen.py &
+each python3 trials/tools/wrong_bodies.py &
 each python3 trials/answers.py &
 each python3 trials/terminal.py &
 each python3 trials/dressed.py &
@@ -47,8 +49,10 @@ each python3 trials/realnet.py &
 wait
 each python3 trials/mixed.py
 each python3 trials/stations.py 300 "$cores"
+each python3 trials/repairs.py 200 "$cores"
 each python3 trials/hostile.py "$inputs" "$cores"
 each python3 trials/nets.py &
+each python3 trials/tools/limits.py &
 each python3 trials/grown.py "$size" $(((cores + 1) / 2)) &
 wait
 echo "== in all, $SECONDS s"

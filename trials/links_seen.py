@@ -130,8 +130,6 @@ class CrashMail(Station):
             os.rename(self.path("inbound", name), self.path("inbound", "%08x.pkt" % number))
         if names:
             self.crashmail("TOSS")
-        if os.listdir(self.path("bad")) not in ([], ["1.msg"]):
-            sys.exit("links_seen.py: CrashMail has bad mail: %r" % os.listdir(self.path("bad")))
 
     def sources(self, chance):
         """Its bases."""
@@ -182,11 +180,18 @@ class Net:
         while True:
             contents = [content for station in self.stations.values() for content in station.send()]
             if not contents:
-                return
+                return self.check()
             for content in contents:
                 self.deliver(content)
             for station in self.stations.values():
                 station.take()
+
+    def check(self):
+        """Each message of an area was sent to each other system of it."""
+        for tag, (members, _) in self.areas.items():
+            found = Counter(key[1] for key in self.first if key[0] == tag)
+            if len(found) != len(members) or set(found.values()) != {len(members) - 1}:
+                sys.exit("links_seen.py: %s: %r" % (tag, found))
 
     def taken(self, systems):
         """The links of the ways by which messages came to some systems, each with its count of messages."""
@@ -223,7 +228,7 @@ def try_systems(net, systems, name):
     """Reads the bases of some systems. Returns the folder of the link files."""
     folder = os.path.join(net.place, name)
     words = [word for system in systems for word in ["--own", making.shown(system)] + net.stations[system].sources(net.chance)]
-    run(SEEN, folder, *words)
+    run(sys.executable, SEEN, folder, *words)
     found, wanted = seen(folder), net.taken(systems)
     if found != wanted:
         sys.exit("links_seen.py: %s: %r, and not %r" % (name, sorted(set(found.items()) ^ set(wanted.items())), len(wanted)))

@@ -116,7 +116,7 @@ def run_of(area: nets.Area, files: list[nets.LinkFile], names: dict[Address, str
     """The steps of the output of `why`."""
     lines = printed.splitlines()
     replay = Replay(area, files, names)
-    steps = [replay.step(line) for line in lines if not line.startswith(";")]
+    steps = [replay.step(line) for line in lines if line and not line.startswith(";")]
     ends = [line for line in lines[1:] if line.startswith("; ") and
             (line.endswith((" times", " never comes to rest", "; no harm found")) or " is sent its own " in line or " never gets " in line)]
     return Run(tuple(lines), tuple(steps), harm_in_words(ends[-1], names) if ends else "")

@@ -144,11 +144,16 @@ class Folder(Source):
     def contents(self) -> Iterator[bytes]:
         """The bytes of each file, ascending by name."""
         for name in sorted(self.files, key=lambda name: (len(name), name)):
+            path = os.path.join(self.path, name)
             try:
-                with open(os.path.join(self.path, name), "rb") as file:
-                    yield file.read()
+                if not os.path.isfile(path):
+                    raise OSError
+                with open(path, "rb") as file:
+                    content = file.read()
             except OSError:
                 self.damage["damaged files"] += 1
+            else:
+                yield content
 
 
 class Stored(Folder):

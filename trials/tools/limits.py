@@ -22,7 +22,7 @@ MOST_OF_A_PAGE = 20_000_000
 def used(tool, *words):
     """Runs a tool. Returns its seconds of processor time, and its megabytes."""
     before = resource.getrusage(resource.RUSAGE_CHILDREN)
-    done = subprocess.run(["/usr/bin/env", "python3", os.path.join(fixtures.TOOLS, tool), *words], stdout=subprocess.DEVNULL,
+    done = subprocess.run([sys.executable, os.path.join(fixtures.TOOLS, tool), *words], stdout=subprocess.DEVNULL,
                           env={**os.environ, "ECHONET": fixtures.PROGRAM}, check=False)
     after = resource.getrusage(resource.RUSAGE_CHILDREN)
     seconds, megabytes = after.ru_utime + after.ru_stime - before.ru_utime - before.ru_stime, after.ru_maxrss / 1024

@@ -167,7 +167,7 @@ class Sources(Case):
         self.assertEqual(self.links(source, fault="%s: 1 damaged messages" % self.path("base")), links)
         source = self.msg([FIRST])
         write(self.path("msg", "9.msg"), b"short")
-        os.mkdir(self.path("msg", "10.msg"))
+        os.mkfifo(self.path("msg", "10.msg"))
         write(self.path("msg", "x1.msg"), fixtures.stored(SECOND))
         fault = "%s: 1 damaged messages\n%s: 1 damaged files" % (self.path("msg"), self.path("msg"))
         self.assertEqual({link[1:4] for link in self.links(source, fault=fault)}, {("1:10/1", "1:10/2", 1), ("1:10/2", "1:10/3", 1)})

@@ -4,6 +4,7 @@ import glob
 import hashlib
 import html.parser
 import os
+import random
 import re
 import shutil
 import tempfile
@@ -11,6 +12,8 @@ import unittest
 
 import browser
 import fixtures
+import making
+import topologies
 from fixtures import write
 
 NETS = os.path.join(fixtures.TOP, "examples", "nets")
@@ -142,6 +145,22 @@ class Contents(Case):
             "Packet 0 arrives at 1:10/1, which files the message.", "Packet 1 arrives at 1:10/3, which files the message.",
             "1:10/1 scans. It makes packet 2 for 1:10/4.", "1:10/3 scans. It makes packet 3 for 1:10/4."])
         self.assertEqual([element[2] for element in page.all("p", "class", "harm")], ["1:10/4 is sent the message 2 times."])
+
+    def test_harm(self):
+        """On random nets the steps make as many packets for the harmed system as the harm says."""
+        tried = 0
+        for seed in range(12):
+            net = topologies.net(random.Random(seed))
+            files = [write(os.path.join(self.place, "%d.links" % at), making.link_file(system, areas))
+                     for at, (system, _, areas) in enumerate(net)]
+            page = self.make(*files)
+            for section in page.all("section"):
+                found = re.search(r"; (\S+) is sent \S+ \S+ (\d+) times", section[2])
+                if found:
+                    tried += 1
+                    steps = section[2].split("How it goes wrong")[1].split("As echonet why prints it")[0]
+                    self.assertEqual(len(re.findall(r"packet \d+ for %s\b" % found[1], steps)), int(found[2]), seed)
+        self.assertGreater(tried, 2)
 
     def test_order(self):
         """Areas are sorted by harm."""

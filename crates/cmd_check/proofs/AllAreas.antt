@@ -5,12 +5,11 @@ use Rattle.std.specs.List.{AllByRecursion}
 use Rattle.cmd_status.specs.{Devices.Output, declared.fault.Fault.Fault, declared.status.Status.Status, declared.status.Status.TheVariants.Good, Inputs.AreLinkFiles, Inputs.IsNodelistGiven}
 use Rattle.echo_links.specs.Links.{LinkFile}
 use Rattle.echo_nodelist.specs.declared.line.Line.{Line}
-use Rattle.model_run.specs.Tidy.{Tidy}
+use Rattle.model_run.specs.{Tidy.Tidy, AnyState.NewMessagesAreInOrder}
 use Rattle.echo_net.specs.{declared.verdict.Verdict.Verdict, declared.verdict.Verdict.TheVariants.Yes, declared.verdict.Verdict.TheVariants.No, Faults.IsCarried, Faults.IsYes}
 use Rattle.cmd_status.proofs.Lines.{alone}
 use Rattle.cmd_print.specs.Pushed.{Pushes}
 use Rattle.cmd_check.specs.CheckingAll.{AreAreasChecked, CheckAllAnswers, IsAllChecked, IsAreaChecked, no_count, verdicts_status}
-use Rattle.model_run.specs.AnyState.{NewMessagesAreInOrder}
 use Rattle.cmd_check.specs.{AreaTags.AreAllTags, Checking.IsCheckVerdict, Further.IsVerdictShown, Further.areas_line}
 use Rattle.cmd_check.proofs.Checks.{one_reading}
 

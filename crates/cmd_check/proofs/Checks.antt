@@ -3,11 +3,9 @@ use Rattle.std.proofs.Common.{◌≡◌, ℕ, Bool, List, [], ◌∷◌, Option,
 use Rattle.cmd_status.specs.{Devices.Output, declared.fault.Fault.Fault, declared.status.Status.Status, declared.status.Status.TheVariants.Good, Inputs.AreLinkFiles, Inputs.IsNodelistGiven}
 use Rattle.echo_links.specs.Links.{LinkFile, upper}
 use Rattle.echo_nodelist.specs.declared.line.Line.{Line}
-use Rattle.model_run.specs.Tidy.{Tidy}
+use Rattle.model_run.specs.{Tidy.Tidy, AnyState.NewMessagesAreInOrder}
 use Rattle.echo_net.specs.{declared.verdict.Verdict.Verdict, declared.verdict.Verdict.TheVariants.Yes, declared.verdict.Verdict.TheVariants.No, Faults.IsYes}
-use Rattle.model_run.specs.AnyState.{NewMessagesAreInOrder}
-use Rattle.cmd_check.specs.Checking.{CheckAnswers, IsChecked, IsCheckVerdict, verdict_status}
-use Rattle.cmd_check.specs.Further.{IsVerdictShown}
+use Rattle.cmd_check.specs.{Checking.CheckAnswers, Checking.IsChecked, Checking.IsCheckVerdict, Checking.verdict_status, Further.IsVerdictShown}
 use Rattle.cmd_print.specs.Pushed.{Pushes}
 use Rattle.cmd_status.proofs.Lines.{alone}
 

@@ -4,9 +4,8 @@ use Rattle.cmd_status.specs.{Devices.Output, declared.fault.Fault.Fault, declare
 use Rattle.cmd_status.specs.{Ended.Answers, Inputs.AreLinkFiles, Inputs.IsFirstFaultGiven, Inputs.IsNodelistGiven}
 use Rattle.echo_links.specs.Links.{LinkFile}
 use Rattle.echo_nodelist.specs.declared.line.Line.{Line}
-use Rattle.model_run.specs.Tidy.{Tidy}
+use Rattle.model_run.specs.{Tidy.Tidy, AnyState.NewMessagesAreInOrder}
 use Rattle.echo_net.specs.{declared.verdict.Verdict.Verdict, declared.verdict.Verdict.TheVariants.Yes, declared.verdict.Verdict.TheVariants.No, Faults.IsCarried}
-use Rattle.model_run.specs.AnyState.{NewMessagesAreInOrder}
 use Rattle.cmd_check.specs.{AreaTags.AreAllTags, Checking.IsCheckVerdict, Further.IsVerdictShown, Further.areas_line}
 
 -- 1 for a no, 0 for a yes.

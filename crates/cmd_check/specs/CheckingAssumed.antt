@@ -3,9 +3,8 @@ use Rattle.std.specs.Prelude.{◌≡◌, ◌⊎◌, ℕ, Bool, List, ◌++◌, O
 use Rattle.std.specs.List.{flat_map}
 use Rattle.echo_addr.specs.declared.address.Address.{Address}
 use Rattle.echo_links.specs.Links.{LinkFile, upper}
-use Rattle.model_run.specs.Tidy.{Tidy}
+use Rattle.model_run.specs.{Tidy.Tidy, AnyState.NewMessagesAreInOrder}
 use Rattle.cmd_status.specs.{Devices.Output, declared.fault.Fault.Fault, declared.status.Status.Status, Ended.Answers, Inputs.AreLinkFiles, Inputs.IsFirstFaultGiven, Inputs.IsLinkFault}
-use Rattle.model_run.specs.AnyState.{NewMessagesAreInOrder}
 use Rattle.cmd_check.specs.{Assuming.AreAssumed, Assuming.assumed_line, Checking.IsChecked}
 
 -- The lines of `check` on these files, and then a line for each assumed system.

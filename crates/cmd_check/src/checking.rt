@@ -2,9 +2,8 @@
 ghost use Rattle.std.specs.Prelude.{◌≡◌, ℕ, List, None, Ok, OnOk, Option, option_copied};
 ghost use Rattle.cmd_status.specs.{Devices.output_of, declared.status.Status.TheVariants.Good, Inputs.AreLinkFiles, Inputs.IsNodelistGiven};
 ghost use Rattle.echo_links.specs.Links.{LinkFile, upper};
-ghost use Rattle.model_run.specs.Tidy.{Tidy};
+ghost use Rattle.model_run.specs.{Tidy.Tidy, AnyState.NewMessagesAreInOrder};
 ghost use Rattle.echo_net.specs.Faults.{IfNo, IsFirstFault};
-ghost use Rattle.model_run.specs.AnyState.{NewMessagesAreInOrder};
 ghost use Rattle.cmd_check.specs.{Checking.CheckAnswers, Checking.verdict_status, Further.IsVerdictShown};
 ghost use Rattle.cmd_print.specs.Pushed.{Pushes};
 

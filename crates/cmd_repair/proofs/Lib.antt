@@ -1,2 +1,5 @@
 pub mod Searching
 pub mod Cutting
+pub mod Readings
+pub mod Gatherings
+pub mod Printings

@@ -1,9 +1,9 @@
 -- A binary search in sorted words finds just its members.
 use Rattle.std.proofs.Common.{◌≡◌, ℕ, zero, suc, ◌+◌, ◌<◌, Bool, true, false, List, [], ◌∷◌, length, map, get_or, Result, Ok, Err, is_ok, refl, sym, ap, ◌∙◌, inl, inr, arith}
-use Rattle.std.proofs.lemmas.{Bool.cases_Bool, Bool.ltb-false, Bool.ltb-true, Bool.or_from, Bool.or_left, Bool.or_right, Cmp.nat_list_cmp_total, Cmp.nat_list_eq_equiv, List.get_or-map, List.Sorted.searchable_from_sorted, Map.Text.is_eq-slice_cmp}
-use Rattle.std.specs.declared.cmp.Ordering.{Ordering, TheVariants.Equal}
-use Rattle.std.specs.{Cmp.Lexicographic.slice_cmp, Ordering.is_eq, Ordering.is_lt, Ordering.nat_cmp, List.list_any, Prelude.bytes_eq, Prelude.nat_lt}
-use Rattle.std.specs.List.Sorted.{IsBinarySearchResult, IsSearchInRange, IsSorted, IsSortedBy}
+use Rattle.std.proofs.lemmas.Bool.{cases_Bool, ltb-false, ltb-true, or_from, or_left, or_right}
+use Rattle.std.proofs.lemmas.{Cmp.nat_list_cmp_total, Cmp.nat_list_eq_equiv, List.get_or-map, List.length-map, List.Sorted.searchable_from_sorted, Map.Text.is_eq-slice_cmp}
+use Rattle.std.specs.{declared.cmp.Ordering.Ordering, declared.cmp.Ordering.TheVariants.Equal, Cmp.Lexicographic.slice_cmp, Ordering.is_eq, Ordering.is_lt, Ordering.nat_cmp, List.list_any}
+use Rattle.std.specs.{Prelude.bytes_eq, Prelude.nat_lt, List.Sorted.IsBinarySearchResult, List.Sorted.IsSearchInRange, List.Sorted.IsSorted, List.Sorted.IsSortedBy}
 
 none_passes : {X : Type 0} (p : X → Bool) (xs : List X) → ((k : ℕ) (d : X) → k < length xs → p (get_or xs k d) ≡ false) → list_any p xs ≡ false
 none_passes p [] h = refl
@@ -44,14 +44,14 @@ module _ {X : Type 0} (bytes : X → List ℕ) where
   sorted_bytes [] sorted = λ k d low high. absurd (omega (arith, high))
   sorted_bytes (x ∷ xs) sorted = λ k d low high.
       let all = x ∷ xs in
-      let within : k + 1 < length all = grind (arith, high) in
+      let within : k + 1 < length all = rw length-map at high in
       ap (λ l. is_lt (slice_cmp nat_cmp l (get_or (map bytes all) k d))) (get_or-map bytes all (k + 1) x d within)
       ∙ ap (λ l. is_lt (slice_cmp nat_cmp (bytes (get_or all (k + 1) x)) l)) (get_or-map bytes all k x d (omega (arith, within)))
       ∙ sorted k x low within
 
   pub sorted_words : (xs : List X) → IsSorted (slice_cmp nat_cmp) (map bytes xs) → IsSortedBy (λ x y. is_lt (slice_cmp nat_cmp (bytes x) (bytes y))) xs
   sorted_words xs sorted = λ k d low high.
-      let within : k + 1 < length (map bytes xs) = grind (arith, high) in
+      let within : k + 1 < length (map bytes xs) = rw length-map high in
       sym (ap (λ l. is_lt (slice_cmp nat_cmp l (get_or (map bytes xs) k (bytes d)))) (get_or-map bytes xs (k + 1) d (bytes d) high)
       ∙ ap (λ l. is_lt (slice_cmp nat_cmp (bytes (get_or xs (k + 1) d)) l)) (get_or-map bytes xs k d (bytes d) (omega (arith, high))))
       ∙ sorted k (bytes d) low within

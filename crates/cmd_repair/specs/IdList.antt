@@ -17,11 +17,15 @@ abbrev pub is_wrong : Stage → Bool
 is_wrong Wrong = true
 is_wrong _ = false
 
+-- Behind its last line a list is whole. Else the next line is missing.
+abbrev pub missing_line : ℕ → Stage → Option ℕ
+missing_line number Ended = None
+missing_line number _ = Some number
+
 -- The first wrong line from the line of this number on, or the one after the last if the list is cut. The lines between
 -- the first and the last are those of ids, one each.
 abbrev pub wrong_line : List ℕ → ℕ → Stage → List (List ℕ) → Option ℕ
-wrong_line area number Ended [] = None
-wrong_line area number _ [] = Some number
+wrong_line area number stage [] = missing_line number stage
 wrong_line area number stage (line ∷ later) =
     if is_wrong (stage_after area (number - 2) stage line) then Some number
     else wrong_line area (number + 1) (stage_after area (number - 2) stage line) later

@@ -5,7 +5,7 @@ use Rattle.base_file.specs.Base.{Base}
 use Rattle.echo_charset.specs.Escaped.{escaped_line}
 use Rattle.echo_filed.specs.Filed.{Filed}
 use Rattle.echo_text.specs.Echo.{msgid_of}
-use Rattle.cmd_status.specs.{declared.status.Status.Status, declared.status.Status.TheVariants.Good}
+use Rattle.cmd_status.specs.declared.status.Status.{Status, TheVariants.Good}
 use Rattle.cmd_repair.specs.Words.{area_words, end_words}
 
 -- Whether the message belongs to the area.

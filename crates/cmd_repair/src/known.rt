@@ -18,13 +18,13 @@ impl<'a> Model for KnownIds<'a> {
 
     ghost view = { λ known. map (λ word. word.now) known.sorted.items };
 
-    ghost invariant = { λ known. IsSorted (slice_cmp nat_cmp) known };
+    ghost invariant = { λ known. IsSorted (slice_cmp nat_cmp) (map (λ word. word.now) known.sorted.items) };
 }
 
 impl<'a> KnownIds<'a> {
     /// Those of these words, in any order.
     pub(crate) fn of(words: Vec<&'a [u8]>) -> KnownIds<'a>
-        ensures { (word : List ℕ) → list_any (bytes_eq word) result ≡ list_any (bytes_eq word) (map (λ known. known.now) words.items) }
+        ensures { (word : List ℕ) → list_any (bytes_eq word) result ≡ list_any (bytes_eq word) (map (λ one. one.now) words.entry.items) }
     {
         let mut sorted = words;
         sorted.sort_unstable();

@@ -1,6 +1,6 @@
 //! A list of ids is read, as `list --ids` prints it.
-ghost use Rattle.std.specs.Prelude.{◌≡◌, ◌++◌, IfOk, List, ℕ};
-ghost use Rattle.cmd_repair.specs.IdList.{ReadsIds, is_wrong, stage_after};
+ghost use Rattle.std.specs.Prelude.{◌≡◌, ◌++◌, ◌∷◌, [], IfOk, List, OnOk, ℕ, map};
+ghost use Rattle.cmd_repair.specs.IdList.{ReadsIds, id_words, is_wrong, stage_after};
 ghost use Rattle.cmd_repair.specs.Words as words;
 
 use crate::known::KnownIds;
@@ -39,16 +39,24 @@ pub fn read_ids<'a, 'b>(
         if is_wrong(stage) {
             return Err(Fault::ListLine(number));
         }
-        if is_id_line(line) {
-            words.push(id_word(line))?;
-        }
-        number += 1;
+        take_word(&mut words, line)?;
+        number = number.checked_add(1).ok_or(AllocError)?;
         rest = after;
     }
     match stage {
         Stage::Ended => Ok(KnownIds::of(words)),
         _ => Err(Fault::ListLine(number)),
     }
+}
+
+// Adds the word of the line, if it is that of an id.
+fn take_word<'a>(words: &mut Vec<&'a [u8]>, line: &'a [u8]) -> Result<(), AllocError>
+    ensures { OnOk result (map (λ word. word.now) words.new.items ≡ map (λ word. word.now) words.old.items ++ id_words (line.now ∷ [])) }
+{
+    if is_id_line(line) {
+        words.push(id_word(line))?;
+    }
+    Ok(())
 }
 
 fn is_wrong(stage: Stage) -> bool

@@ -1,6 +1,5 @@
 //! The lines of a list of ids: they are judged here, and written.
-ghost use Rattle.std.specs.Prelude.{◌≡◌, ◌++◌, ◌<◌, ◌^◌, ◌≤◌, IfOk, OnOk, length, fold};
-ghost use Rattle.std.specs.List.{prefix_len};
+ghost use Rattle.std.specs.Prelude.{◌≡◌, ◌++◌, ◌<◌, ◌≤◌, IfOk, OnOk, length, take_while};
 ghost use Rattle.cmd_repair.specs.Words as words;
 
 use echo_charset::{push_word, written};
@@ -45,16 +44,28 @@ pub(crate) fn is_end_line(alloc: Global, ids: u64, line: &[u8]) -> Result<bool, 
 fn messages_in(line: &[u8]) -> u64
     ensures { result ≡ words.messages_in line.now }
 {
-    let behind = &line[line.len().min(4)..];
-    digits_number(&behind[..digits_len(behind)])
+    digits_number(front_digits(&line[line.len().min(4)..]))
+}
+
+// The digits at the front.
+fn front_digits(line: &[u8]) -> &[u8]
+    ensures { result.now ≡ words.front_digits line.now }
+{
+    &line[..digits_len(line)]
 }
 
 // How many digits are at the front.
 fn digits_len(line: &[u8]) -> usize
-    ensures exact { result ≡ prefix_len words.is_digit line.now }
+    ensures exact { result ≡ length (take_while words.is_digit line.now) }
     ensures within { result ≤ length line.now }
 {
-    line.iter().take_while(|byte| byte.is_ascii_digit()).count()
+    line.iter().take_while(|byte| is_digit(**byte)).count()
+}
+
+fn is_digit(byte: u8) -> bool
+    ensures { result ≡ words.is_digit byte }
+{
+    matches!(byte, b'0'..=b'9')
 }
 
 // The number that digits write.

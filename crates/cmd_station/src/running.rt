@@ -1,6 +1,7 @@
 //! Runs a command on a station of either kind, on the files of the system. The contract of `run_command` says what it reads
 //! and writes on any disk. The locks are held until its staging file is gone, and a damaged message was found.
 ghost use Rattle.std.specs.Prelude.{◌≡◌, None, OnOk};
+ghost use Rattle.disk_io.specs.Disk.{Honestly};
 ghost use Rattle.station.specs.Opening.{AreFree};
 
 use crate::opened::Opened;
@@ -10,9 +11,9 @@ use base_store::{SipDigest, StoreError};
 use cmd_input::{Messages, Progress, Tossing, look_into};
 use cmd_status::{Fault, FileLock};
 use cmd_store::{CommandError, StoreCommand};
-use disk_io::Sink;
+use disk_io::{Disk, Sink};
 use disk_system::{RealDisk, Unknown};
-use station::{Locks, Nothing, Unread, run_command};
+use station::{BeforeCommand, Locks, Nothing, OpenStation, Unread, run_command};
 use station_bases::{FileStation, FolderPlace, FolderProbe, FolderStation};
 use std::collections::hash_map::RandomState;
 use std::marker::PhantomData;
@@ -68,17 +69,9 @@ fn run_on_file<'a, C: StoreCommand<'a>, L: FileLock, K: FileLock, W: Sink>(
         first: Nothing,
         fault: unread,
     };
-    let ended = run_command(
-        at.rt.alloc(),
-        disk,
-        locks,
-        station,
-        &mut before,
-        command,
-        out,
-    );
+    let done = run_over(at.rt, disk, locks, station, &mut before, command, out);
     at.files.tidy();
-    ended.done
+    done
 }
 
 // The same if the base is a folder.
@@ -98,15 +91,35 @@ fn run_on_folder<'a, C: StoreCommand<'a>, L: FileLock, K: FileLock, W: Sink>(
         first: Opened::new(at.rt, at.place.base, before.toss),
         fault: before.unread,
     };
-    let ended = run_command(
-        at.rt.alloc(),
-        disk,
-        locks,
-        folder_station(at, found),
-        &mut opened,
-        command,
-        out,
-    );
+    let station = folder_station(at, found);
+    run_over(at.rt, disk, locks, station, &mut opened, command, out)
+}
+
+// Runs a command over any disk, and gives that up. So no proof about the files of the system meets the long contract of
+// `run_command`.
+fn run_over<
+    'a,
+    D: Disk + Drop,
+    P: OpenStation<'a, D>,
+    Q: BeforeCommand<'a, P::Kept>,
+    C: StoreCommand<'a>,
+    L: FileLock,
+    K: FileLock,
+    W: Sink,
+>(
+    rt: &HostRuntime,
+    disk: D,
+    locks: &mut Locks<L, K>,
+    station: P,
+    before: &mut Q,
+    command: &mut C,
+    out: &mut W,
+) -> Result<C::Answer, CommandError<'a>>
+    requires free { AreFree (L.held locks.old.links) (K.held locks.old.base) }
+    requires can { Honestly (D.state disk) (P.can_open station (D.state disk)) }
+    ensures passed { OnOk result (Q.lets before.old) }
+{
+    let ended = run_command(rt.alloc(), disk, locks, station, before, command, out);
     ended.done
 }
 

@@ -1,5 +1,6 @@
 //! `scan` by its words, on the files of the system. The contract of `run_scan` in `station_scan` says what it reads and
 //! writes on any disk.
+ghost use Rattle.disk_io.specs.Disk.{Honestly};
 ghost use Rattle.station.specs.Opening.{AreFree};
 
 use crate::opened::Opened;
@@ -13,10 +14,10 @@ use cmd_status::{Fault, FileLock, MessageProgress, Status};
 use cmd_store::CommandError;
 use cmd_words::ScanWords;
 use disk_atomic::PlacingError;
-use disk_io::Sink;
+use disk_io::{Disk, Sink};
 use disk_system::{RealDisk, Unknown};
 use model_steps::Stamp;
-use station::{Locks, Nothing};
+use station::{BeforeCommand, LendStation, Locks, Nothing, OpenStation};
 use station_bases::FolderProbe;
 use station_scan::{Scan as Wanted, ScanError, run_scan as scan_station};
 use std::rt::Files;
@@ -113,16 +114,7 @@ fn scan_file<'a, F: Files + Drop + 'a, L: FileLock, K: FileLock, W: Sink>(
         Err(fault) => return Err(ScanError::Command(CommandError::Met(fault))),
     };
     let disk = RealDisk::new(files, Unknown);
-    let scanned = scan_station(
-        scan.at.rt.alloc(),
-        disk,
-        locks,
-        station,
-        &mut Nothing,
-        &mut wanted(scan, progress),
-        out,
-    );
-    scanned.done
+    scan_over(scan, progress, disk, locks, station, &mut Nothing, out)
 }
 
 // The same with a base folder. The folder of packets must be another one.
@@ -139,12 +131,37 @@ fn scan_folder<'a, F: Files + Drop + 'a, L: FileLock, K: FileLock, W: Sink>(
     let at = scan.at;
     let disk = RealDisk::new(files, Unknown);
     let mut opened = Opened::new(at.rt, at.place.base, None).apart_from(scan.folder);
+    let station = folder_station(at, found);
+    scan_over(scan, progress, disk, locks, station, &mut opened, out)
+}
+
+// Scans over any disk, and gives that up, as `run_over` of `running` does.
+fn scan_over<
+    'a,
+    D: Disk + Drop,
+    P: LendStation<'a, D>,
+    Q: BeforeCommand<'a, P::Kept>,
+    L: FileLock,
+    K: FileLock,
+    W: Sink,
+>(
+    scan: Scan<'a>,
+    progress: &'a Progress<'a>,
+    disk: D,
+    locks: &mut Locks<L, K>,
+    station: P,
+    before: &mut Q,
+    out: &mut W,
+) -> Result<(), ScanError<'a>>
+    requires free { AreFree (L.held locks.old.links) (K.held locks.old.base) }
+    requires can { Honestly (D.state disk) (P.can_open station (D.state disk)) }
+{
     let scanned = scan_station(
-        at.rt.alloc(),
+        scan.at.rt.alloc(),
         disk,
         locks,
-        folder_station(at, found),
-        &mut opened,
+        station,
+        before,
         &mut wanted(scan, progress),
         out,
     );

@@ -14,9 +14,9 @@ use Rattle.echo_text.specs.Ids.{id_of}
 use Rattle.echo_toss.specs.{declared.step_error.PostStepError.PostStepError, PacketsIn.state_in, Stores.IsPostStop, Stores.LooksWhereRefused}
 use Rattle.echo_toss.specs.declared.step_error.PostStepError.TheVariants as post
 use Rattle.echo_toss.proofs.Judged.{is_fault}
+use Rattle.cmd_store.specs.FreeSerial.{FiledAs, FilesAs, IsSerial, PostsAs, PostsAsOn}
 use Rattle.cmd_store.specs.{declared.drafting.NewMessage.NewMessage, Serials.is_taken, Serials.serial_after, Serials.with_serial, Lines.posted_line, Drafts.draft_given}
 use Rattle.cmd_store.specs.{declared.command_error.CommandError.CommandError, declared.command_error.CommandError.TheVariants.Met, Answered.PrintsAll, Posted.Posts, Posted.PostsOn, Stops.post_stop}
-use Rattle.cmd_store.specs.FreeSerial.{FiledAs, FilesAs, IsSerial, PostsAs, PostsAsOn}
 use Rattle.cmd_store.proofs.FreeSerials.{first_here, first_of_all, free_where_allowed, next_step, one_more, refused_first, taken_where_known}
 use Rattle.cmd_store.proofs.Postings.{post_printed, post_stopped, posts}
 

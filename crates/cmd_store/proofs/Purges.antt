@@ -11,7 +11,7 @@ use Rattle.model_steps.specs.Purging.{changed}
 use Rattle.base_store.specs.Store.{KeepsOrCommits, MayCommit, LeavesEither, StoreState, purged}
 use Rattle.base_store.proofs.Runs.{same_twice, others_twice as kept_twice}
 use Rattle.cmd_store.specs.{Lines.purged_line, declared.command_error.CommandError.CommandError, Answered.MayMake, Answered.PrintsAll, Answered.RefusesNone, Answered.RepresentsMade}
-use Rattle.cmd_store.specs.{Purged.HoldsOrPurges, Purged.IsPurgedAt, Purged.PurgesOn}
+use Rattle.cmd_store.specs.Purged.{HoldsOrPurges, IsPurgedAt, PurgesOn}
 use Rattle.cmd_store.proofs.Printed.{answered}
 
 -- a purge may commit the base that the store held before

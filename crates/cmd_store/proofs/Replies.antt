@@ -11,8 +11,8 @@ use Rattle.model_steps.specs.SystemState.{SystemState}
 use Rattle.base_store.specs.Store.{LooksOn, LeavesCommitted, StoreState}
 use Rattle.base_store.proofs.Runs.{goes_on_twice, looks_commit, looks_go_on, looks_then_commits, same_twice, others_twice as kept_twice}
 use Rattle.cmd_store.specs.{declared.drafting.NewMessage.NewMessage, declared.answering.Answer.Answer, declared.answering.ReplyFields.ReplyFields, AnswerWords.IsFound, AnswerWords.IsReply}
-use Rattle.cmd_store.specs.{declared.command_error.CommandError.CommandError, Answered.CommitsNoneWhereMet, Answered.MayMake, Answered.RepresentsMade, Replied.FindsOn, Replied.PostsAs}
-use Rattle.cmd_store.specs.{Replied.Replies, Replied.RepliesOn}
+use Rattle.cmd_store.specs.{declared.command_error.CommandError.CommandError, Answered.CommitsNoneWhereMet, Answered.MayMake, Answered.RepresentsMade}
+use Rattle.cmd_store.specs.Replied.{FindsOn, PostsAs, Replies, RepliesOn}
 
 -- the message with the found words
 pub found_message : (o : Option Filed) (found : ReplyFields) → FindsOn o (Ok found) → (m : Filed) × (o ≡ Some m) × IsFound m found

@@ -9,8 +9,8 @@ use Rattle.cmd_status.specs.{declared.fault.Fault.Fault, Devices.Device}
 use Rattle.base_store.specs.{Store.CommitsNothing, Store.GoesOn, Store.StoreState, declared.store_error.StoreError.StoreError}
 use Rattle.base_store.proofs.Runs.{commits_none, goes_on_twice, looks_commit, looks_go_on, no_look}
 use Rattle.echo_toss.specs.PacketsIn.{state_in}
-use Rattle.cmd_store.specs.{Coming.Coming, Coming.OpensNext, TossRuns.TossesEachBy, TossedPacket.TossRun, TossedPacket.TossesPacketBy, Tossed.TossesFiles, Tossed.TossesNext, Tossed.run_at}
-use Rattle.cmd_store.specs.{Tossed.stopped_in}
+use Rattle.cmd_store.specs.{Coming.Coming, Coming.OpensNext, TossRuns.TossesEachBy, TossedPacket.TossRun, TossedPacket.TossesPacketBy}
+use Rattle.cmd_store.specs.Tossed.{TossesFiles, TossesNext, run_at, stopped_in}
 
 -- The remaining files have the same effect on the current base as all files on the first base. This also holds for
 -- later files that are honest only if the present ones are.

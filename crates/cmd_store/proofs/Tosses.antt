@@ -10,8 +10,8 @@ use Rattle.echo_toss.specs.PacketsIn.{HoldsUnlessFailed, cause_in, packet_answer
 use Rattle.echo_toss.specs.declared.{fault.TossFault.TossFault, step_error.StoppedToss.StoppedToss, step_error.TossStepError.TossStepError, tally.Tally.Tally}
 use Rattle.echo_toss.specs.PacketSteps.{CountsToss, PacketStep}
 use Rattle.echo_toss.specs.declared.step_error.TossStepError.TheVariants as toss
-use Rattle.cmd_store.specs.{Lines.tally_line, TossedPacket.ReportsPacket, TossedPacket.TossRun, TossedPacket.TossesPacketBy, TossedPacket.fault_of, NotedPacket.NotesPacket, Tossed.ReportsIn}
-use Rattle.cmd_store.specs.{Tossed.ReportsStop, Tossed.TossesNext, Tossed.run_at}
+use Rattle.cmd_store.specs.{Lines.tally_line, TossedPacket.ReportsPacket, TossedPacket.TossRun, TossedPacket.TossesPacketBy, TossedPacket.fault_of, NotedPacket.NotesPacket}
+use Rattle.cmd_store.specs.Tossed.{ReportsIn, ReportsStop, TossesNext, run_at}
 
 -- the notes on a packet, or no notes if its messages are not noted
 abbrev pub NotesIf : Bool → Limits → SystemState → Option (List ℕ) → Result Tally TossFault → SystemState → List ℕ → List ℕ → Type 0

@@ -8,7 +8,7 @@ use Rattle.echo_links.specs.Links.{LinkFile}
 use Rattle.echo_toss.specs.Bounds.{IsPastBound}
 use Rattle.model_steps.specs.{declared.draft.Draft.Draft, Posting.posted}
 use Rattle.cmd_store.specs.{declared.drafting.NewMessage.NewMessage, declared.answering.Answer.Answer, Drafts.draft_given, declared.letter.Letter.Letter, declared.mailed.MailWords.MailWords}
-use Rattle.cmd_store.specs.{Mailed.IsPosting}
+use Rattle.cmd_store.specs.Mailed.{IsPosting}
 
 -- The store was full, so a commit did nothing.
 pub record IsUncommitted (old new : StoreState) : Type 0 where

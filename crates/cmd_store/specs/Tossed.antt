@@ -9,7 +9,7 @@ use Rattle.base_store.specs.{Store.StoreState, declared.store_error.StoreError.S
 use Rattle.echo_toss.specs.{declared.step_error.StoppedToss.StoppedToss, declared.step_error.TossStepError.TossStepError, declared.tally.Tally.Tally, PacketsIn.state_in}
 use Rattle.echo_toss.specs.declared.step_error.TossStepError.TheVariants as toss
 use Rattle.cmd_store.specs.{Coming.Coming, TossRuns.IsRunPrinted, TossRuns.TossesEachBy, TossRuns.run_begun, TossedPacket.TossRun, TossedPacket.TossesPacketBy, TossedPacket.fault_of, Lines.tally_line}
-use Rattle.cmd_store.specs.{declared.command_error.CommandError.CommandError, declared.command_error.CommandError.TheVariants.Met, declared.command_error.CommandError.TheVariants.Store}
+use Rattle.cmd_store.specs.declared.command_error.CommandError.{CommandError, TheVariants.Met, TheVariants.Store}
 
 -- A system with this base tosses the packet files within these limits, up to the first fault, and then has the next
 -- base. If the answers are honest, these are the given files.

@@ -7,8 +7,7 @@ use Rattle.std.specs.{Prelude.Contains, Prelude.option_map, Prelude.unwrap_or, L
 use Rattle.echo_addr.specs.declared.address.Address.{Address}
 use Rattle.model_graph.specs.Walk.{Among, Connected, Different, IsAt, Reaches}
 use Rattle.model_graph.specs.{Cycle.IsCycle, Cycle.Polygons, Loops.NamedLoop, Reach.FirstUnreached, Rows.IsAscending, Rows.IsGraph, Rows.linked}
-use Rattle.model_graph.proofs.Members.{Among-from_Contains, Contains-from_Among, Among-get_or, walk_links}
-use Rattle.model_graph.proofs.{Renaming.NamedLoop-renamed, Rows.linked_within}
+use Rattle.model_graph.proofs.{Members.Among-from_Contains, Members.Contains-from_Among, Members.Among-get_or, Members.walk_links, Renaming.NamedLoop-renamed, Rows.linked_within}
 use Rattle.echo_links.specs.Links.{LinkFile, area_of, has_area, is_link, links_of, same_address}
 use Rattle.echo_links.specs.LinkLines.{no_address}
 use Rattle.echo_filed.specs.Sets.{address_before}

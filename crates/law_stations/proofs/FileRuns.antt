@@ -5,8 +5,8 @@ use Rattle.base_file.specs.Base.{Base}
 use Rattle.echo_links.specs.Links.{LinkFile}
 use Rattle.echo_toss.specs.{PacketsIn.state_in, declared.fault.TossFault.TossFault, declared.tally.Tally.Tally, PacketSteps.PacketStep}
 use Rattle.model_steps.specs.SystemState.{SystemState}
-use Rattle.cmd_store.specs.{Coming.Coming, Coming.Fails, Coming.Holds, Coming.Unknown, TossRuns.TossesEachBy, TossRuns.TossesFileBy, TossedPacket.ReportsPacket, TossedPacket.TossRun}
-use Rattle.cmd_store.specs.{TossedPacket.TossesPacketBy}
+use Rattle.cmd_store.specs.{Coming.Coming, Coming.Fails, Coming.Holds, Coming.Unknown, TossRuns.TossesEachBy, TossRuns.TossesFileBy}
+use Rattle.cmd_store.specs.TossedPacket.{ReportsPacket, TossRun, TossesPacketBy}
 use Rattle.law_stations.specs.Commands.{TossesAll, itself}
 use Rattle.law_stations.proofs.Readings.{TossesFront, TossesPacketThere, TossesSo, tosses-so}
 use Rattle.model_run.proofs.Targets.{none_some}

@@ -6,8 +6,8 @@ use Rattle.base_file.specs.Base.{Base}
 use Rattle.disk_io.specs.Disk.{DiskState}
 use Rattle.echo_links.specs.{Links.LinkFile, LinkLines.LinksOf}
 use Rattle.cmd_store.specs.{declared.drafting.NewMessage.NewMessage, declared.answering.Answer.Answer, Coming.Coming, declared.letter.Letter.Letter, declared.mailed.MailWords.MailWords}
-use Rattle.cmd_store.specs.{MailPosted.Mails, MailPosted.MailsOn, declared.command_error.CommandError.CommandError, FreeSerial.PostsAs, FreeSerial.PostsAsOn, Purged.HoldsOrPurges, Purged.Purges}
-use Rattle.cmd_store.specs.{Purged.PurgesOn, Replied.Replies, Replied.RepliesOn, Tossed.Tosses, Tossed.TossesIn, Tossed.TossesTo}
+use Rattle.cmd_store.specs.{MailPosted.Mails, MailPosted.MailsOn, declared.command_error.CommandError.CommandError, FreeSerial.PostsAs, FreeSerial.PostsAsOn}
+use Rattle.cmd_store.specs.{Purged.HoldsOrPurges, Purged.Purges, Purged.PurgesOn, Replied.Replies, Replied.RepliesOn, Tossed.Tosses, Tossed.TossesIn, Tossed.TossesTo}
 use Rattle.echo_packet.specs.declared.limits.Limits.{Limits}
 use Rattle.cmd_status.specs.{declared.fault.Fault.Fault, Devices.Device, Devices.Output}
 use Rattle.echo_toss.specs.PacketsIn.{state_in}

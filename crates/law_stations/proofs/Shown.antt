@@ -10,10 +10,8 @@ use Rattle.model_run.specs.{Orderly.copies, Orderly.count, Orderly.sent_count, R
 use Rattle.model_run.proofs.{Lists.nth-among, HarmLists.nth-map}
 use Rattle.law_stations.specs.Commands.{Command, CommandEvent, Post, Purge, Scan, Toss}
 use Rattle.law_stations.specs.InOrder.{IsSound, IsUnchanged, ReadsAs, StationHolds, WasPurged}
-use Rattle.law_stations.specs.OverCrashes.{HasNet, IsLike, IsLikeEvent, SoundOverCrashes}
-use Rattle.law_stations.specs.{Nets.Net, Nets.Paired, Nets.Station, Disks.Disks}
-use Rattle.law_stations.proofs.{Pairs.paired-among, Pairs.paired-nth, Readings.one-packet, Sound.nets-are-sound}
-use Rattle.law_stations.proofs.{Counting.IsItem, Counting.picked-total, Counting.total, EachCommand.crashes-are-none}
+use Rattle.law_stations.specs.{OverCrashes.HasNet, OverCrashes.IsLike, OverCrashes.IsLikeEvent, OverCrashes.SoundOverCrashes, Nets.Net, Nets.Paired, Nets.Station, Disks.Disks}
+use Rattle.law_stations.proofs.{Pairs.paired-among, Pairs.paired-nth, Readings.one-packet, Sound.nets-are-sound, Counting.IsItem, Counting.picked-total, Counting.total, EachCommand.crashes-are-none}
 
 -- a command like a purge is a purge
 like-purge : (command : Command) → IsLike command Purge → command ≡ Purge

@@ -1,7 +1,6 @@
 //! Laws about the definitions. Each law is the contract of a function that does nothing.
 
-ghost use Rattle.law_stations.specs.{AnyDisks.HeadlineFromAnyDisks, CanEnd.LeftCanEnd};
-ghost use Rattle.law_stations.specs.OverCrashes.{CrashesAreNone, SoundOverCrashes, WholeAreAmong};
+ghost use Rattle.law_stations.specs.{AnyDisks.HeadlineFromAnyDisks, CanEnd.LeftCanEnd, OverCrashes.CrashesAreNone, OverCrashes.SoundOverCrashes, OverCrashes.WholeAreAmong};
 
 /// Whatever stops commands at any time, the disks have the bases and postings of a net with such commands, all
 /// of them whole. Each of its packets has its name, or is a temporary file that the next scan of its station

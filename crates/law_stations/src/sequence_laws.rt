@@ -1,7 +1,6 @@
 //! Laws about steps at stations. Each law is the contract of a function that does nothing.
 
-ghost use Rattle.law_stations.specs.{Asked.CommandsGoOn, Scanned.ScansGoOn, Scanned.TossesGoOn, Seats.either};
-ghost use Rattle.law_stations.specs.Sequences.{HeadlineFromAnySequences, SequencesAreAmong};
+ghost use Rattle.law_stations.specs.{Asked.CommandsGoOn, Scanned.ScansGoOn, Scanned.TossesGoOn, Seats.either, Sequences.HeadlineFromAnySequences, Sequences.SequencesAreAmong};
 
 use disk_io::Disk;
 use station::OpenStation;

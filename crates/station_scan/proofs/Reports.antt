@@ -9,7 +9,7 @@ use Rattle.disk_atomic.specs.declared.placing_error.PlacingError.{PlacingError}
 use Rattle.disk_atomic.specs.declared.placing_error.PlacingError.TheVariants as placing
 use Rattle.cmd_status.specs.Devices.{Output}
 use Rattle.cmd_store.specs.{PacketLines.counted_line, Answered.AnswersOn, Answered.AreLines, Answered.RefusesNone, Scanned.ScansOn, Scanned.files_scanned, Stops.store_answer}
-use Rattle.cmd_store.specs.{declared.command_error.CommandError.CommandError, declared.command_error.CommandError.TheVariants.Store}
+use Rattle.cmd_store.specs.declared.command_error.CommandError.{CommandError, TheVariants.Store}
 use Rattle.cmd_store.proofs.Scans.{scan_printed}
 use Rattle.echo_toss.specs.{declared.counting.CountedPacket.CountedPacket, Counts.counted_of, Counts.counted_to, Counts.link_set, Exports.Outgoing as Sent, Exports.sent_of, PacketsIn.state_in}
 use Rattle.echo_toss.proofs.Counts.{all_counted}

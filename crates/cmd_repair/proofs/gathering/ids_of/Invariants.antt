@@ -1,0 +1,9 @@
+-- The first ids are cut off.
+use Rattle.std.proofs.Common.{List, map, ℕ}
+use Rattle.cmd_repair.specs.IdsListed.{Gathers}
+use Rattle.cmd_repair.proofs.Cutting.{IsCut}
+use Rattle.cmd_repair.proofs.gathering.ids_of.Given as goal
+
+abbrev pub invariant-ids : goal.invariant-ids
+invariant-ids l = (ids : List (List ℕ)) (many : ℕ) → Gathers ids many l.gathered.bytes.items l.gathered.lengths.items l.gathered.messages
+    → IsCut ids (map (λ id. id.now) l.all.items) l.rest l.gathered.lengths.items l.size-index
