@@ -119,7 +119,7 @@ class Accept(Handwork):
         words = [build.sys.executable, build.TOOL, self.top, "accept"]
         runs = [subprocess.Popen([*words, tag], stdout=subprocess.DEVNULL, stderr=subprocess.DEVNULL) for tag in tags]
         for run in runs:
-            run.wait(60)
+            run.wait(600)
         for tag in tags:  # those that found nothing in bad/ while another run had it
             self.say("accept", tag)
         found = re.findall(rb"^AREA (NEW[0-9]) ", self.content("links"), re.M)

@@ -63,9 +63,9 @@ class Limits(build.StationCase):
     def test_nothing_to_do(self):
         """The script does not even start the program."""
         path = os.path.join(build.STATION, "toss-inbound.sh")
-        build.subprocess.run([path, self.top], check=True, timeout=100)
+        build.subprocess.run([path, self.top], check=True, timeout=600)
         before = resource.getrusage(resource.RUSAGE_CHILDREN)
-        build.subprocess.run([path, self.top], check=True, timeout=100)
+        build.subprocess.run([path, self.top], check=True, timeout=600)
         after = resource.getrusage(resource.RUSAGE_CHILDREN)
         self.assertLess(after.ru_utime + after.ru_stime - before.ru_utime - before.ru_stime, 0.1)
         self.assertNotIn("gate", self.names())

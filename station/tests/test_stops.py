@@ -244,7 +244,7 @@ class FullForReal(build.StationCase):
         self.put("inbound/2.pkt", header(by=(2, 5020, 9, 0)) + echomail(50) + END)
         command = "ulimit -f 1; exec \"$0\" \"$@\""
         words = ["/bin/sh", "-c", command, build.sys.executable, build.TOOL, self.top, "gate"]
-        ran = build.subprocess.run(words, capture_output=True, check=False, timeout=100)
+        ran = build.subprocess.run(words, capture_output=True, check=False, timeout=600)
         self.assertEqual(ran.returncode, 3, ran.stderr)
         self.assertRegex(ran.stderr.decode(), r"^echonet-station: gate/00000001\.in: File too large\n$")
         self.assertEqual(sorted(self.passed()), ["2.pkt"])
@@ -272,7 +272,7 @@ class Killed(build.StationCase):
             except build.subprocess.TimeoutExpired:
                 runs[0].kill()
             for run in runs:
-                run.wait(100)
+                run.wait(600)
         self.assertEqual(self.gate()[0], 0)
         self.assertEqual(set(ids_in(b"".join(self.passed().values()))), wanted)
         letters = [number for name in self.names("netmail") for number in ids_in(self.content("netmail", name))]

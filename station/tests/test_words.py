@@ -133,7 +133,7 @@ class Scripts(build.StationCase):
     def script(self, name: str, **environment: str) -> build.subprocess.CompletedProcess:
         """Runs a script."""
         env = dict(os.environ, ECHONET=build.program(), **environment)
-        return build.subprocess.run([os.path.join(build.STATION, name), self.top], capture_output=True, check=False, env=env, timeout=100)
+        return build.subprocess.run([os.path.join(build.STATION, name), self.top], capture_output=True, check=False, env=env, timeout=600)
 
     def test_round(self):
         body = os.path.join(self.work, "body")
