@@ -41,7 +41,7 @@ pub(crate) fn run_repair<W: Sink, E: Sink>(
 ) -> Status {
     match given_list(rt, words.has) {
         Ok(Some(list)) => repair_by(rt, words, asked, &list, out, errors),
-        Ok(None) => repair(rt, words, Repair { asked, held: None }, out, errors),
+        Ok(None) => send_repair(rt, words, Repair { asked, held: None }, out, errors),
         Err(fault) => fault.report(errors),
     }
 }
@@ -66,7 +66,7 @@ fn repair_by<W: Sink, E: Sink>(
     match known_ids(rt, asked.area, list) {
         Ok(known) => {
             let held = Some(&known);
-            repair(rt, words, Repair { asked, held }, out, errors)
+            send_repair(rt, words, Repair { asked, held }, out, errors)
         }
         Err(fault) => fault.report(errors),
     }
@@ -83,7 +83,7 @@ fn known_ids<'l, 'a>(
 }
 
 // Sends the packet, under the lock of the link file.
-fn repair<W: Sink, E: Sink>(
+fn send_repair<W: Sink, E: Sink>(
     rt: &HostRuntime,
     words: &ResendWords<'_>,
     repair: Repair<'_, '_>,

@@ -31,14 +31,13 @@ mod sequence_laws;
 
 pub use commands::{mail_as_may, post_as_may, purge_as_may, reply_as_may, toss_as_may};
 pub use crash_laws::{
-    crashes_are_none, left_packets_can_end, nets_are_in_order_over_crashes,
-    nets_are_sound_over_crashes, new_messages_are_in_order_over_crashes,
-    whole_commands_are_among_them,
+    crashes_are_none, left_packets_can_end, nets_are_sound_over_crashes,
+    new_messages_are_in_order_over_crashes, whole_commands_are_among_them,
 };
 pub use disk_laws::{others_stay, shown_packets_are_known};
 pub use laws::{
-    command_is_events, commands_are_a_run, nets_are_in_order, nets_are_sound,
-    new_messages_are_in_order, tosses_answer_what_stopped_them, tosses_are_what_is_known,
+    command_is_events, commands_are_a_run, nets_are_sound, new_messages_are_in_order,
+    tosses_answer_what_stopped_them, tosses_are_what_is_known,
 };
 pub use lone_laws::{
     faultless_tosses_are_whole, lone_stations_are_in_order,
@@ -48,5 +47,5 @@ pub use lone_laws::{
 pub use scanning::scan_as_may;
 pub use sequence_laws::{
     commands_go_on, new_messages_are_in_order_over_sequences, scans_go_on, sequences_are_among,
-    sequences_are_in_order, tosses_go_on,
+    tosses_go_on,
 };
