@@ -98,18 +98,6 @@ SLIPS = (
         FEW,
     ),
     Slip(
-        "inbound is not flushed",
-        "inbound.py",
-        "        disk.sync(station.inbound)\n"
-        "\n"
-        "\n"
-        "def move_in",
-        "\n"
-        "\n"
-        "def move_in",
-        REUSED,
-    ),
-    Slip(
         "the list of letters is not flushed",
         "filing.py",
         "                self.disk.sync(self.station.folder)\n",
@@ -197,7 +185,7 @@ SLIPS = (
         "messages.py",
         "    if inner and inner.start() <= end:\n",
         "    if False:\n",
-        "test_spoiled.Spoiled.test_packets",
+        "test_gate.Repair",
     ),
     Slip(
         "SEEN-BY lines of bodies are changed",

@@ -127,6 +127,7 @@ class Reused(Stopping):
         self.gate(disk)
         if disk is None:
             self.put("inbound/b.pkt", packet(letter(92)))
+            self.put("inbound/c.pkt", packet(letter(91)))  # as a link sends a packet again
             self.gate()
 
     def setUp(self) -> None:
