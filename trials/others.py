@@ -76,14 +76,19 @@ class CrashMail:
         """Writes a message as an editor does. The first number stays free: CrashMail does not export it."""
         place = os.path.join(self.folder, "msg", area)
         number = max([1] + [int(os.path.basename(path)[:-4]) for path in glob.glob(place + "/*.msg")]) + 1
-        own, other = numbers_of(self.address), numbers_of(receiver or "0:0/0")
-        head = struct.pack("<36s36s72s20s13H", b"Writer", to, subject, DATE, 0, other[2], own[2], 0, own[1], other[1],
-                           other[0], own[0], other[3], own[3], 0, LOCAL, 0)
-        write(os.path.join(place, "%d.msg" % number), head + (kludges_of(own, other) if receiver else b"") + body + b"\0")
+        kludges = kludges_of(numbers_of(self.address), numbers_of(receiver)) if receiver else b""
+        write(os.path.join(place, "%d.msg" % number), stored(self.address, receiver or "0:0/0", to, subject, kludges + body))
 
     def texts(self, area):
         """The texts of an area."""
         return [read(path)[190:].rstrip(b"\0") for path in glob.glob(os.path.join(self.folder, "msg", area, "*.msg"))]
+
+
+def stored(sender, receiver, to, subject, text):
+    """A stored message as an editor writes it: Local."""
+    own, other = numbers_of(sender), numbers_of(receiver)
+    return struct.pack("<36s36s72s20s13H", b"Writer", to, subject, DATE, 0, other[2], own[2], 0, own[1], other[1],
+                       other[0], own[0], other[3], own[3], 0, LOCAL, 0) + text + b"\0"
 
 
 def kludges_of(sender, receiver):

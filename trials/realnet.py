@@ -145,20 +145,16 @@ class Day:
             name = "Letter%d%s" % (number, mark)
             tosser.write("netmail", b"Reader", name.encode(), b"%s!\r" % name.encode(), receiver)
             self.letters.append((name, {OWN: self.station, POINT: self.point.folder, UPLINK: self.uplink.folder}[receiver]))
-        own = others.CrashMail.__new__(others.CrashMail)
-        own.folder, own.address = self.place, OWN
         for receiver, folder, mark in ((UPLINK, self.uplink.folder, "su"), (POINT, self.point.folder, "sp")):
             name = "Letter%d%s" % (number, mark)
-            others.folders(self.place, "msg/station")
-            own.write("station", b"Reader", name.encode(), b"%s!\r" % name.encode(), receiver)
-            path = max(glob.glob(self.place + "/msg/station/*.msg"), key=os.path.getmtime)
-            self.put_letter(path)
+            self.put_letter(others.stored(OWN, receiver, b"Reader", name.encode(), b"%s!\r" % name.encode()))
             self.letters.append((name, folder))
 
-    def put_letter(self, path):
+    def put_letter(self, content):
         """Puts a letter into the station's folder of netmail, under a free name, as an editor does."""
-        folder = os.path.join(self.station, "netmail")
+        folder, path = os.path.join(self.station, "netmail"), os.path.join(self.place, "letter")
         os.makedirs(folder, exist_ok=True)
+        write(path, content)
         os.utime(path, (time.time() - 3, time.time() - 3))
         number = 2
         while True:

@@ -57,12 +57,8 @@ class Trial:
             status, said = call(self.folder, *words, given=b"Own!\n")
             if status:
                 sys.exit("station_full.py: %s: %d %s" % (words[0], status, said))
-        own = others.CrashMail.__new__(others.CrashMail)
-        own.folder, own.address = place, OWN
-        os.makedirs(os.path.join(place, "msg", "out"))
-        own.write("out", b"Sysop", b"Sent", b"Sent!\r", UPLINK)
         os.makedirs(os.path.join(self.folder, "netmail"))
-        os.rename(os.path.join(place, "msg", "out", "2.msg"), os.path.join(self.folder, "netmail", "2.msg"))
+        write(os.path.join(self.folder, "netmail", "2.msg"), others.stored(OWN, UPLINK, b"Sysop", b"Sent", b"Sent!\r"))
         os.utime(os.path.join(self.folder, "netmail", "2.msg"), (1, 1))
         for name, content in received.items():
             write(os.path.join(self.folder, "inbound", name), content)
