@@ -44,6 +44,13 @@ SLIPS = (
         FEW,
     ),
     Slip(
+        "names of members are not flushed",
+        "passing.py",
+        "                self.disk.flush(self.name_file(output))\n",
+        "                pass\n",
+        FEW,
+    ),
+    Slip(
         "inputs go before their outputs have names",
         "passing.py",
         "        files = self.each(files, self.name)\n",
