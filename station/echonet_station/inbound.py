@@ -104,10 +104,6 @@ def take_in(station: Station) -> None:
         disk.sync(folder)
     for path, place in moves:
         move_in(disk, path, place)
-    if moves:
-        # Otherwise, after a power cut, a file that was treated could be there again.
-        disk.sync(folder)
-        disk.sync(station.inbound)
 
 
 def move_in(disk: Disk, path: str, place: str) -> None:

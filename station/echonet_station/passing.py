@@ -23,6 +23,7 @@ class Output:
     came: str
     path: str
     number: str
+    has_own_name: bool = False  # the received file has another one
 
 
 @dataclass
@@ -79,6 +80,7 @@ class Passing:
         """Names the outputs, flushes, and only then removes the files that they are made of."""
         files, self.files, self.bytes = self.files, [], 0
         files = self.each(files, self.prepare)
+        files = self.each(files, self.flush)
         files = self.synced(files)
         files = self.each(files, self.name)
         files = self.synced(files)
@@ -107,16 +109,27 @@ class Passing:
         return files
 
     def prepare(self, received: Received) -> None:
-        """Writes the name that each output came with, and flushes its bytes."""
+        """Writes the name that each output came with. That of the received file is on the disk already."""
         for output in received.outputs:
-            name = self.station.at("tossing", output.number + ".name")
             known = self.station.at("gate", received.number + ".name")
             if output.came == received.came and exists(known):
-                self.disk.link(known, name)
+                self.disk.link(known, self.name_file(output))
             else:
-                self.disk.write(name, os.fsencode(output.came))
+                self.disk.stage(self.name_file(output), os.fsencode(output.came))
+                output.has_own_name = True
+
+    def flush(self, received: Received) -> None:
+        """Flushes the outputs, after all names were written: one flush of a system like ext4 then does most of the
+        work."""
+        for output in received.outputs:
+            if output.has_own_name:
+                self.disk.flush(self.name_file(output))
             if output.path != received.path:
                 self.disk.flush(output.path)
+
+    def name_file(self, output: Output) -> str:
+        """The file with the name that an output came with."""
+        return self.station.at("tossing", output.number + ".name")
 
     def name(self, received: Received) -> None:
         """Moves the outputs to toss."""

@@ -44,6 +44,13 @@ SLIPS = (
         FEW,
     ),
     Slip(
+        "names of members are not flushed",
+        "passing.py",
+        "                self.disk.flush(self.name_file(output))\n",
+        "                pass\n",
+        FEW,
+    ),
+    Slip(
         "inputs go before their outputs have names",
         "passing.py",
         "        files = self.each(files, self.name)\n",
@@ -96,18 +103,6 @@ SLIPS = (
         "        return name\n",
         "        return name\n",
         FEW,
-    ),
-    Slip(
-        "inbound is not flushed",
-        "inbound.py",
-        "        disk.sync(station.inbound)\n"
-        "\n"
-        "\n"
-        "def move_in",
-        "\n"
-        "\n"
-        "def move_in",
-        REUSED,
     ),
     Slip(
         "the list of letters is not flushed",
@@ -197,7 +192,7 @@ SLIPS = (
         "messages.py",
         "    if inner and inner.start() <= end:\n",
         "    if False:\n",
-        "test_spoiled.Spoiled.test_packets",
+        "test_gate.Repair",
     ),
     Slip(
         "SEEN-BY lines of bodies are changed",

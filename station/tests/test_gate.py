@@ -258,6 +258,10 @@ class Repair(build.StationCase):
         content = packet(echomail(1), END, echomail(2), echomail(3))
         self.repaired(content, [1, 2, 3], "an end before messages at %d" % (58 + len(echomail(1))))
 
+    def test_beginning_that_was_taken(self):
+        """Bytes that are read as a message, and would have the beginning of the next one as their names."""
+        self.repaired(packet(b"\2\0" + bytes(32), echomail(2), echomail(3)), [2, 3], "P3 NotMessage at 58")
+
     def test_endless_name(self):
         content = packet(echomail(1), echomail(2, by=b"x" * 5000), echomail(3))
         self.repaired(content, [1, 3], "P4 FieldTooLong at %d" % (58 + len(echomail(1))))

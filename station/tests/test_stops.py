@@ -111,6 +111,7 @@ class Few(Stopping):
 
     def look(self, where: str) -> None:
         self.assertEqual(set(ids_in(b"".join(self.passed().values()))), {1, 2}, where)
+        self.assertEqual(set(self.passed()), {"0000aaaa.mo0.1.pkt", "1.pkt"}, where)
         self.assertEqual([ids_in(self.content("netmail", name)) for name in self.names("netmail")], [[91]], where)
         wanted = ["0000aaaa.mo0", "0000aaaa.mo0.why", "2.pkt", "2.pkt.why"]
         self.assertEqual((self.names("bad"), self.names("gate"), self.names("inbound")), (wanted, [], []), where)
@@ -127,6 +128,7 @@ class Reused(Stopping):
         self.gate(disk)
         if disk is None:
             self.put("inbound/b.pkt", packet(letter(92)))
+            self.put("inbound/c.pkt", packet(letter(91)))  # as a link sends a packet again
             self.gate()
 
     def setUp(self) -> None:
