@@ -12,7 +12,7 @@ use cmd_base::{LeftFiles, ScanFiles};
 use cmd_input::{Progress, folder_path, moment_of};
 use cmd_status::{Fault, FileLock, MessageProgress, Status};
 use cmd_store::CommandError;
-use cmd_words::ScanWords;
+use cmd_words::{Place, ScanWords};
 use disk_atomic::PlacingError;
 use disk_io::{Disk, Sink};
 use disk_system::{RealDisk, Unknown};
@@ -48,38 +48,48 @@ pub(crate) fn run_scan<W: Sink, E: Sink>(
         Err(fault) => return fault.report(errors),
     };
     match folder_path(rt, words.folder) {
-        Ok(slashed) => find_and_scan(rt, words, stamp, slashed.as_str(), progress, out, errors),
+        Ok(slashed) => {
+            let to = Outbound {
+                stamp,
+                folder: words.folder,
+                slashed: slashed.as_str(),
+            };
+            find_and_scan(rt, words.place, to, progress, out, errors)
+        }
         Err(_) => Fault::OutOfMemory.report(errors),
     }
+}
+
+// The stamp of a scan, and its folder in both forms.
+#[derive(Clone, Copy)]
+struct Outbound<'a> {
+    stamp: Stamp,
+    folder: &'a str,
+    slashed: &'a str,
 }
 
 // Finds the base and scans it, and reports the fault.
 fn find_and_scan<'a, W: Sink, E: Sink>(
     rt: &'a HostRuntime,
-    words: ScanWords<'a>,
-    stamp: Stamp,
-    slashed: &'a str,
+    place: Place<'a>,
+    to: Outbound<'a>,
     progress: &'a Progress<'a>,
     out: &mut W,
     errors: &mut E,
 ) -> Status {
-    let mut locks = locks_of(rt, words.place);
-    let found = match find_base(rt, words.place, &mut locks) {
+    let mut locks = locks_of(rt, place);
+    let found = match find_base(rt, place, &mut locks) {
         Ok(found) => found,
         Err(fault) => return fault.report(errors),
     };
-    let scan = Scan {
-        at: found.at(rt, words.place),
-        stamp,
-        folder: words.folder,
-        slashed,
-    };
-    scan_found(scan, &mut locks, progress, out, errors)
+    let at = found.at(rt, place);
+    scan_found(at, to, &mut locks, progress, out, errors)
 }
 
 // Scans a station with a found base, and reports the fault.
 fn scan_found<'a, L: FileLock, K: FileLock, W: Sink, E: Sink>(
-    scan: Scan<'a>,
+    at: Station<'a>,
+    to: Outbound<'a>,
     locks: &mut Locks<L, K>,
     progress: &'a Progress<'a>,
     out: &mut W,
@@ -87,6 +97,17 @@ fn scan_found<'a, L: FileLock, K: FileLock, W: Sink, E: Sink>(
 ) -> Status
     requires { AreFree (L.held locks.old.links) (K.held locks.old.base) }
 {
+    let Outbound {
+        stamp,
+        folder,
+        slashed,
+    } = to;
+    let scan = Scan {
+        at,
+        stamp,
+        folder,
+        slashed,
+    };
     let files = ScanFiles::new(scan.at.rt, scan.at.path, scan.slashed, progress);
     let done = match scan.at.folder {
         Some(found) => scan_folder(scan, progress, &files, locks, found, out),
