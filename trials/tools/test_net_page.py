@@ -327,7 +327,7 @@ class InBrowser(Case):
         self.assertGreaterEqual(self.browser.value("document.querySelector('button').getBoundingClientRect().height"), 44)
 
     def test_dark_and_printed(self):
-        """In dark mode the paper is dark and texts have contrast; on paper it is white, and the buttons are gone."""
+        """In dark mode the background is dark and texts have contrast; in print it is white, and the buttons are gone."""
         self.show("loop")
         light = "(() => { const m = c => c.match(/\\d+/g).slice(0, 3).map(v => (v /= 255) <= 0.04045 ? v / 12.92 : ((v + 0.055) / 1.055) ** 2.4);" \
                 "const l = c => { const [r, g, b] = m(c); return 0.2126 * r + 0.7152 * g + 0.0722 * b; };" \
