@@ -9,7 +9,7 @@
 # - `make manual-test`: the manual page against the program's help.
 # - `make small-nets`: the verdicts on all small nets against the definitions.
 # - `make tools-test`: the tools of examples/move. Some of it needs graphviz and chromium.
-# - `make follow`: the sessions of docs/OPERATORS.md. It needs binkd.
+# - `make follow`: the sessions of docs/OPERATORS.md and docs/REPAIR.md. It needs binkd.
 # - `make interop`: a net with another tosser, and the rules of docs/INTEROP.md. It needs binkd and crashmail.
 # - `make trials` tries the program from outside (docs/TRIALS.md).
 #
@@ -116,6 +116,7 @@ small-nets: $(program)
 
 follow: $(program)
 	scripts/follow.sh docs/OPERATORS.md $(program)
+	scripts/follow.sh docs/REPAIR.md $(program)
 
 interop: $(program)
 	interop/run.sh $(program)

@@ -361,7 +361,7 @@ cp kept.pkt six/inb/
 same "INBOUND of the settings" "filed 1 known 0 notecho 0 badtag 0 noarea 0 notlinked 0" "$(toss six)"
 scan six > printed.txt
 same "OUTBOUND and PACKETS" "^$place/six/sent/$(ls six/sent)" "$(cat six/outb/$to_three.flo)"
-same "no other folders" "base inb last-name links log outb scan.lock scanned sent settings toss.lock tossing" \
+same "no other folders" "base count inb last-name links log outb scan.lock scanned sent settings toss.lock tossing" \
   "$(LC_ALL=C ls six | grep -v '^bad$' | xargs)"
 
 # Posts a message with this subject. Arguments: the subject, a link file, a base.

@@ -37,6 +37,7 @@ def tests(program, cores):
         ("story", ["examples/story.sh", program]), ("manual page", ["scripts/manual.sh", "docs/echonet.1", program]),
         ("README", ["scripts/follow.sh", "README.md", program]),
         ("OPERATORS", ["scripts/follow.sh", "docs/OPERATORS.md", program, ".", *HEADINGS]),
+        ("REPAIR", ["scripts/follow.sh", "docs/REPAIR.md", program]),
         ("show-examples", ["scripts/show_examples.sh", program])]
 
 

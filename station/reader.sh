@@ -19,7 +19,8 @@
 # and the run is refused. With `--unlocked` behind `--jam` it runs without that lock: run no JAM program meanwhile.
 #
 # The time of a posting is that of the run, in the system's time zone. Runs may start at the same time: each waits for
-# the one before it. The program is `echonet` of the PATH, or the one that ECHONET names.
+# the one before it. While the base has fewer messages than at an earlier scan, nothing is posted, and the status is 2
+# (count.sh). The program is `echonet` of the PATH, or the one that ECHONET names.
 set -eu
 LC_ALL=C
 export LC_ALL
@@ -61,6 +62,7 @@ esac
 area=$2
 jam=$3
 program=${ECHONET:-echonet}
+. "$here/count.sh"
 work=$(mktemp -d) || exit 3
 
 # Runs a command, on a JAM base under the lock of JAM programs.
@@ -103,7 +105,9 @@ if [ $form = --jam ]; then
   exec 9> "$3.lock"
   flock 9
   posted=0
-  if [ -e "$3.jhr" ]; then
+  if [ -e "$3.jhr" ] && ! may_post; then
+    posted=2
+  elif [ -e "$3.jhr" ]; then
     run_locked "$program" post --jam "$3" --area "$area" --serial auto --at local "$station/links" "$station/base" ||
       posted=$?
   fi
@@ -316,7 +320,9 @@ again=
 touch -d '2 seconds ago' "$folder/seen.new"
 if [ ! -e "$folder/seen" ]; then touch -d @0 "$folder/seen"; fi
 find_wanted
-if [ -s "$work/wanted" ] || [ -e "$folder/posting" ]; then post_wanted; fi
+if [ -s "$work/wanted" ] || [ -e "$folder/posting" ]; then
+  if may_post; then post_wanted; else unread=2; fi
+fi
 add_new "$folder" "$folder/next"
 if [ $unread -ne 0 ]; then exit $unread; fi
 if [ -z "$again" ]; then mv "$folder/seen.new" "$folder/seen"; fi

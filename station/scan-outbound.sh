@@ -6,6 +6,9 @@
 # line in the flow file of its link. That is in STATION/outbound for links of the own zone, in STATION/outbound.00z
 # for those of zone z. STATION/settings may name other folders (station.sh).
 #
+# Lists of ids that links sent for a repair are answered by `echonet-station`, if it and Python are there. Lists go to the
+# mailer as packets do, and a name `zone.net.node.as-NAME` in STATION/scanned says that a file keeps its NAME.
+#
 # For a station with a file `peers`, `echonet-station` then packs letters, and writes passwords and points into the
 # packets. If that fails, nothing is handed over: a link would refuse a packet without its password. The flow file of a
 # point is that of its boss with `.pnt/` and the number of the point.
@@ -25,19 +28,21 @@ fi
 begun=0
 held=''
 lettered=0
+answered=0
 
-# Frees the link that this run holds. Status 1 reports letters that stay. A failed command of the shell also ends the
-# script with 1, and before the run begins with 2.
+# Frees the link that this run holds. Status 1 reports letters that stay, and refused lists. A failed command of the
+# shell also ends the script with 1, and before the run begins with 2.
 clean_up() {
   ended=$?
   if [ -n "$held" ]; then release; fi
-  if [ $ended -eq 1 ] && [ $lettered -ne 1 ]; then exit 3; fi
+  if [ $ended -eq 1 ] && [ $lettered -ne 1 ] && [ $answered -ne 1 ]; then exit 3; fi
   if [ $ended -ne 0 ] && [ $ended -ne 4 ] && [ $begun -eq 0 ]; then exit 3; fi
 }
 trap clean_up EXIT
 trap 'exit 3' HUP INT TERM
 here=$(CDPATH='' cd -- "$(dirname -- "$0")" && pwd)
 . "$here/station.sh"
+. "$here/count.sh"
 program=${ECHONET:-echonet}
 mkdir -p "$station/scanned" "$packets" "$outbound"
 exec 9> "$station/scan.lock"
@@ -102,7 +107,7 @@ is_left() {
 # Finishes what a stopped run began. After a power cut, as on btrfs, a packet can have its new name and its old one.
 # It was handed over. Both folders are on the disk before a link is freed.
 end_left() {
-  for packet in "$station"/scanned/*.pkt; do
+  for packet in "$station"/scanned/*.pkt "$station"/scanned/*.ask "$station"/scanned/*.ids; do
     if [ -e "$packet" ] && [ -n "$(find "$packets" -samefile "$packet")" ]; then rm -f "$packet"; fi
   done
   sync "$packets" "$station/scanned"
@@ -162,6 +167,23 @@ add_line() {
   return 1
 }
 
+# The same, unless a stopped run added the line for a file that keeps its name.
+name_in_flow() {
+  if ! grep -qxF -- "$2" "$1" 2> /dev/null; then add_line "$1" "$2"; fi
+}
+
+# The name that a file gets for the mailer. A packet keeps its name only if no packet of another link has it, since
+# the link that asked for it chose the name. Arguments: its name in `scanned`, the flow file.
+name_for() {
+  kept=$packets/${1#*.as-}
+  case $1 in
+    *.as-*.pkt) if [ -e "$kept" ] && ! grep -qxF -- "^$kept" "$2" 2> /dev/null; then kept=; fi ;;
+    *.as-*) ;;
+    *) kept= ;;
+  esac
+  if [ -n "$kept" ]; then printf '%s\n' "${kept##*/}"; else new_name; fi
+}
+
 # The line of `scan` for a packet, or its size if an earlier run scanned it. Arguments: its link, the packet.
 counts_of() {
   bytes=$(($(wc -c < "$2")))
@@ -186,8 +208,8 @@ hand_over() {
   }
   counts=$(counts_of "$zone:$net/$node" "$1")
   failed=0
-  name=$(new_name) && new=$packets/$name && chmod '=rw' "$1" &&
-    add_line "$flow.flo" "^$new" && mv "$1" "$new" && sync "$packets" "${1%/*}" || failed=3
+  name=$(name_for "$name" "$flow.flo") && new=$packets/$name && chmod '=rw' "$1" &&
+    name_in_flow "$flow.flo" "^$new" && mv "$1" "$new" && sync "$packets" "${1%/*}" || failed=3
   release
   if [ $failed -eq 0 ]; then log "sent $name to $zone:$net/$node $counts"; fi
   return $failed
@@ -208,13 +230,22 @@ pack_letters() {
   if [ $status -eq 0 ]; then status=$lettered; fi
 }
 
+# Answers the lists of links. Its status counts if the scan had none. The lines on refused lists go to standard error.
+answer_lists() {
+  if [ -z "$tool" ] || ! command -v python3 > /dev/null; then return; fi
+  "$tool" "$station" answer --locked || answered=$?
+  if [ $status -eq 0 ]; then status=$answered; fi
+}
+
 end_left
 release_left
 status=0
 scanned=$("$program" scan --explain --at now "$station/links" "$station/base" "$station/scanned") || status=$?
 if [ -n "$scanned" ]; then printf '%s\n' "$scanned" || status=3; fi
+note_count || unlogged=3
 sync "$station"
 
+if [ -n "$own" ] && is_any "$inbound"/*.ask "$inbound"/*.ids; then answer_lists; fi
 undressed=0
 if [ $peered -eq 1 ] && [ -n "$own" ]; then
   if is_any "$station"/netmail/*.[mM][sS][gG] "$station/letters/plan"; then
@@ -223,7 +254,7 @@ if [ $peered -eq 1 ] && [ -n "$own" ]; then
   if is_any "$station"/scanned/*.pkt; then "$tool" "$station" dress --locked || undressed=$?; fi
 fi
 if [ $undressed -ne 0 ]; then exit $undressed; fi
-for packet in "$station"/scanned/*.pkt; do
+for packet in "$station"/scanned/*.pkt "$station"/scanned/*.ask "$station"/scanned/*.ids; do
   if [ ! -e "$packet" ]; then continue; fi
   if [ -z "$own" ]; then
     refuse_to_hand_over

@@ -11,6 +11,8 @@
 # that was tossed or put aside. Other files stay in STATION/inbound. A line reports each that is there for ten minutes,
 # once. If it looks like mail, the status is 1.
 #
+# A repair that is open waits for packets of its numbers. STATION/repair/NUMBER.came gets their counts.
+#
 # For a station with a file `peers`, `echonet-station STATION gate` takes the files in: packets and bundles. It checks
 # passwords and files letters. If it fails, the packets that it passed on before are tossed.
 #
@@ -148,9 +150,29 @@ all_filed() {
     END { exit other || whole != packets }' "$told"
 }
 
+# A repair counts what its packets filed. After a stopped toss their counts may be too small, so this is noted.
+begin_repair() {
+  if [ ! -e "$station/repair/round" ]; then return; fi
+  if [ -e "$station/repair/tossing" ]; then touch "$station/repair/unsure" || exit 3; fi
+  touch "$station/repair/tossing" && sync "$station/repair" || exit 3
+}
+
+# Notes the counts of a packet that a repair waits for. Arguments: the name that it came with, its counts.
+note_repair() {
+  case $1 in
+    [0-9a-f][0-9a-f][0-9a-f][0-9a-f][0-9a-f][0-9a-f][0-9a-f][0-9a-f].pkt)
+      if grep -q "^${1%.pkt} " "$station/repair/round" 2> /dev/null; then
+        printf '%s\n' "$2" >> "$station/repair/${1%.pkt}.came" &&
+          sync "$station/repair/${1%.pkt}.came" "$station/repair" || exit 3
+      fi
+      ;;
+  esac
+}
+
 # Notes a packet that was tossed whole, and removes it. Arguments: the packet, its counts.
 done_with() {
   name_of "$1"
+  note_repair "$came" "$2"
   show "$came"
   log "came $shown from $(sender_of "$1") $2"
   rm -f "$1" "${1%.pkt}.name"
@@ -233,6 +255,7 @@ report_left() {
   while IFS= read -r name; do
     kind='no packet' is_mail=1
     case $name in
+      *.ask | *.ids) kind='a list for a repair, which the scan answers by echonet-station' ;;
       *.[mM][oO]? | *.[tT][uUhH]? | *.[wW][eE]? | *.[fF][rR]? | *.[sS][aAuU]?) kind='a bundle, which this station does not open' ;;
       *.[pP][kK][tT]) kind='a packet for another station' ;;
       *.[bB][aA][dD]) kind='the mailer refused it' ;;
@@ -267,6 +290,7 @@ pass_gate() {
 
 # Ends a run in which nothing failed but perhaps the log.
 end_run() {
+  rm -f "$station/repair/tossing"
   if [ $unlogged -ne 0 ]; then exit $unlogged; fi
   exit $aside
 }
@@ -281,6 +305,8 @@ fi
 report_left
 set -- "$station"/tossing/*.pkt
 if ! is_there "$1"; then end_run; fi
+
+begin_repair
 
 # All packets at once, since each toss opens the base once. If anything goes wrong, one by one.
 printf '%s\0' "$@" > "$list"

@@ -45,6 +45,7 @@ each python3 trials/terminal.py &
 each python3 trials/dressed.py &
 each python3 trials/station_full.py &
 each python3 trials/station_kills.py &
+each python3 trials/station_repairs.py &
 each python3 trials/realnet.py &
 wait
 each python3 trials/mixed.py

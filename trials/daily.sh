@@ -209,13 +209,14 @@ cp peered/inbound/0000ff9c.mo0 bundle
 mkdir peered/netmail
 stored peered/netmail/2.msg Unrouted 0000
 printf '\012\0\011\0' | dd of=peered/netmail/2.msg bs=1 seek=166 conv=notrunc 2> fault
+touch -d '3 seconds ago' peered/netmail/2.msg
 PATH=$scripts:$PATH sh -c "$peered" > mail 2>&1 < /dev/null || true
 expect "the mail has what the gate put aside, and why" grep -q '^put aside 0000ff9c.mo0: gate: damaged' mail
 expect "and a letter that stays" grep -q '^keeps 2.msg ' mail
 expect "and both statuses" [ "$(grep -c 'toss: status 1' mail) $(grep -c 'scan: status 1' mail)" = "1 1" ]
 
 # All areas of a reader by one run: three areas, of which the last is in a folder with a blank in its name.
-rm -rf one/base one/msg one/jam*
+rm -rf one/base one/count one/msg one/jam*
 mkdir -p one/base one/read
 printf 'SYSTEM 1:10/1\nNAME Alpha\nAREA TEST 1:10/2\nAREA NEWS 1:10/2\nAREA ODD 1:10/2\n' > one/links
 printf '; the areas\n\nTest msg read/test/\r\n  NEWS  jam  %s/one/read/news\nODD msg read/an odd one  \n' "$work" > one/readers

@@ -334,7 +334,7 @@ def try_hex(trial, content):
         trial.holds("other digits are refused", shown.status == 2 and shown.fault == b"echonet: bad hex\n" and shown.out == b"")
 
 
-IS_ID = re.compile(rb'(?:"(?:[^"\0\r]|"")*"|[^" \t\n\r\0][^ \t\n\r\0]*) +[0-9a-fA-F]{8}')
+IS_ID = re.compile(rb'(?:"(?:[^"\0\r]|"")*"|[^" \t\n\r\0][^ \t\n\r\0]*) +[0-9a-fA-F]+|"(?:[^"\0\r]|"")*"')
 MONTHS = "Jan Feb Mar Apr May Jun Jul Aug Sep Oct Nov Dec".split()
 
 

@@ -101,8 +101,10 @@ check 'a toss' "$(PATH=$root/one/usr/bin:$PATH "$root/one/usr/share/echonet/toss
 
 # The sessions of the guide, from the installed examples.
 if command -v binkd > /dev/null || [ -x /usr/sbin/binkd ]; then
-  scripts/follow.sh docs/OPERATORS.md bin/echonet "$root/one/usr/share/doc/echonet" > "$root/followed"
-  check 'the guide' "$? $(tail -1 "$root/followed" | cut -d , -f 2)" '0  0 did not'
+  for guide in OPERATORS REPAIR; do
+    scripts/follow.sh "docs/$guide.md" bin/echonet "$root/one/usr/share/doc/echonet" > "$root/followed"
+    check "the guide $guide" "$? $(tail -1 "$root/followed" | cut -d , -f 2)" '0  0 did not'
+  done
 fi
 
 make -s uninstall DESTDIR="$root/one" PREFIX=/usr > /dev/null || exit 1

@@ -15,10 +15,11 @@ for package in binkd crashmail ifmail ifcico jamnntpd zip unzip arj lhasa p7zip-
 done
 apt-get -o DPkg::Lock::Timeout=600 install -qq --no-install-recommends "${offered[@]}" > /dev/null
 
-# ifgate wants a mail server and a news server. Its programs run without these, so they are only unpacked.
+# ifgate wants a mail server and a news server. Its programs run without these, so they are only unpacked. They run as
+# the user who starts them: the user of the package cannot read the folders of a trial.
 if [ -n "$(apt-cache policy ifgate | sed -n 's/^  Candidate: [^(]//p')" ]; then
   mkdir -p bin/programs
-  (cd bin/programs && apt-get -q download ifgate 2> /dev/null > download.log && dpkg-deb -x ifgate_*.deb .)
+  (cd bin/programs && apt-get -q download ifgate 2> /dev/null > download.log && dpkg-deb -x ifgate_*.deb . && chmod -R u-s,g-s usr)
   apt-get -o DPkg::Lock::Timeout=600 install -qq --no-install-recommends libgdbm-compat4 > /dev/null
   offered+=(ifgate)
 fi

@@ -8,8 +8,8 @@ a loss and a kill is whole.
 
 Once a whole round files nothing, each system has just the messages that a walk leads to it: over links that are in both
 files, from a system that has the message whole, past none that has only its stub. Each is there once, with a content
-that a base on the walk had. The number of whole rounds is at most that of the systems and one. Links in one file only
-show as `notlinked`, and nothing else goes wrong.
+that a base on the walk had. The number of whole rounds is at most one more than the links of the longest of the shortest walks.
+Links in one file only show as `notlinked`, and nothing else goes wrong.
 
 Arguments: how many nets (200), how many at a time (1), the first number (0). `--spoil` before these uses lists from
 before a base was lost. Then some nets have to differ. SEED makes other choices.
@@ -42,7 +42,7 @@ class Net:
         else:
             self.pairs = tree_of_polygons(self.chance, self.systems)
         self.packets, self.copies, self.lists, self.lives = [], [], [], dict.fromkeys(self.systems, 0)
-        self.serial, self.wrong = 0, []
+        self.serial, self.wrong, self.longest = 0, [], 0
         for x in self.systems:
             os.makedirs(self.at(x, "out"))
             if self.chance.random() < 0.5:
@@ -216,6 +216,7 @@ class Net:
         wanted = {x: {key: {text} for key, text in base.items()} for x, base in before.items()}
         for key in {key for base in before.values() for key in base}:
             holders = [x for x in self.systems if before[x].get(key, STUB) != STUB]
+            self.longest = max(self.longest, *self.walks(key, before, set(holders)).values(), 0)
             for x in self.systems:
                 if key not in before[x]:
                     ways = {y for y in holders if self.leads(key, before, y, x)}
@@ -227,18 +228,20 @@ class Net:
 
     def leads(self, key, before, y, x):
         """Whether a walk from y to x is free of stubs of the message."""
-        seen, more = {y}, [y]
-        while more:
-            at = more.pop()
-            for z in self.systems:
-                if z not in seen and (at, z) in self.pairs and (z, at) in self.pairs and before[z].get(key) != STUB:
-                    seen.add(z)
-                    more.append(z)
-        return x in seen
+        return x in self.walks(key, before, {y})
 
-    def compare(self, before):
+    def walks(self, key, before, begin):
+        """How many links it takes to each system from one of these, past no stub of the message."""
+        found, more = dict.fromkeys(begin, 0), sorted(begin)
+        for at in more:
+            for z in self.systems:
+                if z not in found and (at, z) in self.pairs and (z, at) in self.pairs and before[z].get(key) != STUB:
+                    found[z] = found[at] + 1
+                    more.append(z)
+        return found
+
+    def compare(self, wanted):
         """Compares the bases after the repair."""
-        wanted = self.expected(before)
         for x in self.systems:
             has = self.base(x)
             for key in sorted(set(has) | set(wanted[x])):
@@ -257,15 +260,15 @@ class Net:
         self.link(self.pairs)
         before = {x: self.base(x) for x in self.systems}
         self.counts["stubs"] += sum(list(base.values()).count(STUB) for base in before.values())
-        rounds, done = 0, False
+        wanted, rounds, done = self.expected(before), 0, False
         while not done:
             filed, whole = self.round()
             rounds += whole
             done = whole and not filed
-            if rounds > len(self.systems) + 1:
-                self.wrong.append("%d rounds" % rounds)
+            if rounds > self.longest + 1:
+                self.wrong.append("%d rounds, and %d links" % (rounds, self.longest))
                 break
-        self.compare(before)
+        self.compare(wanted)
         self.counts["differences"] = int(bool(self.wrong))
 
 

@@ -32,7 +32,18 @@ def call(*words: str) -> Called:
     return Called(ran.returncode, os.fsdecode(ran.stdout), os.fsdecode(ran.stderr))
 
 
-def toss_now(folder: str) -> int:
-    """Runs the script that tosses. Its lines are printed here."""
-    ran = subprocess.run([script_path("toss-inbound.sh"), folder], stdin=subprocess.DEVNULL, check=False)
+def run_script(name: str, folder: str, is_quiet: bool) -> int:
+    """Runs a script of the station. Its faults are printed here, and its lines unless it is quiet."""
+    out = subprocess.DEVNULL if is_quiet else None
+    ran = subprocess.run([script_path(name), folder], stdin=subprocess.DEVNULL, stdout=out, check=False)
     return ran.returncode if ran.returncode >= 0 else 3
+
+
+def toss_now(folder: str, is_quiet: bool = False) -> int:
+    """Runs the script that tosses."""
+    return run_script("toss-inbound.sh", folder, is_quiet)
+
+
+def scan_now(folder: str, is_quiet: bool = False) -> int:
+    """Runs the script that scans."""
+    return run_script("scan-outbound.sh", folder, is_quiet)

@@ -65,7 +65,7 @@ class Order:
                 "kill-dup-partial-files",
                 "kill-old-bsy 12h",
                 "node %s@fidonet %s %s" % (self.uplink, self.host, self.password),
-                'exec "%s %s || true && %s %s" *.pkt %s' % (toss, place, scan, place, BUNDLE_MASKS),
+                'exec "%s %s || true && %s %s" *.pkt *.ask *.ids %s' % (toss, place, scan, place, BUNDLE_MASKS),
                 "",
             )
         )

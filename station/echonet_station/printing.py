@@ -5,6 +5,7 @@ import os
 
 # Marks that change the direction of a line.
 TURNS = {0x200E, 0x200F, *range(0x202A, 0x202F), *range(0x2066, 0x206A)}
+UNITS = (("d", 86400), ("h", 3600), ("m", 60))
 
 
 def is_hidden(letter: str) -> bool:
@@ -31,3 +32,11 @@ def shown_letter(letter: str) -> str:
 def shown_path(path: str) -> str:
     """The same of a path that the system gave."""
     return shown(os.fsencode(path))
+
+
+def shown_age(seconds: float) -> str:
+    """A time in the largest unit of which there are two."""
+    for name, size in UNITS:
+        if seconds >= 2 * size:
+            return "%d%s" % (seconds // size, name)
+    return "%ds" % max(0, seconds)

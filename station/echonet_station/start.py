@@ -8,7 +8,7 @@ from typing import NoReturn, Optional
 
 SCRIPTS = {"toss": "toss-inbound.sh", "scan": "scan-outbound.sh", "post": "post.sh", "read": "reader.sh"}
 HELPS = ("-h", "--help")
-LOCKED = ("gate", "dress", "letters")  # what the scripts call under their locks
+LOCKED = ("gate", "dress", "letters", "answer")  # what the scripts call under their locks
 MODULES = {"new": "making", "flow": "flows"}  # the others have the name of their word
 
 

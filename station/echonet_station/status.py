@@ -2,6 +2,7 @@
 from __future__ import annotations
 
 import os
+import re
 import struct
 import time
 from os.path import exists, join
@@ -15,22 +16,13 @@ from .filing import FORM, IN_TRANSIT, STORED_NAME
 from .flows import flows, size_of
 from .inbound import is_mine, is_packet_name
 from .letters import ATTRIBUTES_AT, LOCAL, SENT
-from .printing import shown_path
+from .printing import shown_age, shown_path
 from .station import Station, names_in
 
 LATE = 600  # seconds in which a received file is tossed, and a letter sent
 LATE_PACKET = 3 * 86400
 LATE_HOLD = 3600
 LEAST_FREE = 100 << 20
-UNITS = (("d", 86400), ("h", 3600), ("m", 60))
-
-
-def shown_age(seconds: float) -> str:
-    """A time in the largest unit of which there are two."""
-    for name, size in UNITS:
-        if seconds >= 2 * size:
-            return "%d%s" % (seconds // size, name)
-    return "%ds" % max(0, seconds)
 
 
 def age(path: str) -> float:
@@ -57,7 +49,7 @@ class Report:
     def run(self) -> Status:
         """Prints all."""
         self.say("station %s %s" % (self.station.own, self.station.folder))
-        for step in (self.runs, self.areas, self.links, self.received, self.waiting, self.bad, self.letters, self.disk):
+        for step in (self.runs, self.areas, self.links, self.received, self.waiting, self.bad, self.letters, self.repairs, self.disk):
             step()
         for line in self.hands:
             self.say("hand %s" % line)
@@ -81,6 +73,16 @@ class Report:
                 self.say(line)
         if ran.status:
             self.hand("base: %s" % ran.faults.strip().split("\n")[0])
+        self.count(ran.output)
+
+    def count(self, listed: str) -> None:
+        """Whether the base has fewer messages than at an earlier scan (count.sh)."""
+        path, ending = self.station.at("count"), re.search(r"^end ([0-9]+) messages", listed, re.M)
+        if ending and exists(path):
+            with open(path, encoding="latin-1") as file:
+                before = file.readline().strip()
+            if before.isdecimal() and int(ending[1]) < int(before):
+                self.hand("base: %s messages, and had %s: repair it before you post" % (ending[1], before))
 
     def links(self) -> None:
         """What waits for the links."""
@@ -118,6 +120,12 @@ class Report:
             if not has_peers:
                 return "a bundle: they need a file peers"
             return "bundle, left for another station" if self.station.peers.leaves_all else "bundle: does toss run?"
+        if name.endswith((".ask", ".ids")):
+            from .lists import list_name
+
+            found = list_name(name)
+            if found:
+                return "a list for a repair: does scan run?" if self.station.is_own(found.receiver) else "for another station"
         if name.endswith(".bad"):
             return "check-pkthdr of binkd: the sender is not the session's"
         return None
@@ -159,6 +167,15 @@ class Report:
                 attributes = struct.unpack_from("<H", head, ATTRIBUTES_AT)[0]
                 if attributes & (LOCAL | IN_TRANSIT) and not attributes & SENT:
                     yield name
+
+    def repairs(self) -> None:
+        """An open round of repair. Without one its modules are not imported."""
+        if exists(self.station.at("repair", "round")):
+            from .rounds import Round
+
+            round_ = Round(self.station)
+            answered = sum(pair.answer is not None for pair in round_.pairs)
+            self.say("repair since %s, %d of %d answered" % (shown_age(round_.age()), answered, len(round_.pairs)))
 
     def disk(self) -> None:
         """The room on the disk."""

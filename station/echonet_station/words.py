@@ -10,6 +10,7 @@ ALL_STATUSES = (
     "3  a device failed, or memory ran out",
     "4  the command line was refused",
 )
+REPAIR_STATUSES = ("0  in order: nothing was new", "1  the round is open, or something was new: run it again", *ALL_STATUSES[2:])
 WITHOUT_HAND = (ALL_STATUSES[0], *ALL_STATUSES[2:])
 LOCKED = ("--locked", "The caller holds the lock of the station")
 HELP = ("-h, --help", "Print help")
@@ -100,6 +101,21 @@ WORDS = (
     Word("gate", "Takes received files in: opens bundles, checks passwords, files letters", "[OPTIONS]", (), (LOCKED,), "two gate", 0, 0),
     Word("dress", "Writes passwords and points into the packets of a scan", "[OPTIONS]", (), (LOCKED,), "two dress", 0, 0),
     Word("letters", "Packs the letters that were written here", "[OPTIONS]", (), (LOCKED,), "two letters", 0, 0),
+    Word("answer", "Answers lists of ids that links sent for a repair", "[OPTIONS]", (), (LOCKED,), "two answer", 0, 0),
+    Word(
+        "repair",
+        "Begins a round of repair with the links, or looks how it is",
+        "[OPTIONS] [TAG|ADDRESS]...",
+        (("[TAG|ADDRESS]...", "Areas, and links; by default all of the link file"),),
+        (
+            ("--all", "Sends all to links that did not answer, and ends the round"),
+            ("--again", "Gives up an open round, and begins another"),
+        ),
+        "two repair TEST",
+        0,
+        ANY,
+        REPAIR_STATUSES,
+    ),
     Word(
         "retoss",
         "Tries again what lies in bad/",

@@ -304,6 +304,123 @@ SLIPS = (
         "test_words.Scripts.test_gate_fails",
     ),
     Slip(
+        "a question goes before its answer",
+        "answer.py",
+        "    messages = make_packet(station, link, tag, path)\n"
+        "    send_packet(station, link, \"as-%s.pkt\" % name.number)\n",
+        "    messages = make_packet(station, link, tag, path)\n"
+        "    station.disk.unlink(path)\n"
+        "    send_packet(station, link, \"as-%s.pkt\" % name.number)\n",
+        "test_stops.Lists.test_each_place",
+    ),
+    Slip(
+        "an answer goes before it is used",
+        "answer.py",
+        "        use_list(station, path, found[0], name.messages or 0)\n"
+        "    station.disk.unlink(path)\n",
+        "        station.disk.rename(path, path + \".used\")\n"
+        "        use_list(station, path + \".used\", found[0], name.messages or 0)\n"
+        "        path += \".used\"\n"
+        "    station.disk.unlink(path)\n",
+        "test_stops.Lists.test_each_place",
+    ),
+    Slip(
+        "a round begins before its lists are there",
+        "rounds.py",
+        "        disk.sync(folder)\n"
+        "        disk.rename(self.path + \".new\", self.path)\n",
+        "        disk.rename(self.path + \".new\", self.path)\n",
+        "test_stops.Questions.test_each_place",
+    ),
+    Slip(
+        "questions are noted before they are asked",
+        "rounds.py",
+        "        with open(self.list_path, \"rb\") as file:\n"
+        "            send_list(",
+        "        self.station.disk.write(self.path(\"asked\"), b\"\")\n"
+        "        self.station.disk.sync(self.station.at(FOLDER))\n"
+        "        with open(self.list_path, \"rb\") as file:\n"
+        "            send_list(",
+        "test_stops.Questions.test_each_place",
+    ),
+    Slip(
+        "a stopped toss is not looked at",
+        "repair.py",
+        "        if self.round.is_unsure():\n",
+        "        if False:\n",
+        "test_repair.Rounds.test_stopped_toss",
+    ),
+    Slip(
+        "a stopped toss is not noted",
+        "../toss-inbound.sh",
+        "  if [ -e \"$station/repair/tossing\" ]; then touch \"$station/repair/unsure\" || exit 3; fi\n",
+        "",
+        "test_repair.Rounds.test_stopped_toss",
+    ),
+    Slip(
+        "a base that was lost in a round is not looked at",
+        "repair.py",
+        "        if lost:\n",
+        "        if False:\n",
+        "test_repair.Rounds.test_base_lost_in_a_round",
+    ),
+    Slip(
+        "the last packet of an answer counts",
+        "../toss-inbound.sh",
+        "' \"$2\" >> \"$station/repair/",
+        "' \"$2\" > \"$station/repair/",
+        "test_repair.Rounds.test_repeated_packet",
+    ),
+    Slip(
+        "messages without an id lack",
+        "answer.py",
+        "    return min(most, max(0, sent - always))\n",
+        "    return sent\n",
+        "test_stops.Lists.test_each_place",
+    ),
+    Slip(
+        "a file gets a second line in the flow file",
+        "../scan-outbound.sh",
+        "  if ! grep -qxF -- \"$2\" \"$1\" 2> /dev/null; then add_line",
+        "  if true; then add_line",
+        "test_repair.Faulty.test_the_scan_hands_over",
+    ),
+    Slip(
+        "packets for a link have one name",
+        "rounds.py",
+        "        return \"r%s.pkt\" % self.number\n",
+        "        return \"r0.pkt\"\n",
+        "test_repair.Rounds.test_two_areas",
+    ),
+    Slip(
+        "a link chooses the name of another packet",
+        "../scan-outbound.sh",
+        "2> /dev/null; then kept=; fi",
+        "2> /dev/null; then :; fi",
+        "test_repair.Faulty.test_chosen_name",
+    ),
+    Slip(
+        "a fault of the base removes a question",
+        "lists.py",
+        "    if line.startswith(LISTS_FAULTS):\n",
+        "    if True:\n",
+        "test_repair.Faulty.test_own_faults",
+    ),
+    Slip(
+        "a station that lost its base posts",
+        "../post.sh",
+        "may_post || exit 2\n",
+        "",
+        "test_repair.Rounds.test_post_after_a_loss",
+    ),
+    Slip(
+        "a scan after a loss lowers the count",
+        "../count.sh",
+        "[ \"$now\" -gt \"${before:--1}\" ]",
+        "true",
+        "test_repair.Rounds.test_post_after_a_loss",
+    ),
+    Slip(
         "peers without Python are ignored",
         "../station.sh",
         "    exit 3\n"

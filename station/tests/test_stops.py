@@ -9,7 +9,11 @@ import unittest
 import build
 from build import END, OWN, echomail, header, ids_in, letter, packet, stored, zipped
 from echonet_station import gate as gate_module
-from echonet_station import unpacking
+from echonet_station import rounds, unpacking
+from echonet_station.addresses import address_of
+from echonet_station.answer import answer
+from echonet_station.repair import step
+from echonet_station.station import Station
 from stopping import Stop, StoppingDisk, copy_state, put_state
 
 CUTS = 3  # power cuts at each place
@@ -18,6 +22,9 @@ OTHER = header(by=(21, 1, 1, 0), to=(21, 1, 100, 0), password=b"fsx") + echomail
 
 class Stopping(build.StationCase):
     """Stops a run at each place, and looks at what a second one makes of it."""
+
+    cuts = CUTS
+    repeats = 2
 
     def run_once(self, disk=None) -> None:
         """The run that is stopped."""
@@ -33,7 +40,7 @@ class Stopping(build.StationCase):
         place = 0
         while True:
             place += 1
-            for number in range(CUTS + 1):
+            for number in range(self.cuts + 1):
                 put_state(self.top, begin)
                 disk = StoppingDisk(self.top, place)
                 try:
@@ -44,7 +51,7 @@ class Stopping(build.StationCase):
                 chance = random.Random(1000 * place + number)
                 if number:
                     disk.cut(chance, chance.choice((0.0, 0.2, 0.5, 0.8, 1.0)))
-                for _ in range(2):
+                for _ in range(self.repeats):
                     self.run_once()
                 self.look("place %d, %s" % (place, "cut %d" % number if number else "kill"))
 
@@ -204,6 +211,95 @@ class Retoss(Stopping):
 
     def test_each_place(self):
         self.assertGreater(self.stop_everywhere(), 10)
+
+
+class Lists(Stopping):
+    """Questions of a link and of a point, an answer, and lists that are refused. Each run starts several programs."""
+
+    cuts = repeats = 1
+
+    def setUp(self) -> None:
+        super().setUp()
+        self.toss(echomail(1), echomail(2))
+        round_ = rounds.Round(Station(self.top))
+        round_.station.load()
+        round_.begin({"TEST": [address_of("2:5020/1")]})
+        self.number = round_.pairs[0].number
+        self.toss(echomail(3))
+        self.ask("2.5020.1-2.5020.100.0000000a.ask", 1)
+        self.ask("2.5020.100.7-2.5020.100.0000000b.ask")
+        self.ask("2.5020.9-2.5020.100.0000000c.ask")
+        self.ask("2.5020.1-2.5020.100.%s.0.ids" % self.number, 2)
+
+    def toss(self, *messages: bytes) -> None:
+        """Files messages in the base."""
+        os.makedirs(self.at("base"), exist_ok=True)
+        build.put(self.at("x.pkt"), header() + b"".join(messages) + END)
+        words = ("toss", self.at("links"), self.at("base"), self.at("x.pkt"))
+        build.subprocess.run([build.program(), *words], stdout=-3, check=True)
+
+    def ask(self, name: str, *ids: int) -> None:
+        """A list that a link sent."""
+        lines = "".join("id 2:5020/1 %08x\n" % number for number in ids)
+        self.put("inbound/" + name, ("area TEST\n%send %d messages, 0 without id\n" % (lines, len(ids))).encode())
+
+    def run_once(self, disk=None) -> None:
+        with build.printed():
+            answer(Station(self.top, disk), True)
+
+    def look(self, where: str) -> None:
+        self.assertEqual(self.names("inbound"), [], where)
+        packets = {name: self.content("scanned", name) for name in self.names("scanned")}
+        point, boss = "2.31000.7.as-", "2.5020.1."
+        named = {name: ids_in(content) for name, content in packets.items() if ".as-" in name and name.endswith(".pkt")}
+        self.assertEqual(named, {boss + "as-0000000a.pkt": [2, 3], point + "0000000b.pkt": [1, 2, 3]}, where)
+        others = [name for name in packets if ".as-" not in name]
+        self.assertTrue(others and all(name.startswith(boss) for name in others), (where, others))
+        self.assertTrue(all(ids_in(packets[name]) == [1, 3] for name in others), where)
+        lists = [name for name in packets if name.endswith(".ids")]
+        wanted = [point + "2.5020.100-2.5020.100.7.0000000b.3.ids", boss + "as-2.5020.100-2.5020.1.0000000a.2.ids"]
+        self.assertEqual(lists, wanted, where)
+        for name in lists:
+            self.assertEqual(packets[name].count(b"\nid "), 3, (where, name))
+        # The message that came after the question does not count as lacking.
+        self.assertEqual(self.content("repair", self.number + ".answer"), b"0 2 1\n", where)
+
+    def test_each_place(self):
+        self.assertGreater(self.stop_everywhere(), 25)
+
+
+class Questions(Lists):
+    """A round that begins."""
+
+    cuts = 8
+
+    def setUp(self) -> None:
+        super().setUp()
+        for name in self.names("inbound"):
+            os.unlink(self.at("inbound", name))
+        os.unlink(self.at("repair", "round"))
+
+    def run_once(self, disk=None) -> None:
+        station = Station(self.top, disk)
+        with build.printed():
+            try:
+                step(station, set(), [])
+            finally:
+                station.unlock()
+
+    def look(self, where: str) -> None:
+        station = Station(self.top)
+        station.load()
+        pairs = rounds.Round(station).pairs
+        self.assertEqual([str(pair) for pair in pairs], ["2:5020/1 TEST", "2:31000/7 TEST"], where)
+        numbers = [pair.number for pair in pairs]
+        wanted = ["2.31000.7.as-2.5020.100-2.5020.100.7.%s.ask" % numbers[1], "2.5020.1.as-2.5020.100-2.5020.1.%s.ask" % numbers[0]]
+        self.assertEqual(self.names("scanned"), wanted, where)
+        for name in wanted:
+            self.assertEqual(self.content("scanned", name).count(b"\nid "), 3, (where, name))
+
+    def test_each_place(self):
+        self.assertGreater(self.stop_everywhere(), 15)
 
 
 class Full(build.StationCase):

@@ -113,8 +113,8 @@ filled_is_kept path d f P at rest gives =
     let there = λ (c : Files) (is : Represents (path_of f) (committed_by d f) c). gives c (subst (λ (p : List ℕ). Represents p (committed_by d f) c) at is) in
     record { seen = there d.seen (rest_same d (path_of f) f.end rest d.seen refl refl refl); stays = λ c left. there c (rest_represented d (path_of f) f.end rest c left) }
 
-open_is_kept : (keyed : ℕ → ℕ → List ℕ → ℕ) (path : List ℕ) (d : DiskState) (f : Folder) → path_of f ≡ path → IsOpen d f → HoldsBase keyed (committed_by d f) no_messages → IsKept d (RepresentsBase keyed path no_messages)
-open_is_kept keyed path d f at opened holds = grind arith
+pub open_is_kept : (keyed : ℕ → ℕ → List ℕ → ℕ) (path : List ℕ) (d : DiskState) (f : Folder) (base : Base) → path_of f ≡ path → IsOpen d f → HoldsBase keyed (committed_by d f) base → IsKept d (RepresentsBase keyed path base)
+open_is_kept keyed path d f base at opened holds = grind arith
 
 -- No message is committed after an error of adding, of the store, or of opening.
 pub uncommitted_opened : (keyed : ℕ → ℕ → List ℕ → ℕ) (path : List ℕ) (left : (Files → Type 0) → Files → Type 0) (d e : DiskState) (why : OpenError) → LeavesOnly d e (left (λ c. ⊥)) → IsUncommitted keyed path left d e (unfilled.Folder why)
@@ -127,7 +127,8 @@ uncommitted_opened keyed path left d e (unread.NotOwner address) run = run
 pub uncommitted_added : (keyed : ℕ → ℕ → List ℕ → ℕ) (left : (Files → Type 0) → Files → Type 0) (d e : DiskState) (f g : Folder) (why : FillError) → HoldsBase keyed (committed_by d f) no_messages → path_of g ≡ path_of f
     → LeavesOnly d e (left (λ c. ⊥)) → IsOpenIfUnread f g d e why → IsUncommitted keyed (path_of f) left d e why
 uncommitted_added keyed left d e f g (unfilled.Messages fault) none at run still =
-    (open_is_kept keyed (path_of f) e g at still.0 (subst (λ (b : BaseBytes). HoldsBase keyed b no_messages) (sym still.1) none), run)
+    (open_is_kept keyed (path_of f) e g no_messages at still.0 (subst (λ (b : BaseBytes). HoldsBase keyed b no_messages) (sym still.1) none), run)
+uncommitted_added keyed left d e f g unfilled.Used none at run still = run
 uncommitted_added keyed left d e f g (unfilled.Folder why) none at run still = uncommitted_opened keyed (path_of f) left d e why run
 
 pub uncommitted_stored : (keyed : ℕ → ℕ → List ℕ → ℕ) (path : List ℕ) (left : (Files → Type 0) → Files → Type 0) (d e : DiskState) (error : StoreError) → (IsErrOf {T = Unit {0}} (Err error) store.TooMany → LeavesOnly d e (left (λ c. ⊥)))
@@ -152,6 +153,7 @@ fill_run keyed path d e f P opening kept filling =
 uncommitted_since : (keyed : ℕ → ℕ → List ℕ → ℕ) (path : List ℕ) (d e f : DiskState) (why : FillError) → LeavesOnly d e (RepresentsBaseOrWasLeft keyed path d no_messages) → KeepsOutside path d e
     → IsUncommitted keyed path (RepresentsNoneOr keyed path e) e f why → IsUncommitted keyed path (RepresentsNoneOrWasLeft keyed path d) d f why
 uncommitted_since keyed path d e f (unfilled.Messages fault) opening kept was = (was.0, fill_run keyed path d e f (λ c. ⊥) opening kept was.1)
+uncommitted_since keyed path d e f unfilled.Used opening kept was = fill_run keyed path d e f (λ c. ⊥) opening kept was
 uncommitted_since keyed path d e f (unfilled.Folder unread.Memory) opening kept was = tt
 uncommitted_since keyed path d e f (unfilled.Folder unread.Device) opening kept was = tt
 uncommitted_since keyed path d e f (unfilled.Folder (unread.Wrong fault)) opening kept was = fill_run keyed path d e f (λ c. ⊥) opening kept was
@@ -169,8 +171,8 @@ fill_since keyed path d e f source later r opening kept fills = record {
 
 -- Calls that add: none, one that failed, the cursor at the end, and one call after another.
 pub adds_none : {T E : Type 0} (f : Folder) (d : DiskState) (r : Result T E) → IsUsable d f → AddsOnly f f d d r
-adds_none f d (Ok x) usable = record { named = usable.named; opened = usable.opened; path = refl; same = λ honest. refl; run = run_none d f usable.opened }
-adds_none f d (Err e) usable = record { named = usable.named; opened = λ honest. tt; path = refl; same = λ honest. tt; run = run_none d f usable.opened }
+adds_none f d (Ok x) usable = record { named = usable.named; opened = usable.opened; path = refl; mark = refl; same = λ honest. refl; run = run_none d f usable.opened }
+adds_none f d (Err e) usable = record { named = usable.named; opened = λ honest. tt; path = refl; mark = refl; same = λ honest. tt; run = run_none d f usable.opened }
 
 pub adds_end : (f g h : Folder) (d e : DiskState) → h ≡ at_end g → AddsOnly {T = Unit {0}} {E = FillError} f g d e (Ok tt) → AddsOnly {T = Unit {0}} {E = FillError} f h d e (Ok tt)
 adds_end f g h d e is was = grind (arith, end_open)
@@ -180,6 +182,7 @@ adds_twice f g h d e k two was now = record {
   named = now.named;
   opened = now.opened;
   path = now.path ∙ was.path;
+  mark = now.mark ∙ was.mark;
   same = λ honest. on_ok_weaker {P = committed_by k h ≡ committed_by e g} two (λ same. same ∙ was.same (now.run.outside.honest honest)) (now.same honest);
   run = run_twice (path_of f) (path_of g) d e k (committed_by d f) (committed_by e g) was.path was.run now.run was.same;
 }
@@ -325,3 +328,19 @@ never_many strange path files why r same was is =
 -- A full folder, by its path.
 pub full_at : {D : Type 0} (state : D → DiskState) (keyed : ℕ → ℕ → List ℕ → ℕ) (path at : List ℕ) (base : Base) → path ≡ at → IsFilledFull state keyed path base → IsFilledFull state keyed at base
 full_at state keyed path at base same full = record { disk = full.disk; folder = full.folder; at = full.at ∙ same; full = full.full }
+
+-- No error of opening says that the folder has messages.
+pub never_used : {T : Type 0} (why : OpenError) (r : Result T FillError) → IsErrAnd r (λ x. x ≡ unfilled.Folder why) → IsErrOf r unfilled.Used → ⊥
+never_used why r same is =
+    let err = handed_on {U = Unit {0}} (unfilled.Folder why) unfilled.Used r same is in
+    cc (err)
+
+-- A folder without messages has no keys.
+pub no_keys : (keyed : ℕ → ℕ → List ℕ → ℕ) (d : DiskState) (f : Folder) → IsOpen d f → HoldsBase keyed (held_by d f) no_messages → f.keys ≡ 0
+no_keys keyed d f opened holds =
+    let all = holds.files.all in
+    let long = keys_all d f (legible_open d f opened) in
+    let entries = ap (λ (l : List ℕ). length l) holds.files.entries in
+    let count = keys_long (digest_by keyed (held_by d f).mark) 0 all in
+    let none = ap (λ (l : List Filed). length l) holds.files.filed in
+    omega (arith, long, entries, count, none, length-map all (message_in Second))

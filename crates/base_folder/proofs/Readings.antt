@@ -1,15 +1,16 @@
 -- A message that is read of a base folder is one of the base that the folder holds.
-use Rattle.std.proofs.Common.{◌≡◌, ◌∙◌, ◌<◌, ◌≤◌, ℕ, List, length, get_or, refl, sym, ap, subst, arith, ⊎_elim}
+use Rattle.std.proofs.Common.{◌≡◌, ◌∙◌, ◌<◌, ◌≤◌, ◌+◌, ℕ, List, Result, below_more, Ok, Err, length, get_or, refl, sym, ap, subst, arith, ⊎_elim}
 use Rattle.std.proofs.lemmas.{Bool.cases_lt, List.length-take}
+use Rattle.std.specs.Prelude.{OnOk}
 use Rattle.disk_io.specs.{Disk.DiskState, Disk.Honestly, Disk.bytes_in, Runs.ChangesNothing}
 use Rattle.echo_filed.specs.{Filed.Filed, declared.stored.Version.TheVariants.Second, Stored.Stored, Stored.message_in}
 use Rattle.base_file.specs.Base.{Base}
 use Rattle.base_log.specs.{Names.keys_of, Standing.BaseBytes, Standing.base_at}
 use Rattle.base_store.specs.Keys.{digested}
 use Rattle.base_store.proofs.Recorded.{recorded_base_each}
-use Rattle.base_folder_store.specs.{Held.HoldsBase, Held.digest_by, Opened.held_by, Opened.path_of, Vouched.HasDigest, Vouched.IsLookedAt, Vouched.IsThere, declared.folder.Folder.Folder}
+use Rattle.base_folder_store.specs.{Held.HoldsBase, Held.digest_by, Opened.held_by, Opened.path_of, Vouched.HasDigest, Vouched.IsLookedAt, Vouched.IsThere, Vouched.IsVouched, declared.folder.Folder.Folder}
 use Rattle.base_folder_store.proofs.{Bases.recorded_where, Legible.held_quiet, Legible.keys_all, Legible.legible_quiet, Waits.written_held}
-use Rattle.base_folder.specs.Source.{LooksAt, SeesBase, SourceState}
+use Rattle.base_folder.specs.Source.{AreLegibleTo, LooksAt, SeesBase, SourceState}
 
 -- the message of this number
 pub record ReadAt (keyed : ℕ → ℕ → List ℕ → ℕ) (bytes : BaseBytes) (base : Base) (i : ℕ) : Type 0 where
@@ -66,3 +67,16 @@ looks_none a = record { honest = λ h. h; ready = λ h. h; count = refl; holds =
 -- one look after another
 pub looks_on : (old mid new : SourceState) → LooksAt old mid → LooksAt mid new → LooksAt old new
 looks_on old mid new first next = grind arith
+
+-- a message that is vouched for after a look was before it
+pub vouched_quiet : (keyed : ℕ → ℕ → List ℕ → ℕ) (d e : DiskState) (f : Folder) → ChangesNothing d e → (i : ℕ) → IsVouched keyed (held_by e f) i → IsVouched keyed (held_by d f) i
+vouched_quiet keyed d e f quiet i is = subst (λ (b : BaseBytes). IsVouched keyed b i) (held_quiet d e f quiet) is
+
+-- a fact without a condition
+pub on_ok_so : {T E P : Type 0} (r : Result T E) → P → OnOk r P
+on_ok_so (Ok x) is = is
+on_ok_so (Err e) is = tt
+
+-- one message more was read
+pub read_more : (a b c : SourceState) (i : ℕ) → ((j : ℕ) → b.legible j → a.legible j) → (c.is_honest → b.is_honest) → (b.is_honest → AreLegibleTo a i) → (c.is_honest → b.legible i) → c.is_honest → AreLegibleTo a (i + 1)
+read_more a b c i since honest before now is = below_more _ _ (before (honest is)) (since i (now is))

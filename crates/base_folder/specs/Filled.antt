@@ -1,16 +1,16 @@
 -- Filling a base folder with messages.
-use Rattle.std.specs.Prelude.{◌≡◌, ◌≤◌, ◌⊎◌, ℕ, ◌+◌, Bool, List, [], false, length, take, Some, slice_get, Result, IfErr, IsErrOf, OnOk}
+use Rattle.std.specs.Prelude.{◌≡◌, ◌≤◌, ◌<◌, ◌⊎◌, ℕ, ◌+◌, ◌/◌, Bool, List, [], false, length, take, Some, slice_get, Result, IfErr, IsErrOf, OnOk}
 use Rattle.std.specs.List.{AllByRecursion, flat_map}
 use Rattle.base_file.specs.{Base.Base, Base.IsBase, Base.is_known, Alone.MayStandAlone}
 use Rattle.echo_filed.specs.{Filed.Filed, Filed.key_of, Stored.IsStored, Stored.Stored, Stored.stored_bytes, declared.stored.Version.TheVariants.Second}
-use Rattle.base_log.specs.{Moments.SameOutside, Standing.BaseBytes, Standing.Represents}
-use Rattle.disk_io.specs.{Device.Failed, Disk.DiskState, Disk.Files, Disk.Honestly, Runs.LeavesOnly}
+use Rattle.base_log.specs.{Moments.SameOutside, Names.log_of, Standing.BaseBytes, Standing.Represents, declared.log.CommitRecord.CommitRecord, declared.log.FolderIdentity.FolderIdentity}
+use Rattle.disk_io.specs.{Device.Failed, Disk.DiskState, Disk.Files, Disk.Honestly, Disk.bytes_in, Runs.LeavesOnly}
 use Rattle.base_folder_store.specs.Opened.{IsNamed, IsOpen, committed_by, held_by, path_of}
-use Rattle.base_folder_store.specs.{Added.HasRoomFor, Added.IsFull, Calls.StagesOnly, Held.HoldsBase, Held.RepresentsBase, Held.digest_by, declared.folder.Folder.Folder}
+use Rattle.base_folder_store.specs.{Added.HasRoomFor, Added.IsFull, Calls.StagesOnly, Held.HoldsBase, Held.RepresentsBase, Held.RepresentsBaseOrWasLeft, Held.digest_by, declared.folder.Folder.Folder}
 use Rattle.base_file.specs.declared.fault.BaseFault.TheVariants as fault
 use Rattle.base_store.specs.{Keys.keys_from, Store.with_message, declared.store_error.StoreError.StoreError}
 use Rattle.base_store.specs.declared.store_error.StoreError.TheVariants as error
-use Rattle.base_folder.specs.{OpenError.IsWrong, Source.LooksAt, Source.SourceState, declared.open_error.OpenError.OpenError, declared.fill_error.FillError.FillError}
+use Rattle.base_folder.specs.{OpenError.IsWrong, Source.LooksAt, Source.SourceState, Wrong.IsRecordedBy, declared.open_error.OpenError.OpenError, declared.fill_error.FillError.FillError}
 use Rattle.base_folder.specs.declared.open_error.OpenError.TheVariants as unread
 use Rattle.base_folder.specs.declared.fill_error.FillError.TheVariants as unfilled
 
@@ -37,13 +37,14 @@ pub record AddsOnly {T E : Type 0} (old new : Folder) (before after : DiskState)
   pub named : IsNamed new
   pub opened : Honestly after (OnOk result (IsOpen after new))
   pub path : path_of new ≡ path_of old
+  pub mark : new.recorded.mark ≡ old.recorded.mark
   pub same : Honestly after (OnOk result (committed_by after new ≡ committed_by before old))
   pub run : StagesOnly (path_of old) (committed_by before old) before after
 
 -- If the messages have a fault, the folder is still open, with the same last commit.
 abbrev pub IsOpenIfUnread : Folder → Folder → DiskState → DiskState → FillError → Type 0
 IsOpenIfUnread old new before after (unfilled.Messages why) = IsOpen after new × (committed_by after new ≡ committed_by before old)
-IsOpenIfUnread old new before after (unfilled.Folder why) = Unit {0}
+IsOpenIfUnread old new before after _ = Unit {0}
 
 -- A call that adds so many messages of any source to an open folder.
 pub record FillsOnly {T : Type 0} (keyed : ℕ → ℕ → List ℕ → ℕ) (n : ℕ) (old new : Folder) (before after : DiskState) (result : Result T FillError) : Type 0 where
@@ -62,7 +63,7 @@ abbrev pub IsUndamaged : FillError → Type 0
 IsUndamaged (unfilled.Messages fault.Memory) = Unit {0}
 IsUndamaged (unfilled.Messages fault.Read) = Unit {0}
 IsUndamaged (unfilled.Messages _) = ⊥
-IsUndamaged (unfilled.Folder _) = Unit {0}
+IsUndamaged _ = Unit {0}
 
 -- The messages are only read. The error is a failed read only if the source counts one more failure. If the source was honest and has a base, no message is damaged.
 pub record ReadsFor {T : Type 0} (old new : SourceState) (result : Result T FillError) : Type 0 where
@@ -106,7 +107,7 @@ abbrev pub IsUncommitted : (ℕ → ℕ → List ℕ → ℕ) → List ℕ → (
 IsUncommitted keyed path left old new (unfilled.Messages why) = IsKept new (RepresentsBase keyed path no_messages) × LeavesOnly old new (left (λ c. ⊥))
 IsUncommitted keyed path left old new (unfilled.Folder unread.Memory) = Unit {0}
 IsUncommitted keyed path left old new (unfilled.Folder unread.Device) = Unit {0}
-IsUncommitted keyed path left old new (unfilled.Folder why) = LeavesOnly old new (left (λ c. ⊥))
+IsUncommitted keyed path left old new _ = LeavesOnly old new (left (λ c. ⊥))
 
 -- A folder without messages gets all messages of a source, or none. A crash at any time leaves files that have `left P`,
 -- where P says what they are if they are no base without messages.
@@ -117,6 +118,38 @@ pub record FillsAllOrNothing {T : Type 0} (keyed : ℕ → ℕ → List ℕ → 
   pub many : LeavesOnly old new (left (RepresentsMany keyed path source.count))
   pub refused : IfErr result (IsUncommitted keyed path left old new)
   pub filled : OnOk result (IsKept new (RepresentsMany keyed path source.count))
+
+-- The last record of the folder's log.
+abbrev pub IsRecordedIn : Bool → List ℕ → Files → CommitRecord → Type 0
+IsRecordedIn strange path files recorded = IsRecordedBy strange (bytes_in (files (log_of path))) recorded
+
+-- The log counts a message.
+pub record IsUsed (strange : Bool) (path : List ℕ) (files : Files) : Type 0 where
+  pub recorded : CommitRecord
+  pub log : IsRecordedIn strange path files recorded
+  pub some : 0 < recorded.keys / 16
+
+-- The mark of a folder without owner that has this key.
+abbrev pub drawn_mark : ℕ → ℕ → FolderIdentity
+drawn_mark first second = record { owner = 0; first = first; second = second }
+
+-- The files represent a base with this mark.
+pub record HasMark (path : List ℕ) (mark : FolderIdentity) (c : Files) : Type 0 where
+  pub bytes : BaseBytes
+  pub represented : Represents path bytes c
+  pub is : bytes.mark ≡ mark
+
+-- A folder with messages is not filled. It keeps them, also after a crash at any time.
+pub record StaysFull {T : Type 0} (keyed : ℕ → ℕ → List ℕ → ℕ) (path : List ℕ) (base : Base) (old new : DiskState) (result : Result T FillError) : Type 0 where
+  pub refused : OnOk result ⊥
+  pub crash : LeavesOnly old new (RepresentsBaseOrWasLeft keyed path old base)
+  pub kept : IsErrOf result unfilled.Used → IsKept new (RepresentsBase keyed path base)
+
+-- A folder without messages gets all or none, and this mark if it had no owner. A folder with messages stays.
+pub record FillsIfEmpty {T : Type 0} (keyed : ℕ → ℕ → List ℕ → ℕ) (path : List ℕ) (strange : Bool) (mark : FolderIdentity) (old new : DiskState) (source later : SourceState) (result : Result T FillError) : Type 0 where
+  pub empty : RepresentsBase keyed path no_messages old.seen → FillsAllOrNothing keyed path (RepresentsNoneOrWasLeft keyed path old) old new source later result
+  pub given : RepresentsBase keyed path no_messages old.seen → (recorded : CommitRecord) → IsRecordedIn strange path old.seen recorded → recorded.mark.owner ≡ 0 → OnOk result (IsKept new (HasMark path mark))
+  pub full : (base : Base) → RepresentsBase keyed path base old.seen → 0 < length base.messages → StaysFull keyed path base old new result
 
 -- The folder holds the first messages of a base, and has no room for the next one.
 pub record LacksNext (keyed : ℕ → ℕ → List ℕ → ℕ) (disk : DiskState) (folder : Folder) (messages : List Filed) : Type 0 where
@@ -141,9 +174,11 @@ unfilled_cause error.Device = unread.Device
 unfilled_cause error.Damaged = unread.Memory
 unfilled_cause error.TooMany = unread.Wrong fault.TooMany
 
--- Something is wrong with the messages or the folder, or four bytes do not count what the folder is to be filled with.
+-- Something is wrong with the messages or the folder, the folder has a message, or four bytes do not count what it is to
+-- be filled with.
 abbrev pub IsUnfilled : Bool → List ℕ → Files → FillError → Type 0
 IsUnfilled strange path files (unfilled.Messages why) = Unit {0}
+IsUnfilled strange path files unfilled.Used = IsUsed strange path files
 IsUnfilled strange path files (unfilled.Folder why) = (why ≡ unread.Wrong fault.TooMany) ⊎ IsWrong strange path files why
 
 -- An error of a call on the open folder. The files of the folder are not wrong.

@@ -1,6 +1,6 @@
 -- The faults of a folder that is no base folder, or is cut short.
-use Rattle.std.specs.Prelude.{◌≡◌, ◌≤◌, ◌<◌, ◌⊎◌, ℕ, ◌+◌, ◌/◌, ◌%◌, ◌==◌, ◌&&◌, ◌||◌, not, nat_lt, Bool, true, false, List, length, take, None}
-use Rattle.disk_io.specs.Disk.{Files, IsIn, bytes_in}
+use Rattle.std.specs.Prelude.{◌≡◌, ◌≤◌, ◌<◌, ◌⊎◌, ℕ, ◌+◌, ◌/◌, ◌%◌, ◌==◌, ◌&&◌, ◌||◌, not, nat_lt, Bool, true, false, List, length, take, None, OnOk, Result}
+use Rattle.disk_io.specs.{Disk.DiskState, Disk.Files, Disk.IsIn, Disk.bytes_in, Runs.ChangesNothing}
 use Rattle.base_log.specs.{Names.keys_of, Names.log_of, Names.messages_of, Reading.ReadsAll, Standing.IsBroken, Standing.IsLost, declared.log.End.End, declared.log.CommitRecord.CommitRecord}
 use Rattle.base_store.specs.Keys.{place_behind}
 
@@ -52,6 +52,16 @@ pub record IsCutShort (strange : Bool) (path : List ℕ) (files : Files) (n : �
 pub record IsSound (strange : Bool) (path : List ℕ) (files : Files) : Type 0 where
   pub folder : IsNoFolder strange path files → ⊥
   pub whole : (n : ℕ) → IsCutShort strange path files n → ⊥
+
+-- The same, and this is the last record of its log.
+pub record IsSoundBy (strange : Bool) (path : List ℕ) (files : Files) (recorded : CommitRecord) : Type 0 where
+  pub sound : IsSound strange path files
+  pub log : IsRecordedBy strange (bytes_in (files (log_of path))) recorded
+
+-- A call ends well only on a folder without such a fault. Otherwise it changes nothing.
+pub record NeedsSound {T E : Type 0} (strange : Bool) (path : List ℕ) (old new : DiskState) (result : Result T E) : Type 0 where
+  pub sound : OnOk result (IsSound strange path old.seen)
+  pub untouched : (IsSound strange path old.seen → ⊥) → ChangesNothing old new
 
 -- A folder without files.
 abbrev pub HasNoFiles : List ℕ → Files → Type 0

@@ -6,7 +6,7 @@ ghost use Rattle.base_file.specs.{Base.Base, BaseFile.head_bytes, BaseFile.saved
 ghost use Rattle.echo_filed.specs.{Filed.Filed, Stored.stored_as, Stored.stored_bytes, declared.stored.Version.TheVariants.Second};
 ghost use Rattle.cmd_status.specs.Lines.{WritesFront};
 ghost use Rattle.base_folder.specs.AsFile.{IsFileFault, IsMessageFault, IsSendFault, IsTooLong, file_cause};
-ghost use Rattle.base_folder.specs.Source.{LooksAt};
+ghost use Rattle.base_folder.specs.Source.{AreLegible, LooksAt, ReadsLegibly};
 
 use crate::send_error::SendError;
 use crate::source::MessageSource;
@@ -81,6 +81,7 @@ fn stored_at<M: MessageSource>(
         → IfOk result (λ file. file.items ≡ stored_bytes Second (stored_at cursor i m)) }
     ensures fault { (M.state messages.new).is_honest → (base : Base) (m : Filed) → (M.state messages.old).holds base → slice_get base.messages i ≡ Some m
         → IfErr result (IsMessageFault (stored_at cursor i m) (M.state messages.old).failures (M.state messages.new).failures) }
+    ensures legible { ReadsLegibly (M.state messages.old) (M.state messages.new) i result }
     ensures looks { LooksAt (M.state messages.old) (M.state messages.new) }
     ensures later { (M.state messages.old).failures ≤ (M.state messages.new).failures }
 {
@@ -117,6 +118,7 @@ pub fn send_file<M: MessageSource, W: Sink>(
         → OnErr result (WritesFront (saved_bytes base.messages base.cursor) (W.contents file.old) (W.contents file.new)) }
     ensures fault { (M.state messages.new).is_honest → (base : Base) → (M.state messages.old).holds base
         → IfErr result (IsSendFault base (M.state messages.old).failures (M.state messages.new).failures (W.failures file.old) (W.failures file.new)) }
+    ensures whole { (M.state messages.new).is_honest → OnOk result (AreLegible (M.state messages.old)) }
     ensures ok { OnOk result (W.failures file.new ≡ W.failures file.old) }
     ensures looks { LooksAt (M.state messages.old) (M.state messages.new) }
 {
@@ -140,6 +142,7 @@ pub fn file_of<M: MessageSource>(alloc: Global, messages: &mut M) -> Result<Vec<
     ensures file { (M.state messages.new).is_honest → (base : Base) → (M.state messages.old).holds base → IfOk result (λ bytes. bytes.items ≡ saved_bytes base.messages base.cursor) }
     ensures fault { (M.state messages.new).is_honest → (base : Base) → (M.state messages.old).holds base
         → IfErr result (IsFileFault base (M.state messages.old).failures (M.state messages.new).failures) }
+    ensures whole { (M.state messages.new).is_honest → OnOk result (AreLegible (M.state messages.old)) }
 {
     let mut file = Watched::new(Vec::new(alloc));
     match send_file(alloc, messages, &mut file) {

@@ -1,5 +1,5 @@
 //! Messages of which no two may have one key.
-ghost use Rattle.std.specs.Prelude.{◌≡◌, ◌<◌, Some, slice_get, option_copied, option_map, IfOk, IsErrOf, IsTrue};
+ghost use Rattle.std.specs.Prelude.{◌≡◌, ◌<◌, ℕ, Some, slice_get, option_copied, option_map, IfOk, IsErrOf, IsTrue};
 ghost use Rattle.base_file.specs.Base.{Base};
 ghost use Rattle.echo_filed.specs.Filed.{key_of};
 ghost use Rattle.base_folder_store.specs.Answers.{Answers, HasReadCause};
@@ -100,6 +100,7 @@ fn judge_earlier<M: MessageSource>(
     requires within { place < (M.state messages.old).count }
     ensures fetched { (M.state messages.new).is_honest → (base : Base) → (M.state messages.old).holds base → option_map key_of (slice_get base.messages place) ≡ Some key.now
         → Answers (λ _. (M.state messages.new).at_hand ≡ slice_get base.messages place) result }
+    ensures since { (i : ℕ) → (M.state messages.new).legible i → (M.state messages.old).legible i }
     ensures looks { LooksAt (M.state messages.old) (M.state messages.new) }
     ensures few { IsErrOf result StoreError.TooMany → ⊥ }
     ensures cause { HasReadCause (M.state messages.old).failures (M.state messages.new).failures result }

@@ -1,7 +1,7 @@
 //! Messages of a base, fetched one by one for a command.
 ghost use Rattle.std.specs.Prelude.{◌≡◌, ◌≤◌, ◌<◌, slice_get, IfErr, OnOk};
 ghost use Rattle.base_file.specs.Base.{Base};
-ghost use Rattle.base_folder.specs.{Source.LooksAt, Fetching.IsUnread};
+ghost use Rattle.base_folder.specs.{Source.LooksAt, Source.ReadsLegibly, Fetching.IsUnread};
 
 use crate::source::MessageSource;
 use base_file::BaseFault;
@@ -19,6 +19,7 @@ pub fn fetch_message<'a, M: MessageSource>(
     ensures fetched { (M.state messages.new).is_honest → (base : Base) → (M.state messages.old).holds base → OnOk result ((M.state messages.new).at_hand ≡ slice_get base.messages i) }
     ensures fault { (M.state messages.new).is_honest → (base : Base) → (M.state messages.old).holds base
         → IfErr result (IsUnread path.now (M.state messages.old).failures (M.state messages.new).failures) }
+    ensures legible { ReadsLegibly (M.state messages.old) (M.state messages.new) i result }
     ensures looks { LooksAt (M.state messages.old) (M.state messages.new) }
     ensures later { (M.state messages.old).failures ≤ (M.state messages.new).failures }
 {

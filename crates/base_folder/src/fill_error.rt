@@ -10,6 +10,9 @@ pub enum FillError {
     /// The messages have this fault.
     #[error("{0}")]
     Messages(BaseFault),
+    /// The folder has messages.
+    #[error("the folder has messages")]
+    Used,
     /// The folder that takes the messages has this error.
     #[error("{0}")]
     Folder(OpenError),

@@ -4,9 +4,9 @@ ghost use Rattle.base_file.specs.Base.{Base};
 ghost use Rattle.disk_io.specs.Disk.{Honestly};
 ghost use Rattle.base_log.specs.{Moments.KeepsOutside, Opening.AreAlone};
 ghost use Rattle.echo_filed.specs.Filed.{Filed as TheMessage};
-ghost use Rattle.base_folder_store.specs.{Added.HasRoomFor, Answers.HasReadCause, Held.HoldsBase, Held.RepresentsBase, Opened.committed_by, Opened.held_by, Opened.path_of, Owned.with_mark};
+ghost use Rattle.base_folder_store.specs.{Added.HasRoomFor, Answers.HasReadCause, Held.HoldsBase, Held.RepresentsBase, Opened.committed_by, Opened.held_by, Opened.path_of, Owned.IsUnclaimed, Owned.with_mark};
 ghost use Rattle.base_folder_store.specs.State.{IsUsable};
-ghost use Rattle.base_folder.specs.Filled.{AddsOnly, FillsAllOrNothing, FillsOnly, HasFillCause, HasUnfilledCause, HoldsFront, HoldsMany, HoldsMore, IsFilledFull, IsKept, IsUnfilled, ReadsFor, ShowsBase, RepresentsNoneOr, RepresentsNoneOrWasLeft, no_messages};
+ghost use Rattle.base_folder.specs.Filled.{AddsOnly, FillsAllOrNothing, FillsIfEmpty, FillsOnly, HasFillCause, HasMark, HasUnfilledCause, HoldsFront, HoldsMany, HoldsMore, IsFilledFull, IsKept, IsUnfilled, ReadsFor, ShowsBase, RepresentsNoneOr, drawn_mark, no_messages};
 ghost use Rattle.base_folder.specs.Ours.{SameKey};
 
 use crate::as_file::fault_of;
@@ -143,6 +143,7 @@ fn fill_opened<D: Disk, H: Digest, M: MessageSource>(
         → OnOk result (IsKept (D.state disk.new) (RepresentsBase H.keyed (path_of folder.old) base))) }
     ensures any_moment { Honestly (D.state disk.new) (HoldsBase H.keyed (committed_by (D.state disk.old) folder.old) no_messages → HoldsBase H.keyed (held_by (D.state disk.old) folder.old) no_messages
         → FillsAllOrNothing H.keyed (path_of folder.old) (RepresentsNoneOr H.keyed (path_of folder.old) (D.state disk.old)) (D.state disk.old) (D.state disk.new) (M.state messages.old) (M.state messages.new) result) }
+    ensures marked { Honestly (D.state disk.new) (OnOk result (IsKept (D.state disk.new) (HasMark (path_of folder.old) folder.old.recorded.mark))) }
     ensures outside { KeepsOutside (path_of folder.old) (D.state disk.old) (D.state disk.new) }
     ensures reads { ReadsFor (M.state messages.old) (M.state messages.new) result }
     ensures cause { HasFillCause (D.failures disk.old) (D.failures disk.new) result }
@@ -160,6 +161,7 @@ fn give_key(folder: &mut Folder, first: u64, second: u64)
     ensures only { folder.new ≡ with_mark folder.old folder.new.recorded.mark }
     ensures key { 0 < folder.old.keys → SameKey folder.old.recorded.mark folder.new.recorded.mark }
     ensures kept { folder.old.recorded.mark.owner ≢ 0 → folder.new ≡ folder.old }
+    ensures drawn { IsUnclaimed folder.old → folder.new.recorded.mark ≡ drawn_mark first second }
 {
     let owner = 0;
     let _given = folder.claim(FolderIdentity {
@@ -170,10 +172,11 @@ fn give_key(folder: &mut Folder, first: u64, second: u64)
 }
 
 /// Fills the base folder of this path, which ends in a slash and has no message, with the messages. So many of them
-/// count as scanned. The folder gets the key of these two halves, and has no owner. `strange` says that it has foreign
-/// files. One message at a time is in memory, with a buffer.
+/// count as scanned. If the folder has no owner it gets the key of these two halves, and still has no owner. `strange`
+/// says that it has foreign files. One message at a time is in memory, with a buffer.
 ///
-/// An error of the folder is one of `open_base`, or `Wrong` if a message is too large to be counted in four bytes (F7).
+/// A folder with messages is `Used`, and stays. Another error of the folder is one of `open_base`, or `Wrong` if a
+/// message is too large to be counted in four bytes (F7).
 pub fn fill<D: Disk, H: Digest, M: MessageSource>(
     alloc: Global,
     disk: &mut D,
@@ -191,9 +194,8 @@ pub fn fill<D: Disk, H: Digest, M: MessageSource>(
         → OnOk result (IsKept (D.state disk.new) (RepresentsBase H.keyed path.now base))) }
 
     // A crash at any time leaves no message or all, whatever the source is, or what a crash might have left before. If a
-    // message is not read, there is none.
-    ensures any_moment { Honestly (D.state disk.new) (RepresentsBase H.keyed path.now no_messages (D.state disk.old).seen
-        → FillsAllOrNothing H.keyed path.now (RepresentsNoneOrWasLeft H.keyed path.now (D.state disk.old)) (D.state disk.old) (D.state disk.new) (M.state messages.old) (M.state messages.new) result) }
+    // message is not read, there is none. A folder with messages keeps them.
+    ensures any_moment { Honestly (D.state disk.new) (FillsIfEmpty H.keyed path.now strange (drawn_mark key.0 key.1) (D.state disk.old) (D.state disk.new) (M.state messages.old) (M.state messages.new) result) }
     ensures outside { KeepsOutside path.now (D.state disk.old) (D.state disk.new) }
     ensures wrong { Honestly (D.state disk.new) (IfErr result (IsUnfilled strange path.now (D.state disk.old).seen)) }
 
@@ -205,6 +207,9 @@ pub fn fill<D: Disk, H: Digest, M: MessageSource>(
         → IsErrOf result (FillError.Folder (OpenError.Wrong BaseFault.TooMany)) → IsFilledFull D.state H.keyed path.now base) }
 {
     let mut folder = open_base(alloc, disk, path, strange)?;
+    if folder.count() > 0 {
+        return Err(FillError::Used);
+    }
     give_key(&mut folder, key.0, key.1);
     fill_opened::<D, H, M>(alloc, disk, &mut folder, messages)
 }

@@ -6,7 +6,7 @@ ghost use Rattle.echo_addr.specs.declared.address.Address.{Address};
 ghost use Rattle.base_log.specs.Opening.{AreAlone};
 ghost use Rattle.base_folder_store.specs.{Held.HoldsBase, Held.RepresentsBase, Opened.IsFresh, Opened.IsOpen, Opened.held_by};
 ghost use Rattle.base_folder.specs.{Ours.IsLeftAlone, Ours.IsNotOurs, Ours.IsOfOther, Unopened.HasOpened, Unopened.HaveRoom, Unopened.IsOpenedFor, Unopened.OpensOnly};
-ghost use Rattle.base_folder.specs.{OpenError.HasUnreadCause, OpenError.IsWrong, Wrong.IsSound};
+ghost use Rattle.base_folder.specs.{OpenError.HasUnreadCause, OpenError.IsWrong, Wrong.IsSoundBy, Wrong.NeedsSound};
 
 use crate::judging::judged;
 use crate::open_error::OpenError;
@@ -32,7 +32,7 @@ pub fn open_base<D: Disk>(
     ensures same { Honestly (D.state disk.new) ((keyed : ℕ → ℕ → List ℕ → ℕ) (base : Base) → RepresentsBase keyed path.now base (D.state disk.old).seen
         → IfOk result (λ folder. HoldsBase keyed (held_by (D.state disk.new) folder) base)) }
     ensures run { OpensOnly path.now (D.state disk.old) (D.state disk.new) }
-    ensures sound { Honestly (D.state disk.new) (OnOk result (IsSound strange path.now (D.state disk.old).seen)) }
+    ensures sound { Honestly (D.state disk.new) (IfOk result (λ folder. IsSoundBy strange path.now (D.state disk.old).seen folder.recorded)) }
     ensures wrong { Honestly (D.state disk.new) (IfErr result (IsWrong strange path.now (D.state disk.old).seen)) }
     ensures left { IfErr result (IsLeftAlone (D.state disk.old) (D.state disk.new)) }
     ensures cause { HasUnreadCause (D.failures disk.old) (D.failures disk.new) result }
@@ -59,7 +59,7 @@ pub fn open_own<D: Disk>(
     ensures same { Honestly (D.state disk.new) ((keyed : ℕ → ℕ → List ℕ → ℕ) (base : Base) → HaveRoom keyed → RepresentsBase keyed path.now base (D.state disk.old).seen
         → IfOk result (HasOpened keyed (D.state disk.new) base)) }
     ensures run { OpensOnly path.now (D.state disk.old) (D.state disk.new) }
-    ensures sound { Honestly (D.state disk.new) (OnOk result (IsSound strange path.now (D.state disk.old).seen)) }
+    ensures sound { Honestly (D.state disk.new) (NeedsSound strange path.now (D.state disk.old) (D.state disk.new) result) }
 
     // It is another system's exactly if that is the answer; then nothing is changed.
     ensures other { Honestly (D.state disk.new) ((address : Address) → IsOfOther own strange path.now (D.state disk.old).seen address → OnOk result ⊥) }

@@ -49,6 +49,7 @@ impl<S: BuildHasher> MessageSource for BaseReader<S> {
       is_ready = Unit {0};
       count = length r.base.messages;
       holds = λ (base : model.Base). (r.base.messages ≡ base.messages) × (r.base.cursor ≡ base.cursor);
+      legible = λ _. Unit {0};
       at_hand = slice_get r.base.messages r.place;
       failures = 0;
       counted = λ (base : model.Base) same. ap length same.0;

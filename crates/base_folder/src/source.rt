@@ -2,7 +2,7 @@
 ghost use Rattle.std.specs.Prelude.{◌≡◌, ◌<◌, length, slice_get, option_copied, IsErrOf};
 ghost use Rattle.base_file.specs.Base.{Base, IsBase};
 ghost use Rattle.base_folder_store.specs.Answers.{Answers, HasReadCause};
-ghost use Rattle.base_folder.specs.Source.{LooksAt, SourceState};
+ghost use Rattle.base_folder.specs.Source.{LooksAt, ReadsLegibly, SourceState};
 
 use base_store::StoreError;
 use echo_filed::Filed;
@@ -26,6 +26,7 @@ pub trait MessageSource {
         requires ready { (state self.old).is_ready }
         requires within { place < (state self.old).count }
         ensures fetched { (state self.new).is_honest → (base : Base) → (state self.old).holds base → Answers (λ _. (state self.new).at_hand ≡ slice_get base.messages place) result }
+        ensures legible { ReadsLegibly (state self.old) (state self.new) place result }
         ensures looks { LooksAt (state self.old) (state self.new) }
         ensures few { IsErrOf result StoreError.TooMany → ⊥ }
         ensures cause { HasReadCause (state self.old).failures (state self.new).failures result };

@@ -7,6 +7,7 @@ use Rattle.echo_filed.specs.{Stored.Stored, Stored.stored_bytes, declared.stored
 use Rattle.base_store.specs.Keys.{HasBytesOf, IsPieceOf, digest_at, place_at, place_behind}
 use Rattle.base_store.specs.{Index.IsIndexOf, Index.entries_of, declared.index.Index.Index}
 use Rattle.base_store.proofs.Found.{piece_digest}
+use Rattle.base_folder_store.specs.Vouched.{AreBytesAt}
 
 module _ (file keys : List ℕ) (place begins ends : ℕ) (s : Stored) (recorded : HasBytesOf file keys place s) (at : begins ≡ place_at keys place)
     (behind : ends ≡ place_behind file keys place) where
@@ -55,6 +56,9 @@ module _ (messages keys piece : List ℕ) (place : ℕ) (is : IsPieceOf keys pla
 
   pub piece_has : (s : Stored) → HasBytesOf messages keys place s → HasBytesOf messages piece 0 s
   piece_has s has = grind (arith, begins_there, ends_there)
+
+  pub piece_bytes : (bytes : List ℕ) → AreBytesAt messages piece 0 bytes → AreBytesAt messages keys place bytes
+  piece_bytes bytes has = grind (arith, begins_there, ends_there)
 
   pub first_digest : digest_at piece 0 ≡ digest_at keys place
   first_digest =

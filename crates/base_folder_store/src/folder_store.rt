@@ -24,7 +24,8 @@ use std::marker::PhantomData;
 #[derive(Drop)]
 pub struct FolderStore<D: Disk, H: Digest> {
     alloc: Global,
-    disk: D,
+    /// The disk. Between two calls files outside the folder may change on it.
+    pub disk: D,
     folder: Folder,
     index: Index,
     buffers: Buffers,

@@ -1,7 +1,8 @@
 //! What a purge leaves of one message.
-ghost use Rattle.std.specs.Prelude.{◌≡◌, not, false, true, IfOk, OnOk, IsErrOf};
+ghost use Rattle.std.specs.Prelude.{◌≡◌, not, false, true, IfOk, IsErrOf, IsTrue, OnOk};
 ghost use Rattle.echo_filed.specs.{Stored.IsStored, Stored.Stored, Stored.stored_bytes, declared.stored.Version.TheVariants.Second, Stubs.is_stub, Stubs.stub_of};
-ghost use Rattle.base_file.specs.Alone.{MayStandAlone};
+ghost use Rattle.echo_filed.specs.Filed.{Filed as TheMessage};
+ghost use Rattle.base_file.specs.Alone.{IsStoredAlone, MayStandAlone};
 ghost use Rattle.base_folder_store.specs.{Answers.Answers, Left.IsLeftOf};
 
 use crate::alone::{bytes_scanned, read_alone};
@@ -34,6 +35,7 @@ fn make_stub(alloc: Global, message: &mut Filed) -> Result<bool, AllocError>
 fn stub_in(alloc: Global, bytes: &[u8]) -> Result<Left, StoreError>
     ensures left { (s : Stored) → IsStored Second s → MayStandAlone s → bytes.now ≡ stored_bytes Second s
         → Answers (IsLeftOf true s) result }
+    ensures read { OnOk result ((m : TheMessage) × IsStoredAlone m bytes.now) }
     ensures device { IsErrOf result StoreError.Device → ⊥ }
     ensures few { IsErrOf result StoreError.TooMany → ⊥ }
 {
@@ -47,6 +49,7 @@ fn stub_in(alloc: Global, bytes: &[u8]) -> Result<Left, StoreError>
 pub(crate) fn left_of(alloc: Global, bytes: Vec<u8>, scanned: bool) -> Result<Left, StoreError>
     ensures left { (s : Stored) → IsStored Second s → MayStandAlone s → bytes.items ≡ stored_bytes Second s
         → Answers (IsLeftOf scanned s) result }
+    ensures read { IsTrue scanned → OnOk result ((m : TheMessage) × IsStoredAlone m bytes.items) }
     ensures device { IsErrOf result StoreError.Device → ⊥ }
     ensures few { IsErrOf result StoreError.TooMany → ⊥ }
 {

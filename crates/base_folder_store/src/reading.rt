@@ -3,8 +3,8 @@ ghost use Rattle.std.specs.Prelude.{◌≡◌, ◌≤◌, ◌<◌, ◌+◌, ◌-
 ghost use Rattle.disk_io.specs.{Disk.Honestly, Disk.bytes_in, Runs.ChangesNothing, Runs.HasCause};
 ghost use Rattle.echo_filed.specs.{Filed.Filed, Stored.IsStored, Stored.Stored, Stored.message_in, Stored.stored_bytes, declared.stored.Version.TheVariants.Second};
 ghost use Rattle.base_file.specs.Alone.{MayStandAlone};
-ghost use Rattle.base_store.specs.{Index.IsIndexOf, Keys.HasBytesOf, Keys.IsPieceOf, Keys.AreWhereRecorded, Keys.digest_at};
-ghost use Rattle.base_folder_store.specs.{Added.next_place, Ahead.AreParts, Ahead.IsPartOf, Answers.Answers, Answers.HasReadCause, Answers.IsStoredOf, Opened.IsLegible, Opened.held_by};
+ghost use Rattle.base_store.specs.{Index.IsIndexOf, Keys.HasBytesOf, Keys.IsPieceOf, Keys.AreWhereRecorded, Keys.place_at, Keys.place_behind};
+ghost use Rattle.base_folder_store.specs.{Added.next_place, Ahead.AreParts, Ahead.IsPartOf, Answers.Answers, Answers.HasReadCause, Answers.IsStoredOf, Opened.IsLegible, Opened.held_by, Vouched.AreBytesAt, Vouched.IsReadAt};
 
 use crate::alone::read_alone;
 use crate::folder::{ENTRY, Folder};
@@ -54,6 +54,7 @@ pub fn bounds_of(entries: &[u8], place: usize, all: usize) -> Option<Bounds>
     requires { place < length entries.now / 16 }
     ensures order { IfSome result (λ bounds. bounds.begins ≤ bounds.ends) }
     ensures within { IfSome result (λ bounds. bounds.ends ≤ all) }
+    ensures at { (file : List ℕ) → length file ≡ all → IfSome result (λ bounds. (bounds.begins ≡ place_at entries.now place) × (bounds.ends ≡ place_behind file entries.now place)) }
     ensures bytes { (file : List ℕ) (s : Stored) → length file ≡ all → HasBytesOf file entries.now place s
         → IfSome result (λ bounds. drop bounds.begins (take bounds.ends file) ≡ stored_bytes Second s) }
     ensures some { (file : List ℕ) (s : Stored) → length file ≡ all → HasBytesOf file entries.now place s → IsSome result }
@@ -80,6 +81,7 @@ fn stored_at<D: Disk>(
     requires within { 0 < length entry.now / 16 }
     ensures stored { Honestly (D.state disk.new) ((s : Stored) → HasBytesOf (take written (bytes_in ((D.state disk.old).seen messages.now)) ++ waiting.now) entry.now 0 s
         → Answers (λ bytes. bytes.items ≡ stored_bytes Second s) result) }
+    ensures at { Honestly (D.state disk.new) (IfOk result (λ bytes. AreBytesAt (take written (bytes_in ((D.state disk.old).seen messages.now)) ++ waiting.now) entry.now 0 bytes.items)) }
     ensures quiet { ChangesNothing (D.state disk.old) (D.state disk.new) }
     ensures cause { HasReadCause (D.failures disk.old) (D.failures disk.new) result }
     ensures many { IsErrOf result StoreError.TooMany → 2 ^ 64 ≤ written + length waiting.now }
@@ -184,6 +186,7 @@ impl Folder {
         requires within { 0 < length entry.now / 16 }
         ensures stored { Honestly (D.state disk.new) ((s : Stored) → HasBytesOf (held_by (D.state disk.old) self.now).messages entry.now 0 s
             → Answers (λ bytes. bytes.items ≡ stored_bytes Second s) result) }
+        ensures at { Honestly (D.state disk.new) (IfOk result (λ bytes. AreBytesAt (held_by (D.state disk.old) self.now).messages entry.now 0 bytes.items)) }
         ensures quiet { ChangesNothing (D.state disk.old) (D.state disk.new) }
         ensures cause { HasReadCause (D.failures disk.old) (D.failures disk.new) result }
         ensures many { IsErrOf result StoreError.TooMany → 2 ^ 64 ≤ next_place self.now }
@@ -215,7 +218,7 @@ impl Folder {
             → place < length base → Answers (λ stored. IsStoredOf base place stored.bytes.items) result) }
         ensures there { Honestly (D.state disk.new) ((s : Stored) → HasBytesOf (held_by (D.state disk.old) self.now).messages (held_by (D.state disk.old) self.now).keys place s
             → Answers (λ stored. stored.bytes.items ≡ stored_bytes Second s) result) }
-        ensures digest { Honestly (D.state disk.new) (IfOk result (λ stored. stored.digest ≡ digest_at (held_by (D.state disk.old) self.now).keys place)) }
+        ensures at { Honestly (D.state disk.new) (IfOk result (IsReadAt (held_by (D.state disk.old) self.now) place)) }
         ensures quiet { ChangesNothing (D.state disk.old) (D.state disk.new) }
         ensures cause { HasReadCause (D.failures disk.old) (D.failures disk.new) result }
         ensures many { IsErrOf result StoreError.TooMany → 2 ^ 64 ≤ next_place self.now }

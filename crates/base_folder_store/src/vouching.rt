@@ -1,10 +1,10 @@
 //! A folder that is read and never changed: its messages, each with the digest of its entry.
-ghost use Rattle.std.specs.Prelude.{◌≡◌, ◌<◌, ◌/◌, ◌↔◌, IfOk, IsErrOf, IsTrue, OnOk};
+ghost use Rattle.std.specs.Prelude.{◌≡◌, ◌<◌, ◌/◌, ◌↔◌, IfOk, IsErrOf, IsTrue};
 ghost use Rattle.disk_io.specs.{Disk.Honestly, Runs.ChangesNothing};
 ghost use Rattle.echo_filed.specs.{Stored.Stored, Stored.message_in, declared.stored.Version.TheVariants.Second};
 ghost use Rattle.base_store.specs.Keys.{digested};
 ghost use Rattle.base_folder_store.specs.{Answers.Answers, Answers.HasReadCause, Held.digest_by, Opened.IsFresh, Opened.IsLegible, Opened.IsWritten, Opened.held_by};
-ghost use Rattle.base_folder_store.specs.Vouched.{HasDigest, IsThere, IsVouched};
+ghost use Rattle.base_folder_store.specs.Vouched.{HasDigest, IsThere, IsVouchedAs};
 
 use crate::alone::read_alone;
 use crate::folder::Folder;
@@ -49,7 +49,7 @@ impl Folder {
         requires written { IsWritten self.now }
         ensures message { Honestly (D.state disk.new) ((s : Stored) → IsThere (held_by (D.state disk.old) self.now) place s → HasDigest H.keyed (held_by (D.state disk.old) self.now) place s
             → Answers (λ message. message ≡ message_in Second s) result) }
-        ensures vouched { Honestly (D.state disk.new) (OnOk result (IsVouched H.keyed (held_by (D.state disk.old) self.now) place)) }
+        ensures vouched { Honestly (D.state disk.new) (IfOk result (IsVouchedAs H.keyed (held_by (D.state disk.old) self.now) place)) }
         ensures quiet { ChangesNothing (D.state disk.old) (D.state disk.new) }
         ensures cause { HasReadCause (D.failures disk.old) (D.failures disk.new) result }
         ensures few { IsErrOf result StoreError.TooMany → ⊥ }

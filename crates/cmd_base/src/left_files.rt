@@ -52,7 +52,6 @@ impl<'r> LeftFiles<'r> {
     }
 }
 
-// A copy of one packet.
 fn copy_of(alloc: Global, left: &StagedPacket) -> Result<StagedPacket, AllocError>
     ensures { IfOk result (λ copy. copy ≡ left.now) }
 {

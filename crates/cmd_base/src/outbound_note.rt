@@ -3,7 +3,7 @@
 //! can finish them.
 
 use crate::left_files::packets_in;
-use cmd_input::output_fault;
+use cmd_input::{is_folder, output_fault};
 use cmd_status::Fault;
 use disk_io::{DiskError, Watched, send};
 use disk_system::{OutputFault, flush_folder, make_new, read_file};
@@ -19,7 +19,7 @@ const NOTE: &str = "outbound";
 const MOST_PATH: usize = 4_096;
 
 /// Notes in the base folder that this system writes packets into the folder `outbound`. The system is the owner of the
-/// base folder. A missing folder is not noted.
+/// base folder. Only an existing folder is noted.
 ///
 /// # Errors
 ///
@@ -49,6 +49,9 @@ pub fn note_outbound<'a>(
 
 // The path of an existing folder from the root on, without symbolic links.
 fn whole_path<'a>(rt: &HostRuntime, folder: &'a str) -> Result<Option<String>, Fault<'a>> {
+    if !is_folder(rt, folder) {
+        return Ok(None);
+    }
     match rt.canonicalize(rt.alloc(), folder) {
         Ok(path) => Ok(Some(path.into_string())),
         Err(error) if error.kind() == ErrorKind::OutOfMemory => Err(Fault::OutOfMemory),
@@ -56,14 +59,24 @@ fn whole_path<'a>(rt: &HostRuntime, folder: &'a str) -> Result<Option<String>, F
     }
 }
 
-// Whether the folder has staging files of packets of this system, or cannot be read.
+// Whether the folder has staging files of packets of this system, or cannot be read. What is a file has none.
 fn has_left<'a>(rt: &HostRuntime, folder: &str, owner: u64) -> Result<bool, Fault<'a>> {
+    if is_file(rt, folder) {
+        return Ok(false);
+    }
     let (zone, net, node) = (owner >> 32, owner >> 16 & 65_535, owner & 65_535);
     let own = format!(in rt.alloc(); "{zone}.{net}.{node}")?;
     match packets_in(rt, folder, own.as_str()) {
         Ok(left) => Ok(!left.is_empty()),
         Err(DiskError::Memory) => Err(Fault::OutOfMemory),
         Err(DiskError::Device) => Ok(true),
+    }
+}
+
+fn is_file(rt: &HostRuntime, path: &str) -> bool {
+    match fs::metadata(rt, path) {
+        Ok(found) => found.is_file(),
+        Err(_) => false,
     }
 }
 

@@ -99,7 +99,6 @@ impl<'p, 'r> ScanFiles<'p, 'r> {
         }
     }
 
-    // Whether it is the path of a packet.
     fn is_packet(&self, path: &str) -> bool {
         match path.strip_prefix(self.folder) {
             Some(name) => path != self.base && !name.contains('/') && name.ends_with(PACKET),
@@ -174,7 +173,6 @@ impl<'p, 'r> ScanFiles<'p, 'r> {
         }
     }
 
-    // Opens the file of a packet.
     fn open_packet(&self, how: &OpenOptions, path: &str) -> io::Result<File> {
         if how.asks_create_new() {
             self.tell();

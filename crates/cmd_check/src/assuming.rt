@@ -48,8 +48,8 @@ pub(crate) fn push_assumed(
     }
 }
 
-// Whether some file has the area.
-fn is_carried(files: &[LinkFile], tag: &[u8]) -> bool
+/// Whether some file has the area.
+pub(crate) fn is_carried(files: &[LinkFile], tag: &[u8]) -> bool
     ensures { result ≡ list_any (λ file. has_area file tag.now) files.now }
 {
     files.iter().any(|file| file.has_area(tag))
@@ -133,8 +133,8 @@ fn push_text(
     Ok(())
 }
 
-// Adds each link as a word.
-fn push_links(text: &mut Vec<u8>, links: &[Address]) -> Result<(), AllocError>
+/// Adds each link as a word.
+pub(crate) fn push_links(text: &mut Vec<u8>, links: &[Address]) -> Result<(), AllocError>
     ensures { OnOk result (text.new.items ≡ text.old.items ++ flat_map link_word links.now) }
 {
     'links: for link in links {
@@ -159,7 +159,7 @@ pub(crate) fn push_assumed_lines(lines: &mut Vec<u8>, assumed: &[Address]) -> Re
     Ok(())
 }
 
-fn push_assumed_line(lines: &mut Vec<u8>, address: Address) -> Result<(), AllocError>
+pub(crate) fn push_assumed_line(lines: &mut Vec<u8>, address: Address) -> Result<(), AllocError>
     ensures { OnOk result (lines.new.items ≡ lines.old.items ++ assumed_line address) }
 {
     written(writeln!(lines, "assumed {address}"))

@@ -80,8 +80,8 @@ fn check_assuming_read<'a, W: Sink>(
     print_checked(alloc, list, more, tag, links.as_slice(), assumed, out)
 }
 
-// Reads further link files, and appends them to those that were read.
-fn read_more<'a>(
+/// Reads further link files, and appends them to those that were read.
+pub(crate) fn read_more<'a>(
     alloc: Global,
     links: &mut Vec<LinkFile>,
     texts: &[Items<u8>],

@@ -130,6 +130,7 @@ fn fill_if_empty<'a, M: MessageSource>(
     match fill_folder(rt, messages, to)? {
         Ok(()) => Ok(()),
         Err(FillError::Messages(fault)) => Err(messages_fault(fault, from)),
+        Err(FillError::Used) => Err(Fault::CannotUse(to)),
         Err(FillError::Folder(why)) => Err(why.fault(to)),
     }
 }

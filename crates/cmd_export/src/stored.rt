@@ -1,6 +1,8 @@
 //! `export --msg`: messages of a base as files of a folder. The lock of the folder is held from before the base is read
 //! until the last file is written. So two runs at once add each message once.
 
+ghost use Rattle.std.specs.Prelude.{◌≢◌, IfErr};
+
 use base_folder::MessageSource;
 use cmd_input::{
     folder_fault, folder_path, is_folder, load_base, locked_folder, look_into, output_fault,
@@ -42,15 +44,18 @@ struct FolderFiles<'r, 'a, E: Sink> {
 }
 
 impl<E: Sink> MessageFolder for FolderFiles<'_, '_, E> {
-    ghost use Rattle.std.specs.Prelude.{None};
+    ghost use Rattle.std.specs.Prelude.{◌≢◌, None};
+    ghost use Rattle.cmd_status.specs.declared.status.Status.TheVariants.{Good};
 
     ghost made = { λ folder. None };
+
+    ghost refuses = { λ before now status. status ≢ Good };
 
     fn make(&mut self, file: &MessageFile) -> Result<(), Status> {
         let name = str::from_utf8(file.name.as_slice()).unwrap_or("");
         match file_path(self.rt, self.folder, name) {
             Ok(path) => self.make_at(path.as_str(), file),
-            Err(_) => Err(output_fault(OutputFault::Memory, "").report(self.errors)),
+            Err(_) => Err(self.refuse(OutputFault::Memory, "")),
         }
     }
 }
@@ -58,7 +63,9 @@ impl<E: Sink> MessageFolder for FolderFiles<'_, '_, E> {
 impl<E: Sink> FolderFiles<'_, '_, E> {
     // Makes the file at this path. Its name is on the disk then, so after a power cut the first ones of several files are
     // there.
-    fn make_at(&mut self, path: &str, file: &MessageFile) -> Result<(), Status> {
+    fn make_at(&mut self, path: &str, file: &MessageFile) -> Result<(), Status>
+        ensures { IfErr result (λ status. status ≢ Status.Good) }
+    {
         let new = NewFile {
             path,
             own: OWN,
@@ -70,7 +77,17 @@ impl<E: Sink> FolderFiles<'_, '_, E> {
             Ok(()) => flush_folder(self.rt, folder_of(path)),
             failed => failed,
         };
-        made.map_err(|fault| output_fault(fault, path).report(self.errors))
+        match made {
+            Ok(()) => Ok(()),
+            Err(fault) => Err(self.refuse(fault, path)),
+        }
+    }
+
+    // Reports why a file was not made.
+    fn refuse(&mut self, fault: OutputFault, path: &str) -> Status
+        ensures { result ≢ Status.Good }
+    {
+        output_fault(fault, path).report(self.errors)
     }
 }
 

@@ -20,7 +20,6 @@ date_of seconds s at = record {
 pub day_fits : (seconds : ℕ) (s : Stamp) → IsMomentAt seconds s → IsEpochDay (pos (seconds / 86400))
 day_fits seconds s at = subst IsEpochDay at.days (epoch_day_range (date_of seconds s at))
 
--- a date with this day number is that of the stamp.
 pub same_date : (seconds : ℕ) (s : Stamp) → IsMomentAt seconds s → (d : Date) → epoch_day d ≡ pos (seconds / 86400)
     → (d.year ≡ pos s.year) × (d.month ≡ s.month) × (d.day ≡ s.day)
 same_date seconds s at d is = epoch_day_injective d (date_of seconds s at) (is ∙ sym at.days)

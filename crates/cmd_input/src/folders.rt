@@ -47,7 +47,7 @@ pub fn look_into<'r, 'a>(
     look_at(rt, base, path.as_str(), strange, first, progress)
 }
 
-// The same. The files have `path` before their names.
+// The files have `path` before their names.
 fn look_at<'r, 'a>(
     rt: &'r HostRuntime,
     base: &'a str,

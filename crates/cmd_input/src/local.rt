@@ -41,7 +41,6 @@ fn offset_unread<'a>(rt: &HostRuntime, error: &Error) -> Result<Offset, Fault<'a
     }
 }
 
-// The offset of a time zone.
 fn offset_in<'a>(
     rt: &HostRuntime,
     zone: &SystemTimeZone,

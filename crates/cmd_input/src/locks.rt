@@ -261,7 +261,6 @@ fn tell_waiting(rt: &HostRuntime, path: &str) {
     }
 }
 
-// That line.
 fn waiting_line(rt: &HostRuntime, path: &str) -> Result<Vec<u8>, AllocError> {
     let mut line = Vec::new(rt.alloc());
     push_waiting(&mut line, path)?;

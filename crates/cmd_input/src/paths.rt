@@ -110,7 +110,6 @@ fn push_listed(rt: &HostRuntime, list: &[u8], names: &mut Vec<PathName>) -> Resu
     Ok(())
 }
 
-// The name with these bytes.
 fn name_of(rt: &HostRuntime, path: &[u8]) -> Result<PathName, AllocError> {
     match str::from_utf8(path) {
         Ok(text) => text_name(rt, text),

@@ -17,7 +17,6 @@ pub(crate) fn jam_fault<'a>(error: &io::Error, path: &'a str) -> Fault<'a> {
     }
 }
 
-/// The path with this at its end.
 pub(crate) fn with_end(rt: &HostRuntime, path: &str, end: &str) -> Result<String, AllocError> {
     let mut whole = String::from_str(rt.alloc(), path)?;
     whole.push_str(end)?;
@@ -30,7 +29,7 @@ pub(crate) fn open_file(rt: &HostRuntime, path: &str, end: &str) -> io::Result<F
     open_named(rt, path.as_str())
 }
 
-/// The same, but makes a missing file, without bytes and with the mode of the umask.
+/// Opens the file, or makes one without bytes and with the mode of the umask.
 pub(crate) fn open_or_make(rt: &HostRuntime, path: &str, end: &str) -> io::Result<File> {
     let path = with_end(rt, path, end)?;
     let new = OpenOptions::new()
@@ -66,13 +65,11 @@ fn check_named(rt: &HostRuntime, path: &str, file: &File) -> io::Result<()> {
     }
 }
 
-/// The same of one of the files of a base.
 pub(crate) fn check_file(rt: &HostRuntime, path: &str, end: &str, file: &File) -> io::Result<()> {
     let path = with_end(rt, path, end)?;
     check_named(rt, path.as_str(), file)
 }
 
-/// The bytes of one of the files.
 pub(crate) fn bytes_of<'a>(
     rt: &HostRuntime,
     path: &'a str,

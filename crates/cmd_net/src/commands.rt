@@ -21,26 +21,14 @@ pub fn run_net<W: Sink, E: Sink>(
             ended(run_show(rt, *hex, *text, *packet, out), errors)
         }
         NetWords::Nodelist { find, file } => ended(run_nodelist(rt, *find, *file, out), errors),
-        NetWords::Check(words) => ended(
-            run_check(rt, words, &names_of(rt, &words.links), out),
-            errors,
-        ),
+        NetWords::Check(words) => { run_check(rt, words, &names_of(rt, &words.links), out, errors) }
         NetWords::Links { areas, links } => {
             run_links(rt, *areas, &names_of(rt, links), out, errors)
         }
-        NetWords::Why { assume, tag, links } => ended(
-            run_why(rt, assume.as_slice(), *tag, &names_of(rt, links), out),
-            errors,
-        ),
-        NetWords::Picture {
-            why,
-            assume,
-            tag,
-            links,
-        } => ended(
-            run_picture(rt, *why, assume.as_slice(), *tag, &names_of(rt, links), out),
-            errors,
-        ),
+        NetWords::Why(words) => ended(run_why(rt, words, &names_of(rt, &words.links), out), errors),
+        NetWords::Picture(words) => {
+            run_picture(rt, words, &names_of(rt, &words.links), out, errors)
+        }
         NetWords::Replay { script, links } => {
             let links = names_of(rt, links);
             ended(run_replay(rt, *script, &links, progress, out), errors)

@@ -1,59 +1,129 @@
 //! The commands that judge the areas of a net, or show a run of it.
 
 use cmd_check::{
-    Besides, assume, check, check_all, check_assuming, picture, picture_why, print_assumed, replay,
-    why,
+    Besides, Judged, Supposed, SupposedHere, assume, check, check_all, check_assuming,
+    check_supposing, picture, picture_why, picture_without, print_assumed, print_supposed, replay,
+    suppose, unknown_in, why,
 };
 use cmd_input::{
     MAX_INPUT, MAX_TEXT_FILE, PathNames, Progress, read_file, read_if_given, read_links,
 };
 use cmd_status::{Fault, Status, parse_address};
-use cmd_words::CheckWords;
+use cmd_words::{CheckWords, PictureWords, WhyWords};
 use disk_io::Sink;
 use echo_addr::{Address, Items};
 use model_replay::ReplayProgress;
 use std::alloc::AllocError;
 use std::collections::hash_map::RandomState;
+use std::io::Write;
 
-/// `check [--nodelist LIST] [--more] [--assume ADDRESS].. TAG LINKS...`, and `check --all` without a tag
-pub(crate) fn run_check<'a, W: Sink>(
+/// `check [--nodelist LIST] [--more] [--assume ADDRESS].. [--assume-missing] [--without ADDRESS].. TAG LINKS...`, and
+/// `check --all` without a tag
+pub(crate) fn run_check<W: Sink, E: Sink>(
+    rt: &HostRuntime,
+    words: &CheckWords<'_>,
+    links: &PathNames<'_>,
+    out: &mut W,
+    errors: &mut E,
+) -> Status {
+    match checked(rt, words, links, out) {
+        Ok(judged) => status_of(judged, errors),
+        Err(fault) => fault.report(errors),
+    }
+}
+
+// The status. An unknown address is reported.
+fn status_of<E: Sink>(judged: Judged, errors: &mut E) -> Status {
+    match judged {
+        Judged::Ended(status) => status,
+        Judged::Unknown(address) => {
+            let _ = writeln!(errors, "echonet: unknown address {address}");
+            Status::Refused
+        }
+    }
+}
+
+fn checked<'a, W: Sink>(
     rt: &HostRuntime,
     words: &CheckWords<'a>,
     links: &'a PathNames<'a>,
     out: &mut W,
-) -> Result<Status, Fault<'a>> {
-    let assumed = assumed_in(rt, &words.assume)?;
+) -> Result<Judged, Fault<'a>> {
+    let named = addresses_in(rt, &words.assume)?;
+    let without = addresses_in(rt, &words.without)?;
+    let supposed = supposed(&named, words.assume_missing, &without);
     let list = read_if_given(rt, words.nodelist, MAX_INPUT)?;
-    let (files, stopped) = read_links(rt, links);
     let besides = Besides {
         nodelist: list.as_ref().map(|bytes| bytes.as_slice()),
         more: words.more,
     };
-    let Some(tag) = words.tag else {
-        return check_all(rt.alloc(), besides, &files, stopped, out);
-    };
-    if assumed.is_empty() {
-        check(rt.alloc(), besides, tag.as_bytes(), &files, stopped, out)
-    } else {
-        check_assuming(
-            rt.alloc(),
-            besides,
-            tag.as_bytes(),
-            &files,
-            &assumed,
-            stopped,
-            out,
-        )
+    check_files(rt, besides, words.tag, links, supposed, out)
+}
+
+// The systems that are judged without a file, and those that are left out.
+fn supposed<'s>(named: &'s [Address], missing: bool, without: &'s [Address]) -> Supposed<'s> {
+    Supposed {
+        named,
+        missing,
+        without,
     }
 }
 
-// The addresses of systems that are judged without a file.
-fn assumed_in<'a>(rt: &HostRuntime, words: &[&str]) -> Result<Vec<Address>, Fault<'a>> {
-    let mut assumed = Vec::new(rt.alloc());
-    for word in words {
-        assumed.push(parse_address(*word)?)?;
+// The answer on the files of these paths.
+fn check_files<'a, W: Sink>(
+    rt: &HostRuntime,
+    besides: Besides<'_>,
+    tag: Option<&'a str>,
+    links: &'a PathNames<'a>,
+    supposed: Supposed<'_>,
+    out: &mut W,
+) -> Result<Judged, Fault<'a>> {
+    let (files, stopped) = read_links(rt, links);
+    let tag = tag.map(|tag| tag.as_bytes());
+    let Some(tag) = tag else {
+        if supposes(supposed) {
+            return check_supposing(rt.alloc(), besides, None, &files, supposed, stopped, out);
+        }
+        let status = check_all(rt.alloc(), besides, &files, stopped, out)?;
+        return Ok(Judged::Ended(status));
+    };
+    if !supposes(supposed) {
+        let status = check(rt.alloc(), besides, tag, &files, stopped, out)?;
+        return Ok(Judged::Ended(status));
     }
-    Ok(assumed)
+    if !assumes_one(supposed) {
+        return check_supposing(
+            rt.alloc(),
+            besides,
+            Some(tag),
+            &files,
+            supposed,
+            stopped,
+            out,
+        );
+    }
+    let alloc = rt.alloc();
+    let status = check_assuming(alloc, besides, tag, &files, supposed.named, stopped, out)?;
+    Ok(Judged::Ended(status))
+}
+
+// Whether a system is judged without its file, or left out.
+fn supposes(supposed: Supposed<'_>) -> bool {
+    supposed.missing || !supposed.named.is_empty() || !supposed.without.is_empty()
+}
+
+// Whether this is only one system that is judged without its file.
+fn assumes_one(supposed: Supposed<'_>) -> bool {
+    !supposed.missing && supposed.named.len() == 1 && supposed.without.is_empty()
+}
+
+// The addresses that the words are.
+fn addresses_in<'a>(rt: &HostRuntime, words: &[&str]) -> Result<Vec<Address>, Fault<'a>> {
+    let mut addresses = Vec::new(rt.alloc());
+    for word in words {
+        addresses.push(parse_address(*word)?)?;
+    }
+    Ok(addresses)
 }
 
 // The hasher. If no seed for it is available, that is a failed read of the first link file.
@@ -65,18 +135,73 @@ fn hasher_for<'a>(rt: &HostRuntime, links: &'a PathNames<'a>) -> Result<RandomSt
     RandomState::new(rt).map_err(|_| Fault::CannotUse(first))
 }
 
-// The bytes of the link files, with those of the assumed systems behind them, and why no further file was read.
+// A net to be shown: the bytes of its link files with those of the assumed systems behind them, why no further file was
+// read, and the assumed systems.
+#[derive(Drop)]
+struct ShownNet<'a> {
+    files: Vec<Items<u8>>,
+    stopped: Option<Fault<'a>>,
+    here: SupposedHere,
+}
+
 fn read_net<'a>(
     rt: &HostRuntime,
     links: &'a PathNames<'a>,
     tag: &str,
-    assumed: &[Address],
-) -> Result<(Vec<Items<u8>>, Option<Fault<'a>>), Fault<'a>> {
+    supposed: Supposed<'_>,
+) -> Result<ShownNet<'a>, Fault<'a>> {
     let (mut files, stopped) = read_links(rt, links);
-    if stopped.is_none() && !assumed.is_empty() {
-        assume(rt.alloc(), tag.as_bytes(), &mut files, assumed)?;
+    let here = if stopped.is_none() {
+        add_supposed(rt, tag, &mut files, supposed)?
+    } else {
+        assumed_systems(rt, &[])?
+    };
+    Ok(ShownNet {
+        files,
+        stopped,
+        here,
+    })
+}
+
+// Adds the link files of the assumed systems.
+fn add_supposed<'a>(
+    rt: &HostRuntime,
+    tag: &str,
+    files: &mut Vec<Items<u8>>,
+    supposed: Supposed<'_>,
+) -> Result<SupposedHere, Fault<'a>> {
+    if assumes_one(supposed) {
+        assume(rt.alloc(), tag.as_bytes(), files, supposed.named)?;
+        return Ok(assumed_systems(rt, supposed.named)?);
     }
-    Ok((files, stopped))
+    if !supposes(supposed) {
+        return Ok(assumed_systems(rt, &[])?);
+    }
+    suppose(rt.alloc(), tag.as_bytes(), files, supposed)
+}
+
+// These assumed systems, one at most.
+fn assumed_systems(rt: &HostRuntime, systems: &[Address]) -> Result<SupposedHere, AllocError> {
+    Ok(SupposedHere {
+        systems: Vec::from_slice(rt.alloc(), systems)?,
+        unseen: Vec::new(rt.alloc()),
+    })
+}
+
+// The status, once the assumed systems are printed as notes that begin so.
+fn noted<'a, W: Sink>(
+    rt: &HostRuntime,
+    begin: &[u8],
+    here: &SupposedHere,
+    status: Status,
+    out: &mut W,
+) -> Result<Status, Fault<'a>> {
+    if here.systems.len() == 1 {
+        print_assumed(rt.alloc(), begin, &here.systems, out)?;
+    } else if !here.systems.is_empty() {
+        print_supposed(rt.alloc(), begin, here, &[], out)?;
+    }
+    Ok(status)
 }
 
 // The paths of the link files as they were given.
@@ -89,63 +214,107 @@ fn paths_of(rt: &HostRuntime, links: &PathNames<'_>) -> Result<Vec<Items<u8>>, A
     Ok(paths)
 }
 
-/// `why [--assume ADDRESS].. TAG LINKS...`
+/// `why [--assume ADDRESS].. [--assume-missing] TAG LINKS...`
 pub(crate) fn run_why<'a, W: Sink>(
     rt: &HostRuntime,
-    assumed: &[&'a str],
-    tag: &'a str,
+    words: &WhyWords<'a>,
     links: &'a PathNames<'a>,
     out: &mut W,
 ) -> Result<Status, Fault<'a>> {
-    let assumed = assumed_in(rt, assumed)?;
+    let named = addresses_in(rt, &words.assume)?;
     let hasher = hasher_for(rt, links)?;
     let paths = paths_of(rt, links)?;
-    let (files, stopped) = read_net(rt, links, tag, &assumed)?;
+    let net = read_net(
+        rt,
+        links,
+        words.tag,
+        supposed(&named, words.assume_missing, &[]),
+    )?;
     let status = why(
         rt.alloc(),
-        tag.as_bytes(),
-        &files,
+        words.tag.as_bytes(),
+        &net.files,
         &paths,
-        stopped,
+        net.stopped,
         hasher,
         out,
     )?;
-    noted(rt, b"; ", &assumed, status, out)
+    noted(rt, b"; ", &net.here, status, out)
 }
 
-// The status, once each assumed system is printed as a note that begins so.
-fn noted<'a, W: Sink>(
+/// `picture [--why] [--assume ADDRESS].. [--assume-missing] [--without ADDRESS].. TAG LINKS...`
+pub(crate) fn run_picture<'a, W: Sink, E: Sink>(
     rt: &HostRuntime,
-    begin: &[u8],
-    assumed: &[Address],
-    status: Status,
-    out: &mut W,
-) -> Result<Status, Fault<'a>> {
-    if !assumed.is_empty() {
-        print_assumed(rt.alloc(), begin, assumed, out)?;
-    }
-    Ok(status)
-}
-
-/// `picture [--why] [--assume ADDRESS].. TAG LINKS...`
-pub(crate) fn run_picture<'a, W: Sink>(
-    rt: &HostRuntime,
-    with_why: bool,
-    assumed: &[&'a str],
-    tag: &'a str,
+    words: &PictureWords<'a>,
     links: &'a PathNames<'a>,
     out: &mut W,
-) -> Result<Status, Fault<'a>> {
-    let assumed = assumed_in(rt, assumed)?;
-    let status = if with_why {
+    errors: &mut E,
+) -> Status {
+    match pictured(rt, words, links, out) {
+        Ok(judged) => status_of(judged, errors),
+        Err(fault) => fault.report(errors),
+    }
+}
+
+fn pictured<'a, W: Sink>(
+    rt: &HostRuntime,
+    words: &PictureWords<'a>,
+    links: &'a PathNames<'a>,
+    out: &mut W,
+) -> Result<Judged, Fault<'a>> {
+    let named = addresses_in(rt, &words.assume)?;
+    let without = addresses_in(rt, &words.without)?;
+    let supposed = supposed(&named, words.assume_missing, &without);
+    if !without.is_empty() {
+        return pictured_without(rt, words.tag, links, supposed, out);
+    }
+    let status = if words.why {
         let hasher = hasher_for(rt, links)?;
-        let (files, stopped) = read_net(rt, links, tag, &assumed)?;
-        picture_why(rt.alloc(), tag.as_bytes(), &files, stopped, hasher, out)?
+        let net = read_net(rt, links, words.tag, supposed)?;
+        let status = picture_why(
+            rt.alloc(),
+            words.tag.as_bytes(),
+            &net.files,
+            net.stopped,
+            hasher,
+            out,
+        )?;
+        noted(rt, b"// ", &net.here, status, out)?
     } else {
-        let (files, stopped) = read_net(rt, links, tag, &assumed)?;
-        picture(rt.alloc(), tag.as_bytes(), &files, stopped, out)?
+        let net = read_net(rt, links, words.tag, supposed)?;
+        let status = picture(
+            rt.alloc(),
+            words.tag.as_bytes(),
+            &net.files,
+            net.stopped,
+            out,
+        )?;
+        noted(rt, b"// ", &net.here, status, out)?
     };
-    noted(rt, b"// ", &assumed, status, out)
+    Ok(Judged::Ended(status))
+}
+
+// The same without some systems.
+fn pictured_without<'a, W: Sink>(
+    rt: &HostRuntime,
+    tag: &'a str,
+    links: &'a PathNames<'a>,
+    supposed: Supposed<'_>,
+    out: &mut W,
+) -> Result<Judged, Fault<'a>> {
+    let (files, stopped) = read_links(rt, links);
+    let unknown = unknown_in(rt.alloc(), &files, supposed.without)?;
+    if let Some(fault) = stopped {
+        return Err(fault);
+    }
+    if let Some(address) = unknown {
+        return Ok(Judged::Unknown(address));
+    }
+    let mut files = files;
+    let here = suppose(rt.alloc(), tag.as_bytes(), &mut files, supposed)?;
+    let status = picture_without(rt.alloc(), tag.as_bytes(), &files, supposed.without, out)?;
+    print_supposed(rt.alloc(), b"// ", &here, supposed.without, out)?;
+    Ok(Judged::Ended(status))
 }
 
 // The first input of `replay`: the script. If no seed for the hasher is available, that is a failed read.

@@ -9,6 +9,9 @@ use Rattle.echo_packet.specs.declared.fault.Field.TheVariants as field
 use Rattle.echo_packet.specs.declared.fault.PacketFault.TheVariants as packet
 use Rattle.cmd_notes.specs.declared.reasons.{FaultyPacket.FaultyPacket, LongField.LongField, Misdelivered.Misdelivered, PacketPlace.PacketPlace, PathState.PathState, Reason.Reason, State.State}
 use Rattle.cmd_notes.specs.declared.reasons.{WordForm.WordForm, WrongLine.WrongLine, WrongWord.WrongWord}
+use Rattle.cmd_notes.specs.declared.reasons.{Cost.Cost, NotSeen.NotSeen}
+use Rattle.cmd_notes.specs.declared.reasons.Cost.TheVariants as cost
+use Rattle.cmd_notes.specs.declared.reasons.NotSeen.TheVariants as unseen
 use Rattle.cmd_notes.specs.declared.reasons.Reason.TheVariants as reason
 use Rattle.cmd_notes.specs.declared.reasons.State.TheVariants as state
 use Rattle.cmd_notes.specs.declared.reasons.WordForm.TheVariants as form
@@ -120,6 +123,23 @@ form_expectation form.NodeAddress = codes "', expected zone:net/node"
 abbrev pub form_reason : WrongWord → List ℕ
 form_reason wrong = form_complaint wrong.form ++ (printed_word wrong.word.now ++ form_expectation wrong.form)
 
+-- A fault of an area, and what it costs.
+abbrev pub cost_words : Cost → List ℕ
+cost_words cost.NoSuchArea = codes "V1 NoSuchArea: the file is wrong"
+cost_words cost.TwoFiles = codes "V2 TwoFiles: the file is wrong"
+cost_words cost.SelfLink = codes "V3 SelfLink: the file is wrong"
+cost_words cost.Unknown = codes "V4 Unknown: mail is lost"
+cost_words cost.OneSided = codes "V5 OneSided: mail is lost"
+cost_words cost.SameNetNode = codes "V6 SameNetNode: mail may be lost"
+cost_words cost.Apart = codes "V7 Apart: mail is lost"
+cost_words cost.Loop = codes "V8 Loop: mail is sent twice"
+
+-- What the given files do not show of an area.
+abbrev pub not_seen_words : NotSeen → List ℕ
+not_seen_words unseen.AfterYes = codes "unseen: a loop outside the given files may still bring mail twice"
+not_seen_words unseen.AfterApart = codes "unseen: a way outside the given files may join the parts, so V7 is often a false alarm"
+not_seen_words unseen.BehindOne = codes "assumed: what the assumed system exchanges with others was not seen"
+
 -- A reason in words.
 abbrev pub reason_text : Reason → List ℕ
 reason_text (reason.Line line) = line_reason line
@@ -131,6 +151,8 @@ reason_text (reason.Word wrong) = form_reason wrong
 reason_text (reason.NoArea tag links) = codes "no area " ++ (printed_word tag.now ++ (codes " in " ++ printed_word links.now))
 reason_text (reason.NoMessage number count) = codes "no message " ++ (decimal number ++ (codes ", the base has " ++ decimal count))
 reason_text (reason.NoneOfArea tag base) = codes "no message of area " ++ (printed_word tag.now ++ (codes " in " ++ printed_word base.now))
+reason_text (reason.Cost which) = cost_words which
+reason_text (reason.NotSeen what) = not_seen_words what
 
 -- The line of a note.
 abbrev pub reason_line : Reason → List ℕ

@@ -3,7 +3,7 @@
 use crate::notes::{FaultLine, tell};
 use crate::reasons::{PathState, Reason, State, WrongLine};
 use crate::states::{Usage, state_at};
-use cmd_input::{MAX_TEXT_FILE, folder_path, lead_to_one, names_of, read_file};
+use cmd_input::{MAX_TEXT_FILE, folder_path, is_folder, lead_to_one, names_of, read_file};
 use cmd_show::{FaultyLine, Judged, judge};
 use cmd_status::Fault;
 use cmd_words::{Paths, Place};
@@ -113,7 +113,7 @@ pub(crate) fn explain_outbound<E: Sink>(
     }
 }
 
-// The folder that the note of a base folder names, if a stopped scan left packets there.
+// The folder that the note of a base folder names, if a stopped scan left packets there, or if it cannot be read.
 fn explain_noted<E: Sink>(met: FaultLine<'_>, base: &str, folder: &str, errors: &mut E) {
     let Ok(note) = format!(in met.rt.alloc(); "{base}/outbound") else {
         return;
@@ -124,9 +124,17 @@ fn explain_noted<E: Sink>(met: FaultLine<'_>, base: &str, folder: &str, errors: 
     let Ok(path) = str::from_utf8(&noted) else {
         return;
     };
-    if !lead_to_one(met.rt, path, folder) && has_staging(met.rt, path) {
+    if !is_folder(met.rt, folder) || lead_to_one(met.rt, path, folder) {
+        return;
+    }
+    let found = if has_staging(met.rt, path) {
         let state = State::Unfinished;
-        tell(met.rt, Reason::Path(PathState { path, state }), errors);
+        Some(PathState { path, state })
+    } else {
+        state_at(met.rt, path, Usage::Folder)
+    };
+    if let Some(found) = found {
+        tell(met.rt, Reason::Path(found), errors);
     }
 }
 

@@ -4,17 +4,19 @@ use std::alloc::Global;
 use std::io;
 use std::io::Write;
 
-/// Standard error, of which the fault lines are kept, since notes come after them.
+/// Standard output or standard error. Its lines are kept if notes come after them.
 #[derive(Drop)]
-pub struct KeptFaultLines<W> {
+pub struct KeptLines<W> {
     to: W,
+    keeps: bool,
     kept: Vec<u8>,
 }
 
-impl<W> KeptFaultLines<W> {
-    pub fn new(alloc: Global, to: W) -> KeptFaultLines<W> {
-        KeptFaultLines {
+impl<W> KeptLines<W> {
+    pub fn new(alloc: Global, to: W, keeps: bool) -> KeptLines<W> {
+        KeptLines {
             to,
+            keeps,
             kept: Vec::new(alloc),
         }
     }
@@ -28,10 +30,12 @@ impl<W> KeptFaultLines<W> {
     }
 }
 
-impl<W: Write> Write for KeptFaultLines<W> {
+impl<W: Write> Write for KeptLines<W> {
     fn write(&mut self, buf: &[u8]) -> io::Result<usize> {
         let count = self.to.write(buf)?;
-        let _ = self.kept.extend_from_slice(&buf[..count]);
+        if self.keeps {
+            let _ = self.kept.extend_from_slice(&buf[..count]);
+        }
         Ok(count)
     }
 

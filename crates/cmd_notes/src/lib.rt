@@ -4,10 +4,11 @@
 //! The rest is proved to be safe and to end, and no more.
 //!
 //! Begin with `reasons` (why a command stopped, in words) and `notes` (the note of each command). `heard` collects the
-//! fault lines that a command printed. `states` looks at a path, and `packets` finds the refused packet of a toss.
+//! lines that a command printed. `costs` has the notes on an answer of `check`. `states` looks at a path, and `packets` finds the refused packet of a toss.
 //! `file_notes` and `word_notes` explain files and words.
 #![tactic(auto)]
 
+mod costs;
 mod file_notes;
 mod heard;
 mod notes;
@@ -16,5 +17,5 @@ mod reasons;
 mod states;
 mod word_notes;
 
-pub use heard::KeptFaultLines;
+pub use heard::KeptLines;
 pub use notes::ExplainedCommand;

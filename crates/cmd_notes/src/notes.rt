@@ -1,6 +1,7 @@
 //! Notes on the faults that a command printed. The program looks at the files of the command again. A reason counts if
 //! its fault has the printed line, so a file that has changed since gets no note.
 
+use crate::costs::tell_costs;
 use crate::file_notes::{
     explain_files, explain_links, explain_net, explain_outbound, explain_path, explain_paths,
 };
@@ -87,8 +88,14 @@ impl<'a> ExplainedCommand<'a> {
         })
     }
 
-    /// Prints a note on each of these fault lines with a known reason, and on what the command made.
-    pub fn tell<E: Sink>(&self, printed: &[u8], errors: &mut E) {
+    /// Whether its answer gets notes.
+    pub fn has_noted_answer(&self) -> bool {
+        matches!(self.words, Words::Net(NetWords::Check(_)))
+    }
+
+    /// Prints a note on each of these fault lines with a known reason, on the kept answer, and on what the command made.
+    pub fn tell<E: Sink>(&self, printed: &[u8], answer: &[u8], errors: &mut E) {
+        tell_costs(self.rt, answer, errors);
         for line in printed.split(|byte| *byte == b'\n') {
             if !line.is_empty() {
                 let met = FaultLine { rt: self.rt, line };
@@ -164,9 +171,8 @@ fn explain_net_words<E: Sink>(met: FaultLine<'_>, words: &NetWords<'_>, errors: 
         }
         NetWords::Check(words) => explain_check(met, words, errors),
         NetWords::Links { links, .. } => explain_paths(met, links, errors),
-        NetWords::Why { links, .. } | NetWords::Picture { links, .. } => {
-            explain_net(met, links, errors)
-        }
+        NetWords::Why(words) => explain_net(met, &words.links, errors),
+        NetWords::Picture(words) => explain_net(met, &words.links, errors),
         NetWords::Replay { script, links } => {
             explain_path(met, *script, Usage::File, errors);
             explain_net(met, links, errors);

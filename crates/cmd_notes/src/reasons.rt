@@ -2,7 +2,7 @@
 ghost use Rattle.std.specs.Prelude.{◌≡◌, ◌++◌, codes, decimal, OnOk};
 ghost use Rattle.echo_addr.specs.Address.{address_text};
 ghost use Rattle.echo_charset.specs.Words.{printed_word};
-ghost use Rattle.cmd_notes.specs.Reasons.{complaint, expectation, faulty_packet_reason, field_name, form_complaint, form_expectation, form_reason, line_reason, long_reason, misdelivered_reason, packet_complaint, packet_words, path_reason, reason_line, reason_text, state_words, word_reason};
+ghost use Rattle.cmd_notes.specs.Reasons.{complaint, cost_words, expectation, faulty_packet_reason, field_name, form_complaint, form_expectation, form_reason, line_reason, long_reason, misdelivered_reason, not_seen_words, packet_complaint, packet_words, path_reason, reason_line, reason_text, state_words, word_reason};
 
 use cmd_show::{fault_number, push_number};
 use echo_addr::Address;
@@ -33,6 +33,34 @@ pub enum Reason<'a> {
     NoMessage(u64, u64),
     /// No message of the base has the area of this tag. The path of the base comes second.
     NoneOfArea(&'a str, &'a str),
+    /// What a fault of an area costs.
+    Cost(Cost),
+    /// What was not seen of an area.
+    NotSeen(NotSeen),
+}
+
+/// A fault of an area.
+#[derive(Clone, Copy, Debug, PartialEq, Eq)]
+pub enum Cost {
+    NoSuchArea,
+    TwoFiles,
+    SelfLink,
+    Unknown,
+    OneSided,
+    SameNetNode,
+    Apart,
+    Loop,
+}
+
+/// What the given files do not show.
+#[derive(Clone, Copy, Debug, PartialEq, Eq)]
+pub enum NotSeen {
+    /// What lies behind two assumed systems, after a yes.
+    AfterYes,
+    /// The same after a V7.
+    AfterApart,
+    /// What lies behind one assumed system.
+    BehindOne,
 }
 
 /// A line of a link file with this path: its fault, which has its number, and the wrong word in it.
@@ -140,6 +168,8 @@ fn push_reason(lines: &mut Vec<u8>, why: Reason<'_>) -> Result<(), AllocError>
         Reason::NoArea(tag, links) => push_no_area(lines, tag, links),
         Reason::NoMessage(number, count) => push_no_message(lines, number, count),
         Reason::NoneOfArea(tag, base) => push_none_of_area(lines, tag, base),
+        Reason::Cost(cost) => lines.extend_from_slice(cost_words(cost)),
+        Reason::NotSeen(what) => lines.extend_from_slice(not_seen_words(what)),
     }
 }
 
@@ -355,4 +385,34 @@ fn push_none_of_area(lines: &mut Vec<u8>, tag: &str, base: &str) -> Result<(), A
     ensures { OnOk result (lines.new.items ≡ lines.old.items ++ (codes "no message of area " ++ (printed_word tag.now ++ (codes " in " ++ printed_word base.now)))) }
 {
     push_area_in(lines, b"no message of area ", tag, base)
+}
+
+// A fault, and what it costs.
+fn cost_words(cost: Cost) -> &'static [u8]
+    ensures { result.now ≡ cost_words cost }
+{
+    match cost {
+        Cost::NoSuchArea => b"V1 NoSuchArea: the file is wrong",
+        Cost::TwoFiles => b"V2 TwoFiles: the file is wrong",
+        Cost::SelfLink => b"V3 SelfLink: the file is wrong",
+        Cost::Unknown => b"V4 Unknown: mail is lost",
+        Cost::OneSided => b"V5 OneSided: mail is lost",
+        Cost::SameNetNode => b"V6 SameNetNode: mail may be lost",
+        Cost::Apart => b"V7 Apart: mail is lost",
+        Cost::Loop => b"V8 Loop: mail is sent twice",
+    }
+}
+
+fn not_seen_words(what: NotSeen) -> &'static [u8]
+    ensures { result.now ≡ not_seen_words what }
+{
+    match what {
+        NotSeen::AfterYes => b"unseen: a loop outside the given files may still bring mail twice",
+        NotSeen::AfterApart => {
+            b"unseen: a way outside the given files may join the parts, so V7 is often a false alarm"
+        }
+        NotSeen::BehindOne => {
+            b"assumed: what the assumed system exchanges with others was not seen"
+        }
+    }
 }

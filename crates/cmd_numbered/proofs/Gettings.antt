@@ -4,6 +4,7 @@ use Rattle.std.specs.{Prelude.if◌then◌else◌, Result.IfErr}
 use Rattle.echo_filed.specs.Filed.{Filed}
 use Rattle.base_file.specs.Base.{Base}
 use Rattle.base_folder.proofs.Fetchings.{unread_since}
+use Rattle.cmd_status.specs.declared.status.Status.{Status}
 use Rattle.cmd_numbered.specs.Numbered.{EndsAt, IsMadeFrom, IsUnexported, IsUnmade, file_at, file_of, is_exported}
 use Rattle.cmd_numbered.specs.declared.{folder.MessageFile.MessageFile, numbering.Exported.Exported, numbering.ExportError.ExportError}
 
@@ -14,14 +15,14 @@ one_file area first cursor number i m found is here exported so =
     ap (file_at area first cursor number i) (sym here) ∙ ap (λ (b : Bool). if b then file_of cursor number i m ∷ [] else []) (sym exported ∙ so)
 
 -- that file was not made
-pub unmade : (files : List MessageFile) (file : MessageFile) (path : List ℕ) (before now : ℕ) (result : Result ℕ ExportError) → files ≡ file ∷ [] → IfErr result IsUnmade → IfErr result (IsUnexported files path before now)
-unmade files file path before now h6 are why = grind arith
+pub unmade : (files : List MessageFile) (file : MessageFile) (Refused : Status → Type 0) (path : List ℕ) (before now : ℕ) (result : Result ℕ ExportError) → files ≡ file ∷ [] → IfErr result (IsUnmade Refused) → IfErr result (IsUnexported files Refused path before now)
+unmade files file Refused path before now h7 are why = grind arith
 
 -- reads that failed later in a call
-ends_since : (area : List ℕ) (from number : ℕ) (base : Base) (path : List ℕ) (first before now seen next : ℕ) (stop : Option ExportError) → first ≤ before
-    → EndsAt area from number base path before now seen next stop → EndsAt area from number base path first now seen next stop
-ends_since area from number base path first before now seen next h11 less ends = grind (arith, unread_since)
+ends_since : (area : List ℕ) (from number : ℕ) (base : Base) (Refused : Status → Type 0) (path : List ℕ) (first before now seen next : ℕ) (stop : Option ExportError) → first ≤ before
+    → EndsAt area from number base Refused path before now seen next stop → EndsAt area from number base Refused path first now seen next stop
+ends_since area from number base Refused path first before now seen next h12 less ends = grind (arith, unread_since)
 
-pub made_since : (area given : List ℕ) (from number second : ℕ) (base : Base) (path : List ℕ) (first before now : ℕ) (old new : Option (List MessageFile)) (exported : Exported)
-    → given ≡ area → second ≡ number → first ≤ before → IsMadeFrom given from second base path before now old new exported → IsMadeFrom area from number base path first now old new exported
-made_since area given from number second base path first before now old new exported same_area same_number less made = grind (arith, ends_since)
+pub made_since : (area given : List ℕ) (from number second : ℕ) (base : Base) (Refused : Status → Type 0) (path : List ℕ) (first before now : ℕ) (old new : Option (List MessageFile)) (exported : Exported)
+    → given ≡ area → second ≡ number → first ≤ before → IsMadeFrom given from second base Refused path before now old new exported → IsMadeFrom area from number base Refused path first now old new exported
+made_since area given from number second base Refused path first before now old new exported same_area same_number less made = grind (arith, ends_since)

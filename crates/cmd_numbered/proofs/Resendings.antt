@@ -1,6 +1,8 @@
 -- A packet made again, as an answer.
-use Rattle.std.proofs.Common.{◌≡◌, ℕ, zero, suc, ◌<◌, ◌++◌, List, [], ◌∷◌, Option, Some, Result, ◌∙◌, refl, subst, arith, slice_get, length}
+use Rattle.std.proofs.Common.{◌≡◌, ◌≤◌, ◌+◌, ⊎_elim, ℕ, zero, suc, ◌<◌, ◌++◌, List, [], ◌∷◌, Option, Some, Result, ◌∙◌, refl, subst, arith, slice_get, length}
+use Rattle.std.proofs.lemmas.Bool.{cases_lt}
 use Rattle.base_file.specs.Base.{Base}
+use Rattle.base_folder.specs.Source.{SourceState}
 use Rattle.base_folder.proofs.Fetchings.{never_read}
 use Rattle.echo_addr.specs.declared.address.Address.{Address}
 use Rattle.echo_filed.specs.Filed.{Filed}
@@ -9,7 +11,7 @@ use Rattle.echo_packet.specs.Message.{Message}
 use Rattle.model_steps.specs.declared.{packet.Packet.Packet, stamp.Stamp.Stamp}
 use Rattle.cmd_status.specs.{declared.fault.Fault.Fault, Inputs.IsBaseGiven}
 use Rattle.echo_toss.specs.Exports.{IsResentAt}
-use Rattle.cmd_numbered.specs.Resending.{IsMadeOf, ResendAnswers, ResendsReading, copies_at}
+use Rattle.cmd_numbered.specs.Resending.{AreLegibleFrom, IsMadeOf, ResendAnswers, ResendsReading, copies_at}
 
 -- the messages were those of a base file, where no read fails
 pub of_base_file : (file : LinkFile) (stamp : Stamp) (area : List ℕ) (to : Address) (first : ℕ) (path bytes : List ℕ) (base : Base) (result : Result Packet Fault)
@@ -27,3 +29,12 @@ pub added_at : (file : LinkFile) (area : List ℕ) (to : Address) (messages : Li
 added_at file area to messages i hand old new within here grown =
     let found = found_at messages i within in
     (found.0, found.1, subst (λ (o : Option Filed). new ≡ old ++ copies_at file area to o) (here ∙ found.1) grown)
+
+-- one message more was read
+pub read_from : (a b c : SourceState) (first i : ℕ) → ((j : ℕ) → b.legible j → a.legible j) → (c.is_honest → b.is_honest) → (b.is_honest → AreLegibleFrom a first i) → (c.is_honest → b.legible i) → c.is_honest → AreLegibleFrom a first (i + 1)
+read_from a b c first i since honest before now is j from less =
+    ⊎_elim (λ (e : j < i). before (honest is) j from e)
+    (λ (e : i ≤ j).
+    let same : i ≡ j = omega (arith, e, less) in
+    subst (λ (n : ℕ). a.legible n) same (since i (now is)))
+    (cases_lt j i)

@@ -1,9 +1,9 @@
 -- Messages of a base as numbered files of a folder: their choice, their bytes and their numbers.
-use Rattle.std.specs.Prelude.{◌≡◌, ◌<◌, ⊤, ℕ, zero, suc, ◌+◌, ◌&&◌, ◌||◌, not, nat_le, nat_lt, max, Bool, false, List, [], ◌∷◌, ◌++◌, length, take, drop, if◌then◌else◌, slice_get, bytes_eq, Option, Some, None, is_some}
+use Rattle.std.specs.Prelude.{◌≡◌, ◌<◌, ℕ, zero, suc, ◌+◌, ◌&&◌, ◌||◌, not, nat_le, nat_lt, max, Bool, false, List, [], ◌∷◌, ◌++◌, length, take, drop, if◌then◌else◌, slice_get, bytes_eq, Option, Some, None, is_some}
 use Rattle.echo_filed.specs.{Filed.Filed, Stubs.is_stub}
 use Rattle.echo_links.specs.Links.{upper}
 use Rattle.echo_text.specs.Echo.{msgid_of}
-use Rattle.cmd_status.specs.{declared.fault.Fault.Fault, Ended.IsOutOfMemory}
+use Rattle.cmd_status.specs.{declared.fault.Fault.Fault, declared.status.Status.Status, Ended.IsOutOfMemory}
 use Rattle.base_file.specs.Base.{Base}
 use Rattle.base_folder.specs.Fetching.{IsUnread}
 use Rattle.echo_stored.specs.StoredMessage.{stored_bytes}
@@ -65,34 +65,34 @@ pub record IsMade (files : List MessageFile) (old new : Option (List MessageFile
   pub many : count ≡ length files
   pub got : Gets old new files
 
--- Why the file of a message was not made: no memory, or the folder did not get it.
-abbrev pub IsUnmade : ExportError → Type 0
-IsUnmade (Message fault) = IsOutOfMemory fault
-IsUnmade (File status) = ⊤
+-- Why the file of a message was not made: no memory, or the folder refused it with this status.
+abbrev pub IsUnmade : (Status → Type 0) → ExportError → Type 0
+IsUnmade Refused (Message fault) = IsOutOfMemory fault
+IsUnmade Refused (File status) = Refused status
 
 -- Why the files of a message, one or none, were not made: it was not read, or there was no memory.
--- Or the folder did not get the one file.
-abbrev pub IsUnexported : List MessageFile → List ℕ → ℕ → ℕ → ExportError → Type 0
-IsUnexported files path before now (Message fault) = IsUnread path before now fault
-IsUnexported files path before now (File status) = (file : MessageFile) × (files ≡ file ∷ [])
+-- Or the folder refused the one file with this status.
+abbrev pub IsUnexported : List MessageFile → (Status → Type 0) → List ℕ → ℕ → ℕ → ExportError → Type 0
+IsUnexported files Refused path before now (Message fault) = IsUnread path before now fault
+IsUnexported files Refused path before now (File status) = ((file : MessageFile) × (files ≡ file ∷ [])) × Refused status
 
 -- After a whole run the next message is the one after all. Else the file of the next one was not made, for this reason.
-abbrev pub EndsAt : List ℕ → ℕ → ℕ → Base → List ℕ → ℕ → ℕ → ℕ → ℕ → Option ExportError → Type 0
-EndsAt area from number base path before now seen next None = (seen ≡ length base.messages) × (next ≡ max from (length base.messages))
-EndsAt area from number base path before now seen next (Some why) =
+abbrev pub EndsAt : List ℕ → ℕ → ℕ → Base → (Status → Type 0) → List ℕ → ℕ → ℕ → ℕ → ℕ → Option ExportError → Type 0
+EndsAt area from number base Refused path before now seen next None = (seen ≡ length base.messages) × (next ≡ max from (length base.messages))
+EndsAt area from number base Refused path before now seen next (Some why) =
     (next ≡ seen) × (seen < length base.messages)
-    × IsUnexported (file_at area from base.cursor (number + length (files_of area from base.cursor number base.messages seen)) seen (slice_get base.messages seen)) path before now why
+    × IsUnexported (file_at area from base.cursor (number + length (files_of area from base.cursor number base.messages seen)) seen (slice_get base.messages seen)) Refused path before now why
 
 -- The files of the first messages of a base were made: of its messages of the area from `from` on.
-pub record IsMadeFrom (area : List ℕ) (from number : ℕ) (base : Base) (path : List ℕ) (before now : ℕ) (old new : Option (List MessageFile)) (exported : Exported) : Type 0 where
+pub record IsMadeFrom (area : List ℕ) (from number : ℕ) (base : Base) (Refused : Status → Type 0) (path : List ℕ) (before now : ℕ) (old new : Option (List MessageFile)) (exported : Exported) : Type 0 where
   pub seen : ℕ
   pub made_is : exported.made ≡ length (files_of area from base.cursor number base.messages seen)
   pub files_are : Gets old new (files_of area from base.cursor number base.messages seen)
-  pub end_is : EndsAt area from number base path before now seen exported.next exported.stop
+  pub end_is : EndsAt area from number base Refused path before now seen exported.next exported.stop
 
 -- The files for a base were made: its messages of the area from `first` on, or after the one in the folder's last file.
 -- The requested area may have letters of either case.
-pub record IsExport (area : List ℕ) (first greatest : ℕ) (last : Option (List ℕ)) (base : Base) (path : List ℕ) (before now : ℕ) (old new : Option (List MessageFile)) (exported : Exported) : Type 0 where
+pub record IsExport (area : List ℕ) (first greatest : ℕ) (last : Option (List ℕ)) (base : Base) (Refused : Status → Type 0) (path : List ℕ) (before now : ℕ) (old new : Option (List MessageFile)) (exported : Exported) : Type 0 where
   pub from : ℕ
   pub from_is : from ≡ resumed (upper area) first base.cursor last base.messages (length base.messages)
-  pub made : IsMadeFrom (upper area) from (first_number greatest) base path before now old new exported
+  pub made : IsMadeFrom (upper area) from (first_number greatest) base Refused path before now old new exported

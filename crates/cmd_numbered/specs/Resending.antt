@@ -1,7 +1,7 @@
 -- A packet that is made again of a base file.
-use Rattle.std.specs.Prelude.{◌≡◌, ℕ, ◌⊎◌, true, false, List, [], ◌∷◌, map, filter, Option, Some, None, Result, Ok, Err}
+use Rattle.std.specs.Prelude.{◌≡◌, ◌≤◌, ◌<◌, ℕ, ◌⊎◌, true, false, List, [], ◌∷◌, length, map, min, filter, Option, Some, None, Result, Ok, Err}
 use Rattle.base_file.specs.Base.{Base}
-use Rattle.base_folder.specs.Fetching.{IsUnread}
+use Rattle.base_folder.specs.{Fetching.IsUnread, Source.SourceState}
 use Rattle.echo_addr.specs.declared.address.Address.{Address}
 use Rattle.echo_filed.specs.Filed.{Filed}
 use Rattle.echo_packet.specs.Message.{Message}
@@ -39,3 +39,13 @@ abbrev pub ResendAnswers : LinkFile → Stamp → List ℕ → Address → ℕ �
 ResendAnswers file stamp area to first base (Ok packet) = IsMadeAgain file stamp area to first base packet
 ResendAnswers file stamp area to first base (Err fault) =
     IsOutOfMemory fault ⊎ (IsBaseFault (Some base) fault ⊎ ((fault ≡ Scan BadStamp) × (is_stamp stamp ≡ false)))
+
+-- All messages from one number up to another are no damage.
+abbrev pub AreLegibleFrom : SourceState → ℕ → ℕ → Type 0
+AreLegibleFrom s first n = (i : ℕ) → first ≤ i → i < n → s.legible i
+
+-- All messages from one number up to the first that waits are no damage.
+pub record AreLegibleToCursor (s : SourceState) (first : ℕ) : Type 0 where
+  pub end : ℕ
+  pub is : (base : Base) → s.holds base → end ≡ min base.cursor (length base.messages)
+  pub read : AreLegibleFrom s first end

@@ -1,7 +1,7 @@
 //! Which messages are added to a JAM base, and what that adds.
 ghost use Rattle.std.specs.Prelude.{◌≡◌, ◌≤◌, ◌+◌, ◌++◌, ◌&&◌, ℕ, List, Option, [], IfErr, IfOk, OnErr, OnOk, length, option_copied};
 ghost use Rattle.base_file.specs.Base.{Base};
-ghost use Rattle.base_folder.specs.{Fetching.IsUnread, Source.LooksAt};
+ghost use Rattle.base_folder.specs.{Fetching.IsUnread, Source.AreLegible, Source.LooksAt};
 ghost use Rattle.cmd_status.specs.Lines.{WritesFront};
 ghost use Rattle.cmd_numbered.specs.JamAdded.{Added, HasAdded, HasBegun, IsJamExport, IsUnadded, IsUnsent, added_at, added_in, added_of, is_added, is_last_jam, is_written_there, jam_texts, nothing_added, resumed_jam, with_message};
 ghost use Rattle.echo_jam.specs.Fields.{body_of};
@@ -69,6 +69,7 @@ pub fn export_jam<'a, M: MessageSource, W: Sink>(
         → IfErr result (IsUnsent path.now (M.state messages.old).failures (M.state messages.new).failures (W.failures texts.old) (W.failures texts.new)) }
     ensures begun { OnErr result (HasBegun (M.state messages.old) (M.state messages.new) (jam_texts area.now first jam.entry.headers.now jam.entry.index.now jam.entry.last jam.entry.text.now jam.entry.end) (W.contents texts.old) (W.contents texts.new)) }
     ensures ok { OnOk result (W.failures texts.new ≡ W.failures texts.old) }
+    ensures whole { (M.state messages.new).is_honest → OnOk result (AreLegible (M.state messages.old)) }
     ensures looks { LooksAt (M.state messages.old) (M.state messages.new) }
     ensures later { (M.state messages.old).failures ≤ (M.state messages.new).failures }
 {
@@ -94,6 +95,7 @@ fn resumed_jam<'a, M: MessageSource>(
         → IfOk result (λ from. from ≡ resumed_jam area.now first base.cursor jam.entry.headers.now jam.entry.last jam.entry.text.now base.messages (length base.messages)) }
     ensures fault { (M.state messages.new).is_honest → (base : Base) → (M.state messages.old).holds base
         → IfErr result (IsUnread path.now (M.state messages.old).failures (M.state messages.new).failures) }
+    ensures whole { (M.state messages.new).is_honest → OnOk result (AreLegible (M.state messages.old)) }
     ensures looks { LooksAt (M.state messages.old) (M.state messages.new) }
     ensures later { (M.state messages.old).failures ≤ (M.state messages.new).failures }
 {
@@ -161,6 +163,7 @@ fn added_of<'a, M: MessageSource, W: Sink>(
     ensures begun { OnErr result (HasBegun (M.state messages.old) (M.state messages.new)
         (λ base. (added_of area.now first base.cursor jam.entry.headers.now jam.entry.index.now jam.entry.end base.messages (length base.messages)).texts) (W.contents texts.old) (W.contents texts.new)) }
     ensures ok { OnOk result (W.failures texts.new ≡ W.failures texts.old) }
+    ensures whole { (M.state messages.new).is_honest → OnOk result (AreLegible (M.state messages.old)) }
     ensures looks { LooksAt (M.state messages.old) (M.state messages.new) }
     ensures later { (M.state messages.old).failures ≤ (M.state messages.new).failures }
 {

@@ -2,6 +2,7 @@
 ghost use Rattle.std.specs.Prelude.{ℕ, Option, ◌≡◌, ◌≢◌, ◌≤◌, ◌<◌, ◌^◌, not, IfOk, MatchOption, OnOk, length, option_copied, take_while};
 ghost use Rattle.std.specs.Option.{option_map};
 ghost use Rattle.base_file.specs.Base.{Base};
+ghost use Rattle.base_folder.specs.Source.{AreLegible};
 ghost use Rattle.echo_addr.specs.Entries.{is_blank};
 ghost use Rattle.echo_filed.specs.Filed.{Filed};
 ghost use Rattle.echo_text.specs.Ids.{id_of};
@@ -47,8 +48,9 @@ pub fn find_answered_of<'a, M: MessageSource>(
     messages: &mut M,
 ) -> Result<Option<Answered>, Fault<'a>>
     requires { (M.state messages.old).is_ready }
-    ensures { (M.state messages.new).is_honest → (base : Base) → (M.state messages.old).holds base
+    ensures found { (M.state messages.new).is_honest → (base : Base) → (M.state messages.old).holds base
         → AnswersReading (IsAnswered id.now base) path.now (M.state messages.old).failures (M.state messages.new).failures result }
+    ensures whole { (M.state messages.new).is_honest → OnOk result (AreLegible (M.state messages.old)) }
 {
     let count = messages.count();
     let mut found = None;
@@ -150,8 +152,9 @@ pub fn is_posted_of<'a, M: MessageSource>(
     messages: &mut M,
 ) -> Result<bool, Fault<'a>>
     requires { (M.state messages.old).is_ready }
-    ensures { (M.state messages.new).is_honest → (base : Base) → (M.state messages.old).holds base
+    ensures found { (M.state messages.new).is_honest → (base : Base) → (M.state messages.old).holds base
         → AnswersReading (IsPostedAs words.entry base) path.now (M.state messages.old).failures (M.state messages.new).failures result }
+    ensures whole { (M.state messages.new).is_honest → OnOk result (AreLegible (M.state messages.old)) }
 {
     let tag = words.tag.to_ascii_uppercase(alloc)?;
     let count = messages.count();

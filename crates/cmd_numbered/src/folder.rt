@@ -1,5 +1,6 @@
 //! A folder that gets a file for each message.
-ghost use Rattle.std.specs.Prelude.{List, Option, [], ◌∷◌, OnErr, OnOk};
+ghost use Rattle.std.specs.Prelude.{List, Option, [], ◌∷◌, IfErr, OnErr, OnOk};
+ghost use Rattle.cmd_status.specs.declared.status.Status.{Status as TheStatus};
 ghost use Rattle.cmd_numbered.specs.{Folders.Gets, declared.folder.MessageFile.MessageFile as TheFile};
 
 use cmd_status::Status;
@@ -25,8 +26,12 @@ pub trait MessageFolder {
     // The files that it got, in order, where they are known.
     ghost made: { Self → Option (List TheFile) };
 
+    // The status of a file that was not made: the folder before, and now.
+    ghost refuses: { Self → Self → TheStatus → Type 0 };
+
     /// Makes the file. If that fails, the folder reports why, and answers the status.
     fn make(&mut self, file: &MessageFile) -> Result<(), Status>
         ensures made { OnOk result (Gets (made self.old) (made self.new) (file.now ∷ [])) }
+        ensures why { IfErr result (refuses self.old self.new) }
         ensures none { OnErr result (Gets (made self.old) (made self.new) []) };
 }

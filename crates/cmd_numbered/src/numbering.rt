@@ -1,10 +1,10 @@
 //! Which messages become files, and under which numbers.
-ghost use Rattle.std.specs.Prelude.{◌≡◌, ◌≤◌, ◌<◌, ◌∷◌, ◌+◌, ◌&&◌, [], IfErr, IfOk, OnErr, length, option_copied, slice_get};
+ghost use Rattle.std.specs.Prelude.{◌≡◌, ◌≤◌, ◌<◌, ◌∷◌, ◌+◌, ◌&&◌, [], IfErr, IfOk, OnErr, OnOk, length, option_copied, slice_get};
 ghost use Rattle.base_file.specs.Base.{Base};
-ghost use Rattle.base_folder.specs.{Fetching.IsUnread, Source.LooksAt};
+ghost use Rattle.base_folder.specs.{Fetching.IsUnread, Source.AreLegible, Source.LooksAt, Source.ReadsLegibly};
 ghost use Rattle.echo_stored.specs.StoredMessage.{stored_bytes};
 ghost use Rattle.cmd_numbered.specs.Numbered.{IsExport, IsMade, IsMadeFrom, IsUnexported, IsUnmade, before_numbers, behind_numbers, file_at, file_of, first_number, is_exported, is_last, is_purged, is_same_stored, resumed};
-ghost use Rattle.cmd_numbered.specs.{Folders.Gets, Reading.AnswersReading};
+ghost use Rattle.cmd_numbered.specs.{Folders.Gets, Folders.IsRefused, Reading.AnswersReading};
 
 use crate::folder::{LastFile, MessageFile, MessageFolder};
 use crate::names::file_name;
@@ -45,8 +45,9 @@ pub fn export_files<'a, M: MessageSource, F: MessageFolder>(
 ) -> Result<Exported<'a>, Fault<'a>>
     requires { (M.state messages.old).is_ready }
     ensures files { (M.state messages.new).is_honest → (base : Base) → (M.state messages.old).holds base
-        → AnswersReading (IsExport area.now first last.entry.number (option_copied last.entry.bytes) base path.now (M.state messages.old).failures (M.state messages.new).failures (F.made folder.old) (F.made folder.new)) path.now (M.state messages.old).failures (M.state messages.new).failures result }
+        → AnswersReading (IsExport area.now first last.entry.number (option_copied last.entry.bytes) base (IsRefused F.refuses folder.new) path.now (M.state messages.old).failures (M.state messages.new).failures (F.made folder.old) (F.made folder.new)) path.now (M.state messages.old).failures (M.state messages.new).failures result }
     ensures none { OnErr result (Gets (F.made folder.old) (F.made folder.new) []) }
+    ensures whole { (M.state messages.new).is_honest → OnOk result (AreLegible (M.state messages.old)) }
 {
     let area = area.to_ascii_uppercase(alloc)?;
     let from = resumed(alloc, &area, first, last.bytes, path, messages)?;
@@ -80,6 +81,7 @@ fn resumed<'a, M: MessageSource>(
         → IfOk result (λ from. from ≡ resumed area.now first base.cursor (option_copied last.entry) base.messages (length base.messages)) }
     ensures fault { (M.state messages.new).is_honest → (base : Base) → (M.state messages.old).holds base
         → IfErr result (IsUnread path.now (M.state messages.old).failures (M.state messages.new).failures) }
+    ensures whole { (M.state messages.new).is_honest → OnOk result (AreLegible (M.state messages.old)) }
     ensures looks { LooksAt (M.state messages.old) (M.state messages.new) }
     ensures later { (M.state messages.old).failures ≤ (M.state messages.new).failures }
 {
@@ -192,7 +194,7 @@ fn make_files<'a, M: MessageSource, F: MessageFolder>(
     requires { (M.state messages.old).is_ready }
     ensures honest { (M.state messages.new).is_honest → (M.state messages.old).is_honest }
     ensures made { (M.state messages.new).is_honest → (base : Base) → (M.state messages.old).holds base → wanted.entry.cursor ≡ base.cursor
-        → IsMadeFrom wanted.entry.area.now wanted.entry.first wanted.entry.number base path.now (M.state messages.old).failures (M.state messages.new).failures (F.made folder.old) (F.made folder.new) result }
+        → IsMadeFrom wanted.entry.area.now wanted.entry.first wanted.entry.number base (IsRefused F.refuses folder.new) path.now (M.state messages.old).failures (M.state messages.new).failures (F.made folder.old) (F.made folder.new) result }
 {
     let count = messages.count();
     let mut made = 0;
@@ -230,9 +232,10 @@ fn make_next<'a, M: MessageSource, F: MessageFolder>(
     ensures made { (M.state messages.new).is_honest → (base : Base) → (M.state messages.old).holds base
         → IfOk result (IsMade (file_at wanted.entry.area.now wanted.entry.first wanted.entry.cursor (wanted.entry.number + made) i (slice_get base.messages i)) (F.made folder.old) (F.made folder.new)) }
     ensures fault { (M.state messages.new).is_honest → (base : Base) → (M.state messages.old).holds base
-        → IfErr result (IsUnexported (file_at wanted.entry.area.now wanted.entry.first wanted.entry.cursor (wanted.entry.number + made) i (slice_get base.messages i)) path.now (M.state messages.old).failures (M.state messages.new).failures) }
+        → IfErr result (IsUnexported (file_at wanted.entry.area.now wanted.entry.first wanted.entry.cursor (wanted.entry.number + made) i (slice_get base.messages i)) (IsRefused F.refuses folder.new) path.now (M.state messages.old).failures (M.state messages.new).failures) }
     ensures none { OnErr result (Gets (F.made folder.old) (F.made folder.new) []) }
     ensures few { IfOk result (λ more. more ≤ 1) }
+    ensures read { ReadsLegibly (M.state messages.old) (M.state messages.new) i result }
     ensures looks { LooksAt (M.state messages.old) (M.state messages.new) }
     ensures later { (M.state messages.old).failures ≤ (M.state messages.new).failures }
 {
@@ -266,7 +269,7 @@ fn export_one<'a, F: MessageFolder>(
 ) -> Result<usize, ExportError<'a>>
     ensures made { IfOk result (IsMade (file_of wanted.entry.cursor number i message.now ∷ []) (F.made folder.old) (F.made folder.new)) }
     ensures few { IfOk result (λ more. more ≤ 1) }
-    ensures fault { IfErr result IsUnmade }
+    ensures fault { IfErr result (IsUnmade (IsRefused F.refuses folder.new)) }
     ensures none { OnErr result (Gets (F.made folder.old) (F.made folder.new) []) }
 {
     let file = match file_of(alloc, wanted.cursor, number, i, message) {

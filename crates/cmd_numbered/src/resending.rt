@@ -3,7 +3,7 @@ ghost use Rattle.std.specs.Prelude.{◌≡◌, ◌++◌, IfErr, IfOk, OnOk, opti
 ghost use Rattle.base_file.specs.Base.{Base};
 ghost use Rattle.base_folder.specs.Fetching.{IsUnread};
 ghost use Rattle.model_steps.specs.Resending.{resent};
-ghost use Rattle.cmd_numbered.specs.Resending.{IsMadeOf, ResendAnswers, ResendsReading, copies_at};
+ghost use Rattle.cmd_numbered.specs.Resending.{AreLegibleToCursor, IsMadeOf, ResendAnswers, ResendsReading, copies_at};
 
 use base_folder::{BaseReader, MessageSource, fetch_message};
 use cmd_status::Fault;
@@ -40,9 +40,10 @@ pub fn resend_of<'a, M: MessageSource>(
     messages: &mut M,
 ) -> Result<Packet, Fault<'a>>
     requires { (M.state messages.old).is_ready }
-    ensures { (M.state messages.new).is_honest → (base : Base) → (M.state messages.old).holds base
+    ensures made { (M.state messages.new).is_honest → (base : Base) → (M.state messages.old).holds base
         → ResendsReading asked.entry.stamp (IsMadeOf links.now asked.entry.stamp asked.entry.area.now asked.entry.to asked.entry.first base)
         path.now (M.state messages.old).failures (M.state messages.new).failures result }
+    ensures whole { (M.state messages.new).is_honest → OnOk result (AreLegibleToCursor (M.state messages.old) asked.entry.first) }
 {
     if !is_stamp(asked.stamp) {
         return Err(Fault::Scan(ScanFault::BadStamp));
@@ -74,6 +75,7 @@ fn copies_of<'a, M: MessageSource>(
         → IfOk result (λ all. all.items ≡ resent links.now asked.entry.area.now asked.entry.to asked.entry.first base.messages base.cursor) }
     ensures fault { (M.state messages.new).is_honest → (base : Base) → (M.state messages.old).holds base
         → IfErr result (IsUnread path.now (M.state messages.old).failures (M.state messages.new).failures) }
+    ensures whole { (M.state messages.new).is_honest → OnOk result (AreLegibleToCursor (M.state messages.old) asked.entry.first) }
 {
     let count = messages.count();
     let end = messages.cursor().min(count);

@@ -1,20 +1,16 @@
 -- A number printed with leading zeros.
-use Rattle.std.proofs.Common.{◌≡◌, ℕ, ◌-◌, ◌^◌, [], decimal}
-use Rattle.std.proofs.{Math.Nat.sub-zero, lemmas.List.append-nil}
+use Rattle.std.proofs.{Common.◌≡◌, Common.ℕ, Common.◌-◌, Common.◌^◌, Common.[], Common.decimal, Math.Nat.sub-zero, lemmas.List.append-nil}
 use Rattle.std.specs.{Fmt.padded_integral, Fmt.format_spec, Fmt.char_count, Prelude.false}
 use Rattle.cmd_print.specs.Shown.{zero_padded}
 
--- the result of `{:02}`
 pub two_padded : (n : ℕ) → padded_integral (format_spec 32 0 4 2 (2 ^ 64 - 1)) false [] (decimal n) ≡ zero_padded 2 n
 unfolding padded_integral zero_padded char_count
 two_padded n = simp (append-nil, sub-zero)
 
--- the result of `{:04}`
 pub four_padded : (n : ℕ) → padded_integral (format_spec 32 0 4 4 (2 ^ 64 - 1)) false [] (decimal n) ≡ zero_padded 4 n
 unfolding padded_integral zero_padded char_count
 four_padded n = simp (append-nil, sub-zero)
 
--- the result of `{:05}`
 pub five_padded : (n : ℕ) → padded_integral (format_spec 32 0 4 5 (2 ^ 64 - 1)) false [] (decimal n) ≡ zero_padded 5 n
 unfolding padded_integral zero_padded char_count
 five_padded n = simp (append-nil, sub-zero)

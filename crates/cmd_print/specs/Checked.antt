@@ -7,8 +7,7 @@ use Rattle.echo_links.specs.Links.{LinkFile}
 use Rattle.echo_filed.specs.Sets.{address_before}
 use Rattle.echo_nodelist.specs.declared.line.Line.{Line}
 use Rattle.model_run.specs.Tidy.{Carries}
-use Rattle.echo_net.specs.declared.{presence.Absence.Absence, presence.Absence.TheVariants.Missing, presence.Absence.TheVariants.Down, verdict.Verdict.Verdict}
-use Rattle.echo_net.specs.{declared.verdict.Verdict.TheVariants.Yes, declared.verdict.Verdict.TheVariants.No, Absent.IsAbsent, Printed.fault_text}
+use Rattle.echo_net.specs.{declared.presence.Absence.Absence, declared.presence.Absence.TheVariants.Missing, declared.presence.Absence.TheVariants.Down, declared.verdict.Verdict.Verdict, declared.verdict.Verdict.TheVariants.Yes, declared.verdict.Verdict.TheVariants.No, Absent.IsAbsent, Printed.fault_text}
 
 -- The line of an area in order, with its numbers of systems and links; the tag is printed as a word.
 abbrev pub yes_text : List ℕ → ℕ → ℕ → List ℕ

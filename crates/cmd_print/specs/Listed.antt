@@ -2,9 +2,7 @@
 use Rattle.std.specs.Prelude.{◌≡◌, ℕ, ◌+◌, Bool, true, false, List, [], ◌∷◌, ◌++◌, length, codes, decimal, slice_index_or, Option, Some, None}
 use Rattle.std.specs.List.{count_by, flat_map, range_with_len}
 use Rattle.echo_addr.specs.{declared.address.Address.Address, Address.address_text}
-use Rattle.echo_nodelist.specs.declared.{stated.CrcLine.CrcLine, stated.CrcLine.TheVariants.Absent, stated.CrcLine.TheVariants.Match, stated.CrcLine.TheVariants.Mismatch, keyword.Keyword.Keyword}
-use Rattle.echo_nodelist.specs.declared.{keyword.Keyword.TheVariants.Node, line.Line.Line, line.Line.TheVariants.Note, line.Line.TheVariants.Entry}
-use Rattle.echo_nodelist.specs.{Back.Finds, Back.address_at, Line.keyword_text}
+use Rattle.echo_nodelist.specs.{declared.stated.CrcLine.CrcLine, declared.stated.CrcLine.TheVariants.Absent, declared.stated.CrcLine.TheVariants.Match, declared.stated.CrcLine.TheVariants.Mismatch, declared.keyword.Keyword.Keyword, declared.keyword.Keyword.TheVariants.Node, declared.line.Line.Line, declared.line.Line.TheVariants.Note, declared.line.Line.TheVariants.Entry, Back.Finds, Back.address_at, Line.keyword_text}
 use Rattle.echo_charset.specs.Escaped.{escaped_line}
 use Rattle.cmd_print.specs.Shown.{zero_padded}
 

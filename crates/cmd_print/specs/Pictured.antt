@@ -4,9 +4,7 @@ use Rattle.std.specs.List.{flat_map}
 use Rattle.echo_addr.specs.Address.{address_text}
 use Rattle.echo_charset.specs.Words.{printed_word}
 use Rattle.echo_links.specs.Links.{same_address}
-use Rattle.echo_net.specs.declared.drawing.{Crossing.Crossing, DrawnLink.DrawnLink, DrawnSystem.DrawnSystem, Drawing.Drawing, Mark.Mark}
-use Rattle.echo_net.specs.declared.drawing.{Mark.TheVariants.Plain, Mark.TheVariants.Named, Mark.TheVariants.OnLoop, Sides.Sides}
-use Rattle.echo_net.specs.declared.{drawing.Sides.TheVariants.Both, drawing.Sides.TheVariants.First, drawing.Sides.TheVariants.Second, verdict.Verdict.Verdict}
+use Rattle.echo_net.specs.declared.{drawing.Crossing.Crossing, drawing.DrawnLink.DrawnLink, drawing.DrawnSystem.DrawnSystem, drawing.Drawing.Drawing, drawing.Mark.Mark, drawing.Mark.TheVariants.Plain, drawing.Mark.TheVariants.Named, drawing.Mark.TheVariants.OnLoop, drawing.Sides.Sides, drawing.Sides.TheVariants.Both, drawing.Sides.TheVariants.First, drawing.Sides.TheVariants.Second, verdict.Verdict.Verdict}
 use Rattle.cmd_print.specs.Checked.{verdict_text}
 
 -- A byte between double quotes: these and the backslash after a backslash.

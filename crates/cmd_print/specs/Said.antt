@@ -1,7 +1,6 @@
 -- The lines of `show` for a text as echomail.
 use Rattle.std.specs.Prelude.{◌≡◌, ℕ, List, [], ◌++◌, length, codes, decimal, Option, Some, None}
-use Rattle.echo_text.specs.Echo.{EchoOf, EchoText, msgid_of, origin_of, reply_of, tear_of}
-use Rattle.echo_text.specs.{declared.fault.TextFault.TextFault, declared.fault.TextFault.TheVariants.BadTag, declared.fault.TextFault.TheVariants.NotEcho, Refusal.text_refusal}
+use Rattle.echo_text.specs.{Echo.EchoOf, Echo.EchoText, Echo.msgid_of, Echo.origin_of, Echo.reply_of, Echo.tear_of, declared.fault.TextFault.TextFault, declared.fault.TextFault.TheVariants.BadTag, declared.fault.TextFault.TheVariants.NotEcho, Refusal.text_refusal}
 use Rattle.echo_charset.specs.Escaped.{escaped_line}
 
 -- The line of the tag, which is printed unchanged.

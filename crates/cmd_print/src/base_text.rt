@@ -1,6 +1,5 @@
 //! The lines of the messages of a base.
-ghost use Rattle.std.specs.Prelude.{◌≡◌, ◌++◌, codes, decimal, OnOk};
-ghost use Rattle.std.specs.List.{flat_map};
+ghost use Rattle.std.specs.{Prelude.◌≡◌, Prelude.◌++◌, Prelude.codes, Prelude.decimal, Prelude.OnOk, List.flat_map};
 ghost use Rattle.cmd_print.specs.BaseListed.{echo_text, fields_text, head_text, is_purged, mark_text, message_text, origin_text, total_text};
 ghost use Rattle.echo_charset.specs.Escaped.{escaped_line};
 ghost use Rattle.echo_text.specs.Lines as text_lines;
@@ -84,7 +83,6 @@ fn mark(waits: bool, short: bool) -> &'static [u8]
     }
 }
 
-/// Whether nothing is left of a message's text but its id.
 pub(crate) fn is_purged(message: &Filed) -> bool
     ensures { result ≡ is_purged message.now }
 {

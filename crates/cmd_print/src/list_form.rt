@@ -89,7 +89,6 @@ fn push_part(parts: &mut Vec<u8>, part: &[u8]) -> Result<(), AllocError>
     parts.extend_from_slice(b" | ")
 }
 
-// How the line ends.
 fn short_mark(waits: bool, short: bool) -> &'static [u8]
     ensures { result.now ≡ short_mark waits short }
 {

@@ -1,9 +1,7 @@
 //! The lines of a nodelist.
-ghost use Rattle.std.specs.Prelude.{◌≡◌, ◌++◌, ◌<◌, codes, length, OnOk, Some};
-ghost use Rattle.std.specs.List.{count_by};
+ghost use Rattle.std.specs.{Prelude.◌≡◌, Prelude.◌++◌, Prelude.◌<◌, Prelude.codes, Prelude.length, Prelude.OnOk, Prelude.Some, List.count_by};
 ghost use Rattle.echo_addr.specs.Address.{address_text};
-ghost use Rattle.cmd_print.specs.Listed.{RestListed, crc_text, listed_entry, found_text, is_entry, keyword_word, line_number, mismatch_line, first_field, total_line};
-ghost use Rattle.cmd_print.specs.Pushed.{Pushes};
+ghost use Rattle.cmd_print.specs.{Listed.RestListed, Listed.crc_text, Listed.listed_entry, Listed.found_text, Listed.is_entry, Listed.keyword_word, Listed.line_number, Listed.mismatch_line, Listed.first_field, Listed.total_line, Pushed.Pushes};
 
 use echo_addr::{Address, Items};
 use echo_charset::{push_escaped, written};

@@ -96,14 +96,12 @@ fn push_system(lines: &mut Vec<u8>, drawn: DrawnSystem) -> Result<(), AllocError
     lines.extend_from_slice(b";\n")
 }
 
-// An address that is no carrier is dotted.
 fn carrier_marks(carries: bool) -> &'static [u8]
     ensures { result.now ≡ carrier_marks carries }
 {
     if carries { b"" } else { b" [style=dotted]" }
 }
 
-// A system that the verdict names is red, one on the loop that it names red and thick.
 fn system_marks(mark: Mark) -> &'static [u8]
     ensures { result.now ≡ system_marks mark }
 {
@@ -154,7 +152,6 @@ fn push_ends(lines: &mut Vec<u8>, link: DrawnLink) -> Result<(), AllocError>
     written(write!(lines, "\"{one}\" -- \"{other}\""))
 }
 
-// A link that one side lists is red and dashed, with an arrow from this side.
 fn side_marks(sides: Sides) -> &'static [u8]
     ensures { result.now ≡ side_marks sides }
 {
@@ -165,7 +162,6 @@ fn side_marks(sides: Sides) -> &'static [u8]
     }
 }
 
-// A link of the loop is red and thick.
 fn loop_marks(on_loop: bool) -> &'static [u8]
     ensures { result.now ≡ loop_marks on_loop }
 {
@@ -176,7 +172,6 @@ fn loop_marks(on_loop: bool) -> &'static [u8]
     }
 }
 
-// The steps at which a message crosses the link, either way.
 fn steps_at(
     alloc: Global,
     link: DrawnLink,
@@ -193,7 +188,6 @@ fn steps_at(
     Ok(steps)
 }
 
-// Whether the message crosses this link, either way.
 fn is_at(link: DrawnLink, crossing: Crossing) -> bool
     ensures { result ≡ is_at link crossing }
 {

@@ -1,7 +1,6 @@
 //! The lines of a verdict, and of the systems that a nodelist does not hold.
 ghost use Rattle.std.specs.{Prelude.◌≡◌, Prelude.◌++◌, Prelude.OnOk, Prelude.option_copied, List.flat_map};
-ghost use Rattle.cmd_print.specs.Checked.{AbsencesShown, absence_line, absence_word, verdict_line, verdict_text, yes_text};
-ghost use Rattle.cmd_print.specs.Pushed.{Pushes};
+ghost use Rattle.cmd_print.specs.{Checked.AbsencesShown, Checked.absence_line, Checked.absence_word, Checked.verdict_line, Checked.verdict_text, Checked.yes_text, Pushed.Pushes};
 
 use echo_addr::Address;
 use echo_charset::{push_word, written};

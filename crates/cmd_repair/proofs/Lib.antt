@@ -1,2 +1,9 @@
 pub mod Searching
 pub mod Cutting
+pub mod Readings
+pub mod IdWords
+pub mod RightLists
+pub mod Gatherings
+pub mod Printings
+pub mod Listed
+pub mod Sendings

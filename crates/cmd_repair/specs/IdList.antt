@@ -1,10 +1,11 @@
 -- A list of ids that is read: its first wrong line, and the words of its ids.
-use Rattle.std.specs.Prelude.{◌≡◌, ℕ, ◌+◌, ◌-◌, Bool, true, false, List, [], ◌∷◌, map, filter, if◌then◌else◌, bytes_eq, Option, Some, None, Result, Ok, Err, ◌⊎◌}
-use Rattle.std.specs.List.{list_any}
+use Rattle.std.specs.Prelude.{◌≡◌, ℕ, ◌+◌, ◌-◌, Bool, true, false, List, [], ◌∷◌, ◌++◌, ◌≤◌, codes, length, map, filter, if◌then◌else◌, bytes_eq, Option, Some, None, Result, Ok, Err, ◌⊎◌}
+use Rattle.std.specs.List.{AllByRecursion, list_any}
+use Rattle.echo_charset.specs.Escaped.{escaped}
 use Rattle.echo_links.specs.LinkLines.{file_lines}
 use Rattle.cmd_status.specs.{declared.fault.Fault.Fault, declared.fault.Fault.TheVariants.ListLine, Ended.IsOutOfMemory}
 use Rattle.cmd_repair.specs.declared.reading.Stage.{Stage, TheVariants.Start, TheVariants.Ids, TheVariants.Ended, TheVariants.Wrong}
-use Rattle.cmd_repair.specs.Words.{area_words, id_word, is_end_line, is_id_line}
+use Rattle.cmd_repair.specs.{Ids.IsId, Words.area_words, Words.end_words, Words.id_word, Words.is_end_line, Words.is_id_line, Words.most_messages}
 
 -- The next stage of a list of this area after a line. It had so many ids before.
 abbrev pub stage_after : List ℕ → ℕ → Stage → List ℕ → Stage
@@ -34,9 +35,22 @@ wrong_line area number stage (line ∷ later) =
 abbrev pub id_words : List (List ℕ) → List (List ℕ)
 id_words lines = map id_word (filter is_id_line lines)
 
+-- The line of an id.
+abbrev pub id_line : List ℕ → List ℕ
+id_line id = codes "id " ++ escaped id
+
+-- The lines of a list of the area: the first one, those of ids, in any order and perhaps twice, and the last one, by
+-- which so many messages have no id.
+pub record IsPrintedList (area : List ℕ) (lines : List (List ℕ)) : Type 0 where
+  pub ids : List (List ℕ)
+  pub without : ℕ
+  pub are_ids : AllByRecursion IsId ids
+  pub few : length ids + without ≤ most_messages
+  pub whole : lines ≡ area_words area ∷ (map id_line ids ++ end_words (length ids + without) without ∷ [])
+
 -- The bytes are a list of the area that has exactly these words.
 pub record IsIdList (area bytes : List ℕ) (words : List (List ℕ)) : Type 0 where
-  pub right : wrong_line area 1 Start (file_lines bytes) ≡ None
+  pub right : IsPrintedList area (file_lines bytes)
   pub members : (word : List ℕ) → list_any (bytes_eq word) words ≡ list_any (bytes_eq word) (id_words (file_lines bytes))
 
 -- The right answer if a list of ids is read.

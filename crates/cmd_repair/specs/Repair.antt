@@ -1,8 +1,8 @@
 -- A packet of all messages of an area for one link.
-use Rattle.std.specs.Prelude.{◌≡◌, ◌⊎◌, ℕ, ◌&&◌, not, Bool, true, false, List, [], ◌∷◌, ◌++◌, ◌+◌, codes, length, drop, map, filter, bytes_eq, Option, Some, None}
+use Rattle.std.specs.Prelude.{◌≡◌, ◌⊎◌, ℕ, ◌<◌, ◌≤◌, ◌&&◌, not, Bool, true, false, List, [], ◌∷◌, ◌++◌, ◌+◌, codes, length, drop, map, filter, bytes_eq, Option, Some, None}
 use Rattle.std.specs.{List.list_any, Io.KnownBytes.Appends}
 use Rattle.base_file.specs.Base.{Base}
-use Rattle.base_folder.specs.Fetching.{IsUnread}
+use Rattle.base_folder.specs.{Fetching.IsUnread, Source.SourceState}
 use Rattle.disk_io.specs.Device.{Failed}
 use Rattle.echo_addr.specs.{declared.address.Address.Address, Address.address_text}
 use Rattle.echo_charset.specs.Escaped.{escaped}
@@ -47,6 +47,10 @@ pub record SendsPacket (file : LinkFile) (stamp : Stamp) (area : List ℕ) (to :
   pub moment : is_stamp stamp ≡ true
   pub written : Appends old new (packet_bytes (header_to file stamp to) (repair_packet file stamp area to first held base.messages).messages)
   pub counted_is : counted ≡ counted_packet to (repair_packet file stamp area to first held base.messages)
+
+-- All messages of the source from one number up to another are no damage.
+abbrev pub AreLegibleFrom : SourceState → ℕ → ℕ → Type 0
+AreLegibleFrom s first n = (i : ℕ) → first ≤ i → i < n → s.legible i
 
 -- Why a packet is not sent: a message of the base with this path was not read, or the sink failed.
 abbrev pub IsUndone : List ℕ → ℕ → ℕ → ℕ → ℕ → SendFault → Type 0

@@ -1,8 +1,10 @@
 //! The ids of an area, gathered in one run of bytes, so that a million of them take little memory.
-ghost use Rattle.std.specs.Prelude.{◌≡◌, ◌++◌, ◌+◌, ◌<◌, ◌∷◌, [], IfOk, List, ℕ, OnOk, length, map, option_copied, take};
+ghost use Rattle.std.specs.Prelude.{◌≡◌, ◌++◌, ◌+◌, ◌<◌, ◌^◌, ◌∷◌, [], IfErr, IfOk, List, ℕ, OnOk, length, map, option_copied, slice_get, take};
+ghost use Rattle.std.specs.List.{flat_map};
 ghost use Rattle.base_file.specs.Base as model;
+ghost use Rattle.base_folder.specs.{Fetching.IsUnread, Source.AreLegible};
 ghost use Rattle.echo_filed.specs.Filed as filed;
-ghost use Rattle.cmd_repair.specs.IdsListed.{Gathers, ids_at, messages_at};
+ghost use Rattle.cmd_repair.specs.IdsListed.{Gathers, area_ids, area_messages, ids_at, messages_at};
 
 use base_folder::{MessageSource, fetch_message};
 use cmd_status::Fault;
@@ -26,6 +28,11 @@ pub(crate) fn gather_ids<'a, M: MessageSource>(
     messages: &mut M,
 ) -> Result<GatheredIds, Fault<'a>>
     requires { (M.state messages.old).is_ready }
+    ensures ids { (M.state messages.new).is_honest → (base : model.Base) → (M.state messages.old).holds base
+        → IfOk result (λ gathered. Gathers (area_ids area.now base.messages) (length (area_messages area.now base.messages)) gathered.bytes.items gathered.lengths.items gathered.messages) }
+    ensures fault { (M.state messages.new).is_honest → (base : model.Base) → (M.state messages.old).holds base
+        → IfErr result (IsUnread path.now (M.state messages.old).failures (M.state messages.new).failures) }
+    ensures whole { (M.state messages.new).is_honest → OnOk result (AreLegible (M.state messages.old)) }
 {
     let count = messages.count();
     let mut gathered = GatheredIds {

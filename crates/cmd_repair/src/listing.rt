@@ -1,8 +1,12 @@
 //! `list --ids`: the ids of an area.
-ghost use Rattle.std.specs.Prelude.{◌≡◌, ◌++◌, OnOk, IfErr, codes};
+ghost use Rattle.std.specs.Prelude.{◌≡◌, ◌++◌, OnErr, OnOk, IfErr, codes, length, map};
+ghost use Rattle.std.specs.List.{flat_map};
 ghost use Rattle.base_file.specs.Base as model;
-ghost use Rattle.cmd_status.specs.{Ended.Stops, Lines.PassesOn};
+ghost use Rattle.base_folder.specs.{Fetching.CannotRead, Source.AreLegible};
+ghost use Rattle.cmd_status.specs.{Devices.output_of, Ended.AnswersInPieces, Ended.Stops, Lines.PassesOn, Lines.WritesFront};
 ghost use Rattle.echo_charset.specs.Escaped.{escaped_line};
+ghost use Rattle.echo_links.specs.Links.{upper};
+ghost use Rattle.cmd_repair.specs.IdsListed.{AreIdsListed};
 ghost use Rattle.cmd_repair.specs.Words as words;
 
 use crate::gathering::{gather_ids, ids_of};
@@ -24,6 +28,10 @@ pub fn list_ids<'a, M: MessageSource, W: Sink>(
     out: &mut W,
 ) -> Result<Status, Fault<'a>>
     requires { (M.state messages.old).is_ready }
+    ensures listed { (M.state messages.new).is_honest → (base : model.Base) → (M.state messages.old).holds base
+        → AnswersInPieces (AreIdsListed (upper area.now) base) (CannotRead path.now (M.state messages.old).failures (M.state messages.new).failures)
+        (output_of W.contents W.failures W.holds out.old) (output_of W.contents W.failures W.holds out.new) result }
+    ensures whole { (M.state messages.new).is_honest → OnOk result (AreLegible (M.state messages.old)) }
 {
     let area = area.to_ascii_uppercase(alloc)?;
     let gathered = gather_ids(alloc, &area, path, messages)?;
@@ -57,11 +65,12 @@ fn push_last(lines: &mut Vec<u8>, messages: u64, without: u64) -> Result<(), All
 }
 
 // Prints the lines of ids; the last ones stay in `lines`.
-fn print_ids<'a, W: Sink>(
-    ids: &[&[u8]],
-    lines: &mut Vec<u8>,
-    out: &mut W,
-) -> Result<(), Fault<'a>> {
+fn print_ids<'a, W: Sink>(ids: &[&[u8]], lines: &mut Vec<u8>, out: &mut W) -> Result<(), Fault<'a>>
+    ensures lines { OnOk result (PassesOn (lines.old.items ++ flat_map (λ id. escaped_line (codes "id") id.now) ids.now) lines.new.items (W.contents out.old) (W.contents out.new)) }
+    ensures begun { OnErr result (WritesFront (lines.old.items ++ flat_map (λ id. escaped_line (codes "id") id.now) ids.now) (W.contents out.old) (W.contents out.new)) }
+    ensures ok { OnOk result (W.failures out.new ≡ W.failures out.old) }
+    ensures err { IfErr result (Stops (W.failures out.old) (W.failures out.new)) }
+{
     'ids: for id in ids {
         print_id(id, lines, out)?;
     }
@@ -70,6 +79,7 @@ fn print_ids<'a, W: Sink>(
 
 fn print_id<'a, W: Sink>(id: &[u8], lines: &mut Vec<u8>, out: &mut W) -> Result<(), Fault<'a>>
     ensures lines { OnOk result (PassesOn (lines.old.items ++ escaped_line (codes "id") id.now) lines.new.items (W.contents out.old) (W.contents out.new)) }
+    ensures begun { OnErr result (WritesFront (lines.old.items ++ escaped_line (codes "id") id.now) (W.contents out.old) (W.contents out.new)) }
     ensures ok { OnOk result (W.failures out.new ≡ W.failures out.old) }
     ensures err { IfErr result (Stops (W.failures out.old) (W.failures out.new)) }
 {

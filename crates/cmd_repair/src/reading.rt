@@ -1,6 +1,6 @@
 //! A list of ids is read, as `list --ids` prints it.
 ghost use Rattle.std.specs.Prelude.{◌≡◌, ◌++◌, ◌∷◌, [], IfOk, List, OnOk, ℕ, map};
-ghost use Rattle.cmd_repair.specs.IdList.{id_words, is_wrong, stage_after};
+ghost use Rattle.cmd_repair.specs.IdList.{ReadsIds, id_words, is_wrong, stage_after};
 ghost use Rattle.cmd_repair.specs.Words as words;
 
 use crate::known::KnownIds;
@@ -24,7 +24,9 @@ pub fn read_ids<'a, 'b>(
     alloc: Global,
     area: &[u8],
     bytes: &'a [u8],
-) -> Result<KnownIds<'a>, Fault<'b>> {
+) -> Result<KnownIds<'a>, Fault<'b>>
+    ensures { ReadsIds area.now bytes.now result }
+{
     let mut first = Vec::new(alloc);
     push_area(&mut first, area)?;
     let mut words = Vec::new(alloc);

@@ -1,10 +1,12 @@
 //! A packet of all messages of an area for one link: it is sent piece by piece.
-ghost use Rattle.std.specs.Prelude.{◌≡◌, ◌++◌, ◌∷◌, [], IfErr, IfOk, List, ℕ, OnOk, option_copied};
+ghost use Rattle.std.specs.Prelude.{◌≡◌, ◌++◌, ◌∷◌, [], IfErr, IfOk, List, ℕ, OnOk, drop, option_copied};
+ghost use Rattle.base_file.specs.Base.{Base};
 ghost use Rattle.echo_charset.specs.Escaped.{escaped, escaped_line};
 ghost use Rattle.echo_packet.specs.{Header.header_bytes, Message.message_bytes, Message.messages_bytes};
+ghost use Rattle.echo_links.specs.Links.{upper};
 ghost use Rattle.model_steps.specs.Scanning.{copy_to, header_to};
 ghost use Rattle.cmd_status.specs.Lines.{PassesOn};
-ghost use Rattle.cmd_repair.specs.Repair.{IsStopped, copies_at, counted_with_copies, is_named, is_sent, nothing_line};
+ghost use Rattle.cmd_repair.specs.Repair.{AreLegibleFrom, IsStopped, IsUndone, IsUnsent, SendsPacket, copies_at, counted_with_copies, is_named, is_sent, nothing_counted, nothing_line, sent_copies};
 
 use crate::known::KnownIds;
 use crate::send_fault::SendFault;
@@ -43,6 +45,12 @@ pub fn send_all<'a, M: MessageSource, W: Sink>(
     out: &mut W,
 ) -> Result<CountedPacket, SendFault<'a>>
     requires { (M.state messages.old).is_ready }
+    ensures sent { (M.state messages.new).is_honest → (base : Base) → (M.state messages.old).holds base
+        → IfOk result (SendsPacket links.now asked.entry.stamp (upper asked.entry.area.now) asked.entry.to asked.entry.first (option_copied held.entry) base (W.contents out.old) (W.contents out.new)) }
+    ensures fault { (M.state messages.new).is_honest → (base : Base) → (M.state messages.old).holds base
+        → IfErr result (IsUnsent asked.entry.stamp path.now (M.state messages.old).failures (M.state messages.new).failures (W.failures out.old) (W.failures out.new)) }
+    ensures whole { (M.state messages.new).is_honest → OnOk result (AreLegibleFrom (M.state messages.old) asked.entry.first (M.state messages.old).count) }
+    ensures ok { OnOk result (W.failures out.new ≡ W.failures out.old) }
 {
     if !is_stamp(asked.stamp) {
         return Err(SendFault::Messages(Fault::Scan(ScanFault::BadStamp)));
@@ -84,6 +92,14 @@ fn send_messages<'a, M: MessageSource, W: Sink>(
     out: &mut W,
 ) -> Result<CountedPacket, SendFault<'a>>
     requires { (M.state messages.old).is_ready }
+    ensures sent { (M.state messages.new).is_honest → (base : Base) → (M.state messages.old).holds base
+        → OnOk result (PassesOn (piece.old.items ++ messages_bytes (sent_copies repair.entry.links.now repair.entry.area.now repair.entry.to (option_copied repair.entry.held) (drop first base.messages))) piece.new.items (W.contents out.old) (W.contents out.new)) }
+    ensures counted { (M.state messages.new).is_honest → (base : Base) → (M.state messages.old).holds base
+        → IfOk result (λ counted. counted ≡ counted_with_copies (sent_copies repair.entry.links.now repair.entry.area.now repair.entry.to (option_copied repair.entry.held) (drop first base.messages)) (nothing_counted repair.entry.to)) }
+    ensures fault { (M.state messages.new).is_honest → (base : Base) → (M.state messages.old).holds base
+        → IfErr result (IsUndone path.now (M.state messages.old).failures (M.state messages.new).failures (W.failures out.old) (W.failures out.new)) }
+    ensures whole { (M.state messages.new).is_honest → OnOk result (AreLegibleFrom (M.state messages.old) first (M.state messages.old).count) }
+    ensures ok { OnOk result (W.failures out.new ≡ W.failures out.old) }
 {
     let count = messages.count();
     let mut counted = CountedPacket::empty(repair.to);

@@ -3,25 +3,20 @@ use Rattle.std.proofs.Common.{◌≡◌, ℕ, Bool, List, [], Option, Result, Ok
 use Rattle.std.specs.Io.KnownBytes.{Appends}
 use Rattle.cmd_status.specs.{declared.fault.Fault.Fault, declared.status.Status.Status, Devices.Output, Ended.CannotPrint, Ended.PassesAll, Lines.WritesFront}
 use Rattle.cmd_status.proofs.Lines.{begun_after, begun_kept, nothing_begun, sent_after}
-use Rattle.cmd_show.specs.Showing.{AllShown, IsCutShort, PacketAnswers, PacketPasses, SomeShown}
-use Rattle.cmd_show.specs.Written.{AddsLines, BeginsLines, WritesLines}
+use Rattle.cmd_show.specs.{Showing.AllShown, Showing.IsCutShort, Showing.PacketAnswers, Showing.PacketPasses, Showing.SomeShown, Written.AddsLines, Written.BeginsLines, Written.WritesLines}
 use Rattle.cmd_show.proofs.Stopping.{passes_le, print_later}
 
--- the lines held back were written
 all_out : (P : List ℕ → Type 0) (a b c : Option (List ℕ)) (rest : List ℕ) → AddsLines P [] rest a b → Appends b c rest → WritesLines P a c
 all_out P a b c rest added went = record { lines = added.lines; are = added.are; written = sent_after a b c added.lines rest added.passed went }
 
--- lines cut short are some lines
 cut_some : (full : Bool) (bytes lines : List ℕ) (fault : Fault) → IsCutShort full bytes lines fault → SomeShown full bytes lines
 cut_some full bytes lines fault h1 = grind arith
 
--- a beginning of the lines held back was written
 some_out : (full : Bool) (P : List ℕ → Type 0) (bytes : List ℕ) (a b c : Option (List ℕ)) (rest : List ℕ) → ((lines : List ℕ) → P lines → SomeShown full bytes lines)
     → AddsLines P [] rest a b → WritesFront rest b c → BeginsLines (SomeShown full bytes) a c
 some_out full P bytes a b c rest some added begun =
     record { lines = added.lines; are = some added.lines added.are; begun = begun_after a b c added.lines rest added.passed begun }
 
--- all lines held back were written
 went_out : (full : Bool) (bytes rest : List ℕ) (old mid new : Output) (answer : Result Status Fault) → PacketPasses full bytes [] rest old mid answer
     → Appends mid.contents new.contents rest → PassesAll mid new → PacketAnswers full bytes old new answer
 went_out full bytes rest old mid new (Ok status) right went flushed =
@@ -40,7 +35,6 @@ pub all_shown : (full : Bool) (bytes none rest : List ℕ) (old mid new : Output
 all_shown full bytes none rest old mid new answer nothing so went flushed =
     went_out full bytes rest old mid new answer (subst (λ l. PacketPasses full bytes l rest old mid answer) nothing so) went flushed
 
--- standard output failed at the end
 begun_out : (full : Bool) (bytes rest : List ℕ) (old mid new : Output) (answer : Result Status Fault) → PacketPasses full bytes [] rest old mid answer
     → WritesFront rest mid.contents new.contents → BeginsLines (SomeShown full bytes) old.contents new.contents
 begun_out full bytes rest old mid new (Ok status) right begun =

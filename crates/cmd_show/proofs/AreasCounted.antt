@@ -1,11 +1,7 @@
 -- The counts of areas, message by message, and their lines.
 use Rattle.std.proofs.Common.{◌≡◌, ℕ, ◌+◌, ◌-◌, ◌<◌, ◌∙◌, ◌||◌, ◌&&◌, Bool, true, false, cond, List, [], ◌∷◌, ◌++◌, Option, None, Some, Result, length, map, take, drop, take_all, refl, sym, ap, subst, arith}
-use Rattle.std.proofs.lemmas.List.{drop-append-le, drop_all, length-append, take-append-le, take_more}
-use Rattle.std.proofs.{Math.Bool.or_comm, lemmas.Bool.cases_lt, lemmas.Bool.le-leb, lemmas.Bool.lt-leb, lemmas.List.Folds.list_any-append, lemmas.List.Sums.sum_by-append, lemmas.List.Sums.sum_by-cons}
-use Rattle.std.proofs.lemmas.{Map.Text.is_eq-slice_cmp, Option.slice_get-get_or, Option.slice_get_cases}
-use Rattle.std.specs.Prelude.{bytes_eq, count_by, is_some, nat_le, slice_get, unwrap_or}
-use Rattle.std.specs.{declared.cmp.Ordering.Ordering, declared.cmp.Ordering.TheVariants.Less, Ordering.is_eq, Ordering.nat_cmp, List.AllByRecursion, List.flat_map, List.list_any}
-use Rattle.std.specs.{List.Sorted.IsStrictlySortedBy, Map.keys_of, Map.lookup, BTreeMap.insert_entry, Cmp.Lexicographic.bytes_decides, Cmp.Lexicographic.slice_cmp}
+use Rattle.std.proofs.{lemmas.List.drop-append-le, lemmas.List.drop_all, lemmas.List.length-append, lemmas.List.take-append-le, lemmas.List.take_more, lemmas.Map.Text.is_eq-slice_cmp, lemmas.Option.slice_get-get_or, lemmas.Option.slice_get_cases, Math.Bool.or_comm, lemmas.Bool.cases_lt, lemmas.Bool.le-leb, lemmas.Bool.lt-leb, lemmas.List.Folds.list_any-append, lemmas.List.Sums.sum_by-append, lemmas.List.Sums.sum_by-cons}
+use Rattle.std.specs.{Prelude.bytes_eq, Prelude.count_by, Prelude.is_some, Prelude.nat_le, Prelude.slice_get, Prelude.unwrap_or, declared.cmp.Ordering.Ordering, declared.cmp.Ordering.TheVariants.Less, Ordering.is_eq, Ordering.nat_cmp, List.AllByRecursion, List.flat_map, List.list_any, List.Sorted.IsStrictlySortedBy, Map.keys_of, Map.lookup, BTreeMap.insert_entry, Cmp.Lexicographic.bytes_decides, Cmp.Lexicographic.slice_cmp}
 use Rattle.base_file.specs.Base.{Base}
 use Rattle.echo_export.specs.declared.json_line.State.{State}
 use Rattle.echo_filed.specs.Filed.{Filed}
@@ -26,16 +22,13 @@ where_waits b n = cond b n 0
 abbrev where_scanned : Bool → ℕ → ℕ
 where_scanned b n = cond b 0 n
 
--- the count with one more message
 counted_last : (p : Filed → Bool) (xs : List Filed) (m : Filed) → count_by p (xs ++ m ∷ []) ≡ count_by p xs + one (p m)
 counted_last p xs m = grind (arith, sum_by-append, sum_by-cons)
 
--- the same for waiting messages
 waiting_last : (p : Filed → Bool) (xs : List Filed) (m : Filed) (cursor : ℕ)
     → count_by p (drop cursor (xs ++ m ∷ [])) ≡ count_by p (drop cursor xs) + where_waits (nat_le cursor (length xs)) (one (p m))
 waiting_last p xs m cursor = grind (arith, cases_lt, length-append, drop_all, lt-leb, drop-append-le, counted_last, le-leb)
 
--- and for scanned messages
 scanned_last : (p : Filed → Bool) (xs : List Filed) (m : Filed) (cursor : ℕ)
     → count_by p (take cursor (xs ++ m ∷ [])) ≡ count_by p (take cursor xs) + where_scanned (nat_le cursor (length xs)) (one (p m))
 scanned_last p xs m cursor = grind (arith, cases_lt, length-append, take_all, counted_last, lt-leb, take-append-le, le-leb)
@@ -47,7 +40,6 @@ made messages waiting purged = record { messages = messages; waiting = waiting; 
 same_counts : (a b c x y z : ℕ) → a ≡ x → b ≡ y → c ≡ z → made a b c ≡ made x y z
 same_counts a b c x y z p q r = ap (λ n. made n b c) p ∙ ap (λ n. made x n c) q ∙ ap (λ n. made x y n) r
 
--- a message of the area adds one to its counts
 one_counted : (own waits short : Bool) (a b c x y z : ℕ) → x ≡ a + one own → y ≡ b + where_waits waits (one own) → z ≡ c + where_scanned waits (one (own && short))
     → made x y z ≡ cond own (counted_more (made a b c) (state_by waits short)) (made a b c)
 one_counted own waits short a b c x y z h1 h2 h3 = grind (arith, same_counts)
@@ -56,14 +48,12 @@ more_counts : (tag : List ℕ) (xs : List Filed) (m : Filed) (cursor : ℕ)
     → area_counts (xs ++ m ∷ []) cursor tag ≡ cond (is_in tag m) (counted_more (area_counts xs cursor tag) (state_of cursor (length xs) m)) (area_counts xs cursor tag)
 more_counts tag xs m cursor = grind (arith, one_counted, counted_last, waiting_last, scanned_last)
 
--- a count grows by at most one
 within_more : (i : ℕ) (c : AreaCounts) (state : State) → AreWithin i c → AreWithin (i + 1) (counted_more c state)
 within_more i c state h1 = grind arith
 
 pub within_next : (i : ℕ) (c : AreaCounts) → AreWithin i c → AreWithin (i + 1) c
 within_next i c within = record { messages = omega (arith, within.messages); waiting = omega (arith, within.waiting); purged = omega (arith, within.purged) }
 
--- a value just inserted, or else the one found before
 unwrapped : (b : Bool) (v : AreaCounts) (o : Option AreaCounts) → unwrap_or (cond b (Some v) o) no_counts ≡ cond b v (unwrap_or o no_counts)
 unwrapped true v o = refl
 unwrapped false v o = refl
@@ -71,11 +61,9 @@ unwrapped false v o = refl
 some_found : (b : Bool) (v : AreaCounts) (o : Option AreaCounts) → is_some (cond b (Some v) o) ≡ (is_some o || b)
 some_found b v o = grind arith
 
--- there is a message at each number below the count
 pub some_there : (base : List Filed) (i : ℕ) → i < length base → None ≡ slice_get base i → ⊥
 some_there base i inside none = grind (arith, slice_get_cases)
 
--- the next message of a base
 pub one_next : (base : List Filed) (i : ℕ) (m : Filed) → slice_get base i ≡ Some m → i < length base → take (i + 1) base ≡ take i base ++ m ∷ []
 one_next base i m got inside =
     let same : (x y : Filed) → Some x ≡ Some y → x ≡ y = λ x y e. cc in
@@ -122,14 +110,12 @@ module _ {K : Type 0} (bytes : K → List ℕ) where
           is ∙ ap (λ c. counted_more c (state_of cursor (length xs) m)) (have.counts m.echo.tag ∙ ap (area_counts xs cursor) (sym same))
       by tag false missed = have.counts tag
 
-  -- an empty map counts no message
   pub none_counted : (es : List (K × AreaCounts)) (base : List Filed) (cursor : ℕ) → es ≡ [] → HaveCounts bytes es (take 0 base) cursor
   none_counted es base cursor none = grind (arith, same_counts, drop_all, take_all)
 
   pub none_within : (es : List (K × AreaCounts)) → es ≡ [] → (tag : List ℕ) → AreWithin 0 (counts_of bytes es tag)
   none_within es none tag = subst (λ es. AreWithin 0 (counts_of bytes es tag)) (sym none) (record { messages = omega arith; waiting = omega arith; purged = omega arith })
 
-  -- a key is found if its tag is among the keys
   among_keys : (es : List (K × AreaCounts)) (tag : List ℕ) → list_any (bytes_eq tag) (map bytes (keys_of es)) ≡ is_some (lookup (is_key tag) es)
   among_keys [] tag = refl
   among_keys (e ∷ es) tag =
@@ -140,13 +126,11 @@ module _ {K : Type 0} (bytes : K → List ℕ) where
   below_all tag [] below = tt
   below_all tag (k ∷ ks) below = (below.0, below_all tag ks below.1)
 
-  -- keys in the order of their tags
   tags_ascend : (ks : List K) → IsStrictlySortedBy key_order ks → IsStrictlySortedBy (slice_cmp nat_cmp) (map bytes ks)
   unfolding IsStrictlySortedBy
   tags_ascend [] ascend = tt
   tags_ascend (k ∷ ks) ascend = (below_all (bytes k) ks ascend.0, tags_ascend ks ascend.1)
 
-  -- a later tag is not found at an earlier key
   found_behind : (e : K × AreaCounts) (es later : List (K × AreaCounts)) → AllByRecursion (λ k. key_order e.0 k ≡ Less) (keys_of later)
       → AllByRecursion (λ x. lookup (is_key (bytes x.0)) es ≡ Some x.1) later → AllByRecursion (λ x. lookup (is_key (bytes x.0)) (e ∷ es) ≡ Some x.1) later
   found_behind e es [] below found = tt
@@ -155,7 +139,6 @@ module _ {K : Type 0} (bytes : K → List ℕ) where
       is_eq-slice_cmp (bytes x.0) (bytes e.0) ∙ bytes_turned (bytes x.0) (bytes e.0) ∙ sym (is_eq-slice_cmp (bytes e.0) (bytes x.0)) ∙ ap is_eq below.0 in
       (ap (λ b. cond b (Some e.1) (lookup (is_key (bytes x.0)) es)) not ∙ found.0, found_behind e es later below.1 found.1)
 
-  -- each entry is found by its key
   own_found : (es : List (K × AreaCounts)) → IsStrictlySortedBy key_order (keys_of es) → AllByRecursion (λ x. lookup (is_key (bytes x.0)) es ≡ Some x.1) es
   unfolding IsStrictlySortedBy
   own_found [] ascend = tt

@@ -3,10 +3,8 @@ use Rattle.std.proofs.Common.{◌≡◌, ℕ, ◌+◌, ◌<◌, ◌≤◌, ◌�
 use Rattle.std.proofs.lemmas.{Grind.flat_map-append, List.get_or_default, List.FromFn.map-range_with_len_more}
 use Rattle.std.specs.{List.range_with_len, Io.KnownBytes.Appends}
 use Rattle.echo_addr.specs.declared.address.Address.{Address}
-use Rattle.echo_nodelist.specs.{declared.fault.NodeFault.NodeFault, declared.line.Line.Line, declared.stated.CrcLine.CrcLine, Back.address_at, CrcLine.crc_line_of}
-use Rattle.echo_nodelist.specs.Nodelist.{NodelistAnswered, NodelistOf}
-use Rattle.cmd_status.specs.{declared.fault.Fault.TheVariants.Nodelist, declared.status.Status.Status, declared.fault.Fault.Fault, Devices.Output}
-use Rattle.cmd_status.specs.{Ended.CannotPrint, Ended.PassesAll, Ended.IsOutOfMemory, Ended.Stops, Lines.PassesOn, Lines.WritesFront}
+use Rattle.echo_nodelist.specs.{declared.fault.NodeFault.NodeFault, declared.line.Line.Line, declared.stated.CrcLine.CrcLine, Back.address_at, CrcLine.crc_line_of, Nodelist.NodelistAnswered, Nodelist.NodelistOf}
+use Rattle.cmd_status.specs.{declared.fault.Fault.TheVariants.Nodelist, declared.status.Status.Status, declared.fault.Fault.Fault, Devices.Output, Ended.CannotPrint, Ended.PassesAll, Ended.IsOutOfMemory, Ended.Stops, Lines.PassesOn, Lines.WritesFront}
 use Rattle.cmd_status.proofs.Lines.{begun_after, begun_more, front_more, passed_more, sent_after}
 use Rattle.cmd_show.specs.{Nodelists.IsListed, Nodelists.NodelistAnswers, Nodelists.crc_status, Written.AddsLines, Written.BeginsMore}
 use Rattle.cmd_print.specs.Listed.{Listed, RestListed, addressed_text, crc_text, listed_entries, line_at, total_line}
@@ -21,7 +19,6 @@ range_more n =
     sym (same_map (range_with_len 0 (n + 1))) ∙ map-range_with_len_more (λ x. x) 0 n n (omega arith)
     ∙ ap (λ t. t ++ n ∷ []) (same_map (range_with_len 0 n))
 
--- one line more
 entries_more : (lines : List Line) (n : ℕ) → listed_entries lines (n + 1) ≡ listed_entries lines n ++ addressed_text (address_at lines n) (line_at lines n)
 entries_more lines n = grind (arith, range_more, flat_map-append, append-nil)
 
@@ -42,13 +39,11 @@ pub list_stops : {T : Type 0} (r : Result T Fault) (lines : List Line) (stated :
 list_stops (Ok x) lines stated kept mid old new is stops begun = tt
 list_stops (Err fault) lines stated kept mid old new is stops begun = inr (stops, listed_begun None lines stated kept mid old.contents new.contents is begun)
 
--- the input is no nodelist
 pub read_refused : (find : Option Address) (input : List ℕ) (old : Output) (f : NodeFault) → NodelistAnswered input (Err f)
     → NodelistAnswers find input old old (Err (Nodelist f))
 read_refused find input old f (inl wrong) = inr (inr (record { why = f; is = refl; of_lines = wrong }), refl)
 read_refused find input old f (inr memory) = inr (inl (subst (λ x. IsOutOfMemory (Nodelist x)) (sym memory) tt), refl)
 
--- the lines of a nodelist
 right_list : (find : Option Address) (input text : List ℕ) (lines : List Line) (stated : CrcLine) → NodelistOf input lines → stated ≡ crc_line_of input
     → Listed find lines stated text → IsListed find input text (crc_status (crc_line_of input))
 right_list find input text lines stated is agreed listed = grind arith
@@ -89,7 +84,6 @@ pub list_stopped : (find : Option Address) (input none : List ℕ) (lines : List
     → NodelistAnswers find input old new (Err fault)
 list_stopped find input none lines stated old new fault h1 h2 h3 h4 = grind (arith, right_list)
 
--- the same for the loop over the lines
 entry_more : (lines items : List Line) (i : ℕ) (a : Option Address) (line : Line) → items ≡ lines → i < length items → a ≡ address_at lines i → line ≡ get_or items i line
     → listed_entries lines (i + 1) ≡ listed_entries lines i ++ addressed_text a line
 entry_more lines items i a line same within here is = grind (arith, get_or, get_or_default, entries_more)
@@ -101,7 +95,6 @@ printed_more a b c kept mid left lines items i x line same within here is before
     subst (λ t. PassesOn t left a c) (ap (λ t. kept ++ t) (sym (entry_more lines items i x line same within here is)))
     (passed_more a b c kept (listed_entries lines i) mid (addressed_text x line) left before more)
 
--- a beginning of the entries begins all lines
 pub rest_begun : (a b : Option (List ℕ)) (kept : List ℕ) (lines : List Line) → WritesFront (kept ++ listed_entries lines (length lines)) a b
     → BeginsMore (RestListed None lines) kept a b
 rest_begun a b kept lines begun = grind (arith, append_assoc, front_more)
@@ -116,7 +109,6 @@ entry_begun a b c kept mid lines items i x line same within here is before more 
     (subst (λ t. WritesFront t a c) (ap (λ t. kept ++ t) (sym (entry_more lines items i x line same within here is)))
     (begun_more a b c kept (listed_entries lines i) mid (addressed_text x line) before more)))
 
--- the line with the number of entries follows them
 pub total_added : (a b : Option (List ℕ)) (kept mid left : List ℕ) (lines : List Line) → PassesOn (kept ++ listed_entries lines (length lines)) mid a b
     → left ≡ mid ++ total_line lines → AddsLines (RestListed None lines) kept left a b
 total_added a b kept mid left lines before pushed = grind (arith, passed_more, added)

@@ -8,8 +8,7 @@ use Rattle.echo_links.specs.Links.{upper}
 use Rattle.echo_filed.specs.Filed.{Filed}
 use Rattle.cmd_status.specs.{declared.fault.Fault.Fault, Devices.Output, Ended.CannotPrint, Ended.IsBegun, Ended.IsDone, Ended.PassesAll, Lines.PassesOn, Lines.WritesFront}
 use Rattle.cmd_status.proofs.Lines.{begun_after, begun_more, none_added, passed_more, sent_after}
-use Rattle.cmd_show.specs.Exporting.{IsExported, sought_count, sought_lost, sought_text, sought_texts}
-use Rattle.cmd_show.specs.Fetching.{PrintsReading}
+use Rattle.cmd_show.specs.{Exporting.IsExported, Exporting.sought_count, Exporting.sought_lost, Exporting.sought_text, Exporting.sought_texts, Fetching.PrintsReading}
 use Rattle.cmd_show.proofs.Pushed.{begun_within}
 
 -- the text of a message, if the text of `n + 1` messages is that of `n` and that of the next one
@@ -26,7 +25,6 @@ module _ (texts one : ℕ → List ℕ) (more : (n : ℕ) → texts (n + 1) ≡ 
       (begun_more a b c kept (texts i) mid text before later))
 
 module _ (form : Form) (area : Option (List ℕ)) (first : ℕ) (purged : Bool) (cursor : ℕ) (base : List Filed) where
-  -- one message more
   pub texts_more : (n : ℕ) → sought_texts form area first purged cursor base (n + 1) ≡ sought_texts form area first purged cursor base n ++ sought_text form area first purged cursor n (slice_get base n)
   texts_more n = rw add-one refl
 
@@ -35,14 +33,12 @@ module _ (form : Form) (area : Option (List ℕ)) (first : ℕ) (purged : Bool) 
   lost_more n old here message is counted before = grind (arith, add-one)
 
 module _ (form : Form) (area : Option (List ℕ)) (first : ℕ) (purged : Bool) where
-  -- a message before the first requested one prints no line and counts no U+FFFD
   not_sought : (cursor i : ℕ) (message : Option Filed) → i < first → sought_text form area first purged cursor i message ≡ []
   not_sought cursor i message h1 = grind (arith, lt-leb)
 
   not_counted : (cursor i : ℕ) (message : Option Filed) → i < first → sought_count form area first purged cursor i message ≡ 0
   not_counted cursor i message h1 = grind (arith, lt-leb)
 
-  -- nor do all of them
   none_sought : (cursor : ℕ) (base : List Filed) (n : ℕ) → n ≤ first → sought_texts form area first purged cursor base n ≡ []
   none_sought cursor base zero before = refl
   none_sought cursor base (suc n) before =
@@ -56,7 +52,6 @@ module _ (form : Form) (area : Option (List ℕ)) (first : ℕ) (purged : Bool) 
       let here : sought_count form area first purged cursor n (slice_get base n) ≡ 0 = not_counted cursor n (slice_get base n) (omega (arith, before)) in
       λ k. rest k + here k
 
-  -- nothing is printed before the first requested message
   pub printed_none : (a : Option (List ℕ)) (kept : List ℕ) (cursor : ℕ) (base : List Filed) (n : ℕ) → n ≤ first → PassesOn (kept ++ sought_texts form area first purged cursor base n) kept a a
   printed_none a kept cursor base n before = subst (λ (l : List ℕ). PassesOn (kept ++ l) kept a a) (sym (none_sought cursor base n before)) (none_added a kept)
 
@@ -100,18 +95,15 @@ module _ (form : Form) (area : Option (List ℕ)) (first : ℕ) (purged : Bool) 
   all : List ℕ
   all = sought_texts form (option_map upper area) first purged base.cursor base.messages (length base.messages)
 
-  -- the lines of a base, and the number of U+FFFD in them
   right_export : IsExported form area first purged base all (sought_lost form (option_map upper area) first purged base.cursor base.messages (length base.messages))
   unfolding all
   right_export = record { printed = refl; counted = refl }
 
   module _ (asked : Option (List ℕ)) (none : List ℕ) (same : asked ≡ option_map upper area) (nothing : none ≡ []) where
-    -- the requested messages, after no other line
     whole : none ++ sought_texts form asked first purged base.cursor base.messages (length base.messages) ≡ all
     unfolding all
     whole = ap (λ l. l ++ sought_texts form asked first purged base.cursor base.messages (length base.messages)) nothing ∙ ap (λ u. sought_texts form u first purged base.cursor base.messages (length base.messages)) same
 
-    -- some of them were printed
     pub export_begun : (old new : Output) → WritesFront (none ++ sought_texts form asked first purged base.cursor base.messages (length base.messages)) old.contents new.contents
         → IsBegun (IsExported form area first purged base) old new
     export_begun old new begun = grind (arith, all, option_map, right_export, whole)

@@ -5,7 +5,6 @@ use Rattle.base_folder.proofs.Fetchings.{never_read, read_since}
 use Rattle.cmd_status.specs.{declared.fault.Fault.Fault, Devices.Output, Ended.Answers, Ended.AnswersInPieces}
 use Rattle.cmd_show.specs.Fetching.{PrintsReading, StopsReading}
 
--- a failed read stops the command, if standard output did not fail
 pub stops_reading : (path : List ℕ) (first before now printed after : ℕ) (fault : Fault) → first ≤ before → after ≡ printed → IsUnread path before now fault → StopsReading path first now printed after fault
 stops_reading path first before now printed after fault less same (inl memory) = inl (inr (memory, same))
 stops_reading path first before now printed after fault less same (inr read) = inr (read_since path first before now fault less read, same)

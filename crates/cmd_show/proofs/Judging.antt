@@ -8,9 +8,8 @@ use Rattle.echo_links.specs.LinkLines.{after_first_of, area_fault, first_of, has
 use Rattle.echo_links.specs.{declared.fault.LinkFault.LinkFault, Links.same_address, Links.upper, LinkReading.name_refusal, LinkReading.system_refusal}
 use Rattle.echo_links.specs.declared.fault.LinkFault.TheVariants as fault
 use Rattle.echo_links.proofs.{LinkBytes.name_trimmed, LinkBytes.no_feed, LinkBytes.skipped_word, LinkBytes.tokens_words, LinkFiles.other_word, LinkTaking.IsCut}
-use Rattle.cmd_show.specs.FaultyLines.{link_again, no_address, not_one_address, unknown_word, word_with_control, wrong_word}
+use Rattle.cmd_show.specs.{FaultyLines.link_again, FaultyLines.no_address, FaultyLines.not_one_address, FaultyLines.unknown_word, FaultyLines.word_with_control, FaultyLines.wrong_word, declared.words.FaultyWord.FaultyWord}
 use Rattle.cmd_show.specs.Before.{HasTagAdded, IsBefore, JudgesLine, SaidBefore, Tells, area_refused, area_says, links_say, name_says, system_says}
-use Rattle.cmd_show.specs.declared.words.FaultyWord.{FaultyWord}
 
 -- ---- the parts after one more good line
 
@@ -28,7 +27,6 @@ module _ (earlier : List (List ℕ)) (line : List ℕ) (old new : SaidBefore) (b
           ≡ cond (is_area_line line) (bytes_eq t (tag_in line) || list_any (bytes_eq t) old.tags) (list_any (bytes_eq t) old.tags)
       all t = grind (arith, cases_Bool, cond-true, cond-false)
 
-  -- a line adds just its own part
   keeps_system : is_system_line line ≡ false → new.system ≡ old.system → (is_system_line line || old.system) ≡ new.system
   keeps_system isnt same = ap (λ t. t || old.system) isnt ∙ sym same
 
@@ -51,15 +49,12 @@ module _ (earlier : List (List ℕ)) (number : ℕ) (line : List ℕ) (b : SaidB
       → (line_fault earlier number line ≡ Some (fault.UnknownWord number)) × (word ≡ wrong_word (fault.UnknownWord number) line) × IsBefore earlier b
   unknown_judged word refused is = (refused, is, before)
 
--- the word of a line with a control byte
 pub control_word : (line : List ℕ) → list_any is_control_byte line ≡ true → unknown_word line ≡ word_with_control (tokens line)
 control_word line control = cond-true (list_any is_control_byte line) (word_with_control (tokens line)) _ control
 
--- the first word of a line without a control byte
 pub first_is : (line : List ℕ) → list_any is_control_byte line ≡ false → unknown_word line ≡ first_of (tokens line)
 first_is line plain = cond-false (list_any is_control_byte line) _ _ plain ∙ ap first_of (tokens_words line (no_feed line plain))
 
--- a fault of links is one of these two
 of_links : (number : ℕ) (P : LinkFault → Type 0) → P (fault.BadAddress number) → P (fault.RepeatedLink number)
     → (before words : List (List ℕ)) (f : LinkFault) → links_fault number before words ≡ Some f → P f
 of_links number P bad again before [] f h = absurd (cc)
@@ -212,7 +207,6 @@ module _ (earlier : List (List ℕ)) (number : ℕ) (line word rest : List ℕ) 
         ∙ sym (cond-true (is_area_line line) (bytes_eq t (tag_in line) || list_any (bytes_eq t) old.tags) (list_any (bytes_eq t) old.tags) (kind_is (codes "AREA") true is))))
         stays reported
 
-    -- the same for an answer, if memory sufficed
     pub area_judged_so : {E : Type 0} (r : Result (Option FaultyWord) E)
         → IfOk r (Tells (area_refused old.tags number (tokens rest)) (area_says (tokens rest))
         ((new.system ≡ old.system) × (new.name ≡ old.name) × HasTagAdded old.tags (upper (first_of (tokens rest))) new.tags) (new ≡ old))

@@ -6,7 +6,6 @@ use Rattle.echo_addr.specs.declared.address.Address.{Address}
 use Rattle.echo_links.specs.Links.{Area, LinkFile, area_of, links_of}
 use Rattle.cmd_show.specs.LinksShown.{area_links}
 
--- the sum over one more item
 sum_last : {X : Type 0} (f : X → ℕ) (xs : List X) (x : X) → sum (map f (xs ++ x ∷ [])) ≡ sum (map f xs) + f x
 sum_last f xs x = grind (arith, sum-map, sum_by-append)
 

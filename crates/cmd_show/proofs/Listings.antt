@@ -5,11 +5,9 @@ use Rattle.std.specs.{Prelude.slice_get, Prelude.if◌then◌else◌, Prelude.�
 use Rattle.base_file.specs.Base.{Base}
 use Rattle.echo_links.specs.Links.{upper}
 use Rattle.echo_filed.specs.Filed.{Filed}
-use Rattle.cmd_status.specs.{declared.fault.Fault.Fault, declared.status.Status.TheVariants.Good, Devices.Output, Ended.CannotPrint, Ended.IsBegun, Ended.IsDone, Ended.PassesAll}
-use Rattle.cmd_status.specs.Lines.{PassesOn, WritesFront}
+use Rattle.cmd_status.specs.{declared.fault.Fault.Fault, declared.status.Status.TheVariants.Good, Devices.Output, Ended.CannotPrint, Ended.IsBegun, Ended.IsDone, Ended.PassesAll, Lines.PassesOn, Lines.WritesFront}
 use Rattle.cmd_status.proofs.Lines.{begun_after, begun_more, front_more, none_added, passed_more, sent_after}
-use Rattle.cmd_print.specs.BaseListed.{asked_text, base_text, is_of_area, listed_text, messages_text, total_text}
-use Rattle.cmd_print.specs.declared.list_form.ListForm.{ListForm}
+use Rattle.cmd_print.specs.{BaseListed.asked_text, BaseListed.base_text, BaseListed.is_of_area, BaseListed.listed_text, BaseListed.messages_text, BaseListed.total_text, declared.list_form.ListForm.ListForm}
 use Rattle.cmd_show.specs.{Fetching.PrintsReading, Listing.IsListed}
 use Rattle.cmd_show.proofs.{Entries.range_more, Pushed.added, Pushed.begun_within}
 
@@ -18,7 +16,6 @@ pub messages_more : (form : ListForm) (area : Option (List ℕ)) (first : ℕ) (
     → messages_text form area first base cursor (n + 1) ≡ messages_text form area first base cursor n ++ asked_text form area first cursor n (slice_get base n)
 messages_more form area first base cursor n = grind (arith, range_more, flat_map-append, append-nil)
 
--- the same for a fetched message, after the lines held back
 message_more : (form : ListForm) (area : Option (List ℕ)) (first : ℕ) (base : List Filed) (cursor i : ℕ) (message : Option Filed) (kept : List ℕ) → message ≡ slice_get base i
     → kept ++ (messages_text form area first base cursor i ++ asked_text form area first cursor i message) ≡ kept ++ messages_text form area first base cursor (i + 1)
 message_more form area first base cursor i message kept is =
@@ -42,12 +39,10 @@ message_begun a b c kept mid form area first base cursor i n message is within b
     (subst (λ t. WritesFront t a c) (message_more form area first base cursor i message kept is)
     (begun_more a b c kept (messages_text form area first base cursor i) mid (asked_text form area first cursor i message) before more))
 
--- a message before the first requested one prints no line
 not_asked : (form : ListForm) (area : Option (List ℕ)) (first cursor i : ℕ) (message : Option Filed) → i < first → asked_text form area first cursor i message ≡ []
 not_asked form area first cursor i None before = refl
 not_asked form area first cursor i (Some m) before = ap (λ b. if b && is_of_area area m.echo.tag then listed_text form cursor i m else []) (lt-leb first i before)
 
--- nor do all of them
 none_asked : (form : ListForm) (area : Option (List ℕ)) (first : ℕ) (base : List Filed) (cursor n : ℕ) → n ≤ first → messages_text form area first base cursor n ≡ []
 none_asked form area first base cursor zero before = refl
 none_asked form area first base cursor (suc n) before =
@@ -65,7 +60,6 @@ pub begun_before : (a b : Option (List ℕ)) (kept mid : List ℕ) (form : ListF
 begun_before a b kept mid form area first base cursor i n within before =
     begun_within (messages_text form area first base cursor) (λ k. (asked_text form area first cursor k (slice_get base k), messages_more form area first base cursor k)) a b kept i n within (record { rest = mid; passed = before })
 
--- the lines of a base
 right_listing : (form : ListForm) (area : Option (List ℕ)) (first : ℕ) (base : Base) → IsListed form area first base (base_text form (option_map upper area) first base.messages base.cursor) Good
 right_listing form area first base = record { printed = refl; status_is = refl }
 
@@ -95,7 +89,6 @@ module _ (form : ListForm) (area asked : Option (List ℕ)) (first : ℕ) (base 
   passed : PassesOn (base_text form (option_map upper area) first base.messages base.cursor) lines old.contents mid.contents
   passed = base_passed form area asked first base.messages base.cursor all all scanned none kept lines old.contents mid.contents same nothing printed counted counted at pushed
 
-  -- all lines of a base were written
   pub base_listed : Appends mid.contents new.contents lines → PassesAll mid new → IsDone (IsListed form area first base) old new Good
   base_listed went flushed = record {
     lines = base_text form (option_map upper area) first base.messages base.cursor;

@@ -5,13 +5,10 @@ use Rattle.echo_packet.specs.{declared.header.Header.Header, Message.Message, Me
 use Rattle.echo_packet.proofs.Outcome.{only_one, outcome}
 use Rattle.echo_text.specs.{declared.fault.TextFault.TextFault, Refusal.text_refusal}
 use Rattle.echo_text.proofs.OneReading.{one_count, one_echo}
-use Rattle.cmd_status.specs.{Devices.Output, declared.fault.Fault.Fault, declared.fault.Fault.TheVariants.BadHex, declared.fault.Fault.TheVariants.Packet, declared.status.Status.Status}
-use Rattle.cmd_status.specs.{declared.status.Status.TheVariants.Good, Ended.IsOfInput, Ended.Stops, Limits.show_limits}
+use Rattle.cmd_status.specs.{Devices.Output, declared.fault.Fault.Fault, declared.fault.Fault.TheVariants.BadHex, declared.fault.Fault.TheVariants.Packet, declared.status.Status.Status, declared.status.Status.TheVariants.Good, Ended.IsOfInput, Ended.Stops, Limits.show_limits}
 use Rattle.hex.specs.{Hex.decode_of, declared.error.FromHexError.FromHexError}
-use Rattle.cmd_print.specs.Shown.{MessageShown, MessagesShown, Shown, message_lines, whole_text}
-use Rattle.cmd_print.specs.Said.{LinesFor}
-use Rattle.cmd_show.specs.Showing.{AllShown, IsCutShort, IsShown, PacketStops, ShowAnswers, IsInputOf, hex_text}
-use Rattle.cmd_show.specs.Written.{WritesLines}
+use Rattle.cmd_print.specs.{Shown.MessageShown, Shown.MessagesShown, Shown.Shown, Shown.message_lines, Shown.whole_text, Said.LinesFor}
+use Rattle.cmd_show.specs.{Showing.AllShown, Showing.IsCutShort, Showing.IsShown, Showing.PacketStops, Showing.ShowAnswers, Showing.IsInputOf, Showing.hex_text, Written.WritesLines}
 
 one_said : (r : Option TextFault) (text a b : List ℕ) → LinesFor r text a → LinesFor r text b → a ≡ b
 one_said r text a b h1 h2 = grind (arith, one_echo, one_count)
@@ -31,12 +28,10 @@ all_messages full number place (m ∷ ms) a b h k =
 pub one_shown : (full : Bool) (h : Header) (ms : List Message) (n : ℕ) (a b : List ℕ) → Shown full h ms n a → Shown full h ms n b → a ≡ b
 one_shown full h ms n a b p q = grind (arith, all_messages)
 
--- an input encodes one list of bytes
 one_standing : (hex : Bool) (input a b : List ℕ) → IsInputOf hex input a → IsInputOf hex input b → a ≡ b
 one_standing false input a b h k = h ∙ sym k
 one_standing true input a b h k = let same : Ok a ≡ Ok b = sym h ∙ k in cc
 
--- bytes have one packet
 one_found : (bytes : List ℕ) (a b : Found) → Describes show_limits bytes (Ok a) → Describes show_limits bytes (Ok b) → a ≡ b
 one_found bytes a b h k =
     let left : Answer = Ok a in
@@ -44,7 +39,6 @@ one_found bytes a b h k =
     let same : left ≡ right = only_one show_limits bytes left h ∙ sym (only_one show_limits bytes right k) in
     cc
 
--- lines appended to known bytes
 appended : (old lines : List ℕ) (new : Option (List ℕ)) → Appends (Some old) new lines → new ≡ Some (old ++ lines)
 appended old lines None h = absurd h
 appended old lines (Some bytes) h = ap Some h
@@ -92,7 +86,6 @@ refused_digits (Err e) refused = refl
 undecoded : (hex : Bool) (input : List ℕ) → hex ≡ true → IsErr (decode_of (hex_text input)) → answer_to hex input ≡ Err BadHex
 undecoded hex input asked refused = ap (λ h. answer_to h input) asked ∙ refused_digits (decode_of (hex_text input)) refused
 
--- a fault that the input causes is that of its bytes
 stopped : (full : Bool) (bytes : List ℕ) (old new : Output) (fault : Fault) → PacketStops full bytes old new fault → (Stops old.failures new.failures fault → ⊥)
     → Err fault ≡ answer_of (outcome show_limits bytes)
 stopped full bytes old new fault (inl failed) own = absurd (own (inl failed.0))
@@ -104,7 +97,6 @@ stopped full bytes old new fault (inr (short, flushed)) own = by short.are
         let wrong : Answer = Err broken.why in
         ap Err broken.is ∙ ap answer_of (only_one show_limits bytes wrong (broken.messages, broken.of_bytes))
 
--- an answer that the input causes is the one to it
 answered : (full : Bool) (hex : Bool) (input : List ℕ) (old new : Output) (r : Result Status Fault) → ShowAnswers full hex input old new r
     → IsOfInput old.failures new.failures r → r ≡ answer_to hex input
 answered full hex input old new (Ok status) right own =

@@ -3,13 +3,10 @@ use Rattle.std.proofs.Common.{◌≡◌, ℕ, ◌+◌, ◌^◌, ◌<◌, ◌⊎�
 use Rattle.std.proofs.lemmas.List.{length-append}
 use Rattle.std.specs.Prelude.{IfErr}
 use Rattle.disk_io.proofs.Devices.{Failed-never}
-use Rattle.echo_packet.specs.{declared.header.Header.Header, declared.reader.Stage.Stage, declared.limits.Limits.Limits, Message.Message, Message.message_bytes, Message.messages_bytes}
-use Rattle.echo_packet.specs.{Answer.Describes, declared.fault.PacketFault.PacketFault, Fault.FaultOf, Next.CountsFailures, Next.NextFault, Reader.FrontFault, Reader.IsDropped}
-use Rattle.echo_packet.specs.Run.{IsOfCall, SoFar}
+use Rattle.echo_packet.specs.{declared.header.Header.Header, declared.reader.Stage.Stage, declared.limits.Limits.Limits, Message.Message, Message.message_bytes, Message.messages_bytes, Answer.Describes, declared.fault.PacketFault.PacketFault, Fault.FaultOf, Next.CountsFailures, Next.NextFault, Reader.FrontFault, Reader.IsDropped, Run.IsOfCall, Run.SoFar}
 use Rattle.echo_packet.specs.declared.fault.PacketFault.TheVariants as fault
 use Rattle.echo_packet.proofs.{MessageByMessage.run-fails, Headers.length-header_bytes, Slices.HasGiven}
-use Rattle.cmd_status.specs.{declared.fault.Fault.TheVariants.Packet, declared.fault.Fault.Fault, Devices.Output, Ended.CannotPrint, Ended.IsOutOfMemory, Limits.show_limits}
-use Rattle.cmd_status.specs.Lines.{PassesOn, WritesFront}
+use Rattle.cmd_status.specs.{declared.fault.Fault.TheVariants.Packet, declared.fault.Fault.Fault, Devices.Output, Ended.CannotPrint, Ended.IsOutOfMemory, Limits.show_limits, Lines.PassesOn, Lines.WritesFront}
 use Rattle.cmd_status.proofs.Lines.{none_added, none_passed, passed_more}
 use Rattle.cmd_show.specs.{Showing.AllShown, Showing.FrontShown, Showing.MessagePasses, Showing.PacketPasses, Written.AddsLines}
 use Rattle.cmd_print.specs.Shown.{MessageShown, MessagesShown, header_lines, end_line}
@@ -24,7 +21,6 @@ pub record HasPrinted (full : Bool) (bytes rest : List ℕ) (header : Header) (o
   pub each : MessagesShown full 1 58 messages lines
   pub printed : PassesOn (kept ++ (header_lines header ++ lines)) behind old new
 
--- the fault of bytes that do not begin with a header
 front_fault : (bytes : List ℕ) (f : PacketFault) → FrontFault bytes f → (((at : ℕ) → f ≡ fault.Read at → ⊥)) → FaultOf bytes show_limits [] f
 front_fault bytes f h1 h2 = grind arith
 
@@ -33,7 +29,6 @@ pub header_printed : (full : Bool) (bytes rest : List ℕ) (h : Header) (own : L
     → HasGiven show_limits bytes [] rest h own given at next → place ≡ at → behind ≡ kept ++ header_lines h → HasPrinted full bytes rest h own given at next kept behind old old 0 place
 header_printed full bytes rest h own given at next kept behind old place so here added = grind (arith, append-nil, none_passed)
 
--- the lines of a message with equal number and place
 moved : (full : Bool) (k l p q : ℕ) (m : Message) (own : List ℕ) → k ≡ l → p ≡ q → MessageShown full k p m own → MessageShown full l q m own
 moved full k l p q m own number place h = subst (λ n. MessageShown full n q m own) number (subst (λ n. MessageShown full k n m own) place h)
 
@@ -48,7 +43,6 @@ one_more full k p (x ∷ ms) m lines own some h =
     let later = one_more full (k + 1) (p + length (message_bytes x)) ms m some.1 own some.3 (moved full _ _ _ _ m own number place h) in
     (some.0, some.1 ++ own, some.2, later, ap (λ t. t ++ own) some.4 ∙ append_assoc some.0 some.1 own)
 
--- an offset in a slice is exact
 exact_place : (limits : Limits) (bytes : List ℕ) (h : Header) (ms : List Message) (rest : List ℕ) (given at : ℕ) → SoFar limits bytes h ms rest given at → length bytes < 2 ^ 64
     → at ≡ 58 + length (messages_bytes ms)
 exact_place limits bytes h ms rest given at so small = grind (arith, length-append, length-header_bytes)
@@ -112,7 +106,6 @@ pub no_memory : (full : Bool) (bytes rest : List ℕ) (h : Header) (own : Limits
     → PacketPasses full bytes kept left old new (Err fault)
 no_memory full bytes rest h own given at next kept behind left old new count place fault before same none unfailed = grind (arith, front_shown)
 
--- memory ran out for the lines of the header
 pub no_header : (full : Bool) (bytes kept left : List ℕ) (old : Output) (fault : Fault) → left ≡ kept → IsOutOfMemory fault → PacketPasses full bytes kept left old old (Err fault)
 no_header full bytes kept left old fault same none = grind (arith, none_added)
 
@@ -158,12 +151,10 @@ pub front_refused : (full : Bool) (bytes kept : List ℕ) (f : PacketFault) (old
     → PacketPasses full bytes kept kept old old (Err (Packet f))
 front_refused full bytes kept f old wrong alive = grind (arith, front_fault, none_added)
 
--- a slice never fails
 pub never_read : (R : Type 0) (remaining : R → Option (List ℕ)) (source : R) (f : PacketFault) → IsDropped remaining (λ (_ : R). 0) source f → (at : ℕ)
     → f ≡ fault.Read at → ⊥
 never_read R remaining source f dropped at is = grind (arith, Failed-never)
 
--- the fault of a call on a slice
 call_judged : (f : PacketFault) (P : Type 0) → P ⊎ IsOfCall f → CountsFailures {A = Option Message} (Err f) 0 0 → P ⊎ (f ≡ fault.Memory)
 call_judged f P h1 h2 = grind (arith, Failed-never)
 
@@ -188,6 +179,5 @@ message_refused full bytes rest h own given at next kept behind old new count pl
           no_memory full bytes rest h own given at next kept behind behind old new count place (Packet f) done refl none same
     ]
 
--- a message takes bytes
 pub shorter : (rest after : List ℕ) (m : Message) → rest ≡ message_bytes m ++ after → length after < length rest
 shorter rest after m e = let size = ap length e ∙ length-append (message_bytes m) after in omega arith

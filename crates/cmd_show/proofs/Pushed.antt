@@ -5,11 +5,9 @@ use Rattle.cmd_status.specs.Lines.{PassesOn, WritesFront}
 use Rattle.cmd_status.proofs.Lines.{alone, front_more, none_passed}
 use Rattle.cmd_show.specs.Written.{AddsLines}
 
--- lines that were made separately were added
 pub added_behind : (none line more behind all : List ℕ) → none ≡ [] → more ≡ none ++ line → all ≡ behind ++ more → all ≡ behind ++ line
 added_behind none line more behind all nothing made is = is ∙ ap (λ t. behind ++ t) (alone none more line nothing made)
 
--- lines were added, and no line was written
 pub added : (a : Option (List ℕ)) (old new lines : List ℕ) → new ≡ old ++ lines → PassesOn (old ++ lines) new a a
 added a old new lines is = subst (λ t. PassesOn t new a a) is (none_passed a new)
 
@@ -17,7 +15,6 @@ pub pushed_adds : (P : List ℕ → Type 0) (a : Option (List ℕ)) (old new : L
 pushed_adds P a old new pushed = record { lines = pushed.lines; are = pushed.are; passed = added a old new pushed.lines pushed.whole }
 
 module _ (text : ℕ → List ℕ) (step : (n : ℕ) → (later : List ℕ) × (text (n + 1) ≡ text n ++ later)) where
-  -- a longer text begins with a shorter one
   more_text : (i d : ℕ) → (later : List ℕ) × (text (i + d) ≡ text i ++ later)
   more_text i zero = ([], ap text (let same : i + 0 ≡ i = omega arith in same) ∙ sym (append-nil (text i)))
   more_text i (suc d) =
@@ -28,7 +25,6 @@ module _ (text : ℕ → List ℕ) (step : (n : ℕ) → (later : List ℕ) × (
         ap text next ∙ one.1 ∙ ap (λ t. t ++ one.0) before.1 ∙ append_assoc (text i) before.0 one.0,
       )
 
-  -- a beginning of fewer lines is one of more lines
   pub begun_within : (a b : Option (List ℕ)) (kept : List ℕ) (i n : ℕ) → i ≤ n → WritesFront (kept ++ text i) a b → WritesFront (kept ++ text n) a b
   begun_within a b kept i n within begun =
       let more = more_text i (n - i) in

@@ -2,13 +2,10 @@
 use Rattle.std.proofs.Common.{◌≡◌, ℕ, ◌+◌, Bool, true, false, cond, List, [], ◌∷◌, ◌++◌, refl, sym, ap, ◌∙◌, Option, Some, None, Result, Err, ◌⊎◌, append_assoc, append-nil, arith}
 use Rattle.std.proofs.lemmas.Bool.{cases_Bool, true≢false}
 use Rattle.std.specs.{Prelude.option_map, Prelude.slice_get, Option.option_or, List.list_any}
-use Rattle.echo_links.specs.LinkLines.{LinksOf, file_fault, file_lines, first_fault, is_system_line, line_fault, read_lines}
-use Rattle.echo_links.specs.{declared.fault.LinkFault.LinkFault, Links.LinkFile}
+use Rattle.echo_links.specs.{LinkLines.LinksOf, LinkLines.file_fault, LinkLines.file_lines, LinkLines.first_fault, LinkLines.is_system_line, LinkLines.line_fault, LinkLines.read_lines, declared.fault.LinkFault.LinkFault, Links.LinkFile}
 use Rattle.echo_links.specs.declared.fault.LinkFault.TheVariants as fault
 use Rattle.echo_links.proofs.LinkBytes.{no_lines_left}
-use Rattle.cmd_show.specs.FaultyLines.{faults_of, faulty_among, faulty_lines, good_with, reported_lines, reported_with}
-use Rattle.cmd_show.specs.{declared.faulty.FaultyLine.FaultyLine, declared.words.FaultyWord.FaultyWord, declared.judged.Judged.TheVariants.Faulty, Judging.IsJudged, Judging.is_memory}
-use Rattle.cmd_show.specs.Before.{IsBefore, JudgesLine, SaidBefore, line_reported}
+use Rattle.cmd_show.specs.{FaultyLines.faults_of, FaultyLines.faulty_among, FaultyLines.faulty_lines, FaultyLines.good_with, FaultyLines.reported_lines, FaultyLines.reported_with, declared.faulty.FaultyLine.FaultyLine, declared.words.FaultyWord.FaultyWord, declared.judged.Judged.TheVariants.Faulty, Judging.IsJudged, Judging.is_memory, Before.IsBefore, Before.JudgesLine, Before.SaidBefore, Before.line_reported}
 
 -- ---- line by line
 
@@ -54,7 +51,6 @@ first_of_lines earlier number (line ∷ later) why h = by (first_of_lines (line 
         ap (λ f. option_map (λ (l : FaultyLine). l.fault) (slice_get (reported_with f line (faulty_among (good_with f line earlier) (number + 1) later)) 0)) is
         ∙ sym (ap (λ f. option_or f (first_fault (line ∷ earlier) (number + 1) later)) is) ∙ h
 
--- a fault of a file, except a missing system, is that of a line
 of_lines : (first : Option LinkFault) (has : Bool) (why : LinkFault) → ((n : ℕ) → why ≡ fault.NoSystem n → ⊥)
     → option_or first (cond has None (Some (fault.NoSystem 0))) ≡ Some why → first ≡ Some why
 of_lines first has why h1 h2 = grind arith
@@ -73,7 +69,6 @@ module _ (bytes : List ℕ) where
   unfolding faults_of
   first_reported = by_fault (file_fault bytes) refl
 
-  -- the reported lines of a file with this fault are all its faults
   pub reported_with_fault : (why : LinkFault) (reported : List FaultyLine) → file_fault bytes ≡ Some why → reported ≡ reported_lines bytes (Some why) → reported ≡ faults_of bytes
   unfolding faults_of
   reported_with_fault why reported is so = so ∙ ap (reported_lines bytes) (sym is)

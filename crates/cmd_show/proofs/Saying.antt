@@ -5,11 +5,9 @@ use Rattle.echo_text.specs.{Echo.EchoOf, Echo.EchoText, Echo.HasNoZero, Lines.li
 use Rattle.echo_text.proofs.SaidAfter.{not_refused}
 use Rattle.cmd_print.specs.{Said.TextShown, Said.echo_lines, Shown.MessageShown, Shown.message_lines, Shown.whole_text, Pushed.Pushes}
 
--- the text of a message has no byte 00
 pub text_has_no_zero : (most : ℕ) (m : Message) (text : List ℕ) → text ≡ m.text → IsMessage most m → HasNoZero text
 text_has_no_zero most m text is fits = subst HasNoZero (sym is) fits.text.no_zero
 
--- the lines of an echomail text
 pub echo_shown : (text lines : List ℕ) (e : EchoText) (dropped : ℕ) → EchoOf text e dropped → lines ≡ echo_lines e dropped → TextShown text lines
 echo_shown text lines e dropped said whole = grind (arith, not_refused)
 

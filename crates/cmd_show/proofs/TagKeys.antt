@@ -1,8 +1,7 @@
 -- Sorted keys and their tags.
 use Rattle.std.proofs.Common.{◌≡◌, ℕ, ◌||◌, Bool, true, false, List, [], ◌∷◌, map, refl, sym, ap, ◌∙◌, arith}
 use Rattle.std.proofs.lemmas.Map.Text.{is_eq-slice_cmp}
-use Rattle.std.specs.{Prelude.bytes_eq, declared.cmp.Ordering.Ordering, declared.cmp.Ordering.TheVariants.Less, declared.cmp.Ordering.TheVariants.Equal, declared.cmp.Ordering.TheVariants.Greater}
-use Rattle.std.specs.{Ordering.is_eq, Ordering.match_ordering, Ordering.nat_cmp, List.list_any, BTreeSet.insert_key, Cmp.Lexicographic.bytes_decides, Cmp.Lexicographic.slice_cmp}
+use Rattle.std.specs.{Prelude.bytes_eq, declared.cmp.Ordering.Ordering, declared.cmp.Ordering.TheVariants.Less, declared.cmp.Ordering.TheVariants.Equal, declared.cmp.Ordering.TheVariants.Greater, Ordering.is_eq, Ordering.match_ordering, Ordering.nat_cmp, List.list_any, BTreeSet.insert_key, Cmp.Lexicographic.bytes_decides, Cmp.Lexicographic.slice_cmp}
 use Rattle.echo_links.proofs.Found.{tag_order}
 
 or_twice : (x y : Bool) → (x || y) ≡ (x || (x || y))
@@ -13,14 +12,12 @@ or_turned : (x y z : Bool) → (x || (y || z)) ≡ (y || (x || z))
 or_turned x y z = grind arith
 
 module _ {K : Type 0} (tag_of : K → List ℕ) where
-  -- a tag is found among the keys exactly if it is one of the tags
   pub any_key : (tag : List ℕ) (keys : List K) → list_any (λ k. is_eq (slice_cmp nat_cmp tag (tag_of k))) keys ≡ list_any (bytes_eq tag) (map tag_of keys)
   any_key tag [] = refl
   any_key tag (k ∷ keys) =
       ap (λ t. t || list_any (λ k. is_eq (slice_cmp nat_cmp tag (tag_of k))) keys) (is_eq-slice_cmp tag (tag_of k))
       ∙ ap (λ t. bytes_eq tag (tag_of k) || t) (any_key tag keys)
 
-  -- one more key
   pub key_added : (t : List ℕ) (keys : List K) (k : K)
       → list_any (bytes_eq t) (map tag_of (insert_key (tag_order tag_of) keys k)) ≡ (bytes_eq t (tag_of k) || list_any (bytes_eq t) (map tag_of keys))
   key_added t [] k = refl

@@ -25,7 +25,6 @@ links_unseen number all sorted none = grind arith
 
 module _ (number : ℕ) (all : List (List ℕ)) (word : List ℕ) (more later : List (List ℕ)) (sorted : List Address)
     (seen : LinksSeen number all later sorted) (next : later ≡ word ∷ more) where
-  -- whether the word's address is already a link, by the sorted ones
   stands : Bool
   stands = list_any (same_address (address_in word)) (map address_in seen.before)
 
@@ -54,16 +53,13 @@ module _ (number : ℕ) (all : List (List ℕ)) (word : List ℕ) (more later : 
         again = seen.again ∙ ap (link_again seen.before) next ∙ cond-false stands word (link_again (word ∷ seen.before) more) unknown;
       }
 
-  -- a word that is no address
   pub link_bad : IsWordOf word None → (links_fault number [] all ≡ Some (fault.BadAddress number)) × (word ≡ no_address all)
   link_bad is = grind (arith, cond-true)
 
-  -- an address that is already a link
   pub link_repeated : (a : Address) → IsWordOf word (Some a) → list_any (λ k. is_eq (address_order a k)) sorted ≡ true
       → (links_fault number [] all ≡ Some (fault.RepeatedLink number)) × (word ≡ link_again [] all)
   unfolding stands
   link_repeated a is old = grind (arith, stands, found, judged, cond-true)
 
--- no words are left
 pub links_right : (number : ℕ) (all later : List (List ℕ)) (sorted : List Address) → LinksSeen number all later sorted → later ≡ [] → links_fault number [] all ≡ None
 links_right number all later sorted seen none = seen.faults ∙ ap (links_fault number seen.before) none

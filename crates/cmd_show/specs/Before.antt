@@ -5,8 +5,7 @@ use Rattle.echo_text.specs.Lines.{is_tag}
 use Rattle.echo_links.specs.LinkLines.{after_first_of, first_of, is_area_line, is_name_line, is_system_line, line_fault, links_fault, tag_in}
 use Rattle.echo_links.specs.{declared.fault.LinkFault.LinkFault, Links.upper}
 use Rattle.echo_links.specs.declared.fault.LinkFault.TheVariants as fault
-use Rattle.cmd_show.specs.declared.{faulty.FaultyLine.FaultyLine, words.FaultyWord.FaultyWord}
-use Rattle.cmd_show.specs.FaultyLines.{link_again, no_address, not_one_address, wrong_word}
+use Rattle.cmd_show.specs.{declared.faulty.FaultyLine.FaultyLine, declared.words.FaultyWord.FaultyWord, FaultyLines.link_again, FaultyLines.no_address, FaultyLines.not_one_address, FaultyLines.wrong_word}
 
 -- The parts of earlier lines: whether one has the system's address, whether one has the name, and the tags of areas.
 pub record SaidBefore : Type 0 where

@@ -1,7 +1,6 @@
 -- The lines of `export` for the messages of a base, and its answer.
 use Rattle.std.specs.Prelude.{◌≡◌, ℕ, zero, suc, ◌+◌, ◌==◌, ◌&&◌, nat_le, Bool, true, false, List, [], ◌++◌, length, codes, decimal, if◌then◌else◌, slice_get, Option, Some, None, option_map, Result}
-use Rattle.echo_export.specs.declared.{json_line.State.State, json_line.State.TheVariants.Purged, json_line.State.TheVariants.Scanned, json_line.State.TheVariants.Waiting, form.Form.Form}
-use Rattle.echo_export.specs.Forms.{message_lost, message_text}
+use Rattle.echo_export.specs.{declared.json_line.State.State, declared.json_line.State.TheVariants.Purged, declared.json_line.State.TheVariants.Scanned, declared.json_line.State.TheVariants.Waiting, declared.form.Form.Form, Forms.message_lost, Forms.message_text}
 use Rattle.base_file.specs.Base.{Base}
 use Rattle.echo_filed.specs.Filed.{Filed}
 use Rattle.echo_links.specs.Links.{upper}

@@ -1,9 +1,7 @@
 -- The answer of `links`.
-use Rattle.std.specs.Prelude.{◌≡◌, Bool, List, is_none, if◌then◌else◌, Result}
-use Rattle.std.specs.List.{list_all}
+use Rattle.std.specs.{Prelude.◌≡◌, Prelude.Bool, Prelude.List, Prelude.is_none, Prelude.if◌then◌else◌, Prelude.Result, List.list_all}
 use Rattle.echo_links.specs.LinkLines.{file_fault}
-use Rattle.cmd_status.specs.{Devices.Output, declared.fault.Fault.Fault, declared.status.Status.Status, declared.status.Status.TheVariants.Good, declared.status.Status.TheVariants.Refused}
-use Rattle.cmd_status.specs.Ended.{Answers}
+use Rattle.cmd_status.specs.{Devices.Output, declared.fault.Fault.Fault, declared.status.Status.Status, declared.status.Status.TheVariants.Good, declared.status.Status.TheVariants.Refused, Ended.Answers}
 use Rattle.cmd_show.specs.{declared.linking.NamedFile.NamedFile, LinksShown.files_text}
 
 -- Whether a link file has no fault.

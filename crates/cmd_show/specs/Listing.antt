@@ -1,7 +1,6 @@
 -- The answer of `list`.
 use Rattle.std.specs.Prelude.{◌≡◌, ℕ, List, Option, Some, option_map, Result}
-use Rattle.cmd_status.specs.{Devices.Output, declared.fault.Fault.Fault, declared.status.Status.Status, declared.status.Status.TheVariants.Good, Ended.AnswersInPieces}
-use Rattle.cmd_status.specs.Inputs.{IsBaseFault, IsBaseGiven}
+use Rattle.cmd_status.specs.{Devices.Output, declared.fault.Fault.Fault, declared.status.Status.Status, declared.status.Status.TheVariants.Good, Ended.AnswersInPieces, Inputs.IsBaseFault, Inputs.IsBaseGiven}
 use Rattle.echo_links.specs.Links.{upper}
 use Rattle.base_file.specs.Base.{Base}
 use Rattle.cmd_print.specs.{declared.list_form.ListForm.ListForm, BaseListed.base_text}

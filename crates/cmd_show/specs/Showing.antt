@@ -1,11 +1,9 @@
 -- The bytes that an input of `show` encodes, and the result of `show`.
 use Rattle.std.specs.Prelude.{◌≡◌, ℕ, ◌⊎◌, ◌++◌, Bool, true, List, [], Option, Result, Ok, Err, IsErr, Vec, length, filter, ◌≤◌, take, not, false, ◌||◌, ◌==◌}
 use Rattle.std.specs.declared.alloc.Global.{Global}
-use Rattle.cmd_status.specs.{Devices.Output, declared.fault.Fault.Fault, declared.fault.Fault.TheVariants.BadHex, declared.fault.Fault.TheVariants.OutOfMemory, declared.fault.Fault.TheVariants.Packet}
-use Rattle.cmd_status.specs.{declared.status.Status.Status, declared.status.Status.TheVariants.Good, Ended.CannotPrint, Ended.PassesAll, Ended.IsOutOfMemory, Limits.show_limits}
+use Rattle.cmd_status.specs.{Devices.Output, declared.fault.Fault.Fault, declared.fault.Fault.TheVariants.BadHex, declared.fault.Fault.TheVariants.OutOfMemory, declared.fault.Fault.TheVariants.Packet, declared.status.Status.Status, declared.status.Status.TheVariants.Good, Ended.CannotPrint, Ended.PassesAll, Ended.IsOutOfMemory, Limits.show_limits}
 use Rattle.hex.specs.Hex.{decode_of}
-use Rattle.echo_packet.specs.{declared.header.Header.Header, declared.fault.PacketFault.PacketFault, Header.IsHeader, Header.header_bytes, Fault.FaultOf}
-use Rattle.echo_packet.specs.{Message.AreMessages, Message.Message, Message.messages_bytes, Reader.FrontFault, Packet.PacketOf}
+use Rattle.echo_packet.specs.{declared.header.Header.Header, declared.fault.PacketFault.PacketFault, Header.IsHeader, Header.header_bytes, Fault.FaultOf, Message.AreMessages, Message.Message, Message.messages_bytes, Reader.FrontFault, Packet.PacketOf}
 use Rattle.cmd_print.specs.Shown.{MessageShown, MessagesShown, Shown, header_lines}
 use Rattle.cmd_show.specs.Written.{AddsLines, BeginsLines, BeginsMore, WritesLines}
 

@@ -43,7 +43,7 @@ pub fn list_areas<'a, S: BuildHasher + Drop, W: Sink>(
     list_areas_of(alloc, "", &mut messages, out)
 }
 
-/// The same of messages that are read one by one, of the base with this path.
+/// Counts messages that are read one by one, of the base with this path.
 pub fn list_areas_of<'a, M: MessageSource, W: Sink>(
     alloc: Global,
     path: &'a str,
@@ -61,7 +61,6 @@ pub fn list_areas_of<'a, M: MessageSource, W: Sink>(
     print_areas(alloc, counts, count, count.saturating_sub(scanned), out)
 }
 
-// The counts of each area.
 fn count_areas<'a, M: MessageSource>(
     alloc: Global,
     path: &'a str,
@@ -131,7 +130,6 @@ fn counts_of(counts: &BTreeMap<Vec<u8>, AreaCounts>, tag: &[u8]) -> AreaCounts
     }
 }
 
-// One message more is counted.
 fn counted_more(counts: AreaCounts, state: State) -> AreaCounts
     requires messages { counts.messages + 1 < 2 ^ 64 }
     requires waiting { counts.waiting + 1 < 2 ^ 64 }

@@ -3,8 +3,7 @@ ghost use Rattle.std.specs.Prelude.{◌≡◌, ◌++◌, ℕ, List, true, IfOk, 
 ghost use Rattle.echo_addr.specs.Entries.{tokens};
 ghost use Rattle.echo_text.specs.Lines.{trimmed};
 ghost use Rattle.echo_links.specs.{Links.upper, LinkLines.first_of, LinkReading.name_refusal, LinkReading.system_refusal};
-ghost use Rattle.cmd_show.specs.Before.{HasTagAdded, IsBefore, JudgesLine, Tells, area_refused, area_says, line_reported, name_says, system_says};
-ghost use Rattle.cmd_show.specs.FaultyLines.{faulty_lines};
+ghost use Rattle.cmd_show.specs.{Before.HasTagAdded, Before.IsBefore, Before.JudgesLine, Before.Tells, Before.area_refused, Before.area_says, Before.line_reported, Before.name_says, Before.system_says, FaultyLines.faulty_lines};
 
 use crate::faulty::FaultyLine;
 use crate::tags::Tags;
@@ -147,7 +146,6 @@ impl Before {
     }
 }
 
-/// The faulty lines of a link file, each line read once.
 pub(crate) fn faulty_lines(alloc: Global, bytes: &[u8]) -> Result<Vec<FaultyLine>, AllocError>
     ensures { IfOk result (λ found. found.items ≡ faulty_lines bytes.now) }
 {

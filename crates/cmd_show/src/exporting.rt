@@ -27,7 +27,6 @@ pub struct ExportQuery<'a> {
     pub purged: bool,
 }
 
-// The same with the tag in capital letters.
 #[derive(Drop)]
 struct ExportFilter {
     form: Form,
@@ -52,7 +51,7 @@ pub fn export<'a, S: BuildHasher + Drop, W: Sink>(
     export_messages(alloc, asked, "", &mut messages, out)
 }
 
-/// The same of messages that are read one by one, of the base with this path. A fault of a message ends it where it
+/// Exports messages that are read one by one, of the base with this path. A fault of a message ends it where it
 /// comes: `look` of a base folder finds it before.
 pub fn export_messages<'a, M: MessageSource, W: Sink>(
     alloc: Global,
@@ -160,7 +159,6 @@ fn print_one<'a, W: Sink>(
     Ok(count)
 }
 
-// Whether the message of this number is asked for.
 fn is_sought(sought: &ExportFilter, cursor: usize, i: usize, message: &Filed) -> bool
     ensures { result ≡ is_sought sought.now.area sought.now.first sought.now.purged cursor i message.now }
 {
@@ -171,7 +169,6 @@ fn is_sought(sought: &ExportFilter, cursor: usize, i: usize, message: &Filed) ->
         && is_exported(sought.purged, state)
 }
 
-// Whether messages of this state are exported.
 fn is_exported(purged: bool, state: State) -> bool
     ensures { result ≡ is_exported purged state }
 {
@@ -181,7 +178,6 @@ fn is_exported(purged: bool, state: State) -> bool
     }
 }
 
-/// The state of the message of this number.
 pub(crate) fn state_of(cursor: usize, i: usize, message: &Filed) -> State
     ensures { result ≡ state_of cursor i message.now }
 {

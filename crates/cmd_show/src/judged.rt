@@ -28,7 +28,6 @@ pub fn judge(alloc: Global, bytes: &[u8]) -> Result<Judged, AllocError>
     }
 }
 
-// The reported lines of a file with this fault.
 fn reported_lines(
     alloc: Global,
     bytes: &[u8],
@@ -54,7 +53,6 @@ fn is_memory(why: LinkFault) -> bool
     matches!(why, LinkFault::Memory)
 }
 
-// Whether it is all that is wrong that no line has the own address.
 fn is_homeless(why: LinkFault) -> bool
     ensures { result ≡ is_homeless why }
 {

@@ -1,6 +1,5 @@
 //! The lines of a link file by itself.
-ghost use Rattle.std.specs.Prelude.{◌≡◌, ◌<◌, ◌++◌, IfOk, OnOk, Some, codes, decimal, slice_get};
-ghost use Rattle.std.specs.List.{flat_map};
+ghost use Rattle.std.specs.{Prelude.◌≡◌, Prelude.◌<◌, Prelude.◌++◌, Prelude.IfOk, Prelude.OnOk, Prelude.Some, Prelude.codes, Prelude.decimal, Prelude.slice_get, List.flat_map};
 ghost use Rattle.echo_addr.specs.Address.{address_text};
 ghost use Rattle.echo_links.specs.Links.{Area};
 ghost use Rattle.cmd_show.specs.LinksShown.{all_links, area_line, area_links, areas_text, fault_code, fault_number, faulty_text, good_line, in_quotes};
@@ -128,7 +127,6 @@ pub fn push_number(lines: &mut Vec<u8>, number: u64) -> Result<(), AllocError>
     written(write!(lines, ":{number}: "))
 }
 
-// The word between single quotes.
 fn in_quotes(alloc: Global, word: &[u8]) -> Result<Vec<u8>, AllocError>
     ensures { IfOk result (λ quoted. quoted.items ≡ in_quotes word.now) }
 {
@@ -139,7 +137,6 @@ fn in_quotes(alloc: Global, word: &[u8]) -> Result<Vec<u8>, AllocError>
     Ok(quoted)
 }
 
-// The code and the name of a fault.
 fn fault_code(fault: LinkFault) -> &'static [u8]
     ensures { result.now ≡ fault_code fault }
 {

@@ -23,7 +23,6 @@ pub struct ListQuery<'a> {
     pub first: u64,
 }
 
-// The same with the tag in capital letters.
 #[derive(Drop)]
 struct ListFilter {
     form: ListForm,
@@ -47,7 +46,7 @@ pub fn list<'a, S: BuildHasher + Drop, W: Sink>(
     list_messages(alloc, asked, "", &mut messages, out)
 }
 
-/// The same of messages that are read one by one, of the base with this path. A fault of a message ends it where it
+/// Lists messages that are read one by one, of the base with this path. A fault of a message ends it where it
 /// comes: `look` of a base folder finds it before.
 pub fn list_messages<'a, M: MessageSource, W: Sink>(
     alloc: Global,
@@ -136,7 +135,6 @@ fn print_message<'a, W: Sink>(
     pass_on(lines, out)
 }
 
-// Whether the message of this number is asked for.
 fn is_asked(asked: &ListFilter, i: usize, message: &Filed) -> bool
     ensures { result ≡ is_asked asked.now.area asked.now.first i message.now }
 {
@@ -144,7 +142,6 @@ fn is_asked(asked: &ListFilter, i: usize, message: &Filed) -> bool
     asked.first <= i as u64 && is_of_area(asked.area.as_ref(), tag)
 }
 
-/// Whether this is the tag that is asked for, if one is.
 pub(crate) fn is_of_area(area: Option<&Items<u8>>, tag: &[u8]) -> bool
     ensures { result ≡ is_of_area (option_copied area.entry) tag.now }
 {

@@ -1,7 +1,6 @@
 ghost use Rattle.std.specs.Prelude.{◌≡◌, ◌++◌, ◌<◌, ◌^◌, length, OnErr, OnOk, IfErr};
 ghost use Rattle.cmd_status.specs.{Devices.output_of, Ended.IsOutOfMemory, Limits.show_limits};
-ghost use Rattle.echo_packet.specs.Reader.{IsReading, reader_given, reader_header, reader_limits, reader_place, reader_source};
-ghost use Rattle.echo_packet.specs.Header.{IsHeader, header_bytes};
+ghost use Rattle.echo_packet.specs.{Reader.IsReading, Reader.reader_given, Reader.reader_header, Reader.reader_limits, Reader.reader_place, Reader.reader_source, Header.IsHeader, Header.header_bytes};
 ghost use Rattle.echo_text.specs.Echo.{HasNoZero};
 ghost use Rattle.cmd_print.specs.{Said.TextShown, Shown.MessageShown, Shown.end_line, Shown.header_lines, Pushed.Pushes};
 ghost use Rattle.cmd_show.specs.Showing.{DecodeAnswers, MessagePasses, PacketAnswers, PacketPasses, ShowAnswers};
@@ -79,7 +78,6 @@ fn show_packet<'a, W: Sink>(
     show_opened(alloc, full, &mut reader, lines, out)
 }
 
-// The same of a packet after its header is read.
 fn show_opened<'a, W: Sink>(
     alloc: Global,
     full: bool,

@@ -16,7 +16,6 @@ pub(crate) struct FaultyWord<'a> {
     pub(crate) word: &'a [u8],
 }
 
-/// The first word that has a control byte.
 pub(crate) fn word_with_control(line: &[u8]) -> &[u8]
     ensures { result.now ≡ word_with_control (tokens line.now) }
 {

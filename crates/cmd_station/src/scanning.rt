@@ -177,13 +177,14 @@ fn scan_over<
     requires free { AreFree (L.held locks.old.links) (K.held locks.old.base) }
     requires can { Honestly (D.state disk) (P.can_open station (D.state disk)) }
 {
+    let watch = ScanProgress { progress };
     let scanned = scan_station(
         scan.at.rt.alloc(),
         disk,
         locks,
         station,
         before,
-        &mut wanted(scan, progress),
+        &mut wanted(scan, &watch),
         out,
     );
     scanned.done
@@ -211,15 +212,15 @@ fn report_scanned<E: Sink>(
 }
 
 // The scan in the form of station_scan.
-fn wanted<'a>(
+fn wanted<'w, 'a: 'w>(
     scan: Scan<'a>,
-    progress: &'a Progress<'a>,
-) -> Wanted<'a, LeftFiles<'a>, ScanProgress<'a>> {
+    watch: &'w ScanProgress<'a>,
+) -> Wanted<'w, LeftFiles<'a>, ScanProgress<'a>> {
     Wanted {
         stamp: scan.stamp,
         outbound: scan.slashed.as_bytes(),
         listing: LeftFiles::new(scan.at.rt),
-        watch: ScanProgress { progress },
+        watch,
     }
 }
 

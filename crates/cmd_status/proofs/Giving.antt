@@ -22,7 +22,6 @@ read_more inputs i bytes files file inside is are (inr read) =
     (sym (take_more inputs i bytes inside ∙ ap (λ b. take i inputs ++ b ∷ []) (sym is)))
     (one_more (take i inputs) files bytes file are read)
 
--- the inputs are those before one, it and those after it
 cut_at : (inputs : List (List ℕ)) (i : ℕ) (bytes : List ℕ) → i < length inputs → bytes ≡ get_or inputs i bytes → inputs ≡ take i inputs ++ bytes ∷ drop (i + 1) inputs
 cut_at inputs i bytes inside is =
     sym (take-append-drop i inputs)

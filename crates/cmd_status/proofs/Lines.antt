@@ -5,27 +5,22 @@ use Rattle.std.specs.{List.flat_map, Prelude.slice_get, Io.KnownBytes.Appends}
 use Rattle.disk_io.specs.Device.{SendsFront}
 use Rattle.cmd_status.specs.Lines.{PassesOn, WritesFront}
 
--- lines after no lines are those lines
 pub alone : (none lines more : List ℕ) → none ≡ [] → lines ≡ none ++ more → lines ≡ more
 alone none lines more nothing whole = whole ∙ ap (λ n. n ++ more) nothing
 
--- no line was written yet
 pub none_passed : (a : Option (List ℕ)) (lines : List ℕ) → PassesOn lines lines a a
 none_passed a lines = record { went = []; whole = refl; written = Appends-nil a }
 
--- no line was written or added
 pub none_added : (a : Option (List ℕ)) (lines : List ℕ) → PassesOn (lines ++ []) lines a a
 none_added a lines = record { went = []; whole = append-nil lines; written = Appends-nil a }
 
 pub none_begun : (a : Option (List ℕ)) (lines : List ℕ) → WritesFront lines a a
 none_begun a lines = record { rest = lines; passed = none_passed a lines }
 
--- the bytes that a failed write took
 pub front_sent : (a b : Option (List ℕ)) (bytes : List ℕ) (m n : ℕ) → SendsFront a b bytes m n → WritesFront bytes a b
 front_sent a b bytes m n (k, short, out, count) =
     record { rest = drop k bytes; passed = record { went = take k bytes; whole = sym (take-append-drop k bytes); written = out } }
 
--- the call passed on the bytes held back, and more after them
 pub passed_more : (a b c : Option (List ℕ)) (kept x mid y rest : List ℕ) → PassesOn (kept ++ x) mid a b → PassesOn (mid ++ y) rest b c
     → PassesOn (kept ++ (x ++ y)) rest a c
 passed_more a b c kept x mid y rest first second = record {
@@ -39,7 +34,6 @@ pub begun_more : (a b c : Option (List ℕ)) (kept x mid y : List ℕ) → Passe
     → WritesFront (kept ++ (x ++ y)) a c
 begun_more a b c kept x mid y first second = record { rest = second.rest; passed = passed_more a b c kept x mid y second.rest first second.passed }
 
--- a beginning of lines is one of these and more
 pub front_more : (a b : Option (List ℕ)) (lines more : List ℕ) → WritesFront lines a b → WritesFront (lines ++ more) a b
 front_more a b lines more begun = record {
   rest = begun.rest ++ more;
@@ -50,7 +44,6 @@ front_more a b lines more begun = record {
   };
 }
 
--- it also wrote a front of the bytes held back
 pub begun_after : (a b c : Option (List ℕ)) (lines mid : List ℕ) → PassesOn lines mid a b → WritesFront mid b c → WritesFront lines a c
 begun_after a b c lines mid first begun =
     let second = begun.passed in
@@ -63,12 +56,10 @@ begun_after a b c lines mid first begun =
       };
     }
 
--- it also wrote all bytes held back
 pub sent_after : (a b c : Option (List ℕ)) (lines mid : List ℕ) → PassesOn lines mid a b → Appends b c mid → Appends a c lines
 sent_after a b c lines mid first out =
     subst (Appends a c) (sym first.whole) (Appends-trans a b c first.went mid first.written out)
 
--- no more was written
 pub begun_kept : (a b c : Option (List ℕ)) (lines : List ℕ) → WritesFront lines a b → Appends b c [] → WritesFront lines a c
 begun_kept a b c lines begun none =
     let passed = begun.passed in
@@ -81,7 +72,6 @@ begun_kept a b c lines begun none =
       };
     }
 
--- a front of no lines is empty
 no_front : (went rest : List ℕ) → [] ≡ went ++ rest → went ≡ []
 no_front [] rest is = refl
 no_front (x ∷ went) rest is = absurd cc

@@ -1,16 +1,13 @@
 -- Numbers as the command line writes them.
 use Rattle.std.proofs.Common.{◌≡◌, ◌≢◌, ◌<◌, ◌≤◌, ◌-◌, ◌^◌, ℕ, min, true, List, [], ◌∷◌, nat_lt, length, get_or, Result, Ok, Err, refl, sym, ap, subst, ◌∙◌, inl, inr, arith}
-use Rattle.std.proofs.{Math.Nat.min-eq_left, Math.Nat.min-eq_right, lemmas.Bool.and_parts, lemmas.Bool.cases_lt, lemmas.Bool.ltb-true}
-use Rattle.std.proofs.lemmas.Str.Parse.{digits_value_short, parse_gives, without_leading_plus_none}
+use Rattle.std.proofs.{Math.Nat.min-eq_left, Math.Nat.min-eq_right, lemmas.Bool.and_parts, lemmas.Bool.cases_lt, lemmas.Bool.ltb-true, lemmas.Str.Parse.digits_value_short, lemmas.Str.Parse.parse_gives, lemmas.Str.Parse.without_leading_plus_none}
 use Rattle.std.specs.{Char.is_ascii_digit, Str.all_ascii_digits, Result.result_unwrap_or, Str.Parse.ParsesUnsigned, Str.Parse.digits_value, Str.Parse.without_leading_plus}
 use Rattle.echo_addr.specs.Digits.{is_number}
 use Rattle.echo_addr.proofs.Decimals.{own}
 
--- four digits write a number below ten thousand
 pub short_number : (ds : List ℕ) → is_number ds ≡ true → length ds ≤ 4 → digits_value 10 ds < 10000
 short_number ds is few = digits_value_short own ds 4 (and_parts (nat_lt 0 (length ds)) (all_ascii_digits ds) is).1 few
 
--- digits have no sign
 no_plus : (ds : List ℕ) → all_ascii_digits ds ≡ true → get_or ds 0 0 ≢ 43
 no_plus [] all is = absurd (omega arith)
 no_plus (d ∷ ds) all is =
@@ -18,13 +15,11 @@ no_plus (d ∷ ds) all is =
     let at : is_ascii_digit 43 ≡ true = subst (λ (x : ℕ). is_ascii_digit x ≡ true) is digit in
     absurd cc
 
--- a number that is too great is not parsed
 too_great : {E : Type 0} (ds : List ℕ) (r : Result ℕ E) (d : ℕ) → without_leading_plus ds ≡ ds → ParsesUnsigned 64 10 ds r → 2 ^ 64 ≤ digits_value 10 ds → result_unwrap_or r d ≡ d
 too_great ds (Ok x) d same parsed great =
     let small : digits_value 10 ds < 2 ^ 64 = subst (λ (t : List ℕ). digits_value 10 t < 2 ^ 64) same parsed.0.1 in absurd (omega arith)
 too_great ds (Err e) d same parsed great = refl
 
--- the number of the digits, or the greatest number
 pub parsed_number : {E : Type 0} (ds : List ℕ) (r : Result ℕ E) (n : ℕ) → is_number ds ≡ true → ParsesUnsigned 64 10 ds r → n ≡ result_unwrap_or r (2 ^ 64 - 1)
     → n ≡ min (digits_value 10 ds) (2 ^ 64 - 1)
 parsed_number {E} ds r n is parsed given =

@@ -4,7 +4,6 @@ use Rattle.std.proofs.lemmas.List.{length-append, take_at}
 use Rattle.echo_filed.specs.Filed.{Filed}
 use Rattle.base_file.specs.{BaseFile.BaseOf, BaseFile.LoadOf, Loading.TakesBase}
 
--- the bytes that were taken are at the front
 pub took_base : (bytes : List ℕ) (after : Option (List ℕ)) (messages : List Filed) (cursor : ℕ) → TakesBase messages cursor (Some bytes) after
     → (size : ℕ) × LoadOf bytes (Ok (messages, cursor, size))
 took_base bytes None messages cursor took = absurd took.1

@@ -69,7 +69,7 @@ Answers IsRight IsRefused old new (Ok right) = IsDone IsRight old new right
 Answers IsRight IsRefused old new (Err fault) =
     (CannotPrint old.failures new.failures fault × IsBegun IsRight old new) ⊎ ((IsOutOfMemory fault ⊎ IsRefused fault) × (new ≡ old))
 
--- The same for a command that prints in pieces. Out of memory may also come after a front of the lines.
+-- A command that prints in pieces. Out of memory may also come after a front of the lines.
 abbrev pub AnswersInPieces : {A : Type 0} → (List ℕ → A → Type 0) → (Fault → Type 0) → Output → Output → Result A Fault → Type 0
 AnswersInPieces IsRight IsRefused old new (Ok right) = IsDone IsRight old new right
 AnswersInPieces IsRight IsRefused old new (Err fault) =

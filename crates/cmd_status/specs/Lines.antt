@@ -1,6 +1,5 @@
 -- Lines on their way to standard output.
-use Rattle.std.specs.Prelude.{◌≡◌, ℕ, List, ◌++◌, Option}
-use Rattle.std.specs.Io.KnownBytes.{Appends}
+use Rattle.std.specs.{Prelude.◌≡◌, Prelude.ℕ, Prelude.List, Prelude.◌++◌, Prelude.Option, Io.KnownBytes.Appends}
 
 -- The output took the first bytes of the lines, and `rest` has the others.
 pub record PassesOn (lines rest : List ℕ) (old new : Option (List ℕ)) : Type 0 where

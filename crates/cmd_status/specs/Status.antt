@@ -37,10 +37,9 @@ abbrev pub text_status : TextFault → Status
 text_status text.Memory = Device
 text_status _ = Refused
 
--- The status of a nodelist's fault: N5 and N6 blame memory or a device.
+-- The status of a nodelist's fault: N5 blames memory.
 abbrev pub node_status : NodeFault → Status
 node_status node.Memory = Device
-node_status (node.Write bytes) = Device
 node_status _ = Refused
 
 -- The status of a link file's fault: L9 blames memory.

@@ -148,7 +148,7 @@ impl Fault<'_> {
                 PacketFault::Read { .. } | PacketFault::Memory | PacketFault::Write { .. },
             )
             | Fault::Text(TextFault::Memory)
-            | Fault::Nodelist(NodeFault::Memory | NodeFault::Write { .. })
+            | Fault::Nodelist(NodeFault::Memory)
             | Fault::Link(LinkFault::Memory)
             | Fault::Base(BaseFault::Read | BaseFault::Write { .. } | BaseFault::Memory)
             | Fault::Post(PostFault::Memory)

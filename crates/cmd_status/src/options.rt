@@ -1,6 +1,5 @@
 //! Words of the command line that are parsed.
-ghost use Rattle.std.specs.Prelude.{◌≡◌, ◌≤◌, false, true, length, IfErr, IfOk, IsSome, MatchOption};
-ghost use Rattle.std.specs.{List.list_all, Str.Parse.digits_value};
+ghost use Rattle.std.specs.{Prelude.◌≡◌, Prelude.◌≤◌, Prelude.false, Prelude.true, Prelude.length, Prelude.IfErr, Prelude.IfOk, Prelude.IsSome, Prelude.MatchOption, List.list_all, Str.Parse.digits_value};
 ghost use Rattle.echo_addr.specs.{Address.AddressOf, Address.refusal, Digits.is_number};
 ghost use Rattle.echo_text.specs.Ids.{is_hex_digit};
 ghost use Rattle.cmd_status.specs.declared.fault.Fault.TheVariants.{BadAddress, BadNumber, BadSerial, BadStamp};
@@ -72,7 +71,6 @@ fn is_stamp(word: &[u8]) -> bool
     word.len() == 19 && has_marks(word) && has_numbers(word)
 }
 
-// Are the marks at their places?
 fn has_marks(word: &[u8]) -> bool
     requires { length word.now ≡ 19 }
     ensures { result ≡ options.has_marks word.now }

@@ -1,6 +1,5 @@
 //! Lines on their way to standard output, buffered up to a piece.
-ghost use Rattle.std.specs.Prelude.{◌≡◌, [], false, OnOk, OnErr, IfErr};
-ghost use Rattle.std.specs.Io.KnownBytes.{Appends};
+ghost use Rattle.std.specs.{Prelude.◌≡◌, Prelude.[], Prelude.false, Prelude.OnOk, Prelude.OnErr, Prelude.IfErr, Io.KnownBytes.Appends};
 ghost use Rattle.cmd_status.specs.{Ended.CannotPrint, Lines.PassesOn, Lines.WritesFront};
 
 use crate::fault::Fault;

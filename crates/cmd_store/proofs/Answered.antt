@@ -4,7 +4,7 @@ use Rattle.std.proofs.lemmas.List.{append_cancel_right, reverse-append}
 use Rattle.std.specs.{Prelude.codes, List.prefix_len}
 use Rattle.hex.specs.Hex.{IsBytes, encode_lower}
 use Rattle.echo_addr.specs.Entries.{is_blank}
-use Rattle.echo_text.specs.Ids.{is_id}
+use Rattle.model_steps.specs.ReplyIds.{is_reply_id}
 use Rattle.echo_filed.proofs.Trims.{IsTrim, after_blank, joined_trim}
 use Rattle.echo_export.specs.HeaderText.{id_line}
 use Rattle.echo_mail.specs.{Exported.exported_id, Exported.id_back, Exported.written_id, Head.field_of}
@@ -18,7 +18,6 @@ line_of id = codes "Message-ID: " ++ written_id id
 whole : (id : List ℕ) → id_line (codes "Message-ID") (Some id) ≡ line_of id ++ codes "\n"
 whole id = ap (λ (t : List ℕ). codes "Message-ID: <" ++ t) (sym (append_assoc (encode_lower id) id_back (codes "\n")))
 
--- the value has no blank at either end
 trims : (id : List ℕ) → IsTrim (written_id id)
 trims id =
     let some : 0 < length (encode_lower id ++ id_back) = omega (arith, length-append (encode_lower id) id_back) in
@@ -27,7 +26,7 @@ trims id =
 value_is : (id : List ℕ) → (field_of (line_of id)).value ≡ written_id id
 value_is id = after_blank (written_id id) (trims id)
 
-pub answered : (line id : List ℕ) → IsBytes id → is_id id ≡ true → id_line (codes "Message-ID") (Some id) ≡ line ++ codes "\n"
+pub answered : (line id : List ℕ) → IsBytes id → is_reply_id id ≡ true → id_line (codes "Message-ID") (Some id) ≡ line ++ codes "\n"
     → answered_id (Some (field_of line).value) ≡ Some id
 answered line id bytes is written =
     let same : line ≡ line_of id = append_cancel_right line (line_of id) (codes "\n") (sym written ∙ whole id) in

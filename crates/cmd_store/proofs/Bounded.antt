@@ -9,14 +9,12 @@ use Rattle.base_store.specs.declared.store_error.StoreError.{StoreError, TheVari
 use Rattle.base_store.proofs.Runs.{commits_none, same_twice, others_twice as kept_twice}
 use Rattle.cmd_status.specs.declared.fault.Fault.{Fault}
 use Rattle.echo_filed.specs.Filed.{Filed}
-use Rattle.echo_toss.specs.declared.{step_error.PostStepError.PostStepError, step_error.StoppedToss.StoppedToss, step_error.TossStepError.TossStepError, tally.Tally.Tally}
-use Rattle.echo_toss.specs.{PacketsIn.stop_in, PacketsIn.toss_answer, Stores.post_answer}
+use Rattle.echo_toss.specs.{declared.step_error.PostStepError.PostStepError, declared.step_error.StoppedToss.StoppedToss, declared.step_error.TossStepError.TossStepError, declared.tally.Tally.Tally, PacketsIn.stop_in, PacketsIn.toss_answer, Stores.post_answer}
 use Rattle.echo_toss.specs.declared.step_error.PostStepError.TheVariants as post
 use Rattle.echo_toss.specs.declared.step_error.TossStepError.TheVariants as toss
 use Rattle.echo_toss.proofs.Bounds.{full_now, handed_many, past_after}
 use Rattle.cmd_store.specs.{Bounded.IsStoppedFull, Bounded.IsUncommitted, Stops.post_stop, Stops.store_answer, Tossed.ReportsIn, Tossed.ReportsStop}
 
--- a posting with too much in the store, and the answer of its command
 pub post_many : (P : Type 0) (A B : Type 0) (why : PostStepError) → (IsErrOf (post_answer {T = A} (Err why)) TooMany → P) → IsErrOf (store_answer {A = B} (Err (post_stop why))) TooMany → P
 post_many P A B (post.Refused refusal) gives is = gives is
 post_many P A B (post.Store cause) gives is = gives is
@@ -25,12 +23,10 @@ post_many P A B (post.Store cause) gives is = gives is
 pub full_after : {T : Type 0} (state : T → StoreState) (Adds : Base → Filed → Type 0) (old new : StoreState) (mid : T) → CommitsNothing old (state mid) → GoesOn old (state mid) → IsUncommitted (state mid) new → IsStoppedFull state Adds old new
 full_after state Adds old new mid commits on not = grind (arith, past_after, full_now, commits_none)
 
--- files as a later call leaves them, as the store was before
 stood_before : (old mid : StoreState) (c : Files) → IsSameStore old mid → KeepsOthers old mid → SameOtherFiles mid c → SameOtherFiles old c
 stood_before old mid c same kept others m other named flushed =
     others m (λ own. other ((same.own m).0 own)) (kept.named m other named) (kept.flushed m other flushed) ∙ kept.seen m other
 
--- a possible commit, followed by calls that commit nothing
 pub may_then_nothing : (old mid new : StoreState) → MayCommit old mid → Honestly mid.disk (KeepsOrCommits old mid) → CommitsNothing mid new → MayCommit old new
 may_then_nothing old mid new may done none = grind (arith, then_run, stood_before, kept_twice, same_twice)
 
@@ -39,7 +35,6 @@ stop_many : (old new : List ℕ) (tally : Tally) (why : TossStepError) (result :
 stop_many old new tally (toss.Packet why) result is many = absurd (cc (is.0, many))
 stop_many old new tally (toss.Store cause) result is many = handed_many cause (sym is ∙ many)
 
--- a packet with too much in the store
 pub reports_many : (old new : List ℕ) (answer : Result Tally StoppedToss) (result : Result (Option Fault) StoreError) → ReportsIn old new answer result → IsErrOf result TooMany → IsErrOf (toss_answer (stop_in answer)) TooMany
 reports_many old new (Ok tally) result is many = absurd (cc (is.0, many))
 reports_many old new (Err stopped) result is many = stop_many old new stopped.tally stopped.stop result is many

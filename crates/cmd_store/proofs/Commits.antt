@@ -4,29 +4,23 @@ use Rattle.std.specs.Prelude.{IfErr, OnOk}
 use Rattle.base_file.specs.Base.{Base}
 use Rattle.disk_io.specs.Disk.{Files, Honestly}
 use Rattle.disk_io.proofs.Moments.{then_nothing, then_run, weaker_run}
-use Rattle.base_store.specs.Store.{Commits, CommitsNothing, GoesOn, HasStoreCause, KeepsOrCommits, LooksOn, MayCommit, LeavesEither, StoreState}
-use Rattle.base_store.specs.declared.store_error.StoreError.{StoreError}
+use Rattle.base_store.specs.{Store.Commits, Store.CommitsNothing, Store.GoesOn, Store.HasStoreCause, Store.KeepsOrCommits, Store.LooksOn, Store.MayCommit, Store.LeavesEither, Store.StoreState, declared.store_error.StoreError.StoreError}
 use Rattle.base_store.proofs.Runs.{commits_none, goes_on_twice, looks_commit, looks_go_on, same_twice, others_twice as kept_twice}
 use Rattle.base_store.proofs.Causes.{cause_after, no_cause}
 use Rattle.echo_toss.specs.{declared.step_error.PostStepError.PostStepError, Stores.LooksWhereRefused}
 use Rattle.echo_toss.specs.declared.step_error.PostStepError.TheVariants as post
-use Rattle.cmd_store.specs.Answered.{CommitsNoneWhereMet, GoesOnFromEither, HasCommitted, LooksWhereMet, MayCommitWhereMet, MayMake, RepresentsMade}
+use Rattle.cmd_store.specs.{Answered.CommitsNoneWhereMet, Answered.GoesOnFromEither, Answered.HasCommitted, Answered.LooksWhereMet, Answered.MayCommitWhereMet, Answered.MayMake, Answered.RepresentsMade, Stops.IsOfStore, Stops.post_stop}
 use Rattle.cmd_store.specs.declared.command_error.CommandError.{CommandError, TheVariants.Met, TheVariants.Store}
-use Rattle.cmd_store.specs.Stops.{IsOfStore, post_stop}
 
--- a run that commits nothing is one that may commit
 pub none_may : (old new : StoreState) → CommitsNothing old new → MayCommit old new
 none_may old new none = grind (arith, weaker_run)
 
--- a look commits nothing
 pub looks_may : (old new : StoreState) → old.is_ready → LooksOn old new → MayCommit old new
 looks_may old new ready looks = none_may old new (looks_commit old new ready looks)
 
--- the command committed nothing
 pub makes_none : (Makes : Base → Base → Type 0) (old new : StoreState) → CommitsNothing old new → MayMake Makes old new
 makes_none Makes old new none = grind (arith, weaker_run)
 
--- the files that a crash leaves during a commit, compared with those before the command
 pub stood_made : (Makes : Base → Base → Type 0) (old mid : StoreState) (first base next : Base) (c : Files) → CommitsNothing old mid → Makes base next
     → LeavesEither mid first next c → RepresentsMade old (Makes base) first c
 stood_made Makes old mid first base next c none made either = grind (arith, ⊎_elim)
@@ -46,34 +40,27 @@ pub ready_where : {A : Type 0} (mid new : StoreState) (result : Result A Command
 ready_where mid new (Ok value) done = done.ready
 ready_where mid new (Err why) done = tt
 
--- only the store stopped a commit
 pub only_store : {A : Type 0} (old new : StoreState) (result : Result A CommandError) → IfErr result IsOfStore → IfErr result (LooksWhereMet old new)
 only_store old new result h1 = grind arith
 
--- only looks came before a fault that stopped the command, or the store failed
 pub met_looking : (old new : StoreState) (why : CommandError) → old.is_ready → LooksOn old new → CommitsNoneWhereMet old new why
 met_looking old new (Met fault) ready looks = (looks_commit old new ready looks, looks_go_on old new looks)
 met_looking old new (Store cause) ready looks = tt
 
--- a posting was refused, or the store failed
 pub met_refused : (old new : StoreState) (why : PostStepError) → CommitsNothing old new → LooksWhereRefused old new why → CommitsNoneWhereMet old new (post_stop why)
 met_refused old new (post.Refused refusal) none looks = (none, looks_go_on old new looks)
 met_refused old new (post.Store cause) none looks = tt
 
--- the command stopped after a change that it did not commit
 pub met_after : {A : Type 0} (old mid new : StoreState) (result : Result A CommandError) → CommitsNothing old mid → GoesOn old mid → IfErr result (LooksWhereMet mid new)
     → IfErr result (CommitsNoneWhereMet old new)
 met_after old mid new result h1 h2 h3 = grind (arith, commits_none, looks_commit, goes_on_twice, looks_go_on)
 
--- a possible commit, and no other after it
 may_then_none : (old mid new : StoreState) → MayCommit old mid → mid.is_ready → LooksOn mid new → MayCommit old new
 may_then_none old mid new may ready looks = grind (arith, then_nothing, kept_twice, looks_commit, same_twice)
 
--- a committed base remains committed after a look
 either_then : (old mid new : StoreState) → Honestly mid.disk (KeepsOrCommits old mid) → LooksOn mid new → GoesOnFromEither old new
 either_then old mid new done looks = grind (arith, ⊎_elim)
 
--- the same after a call that may have committed the earlier base
 pub may_after : {A : Type 0} (old mid new : StoreState) (result : Result A CommandError) → MayCommit old mid → mid.is_ready → Honestly mid.disk (KeepsOrCommits old mid)
     → IfErr result (LooksWhereMet mid new) → IfErr result (MayCommitWhereMet old new)
 may_after old mid new result h1 h2 h3 h4 = grind (arith, may_then_none, either_then)

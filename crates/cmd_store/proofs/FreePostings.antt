@@ -14,9 +14,7 @@ use Rattle.echo_text.specs.Ids.{id_of}
 use Rattle.echo_toss.specs.{declared.step_error.PostStepError.PostStepError, PacketsIn.state_in, Stores.IsPostStop, Stores.LooksWhereRefused}
 use Rattle.echo_toss.specs.declared.step_error.PostStepError.TheVariants as post
 use Rattle.echo_toss.proofs.Judged.{is_fault}
-use Rattle.cmd_store.specs.FreeSerial.{FiledAs, FilesAs, IsSerial, PostsAs, PostsAsOn}
-use Rattle.cmd_store.specs.{declared.drafting.NewMessage.NewMessage, Serials.is_taken, Serials.serial_after, Serials.with_serial, Lines.posted_line, Drafts.draft_given}
-use Rattle.cmd_store.specs.{declared.command_error.CommandError.CommandError, declared.command_error.CommandError.TheVariants.Met, Answered.PrintsAll, Posted.Posts, Posted.PostsOn, Stops.post_stop}
+use Rattle.cmd_store.specs.{FreeSerial.FiledAs, FreeSerial.FilesAs, FreeSerial.IsSerial, FreeSerial.PostsAs, FreeSerial.PostsAsOn, declared.drafting.NewMessage.NewMessage, Serials.is_taken, Serials.serial_after, Serials.with_serial, Lines.posted_line, Drafts.draft_given, declared.command_error.CommandError.CommandError, declared.command_error.CommandError.TheVariants.Met, Answered.PrintsAll, Posted.Posts, Posted.PostsOn, Stops.post_stop}
 use Rattle.cmd_store.proofs.FreeSerials.{first_here, first_of_all, free_where_allowed, next_step, one_more, refused_first, taken_where_known}
 use Rattle.cmd_store.proofs.Postings.{post_printed, post_stopped, posts}
 
@@ -27,11 +25,9 @@ pub record HasLooked (file : LinkFile) (old mid : StoreState) (first now start s
   pub place : serial ≡ serial_after start steps
   pub taken : Honestly mid.disk ((base : Base) → old.keeps base → (k : ℕ) → k < steps → is_taken file base.messages (serial_after start k) ≡ true)
 
--- before the first one
 pub none_looked : (file : LinkFile) (old : StoreState) (first start : ℕ) → old.is_ready → start < 2 ^ 32 → HasLooked file old old first first start start 0
 none_looked file old first start ready small = grind (arith, no_look)
 
--- and one more, which is taken
 pub one_more_looked : (file : LinkFile) (old mid new : StoreState) (first now then start serial steps : ℕ) (tag : List ℕ) (draft : Draft) (stamp : Stamp) → HasLooked file old mid first now start serial steps
     → LooksOn mid new → now ≤ then → Honestly new.disk ((base : Base) → mid.keeps base → post_refusal file base.messages tag draft serial stamp ≡ Some fault.KnownSerial)
     → HasLooked file old new first then start ((serial + 1) % 2 ^ 32) (steps + 1)
@@ -50,7 +46,6 @@ pub filed_first : (file : LinkFile) (old mid new : StoreState) (first now serial
     → FiledAs true file base words draft serial new
 filed_first file old mid new first now serial steps words draft base so honest h allowed kept = grind (arith, first_here, free_where_allowed)
 
--- no posting is refused as out of memory
 never_memory : (file : LinkFile) (base : List Filed) (tag : List ℕ) (draft : Draft) (serial : ℕ) (stamp : Stamp) (why : PostFault) → post_refusal file base tag draft serial stamp ≡ Some why → why ≡ fault.Memory → ⊥
 never_memory file base tag draft serial stamp fault.Memory is memory = (refusal_first file base tag draft serial stamp fault.Memory).0 is
 never_memory file base tag draft serial stamp other is memory = absurd (cc)
@@ -65,7 +60,6 @@ refused_on file new words draft serial base (post.Refused why) is unless =
     ]
 refused_on file new words draft serial base (post.Store cause) is unless = tt
 
--- a refusal for a known serial changed nothing
 pub looks_known : (mid new : StoreState) (why : PostStepError) → why ≡ post.Refused fault.KnownSerial → LooksWhereRefused mid new why → LooksOn mid new
 looks_known mid new (post.Refused why) known looks = looks
 looks_known mid new (post.Store cause) known looks = absurd (cc)
@@ -85,12 +79,10 @@ makes_as : (free : Bool) (file : LinkFile) (words : NewMessage) (body : List ℕ
 makes_as true file words body base next serial is made = record { serial = serial; first = is; made = made }
 makes_as false file words body base next serial is made = subst (λ (n : ℕ). Posts file (with_serial words n) body base next) is made
 
--- there is a serial with which words are posted
 serial_of : (free : Bool) (file : LinkFile) (base : List Filed) (start : ℕ) → (serial : ℕ) × IsSerial free file base start serial
 serial_of true file base start = first_of_all file base start
 serial_of false file base start = (start, refl)
 
--- there is no memory for the draft
 pub as_memory : (free : Bool) (words : NewMessage) (system : SystemState) (body : List ℕ) (old : Output) → PostsAsOn {A = Unit {0}} free words system body old old (Err (Met OutOfMemory))
 as_memory free words system body old =
     let found = serial_of free system.file system.base words.serial in

@@ -12,7 +12,6 @@ use Rattle.cmd_store.specs.Serials.{IsFirstFree, is_taken, serial_after}
 abbrev pub AreTaken : LinkFile → List Filed → ℕ → ℕ → Type 0
 AreTaken file base start steps = (k : ℕ) → k < steps → is_taken file base (serial_after start k) ≡ true
 
--- one more is taken
 pub one_more : (file : LinkFile) (base : List Filed) (start steps : ℕ) → AreTaken file base start steps → is_taken file base (serial_after start steps) ≡ true
     → AreTaken file base start (steps + 1)
 one_more file base start steps before here k within = elim (cases_order k steps) [
@@ -21,16 +20,13 @@ one_more file base start steps before here k within = elim (cases_order k steps)
   | inr (inr more) ↦ absurd (omega (arith, within, more))
 ]
 
--- the step after one
 pub next_step : (start steps serial : ℕ) → serial ≡ serial_after start steps → (serial + 1) % 2 ^ 32 ≡ serial_after start (steps + 1)
 next_step start steps serial is = omega (arith, is)
 
--- a serial that is free is the first that is
 pub first_here : (file : LinkFile) (base : List Filed) (start steps serial : ℕ) → serial ≡ serial_after start steps → AreTaken file base start steps
     → is_taken file base serial ≡ false → IsFirstFree file base start serial
 first_here file base start steps serial is before free = record { steps = steps; is = is; before = before; ends = inl free }
 
--- there is a first one, from some steps on
 first_from : (file : LinkFile) (base : List Filed) (start left steps : ℕ) → steps + left ≡ 2 ^ 32 - 1 → AreTaken file base start steps
     → (serial : ℕ) × IsFirstFree file base start serial
 first_from file base start zero steps whole before =
@@ -71,7 +67,6 @@ refused_first file base tag draft start serial stamp why is unless =
       | inr refused ↦ inr (found.0, found.1, refused)
     ]
 
--- a serial with which a message may be filed is free
 pub free_where_allowed : (file : LinkFile) (base : List Filed) (tag : List ℕ) (draft : Draft) (serial : ℕ) (stamp : Stamp)
     → post_refusal file base tag draft serial stamp ≡ None → is_taken file base serial ≡ false
 free_where_allowed file base tag draft serial stamp may =

@@ -11,10 +11,8 @@ use Rattle.echo_filed.proofs.Texts.{says_accepted, says_one}
 use Rattle.model_steps.specs.{declared.outcome.Outcome.Outcome, SystemState.SystemState, Tossing.toss_outcome, Tossing.tossed, Tossing.tossing}
 use Rattle.echo_toss.specs.{declared.tally.Tally.Tally, Messages.HasTaken, Messages.IsOpened, Tallies.tally_of}
 use Rattle.echo_toss.proofs.Stops.{some_tossed}
-use Rattle.cmd_store.specs.Notes.{area_said, note_of, notes_of, said_unless, text_said}
-use Rattle.cmd_store.specs.NotedPacket.{NotesSome, NotesTaken}
+use Rattle.cmd_store.specs.{Notes.area_said, Notes.note_of, Notes.notes_of, Notes.said_unless, Notes.text_said, NotedPacket.NotesSome, NotedPacket.NotesTaken}
 
--- the area of a parsed text
 pub said_area : (text : List ℕ) (e : EchoText) (dropped : ℕ) → EchoOf text e dropped → area_said e ≡ text_said text
 said_area text e dropped h =
     sym (ap (λ r. said_unless r (echo_of text)) (says_accepted text e dropped h) ∙ ap area_said (says_one text e dropped h))

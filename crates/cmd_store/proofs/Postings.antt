@@ -8,8 +8,7 @@ use Rattle.base_store.specs.Store.{HasStoreCause, StoreState, with_message}
 use Rattle.echo_text.specs.Ids.{id_of}
 use Rattle.echo_toss.specs.{declared.step_error.PostStepError.PostStepError, Stores.IsPostStop, Stores.post_answer}
 use Rattle.echo_toss.specs.declared.step_error.PostStepError.TheVariants as post
-use Rattle.cmd_store.specs.{declared.drafting.NewMessage.NewMessage, Lines.posted_line, Drafts.draft_given, declared.command_error.CommandError.CommandError, Answered.PrintsAll}
-use Rattle.cmd_store.specs.{Posted.Posts, Posted.PostsOn, Stops.post_stop, Stops.store_answer}
+use Rattle.cmd_store.specs.{declared.drafting.NewMessage.NewMessage, Lines.posted_line, Drafts.draft_given, declared.command_error.CommandError.CommandError, Answered.PrintsAll, Posted.Posts, Posted.PostsOn, Stops.post_stop, Stops.store_answer}
 use Rattle.cmd_store.proofs.Printed.{answered}
 
 -- a posting that stopped

@@ -10,20 +10,16 @@ use Rattle.cmd_status.specs.Devices.{Output}
 use Rattle.model_steps.specs.Purging.{changed}
 use Rattle.base_store.specs.Store.{KeepsOrCommits, MayCommit, LeavesEither, StoreState, purged}
 use Rattle.base_store.proofs.Runs.{same_twice, others_twice as kept_twice}
-use Rattle.cmd_store.specs.{Lines.purged_line, declared.command_error.CommandError.CommandError, Answered.MayMake, Answered.PrintsAll, Answered.RefusesNone, Answered.RepresentsMade}
-use Rattle.cmd_store.specs.Purged.{HoldsOrPurges, IsPurgedAt, PurgesOn}
+use Rattle.cmd_store.specs.{Lines.purged_line, declared.command_error.CommandError.CommandError, Answered.MayMake, Answered.PrintsAll, Answered.RefusesNone, Answered.RepresentsMade, Purged.HoldsOrPurges, Purged.IsPurgedAt, Purged.PurgesOn}
 use Rattle.cmd_store.proofs.Printed.{answered}
 
--- a purge may commit the base that the store held before
 pub purge_may : (old new : StoreState) → MayCommit old new → MayMake HoldsOrPurges old new
 purge_may old new may = grind (arith, weaker_run, ⊎_elim)
 
--- the files that a crash leaves during the later commit, if `was` was the committed base before it
 stood_purged : (old mid : StoreState) (first base was : Base) (c : Files) → (was ≡ first) ⊎ (was ≡ base) → MayCommit old mid → LeavesEither mid was (purged base) c
     → RepresentsMade old (HoldsOrPurges base) first c
 stood_purged old mid first base was c is may either = grind (arith, ⊎_elim)
 
--- then the purged base may be committed
 pub purge_then : (old mid new : StoreState) → MayCommit old mid → Honestly mid.disk ((base : Base) → old.keeps base → mid.keeps (purged base))
     → Honestly mid.disk (KeepsOrCommits old mid) → MayCommit mid new → MayMake HoldsOrPurges old new
 purge_then old mid new first kept done may = record {

@@ -10,16 +10,12 @@ use Rattle.cmd_status.specs.Devices.{Output}
 use Rattle.model_steps.specs.SystemState.{SystemState}
 use Rattle.base_store.specs.Store.{LooksOn, LeavesCommitted, StoreState}
 use Rattle.base_store.proofs.Runs.{goes_on_twice, looks_commit, looks_go_on, looks_then_commits, same_twice, others_twice as kept_twice}
-use Rattle.cmd_store.specs.{declared.drafting.NewMessage.NewMessage, declared.answering.Answer.Answer, declared.answering.ReplyFields.ReplyFields, AnswerWords.IsFound, AnswerWords.IsReply}
-use Rattle.cmd_store.specs.{declared.command_error.CommandError.CommandError, Answered.CommitsNoneWhereMet, Answered.MayMake, Answered.RepresentsMade}
-use Rattle.cmd_store.specs.Replied.{FindsOn, PostsAs, Replies, RepliesOn}
+use Rattle.cmd_store.specs.{declared.drafting.NewMessage.NewMessage, declared.answering.Answer.Answer, declared.answering.ReplyFields.ReplyFields, AnswerWords.IsFound, AnswerWords.IsReply, declared.command_error.CommandError.CommandError, Answered.CommitsNoneWhereMet, Answered.MayMake, Answered.RepresentsMade, Replied.FindsOn, Replied.PostsAs, Replied.Replies, Replied.RepliesOn}
 
--- the message with the found words
 pub found_message : (o : Option Filed) (found : ReplyFields) → FindsOn o (Ok found) → (m : Filed) × (o ≡ Some m) × IsFound m found
 found_message None found is = absurd is
 found_message (Some m) found is = (m, refl, is)
 
--- without words the command stops
 pub reply_stopped : (o : Option Filed) (answer : Answer) (system : SystemState) (body : List ℕ) (old : Output) (why : CommandError) → FindsOn o (Err why) → RepliesOn {A = Unit {0}} o answer system body old old (Err why)
 reply_stopped o answer system body old why h1 = grind arith
 
@@ -28,11 +24,9 @@ pub replies : (file : LinkFile) (index : ℕ) (answer : Answer) (body : List ℕ
     → PostsAs answer.free file words body base next → Replies file index answer body base next
 replies file index answer body base next m words found of_message made = record { message = m; found = found; words = words; of_message = of_message; made = made }
 
--- the command stopped after a look
 pub met_looked : {A : Type 0} (old mid new : StoreState) (result : Result A CommandError) → old.is_ready → LooksOn old mid → IfErr result (CommitsNoneWhereMet mid new) → IfErr result (CommitsNoneWhereMet old new)
 met_looked old mid new result h1 h2 h3 = grind (arith, looks_then_commits, goes_on_twice, looks_go_on)
 
--- the files that a crash leaves during a command after a look, compared with those before the look
 stood_looked : (IsMade IsOther : Base → Type 0) (old mid : StoreState) (first : Base) (c : Files) → old.is_ready → LooksOn old mid → ((next : Base) → IsMade next → IsOther next)
     → RepresentsMade mid IsMade first c → RepresentsMade old IsOther first c
 stood_looked IsMade IsOther old mid first c ready looks gives stood = grind (arith, looks_commit, ⊎_elim)

@@ -9,8 +9,7 @@ use Rattle.cmd_status.specs.{declared.fault.Fault.Fault, Devices.Device}
 use Rattle.base_store.specs.{Store.CommitsNothing, Store.GoesOn, Store.StoreState, declared.store_error.StoreError.StoreError}
 use Rattle.base_store.proofs.Runs.{commits_none, goes_on_twice, looks_commit, looks_go_on, no_look}
 use Rattle.echo_toss.specs.PacketsIn.{state_in}
-use Rattle.cmd_store.specs.{Coming.Coming, Coming.OpensNext, TossRuns.TossesEachBy, TossedPacket.TossRun, TossedPacket.TossesPacketBy}
-use Rattle.cmd_store.specs.Tossed.{TossesFiles, TossesNext, run_at, stopped_in}
+use Rattle.cmd_store.specs.{Coming.Coming, Coming.OpensNext, TossRuns.TossesEachBy, TossedPacket.TossRun, TossedPacket.TossesPacketBy, Tossed.TossesFiles, Tossed.TossesNext, Tossed.run_at, Tossed.stopped_in}
 
 -- The remaining files have the same effect on the current base as all files on the first base. This also holds for
 -- later files that are honest only if the present ones are.
@@ -31,7 +30,6 @@ pub begun_files : {P R : Type 0} (honest : P → Type 0) (noting : Bool) (limits
     → HasTossedFiles honest noting limits device file old old first first files files lines lines at
 begun_files honest noting limits device file old first files lines at ready = grind (arith, looks_go_on, no_look, looks_commit)
 
--- a run by its parts
 run_is : (limits : Limits) (file : LinkFile) (next : Base) (lines : List ℕ) (run : TossRun) → run.limits ≡ limits → run.system ≡ state_in file next → run.lines ≡ lines → run ≡ run_at limits file next lines
 run_is limits file next lines run one two three = grind arith
 

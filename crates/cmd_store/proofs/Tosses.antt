@@ -6,19 +6,15 @@ use Rattle.echo_packet.specs.declared.limits.Limits.{Limits}
 use Rattle.cmd_status.specs.{declared.fault.Fault.Fault, declared.fault.Fault.TheVariants.OutOfMemory, declared.fault.Fault.TheVariants.TossMemory, Devices.Device}
 use Rattle.model_steps.specs.SystemState.{SystemState}
 use Rattle.base_store.specs.{Store.StoreState, declared.store_error.StoreError.StoreError}
-use Rattle.echo_toss.specs.PacketsIn.{HoldsUnlessFailed, cause_in, packet_answer, state_in, stop_in}
-use Rattle.echo_toss.specs.declared.{fault.TossFault.TossFault, step_error.StoppedToss.StoppedToss, step_error.TossStepError.TossStepError, tally.Tally.Tally}
-use Rattle.echo_toss.specs.PacketSteps.{CountsToss, PacketStep}
+use Rattle.echo_toss.specs.{PacketsIn.HoldsUnlessFailed, PacketsIn.cause_in, PacketsIn.packet_answer, PacketsIn.state_in, PacketsIn.stop_in, declared.fault.TossFault.TossFault, declared.step_error.StoppedToss.StoppedToss, declared.step_error.TossStepError.TossStepError, declared.tally.Tally.Tally, PacketSteps.CountsToss, PacketSteps.PacketStep}
 use Rattle.echo_toss.specs.declared.step_error.TossStepError.TheVariants as toss
-use Rattle.cmd_store.specs.{Lines.tally_line, TossedPacket.ReportsPacket, TossedPacket.TossRun, TossedPacket.TossesPacketBy, TossedPacket.fault_of, NotedPacket.NotesPacket}
-use Rattle.cmd_store.specs.Tossed.{ReportsIn, ReportsStop, TossesNext, run_at}
+use Rattle.cmd_store.specs.{Lines.tally_line, TossedPacket.ReportsPacket, TossedPacket.TossRun, TossedPacket.TossesPacketBy, TossedPacket.fault_of, NotedPacket.NotesPacket, Tossed.ReportsIn, Tossed.ReportsStop, Tossed.TossesNext, Tossed.run_at}
 
 -- the notes on a packet, or no notes if its messages are not noted
 abbrev pub NotesIf : Bool → Limits → SystemState → Option (List ℕ) → Result Tally TossFault → SystemState → List ℕ → List ℕ → Type 0
 NotesIf true limits old before answer new text noted = NotesPacket limits old before answer new text noted
 NotesIf false limits old before answer new text noted = noted ≡ text
 
--- there was no memory for the line of a packet
 pub no_line : (noting : Bool) (run : TossRun) (d : Device) → TossesPacketBy noting run d d (Some OutOfMemory) run
 no_line true run d = inl (refl, refl, refl, refl)
 no_line false run d = inl (refl, refl, refl, refl)
@@ -89,7 +85,6 @@ next_unread noting limits file base d lines more new same kept = record {
   keeps = kept;
 }
 
--- the same from lines, and of a choice, by other names
 pub next_from : (noting by : Bool) (limits : Limits) (file : LinkFile) (base : Base) (reader left : Device) (lines start more : List ℕ) (result : Result (Option Fault) StoreError) (new : StoreState) → noting ≡ by → start ≡ lines
     → TossesNext by limits file base reader left start more result new → TossesNext noting limits file base reader left lines more result new
 next_from noting by limits file base reader left lines start more result new is same t =

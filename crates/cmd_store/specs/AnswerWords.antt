@@ -3,7 +3,8 @@ use Rattle.std.specs.Prelude.{◌≡◌, ℕ, ◌-◌, ◌++◌, ◌==◌, ◌&&
 use Rattle.std.specs.Char.{eq_ignore_ascii_case}
 use Rattle.echo_filed.specs.Filed.{Filed}
 use Rattle.echo_packet.specs.Message.{max_subject}
-use Rattle.echo_text.specs.{Echo.msgid_of, Ids.is_id}
+use Rattle.echo_text.specs.Echo.{msgid_of}
+use Rattle.model_steps.specs.ReplyIds.{is_reply_id}
 use Rattle.cmd_store.specs.declared.{drafting.NewMessage.NewMessage, answering.Answer.Answer, answering.ReplyFields.ReplyFields}
 
 -- The subject of an answer: it begins with `Re:`, in letters of either case.
@@ -24,7 +25,7 @@ answered subject = if is_answer subject then subject else codes "Re: " ++ take r
 -- The id that an answer names. An invalid one is left out.
 abbrev pub named_id : Option (List ℕ) → List ℕ
 named_id None = []
-named_id (Some msgid) = if is_id msgid then msgid else []
+named_id (Some msgid) = if is_reply_id msgid then msgid else []
 
 -- The words that a message gives to its answer.
 pub record IsFound (m : Filed) (found : ReplyFields) : Type 0 where

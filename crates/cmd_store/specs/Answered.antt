@@ -12,7 +12,7 @@ AnswersOn IsRight IsRefused old new (Ok right) = Answers IsRight IsRefused old n
 AnswersOn IsRight IsRefused old new (Err (Met fault)) = Answers IsRight IsRefused old new (Err fault)
 AnswersOn IsRight IsRefused old new (Err (Store cause)) = new ≡ old
 
--- The same for a command that commits after printing. If the store failed, all lines may be printed already.
+-- A command that commits after printing. If the store failed, all lines may be printed already.
 abbrev pub AnswersAndCommits : {A : Type 0} → (List ℕ → A → Type 0) → (Fault → Type 0) → Output → Output → Result A CommandError → Type 0
 AnswersAndCommits IsRight IsRefused old new (Ok right) = Answers IsRight IsRefused old new (Ok right)
 AnswersAndCommits IsRight IsRefused old new (Err (Met fault)) = Answers IsRight IsRefused old new (Err fault)

@@ -7,8 +7,7 @@ use Rattle.echo_filed.specs.Filed.{Filed}
 use Rattle.echo_links.specs.Links.{LinkFile}
 use Rattle.echo_toss.specs.Bounds.{IsPastBound}
 use Rattle.model_steps.specs.{declared.draft.Draft.Draft, Posting.posted}
-use Rattle.cmd_store.specs.{declared.drafting.NewMessage.NewMessage, declared.answering.Answer.Answer, Drafts.draft_given, declared.letter.Letter.Letter, declared.mailed.MailWords.MailWords}
-use Rattle.cmd_store.specs.Mailed.{IsPosting}
+use Rattle.cmd_store.specs.{declared.drafting.NewMessage.NewMessage, declared.answering.Answer.Answer, Drafts.draft_given, declared.letter.Letter.Letter, declared.mailed.MailWords.MailWords, Mailed.IsPosting}
 
 -- The store was full, so a commit did nothing.
 pub record IsUncommitted (old new : StoreState) : Type 0 where
@@ -38,7 +37,7 @@ abbrev pub IsPast : {T : Type 0} → Bool → (T → StoreState) → (Base → F
 IsPast false state Adds May old = IsPastBound state Adds old
 IsPast true state Adds May old = IsFullOnceHeld state May old
 
--- The same, with the base that the command may have committed.
+-- With the base that the command may have committed.
 abbrev pub StaysTooMany : {T : Type 0} → Bool → (T → StoreState) → (Base → Filed → Type 0) → (Base → Base → Type 0) → StoreState → StoreState → Type 0
 StaysTooMany false state Adds May old new = IsStoppedFull state Adds old new
 StaysTooMany true state Adds May old new = IsStoppedHeld state May old new

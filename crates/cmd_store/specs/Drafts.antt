@@ -7,7 +7,6 @@ use Rattle.cmd_store.specs.declared.drafting.NewMessage.{NewMessage}
 abbrev pub draft_byte : ℕ → ℕ → List ℕ
 draft_byte before byte = if byte == 10 then (if before == 13 then [] else 13 ∷ []) else byte ∷ []
 
--- The same for the bytes after one.
 abbrev pub draft_after : ℕ → List ℕ → List ℕ
 draft_after before [] = []
 draft_after before (byte ∷ later) = draft_byte before byte ++ draft_after byte later

@@ -45,7 +45,7 @@ abbrev pub PostsAsOn : {A : Type 0} → Bool → NewMessage → SystemState → 
 PostsAsOn false words system body old new result = PostsOn words system body old new result
 PostsAsOn true words system body old new result = PostsFreeOn words system body old new result
 
--- The same posting makes the base `next` of another.
+-- The posting makes the base `next` of another.
 abbrev pub PostsAs : Bool → LinkFile → NewMessage → List ℕ → Base → Base → Type 0
 PostsAs false file words body base next = Posts file words body base next
 PostsAs true file words body base next = PostsFree file words body base next

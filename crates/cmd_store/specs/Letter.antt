@@ -3,11 +3,9 @@ use Rattle.std.specs.Prelude.{ℕ, ◌≡◌, ◌⊎◌, ◌||◌, List, [], cod
 use Rattle.std.specs.Option.{option_or}
 use Rattle.echo_charset.specs.declared.charset.Charset.{Charset}
 use Rattle.echo_mail.specs.{declared.fault.MailFault.MailFault, declared.mail.Mail.Mail, Area.area_in, Body.text_of, Body.value_in, Exported.exported_id}
-use Rattle.echo_text.specs.Ids.{is_id}
+use Rattle.model_steps.specs.ReplyIds.{is_reply_id}
 use Rattle.cmd_store.specs.declared.fault.LetterFault.TheVariants.{Memory, NoArea, NoFrom, NoSubject, NoTo}
-use Rattle.cmd_store.specs.Written.{IsRefused, IsSaid, IsWritten, name_or, words_or}
-use Rattle.cmd_store.specs.{declared.fault.LetterFault.LetterFault, declared.letter.Letter.Letter, declared.letter.MailDefaults.MailDefaults, CharsetLine.is_wide, CharsetLine.with_line}
-use Rattle.cmd_store.specs.Fault.{letter_fault}
+use Rattle.cmd_store.specs.{Written.IsRefused, Written.IsSaid, Written.IsWritten, Written.name_or, Written.words_or, declared.fault.LetterFault.LetterFault, declared.letter.Letter.Letter, declared.letter.MailDefaults.MailDefaults, CharsetLine.is_wide, CharsetLine.with_line, Fault.letter_fault}
 
 -- The value of a field of a mail.
 abbrev pub field : Mail → List ℕ → Option (List ℕ)
@@ -30,7 +28,7 @@ subject_said mail spare = words_or (field mail (codes "Subject")) (option_copied
 -- The id, if it is valid.
 abbrev pub true_id : Option (List ℕ) → Option (List ℕ)
 true_id None = None
-true_id (Some id) = if is_id id then Some id else None
+true_id (Some id) = if is_reply_id id then Some id else None
 
 -- The id behind a field's message id, if there is one.
 abbrev pub answered_id : Option (List ℕ) → Option (List ℕ)
@@ -82,7 +80,7 @@ abbrev pub LetterOf : Charset → MailDefaults → Mail → Result Letter Letter
 LetterOf charset spare mail (Ok letter) = IsLetter charset spare mail letter
 LetterOf charset spare mail (Err fault) = IsLetterFault charset spare mail fault
 
--- The same for bytes to read as a mail, or their fault.
+-- For bytes to read as a mail, or their fault.
 abbrev pub LetterAnswers : Charset → MailDefaults → Result Mail MailFault → Result Letter LetterFault → Type 0
 LetterAnswers charset spare (Ok mail) answer = LetterOf charset spare mail answer
 LetterAnswers charset spare (Err why) answer = IsRefused (letter_fault why) answer

@@ -5,8 +5,7 @@ use Rattle.echo_links.specs.Links.{LinkFile}
 use Rattle.echo_mail.specs.Mail.{mail_in}
 use Rattle.cmd_status.specs.Devices.{Output}
 use Rattle.model_steps.specs.SystemState.{SystemState}
-use Rattle.cmd_store.specs.{declared.drafting.NewMessage.NewMessage, FreeSerial.PostsAs, FreeSerial.PostsAsOn, declared.command_error.CommandError.CommandError, declared.fault.LetterFault.LetterFault}
-use Rattle.cmd_store.specs.{declared.letter.Letter.Letter, declared.mailed.MailWords.MailWords, declared.mail_posting.PostMail.PostMail, Letter.LetterAnswers, Mailed.IsPosting}
+use Rattle.cmd_store.specs.{declared.drafting.NewMessage.NewMessage, FreeSerial.PostsAs, FreeSerial.PostsAsOn, declared.command_error.CommandError.CommandError, declared.fault.LetterFault.LetterFault, declared.letter.Letter.Letter, declared.mailed.MailWords.MailWords, declared.mail_posting.PostMail.PostMail, Letter.LetterAnswers, Mailed.IsPosting}
 
 -- The letter of the mail with its request, or the fault of the mail.
 abbrev pub ReadsMail : MailWords → List ℕ → Result PostMail LetterFault → Type 0

@@ -1,14 +1,11 @@
 -- Tossing a packet with notes into a store.
-use Rattle.std.specs.Prelude.{◌≡◌, ℕ, List, [], Option, Result, Vec}
-use Rattle.std.specs.declared.alloc.Global.{Global}
+use Rattle.std.specs.{Prelude.◌≡◌, Prelude.ℕ, Prelude.List, Prelude.[], Prelude.Option, Prelude.Result, Prelude.Vec, declared.alloc.Global.Global}
 use Rattle.echo_addr.specs.declared.address.Address.{Address}
 use Rattle.base_file.specs.Base.{Base}
 use Rattle.echo_links.specs.Links.{LinkFile}
 use Rattle.echo_packet.specs.declared.limits.Limits.{Limits}
 use Rattle.base_store.specs.Store.{StoreState}
-use Rattle.echo_toss.specs.PacketsIn.{HoldsUnlessFailed, messages_answer, packet_answer, state_in, stop_in}
-use Rattle.echo_toss.specs.{declared.step_error.StoppedToss.StoppedToss, declared.step_error.TossStepError.TossStepError, declared.tally.Tally.Tally, Messages.TossesMessages, PacketSteps.PacketStep}
-use Rattle.echo_toss.specs.Tallies.{tally_of}
+use Rattle.echo_toss.specs.{PacketsIn.HoldsUnlessFailed, PacketsIn.messages_answer, PacketsIn.packet_answer, PacketsIn.state_in, PacketsIn.stop_in, declared.step_error.StoppedToss.StoppedToss, declared.step_error.TossStepError.TossStepError, declared.tally.Tally.Tally, Messages.TossesMessages, PacketSteps.PacketStep, Tallies.tally_of}
 use Rattle.cmd_store.specs.{Lines.HasTallyRoom, NotedPacket.NotesPacket, NotedPacket.NotesTaken}
 
 -- The packet at the front of a reader's bytes is tossed, from this base to the one that the store then holds. The notes
@@ -19,7 +16,7 @@ pub record NotesPacketIn (limits : Limits) (file : LinkFile) (base : Base) (befo
   pub notes : NotesPacket limits (state_in file base) before (packet_answer result) (state_in file next) text noted
   pub holds : HoldsUnlessFailed old (stop_in result) new next
 
--- The same for the messages after a header.
+-- The notes on the messages after a header.
 pub record NotesMessagesIn {A : Type 0} (limits : Limits) (sender : Address) (file : LinkFile) (base : Base) (before after : Option (List ℕ)) (tally : Tally) (text noted : List ℕ) (old : StoreState) (result : Result A TossStepError) (new : StoreState) : Type 0 where
   pub next : Base
   pub step : TossesMessages limits sender (state_in file base) before after tally (messages_answer result) (state_in file next)

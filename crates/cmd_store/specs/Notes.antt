@@ -27,7 +27,7 @@ id_said None = codes "\n"
 abbrev pub area_said : EchoText → List ℕ
 area_said e = codes " area " ++ (e.tag ++ id_said (msgid_of e.kept))
 
--- The same for a text, if it is echomail.
+-- For a text, if it is echomail.
 abbrev pub said_unless : Option TextFault → EchoText → List ℕ
 said_unless None e = area_said e
 said_unless (Some refused) e = codes "\n"

@@ -16,7 +16,7 @@ abbrev pub resent_name : Address → ℕ → List ℕ
 resent_name to first =
     decimal to.zone ++ (codes "." ++ (decimal to.net ++ (codes "." ++ (decimal to.node ++ (codes ".r" ++ (decimal first ++ codes ".pkt"))))))
 
--- The same, or `zone.net.node.rI-K.pkt` for a number K of other than 1.
+-- The name with `-K` for a number K of other than 1: `zone.net.node.rI-K.pkt`.
 abbrev pub repair_name : Address → ℕ → ℕ → List ℕ
 repair_name to first number =
     if number == 1 then resent_name to first

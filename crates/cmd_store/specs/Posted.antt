@@ -7,8 +7,7 @@ use Rattle.model_steps.specs.{declared.fault.PostFault.PostFault, Posting.posted
 use Rattle.base_store.specs.Store.{with_message}
 use Rattle.echo_text.specs.Ids.{id_of}
 use Rattle.echo_toss.specs.PacketsIn.{state_in}
-use Rattle.cmd_store.specs.{declared.drafting.NewMessage.NewMessage, Lines.posted_line, Drafts.draft_given, Drafts.refusal_given, declared.command_error.CommandError.CommandError}
-use Rattle.cmd_store.specs.Answered.{AnswersAndCommits}
+use Rattle.cmd_store.specs.{declared.drafting.NewMessage.NewMessage, Lines.posted_line, Drafts.draft_given, Drafts.refusal_given, declared.command_error.CommandError.CommandError, Answered.AnswersAndCommits}
 
 -- A posting without a refusal at a system, with the line of its tag and id.
 pub record IsPostedAt {A : Type 0} (words : NewMessage) (system : SystemState) (body lines : List ℕ) (done : A) : Type 0 where

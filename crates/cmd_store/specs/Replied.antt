@@ -5,9 +5,8 @@ use Rattle.echo_filed.specs.Filed.{Filed}
 use Rattle.echo_links.specs.Links.{LinkFile}
 use Rattle.cmd_status.specs.{declared.fault.Fault.TheVariants.BadNumber, Devices.Output, Ended.IsOutOfMemory}
 use Rattle.model_steps.specs.SystemState.{SystemState}
-use Rattle.cmd_store.specs.{declared.drafting.NewMessage.NewMessage, declared.answering.Answer.Answer, declared.answering.ReplyFields.ReplyFields, AnswerWords.IsFound, AnswerWords.IsReply}
+use Rattle.cmd_store.specs.{declared.drafting.NewMessage.NewMessage, declared.answering.Answer.Answer, declared.answering.ReplyFields.ReplyFields, AnswerWords.IsFound, AnswerWords.IsReply, Answered.StopsFirst}
 use Rattle.cmd_store.specs.declared.command_error.CommandError.{CommandError, TheVariants.Met, TheVariants.Store}
-use Rattle.cmd_store.specs.Answered.{StopsFirst}
 pub use Rattle.cmd_store.specs.FreeSerial.{PostsAs, PostsAsOn}
 
 -- The words that the message gives, or why there are no words: no such message, no memory, or a failed store.

@@ -67,7 +67,7 @@ pub record TossesNext (noting : Bool) (limits : Limits) (file : LinkFile) (base 
   pub added : OnOk result (run.lines ≡ more)
   pub keeps : OnOk result (new.keeps next)
 
--- The same for packet files, up to the first fault.
+-- Packet files, up to the first fault.
 pub record TossesFiles {R : Type 0} (honest : Type 0) (noting : Bool) (limits : Limits) (device : R → Device) (file : LinkFile) (base : Base) (files left : List Coming) (lines more : List ℕ) (result : Result (Option Fault) StoreError) (new : StoreState) : Type 0 where
   pub next : Base
   pub run : TossRun
@@ -98,7 +98,7 @@ pub record TossesIn {R : Type 0} (honest : Type 0) (noting : Bool) (limits : Lim
   pub each : TossesEachBy honest (TossesPacketBy noting) device files (run_begun limits (state_in file base)) stopped left run
   pub ends : EndsOn run stopped old new result
 
--- The same, and the system then has the next base.
+-- The system then has the next base.
 pub record TossesTo {R : Type 0} (honest : Type 0) (noting : Bool) (limits : Limits) (device : R → Device) (file : LinkFile) (base : Base) (files left : List Coming) (old new : Output) (result : Result (Option Fault) CommandError) (next : Base) : Type 0 where
   pub tossed : TossesIn honest noting limits device file base files left old new result
   pub state : tossed.run.system ≡ state_in file next

@@ -15,7 +15,7 @@ abbrev pub IsSaid : Charset → List ℕ → Result (List ℕ) LetterFault → T
 IsSaid charset text (Ok bytes) = decoded_text charset bytes ≡ text
 IsSaid charset text (Err fault) = (fault ≡ Memory) ⊎ ((fault ≡ NotInCharset) × Lacks charset text)
 
--- The same for a text that may be absent, which is a fault.
+-- For a text that may be absent, which is a fault.
 abbrev pub IsWritten : Charset → Option (List ℕ) → LetterFault → Result (List ℕ) LetterFault → Type 0
 IsWritten charset None lack answer = IsRefused lack answer
 IsWritten charset (Some text) lack answer = IsSaid charset text answer

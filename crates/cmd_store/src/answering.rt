@@ -1,12 +1,10 @@
 //! The words that an answer takes of the message that it answers.
 ghost use Rattle.std.specs.Prelude.{◌≡◌, IfOk, option_copied, take};
-ghost use Rattle.echo_text.specs.Ids.{is_id};
 ghost use Rattle.cmd_store.specs.AnswerWords.{IsFound, answered, is_answer, named_id, room_behind};
 
 use echo_addr::Items;
 use echo_filed::Filed;
-use echo_text::MsgId;
-use model_steps::Stamp;
+use model_steps::{Stamp, is_reply_id};
 use std::alloc::{AllocError, Global};
 
 /// How many bytes of a subject have room behind `Re: `.
@@ -44,7 +42,6 @@ pub fn found_in(alloc: Global, message: &Filed) -> Result<ReplyFields, AllocErro
     })
 }
 
-// The subject of an answer.
 fn answered(alloc: Global, subject: &[u8]) -> Result<Vec<u8>, AllocError>
     ensures { IfOk result (λ bytes. bytes.items ≡ answered subject.now) }
 {
@@ -67,7 +64,6 @@ fn front(subject: &[u8]) -> &[u8]
     }
 }
 
-// Whether the subject is that of an answer.
 fn is_answer(subject: &[u8]) -> bool
     ensures { result ≡ is_answer subject.now }
 {
@@ -77,19 +73,11 @@ fn is_answer(subject: &[u8]) -> bool
         && subject[2] == b':'
 }
 
-// The id that an answer names.
 fn named_id(msgid: Option<&[u8]>) -> &[u8]
     ensures { result.now ≡ named_id (option_copied msgid.entry) }
 {
     match msgid {
-        Some(id) if is_id(id) => id,
+        Some(id) if is_reply_id(id) => id,
         _ => &[],
     }
-}
-
-/// Whether the bytes spell an id, as the reply of a posting has to.
-pub fn is_id(bytes: &[u8]) -> bool
-    ensures { result ≡ is_id bytes.now }
-{
-    MsgId::read(bytes).is_ok()
 }

@@ -5,7 +5,6 @@ ghost use Rattle.cmd_store.specs.CharsetLine.{charset_line, is_wide, level, with
 use echo_charset::Charset;
 use std::alloc::{AllocError, Global};
 
-/// The text, after the line of the charset if it has bytes above 7F.
 pub(crate) fn with_line(
     alloc: Global,
     charset: Charset,
@@ -41,7 +40,6 @@ fn level(charset: Charset) -> u8
     }
 }
 
-/// Whether a byte is above 7F.
 pub(crate) fn is_wide(bytes: &[u8]) -> bool
     ensures { result ≡ is_wide bytes.now }
 {

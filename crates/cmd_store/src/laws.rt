@@ -1,7 +1,7 @@
 //! What holds of the definitions. Each law is the contract of a function that does nothing.
 ghost use Rattle.std.specs.Prelude.{◌≡◌, ◌++◌, ℕ, List, Some, codes, true};
 ghost use Rattle.hex.specs.Hex.{IsBytes};
-ghost use Rattle.echo_text.specs.Ids.{is_id};
+ghost use Rattle.model_steps.specs.ReplyIds.{is_reply_id};
 ghost use Rattle.echo_export.specs.HeaderText.{id_line};
 ghost use Rattle.echo_mail.specs.Head.{field_of};
 ghost use Rattle.cmd_store.specs.Letter.{answered_id};
@@ -9,5 +9,5 @@ ghost use Rattle.cmd_store.specs.Letter.{answered_id};
 /// The id of an exported message comes back. Let the line `Message-ID` be the one that `export` writes of an id, and
 /// let an answer have its value as `In-Reply-To`. Then the answer names that id, byte for byte.
 pub fn exported_ids_are_answered()
-    ensures { (line id : List ℕ) → IsBytes id → is_id id ≡ true → id_line (codes "Message-ID") (Some id) ≡ line ++ codes "\n" → answered_id (Some (field_of line).value) ≡ Some id }
+    ensures { (line id : List ℕ) → IsBytes id → is_reply_id id ≡ true → id_line (codes "Message-ID") (Some id) ≡ line ++ codes "\n" → answered_id (Some (field_of line).value) ≡ Some id }
 {}

@@ -1,16 +1,15 @@
 //! The words and the body that a mail says.
-ghost use Rattle.std.specs.Prelude.{◌≡◌, [], codes, option_copied, unwrap_or, IfOk};
-ghost use Rattle.std.specs.Option.{option_or};
+ghost use Rattle.std.specs.{Prelude.◌≡◌, Prelude.[], Prelude.codes, Prelude.option_copied, Prelude.unwrap_or, Prelude.IfOk, Option.option_or};
 ghost use Rattle.echo_mail.specs.{Area.area_in, Body.text_of, Body.value_in, Mail.mail_in};
 ghost use Rattle.cmd_store.specs.Letter.{IsArea, IsBody, LetterAnswers, LetterOf, answered_id, are_wide, field, true_id};
 
-use crate::answering::is_id;
 use crate::charset_line::{is_wide, with_line};
 use crate::fault::LetterFault;
 use crate::writing::{bytes_in, name_in, words_in};
 use echo_addr::Items;
 use echo_charset::Charset;
 use echo_mail::{Field, Mail, area_in, body_text, exported_id, read_mail, value_in};
+use model_steps::is_reply_id;
 use std::alloc::{AllocError, Global};
 
 /// Words for what a mail lacks.
@@ -47,7 +46,6 @@ pub fn letter_in(
     letter_of(alloc, &mail, spare, charset)
 }
 
-// The same of a mail.
 fn letter_of(
     alloc: Global,
     mail: &Mail,
@@ -78,7 +76,6 @@ fn letter_of(
     })
 }
 
-// Whether names, subject or text have a byte above 7F.
 fn are_wide(to: &Items<u8>, from: &Items<u8>, subject: &Items<u8>, said: &Items<u8>) -> bool
     ensures { result ≡ are_wide to.now from.now subject.now said.now }
 {
@@ -137,7 +134,6 @@ fn word_bytes(word: Option<&str>) -> &[u8]
     }
 }
 
-// The id that a field names.
 fn answered_id(alloc: Global, value: Option<&[u8]>) -> Result<Option<Items<u8>>, AllocError>
     ensures { IfOk result (λ id. id ≡ answered_id (option_copied value.entry)) }
 {
@@ -147,12 +143,11 @@ fn answered_id(alloc: Global, value: Option<&[u8]>) -> Result<Option<Items<u8>>,
     }
 }
 
-// The id, where it is one.
 fn true_id(id: Option<Items<u8>>) -> Option<Items<u8>>
     ensures { result ≡ true_id id }
 {
     match id {
-        Some(id) if is_id(id.as_slice()) => Some(id),
+        Some(id) if is_reply_id(id.as_slice()) => Some(id),
         _ => None,
     }
 }

@@ -10,7 +10,6 @@ use model_steps::Outcome;
 use std::alloc::{AllocError, Global};
 use std::io::Write;
 
-/// The line of a message of this number, which begins at the place and has this outcome.
 pub(crate) fn note_line(
     alloc: Global,
     number: u64,

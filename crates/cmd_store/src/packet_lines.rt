@@ -1,7 +1,6 @@
 //! The names of the packets of a scan, and their lines.
 ghost use Rattle.std.specs.{Prelude.◌≡◌, Prelude.◌++◌, Prelude.IfOk, Prelude.OnOk, List.flat_map};
-ghost use Rattle.cmd_store.specs.PacketLines.{counted_line, line_sent, packet_name, repair_name, resent_name};
-ghost use Rattle.cmd_store.specs.Lines.{named_receiver};
+ghost use Rattle.cmd_store.specs.{PacketLines.counted_line, PacketLines.line_sent, PacketLines.packet_name, PacketLines.repair_name, PacketLines.resent_name, Lines.named_receiver};
 
 use crate::lines::push_sent;
 use echo_addr::Address;

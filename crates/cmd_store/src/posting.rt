@@ -6,8 +6,7 @@ ghost use Rattle.cmd_status.specs.Devices.{output_of};
 ghost use Rattle.base_store.specs.{Store.Commits, Store.HasStoreCause, Store.MayCommit, declared.store_error.StoreError.TheVariants.TooMany};
 ghost use Rattle.echo_text.specs.Ids.{id_of};
 ghost use Rattle.echo_toss.specs.PacketsIn.{state_in};
-ghost use Rattle.cmd_store.specs.Answered.{CommitsNoneWhereMet, HasCommitted, LooksWhereMet, MayMake, PrintsAll};
-ghost use Rattle.cmd_store.specs.{Lines.posted_line, Bounded.AddsPosted, Bounded.IsStoppedFull, Bounded.IsUncommitted, FreeSerial.PostsAs, FreeSerial.PostsAsOn, Stops.store_answer};
+ghost use Rattle.cmd_store.specs.{Answered.CommitsNoneWhereMet, Answered.HasCommitted, Answered.LooksWhereMet, Answered.MayMake, Answered.PrintsAll, Lines.posted_line, Bounded.AddsPosted, Bounded.IsStoppedFull, Bounded.IsUncommitted, FreeSerial.PostsAs, FreeSerial.PostsAsOn, Stops.store_answer};
 
 use crate::command::StoreCommand;
 use crate::command_error::CommandError;

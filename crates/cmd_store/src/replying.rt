@@ -5,8 +5,7 @@ ghost use Rattle.base_file.specs.Base.{Base};
 ghost use Rattle.cmd_status.specs.Devices.{output_of};
 ghost use Rattle.base_store.specs.Store.{HasStoreCause, LooksOn};
 ghost use Rattle.echo_toss.specs.PacketsIn.{state_in};
-ghost use Rattle.cmd_store.specs.{Answered.CommitsNoneWhereMet, Answered.HasCommitted, Answered.MayMake, Bounded.AddsReply, Bounded.IsStoppedFull, Replied.FindsOn, Replied.Replies, Replied.RepliesOn};
-ghost use Rattle.cmd_store.specs.Stops.{store_answer};
+ghost use Rattle.cmd_store.specs.{Answered.CommitsNoneWhereMet, Answered.HasCommitted, Answered.MayMake, Bounded.AddsReply, Bounded.IsStoppedFull, Replied.FindsOn, Replied.Replies, Replied.RepliesOn, Stops.store_answer};
 
 use crate::answering::{Answer, ReplyFields, found_in};
 use crate::command::StoreCommand;

@@ -6,8 +6,7 @@ ghost use Rattle.base_store.specs.{Store.CommitsNothing, Store.HasStoreCause, de
 ghost use Rattle.model_steps.specs.declared.outcome.Outcome.TheVariants.{Filed};
 ghost use Rattle.echo_toss.specs.declared.fault.TossCause.TheVariants as cause;
 ghost use Rattle.echo_toss.specs.declared.step_error.TossStepError.TheVariants as toss;
-ghost use Rattle.echo_toss.specs.PacketsIn.{GoesOnUnlessFailed, messages_answer, packet_answer, stop_in, toss_answer};
-ghost use Rattle.echo_toss.specs.{Bounds.AddsReceived, Bounds.IsPastBound, Messages.CountsStop, PacketSteps.CountsToss};
+ghost use Rattle.echo_toss.specs.{PacketsIn.GoesOnUnlessFailed, PacketsIn.messages_answer, PacketsIn.packet_answer, PacketsIn.stop_in, PacketsIn.toss_answer, Bounds.AddsReceived, Bounds.IsPastBound, Messages.CountsStop, PacketSteps.CountsToss};
 ghost use Rattle.cmd_store.specs.{Lines.HasTallyRoom, Notes.note_of, NotedIn.CanBegin, NotedIn.NotesMessagesIn, NotedIn.NotesPacketIn};
 
 use crate::lines::MOST_TALLY;
@@ -107,7 +106,7 @@ fn note_messages_in<T: Store, R: Source>(
     }
 }
 
-// The same as `note_outcome`; where there is no memory, the packet is stopped.
+// Where there is no memory, the packet is stopped.
 fn note_in(
     alloc: Global,
     text: &mut Vec<u8>,

@@ -95,6 +95,15 @@ const LINKS_FROM: Word = Word(
 const ASSUME: &str =
     "Judges this system without a file of its own: it links with exactly those who list it. May be repeated";
 
+const ASSUME_MISSING: Word = Word(
+    "assume-missing",
+    Form::Flag,
+    "Does so with each system that a link file lists and that has none",
+);
+
+const WITHOUT: &str =
+    "As if this system had no link file and nobody listed it: who is then cut off? May be repeated";
+
 const LINKS: Word = Word("LINKS", Form::One, "The link file of the system");
 
 const BASE: Word = Word(
@@ -185,7 +194,9 @@ pub(crate) const LOOKING: &[Entry] = &[
                 Form::Flag,
                 "Each area that a file has, instead of TAG",
             ),
-            Word("assume", Form::RepeatedUnless("ADDRESS", "all"), ASSUME),
+            Word("assume", Form::Repeated("ADDRESS"), ASSUME),
+            ASSUME_MISSING,
+            Word("without", Form::Repeated("ADDRESS"), WITHOUT),
             LINKS_FROM,
             Word("TAG", Form::OneUnless("all", "links-from"), AREA),
             Word("LINKS", Form::RestUnless("links-from", "all"), NET),
@@ -197,6 +208,7 @@ pub(crate) const LOOKING: &[Entry] = &[
         judging!("echonet why TEST links/* > wrong.script"),
         &[
             Word("assume", Form::Repeated("ADDRESS"), ASSUME),
+            ASSUME_MISSING,
             LINKS_FROM,
             TAG,
             ALL_LINKS,
@@ -213,6 +225,8 @@ pub(crate) const LOOKING: &[Entry] = &[
                 "Labels links with the events of why that send what goes wrong over them",
             ),
             Word("assume", Form::Repeated("ADDRESS"), ASSUME),
+            ASSUME_MISSING,
+            Word("without", Form::RepeatedUnless("ADDRESS", "why"), WITHOUT),
             LINKS_FROM,
             TAG,
             ALL_LINKS,

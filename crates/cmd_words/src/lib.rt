@@ -16,6 +16,6 @@ pub use parsing::parse;
 pub use refusing::{Ending, explain};
 pub use words::{
     BaseWords, CheckWords, ExportJamWords, ExportStoredWords, ExportWords, ListWords, NetWords,
-    ParsedLine, Paths, Place, PostJamWords, PostMailWords, PostStoredWords, PostWords, ReplyWords,
-    ResendWords, ScanWords, StationWords, TossWords, Words,
+    ParsedLine, Paths, PictureWords, Place, PostJamWords, PostMailWords, PostStoredWords,
+    PostWords, ReplyWords, ResendWords, ScanWords, StationWords, TossWords, WhyWords, Words,
 };

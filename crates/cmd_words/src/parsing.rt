@@ -3,8 +3,8 @@
 use crate::program::command;
 use crate::words::{
     BaseWords, CheckWords, ExportJamWords, ExportStoredWords, ExportWords, ListWords, NetWords,
-    ParsedLine, Paths, Place, PostJamWords, PostMailWords, PostStoredWords, PostWords, ReplyWords,
-    ResendWords, ScanWords, StationWords, TossWords, Words,
+    ParsedLine, Paths, PictureWords, Place, PostJamWords, PostMailWords, PostStoredWords,
+    PostWords, ReplyWords, ResendWords, ScanWords, StationWords, TossWords, WhyWords, Words,
 };
 use clap::error::ErrorKind;
 use clap::{ArgMatches, Command, Error};
@@ -70,6 +70,8 @@ fn check_words<'a>(
         nodelist: matches.get_str("nodelist"),
         more: matches.get_flag("more"),
         assume: values(alloc, matches, "assume")?,
+        assume_missing: matches.get_flag("assume-missing"),
+        without: values(alloc, matches, "without")?,
         tag: if all { None } else { first },
         links,
     }))))
@@ -82,23 +84,26 @@ fn picture_words<'a>(
     let Some(tag) = matches.get_str("TAG") else {
         return Ok(None);
     };
-    Ok(Some(Words::Net(NetWords::Picture {
+    Ok(Some(Words::Net(NetWords::Picture(PictureWords {
         why: matches.get_flag("why"),
         assume: values(alloc, matches, "assume")?,
+        assume_missing: matches.get_flag("assume-missing"),
+        without: values(alloc, matches, "without")?,
         tag,
         links: links(alloc, matches)?,
-    })))
+    }))))
 }
 
 fn why_words<'a>(alloc: Global, matches: &ArgMatches<'a>) -> Result<Option<Words<'a>>, AllocError> {
     let Some(tag) = matches.get_str("TAG") else {
         return Ok(None);
     };
-    Ok(Some(Words::Net(NetWords::Why {
+    Ok(Some(Words::Net(NetWords::Why(WhyWords {
         assume: values(alloc, matches, "assume")?,
+        assume_missing: matches.get_flag("assume-missing"),
         tag,
         links: links(alloc, matches)?,
-    })))
+    }))))
 }
 
 fn post_words<'a>(matches: &ArgMatches<'a>) -> Option<Words<'a>> {

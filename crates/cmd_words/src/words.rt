@@ -26,17 +26,8 @@ pub enum NetWords<'a> {
         links: Paths<'a>,
     },
     Check(CheckWords<'a>),
-    Picture {
-        why: bool,
-        assume: Vec<&'a str>,
-        tag: &'a str,
-        links: Paths<'a>,
-    },
-    Why {
-        assume: Vec<&'a str>,
-        tag: &'a str,
-        links: Paths<'a>,
-    },
+    Picture(PictureWords<'a>),
+    Why(WhyWords<'a>),
     Replay {
         script: &'a str,
         links: Paths<'a>,
@@ -80,13 +71,36 @@ pub struct Paths<'a> {
     pub from: Option<&'a str>,
 }
 
-/// The words of `check`. Without a tag it judges all areas. The systems `assume` have no link file.
+/// The words of `check`. Without a tag it judges all areas. The systems `assume` have no link file, and with
+/// `assume_missing` those that a file lists too. The systems `without` are left out.
 #[derive(Drop)]
 pub struct CheckWords<'a> {
     pub nodelist: Option<&'a str>,
     pub more: bool,
     pub assume: Vec<&'a str>,
+    pub assume_missing: bool,
+    pub without: Vec<&'a str>,
     pub tag: Option<&'a str>,
+    pub links: Paths<'a>,
+}
+
+/// The words of `picture`.
+#[derive(Drop)]
+pub struct PictureWords<'a> {
+    pub why: bool,
+    pub assume: Vec<&'a str>,
+    pub assume_missing: bool,
+    pub without: Vec<&'a str>,
+    pub tag: &'a str,
+    pub links: Paths<'a>,
+}
+
+/// The words of `why`.
+#[derive(Drop)]
+pub struct WhyWords<'a> {
+    pub assume: Vec<&'a str>,
+    pub assume_missing: bool,
+    pub tag: &'a str,
     pub links: Paths<'a>,
 }
 

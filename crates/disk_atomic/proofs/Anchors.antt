@@ -1,7 +1,8 @@
 -- Packets that are whole on the disk at one of their two paths, while another packet gets its path.
-use Rattle.std.proofs.Common.{◌≡◌, ◌⊎◌, inl, inr, ⊎_elim, ◌∙◌, Bool, true, false, List, ℕ, sym, arith}
+use Rattle.std.proofs.Common.{◌≡◌, ◌⊎◌, inl, inr, ⊎_elim, ◌∙◌, Bool, true, false, List, ℕ, subst, sym, arith}
+use Rattle.std.specs.Prelude.{IsSome}
 use Rattle.disk_io.specs.Disk.{DiskState, Files}
-use Rattle.disk_atomic.specs.Naming.{HasItsPath, HasMoved, Names, IsWholeAtEither, StaysThere}
+use Rattle.disk_atomic.specs.Naming.{HasItsPath, HasMoved, KeepsPath, Names, IsWholeAtEither, StaysThere}
 use Rattle.disk_atomic.specs.{Changes.ChangesOnly, Changes.HasOnDisk, Outgoing.AreApart, Outgoing.IsStaged, declared.outgoing.Outgoing.Outgoing}
 use Rattle.disk_atomic.proofs.{Changes.left_there, Changes.stays_on_disk, Packets.AtBoth}
 
@@ -35,9 +36,15 @@ module _ (content : Outgoing → List ℕ) (x y : Outgoing) (apart : AreApart x 
     pub same_stays : (d0 : DiskState) → IsSameAt d0 d y → IsSameAt d0 e y
     same_stays d0 was = run.seen y.path.now not_path ∙ was
 
+    pub path_stays : (d0 : DiskState) → KeepsPath d0 d y → KeepsPath d0 e y
+    path_stays d0 was some = run.seen y.path.now not_path ∙ was some
+
   -- the packet after a crash
   pub whole_stays : (d : DiskState) (b c : Files) → d.may_leave b → Names x.path.now x.staging.now b c → IsAnchored content d y → IsWholeAtEither content c y
   whole_stays d b c left names on = grind (arith, ⊎_elim, not_path, left_there, not_staging)
+
+pub path_now : (x : Outgoing) (d0 d e : DiskState) → IsSameAt d0 d x → KeepsPath d e x → KeepsPath d0 e x
+path_now x d0 d e same keeps some = keeps (subst (λ f. IsSome f) (sym same) some) ∙ same
 
 -- the packet that is named
 module _ (content : Outgoing → List ℕ) (x : Outgoing) (d e : DiskState) (staged : HasOnDisk d x.staging.now (content x)) where

@@ -55,6 +55,10 @@ pub record NamesEach (content : Outgoing → List ℕ) (packets : List Outgoing)
   pub others : DifferAt (IsOfOne packets) before after
   pub whole : All (IsWholeAtEither content after) packets
 
+-- A file at its path is still there.
+abbrev pub KeepsPath : DiskState → DiskState → Outgoing → Type 0
+KeepsPath old new p = IsSome (old.seen p.path.now) → new.seen p.path.now ≡ old.seen p.path.now
+
 -- The packet has only its path, and it is on the disk.
 pub record HasItsPath (content : Outgoing → List ℕ) (disk : DiskState) (p : Outgoing) : Type 0 where
   pub file : HasOnDisk disk p.path.now (content p)

@@ -1,7 +1,7 @@
 //! Packets get their paths: each a second path by a hard link, and then its staging path goes.
 ghost use Rattle.std.specs.Prelude.{◌≡◌, ◌⊎◌, ◌↔◌, ℕ, List, true, false, All, IfOk, IsTrue, None, OnOk, IsSome};
 ghost use Rattle.disk_io.specs.{Disk.Honestly, Disk.IsIn, Runs.ChangesNothing, Runs.HasCause, Runs.LeavesOnly, Runs.OneStepOn};
-ghost use Rattle.disk_atomic.specs.Naming.{AreBothIn, CanLink, Gives, HasItsPath, HasMoved, IsTaken, Names, NamesEach, StaysThere};
+ghost use Rattle.disk_atomic.specs.Naming.{AreBothIn, CanLink, Gives, HasItsPath, HasMoved, IsTaken, KeepsPath, Names, NamesEach, StaysThere};
 ghost use Rattle.disk_atomic.specs.Outgoing.{ArePlaced, IsFree, IsOfOne, IsStaged, staged_in};
 ghost use Rattle.disk_atomic.specs.Changes.{ChangesOnly};
 
@@ -116,8 +116,8 @@ pub fn name_packet<D: Disk>(
     Ok(true)
 }
 
-/// Gives each packet its path, and returns whether all have theirs. If another file has the path of a packet, that
-/// packet keeps its staging path.
+/// Gives each packet its path, and returns whether all have theirs. If another file has the path of a packet, that file
+/// stays, and the packet keeps its staging path.
 pub fn name_packets<D: Disk>(
     alloc: Global,
     disk: &mut D,
@@ -128,6 +128,7 @@ pub fn name_packets<D: Disk>(
     requires staged { All (IsStaged (staged_in (D.state disk.old).seen) (D.state disk.old)) packets.now }
     ensures named { Honestly (D.state disk.new) (IfOk result (λ all. all ≡ true → All (HasItsPath (staged_in (D.state disk.old).seen) (D.state disk.new)) packets.now)) }
     ensures taken { Honestly (D.state disk.new) (IfOk result (λ all. all ≡ false → All (IsFree (D.state disk.old)) packets.now → ⊥)) }
+    ensures kept { Honestly (D.state disk.new) (OnOk result (All (KeepsPath (D.state disk.old) (D.state disk.new)) packets.now)) }
     ensures settled { OnOk result ((m : List ℕ) → IsIn folder.now m → (D.state disk.new).is_named m) }
 
     // A crash at any time leaves each packet whole at one of its two paths at least.

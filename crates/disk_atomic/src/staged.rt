@@ -48,6 +48,7 @@ pub fn make_packets<D: Disk>(
     ensures named { IfOk result (λ free. free ≡ true → (m : List ℕ) → IsIn folder.now m → (D.state disk.new).is_named m) }
     ensures free { Honestly (D.state disk.new) (IfOk result (λ free. free ≡ true → All (IsFree (D.state disk.new)) packets.now)) }
     ensures taken { Honestly (D.state disk.new) (IfOk result (λ free. free ≡ false → All (IsFree (D.state disk.old)) packets.now → ⊥)) }
+    ensures none { IfOk result (λ free. free ≡ false → ChangesNothing (D.state disk.old) (D.state disk.new)) }
     ensures changes { ChangesOnly (IsStagingOne packets.now) (D.state disk.old) (D.state disk.new) }
     ensures cause { HasCause (D.failures disk.old) (D.failures disk.new) result }
 {

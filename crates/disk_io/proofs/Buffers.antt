@@ -3,7 +3,6 @@ use Rattle.std.proofs.Common.{◌≡◌, ℕ, ◌+◌, ◌-◌, ◌<◌, ◌≤�
 use Rattle.std.proofs.{lemmas.List.drop-take, lemmas.List.nil_from_length, Math.Seq.drop-nil, KnownBytes.prepend_known-read, KnownBytes.prepend_known-nil}
 use Rattle.std.specs.Io.KnownBytes.{Consumes, IsAtEnd, Keeps, prepend_known}
 
--- the part of a buffer without its first n bytes
 pub slice_range-later : (xs : List ℕ) (start end n : ℕ) → start + n ≤ end → slice_range xs (start + n) end ≡ drop n (slice_range xs start end)
 slice_range-later xs start end n within =
     let whole : n + (end - (start + n)) ≡ end - start = omega arith in

@@ -4,23 +4,19 @@ use Rattle.std.proofs.{lemmas.List.take-append-le, Math.Seq.take-append-add, Kno
 use Rattle.std.specs.Io.KnownBytes.{Appends}
 use Rattle.disk_io.specs.Device.{Failed, SendsAll, SendsFront}
 
--- the count never falls
 pub Failed-le : (before after : ℕ) → Failed before after → before ≤ after
 Failed-le before after (inl rose) = omega arith
 Failed-le before after (inr (full, same)) = omega arith
 
--- a device that always counts 0 failures, such as a slice, never fails
 pub Failed-never : Failed 0 0 → ⊥
 Failed-never (inl rose) = omega arith
 Failed-never (inr (full, same)) = omega arith
 
--- the sink takes all of xs, then all of ys
 pub SendsAll-then : (a b c : Option (List ℕ)) (xs ys : List ℕ) (s m t : ℕ) → SendsAll a b xs s m → SendsAll b c ys m t
     → SendsAll a c (xs ++ ys) s t
 SendsAll-then a b c xs ys s m t first second =
     (Appends-trans a b c xs ys first.0 second.0, omega (arith, first.1, second.1, length-append xs ys))
 
--- the sink takes all of xs, then a front of ys
 pub SendsAll-front : (a b c : Option (List ℕ)) (xs ys : List ℕ) (s m t : ℕ) → SendsAll a b xs s m → SendsFront b c ys m t
     → SendsFront a c (xs ++ ys) s t
 SendsAll-front a b c xs ys s m t first (n, short, went, count) = (
@@ -30,7 +26,6 @@ SendsAll-front a b c xs ys s m t first (n, short, went, count) = (
   omega (arith, first.1, count),
 )
 
--- the sink takes a front of xs, and no byte of ys
 pub SendsFront-more : (a b : Option (List ℕ)) (xs ys : List ℕ) (s m : ℕ) → SendsFront a b xs s m → SendsFront a b (xs ++ ys) s m
 SendsFront-more a b xs ys s m (n, short, went, count) =
     let within : n ≤ length xs = omega arith in

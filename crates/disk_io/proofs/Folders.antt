@@ -1,6 +1,5 @@
 -- A path and each longer path that begins with it have the same folder.
-use Rattle.std.proofs.Common.{◌≢◌, ◌++◌, ◌∙◌, List, ap, ℕ}
-use Rattle.std.proofs.lemmas.List.{append_assoc, Elements.All-append}
+use Rattle.std.proofs.{Common.◌≢◌, Common.◌++◌, Common.◌∙◌, Common.List, Common.ap, Common.ℕ, lemmas.List.append_assoc, lemmas.List.Elements.All-append}
 use Rattle.disk_io.specs.Disk.{IsIn}
 
 pub in_folder_of : (folder path m : List ℕ) → IsIn folder path → IsIn path m → IsIn folder m

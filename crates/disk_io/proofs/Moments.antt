@@ -2,11 +2,9 @@
 use Rattle.std.proofs.Common.{◌≤◌, ℕ, List, ◌∙◌, inl, inr, ⊎_elim, arith}
 use Rattle.disk_io.specs.{Disk.DiskState, Disk.Files, Runs.LeavesOnly, Runs.OneStepOn, Runs.ChangesAt, Runs.ChangesNothing}
 
--- a crash at the end of a run leaves files that have P
 pub left_now : (old new : DiskState) (P : Files → Type 0) → LeavesOnly old new P → (c : Files) → new.may_leave c → P c
 left_now old new P run c left = run.each c (new.counts_now old.moment c run.later left)
 
--- a run of no call
 pub no_call : (old : DiskState) (P : Files → Type 0) → ((c : Files) → old.may_leave c → P c) → LeavesOnly old old P
 no_call old P now = record {
   later = omega arith;
@@ -61,7 +59,6 @@ one_call old new step none call gives =
       before = λ t c le left. ⊎_elim (λ before. inl before) (λ is. inr (now c is)) (call.time.nothing_else t c le left);
     }
 
--- two runs that change no file
 pub nothing_twice : (old mid new : DiskState) → ChangesNothing old mid → ChangesNothing mid new → ChangesNothing old new
 nothing_twice old mid new first second =
     let one : old.moment ≤ mid.moment = first.run.later in

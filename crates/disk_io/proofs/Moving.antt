@@ -17,13 +17,11 @@ pub record HasSent (before after : Option (List ℕ)) (bytes : List ℕ) (n coun
   pub count : count_after ≡ counted (count_before + n)
   pub failed : failures_after ≡ failures_before
 
--- k more bytes follow the first n in the buffer
 pub Consumes-more_of : (a b c : Option (List ℕ)) (old new : List ℕ) (n k : ℕ) → take n new ≡ take n old
     → Consumes a b (take n old) → Consumes b c (take k (drop n new)) → Consumes a c (take (n + k) new)
 Consumes-more_of a b c old new n k same first second =
     subst (Consumes a c) (ap (λ l. l ++ take k (drop n new)) (sym same) ∙ sym (take-add n k new)) (Consumes-trans a b c _ _ first second)
 
--- k more bytes follow the first n in the sink
 pub Appends-more_of : (a b c : Option (List ℕ)) (bytes : List ℕ) (n k : ℕ)
     → Appends a b (take n bytes) → Appends b c (take k (drop n bytes)) → Appends a c (take (n + k) bytes)
 Appends-more_of a b c bytes n k first second =

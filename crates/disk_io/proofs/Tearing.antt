@@ -1,6 +1,5 @@
 -- A step that a crash cut off before it began.
-use Rattle.std.proofs.Common.{ℕ, List, Option, refl, arith}
-use Rattle.std.proofs.lemmas.List.{take_min}
+use Rattle.std.proofs.{Common.ℕ, Common.List, Common.Option, Common.refl, Common.arith, lemmas.List.take_min}
 use Rattle.disk_io.specs.{Disk.DiskState, Disk.Files, Disk.bytes_in, Steps.TornWrite, Steps.ChangesFile}
 
 pub TornWrite-none : (at count : ℕ) (file : Option (List ℕ)) → TornWrite at count file file

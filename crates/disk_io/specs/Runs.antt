@@ -52,7 +52,7 @@ pub record ChangesAt (changed unnamed shared : List ℕ → Type 0) (step : File
 pub record LeavesOnly (old new : DiskState) (P : Files → Type 0) : Type 0 where
   pub later : old.moment ≤ new.moment
   pub each : (c : Files) → new.left_since old.moment c → P c
-  -- The same for a run that began earlier.
+  -- For a run that began earlier.
   pub before : (t : ℕ) (c : Files) → t ≤ old.moment → new.left_since t c → old.left_since t c ⊎ P c
 
 -- A call or a run that changes no file: it reads or syncs.

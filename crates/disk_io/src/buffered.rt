@@ -1,6 +1,5 @@
 //! A source with a buffer.
-ghost use Rattle.std.specs.Prelude.{◌≡◌, [], length, ◌<◌, IfOk, OnOk, OnErr};
-ghost use Rattle.std.specs.Io.{ReadsAtMost, KnownBytes.Keeps, KnownBytes.IsAtEnd, KnownBytes.ReadConsumes};
+ghost use Rattle.std.specs.{Prelude.◌≡◌, Prelude.[], Prelude.length, Prelude.◌<◌, Prelude.IfOk, Prelude.OnOk, Prelude.OnErr, Io.ReadsAtMost, Io.KnownBytes.Keeps, Io.KnownBytes.IsAtEnd, Io.KnownBytes.ReadConsumes};
 ghost use Rattle.disk_io.specs.{Device.Failed, Buffered.buffered_source, Buffered.buffered_held, Buffered.buffered_remaining};
 
 use crate::ahead::Ahead;

@@ -1,8 +1,6 @@
 //! The promise of a disk to its users.
 ghost use Rattle.std.specs.Prelude.{◌≡◌, ◌≢◌, ◌≤◌, ◌<◌, ◌↔◌, ℕ, List, [], length, take, drop, true, false, IsTrue, IfOk, OnOk, IsSome, Some, None};
-ghost use Rattle.disk_io.specs.Disk.{DiskState, Honestly, bytes_in, IsFolder, IsIn};
-ghost use Rattle.disk_io.specs.Steps.{IsWrittenAt, TornWrite, TornMaking, TornRemoval, TornNaming, ChangesFile, RenamesFile};
-ghost use Rattle.disk_io.specs.Runs.{NoPath, ThisPath, EitherPath, ChangesAt, ChangesNothing, HasCause};
+ghost use Rattle.disk_io.specs.{Disk.DiskState, Disk.Honestly, Disk.bytes_in, Disk.IsFolder, Disk.IsIn, Runs.NoPath, Runs.ThisPath, Runs.EitherPath, Runs.ChangesAt, Runs.ChangesNothing, Runs.HasCause, Steps.IsWrittenAt, Steps.TornWrite, Steps.TornMaking, Steps.TornRemoval, Steps.TornNaming, Steps.ChangesFile, Steps.RenamesFile};
 
 use crate::disk_error::DiskError;
 

@@ -80,7 +80,6 @@ impl<S: Source> Source for &mut S {
     }
 }
 
-// One read into `buf` from `at` on.
 fn read_at<S: Source>(source: &mut S, buf: &mut [u8], at: usize) -> Result<usize, Failure>
     requires { at < length buf.old }
     ensures front { take at buf.new ≡ take at buf.old }

@@ -1,7 +1,6 @@
 //! Changes of one file, each followed by a sync.
 ghost use Rattle.std.specs.Prelude.{◌≤◌, length, OnOk};
-ghost use Rattle.disk_io.specs.{Disk.Honestly, Disk.bytes_in, Steps.IsWrittenAt, Steps.TornWrite, Steps.ChangesFile, Runs.OneStepOn, Runs.LeavesOnly, Runs.HasCause};
-ghost use Rattle.disk_io.specs.Synced.{IsOnDisk, KeepsOthers};
+ghost use Rattle.disk_io.specs.{Disk.Honestly, Disk.bytes_in, Steps.IsWrittenAt, Steps.TornWrite, Steps.ChangesFile, Runs.OneStepOn, Runs.LeavesOnly, Runs.HasCause, Synced.IsOnDisk, Synced.KeepsOthers};
 
 use crate::disk::Disk;
 use crate::disk_error::DiskError;

@@ -1,6 +1,5 @@
 //! A reader or a writer for tests.
-ghost use Rattle.std.specs.Prelude.{◌≡◌, ◌<◌, ◌≤◌, IfOk, IsErr};
-ghost use Rattle.std.specs.Io.{ReadsAtMost, WritesAtMost, KnownBytes.Keeps, KnownBytes.ReadConsumes, KnownBytes.WriteAppends};
+ghost use Rattle.std.specs.{Prelude.◌≡◌, Prelude.◌<◌, Prelude.◌≤◌, Prelude.IfOk, Prelude.IsErr, Io.ReadsAtMost, Io.WritesAtMost, Io.KnownBytes.Keeps, Io.KnownBytes.ReadConsumes, Io.KnownBytes.WriteAppends};
 ghost use Rattle.disk_io.specs.Trial.{trial_device, trial_piece, trial_again, trial_interrupted, trial_left, KeepsRules, MovesPiece};
 
 use std::io;

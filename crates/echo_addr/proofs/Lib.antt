@@ -5,6 +5,7 @@ pub mod Tokens
 pub mod ReadBack
 pub mod Runs
 pub mod LineEntries
+pub mod LineBytes
 pub mod CappedNumbers
 pub mod Positions
 pub mod NextToken

@@ -1,5 +1,5 @@
 -- Runs of entries that fill a line: how to add one in front, and that a list has one cut into them.
-use Rattle.std.proofs.Common.{◌≡◌, ℕ, ◌+◌, ◌-◌, ◌<◌, ◌≤◌, List, [], ◌∷◌, ◌++◌, length, take, drop, refl, sym, ap, ◌∙◌, arith, Some, None, Option, inl, inr, subst}
+use Rattle.std.proofs.Common.{◌≡◌, ℕ, ◌+◌, ◌<◌, ◌≤◌, List, [], ◌∷◌, ◌++◌, length, take, drop, refl, sym, ap, ◌∙◌, arith, Some, None, Option, inl, inr, subst}
 use Rattle.std.proofs.lemmas.List.{append_assoc, length-append, take-append-drop, take-append-le, take_at, drop_at, take_more, drop_more, drop_all, length-take-le, append-nil, nil_from_length}
 use Rattle.std.proofs.lemmas.Bool.{cases_lt}
 use Rattle.std.specs.List.{flat_map}
@@ -104,13 +104,13 @@ Completes prefix xs rest before text = (tail : List ℕ) → ShortLines prefix r
 pub Completes-none : (prefix : List ℕ) (xs : List NetNode) (before : List ℕ) → Completes prefix xs xs before before
 Completes-none prefix xs before tail lines = record { added = tail; lines = lines; whole = refl }
 
-pub Completes-more : (prefix : List ℕ) (xs rest run after : List NetNode) (before text more : List ℕ) (k : ℕ)
-    → length prefix ≤ line_room → run ≡ take k rest → after ≡ drop k rest → 0 < k → k ≤ length rest
-    → length (entries_text None (take k rest)) ≤ line_room - length prefix
-    → (k < length rest → line_room - length prefix < length (entries_text None (take (k + 1) rest)))
-    → more ≡ text ++ line_of prefix (entries_text None run)
+pub Completes-more : (prefix : List ℕ) (xs rest after : List NetNode) (before text more : List ℕ) (k : ℕ)
+    → after ≡ drop k rest → 0 < k → k ≤ length rest
+    → length prefix + length (entries_text None (take k rest)) ≤ line_room
+    → (k < length rest → line_room < length prefix + length (entries_text None (take (k + 1) rest)))
+    → more ≡ text ++ line_of prefix (entries_text None (take k rest))
     → Completes prefix xs rest before text → Completes prefix xs after before more
-Completes-more prefix xs rest run after before text more k short run-is after-is some within room full more-is completes = grind (arith, ShortLines-cons, length-append, append_assoc)
+Completes-more prefix xs rest after before text more k after-is some within room full more-is completes = grind (arith, ShortLines-cons, length-append, append_assoc)
 
 pub Completes-all : (prefix : List ℕ) (xs rest : List NetNode) (before text : List ℕ) → length rest ≡ 0 → Completes prefix xs rest before text
     → AddsLines prefix xs before text

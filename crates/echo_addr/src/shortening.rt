@@ -1,7 +1,8 @@
-ghost use Rattle.std.specs.Prelude.{◌≡◌, ◌+◌, ◌%◌, ◌<◌, ◌≤◌, ◌++◌, length, take, decimal, AllPairs, OnOk};
-ghost use Rattle.echo_addr.specs.ShortLines.{AddsLines, ComesBefore, entries_text, entry_text, line_of, path_prefix, seen_prefix, shows_net};
+ghost use Rattle.std.specs.Prelude.{◌≡◌, ◌+◌, ◌-◌, ◌<◌, ◌≤◌, [], ◌∷◌, ◌++◌, length, take, drop, decimal, AllPairs, OnOk};
+ghost use Rattle.echo_addr.specs.ShortLines.{AddsLines, ComesBefore, entries_text, entry_text, entry_token, path_prefix, seen_prefix, shows_net};
 
 use crate::address::NetNode;
+use itoa::write_digits;
 use std::alloc::AllocError;
 
 /// The most bytes of a line before its 0D.
@@ -23,39 +24,57 @@ pub fn push_path(text: &mut Vec<u8>, entries: &[NetNode]) -> Result<(), AllocErr
     push_lines(text, b"\x01PATH:", entries)
 }
 
-/// A line for each run of entries that one line has room for.
+/// A line for each run of entries that one line has room for. Each is made in a buffer.
 fn push_lines(text: &mut Vec<u8>, prefix: &[u8], entries: &[NetNode]) -> Result<(), AllocError>
     requires { length prefix.now ≤ 8 }
     ensures { OnOk result (AddsLines prefix.now entries.now text.old.items text.new.items) }
 {
+    let mut line = [0; LINE_ROOM + 1];
+    let begun = prefix.len();
+    line[..begun].copy_from_slice(prefix);
     let mut rest = entries;
     'runs: while !rest.is_empty() {
-        let (run, after) = rest.split_at(run_len(LINE_ROOM - prefix.len(), rest));
-        push_line(text, prefix, run)?;
+        let (count, end) = write_run(&mut line, begun, rest);
+        push_ended(text, &mut line, end)?;
+        let (_, after) = rest.split_at(count);
         rest = after;
     }
     Ok(())
 }
 
-/// How many entries from the front have room together.
-fn run_len(room: usize, entries: &[NetNode]) -> usize
-    requires low { 12 ≤ room }
-    requires high { room < 100 }
-    ensures some { 0 < length entries.now → 0 < result }
-    ensures within { result ≤ length entries.now }
-    ensures room { length (entries_text None (take result entries.now)) ≤ room }
-    ensures full { result < length entries.now → room < length (entries_text None (take (result + 1) entries.now)) }
+/// Ends the line here with 0D, and adds it to a text.
+fn push_ended(text: &mut Vec<u8>, line: &mut [u8], end: usize) -> Result<(), AllocError>
+    requires { end < length line.old }
+    ensures text { OnOk result (text.new.items ≡ text.old.items ++ (take end line.old ++ 13 ∷ [])) }
+    ensures line { take end line.new ≡ take end line.old }
 {
-    let mut width = 0;
+    line[end] = b'\r';
+    text.extend_from_slice(&line[..end + 1])
+}
+
+/// Writes the entries that have room behind the beginning of a line. Returns how many these are, and where they end.
+fn write_run(line: &mut [u8], begun: usize, entries: &[NetNode]) -> (usize, usize)
+    requires line { length line.old ≡ LINE_ROOM + 1 }
+    requires begun { begun ≤ 8 }
+    ensures some { 0 < length entries.now → 0 < result.0 }
+    ensures within { result.0 ≤ length entries.now }
+    ensures end { result.1 ≡ begun + length (entries_text None (take result.0 entries.now)) }
+    ensures room { result.1 ≤ LINE_ROOM }
+    ensures full { result.0 < length entries.now → LINE_ROOM < begun + length (entries_text None (take (result.0 + 1) entries.now)) }
+    ensures written { take result.1 line.new ≡ take begun line.old ++ entries_text None (take result.0 entries.now) }
+{
+    let mut at = begun;
     let mut before = None;
     for (i, entry) in entries.iter().enumerate() {
-        width += entry_len(before, *entry);
-        if width > room {
-            return i;
+        let end = at + entry_len(before, *entry);
+        if end > LINE_ROOM {
+            return (i, at);
         }
+        write_entry(line, end, before, *entry);
+        at = end;
         before = Some(entry.net);
     }
-    entries.len()
+    (entries.len(), at)
 }
 
 /// Whether an entry is written with its net, after one with the net `before`.
@@ -91,56 +110,28 @@ fn decimal_len(n: u16) -> usize
     }
 }
 
-fn push_line(lines: &mut Vec<u8>, prefix: &[u8], run: &[NetNode]) -> Result<(), AllocError>
-    ensures { OnOk result (lines.new.items ≡ lines.old.items ++ line_of prefix.now (entries_text None run.now)) }
+/// Writes the entry with its blank, so that it ends at `end`.
+fn write_entry(line: &mut [u8], end: usize, before: Option<u16>, entry: NetNode)
+    requires room { length (entry_text before entry) ≤ end }
+    requires end { end ≤ length line.old }
+    ensures { take end line.new ≡ take (end - length (entry_text before entry)) line.old ++ entry_text before entry }
 {
-    lines.extend_from_slice(prefix)?;
-    push_run(lines, run)?;
-    lines.push(b'\r')?;
-    Ok(())
+    let start = write_token(line, end, before, entry);
+    line[start - 1] = b' ';
 }
 
-fn push_run(line: &mut Vec<u8>, run: &[NetNode]) -> Result<(), AllocError>
-    ensures { OnOk result (line.new.items ≡ line.old.items ++ entries_text None run.now) }
+/// Writes the entry without its blank, so that it ends at `end`, and returns where it starts.
+fn write_token(line: &mut [u8], end: usize, before: Option<u16>, entry: NetNode) -> usize
+    requires room { length (entry_token before entry) ≤ end }
+    requires end { end ≤ length line.old }
+    ensures start { result + length (entry_token before entry) ≡ end }
+    ensures written { drop result line.new ≡ entry_token before entry ++ drop end line.old }
+    ensures front { take result line.new ≡ take result line.old }
 {
-    let mut before = None;
-    for entry in run {
-        push_entry(line, before, *entry)?;
-        before = Some(entry.net);
+    let node = write_digits(u64::from(entry.node), line, end);
+    if !shows_net(before, entry.net) {
+        return node;
     }
-    Ok(())
-}
-
-fn push_entry(line: &mut Vec<u8>, before: Option<u16>, entry: NetNode) -> Result<(), AllocError>
-    ensures { OnOk result (line.new.items ≡ line.old.items ++ entry_text before entry) }
-{
-    line.push(b' ')?;
-    if shows_net(before, entry.net) {
-        push_number(line, entry.net)?;
-        line.push(b'/')?;
-    }
-    push_number(line, entry.node)
-}
-
-#[tactic(auto, using(crate::proofs::Decimals::one_digit, crate::proofs::Decimals::two_digits, crate::proofs::Decimals::three_digits, crate::proofs::Decimals::four_digits, crate::proofs::Decimals::five_digits))]
-fn push_number(line: &mut Vec<u8>, n: u16) -> Result<(), AllocError>
-    ensures { OnOk result (line.new.items ≡ line.old.items ++ decimal n) }
-{
-    let ones = last_digit(n);
-    let tens = last_digit(n / 10);
-    let hundreds = last_digit(n / 100);
-    let thousands = last_digit(n / 1000);
-    match n {
-        0..=9 => line.extend_from_slice(&[ones]),
-        10..=99 => line.extend_from_slice(&[tens, ones]),
-        100..=999 => line.extend_from_slice(&[hundreds, tens, ones]),
-        1000..=9999 => line.extend_from_slice(&[thousands, hundreds, tens, ones]),
-        _ => line.extend_from_slice(&[last_digit(n / 10000), thousands, hundreds, tens, ones]),
-    }
-}
-
-fn last_digit(n: u16) -> u8
-    ensures { result ≡ 48 + n % 10 }
-{
-    b'0' + (n % 10) as u8
+    line[node - 1] = b'/';
+    write_digits(u64::from(entry.net), line, node - 1)
 }

@@ -17,7 +17,7 @@ use Rattle.echo_net.proofs.Owned.{Different-from_places, in_order_from_sorted, b
 use Rattle.echo_net.specs.declared.each_fault.Kind.TheVariants as kinds
 
 -- the tests for members pass exactly for members
-address_held : (all : List Address) (a : Address) → IsTrue (has_address all a) ↔ Contains all a
+pub address_held : (all : List Address) (a : Address) → IsTrue (has_address all a) ↔ Contains all a
 address_held all a = (
   grind (arith, any-from, same_exact, Contains-from_Among),
   λ there. any-to (same_address a) a all (Among-from_Contains a all there) (same_itself a a refl),

@@ -3,4 +3,6 @@ pub mod Collected
 pub mod Owned
 pub mod Twins
 pub mod Drawings
+pub mod Listers
+pub mod Groups
 pub mod AllFaults

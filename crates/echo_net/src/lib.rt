@@ -8,6 +8,7 @@
 //! of an area, by `carriers`, `link` and `searching`. `owners`, `first_links` and `same_net_node` decide by
 //! sorted addresses, `link_faults` takes the first of their faults, `each_fault` all of them. `rows` and
 //! `graph_faults` check the net as a graph. `presence` compares carriers with a nodelist, `drawing` draws an area.
+//! `listing` has the systems that an area lists, and `parts` the parts of an area.
 #![tactic(auto)]
 
 mod area;
@@ -19,7 +20,9 @@ mod first_links;
 mod graph_faults;
 mod link;
 mod link_faults;
+mod listing;
 mod owners;
+mod parts;
 mod presence;
 mod rows;
 mod same_net_node;
@@ -29,5 +32,7 @@ mod verdict;
 pub use checker::{check, check_area, shared_system};
 pub use drawing::{Crossing, Drawing, DrawnLink, DrawnSystem, Mark, Sides, draw};
 pub use each_fault::{all_faults, further};
+pub use listing::{Listing, missing};
+pub use parts::cut_off;
 pub use presence::{Absence, listed};
 pub use verdict::{NetFault, Verdict};

@@ -29,7 +29,7 @@ pub fn rows(alloc: Global, carriers: &[Address], links: &[Link]) -> Result<Vec<L
 }
 
 /// The links from this system.
-fn links_from(links: &[Link], system: Address) -> &[Link]
+pub fn links_from(links: &[Link], system: Address) -> &[Link]
     requires { IsStrictlySortedBy ⟦<Link as Ord>⟧.cmp links.now }
     ensures { (l : Link) → Contains result.now l ↔ (Contains links.now l × (l.from ≡ system)) }
 {

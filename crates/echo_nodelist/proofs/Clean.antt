@@ -1,12 +1,9 @@
 -- Lines that are read hold no 1A and no 0A, their fields no commas: so they keep the rules of a nodelist.
 use Rattle.std.proofs.Common.{◌≡◌, ℕ, ◌-◌, ◌≤◌, ◌==◌, ◌&&◌, not, nat_lt, Bool, true, List, [], ◌∷◌, length, take, drop, map, reverse, refl, sym, ap, ◌∙◌, arith, inl, inr, Option, Some, None, Ok}
-use Rattle.std.proofs.lemmas.Bool.{and_from, and_parts, cases_Bool, cond_both, ltb-false}
-use Rattle.std.proofs.lemmas.List.{get_or-take, length-take-le, reverse-append, take-append-drop, Elements.All-from_get_or, Folds.list_all-append}
-use Rattle.std.proofs.lemmas.List.{Splits.slice_split-cons_no, Splits.slice_split-cons_yes, Sums.fails_before_first, Sums.list_all-from_AllPass, Sums.prefix_len-le-length}
+use Rattle.std.proofs.lemmas.{Bool.and_from, Bool.and_parts, Bool.cases_Bool, Bool.cond_both, Bool.ltb-false, List.get_or-take, List.length-take-le, List.reverse-append, List.take-append-drop, List.Elements.All-from_get_or, List.Folds.list_all-append, List.Splits.slice_split-cons_no, List.Splits.slice_split-cons_yes, List.Sums.fails_before_first, List.Sums.list_all-from_AllPass, List.Sums.prefix_len-le-length}
 use Rattle.std.specs.{List.list_all, List.onto_first, List.slice_split, Io.BufRead.ends_with_byte, Io.BufRead.strip_last}
-use Rattle.echo_nodelist.specs.Line.{entry_in, is_fit, number_of, with_keyword, with_number}
+use Rattle.echo_nodelist.specs.{Line.entry_in, Line.is_fit, Line.number_of, Line.with_keyword, Line.with_number, declared.keyword.Keyword.Keyword, declared.line.Line.Line, declared.line.Line.TheVariants.Entry, Raw.is_end, Raw.is_feed, Raw.lines_of, Raw.before_end, Back.zone_back}
 use Rattle.echo_nodelist.specs.Nodelist.{AreLines, AreRead, IsGoodLine, IsNodelist, NodelistOf, in_zone, is_field_byte, is_inner, line_outcome, placed}
-use Rattle.echo_nodelist.specs.{declared.keyword.Keyword.Keyword, declared.line.Line.Line, declared.line.Line.TheVariants.Entry, Raw.is_end, Raw.is_feed, Raw.lines_of, Raw.before_end, Back.zone_back}
 use Rattle.echo_addr.specs.Pieces.{without_empty_last}
 
 -- ---- bytes of pieces
@@ -94,6 +91,5 @@ lines_good (raw ∷ raws) (line ∷ earlier) read clean =
     (line_good earlier raw line read.0 parts.0, lines_good raws earlier read.1 parts.1)
 lines_good _ _ read clean = absurd read
 
--- the lines of bytes that are a nodelist keep the rules
 pub good_lines : (bytes : List ℕ) (lines : List Line) → NodelistOf bytes lines → IsNodelist lines
 good_lines bytes lines read = grind (arith, lines_good, list_all-reverse, lines_clean, text_clean)

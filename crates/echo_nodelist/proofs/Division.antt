@@ -102,7 +102,6 @@ pub length-shifted : (r : List Bool) (y : Bool) → length (shifted r y) ≡ len
 length-shifted [] y = refl
 length-shifted (x ∷ rest) y = length-reduced (sum_of x y) (rest ++ false ∷ []) ∙ length-push rest
 
--- a step of the division is a step of the register
 stepped_reduced : (b : Bool) (rest bits : List Bool) → length rest ≡ 15 → stepped (b ∷ added rest bits) ≡ added (reduced b (rest ++ false ∷ [])) bits
 stepped_reduced false rest bits h = sym (added_zero_end rest bits)
 stepped_reduced true rest bits h =
@@ -120,7 +119,6 @@ pub length-fold : (r message : List Bool) → length (fold shifted r message) �
 length-fold r [] = refl
 length-fold r (y ∷ message) = length-fold (shifted r y) message ∙ length-shifted r y
 
--- the remainder of the division is the register at the end
 pub divided_register : (message : List Bool) → divided (message ++ zeros 16) ≡ fold shifted (zeros 16) message
 divided_register message =
     let count : length (message ++ zeros 16) - 16 ≡ length message = omega (arith, length-append message (zeros 16)) in
@@ -154,7 +152,6 @@ fold_sum r s (x ∷ xs) (y ∷ ys) hr hs h =
     ∙ fold_sum (shifted r x) (shifted s y) xs ys (length-shifted r x ∙ hr) (length-shifted s y ∙ hs) (omega arith)
 fold_sum r s _ _ hr hs h = absurd (omega arith)
 
--- bits that meet themselves go out without the divisor
 fold_same : (h z : List Bool) → fold shifted (h ++ z) h ≡ z ++ zeros (length h)
 fold_same [] z = sym (append-nil z)
 fold_same (x ∷ h) z =
@@ -179,7 +176,6 @@ added_front [] ys zs h = refl
 added_front (x ∷ xs) [] zs h = absurd (omega arith)
 added_front (x ∷ xs) (y ∷ ys) zs h = ap (λ l. sum_of x y ∷ l) (added_front xs ys zs (omega arith))
 
--- a register may be added to the first bits of a message of sixteen bits and more
 fold_added : (r message : List Bool) → length r ≡ 16 → 16 ≤ length message → fold shifted r message ≡ fold shifted (zeros 16) (added r message)
 fold_added r message h long =
     let same : length (added r message) ≡ length message = length-added r message in
@@ -194,7 +190,6 @@ fold_added r message h long =
     ∙ ap (steps (length (added r message))) (sym (added_zeros 16 (added r message ++ zeros 16)))
     ∙ right
 
--- the same for a register in two halves and a message that begins with two bytes
 pub fold_two : (h z first second rest : List Bool) → length h ≡ 8 → length z ≡ 8 → length first ≡ 8 → length second ≡ 8
     → fold shifted (h ++ z) (first ++ (second ++ rest)) ≡ fold shifted (zeros 16) (added h first ++ (added z second ++ rest))
 fold_two h z first second rest hh hz hf hs = grind (arith, fold_added, length-append, added_both, added_front)

@@ -41,7 +41,6 @@ zeros_front (byte ∷ rest) =
     ∙ ap (λ l. l ++ added (bits (replicate (length rest) 0)) (bits rest)) (added_zeros 8 (bits_of 8 byte))
     ∙ ap (λ l. bits_of 8 byte ++ l) (zeros_front rest)
 
--- the first byte apart from the others
 pub crc_first : (byte : ℕ) (rest : List ℕ) → crc (byte ∷ rest) ≡ bit_xor (crc (byte ∷ replicate (length rest) 0)) (crc rest)
 unfolding register
 crc_first byte rest =
@@ -87,7 +86,6 @@ eight_bytes : (bytes : List ℕ) (a b c d e f g h : ℕ)
     ≡ bit_xor (entry 7 (bit_xor (crc bytes / 2 ^ 8) a)) (bit_xor (entry 6 (bit_xor (crc bytes % 2 ^ 8) b)) (bit_xor (entry 5 c) (bit_xor (entry 4 d) (bit_xor (entry 3 e) (bit_xor (entry 2 f) (bit_xor (entry 1 g) (entry 0 h)))))))
 eight_bytes bytes a b c d e f g h = grind (arith, crc_first, crc_two)
 
--- a list of eight by its elements
 eight_of : (xs : List ℕ) → length xs ≡ 8
     → xs ≡ get_or xs 0 0 ∷ (get_or xs 1 0 ∷ (get_or xs 2 0 ∷ (get_or xs 3 0 ∷ (get_or xs 4 0 ∷ (get_or xs 5 0 ∷ (get_or xs 6 0 ∷ (get_or xs 7 0 ∷ [])))))))
 eight_of (a ∷ (b ∷ (c ∷ (d ∷ (e ∷ (f ∷ (g ∷ (h ∷ [])))))))) is = refl

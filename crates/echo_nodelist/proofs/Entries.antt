@@ -2,12 +2,9 @@
 use Rattle.std.proofs.Common.{◌≡◌, ℕ, ◌<◌, ◌≤◌, nat_lt, List, ◌∷◌, length, sym, ap, ◌∙◌, Some, None, Ok, Err, arith}
 use Rattle.std.proofs.lemmas.{List.Splits.slice_split_first, Bool.cond-false, Bool.cond-true, Bool.le-ltb, Bool.lt-ltb}
 use Rattle.std.specs.List.{after_first, before_first, position_or_len, slice_split}
-use Rattle.echo_nodelist.specs.Line.{entry_in, keyword_of, number_of, with_keyword, with_number}
-use Rattle.echo_nodelist.specs.declared.{keyword.Keyword.Keyword, line.Line.TheVariants.Entry}
-use Rattle.echo_nodelist.specs.{declared.fault.NodeFault.TheVariants.BadKeyword, declared.fault.NodeFault.TheVariants.BadNumber, declared.fault.NodeFault.TheVariants.TooFewFields, Raw.is_comma}
+use Rattle.echo_nodelist.specs.{Line.entry_in, Line.keyword_of, Line.number_of, Line.with_keyword, Line.with_number, declared.keyword.Keyword.Keyword, declared.line.Line.TheVariants.Entry, declared.fault.NodeFault.TheVariants.BadKeyword, declared.fault.NodeFault.TheVariants.BadNumber, declared.fault.NodeFault.TheVariants.TooFewFields, Raw.is_comma}
 use Rattle.echo_nodelist.proofs.Pieces.{one_piece}
 
--- the first field, and the fields after it
 pub field_cut : (text field rest : List ℕ) → position_or_len is_comma text < length text → field ≡ before_first is_comma text
     → rest ≡ after_first is_comma text → slice_split is_comma text ≡ field ∷ slice_split is_comma rest
 field_cut text field rest found before behind = grind (arith, slice_split_first)

@@ -2,11 +2,9 @@
 use Rattle.std.proofs.Common.{◌≡◌, ℕ, ◌+◌, ◌<◌, nat_lt, true, false, cond, List, ◌∷◌, length, get_or, take, reverse, sym, ap, ◌∙◌, Option, None}
 use Rattle.std.proofs.lemmas.{List.length-reverse, List.take_more, Bool.cond-false, Bool.cond-true, Bool.lt-ltb}
 use Rattle.echo_addr.specs.declared.address.Address.{Address}
-use Rattle.echo_nodelist.specs.{declared.keyword.Keyword.Keyword, declared.line.Line.Line, declared.line.Line.TheVariants.Entry, Line.begins_net, Line.is_hub}
-use Rattle.echo_nodelist.specs.Back.{address_back, each_back, lines_back, nearest_hub}
+use Rattle.echo_nodelist.specs.{declared.keyword.Keyword.Keyword, declared.line.Line.Line, declared.line.Line.TheVariants.Entry, Line.begins_net, Line.is_hub, Back.address_back, Back.each_back, Back.lines_back, Back.nearest_hub}
 use Rattle.echo_nodelist.proofs.LookingBack.{kept_at, length-each_back, reverse-push}
 
--- a line, and those before it
 pub line_back : (lines : List Line) (m : ℕ) (line : Line) → m < length lines → line ≡ get_or lines m line
     → reverse (take (m + 1) lines) ≡ line ∷ reverse (take m lines)
 line_back lines m line below is =

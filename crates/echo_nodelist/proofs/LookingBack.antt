@@ -4,11 +4,8 @@ use Rattle.std.proofs.Common.{◌≡◌, ◌≢◌, ℕ, ◌+◌, ◌<◌, ◌�
 use Rattle.std.proofs.lemmas.List.{get_or-append_right, get_or_append_left, length-append, length-reverse, reverse-append, reverse-reverse, take-append-le, take_all}
 use Rattle.std.proofs.{Math.ListN.get_or-eq_default, lemmas.Bool.cases_lt, lemmas.Bool.cond_both, lemmas.Bool.ltb-false, lemmas.Bool.ltb-true}
 use Rattle.echo_addr.specs.declared.address.Address.{Address}
-use Rattle.echo_nodelist.specs.Back.{Finds, address_back, each_back, lines_back, zone_back}
-use Rattle.echo_nodelist.specs.declared.{place.Place.Place, place.Located.Located, keyword.Keyword.Keyword, line.Line.Line, line.Line.TheVariants.Entry, fault.NodeFault.TheVariants.NoZone}
-use Rattle.echo_nodelist.specs.{Nodelist.in_zone, Nodelist.placed, Place.Follows, Place.IsLocated, Place.IsPlaceAfter, Place.Locates}
+use Rattle.echo_nodelist.specs.{Back.Finds, Back.address_back, Back.each_back, Back.lines_back, Back.zone_back, Nodelist.in_zone, Nodelist.placed, Place.Follows, Place.IsLocated, Place.IsPlaceAfter, Place.Locates, declared.place.Place.Place, declared.place.Located.Located, declared.keyword.Keyword.Keyword, declared.line.Line.Line, declared.line.Line.TheVariants.Entry, declared.fault.NodeFault.TheVariants.NoZone}
 
--- an entry with no Zone line up to it
 pub tell_none : (at : ℕ) (earlier : List Line) (k : Keyword) (n : ℕ) (fields : List (List ℕ)) (line : Line) → line ≡ Entry k n fields
     → zone_back (Entry k n fields ∷ earlier) ≡ None → placed at earlier (Ok line) ≡ Err (NoZone at)
 tell_none at earlier k n fields line is none =

@@ -10,12 +10,10 @@ pub record Done (text : List ℕ) (lines : List Line) (rest : List ℕ) : Type 0
   pub pieces : front ++ lines_of rest ≡ lines_of text
   pub read : AreRead (reverse front) (reverse lines)
 
--- the content of the line, after counting its number
 outcome_is : (lines : List Line) (raw : List ℕ) (number : ℕ) (said : Result Line NodeFault) → number ≡ length lines + 1 → said ≡ line_in number raw
     → line_outcome (reverse lines) raw ≡ placed number (reverse lines) said
 outcome_is lines raw number said count is = grind (arith, length-reverse)
 
--- an answer that is other than out of memory
 said_ok : (line : Line) (expected : Result Line NodeFault) → Gives (Ok line) expected → Ok line ≡ expected
 said_ok line expected (inl memory) = cc
 said_ok line expected (inr is) = is
@@ -33,6 +31,5 @@ done_more text rest raw after lines line number done cut count said good =
       read = subst (λ ls. AreRead (reverse (done.front ++ raw ∷ [])) ls) (sym (reverse-push lines line)) (subst (λ rs. AreRead rs (line ∷ reverse lines)) (sym (reverse-push done.front raw)) both);
     }
 
--- the text has no more lines
 pub done_all : (text rest : List ℕ) (lines : List Line) → Done text lines rest → length rest ≡ 0 → AreRead (reverse (lines_of text)) (reverse lines)
 done_all text rest lines done none = grind (arith, append-nil, nil_from_length, lines_nil)

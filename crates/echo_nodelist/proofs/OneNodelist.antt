@@ -32,7 +32,6 @@ before [] raw raws (line ∷ earlier) r = record { line = line; earlier = earlie
 before (next ∷ later) raw raws [] r = absurd r
 before (next ∷ later) raw raws (line ∷ earlier) r = before later raw raws earlier r.1
 
--- a good front does not extend past a faulty line
 front_faulty : (front : List (List ℕ)) (raw : List ℕ) (later : List (List ℕ)) (lines earlier : List Line) (fault : NodeFault)
     → AreRead (reverse (front ++ raw ∷ later)) lines → AreRead (reverse front) earlier → line_outcome earlier raw ≡ Err fault → ⊥
 front_faulty front raw later lines earlier fault read good faulty =

@@ -1,9 +1,7 @@
 -- Cutting a text into pieces.
 use Rattle.std.proofs.Common.{◌≡◌, ℕ, ◌+◌, ◌-◌, ◌<◌, ◌==◌, Bool, false, List, [], ◌∷◌, ◌++◌, length, get_or, take, drop, map, Some, None, refl, sym, ap, ◌∙◌, arith}
-use Rattle.std.proofs.lemmas.List.{append_assoc, drop_all, take_rest, Elements.All-from_get_or, Sums.fails_before_first, Sums.position_or_len_is, Splits.slice_split_first, Splits.slice_split_none}
-use Rattle.std.proofs.lemmas.Bool.{false_from_ne_true}
-use Rattle.std.specs.List.{All, after_first, before_first, position_or_len, slice_split}
-use Rattle.std.specs.Io.BufRead.{strip_last}
+use Rattle.std.proofs.lemmas.{List.append_assoc, List.drop_all, List.take_rest, List.Elements.All-from_get_or, List.Sums.fails_before_first, List.Sums.position_or_len_is, List.Splits.slice_split_first, List.Splits.slice_split_none, Bool.false_from_ne_true}
+use Rattle.std.specs.{List.All, List.after_first, List.before_first, List.position_or_len, List.slice_split, Io.BufRead.strip_last}
 use Rattle.memchr.specs.Find.{IsFirstByte, is_byte}
 use Rattle.echo_addr.specs.Pieces.{without_empty_last}
 use Rattle.echo_addr.proofs.Pieces.{ended_piece, last_piece}
@@ -13,7 +11,6 @@ module _ (byte : ℕ) (text : List ℕ) where
   abbrev is : ℕ → Bool
   is b = b == byte
 
-  -- the place that `memchr` found
   pub place_found : (k : ℕ) → IsFirstByte (is_byte byte) text (Some k) → position_or_len is text ≡ k
   place_found k found = grind (arith, position_or_len_is, false_from_ne_true, get_or)
 
@@ -28,7 +25,6 @@ module _ (byte : ℕ) (text : List ℕ) where
   pub after_place : (k : ℕ) → IsFirstByte (is_byte byte) text (Some k) → take (length text - (k + 1)) (drop (k + 1) text) ≡ after_first is text
   after_place k found = take_rest text (k + 1) ∙ ap (λ n. drop (n + 1) text) (sym (place_found k found))
 
--- if the first passing byte is at the end, no byte passes
 none_passes : (p : ℕ → Bool) (text : List ℕ) → position_or_len p text ≡ length text → All (λ b. p b ≡ false) text
 none_passes p text none = All-from_get_or (λ b. p b ≡ false) text 0 (λ i below. fails_before_first p text i 0 (omega arith))
 
@@ -46,18 +42,15 @@ unfolding lines_of
 lines_split text piece rest cut =
     ap (λ ps. map (strip_last 13) (without_empty_last ps)) cut ∙ ap (map (strip_last 13)) (ended_piece is_feed piece rest)
 
--- the first line, if it has an end, and the later lines
 pub lines_cut : (text line piece rest : List ℕ) → position_or_len is_feed text < length text → piece ≡ before_first is_feed text → rest ≡ after_first is_feed text
     → line ≡ strip_last 13 piece → lines_of text ≡ line ∷ lines_of rest
 lines_cut text line piece rest found before after last = grind (arith, lines_split, slice_split_first)
 
--- a last line without an end
 pub lines_last : (text line rest : List ℕ) → 0 < length text → position_or_len is_feed text ≡ length text → line ≡ strip_last 13 text → rest ≡ []
     → lines_of text ≡ line ∷ lines_of rest
 unfolding lines_of
 lines_last text line rest some none last nothing = grind (arith, one_piece, last_piece)
 
--- the bytes after the end
 pub nothing_left : (text : List ℕ) → take (length text - length text) (drop (length text) text) ≡ []
 nothing_left text = take_rest text (length text) ∙ drop_all (length text) text (omega arith)
 

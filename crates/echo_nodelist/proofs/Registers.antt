@@ -1,11 +1,8 @@
 -- The register as a number, and the table of its bytes.
 use Rattle.std.proofs.Common.{◌≡◌, ℕ, zero, suc, ◌+◌, ◌-◌, ◌*◌, ◌/◌, ◌%◌, ◌^◌, ◌<◌, ◌==◌, ◌&&◌, Bool, true, false, List, [], ◌∷◌, ◌++◌, length, get_or, cond, refl, sym, ap, ◌∙◌, subst, arith, add-zero, zero-add}
-use Rattle.std.proofs.lemmas.Nat.Bits.{bit_at-lt, bit_at_above, bit_at_cat_high, bit_at_cat_low, bit_at_xor}
-use Rattle.std.proofs.{Math.Nat.pow-suc, lemmas.Nat.mod-pow-add, lemmas.Nat.shr_split, lemmas.Nat.xor_of_16, lemmas.Bool.and_parts, lemmas.Bool.eqb-true, lemmas.List.append-nil}
-use Rattle.std.proofs.lemmas.List.{Sums.fold-append, Concat.flat_map-append}
+use Rattle.std.proofs.{lemmas.Nat.Bits.bit_at-lt, lemmas.Nat.Bits.bit_at_above, lemmas.Nat.Bits.bit_at_cat_high, lemmas.Nat.Bits.bit_at_cat_low, lemmas.Nat.Bits.bit_at_xor, lemmas.List.Sums.fold-append, lemmas.List.Concat.flat_map-append, Math.Nat.pow-suc, lemmas.Nat.mod-pow-add, lemmas.Nat.shr_split, lemmas.Nat.xor_of_16, lemmas.Bool.and_parts, lemmas.Bool.eqb-true, lemmas.List.append-nil}
 use Rattle.std.specs.{List.flat_map, List.fold, Int.bit_at, Int.Bits.bit_xor}
-use Rattle.echo_nodelist.specs.Crc.{added, bits_of, crc, bits_value, sum_of, zeros}
-use Rattle.echo_nodelist.specs.declared.crc_table.TheConstants.{TABLE}
+use Rattle.echo_nodelist.specs.{Crc.added, Crc.bits_of, Crc.crc, Crc.bits_value, Crc.sum_of, Crc.zeros, declared.crc_table.TheConstants.TABLE}
 use Rattle.echo_nodelist.proofs.Division.{divided_register, fold_byte, length-fold, shifted}
 
 -- ---- numbers and their bits
@@ -15,7 +12,6 @@ same_bits zero m n h = refl
 same_bits (suc k) m n h =
     ap (λ t. (t == 1) ∷ bits_of k m) (h k (omega arith)) ∙ ap (λ l. (bit_at n k == 1) ∷ l) (same_bits k m n (λ i below. h i (omega arith)))
 
--- the bits of `(a << k) + b`
 bits_cat : (j k a b : ℕ) → b < 2 ^ k → bits_of (j + k) (a * 2 ^ k + b) ≡ bits_of j a ++ bits_of k b
 bits_cat zero k a b h = ap (λ m. bits_of m (a * 2 ^ k + b)) (zero-add k) ∙ same_bits k (a * 2 ^ k + b) b (λ i below. bit_at_cat_low a k b i below)
 bits_cat (suc j) k a b h =
@@ -148,7 +144,6 @@ crc-push bytes byte =
 
 -- ---- the table
 
--- each entry from the i-th on is the checksum of its place
 all_match : ℕ → List ℕ → Bool
 all_match i [] = true
 all_match i (x ∷ xs) = (crc (i ∷ []) == x) && all_match (suc i) xs

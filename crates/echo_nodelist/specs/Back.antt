@@ -1,8 +1,7 @@
 -- Addresses of a nodelist (FTS-5000), found by looking back from a line to the first. Lists of lines begin with the nearest.
 use Rattle.std.specs.Prelude.{◌≡◌, ◌≢◌, ℕ, ◌+◌, ◌<◌, ◌&&◌, not, nat_lt, Bool, false, List, [], ◌∷◌, ◌++◌, length, take, reverse, Option, Some, None, if◌then◌else◌, MatchOption}
 use Rattle.echo_addr.specs.declared.address.Address.{Address}
-use Rattle.echo_nodelist.specs.declared.{keyword.Keyword.Keyword, line.Line.Line, line.Line.TheVariants.Note, line.Line.TheVariants.Entry}
-use Rattle.echo_nodelist.specs.Line.{begins_net, is_hub, is_zone}
+use Rattle.echo_nodelist.specs.{declared.keyword.Keyword.Keyword, declared.line.Line.Line, declared.line.Line.TheVariants.Note, declared.line.Line.TheVariants.Entry, Line.begins_net, Line.is_hub, Line.is_zone}
 
 -- The number of the last Zone line.
 abbrev pub zone_back : List Line → Option ℕ

@@ -1,8 +1,7 @@
 -- The checksum that the first line of a nodelist states.
 use Rattle.std.specs.Prelude.{ℕ, ◌-◌, ◌==◌, ◌&&◌, nat_le, Bool, List, length, take, drop, if◌then◌else◌}
 use Rattle.std.specs.{List.after_first, List.before_first, List.suffix_len, Str.all_ascii_digits, Str.Parse.digits_value, Io.BufRead.ends_with_byte, Io.BufRead.strip_last}
-use Rattle.echo_nodelist.specs.declared.stated.CrcLine.{CrcLine, TheVariants.Absent, TheVariants.Match, TheVariants.Mismatch}
-use Rattle.echo_nodelist.specs.{Crc.crc, Raw.is_feed, Raw.before_end}
+use Rattle.echo_nodelist.specs.{declared.stated.CrcLine.CrcLine, declared.stated.CrcLine.TheVariants.Absent, declared.stated.CrcLine.TheVariants.Match, declared.stated.CrcLine.TheVariants.Mismatch, Crc.crc, Raw.is_feed, Raw.before_end}
 
 -- The first line of a text without 0D at its end, and the bytes from the second line on.
 abbrev pub stating_line : List ℕ → List ℕ
@@ -41,6 +40,6 @@ compared stated computed = if stated == computed then Match stated else Mismatch
 abbrev pub crc_of_text : List ℕ → CrcLine
 crc_of_text text = if states_crc (stating_line text) then compared (stated_crc (stating_line text)) (crc (later_bytes text)) else Absent
 
--- The same for a nodelist, up to its first 1A.
+-- For a nodelist, up to its first 1A.
 abbrev pub crc_line_of : List ℕ → CrcLine
 crc_line_of bytes = crc_of_text (before_end bytes)

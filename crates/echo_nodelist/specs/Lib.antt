@@ -7,4 +7,3 @@ pub mod Back
 pub mod Nodelist
 pub mod Place
 pub mod Reading
-pub mod Written

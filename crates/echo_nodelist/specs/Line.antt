@@ -3,8 +3,7 @@ use Rattle.std.specs.Prelude.{ℕ, ◌==◌, ◌&&◌, ◌||◌, nat_lt, Bool, t
 use Rattle.std.specs.{List.slice_split, Int.is_in_range, Str.str_eq_ignore_ascii_case, Str.Parse.digits_value}
 use Rattle.echo_addr.specs.Digits.{is_number}
 use Rattle.echo_nodelist.specs.declared.keyword.Keyword.TheVariants.{Zone, Region, Host, Hub, Pvt, Hold, Down, Node}
-use Rattle.echo_nodelist.specs.declared.{keyword.Keyword.Keyword, line.Line.Line, line.Line.TheVariants.Note, line.Line.TheVariants.Entry, fault.NodeFault.NodeFault}
-use Rattle.echo_nodelist.specs.{declared.fault.NodeFault.TheVariants.TooFewFields, declared.fault.NodeFault.TheVariants.BadKeyword, declared.fault.NodeFault.TheVariants.BadNumber, Raw.is_comma}
+use Rattle.echo_nodelist.specs.{declared.keyword.Keyword.Keyword, declared.line.Line.Line, declared.line.Line.TheVariants.Note, declared.line.Line.TheVariants.Entry, declared.fault.NodeFault.NodeFault, declared.fault.NodeFault.TheVariants.TooFewFields, declared.fault.NodeFault.TheVariants.BadKeyword, declared.fault.NodeFault.TheVariants.BadNumber, Raw.is_comma}
 
 -- The keywords in their written form.
 abbrev pub keyword_text : Keyword → List ℕ

@@ -2,9 +2,7 @@
 use Rattle.std.specs.Prelude.{◌≡◌, ℕ, ◌+◌, ◌≤◌, ◌⊎◌, ◌&&◌, not, Bool, true, List, [], ◌∷◌, ◌++◌, length, reverse, Option, Some, None, IsSome, Result, Ok, Err}
 use Rattle.std.specs.List.{list_all}
 use Rattle.echo_addr.specs.declared.address.Address.{Address}
-use Rattle.echo_nodelist.specs.declared.{keyword.Keyword.Keyword, line.Line.Line, line.Line.TheVariants.Note, line.Line.TheVariants.Entry, fault.NodeFault.NodeFault}
-use Rattle.echo_nodelist.specs.{declared.fault.NodeFault.TheVariants.Memory, declared.fault.NodeFault.TheVariants.NoZone, Raw.is_comma, Raw.is_end, Raw.is_feed, Raw.node_lines}
-use Rattle.echo_nodelist.specs.{Line.is_fit, Line.is_note, Line.line_in, Back.address_back, Back.each_back, Back.zone_back}
+use Rattle.echo_nodelist.specs.{declared.keyword.Keyword.Keyword, declared.line.Line.Line, declared.line.Line.TheVariants.Note, declared.line.Line.TheVariants.Entry, declared.fault.NodeFault.NodeFault, declared.fault.NodeFault.TheVariants.Memory, declared.fault.NodeFault.TheVariants.NoZone, Raw.is_comma, Raw.is_end, Raw.is_feed, Raw.node_lines, Line.is_fit, Line.is_note, Line.line_in, Back.address_back, Back.each_back, Back.zone_back}
 
 -- An entry, if a Zone line is at or before it.
 abbrev pub in_zone : ℕ → Option ℕ → Line → Result Line NodeFault
@@ -41,7 +39,6 @@ pub record FaultIn (raws : List (List ℕ)) (fault : NodeFault) : Type 0 where
   pub good : AreRead (reverse front) (reverse lines)
   pub faulty : line_outcome (reverse lines) raw ≡ Err fault
 
--- The same for a nodelist.
 abbrev pub NodelistFaultOf : List ℕ → NodeFault → Type 0
 NodelistFaultOf bytes fault = FaultIn (node_lines bytes) fault
 

@@ -1,8 +1,7 @@
 -- The facts that the earlier lines give for the next line. Lists of lines begin with the nearest.
 use Rattle.std.specs.Prelude.{◌≡◌, ℕ, List, ◌∷◌, reverse, Option, Some, None, Result, Ok, Err}
 use Rattle.echo_addr.specs.declared.address.Address.{Address}
-use Rattle.echo_nodelist.specs.declared.{place.Place.Place, place.Located.Located, line.Line.Line, fault.NodeFault.NodeFault}
-use Rattle.echo_nodelist.specs.{Back.address_back, Back.each_back, Back.net_back, Back.zone_back, Nodelist.placed}
+use Rattle.echo_nodelist.specs.{declared.place.Place.Place, declared.place.Located.Located, declared.line.Line.Line, declared.fault.NodeFault.NodeFault, Back.address_back, Back.each_back, Back.net_back, Back.zone_back, Nodelist.placed}
 
 -- The place after these lines, or `None` before the first Zone line.
 abbrev pub IsPlaceAfter : List Line → Option Place → Type 0
@@ -14,7 +13,7 @@ pub record IsLocated (earlier : List Line) (line : Line) (located : Located) : T
   pub place : IsPlaceAfter (line ∷ earlier) located.place
   pub address : address_back (line ∷ earlier) ≡ located.address
 
--- The same, or the fault that line `at` has no zone.
+-- The place, or the fault that line `at` has no zone.
 abbrev pub Locates : ℕ → List Line → Line → Result Located NodeFault → Type 0
 Locates at earlier line (Ok located) = (placed at earlier (Ok line) ≡ Ok line) × IsLocated earlier line located
 Locates at earlier line (Err fault) = placed at earlier (Ok line) ≡ Err fault

@@ -1,6 +1,5 @@
 -- The lines of a nodelist (FTS-5000) before they are parsed.
-use Rattle.std.specs.Prelude.{ℕ, ◌==◌, Bool, List, map}
-use Rattle.std.specs.{List.before_first, List.slice_split, Io.BufRead.strip_last}
+use Rattle.std.specs.{Prelude.ℕ, Prelude.◌==◌, Prelude.Bool, Prelude.List, Prelude.map, List.before_first, List.slice_split, Io.BufRead.strip_last}
 pub use Rattle.echo_addr.specs.Pieces.{is_feed}
 use Rattle.echo_addr.specs.Pieces.{without_empty_last}
 

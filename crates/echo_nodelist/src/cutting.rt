@@ -1,5 +1,4 @@
-ghost use Rattle.std.specs.Prelude.{◌≡◌, ◌+◌, ◌<◌, ◌≤◌, ◌==◌, ◌∷◌, length, IfSome, IsNone};
-ghost use Rattle.std.specs.{List.after_first, List.before_first, List.position_or_len, Io.BufRead.strip_last};
+ghost use Rattle.std.specs.{Prelude.◌≡◌, Prelude.◌+◌, Prelude.◌<◌, Prelude.◌≤◌, Prelude.◌==◌, Prelude.◌∷◌, Prelude.length, Prelude.IfSome, Prelude.IsNone, List.after_first, List.before_first, List.position_or_len, Io.BufRead.strip_last};
 ghost use Rattle.echo_nodelist.specs.Raw.{lines_of, before_end};
 
 use memchr::memchr;

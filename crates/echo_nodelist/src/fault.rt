@@ -5,9 +5,8 @@ use std::alloc::{AllocError, AllocFailed};
 use std::fmt;
 use thiserror::Error;
 
-/// Why a nodelist was not read or written. `line` is the number of the first faulty line, counted
-/// from 1. If it has several faults, the first in this order is reported. `bytes` counts bytes that
-/// were sent.
+/// Why a nodelist was not read. `line` is the number of the first faulty line, counted from 1. If it has several
+/// faults, the first in this order is reported.
 #[derive(Clone, Copy, Debug, PartialEq, Eq, Error)]
 pub enum NodeFault {
     /// An entry of fewer than seven fields.
@@ -25,9 +24,6 @@ pub enum NodeFault {
     /// A growth was refused.
     #[error("N5 Memory")]
     Memory,
-    /// The writer failed.
-    #[error("N6 Write bytes {bytes}")]
-    Write { bytes: u64 },
 }
 
 impl From<AllocError> for NodeFault {

@@ -27,7 +27,6 @@ fn is_below_hub(line: &Line) -> bool
     }
 }
 
-/// The address of the nearest Hub line before an index, if no Zone, Region or Host line is nearer.
 fn nearest_hub(lines: &[Line], addresses: &[Option<Address>], i: usize) -> Option<Address>
     requires within { i ≤ length lines.now }
     requires kept { addresses.now ≡ each_back address_back (reverse lines.now) }

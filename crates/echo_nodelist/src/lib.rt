@@ -1,11 +1,10 @@
 //! Nodelists (FTS-5000) and their checksum.
 //!
-//! Promise: what `write` wrote of a nodelist is read as that nodelist
-//! (`written_nodelist_read_back`). `find` gives the first line with an address. The address of a
-//! line follows from the lines before it.
+//! Promise: bytes are one nodelist at most, or have one first fault (`one_nodelist`). `find` gives the first line with
+//! an address. The address of a line follows from the lines before it.
 //!
 //! Begin with `nodelist`, then `line` (one line), `place` (its zone and net) and `hub` (its hub).
-//! `reading` and `writing` do the files, `stated` compares the checksum of the first line, `fault`
+//! `reading` reads a file, `stated` compares the checksum of the first line, `fault`
 //! lists the refusals, `laws` states the promise. `crc_table`, `crc`, `cutting` and `keyword` are
 //! helpers.
 //!
@@ -32,12 +31,11 @@ mod nodelist;
 mod place;
 mod reading;
 mod stated;
-mod writing;
 
 pub use crc::crc16;
 pub use fault::NodeFault;
 pub use keyword::Keyword;
-pub use laws::{one_nodelist, written_nodelist_read_back};
+pub use laws::one_nodelist;
 pub use line::Line;
 pub use nodelist::Nodelist;
 pub use stated::{CrcLine, crc_line};

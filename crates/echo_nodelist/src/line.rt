@@ -38,7 +38,6 @@ pub(crate) fn read_line(alloc: Global, line: usize, bytes: &[u8]) -> Result<Line
     read_entry(alloc, line, bytes)
 }
 
-/// Whether the line is empty or begins with `;`.
 fn is_note(bytes: &[u8]) -> bool
     ensures { result ≡ is_note bytes.now }
 {
@@ -84,7 +83,6 @@ fn fields_of(alloc: Global, text: &[u8]) -> Result<Vec<Items<u8>>, AllocError>
     Ok(fields)
 }
 
-/// The number that the digits write, where the keyword may have it.
 fn number_of(keyword: Keyword, digits: &[u8]) -> Option<u16>
     ensures { result ≡ number_of keyword digits.now }
 {

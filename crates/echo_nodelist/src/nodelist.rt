@@ -5,8 +5,6 @@ use crate::fault::NodeFault;
 use crate::hub::hub_at;
 use crate::line::Line;
 use crate::reading::read_lines;
-use crate::writing::nodelist_text;
-use disk_io::{Failure, Sink, send};
 use echo_addr::Address;
 use std::alloc::Global;
 use std::marker::Model;
@@ -20,8 +18,7 @@ pub struct Nodelist {
 
 impl Model for Nodelist {
     ghost use Rattle.std.specs.Prelude.{List};
-    ghost use Rattle.echo_nodelist.specs.declared.line.Line.{Line};
-    ghost use Rattle.echo_nodelist.specs.Nodelist.{IsIndexed};
+    ghost use Rattle.echo_nodelist.specs.{declared.line.Line.Line, Nodelist.IsIndexed};
 
     ghost Value = { List Line };
 
@@ -32,9 +29,7 @@ impl Model for Nodelist {
 
 impl Nodelist {
     ghost use Rattle.std.specs.Prelude.{◌≡◌};
-    ghost use Rattle.echo_nodelist.specs.Back.{Finds, address_at, hub_at};
-    ghost use Rattle.echo_nodelist.specs.Nodelist.{NodelistAnswered, IsNodelist};
-    ghost use Rattle.echo_nodelist.specs.Written.{WritesOut, nodelist_text};
+    ghost use Rattle.echo_nodelist.specs.{Back.Finds, Back.address_at, Back.hub_at, Nodelist.NodelistAnswered, Nodelist.IsNodelist};
 
     /// The nodelist that the bytes are, up to the first 1A. A fault is that of the first faulty line,
     /// or `Memory`.
@@ -46,19 +41,6 @@ impl Nodelist {
             lines: reading.lines,
             addresses: reading.addresses,
         })
-    }
-
-    /// Writes each line with 0D 0A, then 1A. Faults: `Write` with the number of bytes that were
-    /// sent, or `Memory` before any was sent.
-    pub fn write<W: Sink>(&self, alloc: Global, writer: &mut W) -> Result<(), NodeFault>
-        ensures { WritesOut (W.contents writer.old) (W.contents writer.new) (W.failures writer.old) (W.failures writer.new) (nodelist_text self.now) result }
-    {
-        let text = nodelist_text(alloc, &self.lines)?;
-        let mut sent = 0;
-        match send(writer, &text, &mut sent) {
-            Ok(()) => Ok(()),
-            Err(Failure) => Err(NodeFault::Write { bytes: sent }),
-        }
     }
 
     /// The lines in order.

@@ -1,7 +1,5 @@
-ghost use Rattle.std.specs.Prelude.{◌≡◌, ◌≤◌, ◌↔◌, false, length, IsNone, IfSome};
-ghost use Rattle.std.specs.List.{after_first, before_first, suffix_len};
-ghost use Rattle.echo_nodelist.specs.CrcLine.{crc_line_of, is_space, states_crc, stated_crc, without_back_spaces};
-ghost use Rattle.echo_nodelist.specs.Raw.{is_feed};
+ghost use Rattle.std.specs.{Prelude.◌≡◌, Prelude.◌≤◌, Prelude.◌↔◌, Prelude.false, Prelude.length, Prelude.IsNone, Prelude.IfSome, List.after_first, List.before_first, List.suffix_len};
+ghost use Rattle.echo_nodelist.specs.{CrcLine.crc_line_of, CrcLine.is_space, CrcLine.states_crc, CrcLine.stated_crc, CrcLine.without_back_spaces, Raw.is_feed};
 
 use crate::crc::crc16;
 use crate::cutting::{before_end, cut, without_return};

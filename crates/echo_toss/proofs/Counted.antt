@@ -19,7 +19,6 @@ counted_yes p all o is = counted_more p all o ∙ ap (λ b. count_by p all + con
 counted_no : (p : Outcome → Bool) (all : List Outcome) (o : Outcome) → p o ≡ false → count_by p (all ++ o ∷ []) ≡ count_by p all
 counted_no p all o not = let more = counted_more p all o ∙ ap (λ b. count_by p all + cond b 1 0) not in omega arith
 
--- one more outcome
 pub tally_of-push : (all : List Outcome) (o : Outcome) → tally_of (all ++ o ∷ []) ≡ tally_with (tally_of all) o
 tally_of-push all Filed = grind (arith, counted_yes, counted_no)
 tally_of-push all Known = grind (arith, counted_no, counted_yes)
@@ -49,7 +48,6 @@ one_outcome BadTag = refl
 one_outcome NoArea = refl
 one_outcome NotLinked = refl
 
--- a tally counts each of the outcomes
 pub all_counted-tally_of : (all : List Outcome) → all_counted (tally_of all) ≡ length all
 all_counted-tally_of [] = refl
 all_counted-tally_of (o ∷ all) = counted_first o all ∙ ap (λ n. n + all_counted (tally_of all)) (one_outcome o) ∙ (let so = all_counted-tally_of all in omega arith)
@@ -67,7 +65,6 @@ outcomes-push file base sender [] m = refl
 outcomes-push file base sender (x ∷ ms) m =
     ap (λ all. toss_outcome file base sender x ∷ all) (outcomes-push file (base ++ option_to_list (tossing file base sender x)) sender ms m)
 
--- each message has an outcome
 pub length-outcomes : (file : LinkFile) (base : List FiledMessage) (sender : Address) (ms : List Message) → length (outcomes file base sender ms) ≡ length ms
 length-outcomes file base sender [] = refl
 length-outcomes file base sender (m ∷ ms) = ap suc (length-outcomes file (base ++ option_to_list (tossing file base sender m)) sender ms)

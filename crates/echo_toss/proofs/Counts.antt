@@ -1,20 +1,16 @@
 -- Packets that are counted group by group are those that a scan makes.
 use Rattle.std.proofs.Common.{◌≡◌, ◌∙◌, ⊎_elim, ℕ, zero, suc, ◌+◌, ◌<◌, Bool, true, false, true≢false, List, [], ◌∷◌, ◌++◌, map, drop, length, Option, Some, None, inl, inr, refl, sym, ap, subst, arith, append_assoc, length-append}
-use Rattle.std.proofs.lemmas.Bool.{cases_Bool, cond-false, cond-true, lt-ltb, ltb-true}
-use Rattle.std.proofs.lemmas.List.{append-nil, map-append, Elements.filter-append}
+use Rattle.std.proofs.lemmas.{Bool.cases_Bool, Bool.cond-false, Bool.cond-true, Bool.lt-ltb, Bool.ltb-true, List.append-nil, List.map-append, List.Elements.filter-append}
 use Rattle.std.specs.Prelude.{SomeIff, filter, find, nat_lt, bytes_eq, get_or, slice_get, option_map, unwrap_or}
 use Rattle.std.specs.{List.AllByRecursion, List.flat_map, Cmp.Lexicographic.bytes_decides}
 use Rattle.echo_addr.specs.declared.address.Address.{Address}
 use Rattle.echo_packet.specs.Message.{Message, message_bytes, messages_bytes, numbers, readdressed}
 use Rattle.echo_links.specs.Links.{Area, LinkFile, area_of, links_of}
 use Rattle.echo_filed.specs.{Filed.Filed, Sets.address_before, Sets.address_set}
-use Rattle.echo_filed.proofs.Sets.{Ascending, same_set, set_ascending, set_keeps, set_only}
-use Rattle.echo_filed.proofs.{Choices.IsIn, Orders.address_order}
+use Rattle.echo_filed.proofs.{Sets.Ascending, Sets.same_set, Sets.set_ascending, Sets.set_keeps, Sets.set_only, Choices.IsIn, Orders.address_order}
 use Rattle.model_steps.specs.{declared.stamp.Stamp.Stamp, Scanning.header_to, Scanning.scanned, Scanning.targets}
 use Rattle.model_steps.proofs.Encoding.{header_size, packet_size}
-use Rattle.echo_toss.specs.Counts.{copies_out, counted_to, counted_with, counted_of, has_messages, link_set}
-use Rattle.echo_toss.specs.Exports.{Outgoing, copy_out, goes_out, outgoing_of, packet_out, sent_of}
-use Rattle.echo_toss.specs.declared.counting.CountedPacket.{CountedPacket}
+use Rattle.echo_toss.specs.{Counts.copies_out, Counts.counted_to, Counts.counted_with, Counts.counted_of, Counts.has_messages, Counts.link_set, declared.counting.CountedPacket.CountedPacket, Exports.Outgoing, Exports.copy_out, Exports.goes_out, Exports.outgoing_of, Exports.packet_out, Exports.sent_of}
 use Rattle.echo_toss.proofs.{AscendingSets.in_back, AscendingSets.in_either, AscendingSets.in_front, Exports.kept_targets, Exports.scan_made, Searches.found_in, Searches.in_found}
 
 -- ---- group after group
@@ -26,7 +22,6 @@ messages_append (m ∷ one) other = ap (λ l. message_bytes m ++ l) (messages_ap
 pub copies_append : (a : Address) (one other : List Outgoing) → copies_out a (one ++ other) ≡ copies_out a one ++ copies_out a other
 copies_append a one other = ap (map (copy_out a)) (filter-append (goes_out a) one other) ∙ map-append (copy_out a) (filter (goes_out a) one) (filter (goes_out a) other)
 
--- more, and then more
 pub more_twice : (p : CountedPacket) (one other : List Outgoing) → counted_with other (counted_with one p) ≡ counted_with (one ++ other) p
 more_twice p one other = grind (arith, copies_append, length-append, messages_append)
 
@@ -37,7 +32,6 @@ pub group_counted : (sent more : List Outgoing) (all : List Address) → map (co
 group_counted sent more [] = refl
 group_counted sent more (a ∷ all) = let one = more_in sent more a in let rest = group_counted sent more all in λ i. one i ∷ rest i
 
--- a packet with messages has some after more of them
 pub has_later : (sent more : List Outgoing) (a : Address) → has_messages (counted_to sent a) ≡ true → has_messages (counted_to (sent ++ more) a) ≡ true
 has_later sent more a has = grind (arith, copies_append, length-append, lt-ltb, ltb-true)
 
@@ -126,7 +120,6 @@ same_size : (m : Message) (node net : ℕ) → length (message_bytes (readdresse
 unfolding numbers
 same_size m node net = refl
 
--- the value of a sum that did not overflow
 pub sum_is : (r : Option ℕ) (P : Type 0) (v x : ℕ) → SomeIff r P v → r ≡ Some x → x ≡ v
 sum_is r P v x given is = (subst (λ (o : Option ℕ). SomeIff o P v) is given).1
 
@@ -154,7 +147,6 @@ some_gets a (o ∷ sent) h = elim (cases_Bool (goes_out a o)) [
   | inr stays ↦ in_back a o.targets (all_targets sent) (some_gets a sent (sym (ap (λ (l : List Message). nat_lt 0 (length l)) (no_copy a o sent stays)) ∙ h))
 ]
 
--- of these addresses those that get some, if no other does
 those_that_get : (sent : List Outgoing) (all : List Address) → ((x : Address) → IsIn x (all_targets sent) → IsIn x (address_set all))
     → filter (gets sent) (address_set all) ≡ address_set (all_targets sent)
 unfolding address_set

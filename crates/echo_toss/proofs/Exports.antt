@@ -15,7 +15,6 @@ use Rattle.model_steps.specs.declared.{stamp.Stamp.Stamp, packet.Packet.Packet}
 use Rattle.echo_toss.specs.Exports.{Outgoing, copy_out, goes_out, has_some, is_sent, outgoing_of, packet_out, packets_out, sent_of}
 use Rattle.echo_toss.proofs.{AscendingSets.set_twice, AscendingSets.sets_together, Searches.among_set}
 
--- the first element, then the others
 filter_front : {X : Type 0} (p : X → Bool) (x : X) (xs : List X) → filter p (x ∷ xs) ≡ filter p (x ∷ []) ++ filter p xs
 filter_front p x xs = elim (cases_Bool (p x)) [
   | inl stays ↦ cond-true (p x) (x ∷ filter p xs) (filter p xs) stays ∙ ap (λ l. l ++ filter p xs) (sym (cond-true (p x) (x ∷ []) [] stays))
@@ -50,7 +49,6 @@ pub packets_are : (file : LinkFile) (stamp : Stamp) (base : List Filed) (cursor 
 unfolding scanned packets_of recipients
 packets_are file stamp base cursor = grind (arith, same_targets, same_packet)
 
--- messages without receivers are in no packet
 no_targets : (l : List Address) → has_some l ≡ false → l ≡ []
 no_targets [] lacks = refl
 no_targets (a ∷ more) lacks = absurd (true≢false lacks)
@@ -85,24 +83,20 @@ pub exported_is : (file : LinkFile) (e : EchoText) (tag : List ℕ) (kept : List
 unfolding exported
 exported_is file e tag kept seen path t k s p = λ i. record { tag = t i; kept = k i; seen = s i; path = p i }
 
--- the same with the entries, the own net/node and the links under other names
 pub exported_made : (file : LinkFile) (e : EchoText) (own : NetNode) (links : List Address) (tag : List ℕ) (kept : List (List ℕ)) (before seen passed path : List NetNode)
     → own ≡ net_node_of file.system → links ≡ links_of file tag → tag ≡ e.tag → kept ≡ e.kept → before ≡ e.seen
     → seen ≡ entry_set (before ++ own ∷ map net_node_of links) → passed ≡ e.path → path ≡ passed ++ own ∷ []
     → record { tag = tag; kept = kept; seen = seen; path = path } ≡ exported file e
 exported_made file e own links tag kept before seen passed path o l t k b s q p = grind (arith, exported_is)
 
--- a text that was written
 pub written_is : (e : EchoText) (bytes : List ℕ) → IsEcho e → TextOf e bytes → bytes ≡ text_of e
 written_is e bytes is text = one_text e bytes (text_of e) text (text_is_text e is)
 
--- no exported text contains a 00
 pub exported_no_zero : (file : LinkFile) → IsFile file → (e : EchoText) → IsEcho e → HasNoZero (text_of (exported file e))
 exported_no_zero file is e h =
     let out = exported_is_echo file is e h in
     written_has_no_zero (exported file e) (text_of (exported file e)) out (text_is_text (exported file e) out)
 
--- and their packets
 pub out_packets : {E : Type 0} (r : Result (Vec Packet Global) E) (file : LinkFile) (stamp : Stamp) (all : List Outgoing) (recipients : List Address)
     → recipients ≡ address_set (flat_map (λ o. o.targets) all) → IfOk r (λ v. v.items ≡ map (packet_out file stamp all) recipients)
     → IfOk r (λ v. v.items ≡ packets_out file stamp all)

@@ -2,11 +2,11 @@
 use Rattle.std.proofs.Common.{◌≡◌, ℕ, ◌==◌, ◌||◌, Bool, true, false, not, List, length, refl, Option, Some, None, if◌then◌else◌, arith}
 use Rattle.std.proofs.lemmas.Bool.{cases_Bool}
 use Rattle.std.specs.List.{list_any}
-use Rattle.echo_text.specs.Ids.{id_of, is_id}
+use Rattle.echo_text.specs.Ids.{id_of}
 use Rattle.echo_links.specs.Links.{IsFile, LinkFile, has_area, upper}
 use Rattle.echo_filed.specs.{declared.key.Key.Key, Filed.Filed, Filed.key_of}
 use Rattle.model_steps.specs.Posting.{IsAllowed, IsPostFault, has_id, holds_zero, is_too_long, post_refusal, posted}
-use Rattle.model_steps.specs.{declared.draft.Draft.Draft, declared.stamp.Stamp.Stamp, declared.fault.PostFault.PostFault, Stamps.is_stamp}
+use Rattle.model_steps.specs.{declared.draft.Draft.Draft, declared.stamp.Stamp.Stamp, declared.fault.PostFault.PostFault, ReplyIds.is_reply_id, Stamps.is_stamp}
 use Rattle.model_steps.specs.declared.fault.PostFault.TheVariants as fault
 use Rattle.model_steps.proofs.{FirstRefusals.refusal_first, Kept.posted_new}
 use Rattle.echo_toss.specs.Refusals.{IsPrepared, draft_refusal}
@@ -61,7 +61,7 @@ pub draft_refused : (file : LinkFile) (base : List Filed) (tag : List ℕ) (draf
     → draft_refusal file tag draft stamp ≡ Some f → post_refusal file base tag draft serial stamp ≡ Some f
 unfolding post_refusal
 draft_refused file base tag draft serial stamp f h =
-    five_some (has_area file (upper tag)) (holds_zero draft) (is_too_long draft) (is_stamp stamp) ((length draft.reply == 0) || is_id draft.reply) (known_serial file base serial) f h
+    five_some (has_area file (upper tag)) (holds_zero draft) (is_too_long draft) (is_stamp stamp) ((length draft.reply == 0) || is_reply_id draft.reply) (known_serial file base serial) f h
 
 pub draft_passes : (file : LinkFile) (base : List Filed) (tag : List ℕ) (draft : Draft) (serial : ℕ) (stamp : Stamp) (known : Bool)
     → draft_refusal file tag draft stamp ≡ None → list_any (has_id (id_of file.system serial)) base ≡ known
@@ -73,7 +73,6 @@ pub draft_allowed : (file : LinkFile) (base : List Filed) (tag : List ℕ) (draf
     → draft_refusal file tag draft stamp ≡ None → list_any (has_id (id_of file.system serial)) base ≡ false → IsAllowed file base tag draft serial stamp
 draft_allowed file base tag draft serial stamp h new = grind (arith, five_none)
 
--- a refusal may be answered
 pub is_fault : (file : LinkFile) (base : List Filed) (tag : List ℕ) (draft : Draft) (serial : ℕ) (stamp : Stamp) (f : PostFault)
     → post_refusal file base tag draft serial stamp ≡ Some f → IsPostFault file base tag draft serial stamp f
 is_fault file base tag draft serial stamp fault.NoArea h = h
@@ -84,7 +83,6 @@ is_fault file base tag draft serial stamp fault.BadReply h = h
 is_fault file base tag draft serial stamp fault.KnownSerial h = h
 is_fault file base tag draft serial stamp fault.Memory h = absurd ((refusal_first file base tag draft serial stamp fault.Memory).0 h)
 
--- out of memory may be answered once the draft is in order
 pub memory_fault : (file : LinkFile) (base : List Filed) (tag : List ℕ) (draft : Draft) (serial : ℕ) (stamp : Stamp)
     → draft_refusal file tag draft stamp ≡ None → IsPostFault file base tag draft serial stamp fault.Memory
 memory_fault file base tag draft serial stamp h = grind (arith, cases_Bool, draft_passes)

@@ -1,7 +1,6 @@
 pub mod Tossed
 pub mod Judged
 pub mod LongTags
-pub mod Replies
 pub mod Drafted
 pub mod AscendingSets
 pub mod Searches

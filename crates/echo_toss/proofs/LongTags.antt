@@ -1,12 +1,10 @@
 -- Tags that are too long for any area.
 use Rattle.std.proofs.Common.{◌≡◌, ℕ, ◌<◌, ◌≤◌, false, List, [], ◌∷◌, length, refl, ap, ◌∙◌, arith, Option, Some}
 use Rattle.std.proofs.lemmas.{Bool.and_parts, Bool.cond-false, Bool.false_from_ne_true, Bool.leb-true, List.length-map}
-use Rattle.std.specs.Prelude.{bytes_eq, find, is_some, ◌&&◌, nat_le, nat_lt}
-use Rattle.std.specs.{Cmp.Lexicographic.bytes_decides, List.AllByRecursion, List.list_all, Char.to_ascii_uppercase}
+use Rattle.std.specs.{Prelude.bytes_eq, Prelude.find, Prelude.is_some, Prelude.◌&&◌, Prelude.nat_le, Prelude.nat_lt, Cmp.Lexicographic.bytes_decides, List.AllByRecursion, List.list_all, Char.to_ascii_uppercase}
 use Rattle.echo_text.specs.Lines.{is_tag_byte}
 use Rattle.echo_links.specs.Links.{Area, IsArea, IsFile, LinkFile, has_area, upper}
 
--- an area has a tag of at most 60 bytes
 no_long_area : (areas : List Area) (tag : List ℕ) → AllByRecursion IsArea areas → 60 < length tag → is_some (find (λ area. bytes_eq area.tag tag) areas) ≡ false
 no_long_area [] tag all long = refl
 no_long_area (area ∷ areas) tag all long =

@@ -3,14 +3,12 @@ use Rattle.std.proofs.Common.{◌≡◌, ◌≢◌, ℕ, ◌+◌, ◌<◌, List,
 use Rattle.std.proofs.KnownBytes.{Consumes-trans}
 use Rattle.std.specs.Io.KnownBytes.{Consumes}
 use Rattle.echo_addr.specs.declared.address.Address.{Address}
-use Rattle.echo_packet.specs.{declared.limits.Limits.Limits, declared.fault.PacketFault.PacketFault, Message.IsMessage, Message.Message, Message.message_bytes, Message.messages_bytes, Fault.place_of}
-use Rattle.echo_packet.specs.{Next.FailsInMessage, Next.NextFault, Reader.FailsInFront, Reader.FrontFault}
+use Rattle.echo_packet.specs.{declared.limits.Limits.Limits, declared.fault.PacketFault.PacketFault, Message.IsMessage, Message.Message, Message.message_bytes, Message.messages_bytes, Fault.place_of, Next.FailsInMessage, Next.NextFault, Reader.FailsInFront, Reader.FrontFault}
 use Rattle.echo_packet.specs.declared.fault.PacketFault.TheVariants as fault
 use Rattle.echo_packet.proofs.MessageByMessage.{messages_bytes-push, all-push as all_push, past}
 use Rattle.echo_links.specs.Links.{LinkFile}
 use Rattle.model_steps.specs.{declared.outcome.Outcome.Outcome, SystemState.SystemState, SystemState.state_with, Tossing.outcomes, Tossing.toss_outcome, Tossing.tossing}
-use Rattle.echo_toss.specs.{declared.tally.Tally.Tally, Tallies.all_counted, Tallies.tally_with, PacketSteps.HasTossed, PacketSteps.cause_of}
-use Rattle.echo_toss.specs.Messages.{HasTaken, IsUnopened, StopsNext, TakesSome}
+use Rattle.echo_toss.specs.{declared.tally.Tally.Tally, Tallies.all_counted, Tallies.tally_with, PacketSteps.HasTossed, PacketSteps.cause_of, Messages.HasTaken, Messages.IsUnopened, Messages.StopsNext, Messages.TakesSome}
 use Rattle.echo_toss.proofs.Counted.{all_counted-tally_of, length-outcomes, outcomes-push, tally_of-push, tossed-push}
 
 -- messages were tossed, and no read failed

@@ -12,9 +12,7 @@ use Rattle.base_store.specs.Store.{CommitsNothing, GoesOn, StoreState}
 use Rattle.base_store.proofs.Runs.{looks_commit, looks_go_on, no_look}
 use Rattle.model_steps.specs.declared.outcome.Outcome.TheVariants.{BadTag, Filed, Known, NoArea, NotEcho, NotLinked}
 use Rattle.model_steps.specs.{declared.outcome.Outcome.Outcome, SystemState.SystemState}
-use Rattle.echo_toss.specs.{declared.tally.Tally.Tally, declared.fault.TossCause.TossCause, Tallies.all_counted, Tallies.tally_of, Tallies.tally_with}
-use Rattle.echo_toss.specs.{PacketSteps.cause_of, PacketSteps.PacketStep, PacketSteps.TossesAll, PacketSteps.TossesPart, Messages.IsOpened, Messages.IsUnopened, Messages.TossesToEnd}
-use Rattle.echo_toss.specs.{declared.step_error.StoppedToss.StoppedToss, PacketsIn.ReadsMessages, PacketsIn.TossesPacketIn, PacketsIn.packet_answer, PacketsIn.state_in}
+use Rattle.echo_toss.specs.{declared.tally.Tally.Tally, declared.fault.TossCause.TossCause, Tallies.all_counted, Tallies.tally_of, Tallies.tally_with, PacketSteps.cause_of, PacketSteps.PacketStep, PacketSteps.TossesAll, PacketSteps.TossesPart, Messages.IsOpened, Messages.IsUnopened, Messages.TossesToEnd, declared.step_error.StoppedToss.StoppedToss, PacketsIn.ReadsMessages, PacketsIn.TossesPacketIn, PacketsIn.packet_answer, PacketsIn.state_in}
 use Rattle.echo_toss.specs.declared.fault.TossCause.TheVariants as stop
 use Rattle.echo_toss.proofs.PacketTosses.{HasGone, all_given, some_taken}
 
@@ -30,7 +28,6 @@ pub record HasGoneIn (limits : Limits) (sender : Address) (file : LinkFile) (old
   pub device : still ≡ failed
   pub later : first ≤ now
 
--- before the first message
 none_gone : (limits : Limits) (sender : Address) (s : SystemState) (before : Option (List ℕ)) (failed : ℕ) → HasGone limits sender s before before 0 58 (tally_of []) s failed failed
 none_gone limits sender s before failed = grind (arith, Consumes-nil)
 
@@ -80,7 +77,6 @@ read_so_far limits sender file base before left after given at tally failed stil
   count = counted_same limits sender (state_in file base) (state_in file next) before left given at tried tally failed still gone counted;
 }
 
--- and at the terminator all
 pub read_all : {A : Type 0} (limits : Limits) (sender : Address) (file : LinkFile) (base : Base) (before left after : Option (List ℕ)) (given at : ℕ) (tally : Tally) (failed still : ℕ) (done : A)
     → (tried : Tally) × (next : Base) × HasGone limits sender (state_in file base) before left given at tried (state_in file next) failed still → all_counted tally ≡ given
     → Consumes left after (word 0) → ReadsMessages limits sender file base before after (all_counted tally) (Ok done)
@@ -91,7 +87,6 @@ read_all limits sender file base before left after given at tally failed still d
   count = counted_same limits sender (state_in file base) (state_in file next) before left given at tried tally failed still gone counted;
 }
 
--- each outcome counts one more
 pub all_counted-tally_with : (t : Tally) (o : Outcome) → all_counted (tally_with t o) ≡ all_counted t + 1
 all_counted-tally_with t Filed = omega arith
 all_counted-tally_with t Known = omega arith
@@ -105,7 +100,6 @@ pub tossed_all : (limits : Limits) (sender : Address) (old new : SystemState) (b
     → IsOpened old.file before mid sender → TossesToEnd limits sender old mid after tally new → TossesAll limits old before after tally new
 tossed_all limits sender old new before mid after tally o t = grind (arith, Consumes-trans)
 
--- a packet that was not opened was not tossed
 pub tossed_none : (limits : Limits) (s : SystemState) (before after : Option (List ℕ)) (tally : Tally) (cause : TossCause) → tally ≡ tally_of []
     → IsUnopened s.file before after cause → TossesPart limits s before after tally cause s
 tossed_none limits s before after tally (stop.NotForUs a) none u = grind arith

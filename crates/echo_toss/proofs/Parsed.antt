@@ -2,20 +2,16 @@
 use Rattle.std.proofs.Common.{◌≡◌, ◌≢◌, ℕ, suc, ◌+◌, ◌<◌, ◌≤◌, List, [], ◌∷◌, ◌++◌, length, take, drop, refl, sym, ap, ◌∙◌, arith, append_assoc, length-append}
 use Rattle.std.proofs.lemmas.List.{drop_at}
 use Rattle.std.specs.List.{AllByRecursion}
-use Rattle.echo_packet.specs.{declared.header.Header.Header, declared.limits.Limits.Limits, declared.fault.PacketFault.PacketFault, Header.IsHeader, Header.header_bytes, Header.header_of, Header.word}
-use Rattle.echo_packet.specs.{Message.IsMessage, Message.Message, Message.message_bytes, Message.messages_bytes, Reader.FrontFault}
+use Rattle.echo_packet.specs.{declared.header.Header.Header, declared.limits.Limits.Limits, declared.fault.PacketFault.PacketFault, Header.IsHeader, Header.header_bytes, Header.header_of, Header.word, Message.IsMessage, Message.Message, Message.message_bytes, Message.messages_bytes, Reader.FrontFault}
 use Rattle.echo_packet.specs.declared.fault.PacketFault.TheVariants as fault
-use Rattle.echo_packet.proofs.Verdicts.{End, Whole, verdict, verdict-end, verdict-whole}
-use Rattle.echo_packet.proofs.Headers.{header_of-header_bytes, length-header_bytes, number_at-header_bytes}
+use Rattle.echo_packet.proofs.{Verdicts.End, Verdicts.Whole, Verdicts.verdict, Verdicts.verdict-end, Verdicts.verdict-whole, Headers.header_of-header_bytes, Headers.length-header_bytes, Headers.number_at-header_bytes}
 
--- bytes begin with at most one header
 pub one_header : (h k : Header) (r s : List ℕ) → IsHeader h → IsHeader k → header_bytes h ++ r ≡ header_bytes k ++ s → (k ≡ h) × (r ≡ s)
 one_header h k r s is are same = (
   sym (header_of-header_bytes k s are) ∙ ap header_of (sym same) ∙ header_of-header_bytes h r is,
   sym (drop_at (header_bytes h) r 58 (length-header_bytes h is)) ∙ ap (drop 58) same ∙ drop_at (header_bytes k) s 58 (length-header_bytes k are),
 )
 
--- bytes that begin with a header open, unless the device fails
 pub opens : (h : Header) (rest : List ℕ) (f : PacketFault) → IsHeader h → ((at : ℕ) → f ≢ fault.Read at) → FrontFault (header_bytes h ++ rest) f → ⊥
 opens h rest (fault.Truncated at) is alive wrong = grind (arith, length-append, length-header_bytes)
 opens h rest (fault.NotType2 at) is alive wrong = wrong.2 (number_at-header_bytes h rest)
@@ -29,14 +25,12 @@ opens h rest (fault.Write n) is alive wrong = wrong
 opens h rest (fault.TooManyMessages at) is alive wrong = wrong
 opens h rest (fault.BadField n) is alive wrong = wrong
 
--- bytes begin with at most one message
 one_message : (limits : Limits) (given : ℕ) (m n : Message) (r s : List ℕ) → IsMessage limits.text m → IsMessage limits.text n → given < limits.messages
     → message_bytes m ++ r ≡ message_bytes n ++ s → (n ≡ m) × (r ≡ s)
 one_message limits given m n r s is are room same =
     let both : Whole m r ≡ Whole n s = sym (verdict-whole limits given m r is room) ∙ ap (verdict limits given) same ∙ verdict-whole limits given n s are room in
     (cc, cc)
 
--- a message is no terminator
 no_message : (limits : Limits) (given : ℕ) (m : Message) (r s : List ℕ) → IsMessage limits.text m → given < limits.messages → message_bytes m ++ r ≡ word 0 ++ s → ⊥
 no_message limits given m r s is room same = grind (arith, Whole, End, verdict-whole, verdict, verdict-end)
 

@@ -14,7 +14,6 @@ use Rattle.echo_toss.proofs.Exports.{same_copies}
 abbrev pub copies_of : LinkFile → List ℕ → Address → List Filed → List Message
 copies_of file area to ms = map (copy_to file to) (filter (is_resent file area to) ms)
 
--- the first items, from one of them on
 front_at : {X : Type 0} (c i : ℕ) (xs : List X) (d : X) → i < c → i < length xs → drop i (take c xs) ≡ get_or xs i d ∷ drop (suc i) (take c xs)
 front_at zero i xs d h w = absurd (omega arith)
 front_at (suc c) i [] d h w = absurd (omega arith)

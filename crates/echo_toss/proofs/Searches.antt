@@ -1,19 +1,15 @@
 -- A binary search in a set of addresses finds just its members.
 use Rattle.std.proofs.Common.{◌≡◌, ℕ, zero, suc, ◌+◌, ◌<◌, Bool, true, false, List, [], ◌∷◌, length, get_or, Result, Ok, Err, is_ok, refl, sym, ap, subst, ◌∙◌, inl, inr, arith}
-use Rattle.std.proofs.lemmas.Bool.{cases_Bool, false_from_ne_true, ltb-false, ltb-true, or_cases, or_from, or_left, or_right, true≢false}
-use Rattle.std.proofs.lemmas.List.Sorted.{searchable_from_sorted}
+use Rattle.std.proofs.lemmas.{Bool.cases_Bool, Bool.false_from_ne_true, Bool.ltb-false, Bool.ltb-true, Bool.or_cases, Bool.or_from, Bool.or_left, Bool.or_right, Bool.true≢false, List.Sorted.searchable_from_sorted}
 use Rattle.std.specs.declared.cmp.Ordering.{Ordering, TheVariants.Less, TheVariants.Equal, TheVariants.Greater}
-use Rattle.std.specs.{Ordering.is_eq, Ordering.is_lt, Ordering.ordering_index, List.list_any}
-use Rattle.std.specs.{List.Sorted.IsBinarySearchResult, List.Sorted.IsNonDecreasingBy, List.Sorted.IsSearchInRange, List.Sorted.IsSorted, Prelude.nat_lt}
+use Rattle.std.specs.{Ordering.is_eq, Ordering.is_lt, Ordering.ordering_index, List.list_any, List.Sorted.IsBinarySearchResult, List.Sorted.IsNonDecreasingBy, List.Sorted.IsSearchInRange, List.Sorted.IsSorted, Prelude.nat_lt}
 use Rattle.echo_addr.specs.declared.address.Address.{Address}
 use Rattle.echo_links.specs.Links.{same_address}
 use Rattle.echo_links.proofs.Addresses.{same_address_decides}
 use Rattle.echo_filed.specs.Sets.{address_before, address_set}
-use Rattle.echo_filed.proofs.Sets.{Ascending, ascending_pairs, set_ascending, set_keeps, set_only}
-use Rattle.echo_filed.proofs.{Choices.IsIn, Orders.address_order}
+use Rattle.echo_filed.proofs.{Sets.Ascending, Sets.ascending_pairs, Sets.set_ascending, Sets.set_keeps, Sets.set_only, Choices.IsIn, Orders.address_order}
 use Rattle.echo_toss.proofs.AscendingSets.{address_cmp, less_before, ties, total}
 
--- of two addresses that ascend, the later is not less
 not_less : (x y : Address) → address_before x y ≡ true → is_lt (address_cmp y x) ≡ false
 not_less x y up = by (address_cmp y x) refl
   where
@@ -25,7 +21,6 @@ not_less x y up = by (address_cmp y x) refl
 sorted_set : (all : List Address) → Ascending address_before all → IsSorted address_cmp all
 sorted_set all up = λ k d low high. not_less (get_or all k d) (get_or all (k + 1) d) (ascending_pairs address_before all up k (k + 1) d (omega arith) high)
 
--- along a set the comparisons with an address rise
 set_rises : (all : List Address) → address_set all ≡ all → (x : Address) → IsNonDecreasingBy (λ y. ordering_index (address_cmp y x)) all
 unfolding address_set
 set_rises all same x =
@@ -71,7 +66,6 @@ in_found x (y ∷ ys) h = elim h [
   | inr later ↦ or_right (same_address x y) (list_any (same_address x) ys) (in_found x ys later)
 ]
 
--- an address is in a list exactly if it is in its set
 pub among_set : (x : Address) (all : List Address) → list_any (same_address x) (address_set all) ≡ list_any (same_address x) all
 unfolding address_set
 among_set x all = grind (arith, cases_Bool, in_found, set_keeps, address_order, found_in, false_from_ne_true, true≢false, set_only)

@@ -3,13 +3,11 @@ use Rattle.std.proofs.Common.{◌≡◌, ℕ, ◌⊎◌, inl, inr, List, [], ◌
 use Rattle.std.proofs.KnownBytes.{Consumes-trans}
 use Rattle.std.specs.Io.KnownBytes.{Consumes}
 use Rattle.echo_addr.specs.declared.address.Address.{Address}
-use Rattle.echo_packet.specs.{declared.header.Header.Header, declared.limits.Limits.Limits, declared.fault.PacketFault.PacketFault, Header.IsHeader, Header.header_bytes}
-use Rattle.echo_packet.specs.{Message.AreMessages, Message.Message, Message.messages_bytes, Fault.FaultOf, Field.Consumed, Next.FailsInMessage, Next.NextFault, Run.IsOfCall, Run.SoFar}
+use Rattle.echo_packet.specs.{declared.header.Header.Header, declared.limits.Limits.Limits, declared.fault.PacketFault.PacketFault, Header.IsHeader, Header.header_bytes, Message.AreMessages, Message.Message, Message.messages_bytes, Fault.FaultOf, Field.Consumed, Next.FailsInMessage, Next.NextFault, Run.IsOfCall, Run.SoFar}
 use Rattle.echo_packet.specs.declared.fault.PacketFault.TheVariants as fault
 use Rattle.echo_packet.proofs.MessageByMessage.{run-fails}
 use Rattle.model_steps.specs.SystemState.{SystemState}
-use Rattle.echo_toss.specs.{declared.tally.Tally.Tally, declared.fault.TossCause.TossCause, PacketSteps.BeginsWith, PacketSteps.HasTossed, PacketSteps.TossesPart, PacketSteps.TossesSome}
-use Rattle.echo_toss.specs.Messages.{HasTaken, IsOpened, TakesSome}
+use Rattle.echo_toss.specs.{declared.tally.Tally.Tally, declared.fault.TossCause.TossCause, PacketSteps.BeginsWith, PacketSteps.HasTossed, PacketSteps.TossesPart, PacketSteps.TossesSome, Messages.HasTaken, Messages.IsOpened, Messages.TakesSome}
 use Rattle.echo_toss.specs.declared.fault.TossCause.TheVariants as stop
 
 -- known bytes begin with the header and the messages that left the reader

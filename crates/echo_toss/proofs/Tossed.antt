@@ -9,13 +9,11 @@ use Rattle.echo_filed.specs.{Filed.Filed, Filed.key_of, Written.echo_of, declare
 use Rattle.echo_text.proofs.SaidAfter.{front_accepted}
 use Rattle.echo_filed.proofs.Texts.{says_one}
 use Rattle.base_file.specs.Base.{is_known}
-use Rattle.model_steps.specs.Tossing.{IsOutcome, received, toss_outcome, tossing, where_filed}
-use Rattle.model_steps.specs.declared.outcome.Outcome.{Outcome}
+use Rattle.model_steps.specs.{Tossing.IsOutcome, Tossing.received, Tossing.toss_outcome, Tossing.tossing, Tossing.where_filed, declared.outcome.Outcome.Outcome}
 use Rattle.model_steps.specs.declared.outcome.Outcome.TheVariants as outcome
 use Rattle.model_steps.proofs.FirstRefusals.{outcome_is_first}
 use Rattle.echo_toss.specs.Wanted.{IsNew, IsUnwanted, IsWanted, refused_by}
 
--- a message that has another outcome is not filed
 not_filed : (file : LinkFile) (sender : Address) (packed : Message) (o : Outcome) → ((m : Filed) → where_filed o m ≡ None) → ((base : List Filed) → IsOutcome file base sender packed o)
     → IsUnwanted file sender packed o
 unfolding tossing
@@ -27,7 +25,6 @@ no_echo file sender packed h = not_filed file sender packed outcome.NotEcho (λ 
 pub bad_tag : (file : LinkFile) (sender : Address) (packed : Message) → text_refusal packed.text ≡ Some text.BadTag → IsUnwanted file sender packed outcome.BadTag
 bad_tag file sender packed h = not_filed file sender packed outcome.BadTag (λ m. refl) (λ base. h)
 
--- the tag and the kept lines are those that the text says
 tag_said : (text tag : List ℕ) (kept : List (List ℕ)) → FrontOf text tag kept → tag ≡ (echo_of text).tag
 unfolding echo_of
 tag_said text tag kept h = h.tag_is
@@ -69,7 +66,6 @@ link_refused file sender packed own kept o front h =
       | inr link ↦ subst P link.2 (not_filed file sender packed outcome.NotLinked (λ m. refl) (λ base. (none, subst A tag link.0, subst L tag link.1)))
     ]
 
--- the area is there, and the sender links it
 wanted_area : (file : LinkFile) (sender : Address) (packed : Message) (own : List ℕ) (kept : List (List ℕ)) → IsWanted file sender packed own kept
     → (has_area file (echo_of packed.text).tag ≡ true) × (is_link file (echo_of packed.text).tag sender ≡ true)
 wanted_area file sender packed own kept h = grind (arith, tag_said, accepted)

@@ -2,8 +2,7 @@
 use Rattle.std.proofs.Common.{◌≡◌, ◌≢◌, ℕ, ◌+◌, ◌≤◌, ◌⊎◌, inl, inr, List, [], ◌++◌, length, refl, sym, ap, ◌∙◌, subst, arith, append_assoc, length-append, Option, Some, None, Result, Ok, Err}
 use Rattle.std.proofs.Math.Seq.{take-append_seam}
 use Rattle.disk_io.proofs.Devices.{Failed-never}
-use Rattle.echo_packet.specs.{declared.header.Header.Header, declared.limits.Limits.Limits, declared.fault.PacketFault.PacketFault, Answer.Describes, Fault.FaultOf}
-use Rattle.echo_packet.specs.{Header.IsHeader, Header.header_bytes, Header.word, Message.Message, Message.messages_bytes, Packet.PacketOf, Packet.packet_bytes}
+use Rattle.echo_packet.specs.{declared.header.Header.Header, declared.limits.Limits.Limits, declared.fault.PacketFault.PacketFault, Answer.Describes, Fault.FaultOf, Header.IsHeader, Header.header_bytes, Header.word, Message.Message, Message.messages_bytes, Packet.PacketOf, Packet.packet_bytes}
 use Rattle.echo_packet.specs.declared.fault.PacketFault.TheVariants as fault
 use Rattle.echo_packet.proofs.Outcome.{only_one}
 use Rattle.model_steps.specs.{SystemState.SystemState, Tossing.destination_of, Tossing.sender_of}
@@ -12,7 +11,6 @@ use Rattle.echo_toss.specs.{declared.tally.Tally.Tally, declared.fault.TossCause
 use Rattle.echo_toss.specs.declared.fault.TossCause.TheVariants as stop
 use Rattle.echo_toss.proofs.Parsed.{first_messages, one_header, one_list, opens}
 
--- a packet and the bytes after it, part by part
 parts : (h : Header) (ms : List Message) (bytes rest : List ℕ) → bytes ≡ packet_bytes h ms → bytes ++ rest ≡ header_bytes h ++ (messages_bytes ms ++ (word 0 ++ rest))
 parts h ms bytes rest is = grind (arith, append_assoc)
 
@@ -37,7 +35,6 @@ same_toss : (limits : Limits) (h : Header) (ms : List Message) (bytes rest : Lis
 same_toss limits h ms bytes rest None old new tally is step = absurd step.bytes.1
 same_toss limits h ms bytes rest (Some left) old new tally is step = grind (arith, same_packet)
 
--- no read failed
 never : (f : PacketFault) → CountsCause (stop.Packet f) 0 0 → (at : ℕ) → f ≢ fault.Read at
 never f counts at e = Failed-never (subst (λ x. CountsCause (stop.Packet x) 0 0) e counts)
 
@@ -56,7 +53,6 @@ where_failed limits old new before after tally (fault.Write n) h = h
 where_failed limits old new before after tally (fault.TooManyMessages at) h = h
 where_failed limits old new before after tally (fault.BadField n) h = h
 
--- the bytes have this fault
 of_these : (limits : Limits) (ms : List Message) (bs : List ℕ) (after : Option (List ℕ)) (f : PacketFault) → ((at : ℕ) → f ≢ fault.Read at)
     → StopsBehind limits ms (Some bs) after f → FaultOf bs limits ms f
 of_these limits ms bs after (fault.Read at) alive h = absurd (alive at refl)
@@ -71,7 +67,6 @@ of_these limits ms bs after (fault.Write n) alive h = h
 of_these limits ms bs after (fault.TooManyMessages at) alive h = h
 of_these limits ms bs after (fault.BadField n) alive h = h
 
--- a packet has no fault
 no_fault : (limits : Limits) (h : Header) (ms all : List Message) (bytes rest : List ℕ) (f : PacketFault) → PacketOf limits h ms bytes → FaultOf (bytes ++ rest) limits all f → ⊥
 no_fault limits h ms all bytes rest f is wrong =
     let found : Describes limits (bytes ++ rest) (Ok (h, ms, length bytes)) = (omega (arith, length-append bytes rest), subst (PacketOf limits h ms) (sym (take-append_seam bytes rest)) is) in
@@ -113,7 +108,6 @@ pub packet_taken : (limits : Limits) (header : Header) (ms : List Message) (byte
     → PacketOf limits header ms bytes → PacketStep limits old (Some (bytes ++ rest)) after (Ok tally) new → after ≡ Some rest
 packet_taken limits header ms bytes rest after old new tally is step = (same_toss limits header ms bytes rest after old new tally is step).left
 
--- a packet that is for this system has another header
 another : (limits : Limits) (header : Header) (rest : List ℕ) (old new : SystemState) (tally : Tally) → IsHeader header → destination_of old.file header ≢ old.file.system
     → TossesSome limits old (Some (header_bytes header ++ rest)) tally new → ⊥
 another limits header rest old new tally is other some = grind (arith, one_header)

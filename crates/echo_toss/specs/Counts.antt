@@ -41,7 +41,6 @@ counted_of p = record {
 abbrev pub counted_to : List Outgoing → Address → CountedPacket
 counted_to sent address = record { to = address; messages = length (copies_out address sent); bytes = 60 + length (messages_bytes (copies_out address sent)) }
 
--- The same packet with more messages, counted.
 abbrev pub counted_with : List Outgoing → CountedPacket → CountedPacket
 counted_with sent packet = record {
   to = packet.to;

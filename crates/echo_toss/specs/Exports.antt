@@ -1,8 +1,7 @@
 -- The copies that a scan makes of waiting messages, and those made again.
 use Rattle.std.specs.Prelude.{◌≡◌, ℕ, Bool, true, false, List, [], ◌∷◌, ◌++◌, map, filter, slice_get, Some, Result, Ok, Err, Vec}
 use Rattle.std.specs.{declared.alloc.Global.Global, List.flat_map, List.list_any}
-use Rattle.model_steps.specs.{declared.fault.ScanFault.ScanFault, declared.packet.Packet.Packet, declared.stamp.Stamp.Stamp, Resending.is_resent}
-use Rattle.model_steps.specs.Scanning.{copy_to, header_to, targets}
+use Rattle.model_steps.specs.{declared.fault.ScanFault.ScanFault, declared.packet.Packet.Packet, declared.stamp.Stamp.Stamp, Resending.is_resent, Scanning.copy_to, Scanning.header_to, Scanning.targets}
 use Rattle.echo_addr.specs.declared.address.Address.{Address}
 use Rattle.echo_packet.specs.Message.{Message, readdressed}
 use Rattle.echo_links.specs.Links.{LinkFile, same_address}

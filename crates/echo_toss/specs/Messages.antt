@@ -2,8 +2,7 @@
 use Rattle.std.specs.Prelude.{◌≡◌, ◌≢◌, ℕ, ◌+◌, List, [], length, Option, IfSome, Result, Ok, Err}
 use Rattle.std.specs.Io.KnownBytes.{Consumes}
 use Rattle.echo_addr.specs.declared.address.Address.{Address}
-use Rattle.echo_packet.specs.{declared.header.Header.Header, declared.limits.Limits.Limits, declared.fault.PacketFault.PacketFault, Header.IsHeader, Header.header_bytes, Header.word}
-use Rattle.echo_packet.specs.{Message.AreMessages, Message.Message, Message.messages_bytes, Fault.place_of, Next.FailsInMessage, Next.NextFault, Reader.FailsInFront, Reader.FrontFault}
+use Rattle.echo_packet.specs.{declared.header.Header.Header, declared.limits.Limits.Limits, declared.fault.PacketFault.PacketFault, Header.IsHeader, Header.header_bytes, Header.word, Message.AreMessages, Message.Message, Message.messages_bytes, Fault.place_of, Next.FailsInMessage, Next.NextFault, Reader.FailsInFront, Reader.FrontFault}
 use Rattle.echo_packet.specs.declared.fault.PacketFault.TheVariants as fault
 use Rattle.echo_links.specs.Links.{LinkFile}
 use Rattle.model_steps.specs.{SystemState.SystemState, Tossing.destination_of, Tossing.sender_of}

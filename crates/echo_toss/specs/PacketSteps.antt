@@ -2,8 +2,7 @@
 use Rattle.std.specs.Prelude.{◌≡◌, ◌≢◌, ℕ, ◌≤◌, ◌⊎◌, List, [], ◌++◌, length, take, Option, IfSome, Result, Ok, Err}
 use Rattle.echo_addr.specs.declared.address.Address.{Address}
 use Rattle.disk_io.specs.Device.{Failed}
-use Rattle.echo_packet.specs.{declared.header.Header.Header, declared.limits.Limits.Limits, declared.fault.PacketFault.PacketFault, Header.IsHeader, Header.header_bytes}
-use Rattle.echo_packet.specs.{Message.AreMessages, Message.Message, Message.messages_bytes, Packet.PacketOf, Fault.FaultOf, Field.Consumed, Reader.FailsInFront, Reader.FrontFault}
+use Rattle.echo_packet.specs.{declared.header.Header.Header, declared.limits.Limits.Limits, declared.fault.PacketFault.PacketFault, Header.IsHeader, Header.header_bytes, Message.AreMessages, Message.Message, Message.messages_bytes, Packet.PacketOf, Fault.FaultOf, Field.Consumed, Reader.FailsInFront, Reader.FrontFault}
 use Rattle.echo_packet.specs.declared.fault.PacketFault.TheVariants as fault
 use Rattle.model_steps.specs.{SystemState.SystemState, Tossing.destination_of, Tossing.sender_of, Tossing.outcomes, Tossing.tossed}
 use Rattle.echo_toss.specs.{declared.tally.Tally.Tally, declared.fault.TossCause.TossCause, declared.fault.TossFault.TossFault, Tallies.tally_of}
@@ -93,7 +92,6 @@ abbrev pub CountsCause : TossCause → ℕ → ℕ → Type 0
 CountsCause (stop.Packet (fault.Read at)) before after = Failed before after
 CountsCause other before after = after ≡ before
 
--- The same for the answer of tossing a packet.
 abbrev pub CountsToss : Result Tally TossFault → ℕ → ℕ → Type 0
 CountsToss (Ok tally) before after = after ≡ before
 CountsToss (Err f) before after = CountsCause f.cause before after

@@ -6,8 +6,7 @@ use Rattle.base_file.specs.Base.{Base}
 use Rattle.echo_links.specs.Links.{LinkFile}
 use Rattle.base_store.specs.{Store.GoesOn, Store.StoreState, declared.store_error.StoreError.StoreError}
 use Rattle.model_steps.specs.SystemState.{SystemState}
-use Rattle.echo_toss.specs.declared.{tally.Tally.Tally, fault.TossCause.TossCause, fault.TossFault.TossFault, step_error.TossStepError.TossStepError, step_error.StoppedToss.StoppedToss}
-use Rattle.echo_toss.specs.{Tallies.all_counted, PacketSteps.PacketStep, Messages.TossesMessages}
+use Rattle.echo_toss.specs.{declared.tally.Tally.Tally, declared.fault.TossCause.TossCause, declared.fault.TossFault.TossFault, declared.step_error.TossStepError.TossStepError, declared.step_error.StoppedToss.StoppedToss, Tallies.all_counted, PacketSteps.PacketStep, Messages.TossesMessages}
 use Rattle.echo_toss.specs.declared.fault.TossCause.TheVariants as cause
 use Rattle.echo_toss.specs.declared.step_error.TossStepError.TheVariants as toss
 
@@ -20,12 +19,10 @@ abbrev pub cause_in : TossStepError → TossCause
 cause_in (toss.Packet why) = why
 cause_in (toss.Store error) = cause.Memory
 
--- The same for the answer of tossing messages.
 abbrev pub messages_answer : {A : Type 0} → Result A TossStepError → Result A TossCause
 messages_answer (Ok done) = Ok done
 messages_answer (Err stop) = Err (cause_in stop)
 
--- The same for the answer of tossing a packet.
 abbrev pub packet_answer : Result Tally StoppedToss → Result Tally TossFault
 packet_answer (Ok tally) = Ok tally
 packet_answer (Err stopped) = Err (record { tally = stopped.tally; cause = cause_in stopped.stop })
@@ -59,7 +56,7 @@ pub record TossesPacketIn (limits : Limits) (file : LinkFile) (base : Base) (bef
   pub step : PacketStep limits (state_in file base) before after (packet_answer result) (state_in file next)
   pub holds : HoldsUnlessFailed old (stop_in result) new next
 
--- The same for the messages after a header.
+-- For the messages after a header.
 pub record TossesMessagesIn {A : Type 0} (limits : Limits) (sender : Address) (file : LinkFile) (base : Base) (before after : Option (List ℕ)) (tally : Tally) (old : StoreState) (result : Result A TossStepError) (new : StoreState) : Type 0 where
   pub next : Base
   pub step : TossesMessages limits sender (state_in file base) before after tally (messages_answer result) (state_in file next)
@@ -70,7 +67,6 @@ abbrev pub counted_in : Result Tally TossFault → ℕ
 counted_in (Ok tally) = all_counted tally
 counted_in (Err f) = all_counted f.tally
 
--- The same answer with another tally.
 abbrev pub with_tally : Tally → Result Tally TossFault → Result Tally TossFault
 with_tally tally (Ok other) = Ok tally
 with_tally tally (Err f) = Err (record { tally = tally; cause = f.cause })
@@ -82,7 +78,7 @@ pub record ReadsPacket (limits : Limits) (file : LinkFile) (base : Base) (before
   pub step : PacketStep limits (state_in file base) before after (with_tally tally result) (state_in file next)
   pub count : all_counted tally ≡ counted_in result
 
--- The same for the messages after a header, with this many counted before.
+-- For the messages after a header, with this many counted before.
 pub record ReadsMessages {A : Type 0} (limits : Limits) (sender : Address) (file : LinkFile) (base : Base) (before after : Option (List ℕ)) (counted : ℕ) (result : Result A TossCause) : Type 0 where
   pub tally : Tally
   pub next : Base

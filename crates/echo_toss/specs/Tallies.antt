@@ -1,7 +1,6 @@
 -- The number of messages with each outcome.
 use Rattle.std.specs.Prelude.{ℕ, ◌+◌, Bool, true, false, List, count_by}
-use Rattle.model_steps.specs.declared.outcome.Outcome.TheVariants.{BadTag, Filed, Known, NoArea, NotEcho, NotLinked}
-use Rattle.model_steps.specs.declared.outcome.Outcome.{Outcome}
+use Rattle.model_steps.specs.declared.outcome.Outcome.{TheVariants.BadTag, TheVariants.Filed, TheVariants.Known, TheVariants.NoArea, TheVariants.NotEcho, TheVariants.NotLinked, Outcome}
 use Rattle.echo_toss.specs.declared.tally.Tally.{Tally}
 
 -- Two outcomes are equal.

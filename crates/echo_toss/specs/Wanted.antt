@@ -6,8 +6,7 @@ use Rattle.echo_text.specs.Echo.{FrontOf}
 use Rattle.echo_links.specs.Links.{LinkFile, has_area, is_link}
 use Rattle.echo_filed.specs.{Filed.Filed, Filed.key_of, declared.key.Key.Key}
 use Rattle.base_file.specs.Base.{is_known}
-use Rattle.echo_toss.specs.declared.{tossing.Verdict.Verdict, tossing.Verdict.TheVariants.Left, tossing.Verdict.TheVariants.New, receiving.Reading.Reading}
-use Rattle.echo_toss.specs.declared.receiving.Reading.TheVariants.{Unwanted, Wanted}
+use Rattle.echo_toss.specs.declared.{tossing.Verdict.Verdict, tossing.Verdict.TheVariants.Left, tossing.Verdict.TheVariants.New, receiving.Reading.Reading, receiving.Reading.TheVariants.Unwanted, receiving.Reading.TheVariants.Wanted}
 use Rattle.model_steps.specs.{declared.outcome.Outcome.Outcome, Tossing.toss_outcome, Tossing.tossing}
 use Rattle.model_steps.specs.declared.outcome.Outcome.TheVariants as outcome
 

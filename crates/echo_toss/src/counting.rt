@@ -5,8 +5,7 @@ ghost use Rattle.base_file.specs.Base.{Base};
 ghost use Rattle.base_store.specs.Store.{HasStoreCause, LooksOn};
 ghost use Rattle.echo_links.specs.Links.{Area, links_of};
 ghost use Rattle.model_steps.specs.Scanning.{scanned};
-ghost use Rattle.echo_toss.specs.Counts.{counted_to, counted_with, counted_of, has_messages, link_set};
-ghost use Rattle.echo_toss.specs.Bounds.{IsFullWhenRead};
+ghost use Rattle.echo_toss.specs.{Counts.counted_to, Counts.counted_with, Counts.counted_of, Counts.has_messages, Counts.link_set, Bounds.IsFullWhenRead};
 
 use crate::grouping::{Group, group_from};
 use crate::outgoing::{Outgoing, links_of};
@@ -153,7 +152,6 @@ fn count_copy(packet: CountedPacket, one: &Outgoing) -> Result<CountedPacket, Al
     })
 }
 
-// Those that have messages.
 fn with_messages(alloc: Global, packets: &[CountedPacket]) -> Result<Vec<CountedPacket>, AllocError>
     ensures { IfOk result (λ all. all.items ≡ filter has_messages packets.now) }
 {

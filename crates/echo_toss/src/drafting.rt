@@ -1,6 +1,5 @@
 //! The message that is filed for a draft.
-ghost use Rattle.std.specs.Prelude.{◌≡◌, ◌++◌, All, None, IfOk, OnOk};
-ghost use Rattle.std.specs.List.{flat_map};
+ghost use Rattle.std.specs.{Prelude.◌≡◌, Prelude.◌++◌, Prelude.All, Prelude.None, Prelude.IfOk, Prelude.OnOk, List.flat_map};
 ghost use Rattle.echo_text.specs.Echo.{IsLine, ended};
 ghost use Rattle.echo_filed.specs.Filed.{id_line};
 ghost use Rattle.model_steps.specs.Posting.{origin_line, posted, posted_lines, reply_lines};
@@ -53,7 +52,6 @@ pub(crate) fn copied(alloc: Global, bytes: &[u8]) -> Result<Items<u8>, AllocErro
     Ok(Items::new(Vec::from_slice(alloc, bytes)?))
 }
 
-// The id, the reply, the body, the tear line and the origin line.
 fn posted_lines(
     alloc: Global,
     links: &LinkFile,

@@ -13,6 +13,7 @@ use disk_io::Watched;
 use echo_addr::Address;
 use echo_links::LinkFile;
 use echo_packet::send_message;
+use model_steps::message_size;
 use std::alloc::{AllocError, Global};
 use std::marker::Model;
 use std::mem;
@@ -95,11 +96,22 @@ fn last_text(sent: &[Outgoing]) -> usize {
 pub fn copies_in(alloc: Global, group: &Group, address: Address) -> Result<Vec<u8>, AllocError>
     ensures { IfOk result (λ bytes. bytes.items ≡ messages_bytes (copies_out address group.now.sent)) }
 {
-    let mut bytes = Vec::new(alloc);
+    let mut bytes = Vec::with_capacity(alloc, copies_len(group.sent(), address))?;
     'sent: for one in group.sent() {
         add_copy(alloc, &mut bytes, one, address)?;
     }
     Ok(bytes)
+}
+
+// How many bytes these copies have, unless they are too many.
+fn copies_len(sent: &[Outgoing], address: Address) -> usize {
+    let mut bytes: usize = 0;
+    'sent: for one in sent {
+        if goes_to(one, address) {
+            bytes = bytes.saturating_add(message_size(&one.message));
+        }
+    }
+    bytes
 }
 
 // Adds the copy of the message, if the address receives it.

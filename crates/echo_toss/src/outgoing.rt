@@ -11,7 +11,7 @@ ghost use Rattle.base_store.specs.Store.{HasStoreCause, LooksOn};
 ghost use Rattle.model_steps.specs.Scanning.{copy_to, exported, message_out, targets};
 ghost use Rattle.echo_toss.specs.{Bounds.IsFullWhenRead, Exports.GrowsByMessageAt, Exports.nowhere, Exports.outgoing_of, Exports.sent_of};
 
-use crate::sets::{address_set, entry_set};
+use crate::sets::{address_set, entry_set, entry_union};
 use base_store::{Store, StoreError};
 use echo_addr::{Address, Items, NetNode};
 use echo_filed::Filed;
@@ -156,7 +156,6 @@ pub(crate) fn links_of<'a>(links: &'a LinkFile, tag: &[u8]) -> &'a [Address]
     }
 }
 
-// The links that did not send the message and are not in its SEEN-BY, as a set.
 #[tactic(auto, unfolding(model_steps::specs::Scanning::targets))]
 fn targets(alloc: Global, links: &LinkFile, message: &Filed) -> Result<Items<Address>, AllocError>
     ensures { IfOk result (λ found. found ≡ address_set (targets links.now message.now)) }
@@ -209,12 +208,21 @@ fn exported_text(alloc: Global, links: &LinkFile, echo: &Echo) -> Result<Items<u
     let tag = echo.tag.as_slice();
     let all = links_of(links, tag);
     let seen = joined(alloc, echo.seen.as_slice(), own, all)?;
-    let mut path = Vec::from_slice(alloc, echo.path.as_slice())?;
-    path.push(own)?;
+    let path = path_with(alloc, echo.path.as_slice(), own)?;
     let text = write_parts(alloc, tag, &echo.kept, seen.as_slice(), &path)?;
     // A scan holds many texts, so no text has spare room.
     let exact = Vec::from_slice(alloc, &text)?;
     Ok(Items::new(exact))
+}
+
+// The entries, and one more behind them.
+fn path_with(alloc: Global, path: &[NetNode], own: NetNode) -> Result<Vec<NetNode>, AllocError>
+    ensures { IfOk result (λ all. all.items ≡ path.now ++ own ∷ []) }
+{
+    let mut all = Vec::with_capacity(alloc, path.len().saturating_add(1))?;
+    all.extend_from_slice(path)?;
+    all.push(own)?;
+    Ok(all)
 }
 
 // The entries, the own and those of the links as a set.
@@ -226,12 +234,13 @@ fn joined(
 ) -> Result<Items<NetNode>, AllocError>
     ensures { IfOk result (λ set. set ≡ entry_set (seen.now ++ own ∷ map net_node_of links.now)) }
 {
-    let mut all = Vec::from_slice(alloc, seen)?;
-    all.push(own)?;
+    let mut added = Vec::with_capacity(alloc, links.len().saturating_add(1))?;
+    added.push(own)?;
     'links: for link in links {
-        all.push(link.net_node())?;
+        added.push(link.net_node())?;
     }
-    Ok(Items::new(entry_set(all)))
+    let set = entry_union(alloc, seen, &entry_set(added))?;
+    Ok(Items::new(set))
 }
 
 // The message with its text moved into it, before it is addressed.

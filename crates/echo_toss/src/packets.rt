@@ -5,8 +5,7 @@ ghost use Rattle.base_file.specs.Base.{Base};
 ghost use Rattle.base_store.specs.{Store.CommitsNothing, Store.HasStoreCause, declared.store_error.StoreError.TheVariants.TooMany};
 ghost use Rattle.model_steps.specs.Tossing.{destination_of, sender_of, zone_of};
 ghost use Rattle.echo_toss.specs.PacketsIn.{GoesOnUnlessFailed, ReadsMessages, ReadsPacket, TossesMessagesIn, TossesPacketIn, cause_in, messages_answer, packet_answer, stop_in, toss_answer};
-ghost use Rattle.echo_toss.specs.{Bounds.AddsReceived, Bounds.IsPastBound, Tallies.all_counted, Tallies.tally_of, PacketSteps.CountsToss, PacketSteps.PacketStep};
-ghost use Rattle.echo_toss.specs.Messages.{CountsStop, IsOpened, IsUnopened};
+ghost use Rattle.echo_toss.specs.{Bounds.AddsReceived, Bounds.IsPastBound, Tallies.all_counted, Tallies.tally_of, PacketSteps.CountsToss, PacketSteps.PacketStep, Messages.CountsStop, Messages.IsOpened, Messages.IsUnopened};
 
 use crate::fault::{TossCause, TossFault};
 use crate::step_error::{StoppedToss, TossStepError};
@@ -142,7 +141,6 @@ pub fn check_destination<R: Source>(links: &LinkFile, reader: &mut R) -> Result<
     Ok(origin_of(links, &header))
 }
 
-// The address that the packet is for.
 fn destination_of(links: &LinkFile, header: &Header) -> Address
     ensures { result ≡ destination_of links.now header.now }
 {

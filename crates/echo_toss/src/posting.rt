@@ -1,5 +1,4 @@
-ghost use Rattle.std.specs.Prelude.{◌≡◌, None, IfErr, IfOk, IsErrOf, MatchResult, OnOk};
-ghost use Rattle.std.specs.List.{list_any};
+ghost use Rattle.std.specs.{Prelude.◌≡◌, Prelude.None, Prelude.IfErr, Prelude.IfOk, Prelude.IsErrOf, Prelude.MatchResult, Prelude.OnOk, List.list_any};
 ghost use Rattle.echo_text.specs.Ids.{id_of};
 ghost use Rattle.echo_filed.specs.Filed.{has_id, key_of};
 ghost use Rattle.disk_io.specs.Disk.{Honestly};

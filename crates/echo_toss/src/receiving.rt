@@ -45,7 +45,6 @@ pub(crate) fn read<'a>(
     }
 }
 
-// Why the link file keeps a message with this tag from being filed.
 fn refused_by(links: &LinkFile, tag: &[u8], sender: Address) -> Option<Outcome>
     ensures { result ≡ refused_by links.now tag.now sender }
 {
@@ -77,7 +76,6 @@ pub(crate) fn key_in(
     )
 }
 
-/// The filed message with this front of its text.
 pub(crate) fn received(
     alloc: Global,
     sender: Address,

@@ -1,15 +1,15 @@
 //! Why a draft is refused, whatever the base.
 ghost use Rattle.std.specs.Prelude.{◌≡◌, ◌==◌, ◌||◌, length, Some, None, MatchResult};
 ghost use Rattle.std.specs.List.{list_any};
-ghost use Rattle.echo_text.specs.Ids.{is_id, is_zero};
+ghost use Rattle.echo_text.specs.Ids.{is_zero};
 ghost use Rattle.echo_links.specs.Links.{has_area, upper};
-ghost use Rattle.model_steps.specs.Posting.{holds_zero, is_too_long};
+ghost use Rattle.model_steps.specs.{Posting.holds_zero, Posting.is_too_long, ReplyIds.is_reply_id};
 ghost use Rattle.echo_toss.specs.Refusals.{draft_refusal};
 
 use echo_links::LinkFile;
 use echo_packet::{MAX_NAME, MAX_SUBJECT};
-use echo_text::{MAX_TAG, MsgId};
-use model_steps::{Draft, PostFault, Stamp, is_stamp};
+use echo_text::MAX_TAG;
+use model_steps::{Draft, PostFault, Stamp, is_reply_id, is_stamp};
 
 /// Judges a draft by the link file and by itself.
 pub(crate) fn judge(
@@ -38,7 +38,6 @@ pub(crate) fn judge(
     Ok(())
 }
 
-// Whether the link file has the area of the tag in upper case.
 fn has_area(links: &LinkFile, tag: &[u8]) -> bool
     ensures { result ≡ has_area links.now (upper tag.now) }
 {
@@ -78,9 +77,9 @@ fn is_too_long(draft: &Draft) -> bool
         || draft.subject.len() > MAX_SUBJECT
 }
 
-// Whether there is no reply, or an id.
+// Whether there is no reply, or an id that a REPLY line may name.
 fn is_reply(reply: &[u8]) -> bool
-    ensures { result ≡ ((length reply.now == 0) || is_id reply.now) }
+    ensures { result ≡ ((length reply.now == 0) || is_reply_id reply.now) }
 {
-    reply.is_empty() || MsgId::read(reply).is_ok()
+    reply.is_empty() || is_reply_id(reply)
 }

@@ -9,7 +9,7 @@ use cmd_export::run_base;
 use cmd_input::{ErasingOutput, Progress};
 use cmd_jam::run_export_jam;
 use cmd_net::run_net;
-use cmd_notes::{ExplainedCommand, KeptFaultLines};
+use cmd_notes::{ExplainedCommand, KeptLines};
 use cmd_station::run_station;
 use cmd_status::{Fault, Status};
 use cmd_words::{Ending, ParsedLine, Words, explain, parse};
@@ -54,14 +54,20 @@ fn words_given(rt: &HostRuntime) -> Result<Vec<String>, Status> {
 fn run_asked(rt: &HostRuntime, asked: &ParsedLine<'_>) -> Status {
     let progress = Progress::new(rt);
     let noted = ExplainedCommand::of(rt, asked);
-    let mut out = Watched::new(ErasingOutput::new(&progress, rt.stdout()));
+    let keeps = match &noted {
+        Some(noted) => noted.has_noted_answer(),
+        None => false,
+    };
+    let to = ErasingOutput::new(&progress, rt.stdout());
+    let mut out = Watched::new(KeptLines::new(rt.alloc(), to, keeps));
     let to = ErasingOutput::new(&progress, rt.stderr());
-    let mut errors = Watched::new(KeptFaultLines::new(rt.alloc(), to));
+    let mut errors = Watched::new(KeptLines::new(rt.alloc(), to, true));
     let status = run_words(rt, &asked.words, &progress, &mut out, &mut errors);
     let printed = errors.into_inner().into_kept();
     if let Some(noted) = noted {
+        let answer = out.into_inner().into_kept();
         let mut errors = Watched::new(ErasingOutput::new(&progress, rt.stderr()));
-        noted.tell(&printed, &mut errors);
+        noted.tell(&printed, &answer, &mut errors);
     }
     progress.clear();
     status

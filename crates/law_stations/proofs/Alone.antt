@@ -5,8 +5,7 @@ use Rattle.model_graph.specs.Walk.{Among}
 use Rattle.model_graph.proofs.Members.{Among-append_cases, Among-append_left, Among-append_right}
 use Rattle.echo_packet.specs.Message.{Message}
 use Rattle.echo_links.specs.{Links.LinkFile, LinkLines.LinksOf}
-use Rattle.model_run.specs.Lone.{AreOfPackets, LoneEvent, LoneSystem, TossHere, after_all_lone, lone_run}
-use Rattle.model_run.specs.Run.{Run}
+use Rattle.model_run.specs.{Lone.AreOfPackets, Lone.LoneEvent, Lone.LoneSystem, Lone.TossHere, Lone.after_all_lone, Lone.lone_run, Run.Run}
 use Rattle.law_stations.specs.{Agreement.Agrees, LoneStations.LoneStation, LoneStations.lone_station_at_first}
 use Rattle.law_stations.proofs.{EachEvent.first-agrees, Tosses.IsInFront, Tosses.IsTossedBy, Tosses.more-events}
 use Rattle.model_run.proofs.Filings.{run-append}
@@ -45,6 +44,5 @@ lone-more file s new events added lone plain came of_files all agrees = record {
   agrees = (let P : LoneSystem → Type 0 = λ z. Agrees new.net (run_alone z) in subst P (sym (run-append file events added)) agrees);
 }
 
--- before the first command
 pub first-lone : (links : List ℕ) (file : LinkFile) → LinksOf links (Ok file) → IsLone file (lone_station_at_first links) []
 first-lone links file of_links = grind (arith, first-agrees)

@@ -7,14 +7,10 @@ use Rattle.echo_links.specs.Links.{LinkFile, upper}
 use Rattle.echo_filed.specs.{declared.key.Key.Key, Filed.Filed}
 use Rattle.model_steps.specs.declared.packet.Packet.{Packet}
 use Rattle.model_run.specs.{Orderly.sent_count, Run.nth}
-use Rattle.model_run.proofs.Lists.{and-from, and-parts, filter-no, filter-yes, not_both, nth-append, yes_or_no}
-use Rattle.model_run.proofs.{HarmLists.among-nth, HarmLists.nth-map, Targets.none_some, Targets.some_same}
+use Rattle.model_run.proofs.{Lists.and-from, Lists.and-parts, Lists.filter-no, Lists.filter-yes, Lists.not_both, Lists.nth-append, Lists.yes_or_no, HarmLists.among-nth, HarmLists.nth-map, Targets.none_some, Targets.some_same}
 use Rattle.law_stations.specs.AnyDisks.{HeadlineFromAnyDisks, KeyHasSettled, KeyInOrderOverCrashes, all_packets, disks_at, is_below, waits_for_name}
-use Rattle.law_stations.specs.{AnyNets.KeyInOrder, AnyNets.KeyIsSettled, AnyNets.net_at, Commands.CommandEvent, Disks.Disks, Disks.StagingFile, Disks.cursors, InOrder.ReadsAs, InOrder.StationHolds}
-use Rattle.law_stations.specs.{Nets.Net, Nets.Paired, Nets.Station, OverCrashes.HasNet, OverCrashes.IsLikeEvent}
-use Rattle.law_stations.proofs.Counting.{IsItem, below, below-step, times, waits}
-use Rattle.law_stations.proofs.{AnyNets.headline-from-any-state, AnyNets.packets-read, EachCommand.crashes-from, Pairs.paired-back, Shown.holds-too, Shown.sent-less, Shown.unchanged-too}
-use Rattle.law_stations.proofs.Tracking.{IsTagged, Tracks}
+use Rattle.law_stations.specs.{AnyNets.KeyInOrder, AnyNets.KeyIsSettled, AnyNets.net_at, Commands.CommandEvent, Disks.Disks, Disks.StagingFile, Disks.cursors, InOrder.ReadsAs, InOrder.StationHolds, Nets.Net, Nets.Paired, Nets.Station, OverCrashes.HasNet, OverCrashes.IsLikeEvent}
+use Rattle.law_stations.proofs.{Counting.IsItem, Counting.below, Counting.below-step, Counting.times, Counting.waits, AnyNets.headline-from-any-state, AnyNets.packets-read, EachCommand.crashes-from, Pairs.paired-back, Shown.holds-too, Shown.sent-less, Shown.unchanged-too, Tracking.IsTagged, Tracking.Tracks}
 
 -- the indexes of the packets with names
 abbrev up : ℕ → List (List ℕ) → List ℕ
@@ -32,7 +28,6 @@ tags-yes p n file files t = cond-true (p file) (Some n ∷ tags p (suc n) files)
 tags-no : (p : StagingFile → Bool) (n : ℕ) (file : StagingFile) (files : List StagingFile) → p file ≡ false → tags p n (file ∷ files) ≡ None ∷ tags p n files
 tags-no p n file files f = cond-false (p file) (Some n ∷ tags p (suc n) files) (None ∷ tags p n files) f
 
--- items at the end of a list
 nth-right : {X : Type 0} (xs ys : List X) (k j : ℕ) → k ≡ length xs + j → nth k (xs ++ ys) ≡ nth j ys
 nth-right {X} [] ys k j e = ap (λ (n : ℕ). nth n ys) (omega (arith, e))
 nth-right (x ∷ xs) ys zero j e = absurd (omega (arith, e))
@@ -107,7 +102,6 @@ tagged-so files at n (file ∷ staging) h = elim (yes_or_no (waits_for_name at f
       ))
 ]
 
--- the disks agree with the net of all packets
 tracks : (stations : List Station) (packets : List (List ℕ)) (staging : List StagingFile) →
     Tracks (disks_at stations packets staging) (net_at stations (all_packets stations packets staging))
 tracks stations packets staging =

@@ -8,16 +8,11 @@ use Rattle.echo_links.specs.Links.{LinkFile, has_area, upper}
 use Rattle.echo_filed.specs.{declared.key.Key.Key, Filed.Filed, Filed.key_of}
 use Rattle.base_file.specs.Base.{Base, IsBase}
 use Rattle.model_steps.specs.declared.packet.Packet.{Packet}
-use Rattle.model_run.specs.Orderly.{FiledUnchanged, SameContent, count, sent_count, tag_of}
-use Rattle.model_run.specs.{AnyState.HasSettled, AnyState.IsNew, AnyState.IsOrderly, Run.Run, Run.System, Run.after_events, Run.nth, States.IsState, Tidy.Tidy}
-use Rattle.model_run.proofs.Lists.{nth-among, Among-filter_from, Among-filter_to, Among-flat_map_from, Among-flat_map_to}
-use Rattle.model_run.proofs.{AnyState.new-orderly, HarmLists.among-nth, States.any-state, States.later-state, TosserLaws.the_laws}
+use Rattle.model_run.specs.{Orderly.FiledUnchanged, Orderly.SameContent, Orderly.count, Orderly.sent_count, Orderly.tag_of, AnyState.HasSettled, AnyState.IsNew, AnyState.IsOrderly, Run.Run, Run.System, Run.after_events, Run.nth, States.IsState, Tidy.Tidy}
+use Rattle.model_run.proofs.{Lists.nth-among, Lists.Among-filter_from, Lists.Among-filter_to, Lists.Among-flat_map_from, Lists.Among-flat_map_to, AnyState.new-orderly, HarmLists.among-nth, States.any-state, States.later-state, TosserLaws.the_laws}
 use Rattle.cmd_check.specs.Checking.{CheckAnswers}
-use Rattle.law_stations.specs.AnyNets.{HeadlineFromAnyState, IsNewTo, IsSomeNet, KeyInOrder, KeyIsSettled, links_at, net_at, own_of}
-use Rattle.law_stations.specs.{Agreement.Agrees, Agreement.HasSystem, Agreement.IsPacketFile, Agreement.file_address, Commands.CommandEvent, Commands.Happen}
-use Rattle.law_stations.specs.{InOrder.HasUnchanged, InOrder.IsUnchanged, InOrder.ReadsAs, Nets.Net, Nets.Paired, Nets.Station}
-use Rattle.law_stations.proofs.{EachEvent.LedAll, EachEvent.led-all, Headline.all-read, Headline.checked, Moving.nth-middle, Pairs.paired-among, Pairs.paired-back, Places.addresses-of}
-use Rattle.law_stations.proofs.{Sound.reads, Sound.represented, Systems.file-fits, Systems.says-so, Unpurged.kept-where}
+use Rattle.law_stations.specs.{AnyNets.HeadlineFromAnyState, AnyNets.IsNewTo, AnyNets.IsSomeNet, AnyNets.KeyInOrder, AnyNets.KeyIsSettled, AnyNets.links_at, AnyNets.net_at, AnyNets.own_of, Agreement.Agrees, Agreement.HasSystem, Agreement.IsPacketFile, Agreement.file_address, Commands.CommandEvent, Commands.Happen, InOrder.HasUnchanged, InOrder.IsUnchanged, InOrder.ReadsAs, Nets.Net, Nets.Paired, Nets.Station}
+use Rattle.law_stations.proofs.{EachEvent.LedAll, EachEvent.led-all, Headline.all-read, Headline.checked, Moving.nth-middle, Pairs.paired-among, Pairs.paired-back, Places.addresses-of, Sound.reads, Sound.represented, Systems.file-fits, Systems.says-so, Unpurged.kept-where}
 
 -- a system of each station; what its base has counts as filed
 abbrev system_of : LinkFile → Station → System
@@ -65,7 +60,6 @@ module _ (stations : List Station) (packets : List (List ℕ)) (some : IsSomeNet
   pairs : Paired HasSystem stations first.systems
   pairs = systems-pair stations files are some.bases
 
-  -- the station of a system, and the bytes of a packet
   station-of : (s : System) → Among s first.systems → (station : Station) × Among station stations × HasSystem station s
   station-of s h =
       let (i, at) = among-nth s first.systems h in
@@ -136,7 +130,6 @@ module _ (stations : List Station) (packets : List (List ℕ)) (some : IsSomeNet
     stays : IsState run
     stays = later-state the_laws led.events first state
 
-    -- a message of a base has the content of a posting, or is a stub
     is-unchanged : (i : ℕ) (s : System) → nth i run.systems ≡ Some s → (m : Filed) → Among m s.base →
         (filed : Filed) × Among filed s.history × (key_of m ≡ key_of filed)
         × ((posting : Filed) → SameContent filed posting → IsUnchanged commands i s.base s.cursor m posting)
@@ -215,7 +208,6 @@ headline-from-any-state nodelist more tag stations packets stopped old new good 
     let (files, are, tidy) = checked nodelist more tag (links_at stations) stopped old new good in
     in-order stations packets some files are tidy.joined.one_file commands net happen (upper tag) tidy key of_area is_new
 
--- and all packet files are packets
 pub packets-read : (nodelist : Option (List ℕ)) (more : Bool) (tag : List ℕ) (stations : List Station) (packets : List (List ℕ)) (stopped : Option Fault) (old new : Output)
     → CheckAnswers nodelist more tag (links_at stations) stopped old new (Ok Good) → IsSomeNet stations packets
     → (commands : List CommandEvent) (net : Net) → Happen commands (net_at stations packets) net → (ps : List Packet) × Paired ReadsAs net.packets ps

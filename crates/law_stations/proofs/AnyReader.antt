@@ -5,8 +5,7 @@ use Rattle.base_file.specs.Base.{Base}
 use Rattle.echo_links.specs.Links.{LinkFile}
 use Rattle.echo_packet.specs.declared.limits.Limits.{Limits}
 use Rattle.echo_toss.specs.PacketsIn.{state_in}
-use Rattle.cmd_store.specs.{Coming.Coming, Coming.Opens, TossRuns.TossesEachBy, TossRuns.TossesFileBy, TossRuns.run_begun, TossedPacket.TossRun, TossedPacket.TossesPacketBy}
-use Rattle.cmd_store.specs.Tossed.{Tosses, TossesTo}
+use Rattle.cmd_store.specs.{Coming.Coming, Coming.Opens, TossRuns.TossesEachBy, TossRuns.TossesFileBy, TossRuns.run_begun, TossedPacket.TossRun, TossedPacket.TossesPacketBy, Tossed.Tosses, Tossed.TossesTo}
 use Rattle.law_stations.specs.Commands.{TossesAll, itself}
 
 module _ {R : Type 0} (honest : Type 0) (is_honest : honest) (device : R → Device) (noting : Bool) where

@@ -130,7 +130,6 @@ picked-without k ws (v ∷ vs) (j ∷ places) picked none = (
   picked-without k ws vs places picked.1 (λ h. none (inr h)),
 )
 
--- the sum of items at different indexes is at most that of all items
 pub picked-total : (ws vs places : List ℕ) → Paired (IsItem ws) vs places → Different places → total vs ≤ total ws
 picked-total ws [] [] picked apart = omega arith
 picked-total ws [] (k ∷ places) picked apart = absurd picked

@@ -5,14 +5,11 @@ use Rattle.model_steps.specs.SystemState.{SystemState}
 use Rattle.echo_toss.specs.PacketsIn.{state_in}
 use Rattle.model_run.specs.Run.{change}
 use Rattle.cmd_store.specs.Coming.{Coming, Fails, Holds, Unknown}
-use Rattle.law_stations.specs.Commands.{Command, CommandEvent, Happens, Post, Purge, Scan}
-use Rattle.law_stations.specs.Nets.{Net, Paired, Station, with_base, with_left}
-use Rattle.law_stations.specs.LoneDisks.{LoneDisks, MayHappenAlone, MayHappenAllAlone, on_net, under_names}
+use Rattle.law_stations.specs.{Commands.Command, Commands.CommandEvent, Commands.Happens, Commands.Post, Commands.Purge, Commands.Scan, Disks.cursor_of, OverCrashes.IsLike, Stopping.PartialEffect, Nets.Net, Nets.Paired, Nets.Station, Nets.with_base, Nets.with_left, LoneDisks.LoneDisks, LoneDisks.MayHappenAlone, LoneDisks.MayHappenAllAlone, LoneDisks.on_net, LoneDisks.under_names}
 use Rattle.law_stations.specs.LoneStations.{AreAnyFiles, HappenAlone, HappensAlone, LoneCommand, LoneStation, NothingCame, PostAlone, PurgeAlone, ScanAlone, TossAny, TossesAny}
-use Rattle.law_stations.specs.{Disks.cursor_of, OverCrashes.IsLike, Stopping.PartialEffect}
 use Rattle.law_stations.proofs.{FileRuns.IsPartly, FileRuns.TossedFiles, FileRuns.tossed-all, FileRuns.wholes, EachCommand.followed, Tracking.Tracks, Tracking.still}
 
--- the same command; a toss may have only the first of its files
+-- a toss may have only the first of its files
 abbrev pub IsLikeAlone : LoneCommand → LoneCommand → Type 0
 IsLikeAlone (PostAlone words body) plain = plain ≡ PostAlone words body
 IsLikeAlone (ScanAlone stamp) plain = plain ≡ ScanAlone stamp
@@ -48,7 +45,6 @@ by-event command of s new net t leads none only so =
       tracks = f.tracks;
     }
 
--- tosses move no cursor
 partly-cursor : (files : List Coming) (old new : SystemState) → AreAnyFiles files → IsPartly files old new → new.cursor ≡ old.cursor
 partly-cursor files old new h1 h2 = grind arith
 
@@ -60,7 +56,6 @@ tossed-cursor (suc n) (Holds bytes ∷ files) old new any (mid, whole, more) =
 tossed-cursor (suc n) (Fails path ∷ files) old new any tossed = absurd tossed.1
 tossed-cursor (suc n) (Unknown ∷ files) old new any tossed = absurd any
 
--- a toss of any files
 any-toss : (files : List Coming) (s new : LoneDisks) (net : Net) → Tracks s.disks net → TossesAny files (under_names s) (under_names new) → new.disks.staging ≡ s.disks.staging
     → (next : Net) × TossesAny files (on_net s net) (on_net new next) × Tracks new.disks next
 any-toss files s new net t p staging =
@@ -112,7 +107,6 @@ followed-alone (TossAny files) s new net t (inr (n, p, staging)) =
     let (next, tosses, tracks) = any-toss (take n files) s new net t p staging in
     record { plain = TossAny (take n files); like = (take n files, refl); next = next; happens = inr tosses; tracks = tracks }
 
--- the same for commands one after another
 pub record FollowedAllAlone (commands : List LoneCommand) (s new : LoneDisks) (net : Net) : Type 0 where
   pub plain : List LoneCommand
   pub like : Paired IsLikeAlone commands plain

@@ -5,14 +5,9 @@ use Rattle.model_steps.specs.declared.stamp.Stamp.{Stamp}
 use Rattle.model_run.specs.Run.{nth}
 use Rattle.model_run.proofs.Targets.{some_same}
 use Rattle.law_stations.specs.Commands.{Command, CommandEvent, Happen, Happens, Leads, Post, Purge, Scan, Toss}
-use Rattle.law_stations.specs.OverCrashes.{CrashesAreNone, HasNet, IsLike, IsLikeEvent, IsToBeNamed}
-use Rattle.law_stations.specs.Stopping.{EndsSome, PartialEffect, MayHappen, MayHappenAll, Moves, ScansFar, Writes}
-use Rattle.law_stations.specs.{Nets.Net, Nets.Paired, Nets.first_net, Disks.StagingFile, Disks.Disks, Disks.cursors, Disks.first_disks}
-use Rattle.law_stations.proofs.Counting.{among-times, below-most, below-there, same-is, same_as, times, times-different, waits}
-use Rattle.law_stations.proofs.{Ending.some-ended, Moving.moved, Moving.scans, Moving.then, Moving.written, Others.Led, Others.posted-too, Others.purged-too, Others.tossed-too}
-use Rattle.law_stations.proofs.Tracking.{IsTagged, Tracks, cursor-too}
+use Rattle.law_stations.specs.{OverCrashes.CrashesAreNone, OverCrashes.HasNet, OverCrashes.IsLike, OverCrashes.IsLikeEvent, OverCrashes.IsToBeNamed, Nets.Net, Nets.Paired, Nets.first_net, Disks.StagingFile, Disks.Disks, Disks.cursors, Disks.first_disks, Stopping.EndsSome, Stopping.PartialEffect, Stopping.MayHappen, Stopping.MayHappenAll, Stopping.Moves, Stopping.ScansFar, Stopping.Writes}
+use Rattle.law_stations.proofs.{Counting.among-times, Counting.below-most, Counting.below-there, Counting.same-is, Counting.same_as, Counting.times, Counting.times-different, Counting.waits, Ending.some-ended, Moving.moved, Moving.scans, Moving.then, Moving.written, Others.Led, Others.posted-too, Others.purged-too, Others.tossed-too, Tracking.IsTagged, Tracking.Tracks, Tracking.cursor-too}
 
--- a command is like itself
 itself-like : (command : Command) → IsLike command command
 itself-like command = grind arith
 
@@ -24,11 +19,9 @@ pub record Followed (event : CommandEvent) (net : Net) (new : Disks) : Type 0 wh
   pub happens : Happens plain net then
   pub tracks : Tracks new then
 
--- the command did nothing on the net
 idle : (event : CommandEvent) (net : Net) (new : Disks) → Tracks new net → Followed event net new
 idle event net new t = record { plain = event; like = record { station = refl; command = itself-like event.command }; then = net; happens = inl refl; tracks = t }
 
--- a scan got this far
 far : (event : CommandEvent) (stamp : Stamp) (d new : Disks) (net : Net) → Tracks d net → event.command ≡ Scan stamp → ScansFar stamp event.station d new
     → Followed event net new
 far event stamp d new net t is (n, ended, ends, rest) = by rest
@@ -51,7 +44,6 @@ far event stamp d new net t is (n, ended, ends, rest) = by rest
           tracks = some-ended m i done new next (moved stamp i ended done net mid moves) names;
         }
 
--- another command reached its end
 led : (event : CommandEvent) (plain : Command) (net : Net) (new : Disks) → IsLike event.command plain → Led plain event.station net new → Followed event net new
 led event plain net new like l = record {
   plain = record { station = event.station; command = plain };
@@ -77,7 +69,6 @@ followed event d new net t (inr leads) = by event.command refl leads
         let (others, l) = tossed-too (take n indexes) event.station d new net t tosses staging in
         led event (Toss others) net new (subst (λ (c : Command). IsLike c (Toss others)) (sym is) (others, refl)) l
 
--- the same for commands one after another
 record FollowedAll (commands : List CommandEvent) (net : Net) (new : Disks) : Type 0 where
   plain : List CommandEvent
   like : Paired IsLikeEvent commands plain
@@ -98,7 +89,6 @@ followed-all (event ∷ commands) d new net t (next, first, rest) =
       tracks = more.tracks;
     }
 
--- before the first command
 pub first-tracks : (links : List (List ℕ)) → Tracks (first_disks links) (first_net links)
 first-tracks links = record {
   stations = refl;
@@ -111,7 +101,6 @@ first-tracks links = record {
   tossed = λ j h. absurd h;
 }
 
--- the file with a waiting packet
 waiting : (k : ℕ) (packets : List (List ℕ)) (at : List ℕ) (files : List StagingFile) (tags : List (Option ℕ)) → Paired (IsTagged packets at) files tags → 1 ≤ waits k tags
     → (file : StagingFile) × Among file files × IsTagged packets at file (Some k)
 waiting k packets at [] [] are some = absurd (omega (arith, some))
@@ -129,7 +118,6 @@ waiting k packets at (file ∷ files) (Some n ∷ tags) are some = by (same_as k
         let one = same-is k n (omega (arith, e)) in
         (file, inl refl, subst (λ (o : ℕ). IsTagged packets at file (Some o)) (sym one) are.0)
 
--- so the disks have the net
 pub has-net : (d : Disks) (net : Net) → Tracks d net → HasNet d net
 has-net d net t = record {
   stations = t.stations;

@@ -4,17 +4,14 @@ use Rattle.std.proofs.lemmas.Bool.{eqb-false, eqb-true}
 use Rattle.std.specs.Prelude.{Bool, false, if◌then◌else◌}
 use Rattle.model_graph.specs.Walk.{Different}
 use Rattle.echo_links.specs.Links.{LinkFile}
-use Rattle.model_run.specs.Run.{Run, System, after_events, change, fresh, nth, posting_at, purging_at, scanning, scanning_at, start}
-use Rattle.model_run.specs.Event.{Posting, Purging, RunEvent, Scanning}
+use Rattle.model_run.specs.{Run.Run, Run.System, Run.after_events, Run.change, Run.fresh, Run.nth, Run.posting_at, Run.purging_at, Run.scanning, Run.scanning_at, Run.start, Event.Posting, Event.Purging, Event.RunEvent, Event.Scanning}
 use Rattle.model_run.proofs.{Lists.yes_or_no, WholeRuns.fresh-empty, WholeRuns.fresh-files, HarmSteps.after-append}
 use Rattle.model_steps.specs.{declared.stamp.Stamp.Stamp, Posting.posting, Scanning.scanned, Stamps.is_stamp}
 use Rattle.cmd_status.specs.Inputs.{AreLinkFiles}
 use Rattle.cmd_store.specs.Drafts.{draft_given}
-use Rattle.law_stations.specs.Agreement.{Agrees, AreEventsOf, AreEventsOfAll, EventIsEvents, EventsAreARun, HasSystem, file_address, own_address}
+use Rattle.law_stations.specs.{Agreement.Agrees, Agreement.AreEventsOf, Agreement.AreEventsOfAll, Agreement.EventIsEvents, Agreement.EventsAreARun, Agreement.HasSystem, Agreement.file_address, Agreement.own_address, InOrder.WasPurged, Nets.Net, Nets.Paired, Nets.first_net, Nets.new_station}
 use Rattle.law_stations.specs.Commands.{Command, CommandEvent, Happen, Leads, Post, Purge, Scan, Toss}
-use Rattle.law_stations.specs.{InOrder.WasPurged, Nets.Net, Nets.Paired, Nets.first_net, Nets.new_station}
-use Rattle.law_stations.proofs.{OfEvents.post-agrees, OfEvents.purge-agrees, OfEvents.scan-agrees, OfToss.toss-agrees, Places.addresses-of, Places.addresses-stay}
-use Rattle.law_stations.proofs.Unpurged.{AsFiledAt, change-as_filed, filing-as_filed}
+use Rattle.law_stations.proofs.{OfEvents.post-agrees, OfEvents.purge-agrees, OfEvents.scan-agrees, OfToss.toss-agrees, Places.addresses-of, Places.addresses-stay, Unpurged.AsFiledAt, Unpurged.change-as_filed, Unpurged.filing-as_filed}
 
 -- A command ended well: its events. It keeps the messages of each system as they were filed, unless it purges it.
 record Led (command : Command) (i : ℕ) (new : Net) (run : Run) : Type 0 where
@@ -106,7 +103,6 @@ event-is-events event net new run apart agrees (inr leads) =
     let l = led event.command net new event.station run apart agrees leads in
     (l.events, inr l.are, l.agrees)
 
--- stations with empty bases
 first-stations : (links : List (List ℕ)) (files : List LinkFile) → AreLinkFiles links files → Paired HasSystem (map new_station links) (map fresh files)
 first-stations [] [] are = tt
 first-stations [] (file ∷ files) are = absurd are

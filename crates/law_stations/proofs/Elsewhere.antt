@@ -4,11 +4,8 @@ use Rattle.base_file.specs.Base.{Base}
 use Rattle.model_steps.specs.declared.stamp.Stamp.{Stamp}
 use Rattle.model_run.specs.Run.{change, nth}
 use Rattle.base_store.specs.Store.{purged}
-use Rattle.law_stations.specs.Commands.{Command, CommandEvent, Post, Purge, Scan, Toss}
-use Rattle.law_stations.specs.Stopping.{EndsOne, EndsSome, PartialEffect, MayHappen, ScansFar, Writes}
-use Rattle.law_stations.specs.{Nets.Net, Nets.with_base, Disks.Disks, Disks.naming}
+use Rattle.law_stations.specs.{Commands.Command, Commands.CommandEvent, Commands.Post, Commands.Purge, Commands.Scan, Commands.Toss, Nets.Net, Nets.with_base, Disks.Disks, Disks.naming, Stopping.EndsOne, Stopping.EndsSome, Stopping.PartialEffect, Stopping.MayHappen, Stopping.ScansFar, Stopping.Writes}
 
--- an item at another index
 pub change-other : {X : Type 0} (f : X → X) (i j : ℕ) (xs : List X) → j ≢ i → nth j (change i f xs) ≡ nth j xs
 change-other f i j [] other = refl
 change-other f zero zero (x ∷ xs) other = absurd (other refl)
@@ -16,7 +13,6 @@ change-other f zero (suc j) (x ∷ xs) other = refl
 change-other f (suc i) zero (x ∷ xs) other = refl
 change-other f (suc i) (suc j) (x ∷ xs) other = change-other f i j xs (λ e. other (ap suc e))
 
--- a name changes no station
 naming-stations : (net : Net) (bytes : List ℕ) (b : Bool) → (naming net bytes b).stations ≡ net.stations
 naming-stations net bytes true = refl
 naming-stations net bytes false = refl
@@ -31,7 +27,6 @@ some-stations (suc n) i d new (next, first, later) = some-stations n i next new 
 pub written-stations : (i : ℕ) (d new : Disks) → Writes i d new → new.net.stations ≡ d.net.stations
 written-stations i d new w = ap (λ (x : Disks). x.net.stations) w.becomes
 
--- the effect elsewhere of another base in one place
 left-elsewhere : (net new : Net) (i j : ℕ) (base : Base) → new.stations ≡ change i (with_base base) net.stations → j ≢ i → nth j new.stations ≡ nth j net.stations
 left-elsewhere net new i j base same other = ap (nth j) same ∙ change-other (with_base base) i j net.stations other
 

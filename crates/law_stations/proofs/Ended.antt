@@ -6,7 +6,6 @@ use Rattle.model_graph.proofs.Floods.{Among-push_cases}
 use Rattle.law_stations.specs.{Nets.Net, CanEnd.CanEnd, CanEnd.LeftCanEnd, Disks.StagingFile, Disks.HasCursor, Disks.naming, Stopping.EndsOne, Stopping.HasNoneStaged}
 use Rattle.law_stations.proofs.Whole.{disks_with}
 
--- a packet that got its name changes no cursor
 cursor-stays : (net : Net) (i cursor : ℕ) (bytes : List ℕ) (named : Bool) → HasCursor net i cursor → HasCursor (naming net bytes named) i cursor
 cursor-stays net i cursor bytes true has = has
 cursor-stays net i cursor bytes false has = has
@@ -31,12 +30,10 @@ one-ends i cursor net before file after own has = ⊎_elim
     })
     (cases_lt file.number cursor)
 
--- one file more of another station
 none-more : (i : ℕ) (before : List StagingFile) (file : StagingFile) → HasNoneStaged i before → file.station ≢ i → HasNoneStaged i (before ++ file ∷ [])
 none-more i before file none other f is =
     ⊎_elim (λ (was : Among f before). none f was) (λ (same : f ≡ file) e. other (ap (λ (b : StagingFile). b.station) (sym same) ∙ e)) (Among-push_cases f file before is)
 
--- the files after those of other stations
 can-end : (i cursor : ℕ) (after before : List StagingFile) (net : Net) → HasNoneStaged i before → HasCursor net i cursor → CanEnd i (disks_with net (before ++ after))
 can-end i cursor [] before net none has = record {
   steps = zero;

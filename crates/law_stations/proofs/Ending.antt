@@ -3,17 +3,12 @@ use Rattle.std.proofs.Common.{◌≡◌, ◌⊎◌, inl, inr, refl, sym, subst, 
 use Rattle.model_graph.specs.Walk.{Among}
 use Rattle.model_run.specs.Run.{nth}
 use Rattle.model_run.proofs.{Lists.not_both, Lists.nth-append, Targets.some_same}
-use Rattle.law_stations.specs.Disks.{StagingFile, Disks, cursors, naming, with_packet}
-use Rattle.law_stations.specs.{Nets.Net, Nets.Paired, Stopping.Ends, Stopping.EndsOne, Stopping.EndsSome, Stopping.now_named}
-use Rattle.law_stations.proofs.Counting.{IsItem, nones, same_as, times-append, waits, waits-append, waits-nones}
-use Rattle.law_stations.proofs.Tracking.{IsTagged, PairedAround, Tracks, cursor-too, paired-around}
-use Rattle.law_stations.proofs.Pairs.{paired-append}
+use Rattle.law_stations.specs.{Disks.StagingFile, Disks.Disks, Disks.cursors, Disks.naming, Disks.with_packet, Nets.Net, Nets.Paired, Stopping.Ends, Stopping.EndsOne, Stopping.EndsSome, Stopping.now_named}
+use Rattle.law_stations.proofs.{Counting.IsItem, Counting.nones, Counting.same_as, Counting.times-append, Counting.waits, Counting.waits-append, Counting.waits-nones, Tracking.IsTagged, Tracking.PairedAround, Tracking.Tracks, Tracking.cursor-too, Tracking.paired-around, Pairs.paired-append}
 
--- as many packets wait without the file as with its rest
 same-waits : (k : ℕ) (left : List StagingFile) (front behind : List (Option ℕ)) → waits k (front ++ (nones left ++ behind)) ≡ waits k front + waits k behind
 same-waits k left front behind = grind (arith, waits-append, waits-nones)
 
--- one packet less waits than with the file's packet
 less-waits : (k x : ℕ) (front behind : List (Option ℕ)) → waits k (front ++ Some x ∷ behind) ≡ waits k front + (same_as k x + waits k behind)
 less-waits k x front behind = waits-append k front (Some x ∷ behind)
 
@@ -32,11 +27,9 @@ module _ (d new : Disks) (net : Net) (t : Tracks d net) (before : List StagingFi
   tagged : Paired (IsTagged net.packets (cursors net)) left (nones left) → Paired (IsTagged net.packets (cursors net)) new.staging tags
   tagged is = grind (arith, paired-append)
 
-  -- no packet waited in the file, and the net is unchanged
   unchanged : around.y ≡ None → new.net ≡ d.net → Paired (IsTagged net.packets (cursors net)) left (nones left) → Tracks new net
   unchanged none same is = grind (arith, tagged, waits-append, same-waits)
 
-  -- the packet that waited in the file has its name
   gets-name : (k : ℕ) → around.y ≡ Some k → nth k net.packets ≡ Some file.bytes → new.net ≡ with_packet d.net file.bytes
       → Paired (IsTagged net.packets (cursors net)) left (nones left) → Tracks new net
   gets-name k waited there same is = record {
@@ -60,7 +53,6 @@ module _ (d new : Disks) (net : Net) (t : Tracks d net) (before : List StagingFi
         (x, nth-append j x t.places (k ∷ []) at, done);
   }
 
--- by the number in its name
 pub one-ended : (i : ℕ) (d new : Disks) (net : Net) → Tracks d net → EndsOne i d new → Tracks new net
 one-ended i d new net t e = by around.y refl e.ends
   where
@@ -97,7 +89,6 @@ one-ended i d new net t e = by around.y refl e.ends
         let one : c ≡ e.cursor = some_same (sym is ∙ at) in
         absurd (omega (arith, least, less, one))
 
--- the same for some files
 pub some-ended : (n i : ℕ) (d new : Disks) (net : Net) → Tracks d net → EndsSome n i d new → Tracks new net
 some-ended zero i d new net t same = subst (λ (x : Disks). Tracks x net) (sym same) t
 some-ended (suc n) i d new net t (next, first, later) = some-ended n i next new net (one-ended i d next net t first) later

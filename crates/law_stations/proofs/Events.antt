@@ -3,18 +3,14 @@ use Rattle.std.proofs.Common.{◌≡◌, inl, inr, ⊎_elim, refl, sym, ap, subs
 use Rattle.std.proofs.lemmas.List.{take_all}
 use Rattle.base_file.specs.Base.{Base}
 use Rattle.echo_links.specs.{Links.LinkFile, LinkLines.LinksOf}
-use Rattle.cmd_store.specs.{declared.drafting.NewMessage.NewMessage, declared.answering.Answer.Answer, Coming.Coming, Serials.with_serial, Drafts.draft_given, declared.letter.Letter.Letter}
-use Rattle.cmd_store.specs.{declared.mailed.MailWords.MailWords, MailPosted.Mails, FreeSerial.PostsAs, Posted.Posts, Purged.HoldsOrPurges, Purged.Purges, Replied.Replies}
+use Rattle.cmd_store.specs.{declared.drafting.NewMessage.NewMessage, declared.answering.Answer.Answer, Coming.Coming, Serials.with_serial, Drafts.draft_given, declared.letter.Letter.Letter, declared.mailed.MailWords.MailWords, MailPosted.Mails, FreeSerial.PostsAs, Posted.Posts, Purged.HoldsOrPurges, Purged.Purges, Replied.Replies}
 use Rattle.model_run.specs.Run.{change, nth}
 use Rattle.model_steps.specs.Posting.{posted}
 use Rattle.base_store.specs.Store.{purged}
-use Rattle.law_stations.specs.Commands.{Command, IsPacketAt, Post, Purge, Toss, TossesAll, whole_of}
-use Rattle.law_stations.specs.Nets.{Paired, Station, with_base, with_left, with_posting, with_tossed}
-use Rattle.law_stations.specs.{Kinds.IsPurge, Kinds.IsToss, Disks.Disks, DiskKinds.IsMail, DiskKinds.IsPostAs, DiskKinds.IsReplyAs}
+use Rattle.law_stations.specs.{Commands.Command, Commands.IsPacketAt, Commands.Post, Commands.Purge, Commands.Toss, Commands.TossesAll, Commands.whole_of, Nets.Paired, Nets.Station, Nets.with_base, Nets.with_left, Nets.with_posting, Nets.with_tossed, Kinds.IsPurge, Kinds.IsToss, Disks.Disks, DiskKinds.IsMail, DiskKinds.IsPostAs, DiskKinds.IsReplyAs}
 use Rattle.law_stations.proofs.Leading.{LeadsTo, MadeOrHeld}
 
 module _ (station : Station) (file : LinkFile) (i : ℕ) (d : Disks) (there : nth i d.net.stations ≡ Some station) (says : LinksOf station.links (Ok file)) where
-  -- a posting leads on, if its words have this kind
   pub posting : (IsCommand : Command → Type 0) (words : NewMessage) (body : List ℕ) (next : Base) → IsCommand (Post words body) → Posts file words body station.base next → LeadsTo IsCommand i d next
   posting IsCommand words body next is posts = record {
     after = record { net = with_posting d.net i next (posted file words.tag.now (draft_given words body) words.serial words.stamp); staging = d.staging };
@@ -31,16 +27,13 @@ module _ (station : Station) (file : LinkFile) (i : ℕ) (d : Disks) (there : nt
   posting-as IsCommand true words body next is free =
       posting IsCommand (with_serial words free.serial) body next (is (Post (with_serial words free.serial) body) (free.serial, refl)) free.made
 
-  -- the posting of an answer
   pub replying : (index : ℕ) (answer : Answer) (body : List ℕ) (next : Base) → Replies file index answer body station.base next → LeadsTo (IsReplyAs index answer body station.base) i d next
   replying index answer body next replies = grind (arith, posting-as)
 
-  -- the posting of a letter
   pub mailing : (letter : Letter) (asked : MailWords) (next : Base) → Mails file letter asked station.base next → LeadsTo (IsMail letter asked) i d next
   mailing letter asked next mails =
       posting-as (IsMail letter asked) asked.free mails.words letter.body next (λ command is. record { words = mails.words; posting = mails.posting; is = is }) mails.made
 
-  -- a purge
   pub purging : (next : Base) → Purges station.base next → LeadsTo IsPurge i d next
   purging next is = record {
     after = record { net = with_left d.net i [] (purged station.base); staging = d.staging };
@@ -50,7 +43,6 @@ module _ (station : Station) (file : LinkFile) (i : ℕ) (d : Disks) (there : nt
     leads = (record { station = station; there = there; becomes = refl }, refl);
   }
 
-  -- the old base, or the base after a purge
   pub holding-or-purging : (next : Base) → HoldsOrPurges station.base next → MadeOrHeld IsPurge i d station.base next
   holding-or-purging next may = ⊎_elim (λ same. inl same) (λ purges. inr (purging next purges)) may
 

@@ -5,8 +5,7 @@ use Rattle.base_file.specs.Base.{Base}
 use Rattle.echo_links.specs.Links.{LinkFile}
 use Rattle.echo_toss.specs.{PacketsIn.state_in, declared.fault.TossFault.TossFault, declared.tally.Tally.Tally, PacketSteps.PacketStep}
 use Rattle.model_steps.specs.SystemState.{SystemState}
-use Rattle.cmd_store.specs.{Coming.Coming, Coming.Fails, Coming.Holds, Coming.Unknown, TossRuns.TossesEachBy, TossRuns.TossesFileBy}
-use Rattle.cmd_store.specs.TossedPacket.{ReportsPacket, TossRun, TossesPacketBy}
+use Rattle.cmd_store.specs.{Coming.Coming, Coming.Fails, Coming.Holds, Coming.Unknown, TossRuns.TossesEachBy, TossRuns.TossesFileBy, TossedPacket.ReportsPacket, TossedPacket.TossRun, TossedPacket.TossesPacketBy}
 use Rattle.law_stations.specs.Commands.{TossesAll, itself}
 use Rattle.law_stations.proofs.Readings.{TossesFront, TossesPacketThere, TossesSo, tosses-so}
 use Rattle.model_run.proofs.Targets.{none_some}
@@ -46,7 +45,6 @@ answered : (noting : Bool) (old : TossRun) (reader left : Device) (stopped : Opt
     → ((stopped ≡ Some OutOfMemory) × (new ≡ old)) ⊎ IsAnswered old reader left stopped new
 answered noting old reader left stopped new h1 = grind arith
 
--- the statement about a packet that was opened
 packet-so : (bytes : List ℕ) (old new : TossRun) (stopped : Option Fault) (reader left : Device) → reader.contents ≡ Some bytes
     → (h : IsAnswered old reader left stopped new) → TossesSo bytes old.system new.system h.answer
 packet-so bytes old new stopped reader left reads h = grind (arith, tosses-so)
@@ -55,7 +53,6 @@ same-run : (old new : TossRun) → new ≡ old → new.system ≡ old.system
 same-run old new e = ap (λ (r : TossRun). r.system) e
 
 module _ (noting : Bool) where
-  -- a file after which the run went on
   went-on : (file : Coming) (old new : TossRun) → TossesFileBy (Unit {0}) (TossesPacketBy noting) itself file old None new → IsWholly file old.system new.system
   went-on Unknown old new tossed = tt
   went-on (Fails path) old new (inl opened) = opened.opened tt
@@ -71,7 +68,6 @@ module _ (noting : Bool) where
       by (Ok tally) noted reported so = so
       by (Err f) noted reported so = absurd (none_some reported.0)
 
-  -- and a file that stopped it
   stopped-at : (file : Coming) (later : List Coming) (old new : TossRun) (fault : Fault) → TossesFileBy (Unit {0}) (TossesPacketBy noting) itself file old (Some fault) new
       → IsPartly (file ∷ later) old.system new.system
   stopped-at Unknown later old new fault tossed = tt
@@ -88,7 +84,6 @@ module _ (noting : Bool) where
       by (Ok tally) noted reported so = absurd (none_some (sym reported.0))
       by (Err f) noted reported so = so
 
-  -- the number of files left is the number of files after the last opened one
   left-behind : (files : List Coming) (old : TossRun) (fault : Fault) (left : List Coming) (new : TossRun)
       → TossesEachBy (Unit {0}) (TossesPacketBy noting) itself files old (Some fault) left new → length left + 1 ≤ length files
   left-behind [] old fault left new (none, rest, end) = absurd (none_some (sym none))
@@ -115,7 +110,6 @@ module _ (noting : Bool) where
       let none : wholes (suc (length files)) stopped left ≡ 0 = subst W (sym is) (omega (arith, ap (λ (l : List Coming). length l) rest)) in
       subst T (sym none) (stopped-at file files old new fault (subst F is last))
 
--- the base after the toss
 pub tossed-all : (files : List Coming) (file : LinkFile) (base next : Base) → (t : TossesAll files file base next)
     → TossedFiles (wholes (length files) t.stopped t.left) files (state_in file base) (state_in file next)
 tossed-all files file base next t = grind (arith, each-tossed)

@@ -4,10 +4,8 @@ use Rattle.base_file.specs.Base.{Base}
 use Rattle.disk_io.specs.Disk.{DiskState, Files}
 use Rattle.cmd_store.specs.declared.command_error.CommandError.{CommandError}
 use Rattle.station.specs.Place.{Place}
-use Rattle.law_stations.specs.Asked.{Asked, AnswerOf, CommandGoesOn, CommandsGoOn, GoesOnCut, IsAsked}
-use Rattle.law_stations.specs.{Disks.Disks, OnDisks.RefinesEvent, OnDisks.LeavesElsewhere, OnDisks.MayLeadBy, OnDisks.ShowsStation, Seats.Seat, Seats.reach, Steps.IsAllOnDisk}
+use Rattle.law_stations.specs.{Asked.Asked, Asked.AnswerOf, Asked.CommandGoesOn, Asked.CommandsGoOn, Asked.GoesOnCut, Asked.IsAsked, Disks.Disks, OnDisks.RefinesEvent, OnDisks.LeavesElsewhere, OnDisks.MayLeadBy, OnDisks.ShowsStation, Seats.Seat, Seats.reach, Steps.IsAllOnDisk}
 
--- a path outside a larger place is outside a smaller one
 pub reaches-by : (place further : Place) (old new : DiskState) → ((m : List ℕ) → place.is_own m → further.is_own m) → LeavesElsewhere place old new → LeavesElsewhere further old new
 reaches-by place further old new more left = grind (arith, ⊎_elim)
 

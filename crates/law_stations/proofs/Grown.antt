@@ -1,10 +1,8 @@
 -- No packet file loses its name.
 use Rattle.std.proofs.Common.{◌≡◌, ◌⊎◌, inl, inr, refl, sym, ap, ◌∙◌, ℕ, zero, suc, append-nil, append_assoc, Bool, true, false, List, [], ◌∷◌, ◌++◌, arith}
 use Rattle.model_steps.specs.declared.stamp.Stamp.{Stamp}
-use Rattle.law_stations.specs.Commands.{Command, Post, Purge, Scan, Toss}
-use Rattle.law_stations.specs.LoneStations.{LoneCommand, LoneStation, PostAlone, PurgeAlone, ScanAlone, TossAny}
+use Rattle.law_stations.specs.{Commands.Command, Commands.Post, Commands.Purge, Commands.Scan, Commands.Toss, Nets.Net, Disks.Disks, Disks.naming, LoneDisks.LoneDisks, LoneDisks.MayHappenAlone, LoneDisks.MayHappenAllAlone, LoneStations.LoneCommand, LoneStations.LoneStation, LoneStations.PostAlone, LoneStations.PurgeAlone, LoneStations.ScanAlone, LoneStations.TossAny}
 use Rattle.law_stations.specs.Stopping.{EndsOne, EndsSome, PartialEffect, Moves, ScansFar, Writes}
-use Rattle.law_stations.specs.{Nets.Net, Disks.Disks, Disks.naming, LoneDisks.LoneDisks, LoneDisks.MayHappenAlone, LoneDisks.MayHappenAllAlone}
 
 -- the packet files stay, and later ones follow
 abbrev Grows : List (List ℕ) → List (List ℕ) → Type 0

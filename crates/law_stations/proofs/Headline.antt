@@ -9,7 +9,6 @@ use Rattle.cmd_check.specs.Checking.{CheckAnswers}
 use Rattle.law_stations.specs.{Agreement.IsPacketFile, Agreement.limits_of, InOrder.ReadsAs, Nets.Paired}
 use Rattle.law_stations.proofs.Readings.{one-packet}
 
--- the bytes of a packet file are read as no other packet
 read-once : (bytes : List ℕ) (p q : Packet) → IsPacketFile bytes p → ReadsAs bytes q → q ≡ p
 read-once bytes p q is (limits, other) =
     let one = one-packet (limits_of bytes) limits p.header q.header p.messages q.messages bytes bytes [] is.packet other (sym (append-nil bytes)) in

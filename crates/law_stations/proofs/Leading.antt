@@ -8,8 +8,7 @@ use Rattle.model_run.specs.Run.{change, nth}
 use Rattle.cmd_status.specs.{declared.fault.Fault.Fault, Devices.Output}
 use Rattle.cmd_store.specs.declared.command_error.CommandError.{CommandError, TheVariants.Met, TheVariants.Store}
 use Rattle.station.specs.{Place.KeepsElsewhere, Place.Place, Place.SameElsewhere, Place.RepresentsOrWasLeft, Running.IsRun, Running.RunsIn, Running.RepresentsAsBefore, Running.RepresentsWhereMet}
-use Rattle.law_stations.specs.OnDisks.{AreAsMay, RefinesEvent, IsAfter, IsAsBefore, IsLinkedOn, IsStationAt, LeadsFarBy, ReadsLinks, ShowsStation}
-use Rattle.law_stations.specs.{Commands.Command, Nets.with_base, Disks.Disks, Stopping.PartialEffect}
+use Rattle.law_stations.specs.{OnDisks.AreAsMay, OnDisks.RefinesEvent, OnDisks.IsAfter, OnDisks.IsAsBefore, OnDisks.IsLinkedOn, OnDisks.IsStationAt, OnDisks.LeadsFarBy, OnDisks.ReadsLinks, OnDisks.ShowsStation, Commands.Command, Nets.with_base, Disks.Disks, Stopping.PartialEffect}
 use Rattle.model_run.proofs.{HarmLists.nth-changed as changed-there, Targets.some_same}
 
 -- disks to which a command of this kind leads, on which the station has this base
@@ -33,17 +32,14 @@ module _ (place : Place) (links : List ℕ) (i : ℕ) (d : Disks) (old new : Dis
   abbrev pub SaysIn : LinkFile → Type 0
   SaysIn file = LinksOf at.shows.station.links (Ok file)
 
-  -- files that a crash left show the unchanged station
   as-it-was : (c : Files) → c links ≡ old.seen links → place.represents base c → ShowsStation place links i c d
   as-it-was c linked represented =
       record { station = at.shows.station; there = at.shows.there; of_links = linked ∙ at.shows.of_links; represented = represented }
 
-  -- the contents of a link file that was read
   pub says-so : (Reads : LinkFile → Type 0) → ReadsLinks Reads links old → (file : LinkFile) → Reads file → SaysIn file
   says-so Reads read file is =
       let of_links = read file is in subst (λ (b : List ℕ). LinksOf b (Ok file)) (some_same (sym of_links.seen ∙ at.shows.of_links)) of_links.judged
 
-  -- the link file, which was on the disk outside the place
   outside-links : (c : Files) → SameElsewhere place old c → c links ≡ old.seen links
   outside-links c same = same links at.outside at.linked.named at.linked.flushed
 
@@ -56,12 +52,10 @@ module _ (place : Place) (links : List ℕ) (i : ℕ) (d : Disks) (old new : Dis
   pub left-links : (c : Files) → new.may_leave c → c links ≡ old.seen links
   left-links c left = new.on_disk links still-linked.named still-linked.flushed c left ∙ same-links
 
-  -- a crash that left the base unchanged, or a state that an earlier crash might have left
   was-left : (c : Files) → RepresentsOrWasLeft place old base c → old.may_leave c ⊎ ShowsStation place links i c d
   was-left c (inl alone) = inr (as-it-was c (outside-links c alone.elsewhere) alone.represented)
   was-left c (inr was) = inl was
 
-  -- the disk after a command that left the base unchanged
   is-as-before : RepresentsAsBefore place old new base → IsAsBefore place links i d new
   is-as-before it = grind (arith, as-it-was, same-links, still-linked, left-links)
 
@@ -79,11 +73,9 @@ module _ (place : Place) (links : List ℕ) (i : ℕ) (d : Disks) (old new : Dis
     stays out out_now h1 fault h2 = grind (arith, is-as-before, represented-so)
 
   module _ (IsCommand : Command → Type 0) where
-    -- this command
     pub led : (next : Base) (to : LeadsTo IsCommand i d next) → LeadsFarBy IsCommand i d to.after
     led next to = record { command = to.command; is = to.is; leads = to.leads }
 
-    -- or after a command that made another base
     pub after-it : (next : Base) (to : LeadsTo IsCommand i d next) (c : Files) → c links ≡ old.seen links → place.represents next c → ShowsStation place links i c to.after
     after-it next to c linked represented = record {
       station = with_base next at.shows.station;
@@ -108,14 +100,11 @@ module _ (place : Place) (links : List ℕ) (i : ℕ) (d : Disks) (old new : Dis
     module _ {A : Type 0} (IsAnswer : LinkFile → Base → Type 0) (Makes May : LinkFile → Base → Base → Type 0) (Reads : LinkFile → Type 0) (read : ReadsLinks Reads links old) (IsShut Stops : Fault → Type 0) (failed : Type 0) (result : Result A CommandError)
         (may : (file : LinkFile) (next : Base) → SaysIn file → May file base next → MadeOrHeld IsCommand i d base next)
         (makes : (file : LinkFile) (next : Base) → SaysIn file → Makes file base next → LeadsTo IsCommand i d next) where
-      -- the effect of a command that ran
       ran : IsRun IsAnswer Makes May place Reads failed old new result → RefinesEvent IsCommand place links i d old new result
       ran run = grind (arith, was-left, represented-so, same-links, still-linked, says-so, as-it-was, led, after-it, outside-links, ⊎_elim)
 
-      -- the effect of a command that did not run
       not-run : (fault : Fault) → result ≡ Err (Met fault) → LeavesOnly old new (RepresentsOrWasLeft place old base) → RefinesEvent IsCommand place links i d old new result
       not-run fault is leaves = grind (arith, may-be, was-left, same-links, still-linked, ⊎_elim)
 
-      -- the effect of a command
       pub does : (out out_now : Output) → RunsIn IsAnswer Makes May place Reads IsShut Stops failed old new out out_now result → RefinesEvent IsCommand place links i d old new result
       does out out_now h1 = grind (arith, ran, not-run)

@@ -10,23 +10,17 @@ use Rattle.echo_filed.specs.{declared.key.Key.Key, Filed.Filed, Filed.key_of, Fi
 use Rattle.echo_filed.proofs.{Keys.stub_of_stub, StubTests.stub_reported}
 use Rattle.base_file.specs.Base.{IsBase}
 use Rattle.model_steps.specs.{declared.packet.Packet.Packet, Tossing.received, Tossing.sender_of}
-use Rattle.model_run.specs.Lone.{LoneEvent, LoneSystem, PostHere, PurgeHere, ScanHere, TossHere, lone_at_first, lone_run}
-use Rattle.model_run.specs.{Exports.IsSentCopy, Orderly.copies, Orderly.count, Orderly.sent_count, Run.System, Run.destination, Owed.IsFiledBy, Owed.IsFromLink, Owed.IsOwed}
+use Rattle.model_run.specs.{Lone.LoneEvent, Lone.LoneSystem, Lone.PostHere, Lone.PurgeHere, Lone.ScanHere, Lone.TossHere, Lone.lone_at_first, Lone.lone_run, Exports.IsSentCopy, Orderly.copies, Orderly.count, Orderly.sent_count, Run.System, Run.destination, Owed.IsFiledBy, Owed.IsFromLink, Owed.IsOwed}
 use Rattle.model_run.proofs.TosserPremises as counts
-use Rattle.model_run.proofs.Bases.{IsKept, Kept, Kept-back, Kept-count, Kept-waiting, SystemOk, count-is}
+use Rattle.model_run.proofs.{Bases.IsKept, Bases.Kept, Bases.Kept-back, Bases.Kept-count, Bases.Kept-waiting, Bases.SystemOk, Bases.count-is, Lists.Among-take, Lists.not_both, TosserLaws.the_laws, Filings.run-from, Filings.run-file, Filings.run-left}
 use Rattle.model_run.proofs.SentSoFar.{IsSentSoFar, copy-owed, owed-back, owed-there, run-sent, sent-once, sent-others, sent-owed, sent-waiting, base-once, run-due, run-ok}
-use Rattle.model_run.proofs.{Lists.Among-take, Lists.not_both, TosserLaws.the_laws, Filings.run-from, Filings.run-file, Filings.run-left}
-use Rattle.law_stations.specs.AloneInOrder.{LoneSays, HasCome, HoldsPacket, IsInOrderAlone, IsLeftAlone}
-use Rattle.law_stations.specs.{Agreement.HasSystem, Agreement.IsPacketFile, InOrder.ReadsAs, Nets.Paired, Nets.Station, LoneStations.LoneCommand, LoneStations.LoneStation}
-use Rattle.law_stations.proofs.{Headline.all-read, OfEvents.posted-own, Pairs.paired-among, Readings.one-in_front, Sound.reads, Systems.said-once, Systems.says-so}
-use Rattle.law_stations.proofs.{Purgings.left-scanned, Purgings.purge-among, Alone.IsLone, Steps.AreOfCommands}
+use Rattle.law_stations.specs.{AloneInOrder.LoneSays, AloneInOrder.HasCome, AloneInOrder.HoldsPacket, AloneInOrder.IsInOrderAlone, AloneInOrder.IsLeftAlone, Agreement.HasSystem, Agreement.IsPacketFile, InOrder.ReadsAs, Nets.Paired, Nets.Station, LoneStations.LoneCommand, LoneStations.LoneStation}
+use Rattle.law_stations.proofs.{Headline.all-read, OfEvents.posted-own, Pairs.paired-among, Readings.one-in_front, Sound.reads, Systems.said-once, Systems.says-so, Purgings.left-scanned, Purgings.purge-among, Alone.IsLone, Steps.AreOfCommands}
 
--- a stub has the tag and the sender of its message, and an empty SEEN-BY
 stub-owed : (file : LinkFile) (h : Filed) (a : Address) → IsOwed file h a → IsOwed file (stub_of h) a
 unfolding stub_of
 stub-owed file h a owed = grind arith
 
--- messages before the cursor were scanned
 kept-take : (c : ℕ) (base history : List Filed) → Kept c base history → (m : Filed) → Among m (take c base) → (h : Filed) × Among h (take c history) × IsKept m h
 kept-take zero base history k m i = absurd i
 kept-take (suc c) [] history k m i = absurd k
@@ -52,14 +46,12 @@ module _ (commands : List LoneCommand) (file : LinkFile) (fits : IsFile file) (s
   sofar : IsSentSoFar z
   sofar = run-sent the_laws file fits events lone.plain
 
-  -- the station has its system
   has-system : (station : Station) → s.net.stations ≡ station ∷ [] → HasSystem station z.system
   has-system station there = (let P : List Station → Type 0 = λ ss. Paired HasSystem ss (z.system ∷ []) in subst P there lone.agrees.stations).0
 
   pub stood : (f : LinkFile) (messages : List Filed) (cursor : ℕ) → LoneSays s f messages cursor → Stood z file f messages cursor
   stood f messages cursor say = grind (arith, said-once, has-system, run-file)
 
-  -- one station
   pub say-here : LoneSays s z.system.file z.system.base z.system.cursor
   say-here = one s.net.stations refl lone.agrees.stations
     where
@@ -77,7 +69,6 @@ module _ (commands : List LoneCommand) (file : LinkFile) (fits : IsFile file) (s
   is-base : IsBase z.system.base z.system.cursor
   is-base = (has-system say-here.station say-here.there).is_base
 
-  -- filed messages were tossed or posted
   come : (h : Filed) → Among h z.system.history → HasCome s file h
   come h i =
       let (earlier, event, later, same, by) = run-from file events h i in
@@ -113,7 +104,6 @@ module _ (commands : List LoneCommand) (file : LinkFile) (fits : IsFile file) (s
   kept-of : (m : Filed) → Among m z.system.base → (h : Filed) × Among h z.system.history × IsKept m h
   kept-of m i = Kept-back z.system.cursor z.system.base z.system.history ok.kept m i
 
-  -- each message of the base came
   came-here : (m : Filed) → Among m z.system.base →
       (o : Filed) × HasCome s file o × ((m ≡ o) ⊎ IsLeftAlone commands (take z.system.cursor z.system.base) m o)
   came-here m i =
@@ -128,7 +118,6 @@ module _ (commands : List LoneCommand) (file : LinkFile) (fits : IsFile file) (s
         ],
       )
 
-  -- each filed message is in the base once
   filed-once : (h : Filed) → Among h z.system.history → count (key_of h) z.system.base ≡ 1
   filed-once h i = omega (
     arith,
@@ -156,7 +145,6 @@ module _ (commands : List LoneCommand) (file : LinkFile) (fits : IsFile file) (s
       let there : Among (TossHere sender p.messages) events = subst U (ap (λ (x : Header). sender_of file x) same) (subst T all by.there) in
       run-due the_laws file fits events lone.plain sender p.messages there packed i from
 
-  -- an address that should not get the base's message should not get the filed one
   not-owed : (m h : Filed) → IsKept m h → (a : Address) → (¬ IsOwed file m a) → ¬ IsOwed file h a
   not-owed m h kept a none owed = grind (arith, stub-owed)
 

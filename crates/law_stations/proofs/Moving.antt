@@ -11,14 +11,9 @@ use Rattle.model_run.specs.Run.{change, nth}
 use Rattle.model_run.proofs.{Lists.nth-append, HarmLists.nth-changed as changed-there, Targets.some_same}
 use Rattle.base_store.specs.Store.{all_scanned}
 use Rattle.cmd_store.specs.PacketLines.{file_sent}
-use Rattle.law_stations.specs.Nets.{Net, Paired, Station, bytes_of, with_base, with_left}
-use Rattle.law_stations.specs.Disks.{StagingFile, Disks, HasCursor, cursor_of, cursors}
-use Rattle.law_stations.specs.{Commands.Scans, Stopping.IsOfNext, Stopping.Moves, Stopping.Writes, Stopping.staging_of}
-use Rattle.law_stations.proofs.Counting.{IsItem, below, from, nones, waits-append, waits-from, waits-nones}
-use Rattle.law_stations.proofs.Tracking.{IsTagged, Tracks, cursor-too, has-cursor, paired-so}
-use Rattle.law_stations.proofs.Pairs.{paired-append}
+use Rattle.law_stations.specs.{Nets.Net, Nets.Paired, Nets.Station, Nets.bytes_of, Nets.with_base, Nets.with_left, Disks.StagingFile, Disks.Disks, Disks.HasCursor, Disks.cursor_of, Disks.cursors, Commands.Scans, Stopping.IsOfNext, Stopping.Moves, Stopping.Writes, Stopping.staging_of}
+use Rattle.law_stations.proofs.{Counting.IsItem, Counting.below, Counting.from, Counting.nones, Counting.waits-append, Counting.waits-from, Counting.waits-nones, Tracking.IsTagged, Tracking.Tracks, Tracking.cursor-too, Tracking.has-cursor, Tracking.paired-so, Pairs.paired-append}
 
--- files of a stopped scan have no waiting packet
 unfinished-tagged : (packets : List (List ℕ)) (at : List ℕ) (i c : ℕ) (files : List StagingFile) → nth i at ≡ Some c → AllByRecursion (IsOfNext i c) files
     → Paired (IsTagged packets at) files (nones files)
 unfinished-tagged packets at i c [] there are = tt
@@ -48,7 +43,6 @@ pub nth-middle : {X : Type 0} (before : List X) (x : X) (after : List X) → nth
 nth-middle [] x after = refl
 nth-middle (y ∷ before) x after = nth-middle before x after
 
--- the packets of a scan wait for their names, each under its index
 waiting-tagged : (front : List (List ℕ)) (at : List ℕ) (i c : ℕ) (ps : List PacketFile) → ((q : PacketFile) → Among q ps → (n : ℕ) × (nth i at ≡ Some n) × (c < n))
     → Paired (IsTagged (front ++ map bytes_of ps) at) (map (staging_of i c) ps) (from (length front) ps)
 waiting-tagged front at i c [] less = tt
@@ -59,7 +53,6 @@ waiting-tagged front at i c (p ∷ ps) less =
     let Q : ℕ → Type 0 = λ n. Paired (IsTagged ((front ++ p.bytes ∷ []) ++ map bytes_of ps) at) (map (staging_of i c) ps) (from n ps) in
     ((nth-middle front p.bytes (map bytes_of ps), refl, less p (inl refl)), subst P (append_assoc front (p.bytes ∷ []) (map bytes_of ps)) (subst Q long rest))
 
--- a change of another station
 map-staging : {X Y : Type 0} (g : X → Y) (f : X → X) (i j : ℕ) (xs : List X) → j ≢ i → nth j (map g (change i f xs)) ≡ nth j (map g xs)
 map-staging g f i j [] other = refl
 map-staging g f zero zero (x ∷ xs) other = absurd (other refl)
@@ -67,17 +60,14 @@ map-staging g f zero (suc j) (x ∷ xs) other = refl
 map-staging g f (suc i) zero (x ∷ xs) other = refl
 map-staging g f (suc i) (suc j) (x ∷ xs) other = map-staging g f i j xs (λ e. other (ap suc e))
 
--- if nothing waits, there are no packets
 none-scanned : (file : LinkFile) (base : List Filed) (cursor : ℕ) (stamp : Stamp) → length base ≤ cursor → scanned file base cursor stamp ≡ []
 unfolding scanned packets_of recipients address_set
 none-scanned file base cursor stamp past = ap (packets_of file stamp) (drop_all cursor base past)
 
--- if there are packets, something waited
 pub some-waits : (file : LinkFile) (base : List Filed) (cursor : ℕ) (stamp : Stamp) (packets : List PacketFile) → packets ≡ map (file_sent cursor) (scanned file base cursor stamp)
     → (q : PacketFile) → Among q packets → cursor < length base
 some-waits file base cursor stamp packets made q h = grind (arith, cases_lt, none-scanned)
 
--- the cursors of a station before and after a scan, if it has packets
 pub scans-less : (stamp : Stamp) (net new : Net) (i : ℕ) → (scans : Scans stamp net i new) → (q : PacketFile) → Among q scans.packets
     → scans.station.base.cursor < length scans.station.base.messages
 scans-less stamp net new i scans = grind (arith, scans, some-waits)
@@ -101,7 +91,6 @@ module _ (stamp : Stamp) (i : ℕ) (d new : Disks) (net : Net) (t : Tracks d net
   there : nth i net.stations ≡ Some m.scans.station
   there = subst (λ (ss : List Station). nth i ss ≡ Some m.scans.station) t.stations m.scans.at.there
 
-  -- the scan of the disks is one of the net
   pub scans : Scans stamp net i then
   scans = grind (arith, there)
 
@@ -111,7 +100,6 @@ module _ (stamp : Stamp) (i : ℕ) (d new : Disks) (net : Net) (t : Tracks d net
   same : (x : StagingFile) → Among x d.staging → nth x.station (cursors then) ≡ nth x.station (cursors net)
   same x h = map-staging cursor_of (with_base next) i x.station net.stations (m.none x h)
 
-  -- a file of another station
   others : (x : StagingFile) (o : Option ℕ) → Among x d.staging → IsTagged net.packets (cursors net) x o → IsTagged files (cursors then) x o
   others x o h1 h2 = grind (arith, same, nth-append)
 

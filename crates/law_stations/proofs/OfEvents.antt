@@ -8,21 +8,16 @@ use Rattle.echo_packet.specs.Header.{AreBytes}
 use Rattle.echo_links.specs.Links.{LinkFile}
 use Rattle.echo_filed.specs.Filed.{Filed}
 use Rattle.base_file.specs.Base.{Base}
-use Rattle.model_steps.specs.{declared.draft.Draft.Draft, declared.fault.PostFault.PostFault, declared.stamp.Stamp.Stamp, PacketFiles.PacketFile, Posting.post_refusal, Posting.posted, Posting.posting}
-use Rattle.model_steps.specs.{Scanning.scanned, Stamps.is_stamp}
+use Rattle.model_steps.specs.{declared.draft.Draft.Draft, declared.fault.PostFault.PostFault, declared.stamp.Stamp.Stamp, PacketFiles.PacketFile, Posting.post_refusal, Posting.posted, Posting.posting, Scanning.scanned, Stamps.is_stamp}
 use Rattle.model_steps.specs.Purging as steps
 use Rattle.model_steps.proofs.{Kept.posting_keeps, Purged.purge_keeps}
 use Rattle.base_store.specs.Store.{all_scanned, purged, with_message}
-use Rattle.model_run.specs.Run.{Run, System, after_event, change, filing, posting_at, purging_at, scanning, scanning_at}
-use Rattle.model_run.specs.Event.{Posting, Purging, Scanning}
+use Rattle.model_run.specs.{Run.Run, Run.System, Run.after_event, Run.change, Run.filing, Run.posting_at, Run.purging_at, Run.scanning, Run.scanning_at, Event.Posting, Event.Purging, Event.Scanning}
 use Rattle.cmd_store.specs.{declared.drafting.NewMessage.NewMessage, Drafts.draft_given, Drafts.refusal_given, PacketLines.file_sent}
 use Rattle.echo_toss.specs.PacketsIn.{state_in}
-use Rattle.law_stations.specs.Agreement.{Agrees, HasPosting, HasSystem, IsPacketFile, base_of}
-use Rattle.law_stations.specs.Nets.{Net, Paired, bytes_of, with_base, with_left}
-use Rattle.law_stations.specs.Commands.{Posts, Purges, Scans}
+use Rattle.law_stations.specs.{Agreement.Agrees, Agreement.HasPosting, Agreement.HasSystem, Agreement.IsPacketFile, Agreement.base_of, Nets.Net, Nets.Paired, Nets.bytes_of, Nets.with_base, Nets.with_left, Commands.Posts, Commands.Purges, Commands.Scans}
 use Rattle.law_stations.proofs.{Packets.scanned-fit, Pairs.paired-append, Pairs.paired-nth, Putting.puts-agree, Systems.file-fits, Systems.one-file}
 
--- the message is filed, unless it is refused
 is-filed : (file : LinkFile) (base : List Filed) (tag : List ℕ) (draft : Draft) (serial : ℕ) (stamp : Stamp) → post_refusal file base tag draft serial stamp ≡ None
     → posting file base tag draft serial stamp ≡ Some (posted file tag draft serial stamp)
 unfolding posting
@@ -89,7 +84,6 @@ post-agrees words body net new i run agrees posts =
           ];
     }))
 
--- the base of a system after a purge
 base-purged : (s : System) → purged (base_of s) ≡ base_of (purging_at s)
 unfolding steps.purged
 base-purged s = refl
@@ -113,7 +107,6 @@ purge-agrees net new i run agrees purges =
       only = λ m h. inl (record { filed = h.filed; own = h.own });
     }))
 
--- the run after a scan
 scanned_run : Run → ℕ → Stamp → System → Run
 scanned_run run i stamp s = record {
   systems = change i scanning_at run.systems;

@@ -7,16 +7,11 @@ use Rattle.echo_links.specs.{Links.LinkFile, LinkLines.LinksOf}
 use Rattle.base_file.specs.Base.{Base}
 use Rattle.model_steps.specs.{declared.packet.Packet.Packet, SystemState.SystemState, Tossing.destination_of, Tossing.sender_of}
 use Rattle.echo_toss.specs.{PacketSteps.IsForUs, PacketsIn.state_in}
-use Rattle.model_run.specs.Run.{Run, System, after_events, change, coming, delivery, destination, nth, part_delivery, receiver, state_of, taking, tossing_at, with_index}
-use Rattle.model_run.specs.Event.{Delivery, PartDelivery, RunEvent}
+use Rattle.model_run.specs.{Run.Run, Run.System, Run.after_events, Run.change, Run.coming, Run.delivery, Run.destination, Run.nth, Run.part_delivery, Run.receiver, Run.state_of, Run.taking, Run.tossing_at, Run.with_index, Event.Delivery, Event.PartDelivery, Event.RunEvent}
 use Rattle.cmd_status.specs.declared.fault.Fault.{Fault}
 use Rattle.cmd_store.specs.Coming.{Coming, Fails, Holds, Unknown}
-use Rattle.law_stations.specs.Agreement.{Agrees, AreTossesOf, HasSystem, IsPacketFile, limits_of, own_address}
-use Rattle.law_stations.specs.Nets.{Net, Paired, Station, with_base, with_indexes, with_tossed}
-use Rattle.law_stations.specs.Commands.{IsPacketAt, Tosses, whole_of}
-use Rattle.law_stations.proofs.{FileRuns.IsPartly, FileRuns.TossedFiles, FileRuns.tossed-all, FileRuns.wholes, Pairs.change-same, Pairs.change-twice, Pairs.paired-nth}
-use Rattle.law_stations.proofs.{Places.addresses-stay, Places.place-of, Putting.puts-agree, Readings.TossesFront, Readings.front-packet, Readings.one-packet, Systems.file-fits, Systems.one-file}
-use Rattle.law_stations.proofs.{Tossed.Takes, Tossed.takes-front, Unpurged.AsFiledAt, Unpurged.change-as_filed, Unpurged.tossing-as_filed}
+use Rattle.law_stations.specs.{Agreement.Agrees, Agreement.AreTossesOf, Agreement.HasSystem, Agreement.IsPacketFile, Agreement.limits_of, Agreement.own_address, Nets.Net, Nets.Paired, Nets.Station, Nets.with_base, Nets.with_indexes, Nets.with_tossed, Commands.IsPacketAt, Commands.Tosses, Commands.whole_of}
+use Rattle.law_stations.proofs.{FileRuns.IsPartly, FileRuns.TossedFiles, FileRuns.tossed-all, FileRuns.wholes, Pairs.change-same, Pairs.change-twice, Pairs.paired-nth, Places.addresses-stay, Places.place-of, Putting.puts-agree, Readings.TossesFront, Readings.front-packet, Readings.one-packet, Systems.file-fits, Systems.one-file, Tossed.Takes, Tossed.takes-front, Unpurged.AsFiledAt, Unpurged.change-as_filed, Unpurged.tossing-as_filed}
 use Rattle.model_run.proofs.HarmLists.{nth-changed as changed-there}
 
 -- the base of a state
@@ -40,11 +35,9 @@ record Tossing (Kind : List RunEvent → Type 0) (i : ℕ) (net : Net) (run : Ru
   agrees : Agrees (with_tossed net i (base_in new) whole) (after_events run events)
   as_filed : (j : ℕ) → AsFiledAt j run.systems → AsFiledAt j (after_events run events).systems
 
--- nothing happened
 nothing : (Kind : List RunEvent → Type 0) → Kind [] → (i : ℕ) (net : Net) (run : Run) (new : SystemState) → (h : Here i net run) → new ≡ state_of h.s → Tossing Kind i net run [] new
 nothing Kind none i net run new h same = grind (arith, change-same)
 
--- the receiver of a packet
 named-by : (file : LinkFile) (p : Packet) → p.header.dest_zone ≢ 0 → destination_of file p.header ≡ destination p
 named-by file p some = grind (arith, cond-false, ne_eqb)
 
@@ -90,12 +83,10 @@ taken i net run h p n bytes new is t header messages =
       as_filed = λ j. change-as_filed j i (taking p n) run.systems (λ _ x _ same. tossing-as_filed (sender_of x.file p.header) (take n p.messages) x same);
     }
 
--- the files that are not opened
 none-tossed : (indexes : List ℕ) → AreTossesOf indexes []
 none-tossed [] = refl
 none-tossed (k ∷ later) = ([], [], refl, inl refl, none-tossed later)
 
--- the file that stopped the toss
 last-file : (i k : ℕ) (later : List ℕ) (file : Coming) (files : List Coming) (net : Net) (run : Run) (new : SystemState) → (h : Here i net run)
     → IsPacketAt net.packets k file → IsPartly (file ∷ files) (state_of h.s) new → Tossing (AreTossesOf (k ∷ later)) i net run [] new
 last-file i k later (Holds bytes) files net run new h at (inl same) = nothing (AreTossesOf (k ∷ later)) (none-tossed (k ∷ later)) i net run new h same
@@ -114,7 +105,6 @@ last-file i k later (Holds bytes) files net run new h at (inr t) =
 last-file i k later (Fails path) files net run new h at same = nothing (AreTossesOf (k ∷ later)) (none-tossed (k ∷ later)) i net run new h same
 last-file i k later Unknown files net run new h at same = absurd at
 
--- all packet files of a toss
 each-toss : (n i : ℕ) (indexes : List ℕ) (files : List Coming) (net : Net) (run : Run) (new : SystemState) → (h : Here i net run)
     → Paired (IsPacketAt net.packets) indexes files → TossedFiles n files (state_of h.s) new → Tossing (AreTossesOf indexes) i net run (take n indexes) new
 each-toss n i [] (file ∷ files) net run new h are tossed = absurd are
@@ -154,7 +144,6 @@ each-toss (suc n) i (k ∷ later) (Holds bytes ∷ files) net run new h are (mid
       as_filed = λ j at. subst (λ (r : Run). AsFiledAt j (after_events r rest.events).systems) (sym becomes) (rest.as_filed j (took.as_filed j at));
     }
 
--- the number of files tossed whole
 pub same-length : (packets : List (List ℕ)) (indexes : List ℕ) (files : List Coming) → Paired (IsPacketAt packets) indexes files → length indexes ≡ length files
 same-length packets [] [] are = refl
 same-length packets [] (file ∷ files) are = absurd are

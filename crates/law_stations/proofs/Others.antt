@@ -12,18 +12,14 @@ use Rattle.model_run.specs.Run.{change, nth, with_index}
 use Rattle.model_run.proofs.Lists.{any-from, with_index-from}
 use Rattle.cmd_store.specs.{declared.drafting.NewMessage.NewMessage, Coming.Coming, Coming.Fails, Coming.Holds, Coming.Unknown, Drafts.draft_given}
 use Rattle.law_stations.specs.Commands.{Command, IsAt, IsPacketAt, Leads, Post, Posts, Purge, Purges, Toss, Tosses, whole_of}
-use Rattle.law_stations.specs.Nets.{Net, Paired, Station, with_base, with_indexes, with_left, with_posting, with_tossed}
-use Rattle.law_stations.specs.Disks.{Disks, cursor_of}
-use Rattle.law_stations.proofs.{FileRuns.IsPartly, FileRuns.TossedFiles, FileRuns.tossed-all, FileRuns.wholes, OfToss.whole-first, Pairs.change-map, Pairs.paired-nth, Counting.IsItem}
-use Rattle.law_stations.proofs.Tracking.{IsTossedAt, Tracks, still}
+use Rattle.law_stations.specs.{Nets.Net, Nets.Paired, Nets.Station, Nets.with_base, Nets.with_indexes, Nets.with_left, Nets.with_posting, Nets.with_tossed, Disks.Disks, Disks.cursor_of}
+use Rattle.law_stations.proofs.{FileRuns.IsPartly, FileRuns.TossedFiles, FileRuns.tossed-all, FileRuns.wholes, OfToss.whole-first, Pairs.change-map, Pairs.paired-nth, Counting.IsItem, Tracking.IsTossedAt, Tracking.Tracks, Tracking.still}
 
--- the cursors of stations, one of them with another base and the same cursor
 same-cursors : (i : ℕ) (station : Station) (next : Base) (stations : List Station) → nth i stations ≡ Some station → next.cursor ≡ station.base.cursor
     → map cursor_of (change i (with_base next) stations) ≡ map cursor_of stations
 same-cursors i station next stations there same =
     change-map cursor_of i (with_base next) station stations there same
 
--- the net contains the station of the disks
 there-too : (d : Disks) (net : Net) (i : ℕ) (station : Station) → d.net.stations ≡ net.stations → nth i d.net.stations ≡ Some station → nth i net.stations ≡ Some station
 there-too d net i station same there = subst (λ (ss : List Station). nth i ss ≡ Some station) same there
 
@@ -80,7 +76,6 @@ is-placed : (packets named : List (List ℕ)) (places : List ℕ) (j : ℕ) (byt
     → Placed packets places j bytes
 is-placed packets named places j bytes paired at = grind (arith, paired-nth)
 
--- the input files of `toss` are those at the indexes
 file-at : (packets named : List (List ℕ)) (places : List ℕ) (j : ℕ) (file : Coming) → Paired (IsItem packets) named places → IsPacketAt named j file → IsPacketAt packets (place_at places j) file
 file-at packets named places j file h1 h2 = grind (arith, is-placed)
 
@@ -92,7 +87,6 @@ files-at packets named places (j ∷ indexes) [] paired are = absurd are
 files-at packets named places (j ∷ indexes) (file ∷ files) paired are =
     (file-at packets named places j file paired are.0, files-at packets named places indexes files paired are.1)
 
--- a toss of packet files keeps the cursor
 partly-cursor : (packets : List (List ℕ)) (indexes : List ℕ) (files : List Coming) (old new : SystemState) → Paired (IsPacketAt packets) indexes files → IsPartly files old new
     → new.cursor ≡ old.cursor
 partly-cursor packets indexes [] old new are same = ap (λ (s : SystemState). s.cursor) same
@@ -112,7 +106,6 @@ tossed-cursor (suc n) packets (k ∷ indexes) (Holds bytes ∷ files) old new ar
 tossed-cursor (suc n) packets (k ∷ indexes) (Fails path ∷ files) old new are tossed = absurd tossed.1
 tossed-cursor (suc n) packets (k ∷ indexes) (Unknown ∷ files) old new are tossed = absurd are.0
 
--- and the files tossed whole are among them
 tossed-there : (n : ℕ) (packets : List (List ℕ)) (indexes : List ℕ) (files : List Coming) (old new : SystemState) → Paired (IsPacketAt packets) indexes files → TossedFiles n files old new
     → (j : ℕ) → Among j (take n indexes) → (bytes : List ℕ) × (nth j packets ≡ Some bytes)
 tossed-there zero packets indexes files old new are tossed j h = absurd h
@@ -125,13 +118,11 @@ tossed-there (suc n) packets (k ∷ indexes) (Holds bytes ∷ files) old new are
 tossed-there (suc n) packets (k ∷ indexes) (Fails path ∷ files) old new are tossed j h = absurd tossed.1
 tossed-there (suc n) packets (k ∷ indexes) (Unknown ∷ files) old new are tossed j h = absurd are.0
 
--- the indexes of the files tossed whole
 take-placed : (f : ℕ → ℕ) (n j : ℕ) (indexes : List ℕ) → Among j (take n indexes) → Among (f j) (take n (map f indexes))
 take-placed f zero j indexes h = absurd h
 take-placed f (suc n) j [] h = absurd h
 take-placed f (suc n) j (k ∷ indexes) h = elim h [ inl e ↦ inl (ap f e) | inr t ↦ inr (take-placed f n j indexes t) ]
 
--- an index that joins others
 joins : (k : ℕ) (ks : List ℕ) → Among k (with_index k ks)
 joins k ks = grind (arith, any-from, eqb-true)
 

@@ -1,9 +1,7 @@
 -- The contents of one station without crashes are those of its disks over crashes.
 use Rattle.std.proofs.Common.{◌≡◌, inl, inr, refl, sym, subst, List, [], ◌∷◌}
 use Rattle.model_graph.specs.Walk.{Among}
-use Rattle.law_stations.specs.LoneStations.{LoneCommand, LoneStation, PostAlone, PurgeAlone, ScanAlone, TossAny}
-use Rattle.law_stations.specs.{Nets.Paired, Nets.first_net, AloneInOrder.IsInOrderAlone, AloneInOrder.ShowsStill, AloneOverCrashes.AloneIsInOrderOverCrashes, AloneOverCrashes.AloneStaysOverCrashes}
-use Rattle.law_stations.specs.LoneDisks.{lone_disks_at_first, on_net}
+use Rattle.law_stations.specs.{LoneStations.LoneCommand, LoneStations.LoneStation, LoneStations.PostAlone, LoneStations.PurgeAlone, LoneStations.ScanAlone, LoneStations.TossAny, Nets.Paired, Nets.first_net, AloneInOrder.IsInOrderAlone, AloneInOrder.ShowsStill, AloneOverCrashes.AloneIsInOrderOverCrashes, AloneOverCrashes.AloneStaysOverCrashes, LoneDisks.lone_disks_at_first, LoneDisks.on_net}
 use Rattle.law_stations.proofs.{Stays.alone-in-order, Stays.alone-stays, EachCommand.first-tracks, EachCommand.has-net, Grown.all-grow, Crashes.IsLikeAlone, Crashes.followed-all-alone}
 
 like-purge : (command : LoneCommand) → IsLikeAlone command PurgeAlone → command ≡ PurgeAlone
@@ -12,7 +10,6 @@ like-purge (ScanAlone stamp) like = cc
 like-purge PurgeAlone like = refl
 like-purge (TossAny files) (others, like) = cc
 
--- if a purge is among the commands of the net, one is among those of the disks
 purged-too : (commands plain : List LoneCommand) → Paired IsLikeAlone commands plain → Among PurgeAlone plain → Among PurgeAlone commands
 purged-too [] [] like h = h
 purged-too [] (p ∷ plain) like h = absurd like

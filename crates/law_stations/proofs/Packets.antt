@@ -10,14 +10,12 @@ use Rattle.echo_links.specs.Links.{IsFile, LinkFile, links_of}
 use Rattle.echo_filed.specs.{Filed.Filed, Filed.IsFiled, Sets.address_before, Sets.address_set}
 use Rattle.echo_filed.proofs.{Bytes.text_no_zero, Plain.all_append, Sets.set_all}
 use Rattle.base_file.specs.Base.{IsBase}
-use Rattle.model_steps.specs.Scanning.{copy_to, goes_to, header_to, packet_to, packets_of, recipients, scanned, targets}
-use Rattle.model_steps.specs.{declared.stamp.Stamp.Stamp, PacketFiles.PacketFile}
+use Rattle.model_steps.specs.{Scanning.copy_to, Scanning.goes_to, Scanning.header_to, Scanning.packet_to, Scanning.packets_of, Scanning.recipients, Scanning.scanned, Scanning.targets, declared.stamp.Stamp.Stamp, PacketFiles.PacketFile}
 use Rattle.model_steps.proofs.Copies.{exported_is_echo, links_are_addresses, all_filter as all-filter, all_later as all-drop}
 use Rattle.model_steps.proofs.Encoding.{IsWhole, written_packet, header_size as header-long}
 use Rattle.cmd_store.specs.PacketLines.{file_sent}
 use Rattle.law_stations.specs.{Agreement.IsPacketFile, Nets.Paired, Nets.bytes_of}
 
--- parts of byte strings are byte strings
 bytes-front : (xs ys : List ℕ) → AreBytes (xs ++ ys) → AreBytes xs
 bytes-front xs ys h = subst AreBytes (take-append_seam xs ys) (AreBytes-take (length xs) (xs ++ ys) h)
 
@@ -53,7 +51,6 @@ has-bytes m h =
       text = bytes-front m.text (0 ∷ []) (bytes-behind (before Text m) (zero_ended m.text) h);
     }
 
--- the copy of a message of a base
 copy-fits : (file : LinkFile) (address : Address) (m : Filed) → IsFile file → IsAddress address → IsFiled m → HasBytes (copy_to file address m)
     → IsWhole (copy_to file address m)
 unfolding copy_to
@@ -69,7 +66,6 @@ copies-fit file address fits to (m ∷ ms) all bytes =
       copies-fit file address fits to ms all.1 (bytes-behind first later bytes),
     )
 
--- the header names a zone
 zone-named : (file : LinkFile) (stamp : Stamp) (address : Address) → IsAddress address → (header_to file stamp address).dest_zone ≢ 0
 unfolding header_to
 zone-named file stamp address to = λ e. let least = to.zone.0 in omega (arith, e, least)
@@ -98,7 +94,6 @@ packets-fit file stamp waiting n fits all [] to bytes = tt
 packets-fit file stamp waiting n fits all (a ∷ addresses) to bytes =
     (packet-fits file stamp waiting a fits to.0 all bytes.0, packets-fit file stamp waiting n fits all addresses to.1 bytes.1)
 
--- the addresses that packets go to
 targets-are : (file : LinkFile) → IsFile file → (m : Filed) → AllByRecursion IsAddress (targets file m)
 unfolding targets
 targets-are file fits m =

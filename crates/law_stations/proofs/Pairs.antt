@@ -5,7 +5,6 @@ use Rattle.model_run.specs.Run.{change, nth}
 use Rattle.law_stations.specs.Nets.{Paired}
 use Rattle.model_run.proofs.Targets.{some_same, none_some}
 
--- the other item of a pair
 pub paired-nth : {X Y : Type 0} (R : X → Y → Type 0) (i : ℕ) (x : X) (xs : List X) (ys : List Y) → Paired R xs ys → nth i xs ≡ Some x
     → (y : Y) × (nth i ys ≡ Some y) × R x y
 paired-nth R i x [] ys p h = absurd (none_some h)
@@ -34,13 +33,11 @@ paired-append R [] us (y ∷ ys) vs p q = absurd p
 paired-append R (x ∷ xs) us [] vs p q = absurd p
 paired-append R (x ∷ xs) us (y ∷ ys) vs p q = (p.0, paired-append R xs us ys vs p.1 q)
 
--- the last change counts
 pub change-twice : {X : Type 0} (i : ℕ) (f g : X → X) → ((x : X) → g (f x) ≡ g x) → (xs : List X) → change i g (change i f xs) ≡ change i g xs
 change-twice i f g last [] = refl
 change-twice {X} zero f g last (z ∷ xs) = ap (λ (y : X). y ∷ xs) (last z)
 change-twice {X} (suc i) f g last (z ∷ xs) = ap (λ (ys : List X). z ∷ ys) (change-twice i f g last xs)
 
--- an item that the change keeps
 pub change-same : {X : Type 0} (i : ℕ) (f : X → X) (x : X) (xs : List X) → nth i xs ≡ Some x → f x ≡ x → change i f xs ≡ xs
 change-same i f x [] h same = refl
 change-same {X} zero f x (z ∷ xs) h same =
@@ -48,7 +45,6 @@ change-same {X} zero f x (z ∷ xs) h same =
     ap (λ (y : X). y ∷ xs) (ap f (sym is) ∙ same ∙ is)
 change-same {X} (suc i) f x (z ∷ xs) h same = ap (λ (ys : List X). z ∷ ys) (change-same i f x xs h same)
 
--- if a function has one result for the old and the new item, the change keeps its results
 pub change-map : {X Y : Type 0} (g : X → Y) (i : ℕ) (f : X → X) (x : X) (xs : List X) → nth i xs ≡ Some x → g (f x) ≡ g x → map g (change i f xs) ≡ map g xs
 change-map g i f x [] h e = refl
 change-map {X} {Y} g zero f x (z ∷ xs) h e =

@@ -50,7 +50,6 @@ module _ (IsAt IsStaged : PacketFile → Type 0) (i cursor most : ℕ) where
         staging_paths = rest.staging_paths;
       }
 
-  -- one packet waits
   one-waits : (p : PacketFile) (ps : List PacketFile) (before : List StagingFile) (net : Net) → IsStaged p
       → Parted IsAt IsStaged i cursor (before ++ staging_of i cursor p ∷ []) net ps → Parted IsAt IsStaged i cursor before net (p ∷ ps)
   one-waits p ps before net staging rest =

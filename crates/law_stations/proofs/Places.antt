@@ -10,7 +10,6 @@ use Rattle.model_run.specs.{Event.RunEvent, Run.Run, Run.System, Run.after_event
 use Rattle.model_run.proofs.{Lists.nth-among, Lists.yes_or_no, Lists.Among-map_to, WholeRuns.along, WholeRuns.event-files, WholeRuns.files_of, Targets.some_same, Targets.none_some}
 use Rattle.law_stations.specs.Agreement.{file_address, own_address}
 
--- the first system of its address is the only one
 pub place-of : (i : ℕ) (s : System) (a : Address) (all : List System) → Different (map own_address all) → nth i all ≡ Some s → own_address s ≡ a
     → position_or_len (λ (x : System). same_address x.file.system a) all ≡ i
 place-of i s a [] apart there named = absurd (none_some there)
@@ -31,7 +30,6 @@ place-of (suc i) s a (z ∷ all) apart there named =
           omega (arith, step, rest)
     ]
 
--- the link files of a run stay
 pub files-stay : (events : List RunEvent) (run : Run) → files_of (after_events run events) ≡ files_of run
 files-stay events run = along (λ r. files_of r ≡ files_of run) (λ r e same. event-files r e ∙ same) events run refl
 

@@ -14,7 +14,6 @@ IsPurge other = ⊥
 purge-or-same : (s : LoneSystem) (event : LoneEvent) → IsPurge event ⊎ ((after_lone s event).purged_to ≡ s.purged_to)
 purge-or-same s event = grind arith
 
--- if more was purged, a purge was run
 pub purge-among : (events : List LoneEvent) (s : LoneSystem) → s.purged_to < (after_all_lone s events).purged_to → (e : LoneEvent) × Among e events × IsPurge e
 purge-among [] s h = absurd (omega arith)
 purge-among (event ∷ later) s h =
@@ -29,7 +28,6 @@ take-longer m (suc n) zero ms h i = absurd (omega arith)
 take-longer m (suc n) (suc c) [] h i = absurd i
 take-longer m (suc n) (suc c) (x ∷ ms) h i = elim i [ inl e ↦ inl e | inr t ↦ inr (take-longer m n c ms (omega arith) t) ]
 
--- a message of a base, after a purge of the first ones
 left-first : (m : Filed) (n : ℕ) (ms : List Filed) → Among m (purged ms n) →
     (h : Filed) × Among h ms × ((m ≡ h) ⊎ ((0 < n) × Among m (take n (purged ms n)) × (m ≡ stub_of h)))
 left-first m zero ms i = (m, (let P : List Filed → Type 0 = λ ns. Among m ns in subst P (purged-none ms) i), inl refl)
@@ -44,7 +42,6 @@ left-first m (suc n) (x ∷ ms) i =
           (h, inr j, elim left [ inl same ↦ inl same | inr stub ↦ inr (omega arith, subst Q back (inr stub.1), stub.2) ]))
     ]
 
--- a message of a base, by the range of the last purge and the scanned messages
 pub left-scanned : (m : Filed) (n c : ℕ) (base history : List Filed) → base ≡ purged history n → n ≤ c → Among m base →
     (h : Filed) × Among h history × ((m ≡ h) ⊎ ((0 < n) × Among m (take c base) × (m ≡ stub_of h)))
 left-scanned m n c base history same room i =

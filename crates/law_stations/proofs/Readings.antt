@@ -1,8 +1,7 @@
 -- Bytes read as one packet. A toss of them tosses messages at their beginning.
 use Rattle.std.proofs.Common.{◌≡◌, ◌⊎◌, inl, inr, sym, ◌∙◌, ℕ, ◌+◌, ◌≤◌, arith, append-nil, append_assoc, List, [], ◌∷◌, ◌++◌, length, take, Option, Some, None, Result, Ok, Err}
 use Rattle.std.specs.List.{AllByRecursion}
-use Rattle.echo_packet.specs.{declared.header.Header.Header, declared.limits.Limits.Limits, Header.header_bytes, Header.word}
-use Rattle.echo_packet.specs.{Message.AreMessages, Message.IsMessage, Message.Message, Message.messages_bytes, Packet.PacketOf}
+use Rattle.echo_packet.specs.{declared.header.Header.Header, declared.limits.Limits.Limits, Header.header_bytes, Header.word, Message.AreMessages, Message.IsMessage, Message.Message, Message.messages_bytes, Packet.PacketOf}
 use Rattle.echo_packet.specs.declared.fault.PacketFault.TheVariants as fault
 use Rattle.model_steps.specs.{SystemState.SystemState, Tossing.sender_of, Tossing.tossed}
 use Rattle.echo_toss.specs.PacketSteps.{BeginsWith, IsForUs, PacketStep, TossesAll, TossesPart, TossesSome}
@@ -31,12 +30,10 @@ record Fronts (a b : Limits) (ms all : List Message) : Type 0 where
 fronts : (a b : Limits) (ms all : List Message) → AreMessages a ms → AreMessages b all → Fronts a b ms all
 fronts a b ms all are other = grind (arith, all-wider)
 
--- a packet at the beginning of bytes, part by part
 spread : (limits : Limits) (header : Header) (messages : List Message) (bytes front behind : List ℕ) → PacketOf limits header messages front
     → bytes ≡ front ++ behind → bytes ≡ header_bytes header ++ (messages_bytes messages ++ (word 0 ++ behind))
 spread limits header messages bytes front behind packet parts = grind (arith, append_assoc)
 
--- bytes begin with one packet
 pub one-in_front : (a b : Limits) (h k : Header) (ms all : List Message) (bytes front behind other rest : List ℕ) → PacketOf a h ms front → bytes ≡ front ++ behind
     → PacketOf b k all other → bytes ≡ other ++ rest → (k ≡ h) × (all ≡ ms)
 one-in_front a b h k ms all bytes front behind other rest is parts has same =
@@ -45,12 +42,10 @@ one-in_front a b h k ms all bytes front behind other rest is parts has same =
     let f = fronts a b ms all is.messages has.messages in
     (one.0, (one_list (both a b) 0 ms all behind rest f.mine f.theirs f.room f.more one.1).0)
 
--- and bytes are one packet
 pub one-packet : (a b : Limits) (h k : Header) (ms all : List Message) (bytes came left : List ℕ) → PacketOf a h ms bytes → PacketOf b k all came → bytes ≡ came ++ left
     → (k ≡ h) × (all ≡ ms)
 one-packet a b h k ms all bytes came left is other same = one-in_front a b h k ms all bytes bytes [] came left is (sym (append-nil bytes)) other same
 
--- the messages at the beginning of a packet's bytes
 pub front-packet : (a b : Limits) (h k : Header) (ms all : List Message) (bytes : List ℕ) → PacketOf a h ms bytes → BeginsWith b k all bytes
     → (k ≡ h) × ((n : ℕ) × (n ≤ length ms) × (all ≡ take n ms))
 front-packet a b h k ms all bytes is begins =

@@ -5,20 +5,15 @@ use Rattle.std.specs.Prelude.{OnOk}
 use Rattle.base_file.specs.Base.{Base}
 use Rattle.disk_io.specs.Disk.{DiskState}
 use Rattle.echo_links.specs.{Links.LinkFile, LinkLines.LinksOf}
-use Rattle.cmd_store.specs.{declared.drafting.NewMessage.NewMessage, declared.answering.Answer.Answer, Coming.Coming, declared.letter.Letter.Letter, declared.mailed.MailWords.MailWords}
-use Rattle.cmd_store.specs.{MailPosted.Mails, MailPosted.MailsOn, declared.command_error.CommandError.CommandError, FreeSerial.PostsAs, FreeSerial.PostsAsOn}
+use Rattle.cmd_store.specs.{declared.drafting.NewMessage.NewMessage, declared.answering.Answer.Answer, Coming.Coming, declared.letter.Letter.Letter, declared.mailed.MailWords.MailWords, MailPosted.Mails, MailPosted.MailsOn, declared.command_error.CommandError.CommandError, FreeSerial.PostsAs, FreeSerial.PostsAsOn}
 use Rattle.cmd_store.specs.{Purged.HoldsOrPurges, Purged.Purges, Purged.PurgesOn, Replied.Replies, Replied.RepliesOn, Tossed.Tosses, Tossed.TossesIn, Tossed.TossesTo}
 use Rattle.echo_packet.specs.declared.limits.Limits.{Limits}
 use Rattle.cmd_status.specs.{declared.fault.Fault.Fault, Devices.Device, Devices.Output}
 use Rattle.echo_toss.specs.PacketsIn.{state_in}
 use Rattle.station.specs.{Place.KeepsElsewhere, Place.Place, Running.IsKept, Running.RunsIn}
-use Rattle.law_stations.specs.OnDisks.{AsMay, IsAfterToss, IsStationAt, ReadsLinks, StaysWhereMet, TossesAsEvent, TossesAsMay}
-use Rattle.law_stations.specs.{Commands.IsPacketAt, Commands.TossesAll, Commands.whole_of, Kinds.IsPurge, Kinds.IsToss, Nets.Paired, Nets.with_indexes, Disks.Disks}
-use Rattle.law_stations.specs.DiskKinds.{IsMail, IsPostAs, IsReplyAs}
-use Rattle.law_stations.proofs.Events.{holding-or-purging, mailing, posting-as, purging, replying, tossing}
-use Rattle.law_stations.proofs.Leading.{does, is-after, says-so, stays}
+use Rattle.law_stations.specs.{OnDisks.AsMay, OnDisks.IsAfterToss, OnDisks.IsStationAt, OnDisks.ReadsLinks, OnDisks.StaysWhereMet, OnDisks.TossesAsEvent, OnDisks.TossesAsMay, Commands.IsPacketAt, Commands.TossesAll, Commands.whole_of, Kinds.IsPurge, Kinds.IsToss, Nets.Paired, Nets.with_indexes, Disks.Disks, DiskKinds.IsMail, DiskKinds.IsPostAs, DiskKinds.IsReplyAs}
+use Rattle.law_stations.proofs.{Events.holding-or-purging, Events.mailing, Events.posting-as, Events.purging, Events.replying, Events.tossing, Leading.does, Leading.is-after, Leading.says-so, Leading.stays}
 
--- the packets tossed whole, by the answer of the toss
 delivered-so : (indexes delivered : List ℕ) (stopped answer : Option Fault) (behind left : List Coming) → stopped ≡ answer → behind ≡ left
     → with_indexes (whole_of (take (length indexes) indexes) stopped behind) delivered ≡ with_indexes (whole_of indexes answer left) delivered
 delivered-so indexes delivered stopped answer behind left is is_left = grind (arith, take_all)
@@ -82,7 +77,6 @@ module _ (place : Place) (Reads : LinkFile → Type 0) (IsShut Stops : Fault →
       abbrev base : Base
       base = at.shows.station.base
 
-      -- if it ended well
       ended : (answer : Option Fault) → result ≡ Ok answer → TossRuns → IsAfterToss indexes left place links i d new answer
       ended answer ok (inl run) =
           let says = says-so place links i d old new at kept Reads read run.file run.read in

@@ -14,16 +14,11 @@ use Rattle.cmd_store.specs.{Scanned.ScansOn, declared.command_error.CommandError
 use Rattle.echo_toss.specs.PacketsIn.{state_in}
 use Rattle.station.specs.{Place.KeepsElsewhere, Place.Place, Place.RepresentsOrWasLeft, Running.IsNotRun, Running.IsStopped}
 use Rattle.station_scan.specs.Scanning.{AreSentOut, IsOnItsWay, IsPreparing, IsPutAs, IsPutIn, IsTaken, IsTouched, MayLeave, ScansIn, StopsScanIn, ReportsStop, packets_in}
-use Rattle.station_scan.specs.{Left.IsLeftOf, Publishing.UnchangedExcept, Sending.HasBytes, Sending.IsStagingOfPacket, Sending.IsOfPacket, Sending.IsWhole, Sends.IsOfThese}
-use Rattle.station_scan.specs.{Stops.IsOfPlacing, Stops.as_scan, Stops.most, declared.scan_error.ScanError.ScanError}
-use Rattle.station_scan.specs.declared.scan_error.ScanError.TheVariants.{Command, Staying}
-use Rattle.law_stations.specs.Scans.{AreAfterScan, IsAfterScan, IsAtPath, IsStagingPath, ScansAsEvent, ScansAsMay, with_packets_in}
-use Rattle.law_stations.specs.{Nets.Station, Nets.bytes_of, Nets.with_base, Nets.with_left, Disks.Disks, Disks.HasCursor, Disks.cursor_of}
-use Rattle.law_stations.specs.{Stopping.EndsSome, Stopping.HasNoneStaged, Stopping.Moves, Stopping.staging_of, OnDisks.IsLinkedOn, OnDisks.IsStationAt, OnDisks.ReadsLinks, OnDisks.ShowsStation}
+use Rattle.station_scan.specs.{Left.IsLeftOf, Publishing.UnchangedExcept, Sending.HasBytes, Sending.IsStagingOfPacket, Sending.IsOfPacket, Sending.IsWhole, Sends.IsOfThese, Stops.IsOfPlacing, Stops.as_scan, Stops.most, declared.scan_error.ScanError.ScanError, declared.scan_error.ScanError.TheVariants.Command, declared.scan_error.ScanError.TheVariants.Staying}
+use Rattle.law_stations.specs.{Scans.AreAfterScan, Scans.IsAfterScan, Scans.IsAtPath, Scans.IsStagingPath, Scans.ScansAsEvent, Scans.ScansAsMay, Scans.with_packets_in, Nets.Station, Nets.bytes_of, Nets.with_base, Nets.with_left, Disks.Disks, Disks.HasCursor, Disks.cursor_of, Stopping.EndsSome, Stopping.HasNoneStaged, Stopping.Moves, Stopping.staging_of, OnDisks.IsLinkedOn, OnDisks.IsStationAt, OnDisks.ReadsLinks, OnDisks.ShowsStation}
 use Rattle.law_stations.proofs.{Elsewhere.some-stations, Moving.some-waits, Parted.Parted, Parted.all-named, Parted.parted, Whole.disks_with, Whole.with_packets}
 use Rattle.model_run.proofs.{HarmLists.nth-changed as changed-there, Targets.some_same, Targets.none_some}
 
--- the files of earlier scans have no path outside the paths that a scan touches
 left-away : (is_true : Type 0) (Own : List ℕ → Type 0) (outbound own : List ℕ) (found : List Left) → All (IsLeftOf is_true Own outbound own) found → (m : List ℕ) → (IsTouched Own outbound m → ⊥) → IsOfLeft found m → ⊥
 left-away is_true Own outbound own found each m away (l, has, is) = by (All-contains (IsLeftOf is_true Own outbound own) found l each has) is
   where
@@ -31,7 +26,6 @@ left-away is_true Own outbound own found each m away (l, has, is) = by (All-cont
     by (name, called, numbered) (inl e) = away (inr (own, (name, called.plain, inl (e ∙ called.staging))))
     by (name, called, numbered) (inr e) = away (inr (own, (name, called.plain, inr (e ∙ called.path))))
 
--- nor is the path that is tried outside these paths, nor are the packets of a scan
 tried-away : (Own : List ℕ → Type 0) (outbound own : List ℕ) (m : List ℕ) → (IsTouched Own outbound m → ⊥) → m ≡ staging_path outbound own → ⊥
 tried-away Own outbound own m away is =
     away (inr (own, ([], λ k d lt. absurd (omega (arith, lt)), inl (is ∙ ap (λ (l : List ℕ). staging_path l own) (sym (append-nil outbound))))))
@@ -47,7 +41,6 @@ staging-away Own outbound own files m away (inr is) = tried-away Own outbound ow
 these-away : (Own : List ℕ → Type 0) (outbound own : List ℕ) (files : List PacketFile) (m : List ℕ) → (IsTouched Own outbound m → ⊥) → IsOfThese Own outbound own files m → ⊥
 these-away Own outbound own files m away these = ⊎_elim (λ (of : Own m). away (inl of)) (λ (of : IsOfPacket outbound own files m). sent-away Own outbound own files m away of) these
 
--- the cursor of a station
 cursor-at : (stations : List Station) (i : ℕ) (station : Station) → nth i stations ≡ Some station → nth i (map cursor_of stations) ≡ Some station.base.cursor
 cursor-at [] i station there = absurd (none_some there)
 cursor-at (s ∷ stations) zero station there = ap (λ (t : Station). Some t.base.cursor) (some_same there)
@@ -70,7 +63,6 @@ module _ (stamp : Stamp) (place : Place) (links outbound : List ℕ) (i : ℕ) (
   keeps-elsewhere : KeepsElsewhere (with_packets_in outbound place) old new
   keeps-elsewhere = record { seen = kept.seen; named = kept.named; flushed = kept.flushed; alone = kept.alone; honest = kept.honest }
 
-  -- the station is unchanged
   as-it-was : (c : Files) → c links ≡ old.seen links → place.represents base c → ShowsStation place links i c d
   as-it-was c linked represented =
       record { station = at.shows.station; there = at.shows.there; of_links = linked ∙ at.shows.of_links; represented = represented }
@@ -120,7 +112,6 @@ module _ (stamp : Stamp) (place : Place) (links outbound : List ℕ) (i : ℕ) (
     abbrev moved : Disks
     moved = disks_with (with_left ended.net i [] next) (ended.staging ++ map (staging_of i base.cursor) files)
 
-    -- the disks have the station after the files of stopped scans are finished
     there : nth i ended.net.stations ≡ Some at.shows.station
     there = ap (nth i) (some-stations n i d ended ends) ∙ at.shows.there
 
@@ -167,7 +158,6 @@ module _ (stamp : Stamp) (place : Place) (links outbound : List ℕ) (i : ℕ) (
         }
 
     module _ (IsTrue : Files → Type 0) (failed : Type 0) (result : Result (Unit {0}) ScanError) (put : IsPutIn place outbound own IsTrue failed old new base files result) where
-      -- files during the scan
       way-away : (c : Files) → IsOnItsWay place outbound own old base put.found files put.opened c → SameAway c
       way-away c (inl prepares) m off named flushed = prepares-away own files put.found (IsTrue put.opened) put.each c prepares m off named flushed
       way-away c (inr commits) m off named flushed =
@@ -222,7 +212,6 @@ module _ (stamp : Stamp) (place : Place) (links outbound : List ℕ) (i : ℕ) (
                   record { station = scan.shows.station; there = scan.shows.there; of_links = left-links c now ∙ at.shows.of_links; represented = sent.on_disk c now };
             }
 
-      -- the answer is no fault of the command
       placed : (fault : Fault) → result ≡ Err (Command (Met fault)) → ⊥
       placed fault is = subst (λ (r : Result (Unit {0}) ScanError). IfErr r (IsOfPlacing failed (IsTaken place.is_own outbound own base.cursor put.found files put.opened) (most < base.cursor))) is put.why
 
@@ -249,7 +238,6 @@ module _ (stamp : Stamp) (place : Place) (links outbound : List ℕ) (i : ℕ) (
       → ((c : Files) → P c → old.may_leave c ⊎ ShowsStation place links i c d) → Lasts result → ScansAsEvent stamp place links outbound i d ended base old new result
   stopped-so result why P is leaves same shows lasts = grind (arith, ⊎_elim, same-links, still-linked, keeps-elsewhere)
 
-  -- the reported fault
   reported-as : (own : List ℕ) (files : List PacketFile) (failed : Type 0) (before after : Files) (why : CommandError) (result : Result (Unit {0}) ScanError) → ReportsStop failed outbound own files before after why result
       → (cause : ScanError) × (result ≡ Err cause)
   reported-as own files failed before after why result (inl (is, gone)) = (Command why, is)

@@ -7,8 +7,7 @@ use Rattle.cmd_status.specs.{declared.fault.Fault.Fault, Devices.Output}
 use Rattle.model_steps.specs.{PacketFiles.PacketFile, declared.stamp.Stamp.Stamp}
 use Rattle.cmd_store.specs.declared.command_error.CommandError.{CommandError, TheVariants.Met}
 use Rattle.station.specs.{Place.Place, Running.IsNotRun, Running.IsStopped}
-use Rattle.station_scan.specs.{Publishing.UnchangedExcept, Scanning.IsPutAs, Scanning.IsTaken, Scanning.IsTouched, Scanning.ScansIn, Stops.IsOfPlacing, Stops.as_scan, Stops.most}
-use Rattle.station_scan.specs.declared.scan_error.ScanError.{ScanError, TheVariants.Command}
+use Rattle.station_scan.specs.{Publishing.UnchangedExcept, Scanning.IsPutAs, Scanning.IsTaken, Scanning.IsTouched, Scanning.ScansIn, Stops.IsOfPlacing, Stops.as_scan, Stops.most, declared.scan_error.ScanError.ScanError, declared.scan_error.ScanError.TheVariants.Command}
 use Rattle.law_stations.specs.{Disks.Disks, OnDisks.IsAsBefore, OnDisks.IsLinkedOn, OnDisks.IsStationAt, OnDisks.ShowsStation, Scans.StaysWhereScanMet}
 
 module _ (place : Place) (outbound links : List ℕ) (i : ℕ) (d : Disks) (old new : DiskState) (at : IsStationAt place links i old d) (kept : UnchangedExcept (IsTouched place.is_own outbound) old new)
@@ -26,7 +25,6 @@ module _ (place : Place) (outbound links : List ℕ) (i : ℕ) (d : Disks) (old 
   }
 
   module _ (IsTrue : Files → Type 0) (IsShut Stops : Fault → Type 0) (failed : Type 0) (result : Result (Unit {0}) ScanError) (fault : Fault) (is : result ≡ Err (Command (Met fault))) where
-    -- no placing meets a fault
     put-so : (own : List ℕ) (packets : List PacketFile) (made : Result (List PacketFile) CommandError) → IsPutAs place outbound own IsTrue failed old new at.shows.station.base packets made result → IsAsBefore place links i d new
     put-so own packets (Ok files) put = absurd (subst (λ (r : Result (Unit {0}) ScanError). IfErr r (IsOfPlacing failed (IsTaken place.is_own outbound own at.shows.station.base.cursor put.found files put.opened) (most < at.shows.station.base.cursor))) is put.why)
     put-so own packets (Err why) put = as-before put.shown (λ c left. (put.lasts c left).2.represented)

@@ -5,11 +5,9 @@ use Rattle.disk_io.specs.Disk.{DiskState, Files}
 use Rattle.model_steps.specs.declared.stamp.Stamp.{Stamp}
 use Rattle.station.specs.Place.{Place}
 use Rattle.station_scan.specs.{Scanning.IsTouched, declared.scan_error.ScanError.ScanError}
-use Rattle.law_stations.specs.{Commands.Scan, Disks.Disks, OnDisks.LeavesElsewhere, OnDisks.ShowsStation, Scans.AreAfterScan, Scans.ScansAsEvent, Scans.with_packets_in, Asked.GoesOnCut}
-use Rattle.law_stations.specs.{Scanned.IsScan, Scanned.ScanGoesOn, Scanned.ScansGoOn, Scanned.TossesGoOn, Seats.Seat, Seats.reach, Steps.IsAllOnDisk}
+use Rattle.law_stations.specs.{Commands.Scan, Disks.Disks, OnDisks.LeavesElsewhere, OnDisks.ShowsStation, Scans.AreAfterScan, Scans.ScansAsEvent, Scans.with_packets_in, Asked.GoesOnCut, Scanned.IsScan, Scanned.ScanGoesOn, Scanned.ScansGoOn, Scanned.TossesGoOn, Seats.Seat, Seats.reach, Steps.IsAllOnDisk}
 use Rattle.law_stations.proofs.GoingOn.{reaches-by}
 
--- a path that a scan touches belongs to the base or the folder of packets
 touched : {Kept : Type 0} (place : Kept → Place) (seat : Seat Kept) (m : List ℕ) → IsTouched (place seat.kept).is_own seat.outbound m → (reach place seat).is_own m
 touched place seat m h1 = grind (arith, append_assoc)
 

@@ -4,10 +4,7 @@ use Rattle.std.proofs.lemmas.Bool.{cases_eq}
 use Rattle.disk_io.specs.Disk.{DiskState, Files}
 use Rattle.model_run.specs.Run.{change, nth}
 use Rattle.station.specs.Place.{Place}
-use Rattle.law_stations.specs.Seats.{AreNeighbours, AreSeated, IsShared, Seat, RepresentsSeat, reach}
-use Rattle.law_stations.specs.Steps.{HasCrashed, HasEnded, IsAllOnDisk, IsOn, MayLead, WasCut}
-use Rattle.law_stations.specs.{Commands.Command, Commands.CommandEvent, Commands.Purge, Disks.Disks, Stopping.MayHappen, Neighbours.RepresentsOnDisk, Neighbours.StaysOnDisk}
-use Rattle.law_stations.specs.OnDisks.{LeavesElsewhere, ShowsStation}
+use Rattle.law_stations.specs.{Seats.AreNeighbours, Seats.AreSeated, Seats.IsShared, Seats.Seat, Seats.RepresentsSeat, Seats.reach, Commands.Command, Commands.CommandEvent, Commands.Purge, Disks.Disks, Stopping.MayHappen, Neighbours.RepresentsOnDisk, Neighbours.StaysOnDisk, OnDisks.LeavesElsewhere, OnDisks.ShowsStation, Steps.HasCrashed, Steps.HasEnded, Steps.IsAllOnDisk, Steps.IsOn, Steps.MayLead, Steps.WasCut}
 use Rattle.law_stations.proofs.{Elsewhere.change-other, Elsewhere.elsewhere, Neighbours.others-stay}
 use Rattle.model_run.proofs.{HarmLists.nth-changed as changed-there, Targets.some_same}
 
@@ -16,7 +13,6 @@ abbrev shows-too : (place : Place) (links : List ℕ) (i : ℕ) (c : Files) (d n
     → ShowsStation place links i c next
 shows-too place links i c d next same shows = record { station = shows.station; there = same ∙ shows.there; of_links = shows.of_links; represented = shows.represented }
 
--- a station on the disk is in the files that a crash leaves
 shown-on : (place : Place) (links : List ℕ) (i : ℕ) (disk : DiskState) (d : Disks) → RepresentsOnDisk place links i disk d → (c : Files) → disk.may_leave c → ShowsStation place links i c d
 shown-on place links i disk d s c left = grind arith
 
@@ -33,7 +29,6 @@ may-happen i None d next same = inl same
 may-happen i (Some command) d next leads = inr leads
 
 module _ {D Kept : Type 0} (state : D → DiskState) (place : Kept → Place) (seats : List (Seat Kept)) (near : AreNeighbours place seats) where
-  -- a station is unchanged on another disk
   moved : (j : ℕ) (b : Seat Kept) (disk : DiskState) (d next : Disks) → nth j next.net.stations ≡ nth j d.net.stations → RepresentsSeat place seats j b disk d → RepresentsSeat place seats j b disk next
   moved j b disk d next same s = record {
     at = record { shows = shows-too (place b.kept) b.links j disk.seen d next same s.at.shows; linked = s.at.linked; outside = s.at.outside };
@@ -41,7 +36,6 @@ module _ {D Kept : Type 0} (state : D → DiskState) (place : Kept → Place) (s
     kept = s.kept;
   }
 
-  -- a disk that begins with the state that a crash left
   anew : (j : ℕ) (b : Seat Kept) (begun : DiskState) (d : Disks) → nth j seats ≡ Some b → ((place b.kept).is_own b.links → ⊥) → IsAllOnDisk begun
       → ShowsStation (place b.kept) b.links j begun.seen d → RepresentsSeat place seats j b begun d
   anew j b begun d is outside all shows = record {

@@ -3,12 +3,10 @@ use Rattle.std.proofs.Common.{inr, sym, subst, ℕ, List, [], ◌∷◌, Option,
 use Rattle.disk_io.specs.Disk.{DiskState}
 use Rattle.station.specs.Place.{Place}
 use Rattle.law_stations.specs.Steps.{Crashes, Ends, Goes, GoesBy, GoesOn, Happening, IsCut, MayLead, Step, after, after_all, commands_by, commands_of, with_command}
-use Rattle.law_stations.specs.{AnyDisks.disks_at, Commands.Command, Commands.CommandEvent, Disks.Disks, Stopping.MayHappenAll, Seats.AreNeighbours, Seats.AreSeated, Seats.Seat}
-use Rattle.law_stations.specs.Sequences.{HeadlineFromAnySequences, SequencesAreAmong}
+use Rattle.law_stations.specs.{AnyDisks.disks_at, Commands.Command, Commands.CommandEvent, Disks.Disks, Stopping.MayHappenAll, Seats.AreNeighbours, Seats.AreSeated, Seats.Seat, Sequences.HeadlineFromAnySequences, Sequences.SequencesAreAmong}
 use Rattle.law_stations.proofs.{AnyDisks.headline-from-any-disks, Seated.crashed, Seated.cut, Seated.ended}
 
 module _ {D Kept : Type 0} (state : D → DiskState) (place : Kept → Place) (seats : List (Seat Kept)) (near : AreNeighbours place seats) where
-  -- one step
   stepped : (step : Step D) (disks : List D) (d next : Disks) → AreSeated state place seats disks d → Goes state place seats step disks d next
       → AreSeated state place seats (after step disks) next
   stepped step disks d next seated goes = by step.what goes.by
@@ -18,7 +16,6 @@ module _ {D Kept : Type 0} (state : D → DiskState) (place : Kept → Place) (s
       by (IsCut i command whole) (seat, on, w) = cut state place seats near step.disk goes.old step.then disks d next goes.there seated i command whole seat on w
       by Crashes (same, h) = crashed state place seats near step.disk goes.old step.then disks d next goes.there seated same h
 
-  -- its command, and those of later steps
   led : (i : ℕ) (command : Option Command) (later : List CommandEvent) (d next last : Disks) → MayLead command i d next → MayHappenAll later next last
       → MayHappenAll (with_command i command later) d last
   led i None later d next last same rest = subst (λ (x : Disks). MayHappenAll later x last) same rest

@@ -8,19 +8,15 @@ use Rattle.echo_filed.specs.{declared.key.Key.Key, Filed.Filed}
 use Rattle.model_steps.specs.declared.packet.Packet.{Packet}
 use Rattle.model_run.specs.{Orderly.copies, Orderly.count, Orderly.sent_count, Run.destination, Run.nth}
 use Rattle.model_run.proofs.{Lists.nth-among, HarmLists.nth-map}
-use Rattle.law_stations.specs.Commands.{Command, CommandEvent, Post, Purge, Scan, Toss}
-use Rattle.law_stations.specs.InOrder.{IsSound, IsUnchanged, ReadsAs, StationHolds, WasPurged}
-use Rattle.law_stations.specs.{OverCrashes.HasNet, OverCrashes.IsLike, OverCrashes.IsLikeEvent, OverCrashes.SoundOverCrashes, Nets.Net, Nets.Paired, Nets.Station, Disks.Disks}
+use Rattle.law_stations.specs.{Commands.Command, Commands.CommandEvent, Commands.Post, Commands.Purge, Commands.Scan, Commands.Toss, OverCrashes.HasNet, OverCrashes.IsLike, OverCrashes.IsLikeEvent, OverCrashes.SoundOverCrashes, Nets.Net, Nets.Paired, Nets.Station, Disks.Disks, InOrder.IsSound, InOrder.IsUnchanged, InOrder.ReadsAs, InOrder.StationHolds, InOrder.WasPurged}
 use Rattle.law_stations.proofs.{Pairs.paired-among, Pairs.paired-nth, Readings.one-packet, Sound.nets-are-sound, Counting.IsItem, Counting.picked-total, Counting.total, EachCommand.crashes-are-none}
 
--- a command like a purge is a purge
 like-purge : (command : Command) → IsLike command Purge → command ≡ Purge
 like-purge (Post words body) like = cc
 like-purge (Scan stamp) like = cc
 like-purge Purge like = refl
 like-purge (Toss indexes) (others, like) = cc
 
--- if a purge is among the commands of the net, one is among those of the disks
 purged-too : (commands plain : List CommandEvent) (i : ℕ) → Paired IsLikeEvent commands plain → WasPurged plain i → WasPurged commands i
 purged-too [] [] i like h = h
 purged-too [] (p ∷ plain) i like h = absurd like
@@ -44,7 +40,6 @@ unchanged-too commands plain i messages cursor m posting like (inr left) = inr (
   same = left.same;
 })
 
--- bytes are read as one packet
 reads-once : (bytes : List ℕ) (p q : Packet) → ReadsAs bytes p → ReadsAs bytes q → q ≡ p
 reads-once bytes p q (a, is) (b, other) =
     let one = one-packet a b p.header q.header p.messages q.messages bytes bytes [] is other (sym (append-nil bytes)) in
@@ -58,7 +53,6 @@ sent-total : (address : Address) (key : Key) (ps : List Packet) → sent_count a
 sent-total address key [] = refl
 sent-total address key (p ∷ ps) = ap (λ (n : ℕ). weight address key p + n) (sent-total address key ps)
 
--- each of some packets is at its index among others
 picked-weights : (w : Packet → ℕ) (files some : List (List ℕ)) (places : List ℕ) (ps qs : List Packet) → Paired (IsItem files) some places → Paired ReadsAs files ps
     → Paired ReadsAs some qs → Paired (IsItem (map w ps)) (map w qs) places
 picked-weights w files [] [] ps [] picked read other = tt
@@ -79,7 +73,6 @@ sent-less address key files some places ps qs picked apart read other =
     let less = picked-total (map w ps) (map w qs) places (picked-weights w files some places ps qs picked read other) apart in
     omega (arith, less, sent-total address key ps, sent-total address key qs)
 
--- a station has the same contents in nets with the same stations
 pub holds-too : (net other : Net) (i : ℕ) (file : LinkFile) (messages : List Filed) (cursor : ℕ) → net.stations ≡ other.stations → StationHolds net i file messages cursor
     → StationHolds other i file messages cursor
 holds-too net other i file messages cursor same holds = record {

@@ -4,20 +4,15 @@ use Rattle.model_graph.specs.Walk.{Among}
 use Rattle.echo_links.specs.Links.{IsFile, LinkFile}
 use Rattle.echo_filed.specs.Filed.{Filed, key_of}
 use Rattle.model_steps.specs.{declared.packet.Packet.Packet, SystemState.SystemState}
-use Rattle.model_run.specs.Run.{Run, System, after_events, fresh, nth, start}
-use Rattle.model_run.specs.{Fits.FilesFit, Orderly.SameContent, Orderly.count, Orderly.tag_of, Keeping.Content}
+use Rattle.model_run.specs.{Run.Run, Run.System, Run.after_events, Run.fresh, Run.nth, Run.start, Fits.FilesFit, Orderly.SameContent, Orderly.count, Orderly.tag_of, Keeping.Content}
 use Rattle.model_run.proofs.{Areas.key-tag, EachSystem.run-kept, Lists.nth-among, Lists.Among-map_from, Origins.run-traced, WholeRuns.run-ok, TosserLaws.the_laws, Bases.filed-once}
 use Rattle.cmd_status.specs.Inputs.{AreLinkFiles}
-use Rattle.law_stations.specs.InOrder.{IsSound, IsUnchanged, NetsAreSound, ReadsAs, StationHolds}
-use Rattle.law_stations.specs.{Agreement.Agrees, Agreement.HasSystem, Agreement.IsPacketFile, Agreement.limits_of, Commands.CommandEvent, Nets.Net}
-use Rattle.law_stations.proofs.{EachEvent.LedAll, EachEvent.led-from-first, Pairs.paired-among, Pairs.paired-nth, Systems.file-fits, Systems.said-once, Systems.says-so}
-use Rattle.law_stations.proofs.Unpurged.{AsFiledAt, IsAsFiled, kept-where}
+use Rattle.law_stations.specs.{InOrder.IsSound, InOrder.IsUnchanged, InOrder.NetsAreSound, InOrder.ReadsAs, InOrder.StationHolds, Agreement.Agrees, Agreement.HasSystem, Agreement.IsPacketFile, Agreement.limits_of, Commands.CommandEvent, Nets.Net}
+use Rattle.law_stations.proofs.{EachEvent.LedAll, EachEvent.led-from-first, Pairs.paired-among, Pairs.paired-nth, Systems.file-fits, Systems.said-once, Systems.says-so, Unpurged.AsFiledAt, Unpurged.IsAsFiled, Unpurged.kept-where}
 
--- a packet file reads as the packet of the run
 pub reads : (bytes : List ℕ) (p : Packet) → IsPacketFile bytes p → ReadsAs bytes p
 reads bytes p is = (limits_of bytes, is.packet)
 
--- systems begin empty
 first-as_filed : (files : List LinkFile) (i : ℕ) → AsFiledAt i (start files).systems
 first-as_filed files i s there =
     let (file, h, e) = Among-map_from fresh s files (nth-among i s (start files).systems there) in
@@ -98,7 +93,6 @@ module _ (commands : List CommandEvent) (net : Net) (files : List LinkFile) (fit
         (from-posting i at.s at.at);
   }
 
--- link files that are read
 pub files-fit : (links : List (List ℕ)) (files : List LinkFile) → AreLinkFiles links files → FilesFit files
 files-fit [] [] are file there = absurd there
 files-fit [] (f ∷ files) are file there = absurd are

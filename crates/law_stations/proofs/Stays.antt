@@ -8,10 +8,8 @@ use Rattle.echo_links.specs.Links.{IsFile, LinkFile}
 use Rattle.echo_filed.specs.{Filed.Filed, Stubs.stub_of}
 use Rattle.model_steps.specs.{declared.packet.Packet.Packet, Purging.purged}
 use Rattle.model_run.specs.{Run.nth, Lone.LoneEvent, Lone.LoneSystem, Lone.lone_run}
-use Rattle.model_run.proofs.Filings.{purged-cons, purged-empty, purged-none, run-left, events-purged, run-append, run-lasts}
-use Rattle.model_run.proofs.{Lists.nth-append, Targets.some_same, Targets.none_some}
-use Rattle.law_stations.specs.{Agreement.IsPacketFile, Nets.Paired, AloneInOrder.AloneIsInOrder, AloneInOrder.AloneStays, AloneInOrder.ShowsStill}
-use Rattle.law_stations.specs.LoneStations.{LoneCommand, LoneStation, PurgeAlone}
+use Rattle.model_run.proofs.{Filings.purged-cons, Filings.purged-empty, Filings.purged-none, Filings.run-left, Filings.events-purged, Filings.run-append, Filings.run-lasts, Lists.nth-append, Targets.some_same, Targets.none_some}
+use Rattle.law_stations.specs.{Agreement.IsPacketFile, Nets.Paired, AloneInOrder.AloneIsInOrder, AloneInOrder.AloneStays, AloneInOrder.ShowsStill, LoneStations.LoneCommand, LoneStations.LoneStation, LoneStations.PurgeAlone}
 use Rattle.law_stations.proofs.{Systems.file-fits, Purgings.purge-among, Alone.IsLone, LoneShown.in-order, LoneShown.stood, Steps.AreOfCommands, Steps.commands-lone, Steps.run-lone}
 
 -- the stub at an index
@@ -31,7 +29,6 @@ left-at (suc n) (suc i) (x ∷ ms) m e =
       elim left [ inl l ↦ inl (omega (arith, l.0), l.1) | inr l ↦ inr (omega (arith, l.0), l.1) ],
     )
 
--- and the message that a purge leaves there
 leaves-at : (n i : ℕ) (ms : List Filed) (h : Filed) → nth i ms ≡ Some h → (m : Filed) × (nth i (purged ms n) ≡ Some m) × IsLeftAt n i h m
 leaves-at zero i ms h e = (h, ap (λ (ns : List Filed). nth i ns) (purged-none ms) ∙ e, inr (omega arith, refl))
 leaves-at (suc n) i [] h e = absurd (none_some e)
@@ -44,7 +41,6 @@ leaves-at (suc n) (suc i) (x ∷ ms) h e =
       elim left [ inl l ↦ inl (omega (arith, l.0), l.1) | inr l ↦ inr (omega (arith, l.0), l.1) ],
     )
 
--- packet files are the bytes of packets
 packets-are : (files : List (List ℕ)) (ps : List Packet) → Paired IsPacketFile files ps → files ≡ map (λ (p : Packet). packet_bytes p.header p.messages) ps
 packets-are [] [] paired = refl
 packets-are [] (p ∷ ps) paired = absurd paired
@@ -71,7 +67,6 @@ module _ (file : LinkFile) (fits : IsFile file) (s new : LoneStation) (events ad
       let (e, i, p) = purge-among added now (subst P (run-append file events added) h) in
       of_since e i p
 
-  -- the message at an index
   message-stays : (i : ℕ) (m : Filed) → nth i now.system.base ≡ Some m →
       (nth i then.system.base ≡ Some m) ⊎ (Among PurgeAlone since × (i < then.system.cursor) × (nth i then.system.base ≡ Some (stub_of m)))
   message-stays i m e =

@@ -7,14 +7,11 @@ use Rattle.model_graph.proofs.Members.{Among-append_cases, Among-append_left, Am
 use Rattle.echo_links.specs.{Links.LinkFile, LinkLines.LinksOf}
 use Rattle.model_steps.specs.{declared.stamp.Stamp.Stamp, Scanning.scanned, Stamps.is_stamp, SystemState.SystemState}
 use Rattle.echo_toss.specs.PacketsIn.{state_in}
-use Rattle.model_run.specs.Run.{Run, change, nth, scanning_at, state_of}
-use Rattle.model_run.specs.Lone.{IsOfPackets, LoneEvent, LoneSystem, PostHere, PurgeHere, ScanHere, TossHere, after_lone, lone_run, with_scanned, with_system}
+use Rattle.model_run.specs.{Run.Run, Run.change, Run.nth, Run.scanning_at, Run.state_of, Lone.IsOfPackets, Lone.LoneEvent, Lone.LoneSystem, Lone.PostHere, Lone.PurgeHere, Lone.ScanHere, Lone.TossHere, Lone.after_lone, Lone.lone_run, Lone.with_scanned, Lone.with_system}
 use Rattle.cmd_store.specs.{Coming.Coming, Drafts.draft_given}
 use Rattle.law_stations.specs.LoneStations.{HappenAlone, LeadsAlone, LoneCommand, LoneStation, NothingCame, PostAlone, PurgeAlone, ScanAlone, TossAny, TossesAny, held_in, lone_station_at_first, tossed_whole}
 use Rattle.law_stations.specs.{Agreement.Agrees, Agreement.HasSystem, Agreement.IsPacketFile, Nets.Paired, Nets.Station, Nets.with_left}
-use Rattle.law_stations.proofs.Tosses.{IsTossFrom, IsTossedBy, TossesFrom, files-tossed, front-plain, whole-first}
-use Rattle.law_stations.proofs.{FileRuns.TossedFiles, FileRuns.tossed-all, FileRuns.wholes, OfEvents.post-agrees, OfEvents.purge-agrees, OfEvents.scan-agrees, Putting.puts-agree}
-use Rattle.law_stations.proofs.{Systems.file-fits, Systems.one-file, Purgings.IsPurge, Alone.IsLone, Alone.first-lone, Alone.lone-more, Alone.run_alone}
+use Rattle.law_stations.proofs.{Tosses.IsTossFrom, Tosses.IsTossedBy, Tosses.TossesFrom, Tosses.files-tossed, Tosses.front-plain, Tosses.whole-first, FileRuns.TossedFiles, FileRuns.tossed-all, FileRuns.wholes, OfEvents.post-agrees, OfEvents.purge-agrees, OfEvents.scan-agrees, Putting.puts-agree, Systems.file-fits, Systems.one-file, Purgings.IsPurge, Alone.IsLone, Alone.first-lone, Alone.lone-more, Alone.run_alone}
 use Rattle.model_run.proofs.Filings.{run-file}
 
 -- an event that is no toss
@@ -99,7 +96,6 @@ module _ (files : List Coming) (file : LinkFile) (s new : LoneStation) (events :
         only = λ m h. inl (t.posted m h);
       })
 
-  -- the events have the link file of the station
   from-file : (e : LoneEvent) → Among e made.events → IsTossFrom file held e
   from-file e h = (let P : LinkFile → Type 0 = λ f. IsTossFrom f held e in subst P (run-file file events) (made.from e h))
 
@@ -139,7 +135,6 @@ no-purge-from file files (TossHere sender messages) from h = h
 no-purge-from file files (ScanHere stamp) from h = h
 no-purge-from file files PurgeHere from h = from
 
--- a command that ends well
 leads-step : (file : LinkFile) (s new : LoneStation) (events : List LoneEvent) (command : LoneCommand) → IsLone file s events → LeadsAlone command s new →
     (added : List LoneEvent) × IsLone file new (events ++ added) × AreOfCommands (command ∷ []) added
 leads-step file s new events (PostAlone words body) lone (posts, same) =
@@ -170,7 +165,6 @@ leads-step file s new events (TossAny files) lone tosses =
       λ e i h. absurd (no-purge-from file (held_in files) e (from-file files file s new events lone tosses e i) h),
     )
 
--- and commands, one after another
 pub commands-lone : (file : LinkFile) (commands : List LoneCommand) (s new : LoneStation) (events : List LoneEvent) → IsLone file s events → HappenAlone commands s new →
     (added : List LoneEvent) × IsLone file new (events ++ added) × AreOfCommands commands added
 commands-lone file [] s new events lone same =

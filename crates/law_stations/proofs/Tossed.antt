@@ -9,8 +9,7 @@ use Rattle.echo_packet.specs.Message.{IsMessage, Message}
 use Rattle.echo_links.specs.Links.{IsFile, LinkFile}
 use Rattle.echo_filed.specs.Filed.{Filed, HasSmallSender}
 use Rattle.base_file.specs.Base.{IsBase}
-use Rattle.model_steps.specs.Tossing.{sender_of, received, tossed, tossing, zone_of}
-use Rattle.model_steps.specs.SystemState.{SystemState}
+use Rattle.model_steps.specs.{Tossing.sender_of, Tossing.received, Tossing.tossed, Tossing.tossing, Tossing.zone_of, SystemState.SystemState}
 use Rattle.model_steps.proofs.{Received.tossing_received, Kept.tossing_keeps}
 use Rattle.model_run.specs.Run.{System, filing, state_of, tossing_at}
 use Rattle.model_run.proofs.{StandingRuns.tossing-state, Targets.none_some}
@@ -40,7 +39,6 @@ takes-both s mid now a b t u = record {
   base = u.base;
 }
 
--- its history is longer
 filing-longer : (o : Option Filed) (s : System) (m : Filed) → Among m s.history → Among m (filing s o).history
 filing-longer None s m h = h
 filing-longer (Some x) s m h = Among-append_left m s.history (x ∷ []) h
@@ -50,7 +48,6 @@ tossing-longer sender [] s m h = h
 tossing-longer sender (q ∷ ms) s m h =
     tossing-longer sender ms (filing s (tossing s.file s.base sender q)) m (filing-longer (tossing s.file s.base sender q) s m h)
 
--- each of its postings was posted before
 filing-posted : (s : System) (o : Option Filed) (m : Filed) → ((x : Filed) → o ≡ Some x → x.sender ≡ None → ⊥) → HasPosting m (filing s o) → HasPosting m s
 filing-posted s None m other has = has
 filing-posted s (Some x) m other has = elim (Among-append_cases m s.history (x ∷ []) has.filed) [
@@ -72,7 +69,6 @@ tossing-posted sender (q ∷ ms) s m has =
     no-posting sender q (ap (λ (y : Filed). y.sender) (sym (tossing_received s.file s.base sender q x e).1) ∙ own))
     (tossing-posted sender ms (filing s (tossing s.file s.base sender q)) m has)
 
--- a base stays a base
 tossed-base : (most : ℕ) (file : LinkFile) (sender : Address) → HasSmallSender (Some sender) → (ms : List Message) → AllByRecursion (IsMessage most) ms
     → (base : List Filed) (cursor : ℕ) → IsBase base cursor → IsBase (tossed file base sender ms) cursor
 tossed-base most file sender small [] all base cursor is = is
@@ -83,11 +79,9 @@ tossed-base most file sender small (q ∷ ms) all base cursor is =
     one None e = subst (λ (l : List Filed). IsBase l cursor) (sym (append-nil base)) is
     one (Some m) e = tossing_keeps most file base cursor sender q m small all.0 is e
 
--- the sender of a packet has numbers of two bytes
 small-zone : (file : LinkFile) (zone : ℕ) → IsFile file → zone < 2 ^ 16 → zone_of file zone < 2 ^ 16
 small-zone file zone fits small = grind (arith, cases_Bool, cond-true, cond-false)
 
--- messages at the beginning of bytes
 pub takes-front : (bytes : List ℕ) (s : System) (new : SystemState) → IsFile s.file → IsBase s.base s.cursor → (t : TossesFront bytes (state_of s) new)
     → Takes s (tossing_at (sender_of s.file t.header) t.messages s) new
 takes-front bytes s new fits base t =

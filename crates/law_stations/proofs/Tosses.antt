@@ -10,15 +10,13 @@ use Rattle.echo_links.specs.Links.{IsFile, LinkFile}
 use Rattle.base_file.specs.Base.{IsBase}
 use Rattle.model_steps.specs.{SystemState.SystemState, Tossing.sender_of}
 use Rattle.echo_toss.specs.PacketSteps.{BeginsWith}
-use Rattle.model_run.specs.Lone.{LoneEvent, LoneSystem, TossHere, after_all_lone, with_system}
-use Rattle.model_run.specs.Run.{System, state_of, tossing_at}
+use Rattle.model_run.specs.{Lone.LoneEvent, Lone.LoneSystem, Lone.TossHere, Lone.after_all_lone, Lone.with_system, Run.System, Run.state_of, Run.tossing_at}
 use Rattle.cmd_status.specs.declared.fault.Fault.{Fault}
 use Rattle.cmd_store.specs.Coming.{Coming, Fails, Holds, Unknown}
 use Rattle.law_stations.proofs.{FileRuns.IsPartly, FileRuns.TossedFiles, FileRuns.wholes, Readings.TossesFront, Tossed.Takes, Tossed.takes-both, Tossed.takes-front, Tossed.takes-none}
 use Rattle.model_run.proofs.Filings.{events-append}
 use Rattle.law_stations.specs.{AloneInOrder.FaultlessTossIsWhole, LoneStations.AreAnyFiles, LoneStations.held_in, LoneStations.tossed_whole}
 
--- no text at the beginning of bytes has a byte 00
 pub front-plain : (bytes : List ℕ) (limits : Limits) (header : Header) (messages : List Message) → BeginsWith limits header messages bytes
     → (packed : Message) → Among packed messages → HasNoZero packed.text
 front-plain bytes limits header messages begins packed h = each messages begins.are_messages.each packed h
@@ -91,7 +89,6 @@ fronted bytes more whole z new fits base t all =
       becomes = λ s e. ap (λ (x : System). with_system s (tossing_at sender t.messages x)) e;
     }
 
--- with more files, and with more events
 more-files : (file : LinkFile) (files others : List (List ℕ)) (event : LoneEvent) → ((b : List ℕ) → Among b files → Among b others)
     → IsTossFrom file files event → IsTossFrom file others event
 more-files file files others event h1 h2 = grind arith
@@ -100,7 +97,6 @@ pub more-events : (file : LinkFile) (events others : List LoneEvent) (bytes : Li
     → IsTossedBy file events bytes → IsTossedBy file others bytes
 more-events file events others bytes more by = grind arith
 
--- one toss after another
 joined : (bytes : List ℕ) (later first whole : List (List ℕ)) (z : System) (mid new : SystemState) → (t : TossesFrom (bytes ∷ []) first z mid)
     → TossesFrom later whole t.now new → TossesFrom (bytes ∷ later) (first ++ whole) z new
 joined bytes later first whole z mid new t u =
@@ -126,7 +122,6 @@ joined bytes later first whole z mid new t u =
           ∙ (ap (λ (x : LoneSystem). after_all_lone x u.events) (t.becomes s e) ∙ u.becomes (with_system s t.now) refl);
     }
 
--- the file that stopped the run, if one did
 last-file : (files : List Coming) (z : System) (new : SystemState) → AreAnyFiles files → IsFile z.file → IsBase z.base z.cursor → IsPartly files (state_of z) new
     → TossesFrom (held_in files) [] z new
 last-file [] z new any fits base same = nothing [] z new base same
@@ -161,11 +156,9 @@ files-tossed (suc n) (Holds bytes ∷ files) z new any fits base (mid, whole, mo
     let rest = subst (λ (x : SystemState). TossedFiles n files x new) (sym t.takes.is) more in
     joined bytes (held_in files) (bytes ∷ []) (held_in (take n files)) z mid new t (files-tossed n files t.now new any (subst IsFile (sym t.takes.file) fits) t.takes.base rest)
 
--- the number of files tossed whole
 pub whole-first : (files : List Coming) (stopped : Option Fault) (left : List Coming) → take (wholes (length files) stopped left) files ≡ tossed_whole files stopped left
 whole-first files None left = take_all (length files) files (omega arith)
 whole-first files (Some fault) left = refl
 
--- all files, if there was no fault
 pub faultless-whole : FaultlessTossIsWhole
 faultless-whole files s new toss none = grind arith

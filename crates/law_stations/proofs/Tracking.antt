@@ -2,8 +2,7 @@
 use Rattle.std.proofs.Common.{◌≡◌, ◌⊎◌, inl, inr, refl, sym, ap, ◌∙◌, ℕ, ◌+◌, ◌≤◌, ◌<◌, true, false, List, [], ◌∷◌, ◌++◌, length, map, Option, Some, None, arith}
 use Rattle.model_graph.specs.Walk.{Among}
 use Rattle.model_run.specs.Run.{nth}
-use Rattle.law_stations.specs.Disks.{StagingFile, Disks, HasCursor, cursor_of, cursors}
-use Rattle.law_stations.specs.Nets.{Net, Paired, Station}
+use Rattle.law_stations.specs.{Disks.StagingFile, Disks.Disks, Disks.HasCursor, Disks.cursor_of, Disks.cursors, Nets.Net, Nets.Paired, Nets.Station}
 use Rattle.law_stations.proofs.Counting.{IsItem, below, times, waits}
 use Rattle.model_run.proofs.HarmLists.{nth-map}
 
@@ -17,7 +16,7 @@ IsTagged packets at file (Some k) = (nth k packets ≡ Some file.bytes) × (file
 abbrev pub IsTossedAt : List ℕ → List ℕ → ℕ → Type 0
 IsTossedAt places delivered j = (k : ℕ) × (nth j places ≡ Some k) × Among k delivered
 
--- the same stations and postings. Each packet of the net has its name or waits for it, exactly once
+-- with equal stations and postings. Each packet of the net has its name or waits for it, exactly once
 pub record Tracks (d : Disks) (net : Net) : Type 0 where
   pub stations : d.net.stations ≡ net.stations
   pub postings : d.net.postings ≡ net.postings
@@ -28,11 +27,9 @@ pub record Tracks (d : Disks) (net : Net) : Type 0 where
   pub each : (k : ℕ) → times k places + waits k tags ≡ below k (length net.packets)
   pub tossed : (j : ℕ) → Among j d.net.delivered → IsTossedAt places net.delivered j
 
--- a station of a net has the cursor of its base
 pub has-cursor : (net : Net) (i : ℕ) (station : Station) → nth i net.stations ≡ Some station → HasCursor net i station.base.cursor
 has-cursor net i station there = nth-map cursor_of i station net.stations there
 
--- and nets with the same stations have the same cursors
 pub cursor-too : (net other : Net) (i c : ℕ) → net.stations ≡ other.stations → HasCursor net i c → HasCursor other i c
 cursor-too net other i c same has = ap (λ (ss : List Station). nth i (map cursor_of ss)) (sym same) ∙ has
 
@@ -62,7 +59,6 @@ paired-around {X} {Y} R (w ∷ xs) x zs (y ∷ ys) p =
       after = rest.after;
     }
 
--- pairs with another relation too
 pub paired-so : {X Y : Type 0} (R S : X → Y → Type 0) (xs : List X) (ys : List Y) → ((x : X) (y : Y) → Among x xs → R x y → S x y) → Paired R xs ys → Paired S xs ys
 paired-so R S [] [] so p = tt
 paired-so R S [] (y ∷ ys) so p = absurd p

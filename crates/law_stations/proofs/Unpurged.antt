@@ -25,12 +25,10 @@ tossing-as_filed sender [] s same = same
 tossing-as_filed sender (q ∷ ms) s same =
     tossing-as_filed sender ms (filing s (tossing s.file s.base sender q)) (filing-as_filed s (tossing s.file s.base sender q) same)
 
--- a change of some system that keeps the filed messages
 pub change-as_filed : (i j : ℕ) (f : System → System) (systems : List System) → (j ≡ i → (s : System) → nth j systems ≡ Some s → IsAsFiled s → IsAsFiled (f s))
     → AsFiledAt i systems → AsFiledAt i (change j f systems)
 change-as_filed i j f systems keeps at z there = grind (arith, nth-change)
 
--- a message of a base is unchanged, or is a stub before the cursor
 pub kept-where : (c : ℕ) (base history : List Filed) → Kept c base history → (m : Filed) → Among m base
     → (filed : Filed) × Among filed history × IsKept m filed × ((m ≡ filed) ⊎ (Among m (take c base) × (m ≡ stub_of filed)))
 kept-where zero base history k m h =

@@ -5,16 +5,13 @@ use Rattle.model_graph.specs.Walk.{Among}
 use Rattle.model_steps.specs.{declared.stamp.Stamp.Stamp, PacketFiles.PacketFile}
 use Rattle.base_store.specs.Store.{all_scanned}
 use Rattle.law_stations.specs.Commands.{Command, CommandEvent, Happen, Leads, Post, Purge, Scan, Scans, Toss, Tosses}
-use Rattle.law_stations.specs.Stopping.{EndsOne, EndsSome, PartialEffect, MayHappen, MayHappenAll, Moves, ScansFar, staging_of}
-use Rattle.law_stations.specs.{Nets.Net, Nets.bytes_of, Nets.first_net, Nets.with_left, Disks.StagingFile, Disks.Disks, Disks.HasCursor, Disks.with_packet}
-use Rattle.law_stations.specs.OverCrashes.{WholeAreAmong, disks_of}
+use Rattle.law_stations.specs.{Stopping.EndsOne, Stopping.EndsSome, Stopping.PartialEffect, Stopping.MayHappen, Stopping.MayHappenAll, Stopping.Moves, Stopping.ScansFar, Stopping.staging_of, Nets.Net, Nets.bytes_of, Nets.first_net, Nets.with_left, Disks.StagingFile, Disks.Disks, Disks.HasCursor, Disks.with_packet, OverCrashes.WholeAreAmong, OverCrashes.disks_of}
 use Rattle.law_stations.proofs.{Moving.now-cursor, Moving.scans-less, Tracking.has-cursor}
 
 -- the net with more packet files
 abbrev pub with_packets : Net → List (List ℕ) → Net
 with_packets net more = record { stations = net.stations; packets = net.packets ++ more; delivered = net.delivered; postings = net.postings }
 
--- these disks
 abbrev pub disks_with : Net → List StagingFile → Disks
 disks_with net staging = record { net = net; staging = staging }
 
@@ -23,7 +20,6 @@ pub gets-name : (i c most : ℕ) (p : PacketFile) (ps : List PacketFile) (before
     → EndsOne i (disks_with net (before ++ map (staging_of i c) (p ∷ ps))) (disks_with (with_packet net p.bytes) (before ++ map (staging_of i c) ps))
 gets-name i c most p ps before net has less = grind arith
 
--- all get their names, one after another
 all-named : (i c most : ℕ) (ps : List PacketFile) (net : Net) → HasCursor net i most → ((q : PacketFile) → Among q ps → c < most)
     → EndsSome (length ps) i (disks_with net (map (staging_of i c) ps)) (disks_of (with_packets net (map bytes_of ps)))
 all-named i c most [] net has less = λ j. disks_of (record {
@@ -43,7 +39,6 @@ all-named i c most (p ∷ ps) net has less =
       subst P (append_assoc net.packets (p.bytes ∷ []) (map bytes_of ps)) rest,
     )
 
--- a scan moves the cursor, and all its packets get their names
 scan-far : (stamp : Stamp) (i : ℕ) (net new : Net) → Scans stamp net i new → ScansFar stamp i (disks_of net) (disks_of new)
 scan-far stamp i net new scans =
     let station = scans.station in

@@ -7,8 +7,7 @@ use Rattle.echo_links.specs.{Links.LinkFile, LinkLines.LinksOf}
 use Rattle.echo_filed.specs.Filed.{Filed}
 use Rattle.base_file.specs.Base.{Base, IsBase}
 use Rattle.model_steps.specs.declared.packet.Packet.{Packet}
-use Rattle.model_run.specs.Event.{Delivery, PartDelivery, Posting, Purging, RunEvent, Scanning}
-use Rattle.model_run.specs.Run.{Run, System, after_events, run_of}
+use Rattle.model_run.specs.{Event.Delivery, Event.PartDelivery, Event.Posting, Event.Purging, Event.RunEvent, Event.Scanning, Run.Run, Run.System, Run.after_events, Run.run_of}
 use Rattle.cmd_status.specs.Inputs.{AreLinkFiles}
 use Rattle.cmd_store.specs.Drafts.{draft_given}
 use Rattle.law_stations.specs.Commands.{Command, CommandEvent, Happen, Happens, Post, Purge, Scan, Toss}

@@ -1,8 +1,7 @@
 -- The promise about the disks of one station, for any bytes that it received and any stops of its commands.
 use Rattle.std.specs.Prelude.{◌≡◌, ℕ, List, ◌++◌, Ok}
 use Rattle.echo_links.specs.{Links.LinkFile, LinkLines.LinksOf}
-use Rattle.law_stations.specs.{Nets.Net, AloneInOrder.IsInOrderAlone, AloneInOrder.ShowsStill, LoneStations.LoneCommand, OverCrashes.HasNet}
-use Rattle.law_stations.specs.LoneDisks.{LoneDisks, MayHappenAllAlone, lone_disks_at_first, on_net}
+use Rattle.law_stations.specs.{Nets.Net, AloneInOrder.IsInOrderAlone, AloneInOrder.ShowsStill, LoneStations.LoneCommand, OverCrashes.HasNet, LoneDisks.LoneDisks, LoneDisks.MayHappenAllAlone, LoneDisks.lone_disks_at_first, LoneDisks.on_net}
 
 -- The disks have a net of the station alone that is in order after these commands. Its packets are those of the scans
 -- that moved the cursor. Each has its name or will get it.

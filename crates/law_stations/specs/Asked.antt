@@ -5,8 +5,7 @@ use Rattle.disk_io.specs.Disk.{DiskState}
 use Rattle.cmd_store.specs.declared.{drafting.NewMessage.NewMessage, answering.Answer.Answer, letter.Letter.Letter, mailed.MailWords.MailWords, command_error.CommandError.CommandError}
 use Rattle.cmd_status.specs.declared.fault.Fault.{Fault}
 use Rattle.station.specs.Place.{Place}
-use Rattle.law_stations.specs.{Commands.Command, Kinds.IsPurge, Kinds.IsToss, Disks.Disks, DiskKinds.IsMail, DiskKinds.IsPostAs, DiskKinds.IsReplyAs, Neighbours.IsKeptOn}
-use Rattle.law_stations.specs.{OnDisks.RefinesEvent, OnDisks.IsAsBefore, Seats.IsShared, Seats.Seat, Seats.RepresentsSeat, Steps.HasEnded, Steps.IsAllOnDisk, Steps.WasCut}
+use Rattle.law_stations.specs.{Commands.Command, Kinds.IsPurge, Kinds.IsToss, Disks.Disks, DiskKinds.IsMail, DiskKinds.IsPostAs, DiskKinds.IsReplyAs, Neighbours.IsKeptOn, OnDisks.RefinesEvent, OnDisks.IsAsBefore, Seats.IsShared, Seats.Seat, Seats.RepresentsSeat, Steps.HasEnded, Steps.IsAllOnDisk, Steps.WasCut}
 
 -- A request to a station.
 pub data Asked : Type 0 where

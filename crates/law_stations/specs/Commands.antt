@@ -9,8 +9,7 @@ use Rattle.model_run.specs.Run.{nth}
 use Rattle.cmd_status.specs.{declared.fault.Fault.Fault, Devices.Device}
 use Rattle.base_store.specs.Store.{all_scanned, purged}
 use Rattle.echo_toss.specs.PacketsIn.{state_in}
-use Rattle.cmd_store.specs.{declared.drafting.NewMessage.NewMessage, Coming.Coming, Coming.Fails, Coming.Holds, Coming.Unknown, Drafts.draft_given, PacketLines.file_sent}
-use Rattle.cmd_store.specs.{TossRuns.TossesEachBy, TossRuns.run_begun, TossedPacket.TossRun, TossedPacket.TossesPacketBy}
+use Rattle.cmd_store.specs.{declared.drafting.NewMessage.NewMessage, Coming.Coming, Coming.Fails, Coming.Holds, Coming.Unknown, Drafts.draft_given, PacketLines.file_sent, TossRuns.TossesEachBy, TossRuns.run_begun, TossedPacket.TossRun, TossedPacket.TossesPacketBy}
 use Rattle.cmd_store.specs.Posted as store
 use Rattle.law_stations.specs.Nets.{Net, Paired, Station, with_left, with_posting, with_tossed}
 

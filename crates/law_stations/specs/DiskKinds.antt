@@ -2,8 +2,7 @@
 use Rattle.std.specs.Prelude.{◌≡◌, ℕ, Bool, true, false, List, Some, slice_get}
 use Rattle.base_file.specs.Base.{Base}
 use Rattle.echo_filed.specs.Filed.{Filed}
-use Rattle.cmd_store.specs.{declared.drafting.NewMessage.NewMessage, declared.answering.Answer.Answer, AnswerWords.IsReply, declared.letter.Letter.Letter, declared.mailed.MailWords.MailWords}
-use Rattle.cmd_store.specs.Mailed.{IsPosting}
+use Rattle.cmd_store.specs.{declared.drafting.NewMessage.NewMessage, declared.answering.Answer.Answer, AnswerWords.IsReply, declared.letter.Letter.Letter, declared.mailed.MailWords.MailWords, Mailed.IsPosting}
 use Rattle.law_stations.specs.{Commands.Command, Kinds.IsPost, Kinds.IsPostWith}
 
 -- The posting of these words; if a free serial is searched, with some serial.

@@ -58,7 +58,7 @@ with_left net i packets base = record {
   postings = net.postings;
 }
 
--- The same, and this message was posted.
+-- This message was posted at the station.
 abbrev pub with_posting : Net → ℕ → Base → Filed → Net
 with_posting net i base m = record {
   stations = change i (with_base base) net.stations;
@@ -67,7 +67,7 @@ with_posting net i base m = record {
   postings = net.postings ++ m ∷ [];
 }
 
--- The same, and the packets of these indexes were tossed whole.
+-- The packets of these indexes were tossed whole at the station.
 abbrev pub with_tossed : Net → ℕ → Base → List ℕ → Net
 with_tossed net i base whole = record {
   stations = change i (with_base base) net.stations;

@@ -104,7 +104,7 @@ pub record TossesAsEvent (indexes : List ℕ) (left : List Coming) (place : Plac
   pub does : RefinesEvent (IsToss indexes) place links i d old new result
   pub ends : (answer : Option Fault) → result ≡ Ok answer → IsAfterToss indexes left place links i d new answer
 
--- The same at any station of a net, if these are the packet files of these indexes, and the others are left of them.
+-- At any station of a net, if these are the packet files of these indexes, and the others are left of them.
 abbrev pub TossesAsMay : List Coming → List Coming → Place → (LinkFile → Type 0) → DiskState → DiskState → Result (Option Fault) CommandError → Type 0
 TossesAsMay files left place Reads old new result = (indexes : List ℕ) (i : ℕ) (d : Disks) (links : List ℕ) → Paired (IsPacketAt d.net.packets) indexes files → ReadsLinks Reads links old
     → IsStationAt place links i old d → TossesAsEvent indexes left place links i d old new result

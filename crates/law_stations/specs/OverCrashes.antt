@@ -4,9 +4,7 @@ use Rattle.cmd_status.specs.Inputs.{AreLinkFiles}
 use Rattle.model_graph.specs.Walk.{Among, Different}
 use Rattle.echo_links.specs.Links.{LinkFile}
 use Rattle.model_run.specs.Run.{nth}
-use Rattle.law_stations.specs.Commands.{Command, CommandEvent, Happen, Post, Purge, Scan, Toss}
-use Rattle.law_stations.specs.{InOrder.IsSound, Agreement.file_address, Nets.Net, Nets.Paired, Nets.first_net, Disks.StagingFile, Disks.Disks, Disks.HasCursor, Disks.first_disks}
-use Rattle.law_stations.specs.Stopping.{MayHappenAll}
+use Rattle.law_stations.specs.{Commands.Command, Commands.CommandEvent, Commands.Happen, Commands.Post, Commands.Purge, Commands.Scan, Commands.Toss, InOrder.IsSound, Agreement.file_address, Nets.Net, Nets.Paired, Nets.first_net, Disks.StagingFile, Disks.Disks, Disks.HasCursor, Disks.first_disks, Stopping.MayHappenAll}
 
 -- A temporary file that did not get its name yet, after its scan moved the cursor: the next scan of the station will
 -- name it.
@@ -30,7 +28,7 @@ pub record HasNet (d : Disks) (net : Net) : Type 0 where
       Among k places ⊎ ((file : StagingFile) × IsToBeNamed d file × (file.bytes ≡ bytes))
   pub tossed : (j k : ℕ) → nth j places ≡ Some k → Among j d.net.delivered → Among k net.delivered
 
--- The same command; a toss may be of other packets.
+-- A toss may be of other packets.
 abbrev pub IsLike : Command → Command → Type 0
 IsLike (Post words body) plain = plain ≡ Post words body
 IsLike (Scan stamp) plain = plain ≡ Scan stamp

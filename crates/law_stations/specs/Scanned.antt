@@ -6,8 +6,7 @@ use Rattle.model_steps.specs.declared.stamp.Stamp.{Stamp}
 use Rattle.cmd_store.specs.{Coming.Coming, declared.command_error.CommandError.CommandError}
 use Rattle.station.specs.Place.{Place}
 use Rattle.station_scan.specs.declared.scan_error.ScanError.{ScanError}
-use Rattle.law_stations.specs.{Commands.Command, Commands.Scan, Commands.whole_of, Kinds.IsToss, Nets.with_indexes, Disks.Disks, OnDisks.IsAsBefore, OnDisks.TossesAsEvent, Scans.ScansAsEvent}
-use Rattle.law_stations.specs.{Asked.GoesOnCut, Asked.GoesOnEnded, Asked.IsKeptWhereShared, Seats.Seat, Seats.RepresentsSeat, Steps.HasEnded, Steps.IsAllOnDisk}
+use Rattle.law_stations.specs.{Commands.Command, Commands.Scan, Commands.whole_of, Kinds.IsToss, Nets.with_indexes, Disks.Disks, OnDisks.IsAsBefore, OnDisks.TossesAsEvent, Scans.ScansAsEvent, Asked.GoesOnCut, Asked.GoesOnEnded, Asked.IsKeptWhereShared, Seats.Seat, Seats.RepresentsSeat, Steps.HasEnded, Steps.IsAllOnDisk}
 
 -- The packets that a toss tossed whole are delivered.
 pub record GoesOnTossed {Kept : Type 0} (place : Kept → Place) (seats : List (Seat Kept)) (seat : Seat Kept) (i : ℕ) (indexes : List ℕ) (answer : Option Fault) (left : List Coming) (d : Disks) (old new : DiskState) : Type 0 where

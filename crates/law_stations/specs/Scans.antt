@@ -10,8 +10,7 @@ use Rattle.model_steps.specs.{PacketFiles.PacketFile, declared.stamp.Stamp.Stamp
 use Rattle.cmd_store.specs.declared.command_error.CommandError.TheVariants.{Met}
 use Rattle.station.specs.Place.{Place}
 use Rattle.station_scan.specs.{Scanning.IsTouched, declared.scan_error.ScanError.ScanError, declared.scan_error.ScanError.TheVariants.Command}
-use Rattle.law_stations.specs.OnDisks.{IsAsBefore, IsLinkedOn, IsStationAt, LeavesElsewhere, ReadsLinks, ShowsStation}
-use Rattle.law_stations.specs.{Commands.Scan, Nets.bytes_of, Disks.Disks, Stopping.EndsSome, Stopping.HasNoneStaged, Stopping.PartialEffect, Stopping.staging_of}
+use Rattle.law_stations.specs.{OnDisks.IsAsBefore, OnDisks.IsLinkedOn, OnDisks.IsStationAt, OnDisks.LeavesElsewhere, OnDisks.ReadsLinks, OnDisks.ShowsStation, Commands.Scan, Nets.bytes_of, Disks.Disks, Stopping.EndsSome, Stopping.HasNoneStaged, Stopping.PartialEffect, Stopping.staging_of}
 
 -- The packet is whole at its path.
 abbrev pub IsAtPath : List ℕ → Files → PacketFile → Type 0
@@ -67,7 +66,7 @@ pub record ScansAsEvent (stamp : Stamp) (place : Place) (links outbound : List �
   -- Everything elsewhere is unchanged, except packets.
   pub elsewhere : LeavesElsewhere (with_packets_in outbound place) old new
 
--- The same at each station of a net that the disk shows in this place. The packets that stopped scans left are
+-- At each station of a net that the disk shows in this place. The packets that stopped scans left are
 -- finished as in the event, and the station's link file has no path of a packet.
 abbrev pub ScansAsMay : Stamp → Place → List ℕ → (LinkFile → Type 0) → DiskState → DiskState → Result (Unit {0}) ScanError → Type 0
 ScansAsMay stamp place outbound Reads old new result = (links : List ℕ) (i : ℕ) (d : Disks) (n : ℕ) (ended : Disks) → ReadsLinks Reads links old → (IsTouched place.is_own outbound links → ⊥)

@@ -11,6 +11,6 @@ pub record IsHeldAt (packets : List (List ℕ)) (k : ℕ) (file : Option (List �
   pub shown : file ≡ Some bytes
   pub few : length bytes ≤ most_held
 
--- The same for the file with this path, or no file has the path or can have it.
+-- For the file with this path, or no file has the path or can have it.
 abbrev pub IsShownAt : List (List ℕ) → Files → ℕ → Bool → List ℕ → Type 0
 IsShownAt packets seen k usable path = (usable ≡ false) ⊎ ((seen path ≡ None) ⊎ IsHeldAt packets k (seen path))

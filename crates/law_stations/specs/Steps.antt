@@ -3,8 +3,7 @@ use Rattle.std.specs.Prelude.{◌≡◌, ℕ, List, [], ◌∷◌, Option, Some,
 use Rattle.disk_io.specs.Disk.{DiskState}
 use Rattle.model_run.specs.Run.{change, nth}
 use Rattle.station.specs.Place.{Place}
-use Rattle.law_stations.specs.{Commands.Command, Commands.CommandEvent, Disks.Disks, Stopping.PartialEffect, OnDisks.LeavesElsewhere, OnDisks.ShowsStation}
-use Rattle.law_stations.specs.Seats.{Seat, RepresentsSeat, reach}
+use Rattle.law_stations.specs.{Commands.Command, Commands.CommandEvent, Disks.Disks, Stopping.PartialEffect, OnDisks.LeavesElsewhere, OnDisks.ShowsStation, Seats.Seat, Seats.RepresentsSeat, Seats.reach}
 
 -- A command at a station ends. Or a crash cuts it; without the crash it would have led to this disk. Or there is a crash
 -- between commands. `None` is a command without an effect.

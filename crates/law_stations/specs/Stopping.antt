@@ -7,7 +7,7 @@ use Rattle.base_store.specs.Store.{all_scanned}
 use Rattle.law_stations.specs.Commands.{Command, CommandEvent, Post, Posts, Purge, Purges, Scan, Scans, Toss, Tosses}
 use Rattle.law_stations.specs.{Nets.Net, Nets.with_left, Disks.StagingFile, Disks.Disks, Disks.HasCursor, Disks.naming}
 
--- The same temporary file, now also under the packet's name.
+-- A staging file that is now also under the packet's name.
 abbrev pub now_named : StagingFile → StagingFile
 now_named file = record { station = file.station; number = file.number; bytes = file.bytes; named = true }
 

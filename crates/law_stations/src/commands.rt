@@ -38,7 +38,7 @@ pub fn purge_as_may<
     run_command(alloc, disk, locks, station, before, command, out)
 }
 
-/// The same of `post`. With a free serial it is the posting with some serial.
+/// Of `post`. With a free serial it is the posting with some serial.
 pub fn post_as_may<
     'a,
     D: Disk,
@@ -65,7 +65,7 @@ pub fn post_as_may<
     run_command(alloc, disk, locks, station, before, command, out)
 }
 
-/// The same for `reply`: it is a posting of the words that it gets from its message.
+/// A `reply` is a posting of the words that it gets from its message.
 pub fn reply_as_may<
     'a,
     D: Disk,
@@ -92,7 +92,7 @@ pub fn reply_as_may<
     run_command(alloc, disk, locks, station, before, command, out)
 }
 
-/// The same for `post --mail`: it is a posting of the words of its letter.
+/// A `post --mail` is a posting of the words of its letter.
 pub fn mail_as_may<
     'a,
     D: Disk,
@@ -119,7 +119,7 @@ pub fn mail_as_may<
     run_command(alloc, disk, locks, station, before, command, out)
 }
 
-/// The same for `toss` of packet files of the net, with or without notes, whatever reads them, if the files were honest.
+/// Of `toss` of packet files of the net, with or without notes, whatever reads them, if the files were honest.
 /// If it ended well, it tossed whole exactly the packets before the one that its answer names.
 pub fn toss_as_may<
     'a,

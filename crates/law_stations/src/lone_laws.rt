@@ -1,7 +1,6 @@
 //! Laws about the definitions. Each law is the contract of a function that does nothing.
 
-ghost use Rattle.law_stations.specs.AloneInOrder.{AloneIsInOrder, AloneStays, FaultlessTossIsWhole};
-ghost use Rattle.law_stations.specs.AloneOverCrashes.{AloneIsInOrderOverCrashes, AloneStaysOverCrashes};
+ghost use Rattle.law_stations.specs.{AloneInOrder.AloneIsInOrder, AloneInOrder.AloneStays, AloneInOrder.FaultlessTossIsWhole, AloneOverCrashes.AloneIsInOrderOverCrashes, AloneOverCrashes.AloneStaysOverCrashes};
 
 /// Let any commands be run on one station that begins with an empty base, and let `toss` get any files.
 /// Commands may be refused, and memory and devices may fail. The base has each message at most once, and

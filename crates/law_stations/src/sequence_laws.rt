@@ -18,12 +18,12 @@ pub fn commands_go_on<'a, D: Disk, P: OpenStation<'a, D>, O: OpenStation<'a, D>>
     ensures { CommandsGoOn D.state (either P.place O.place) }
 {}
 
-/// The same for a toss that ended well: the packets that it tossed whole are delivered.
+/// Of a toss that ended well: the packets that it tossed whole are delivered.
 pub fn tosses_go_on<'a, D: Disk, P: OpenStation<'a, D>, O: OpenStation<'a, D>>()
     ensures { TossesGoOn D.state (either P.place O.place) }
 {}
 
-/// The same for a scan: whatever crash cuts it, if it ends well, and if it leaves the station as it was.
+/// Of a scan: whatever crash cuts it, if it ends well, and if it leaves the station as it was.
 pub fn scans_go_on<'a, D: Disk, P: OpenStation<'a, D>, O: OpenStation<'a, D>>()
     ensures { ScansGoOn D.state (either P.place O.place) }
 {}

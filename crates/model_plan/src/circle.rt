@@ -23,7 +23,7 @@ pub(crate) fn short_loop(area: Area<'_>, round: &[Address]) -> Result<Vec<usize>
     }
 }
 
-// The same of members by their indexes. None where no link leads across: then it is all of them.
+// Members by their indexes. None where no link leads across: then it is all of them.
 fn shorter_loop(area: Area<'_>, members: &[usize]) -> Result<Option<Vec<usize>>, AllocError> {
     let places = places(area.alloc, area.files.len(), members)?;
     shorter_in(Ring {

@@ -36,7 +36,6 @@ pub fn plan_for(
     )
 }
 
-// The same once look-ups can be made.
 fn plan(area: Area<'_>, fault: &NetFault) -> Result<Option<Plan>, AllocError> {
     match fault {
         NetFault::NoSuchArea => Ok(None),

@@ -43,7 +43,6 @@ impl Sets {
         Ok(Sets { branches })
     }
 
-    /// Whether the entry is in the set.
     pub(crate) fn has(&self, set: usize, entry: NetNode) -> bool {
         let mut at = set;
         let mut left = number(entry);
@@ -57,7 +56,6 @@ impl Sets {
         at != NOTHING
     }
 
-    /// The set with the entry.
     pub(crate) fn with(&mut self, set: usize, entry: NetNode) -> Result<usize, AllocError> {
         if self.has(set, entry) {
             return Ok(set);

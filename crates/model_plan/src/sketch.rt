@@ -94,7 +94,6 @@ impl<'a> Sketch<'a> {
         Ok(None)
     }
 
-    // The system scans.
     fn scan(&mut self, system: usize) -> Result<Option<Guess>, AllocError> {
         let targets = self.targets(system)?;
         if !targets.is_empty() {

@@ -3,30 +3,25 @@ use Rattle.std.proofs.Common.{◌≡◌, ◌≢◌, ℕ, zero, suc, ◌<◌, ◌
 use Rattle.std.proofs.{lemmas.List.append-nil, lemmas.Option.get_or_from_slice_get, lemmas.Option.slice_get_read, Math.Seq.map-set_same}
 use Rattle.std.specs.{Prelude.is_none, List.All}
 use Rattle.echo_links.specs.Links.{LinkFile}
-use Rattle.model_steps.specs.declared.{draft.Draft.Draft, stamp.Stamp.Stamp, fault.PostFault.PostFault, packet.Packet.Packet}
-use Rattle.model_steps.specs.{Posting.IsPostFault, Posting.post_refusal, Posting.posted, Posting.posting, SystemState.SystemState, SystemState.state_with}
+use Rattle.model_steps.specs.{declared.draft.Draft.Draft, declared.stamp.Stamp.Stamp, declared.fault.PostFault.PostFault, declared.packet.Packet.Packet, Posting.IsPostFault, Posting.post_refusal, Posting.posted, Posting.posting, SystemState.SystemState, SystemState.state_with}
 use Rattle.model_steps.specs.declared.fault.PostFault.TheVariants as fault
 use Rattle.model_run.specs.Run.{change, nth}
 use Rattle.model_replay.specs.Worlds.{Exported, Fits, ScanFits, WorldState, own_addresses, after_posting, after_scan, after_toss, arrived, made, made_by, scanned_world, with_change}
 use Rattle.model_replay.proofs.Exports.{nth-slice_get}
 
--- past the end nothing changes
 pub change-past : {X : Type 0} (i : ℕ) (f : X → X) (xs : List X) → length xs ≤ i → change i f xs ≡ xs
 change-past i f [] h = refl
 change-past zero f (x ∷ xs) h = absurd (omega arith)
 change-past (suc i) f (x ∷ xs) h = ap (λ (ys : List _). x ∷ ys) (change-past i f xs (omega arith))
 
--- the new item is put in the place of the old one
 pub set-change : {X : Type 0} (i : ℕ) (f : X → X) (xs : List X) (y d : X) → i < length xs → y ≡ f (get_or xs i d) → set xs i y ≡ change i f xs
 set-change i f [] y d h e = absurd (omega arith)
 set-change zero f (x ∷ xs) y d h e = ap (λ (z : _). z ∷ xs) e
 set-change (suc i) f (x ∷ xs) y d h e = ap (λ (ys : List _). x ∷ ys) (set-change i f xs y d (omega arith) e)
 
--- no message joins the base
 pub state_with-none : (s : SystemState) → state_with s None ≡ s
 state_with-none s = let e = append-nil s.base in λ i. record { file = s.file; base = e i; cursor = s.cursor }
 
--- a posting that is accepted, and one that is refused
 posting-some : (o : SystemState) (tag : List ℕ) (draft : Draft) (serial : ℕ) (stamp : Stamp) → post_refusal o.file o.base tag draft serial stamp ≡ None
     → posting o.file o.base tag draft serial stamp ≡ Some (posted o.file tag draft serial stamp)
 unfolding posting
@@ -51,11 +46,9 @@ pub refused-after : (o : SystemState) (tag : List ℕ) (draft : Draft) (serial :
     → IsPostFault o.file o.base tag draft serial stamp f → f ≢ fault.Memory → n ≡ o → n ≡ after_posting tag draft serial stamp o
 refused-after o tag draft serial stamp f n h1 h2 h3 = grind (arith, after_refusal)
 
--- the addresses stay if one system changes and its link file stays
 pub set-addresses : (ss : List SystemState) (i : ℕ) (s d : SystemState) → s.file ≡ (get_or ss i d).file → own_addresses (set ss i s) ≡ own_addresses ss
 set-addresses ss i s d e = map-set_same (λ (x : SystemState). x.file.system) ss i s d (ap (λ (f : LinkFile). f.system) e)
 
--- an index past the systems changes nothing
 pub with_past : (world : WorldState) (i : ℕ) (f : SystemState → SystemState) → length world.systems ≤ i → world ≡ with_change world i f
 with_past world i f h = grind (arith, change-past)
 
@@ -65,18 +58,15 @@ pub with_set : (systems : List SystemState) (packets : List Exported) (world : W
     → record { systems = set systems i s; packets = packets } ≡ with_change world i f
 with_set systems packets world i f s t d view h there new = grind (arith, set-change)
 
--- and its address stays
 pub addresses_stay : (systems : List SystemState) (packets : List Exported) (world : WorldState) (i : ℕ) (s t d : SystemState)
     → record { systems = systems; packets = packets } ≡ world → t ≡ get_or systems i d → s.file ≡ t.file
     → own_addresses (set systems i s) ≡ own_addresses world.systems
 addresses_stay systems packets world i s t d view there same =
     set-addresses systems i s d (same ∙ ap (λ (x : SystemState). x.file) there) ∙ ap (λ (w : WorldState). own_addresses w.systems) view
 
--- the item read is the one at its index
 pub nth-read : {X : Type 0} (xs : List X) (i : ℕ) (x : X) → i < length xs → x ≡ get_or xs i x → nth i xs ≡ Some x
 nth-read xs i x within there = sym (nth-slice_get i xs) ∙ slice_get_read xs (length xs) i x refl within there
 
--- the item at an index
 pub read-nth : {X : Type 0} (xs : List X) (i : ℕ) (x d : X) → nth i xs ≡ Some x → get_or xs i d ≡ x
 read-nth xs i x d there = get_or_from_slice_get xs i x d (nth-slice_get i xs ∙ there)
 

@@ -6,18 +6,15 @@ use Rattle.model_graph.specs.Walk.{Among}
 use Rattle.model_steps.specs.{declared.packet.Packet.Packet, SystemState.SystemState}
 use Rattle.model_run.specs.Run.{Run, System, change, coming, delivery, destination, nth, receiver, taking, with_index}
 use Rattle.model_run.proofs.Lists.{any-from}
-use Rattle.model_replay.specs.Worlds.{Exported, Fits, IsWorldOf, WorldState, encoded, exported_packet, state_of, world_after}
-use Rattle.model_replay.specs.Taken.{AreTaken}
+use Rattle.model_replay.specs.{Worlds.Exported, Worlds.Fits, Worlds.IsWorldOf, Worlds.WorldState, Worlds.encoded, Worlds.exported_packet, Worlds.state_of, Worlds.world_after, Taken.AreTaken}
 use Rattle.model_replay.proofs.{Changes.read-nth, Exports.exported-nth, Exports.within-nth, Runs.delivered-run, Taken.state_stays}
 
--- if the changing system keeps its state, all do
 states_stay : (i : ℕ) (f : System → System) (ss : List System) → ((s : System) → nth i ss ≡ Some s → state_of (f s) ≡ state_of s)
     → map state_of (change i f ss) ≡ map state_of ss
 states_stay i f [] same = refl
 states_stay zero f (s ∷ ss) same = ap (λ (x : SystemState). x ∷ map state_of ss) (same s refl)
 states_stay (suc i) f (s ∷ ss) same = ap (λ (xs : List SystemState). state_of s ∷ xs) (states_stay i f ss same)
 
--- a packet that came before changes nothing in the world
 again-run : (world : WorldState) (run : Run) (k : ℕ) (p : Packet) → IsWorldOf world run → AreTaken run → list_any (λ d. d == k) run.delivered ≡ true
     → nth k run.packets ≡ Some p → IsWorldOf world (delivery run k (Some p))
 again-run world run k p is are came there = by (nth (receiver run p) run.systems)

@@ -1,14 +1,12 @@
 -- The packets of a world and those of the run.
 use Rattle.std.proofs.Common.{◌≡◌, ◌≢◌, ℕ, zero, suc, ◌+◌, ◌<◌, ◌≤◌, ◌==◌, not, Bool, true, false, cond, List, [], ◌∷◌, ◌++◌, length, map, refl, sym, ap, ◌∙◌, Some, None, arith, inl, inr}
-use Rattle.std.proofs.lemmas.Bool.{cases_Bool, cond-false, cond-true, eq-eqb, ne_eqb, or_from}
-use Rattle.std.proofs.lemmas.List.Sums.{sum_by-cons}
+use Rattle.std.proofs.lemmas.{Bool.cases_Bool, Bool.cond-false, Bool.cond-true, Bool.eq-eqb, Bool.ne_eqb, Bool.or_from, List.Sums.sum_by-cons}
 use Rattle.std.specs.{Prelude.slice_get, Prelude.option_map, Prelude.count_by, List.list_any}
 use Rattle.model_graph.specs.Walk.{Among}
 use Rattle.model_steps.specs.declared.packet.Packet.{Packet}
 use Rattle.model_run.specs.{Run.change, Run.destination, Run.nth, Run.with_index, World.missing}
 use Rattle.model_replay.specs.Worlds.{Exported, arrived, encoded, exported_packet, exported_from, made}
 
--- the item at an index, by either name
 pub nth-slice_get : {X : Type 0} (i : ℕ) (xs : List X) → slice_get xs i ≡ nth i xs
 nth-slice_get i [] = refl
 nth-slice_get zero (x ∷ xs) = refl
@@ -23,19 +21,16 @@ pub exported-length : (delivered : List ℕ) (k : ℕ) (ps : List Packet) → le
 exported-length delivered k [] = refl
 exported-length delivered k (p ∷ ps) = ap suc (exported-length delivered (k + 1) ps)
 
--- the bytes of the packet at an index
 pub exported-bytes : (delivered : List ℕ) (k i : ℕ) (ps : List Packet) → option_map (λ e. e.bytes) (nth i (exported_from delivered k ps)) ≡ option_map encoded (nth i ps)
 exported-bytes delivered k i [] = refl
 exported-bytes delivered k zero (p ∷ ps) = refl
 exported-bytes delivered k (suc i) (p ∷ ps) = exported-bytes delivered (k + 1) i ps
 
--- the destination of the packet at an index
 pub exported-to : (delivered : List ℕ) (k i : ℕ) (ps : List Packet) → option_map (λ e. e.to) (nth i (exported_from delivered k ps)) ≡ option_map destination (nth i ps)
 exported-to delivered k i [] = refl
 exported-to delivered k zero (p ∷ ps) = refl
 exported-to delivered k (suc i) (p ∷ ps) = exported-to delivered (k + 1) i ps
 
--- the number of packets that did not come
 turned : (b : Bool) → ◌≡◌ {A = ℕ} (cond (not b) 1 0) (cond b 0 1)
 turned true = refl
 turned false = refl
@@ -48,7 +43,6 @@ exported-missing delivered k (p ∷ ps) =
     ∙ ap (λ (n : ℕ). n + count_by (λ e. not e.came) (exported_from delivered (k + 1) ps)) (turned came)
     ∙ ap (λ (n : ℕ). cond came 0 1 + n) (exported-missing delivered (k + 1) ps)
 
--- more packets follow
 pub exported-append : (delivered : List ℕ) (k : ℕ) (ps qs : List Packet) → exported_from delivered k (ps ++ qs) ≡ exported_from delivered k ps ++ exported_from delivered (k + length ps) qs
 exported-append delivered k [] qs = let e : k ≡ k + 0 = omega arith in ap (λ (n : ℕ). exported_from delivered n qs) e
 exported-append delivered k (p ∷ ps) qs =
@@ -56,7 +50,6 @@ exported-append delivered k (p ∷ ps) qs =
     ap (λ (es : List Exported). exported_packet delivered k p ∷ es)
     (exported-append delivered (k + 1) ps qs ∙ ap (λ (n : ℕ). exported_from delivered (k + 1) ps ++ exported_from delivered n qs) e)
 
--- an index past all delivered packets is not among them
 pub none_past : (delivered : List ℕ) (k : ℕ) → ((d : ℕ) → Among d delivered → d < k) → list_any (λ d. d == k) delivered ≡ false
 none_past [] k below = refl
 none_past (d ∷ later) k below =
@@ -64,7 +57,6 @@ none_past (d ∷ later) k below =
     let other : d ≢ k = λ e. omega (arith, e, less) in
     or_from (d == k) (list_any (λ x. x == k) later) (ne_eqb d k other) (none_past later k (λ x among. below x (inr among)))
 
--- packets past all delivered ones are newly made
 pub exported-made : (delivered : List ℕ) (k : ℕ) (qs : List Packet) → ((d : ℕ) → Among d delivered → d < k) → exported_from delivered k qs ≡ map made qs
 exported-made delivered k [] below = refl
 exported-made delivered k (q ∷ qs) below =
@@ -72,7 +64,6 @@ exported-made delivered k (q ∷ qs) below =
     (λ i. record { bytes = encoded q; to = destination q; came = none i } ∷ exported_from delivered (k + 1) qs)
     ∙ ap (λ (es : List Exported). made q ∷ es) (exported-made delivered (k + 1) qs (λ d among. let h = below d among in omega arith))
 
--- a new index is in the list, and the others stay
 there_once : (n : ℕ) (delivered : List ℕ) → list_any (λ d. d == n) (with_index n delivered) ≡ true
 there_once n delivered = grind (arith, cases_Bool, cond-true, cond-false, eq-eqb)
 
@@ -102,11 +93,9 @@ exported-came delivered k (suc i) n (p ∷ ps) at within =
     let rest = exported-came delivered (k + 1) i n ps (omega (arith, at)) (omega arith) in
     λ j. record { bytes = encoded p; to = destination p; came = same j } ∷ rest j
 
--- a new index keeps the bound of the others
 pub below-with : (delivered : List ℕ) (n most : ℕ) → ((k : ℕ) → Among k delivered → k < most) → n < most → (k : ℕ) → Among k (with_index n delivered) → k < most
 below-with delivered n most below less k among = grind (arith, cases_Bool, cond-true, cond-false)
 
--- the packet at an index, as it was exported
 pub exported-nth : (delivered : List ℕ) (k i : ℕ) (ps : List Packet) → nth i (exported_from delivered k ps) ≡ option_map (exported_packet delivered (k + i)) (nth i ps)
 exported-nth delivered k i [] = refl
 exported-nth delivered k zero (p ∷ ps) = let e : k ≡ k + zero = omega arith in λ j. Some (exported_packet delivered (e j) p)

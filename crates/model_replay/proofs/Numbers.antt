@@ -1,8 +1,6 @@
 -- Reading a number digit by digit.
 use Rattle.std.proofs.Common.{◌≡◌, ℕ, ◌+◌, ◌*◌, ◌^◌, ◌<◌, ◌≤◌, nat_lt, true, List, length, get_or, take, ap, subst, sym, ◌∙◌, arith, [], ◌∷◌, Some, None}
-use Rattle.std.proofs.lemmas.Bool.{and_from, and_parts, cond-false, cond-true, false_from_ne_true, lt-ltb, ltb-true}
-use Rattle.std.proofs.{Math.Nat.pow-le-pow_right, lemmas.Int.Digits.digits_value-lt, lemmas.Int.Digits.digits_value_more, lemmas.List.length-take-le, lemmas.List.take_all}
-use Rattle.std.proofs.lemmas.List.Folds.{list_all_at, list_all_more}
+use Rattle.std.proofs.{lemmas.Bool.and_from, lemmas.Bool.and_parts, lemmas.Bool.cond-false, lemmas.Bool.cond-true, lemmas.Bool.false_from_ne_true, lemmas.Bool.lt-ltb, lemmas.Bool.ltb-true, lemmas.List.Folds.list_all_at, lemmas.List.Folds.list_all_more, Math.Nat.pow-le-pow_right, lemmas.Int.Digits.digits_value-lt, lemmas.Int.Digits.digits_value_more, lemmas.List.length-take-le, lemmas.List.take_all}
 use Rattle.std.specs.{Char.digit_value, List.list_all, Str.Parse.AllDigits, Str.Parse.digits_value}
 use Rattle.model_replay.specs.Script.{number_in}
 
@@ -24,21 +22,17 @@ all_digits radix (b ∷ ds) h =
     let parts = and_parts (nat_lt (digit_value b) radix) _ h in
     (ltb-true (digit_value b) radix parts.0, all_digits radix ds parts.1)
 
--- so the value has room
 pub digested_small : (radix : ℕ) (ds : List ℕ) (i value : ℕ) → 2 ≤ radix → radix ^ length ds ≤ 2 ^ 32 → i ≤ length ds → Digested radix ds i value → value < 2 ^ 32
 digested_small radix ds i value least room le d = grind (arith, digits_value-lt, all_digits, length-take-le, pow-le-pow_right)
 
--- all bytes are digits
 pub digested_all : (radix : ℕ) (ds : List ℕ) (i value : ℕ) → length ds ≤ i → Digested radix ds i value → number_in radix ds ≡ Some value
 unfolding number_in
 digested_all radix ds i value all d = grind (arith, cond-true, nat_lt, take_all)
 
--- a byte is no digit
 pub no_digit : (radix : ℕ) (ds : List ℕ) (i code : ℕ) → i < length ds → code ≡ get_or ds i 0 → (digit_value code < radix → ⊥) → number_in radix ds ≡ None
 unfolding number_in
 no_digit radix ds i code lt is other = grind (arith, cond-false, nat_lt, list_all_at, false_from_ne_true, ltb-true)
 
--- one more digit
 pub next_digit : (radix : ℕ) (ds : List ℕ) (i value code digit : ℕ) → i < length ds → code ≡ get_or ds i 0 → digit_value code < radix → digit ≡ digit_value code
     → Digested radix ds i value → Digested radix ds (i + 1) (value * radix + digit)
 next_digit radix ds i value code digit lt is below worth d =

@@ -2,18 +2,15 @@
 use Rattle.std.proofs.Common.{◌≡◌, ℕ, zero, suc, cond, arith, ◌+◌, ◌<◌, ◌==◌, ◌&&◌, not, Bool, false, List, [], ◌∷◌, length, drop, sym, ap, ◌∙◌}
 use Rattle.std.proofs.lemmas.List.{length-map, Sums.sum_by-cons, Folds.list_all-map}
 use Rattle.echo_filed.specs.Filed.{Filed}
-use Rattle.std.specs.Prelude.{bytes_eq, count_by, nat_le, option_map, slice_get, unwrap_or}
-use Rattle.std.specs.List.{list_all}
+use Rattle.std.specs.{Prelude.bytes_eq, Prelude.count_by, Prelude.nat_le, Prelude.option_map, Prelude.slice_get, Prelude.unwrap_or, List.list_all}
 use Rattle.model_steps.specs.SystemState.{SystemState}
 use Rattle.model_run.specs.{Run.Run, Run.destination, Run.nth, World.area_count, World.is_settled, World.undelivered}
 use Rattle.model_replay.specs.Worlds.{Exported, IsWorldOf, WorldState, encoded, state_of}
 use Rattle.model_replay.proofs.Exports.{exported-bytes, exported-length, exported-missing, exported-to, nth-slice_get}
 
--- the number of packets that did not come
 pub missing-is : (world : WorldState) (run : Run) → IsWorldOf world run → count_by (λ e. not e.came) world.packets ≡ undelivered run
 missing-is world run is = ap (λ (es : List Exported). count_by (λ e. not e.came) es) is.packets ∙ exported-missing run.delivered 0 run.packets
 
--- whether nothing waits
 pub scanned-is : (world : WorldState) (run : Run) → IsWorldOf world run
     → list_all (λ s. nat_le (length s.base) s.cursor) world.systems ≡ list_all (λ s. nat_le (length s.base) s.cursor) run.systems
 scanned-is world run is = grind (arith, list_all-map)
@@ -25,19 +22,15 @@ settled-is world run is =
     let b = missing-is world run is in
     λ i. a i && (b i == 0)
 
--- the bytes of the packet at an index
 pub bytes-are : (world : WorldState) (run : Run) → IsWorldOf world run → (k : ℕ) → option_map (λ e. e.bytes) (slice_get world.packets k) ≡ option_map encoded (nth k run.packets)
 bytes-are world run is k = grind (arith, nth-slice_get, exported-bytes)
 
--- the destination of the packet at an index
 pub destinations-are : (world : WorldState) (run : Run) → IsWorldOf world run → (k : ℕ) → option_map (λ e. e.to) (slice_get world.packets k) ≡ option_map destination (nth k run.packets)
 destinations-are world run is k = grind (arith, nth-slice_get, exported-to)
 
--- the number of systems
 pub system_count : (world : WorldState) (run : Run) → IsWorldOf world run → length world.systems ≡ length run.systems
 system_count world run is = ap (λ (ss : List SystemState). length ss) is.systems ∙ length-map run.systems state_of
 
--- the number of packets
 pub packet_count : (world : WorldState) (run : Run) → IsWorldOf world run → length world.packets ≡ length run.packets
 packet_count world run is = ap (λ (es : List Exported). length es) is.packets ∙ exported-length run.delivered 0 run.packets
 

@@ -1,15 +1,12 @@
 -- An event changes a world as it changes its run.
 use Rattle.std.proofs.Common.{◌≡◌, ℕ, zero, suc, ◌+◌, ◌<◌, ◌≤◌, nat_lt, not, Bool, true, false, cond, List, [], ◌∷◌, ◌++◌, length, get_or, take, map, refl, sym, ap, subst, ◌∙◌, Option, Some, None, arith, inl, inr}
-use Rattle.std.proofs.lemmas.List.{append-nil, length-append, length-map, map-append, take_all, take_more}
-use Rattle.std.proofs.lemmas.Bool.{cases_Bool, cond-false, cond-true, le-ltb, lt-ltb, ltb-false, ltb-true}
-use Rattle.std.proofs.lemmas.List.{Elements.All-append, Recursion.is_position_or_len, Sums.passes_at_first}
+use Rattle.std.proofs.lemmas.{List.append-nil, List.length-append, List.length-map, List.map-append, List.take_all, List.take_more, List.Elements.All-append, List.Recursion.is_position_or_len, List.Sums.passes_at_first, Bool.cases_Bool, Bool.cond-false, Bool.cond-true, Bool.le-ltb, Bool.lt-ltb, Bool.ltb-false, Bool.ltb-true}
 use Rattle.std.specs.{Prelude.option_map, List.All, List.position_or_len}
 use Rattle.echo_links.proofs.Addresses.{same_address_decides}
 use Rattle.echo_addr.specs.declared.address.Address.{Address}
 use Rattle.echo_links.specs.Links.{LinkFile, same_address}
 use Rattle.echo_filed.specs.Filed.{Filed}
-use Rattle.model_steps.specs.{declared.draft.Draft.Draft, declared.packet.Packet.Packet, declared.stamp.Stamp.Stamp, SystemState.SystemState, SystemState.state_at_first, SystemState.state_with}
-use Rattle.model_steps.specs.{Posting.posting, Scanning.scanned, Stamps.is_stamp}
+use Rattle.model_steps.specs.{declared.draft.Draft.Draft, declared.packet.Packet.Packet, declared.stamp.Stamp.Stamp, SystemState.SystemState, SystemState.state_at_first, SystemState.state_with, Posting.posting, Scanning.scanned, Stamps.is_stamp}
 use Rattle.model_run.specs.Run.{Run, System, after_event, change, changing, coming, delivery, destination, filing, fresh, nth, posting_at, purging_at, receiver, run_of, scanning, scanning_at, start, taking}
 use Rattle.model_run.specs.{Event.run_event, declared.event.Event.Event}
 use Rattle.model_run.proofs.{StandingRuns.tossing-state, StandingTosses.change-nothing as stays, HarmLists.nth-below as nth-within, HarmSteps.after-append}
@@ -17,12 +14,10 @@ use Rattle.model_replay.specs.Worlds.{Exported, Fits, IsWorldOf, ScanFits, World
 use Rattle.model_replay.proofs.Exports.{below-with, exported-append, exported-came, exported-made, nth-map, nth-past, within-nth}
 use Rattle.model_replay.proofs.{Changes.read-nth, Readings.system_count as count-is}
 
--- the state after a filing does not depend on the history
 state-filing : (s : System) (o : Option Filed) → state_of (filing s o) ≡ state_with (state_of s) o
 state-filing s None = let e = sym (append-nil s.base) in λ i. record { file = s.file; base = e i; cursor = s.cursor }
 state-filing s (Some m) = refl
 
--- one system changes alike in the world and in the run
 pub map-change : (i : ℕ) (f : System → System) (g : SystemState → SystemState) (ss : List System) → ((s : System) → state_of (f s) ≡ g (state_of s))
     → map state_of (change i f ss) ≡ change i g (map state_of ss)
 map-change i f g [] same = refl
@@ -41,7 +36,6 @@ posted-run world run i tag draft serial stamp is =
 pub purged-run : (world : WorldState) (run : Run) (i : ℕ) → IsWorldOf world run → IsWorldOf (with_change world i after_purge) (changing run i purging_at)
 purged-run world run i is = changed-run world run i purging_at after_purge (λ s. refl) is
 
--- the toss of a packet changes a system's state as it changes the system in a run
 pub state-taking : (p : Packet) (s : System) → state_of (taking p (length p.messages) s) ≡ after_toss p (state_of s)
 state-taking p s = grind (arith, take_all, tossing-state)
 
@@ -97,7 +91,6 @@ scanned-run world run i stamp is fits =
       | inr h ↦ scan-refused world run i stamp s h is
     ]
 
--- the first mapped item that passes
 pub first-map : {X Y : Type 0} (p : Y → Bool) (f : X → Y) (xs : List X) → position_or_len p (map f xs) ≡ position_or_len (λ x. p (f x)) xs
 first-map p f xs =
     is_position_or_len (λ ys. position_or_len p (map f ys)) (λ x. p (f x)) refl (λ x ys. by (p (f x)) (position_or_len p (map f ys))) xs
@@ -106,7 +99,6 @@ first-map p f xs =
     by true n = refl
     by false n = refl
 
--- the first system of an address has the same index in both
 first-is : (world : WorldState) (run : Run) (p : Packet) → IsWorldOf world run → first_at world (destination p) ≡ receiver run p
 first-is world run p is = grind (arith, first-map)
 
@@ -143,7 +135,6 @@ delivered-run world run k p is there =
           (subst Q (sym (nth-past (receiver run p) run.systems past)) is)
     ]
 
--- the addresses at first
 pub addresses-first : (files : List LinkFile) → own_addresses (map state_at_first files) ≡ map (λ f. f.system) files
 addresses-first [] = refl
 addresses-first (f ∷ files) = ap (λ (all : List Address). f.system ∷ all) (addresses-first files)
@@ -157,7 +148,6 @@ event-more files events i event within there =
     ∙ ap (run_of files) (map-append run_event (take i events) (event ∷ []))
     ∙ after-append (map run_event (take i events)) (run_event event ∷ []) (start files))
 
--- the systems at first
 pub first-run : (files : List LinkFile) → IsWorldOf (record { systems = map state_at_first files; packets = [] }) (start files)
 first-run files = record {
   systems = sym (map_again files);

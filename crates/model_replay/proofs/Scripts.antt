@@ -5,8 +5,7 @@ use Rattle.std.specs.{Prelude.MatchResult, Prelude.is_some, List.cons_option, Li
 use Rattle.echo_links.specs.LinkLines.{file_lines, is_skipped}
 use Rattle.echo_links.proofs.LinkBytes.{no_lines_left}
 use Rattle.model_run.specs.declared.event.Event.{Event}
-use Rattle.model_replay.specs.Script.{ScriptOf, event_in, events_in, events_of, first_script_fault, script_line_fault, script_fault}
-use Rattle.model_replay.specs.declared.script.ScriptFault.{ScriptFault}
+use Rattle.model_replay.specs.{Script.ScriptOf, Script.event_in, Script.events_in, Script.events_of, Script.first_script_fault, Script.script_line_fault, Script.script_fault, declared.script.ScriptFault.ScriptFault}
 use Rattle.model_replay.specs.declared.script.ScriptFault.TheVariants as fault
 
 -- ---- one line
@@ -38,26 +37,21 @@ events_next : (line : List ℕ) (later : List (List ℕ)) → events_in (line �
 events_next line later = grind (arith, filter-append, filter_map-append)
 
 module _ (bytes rest line after : List ℕ) (number : ℕ) (events : List Event) (h : LinesTaken bytes number rest events) (next : file_lines rest ≡ line ∷ file_lines after) where
-  -- one more line
   pub lines_more : (new : List Event) → script_line_fault (number + 1) line ≡ None → new ≡ events ++ events_in (line ∷ []) → LinesTaken bytes (number + 1) after new
   lines_more new fine is = grind (arith, events_next, append_assoc)
 
-  -- a line of another form
   pub lines_other : (refused : ScriptFault) → script_line_fault (number + 1) line ≡ Some refused → script_fault bytes ≡ Some refused
   unfolding script_fault
   lines_other refused bad = grind arith
 
--- no bytes are left
 pub lines_done : (bytes : List ℕ) (number : ℕ) (rest : List ℕ) (events : List Event) → LinesTaken bytes number rest events → rest ≡ []
     → ScriptOf bytes (Ok events)
 unfolding script_fault events_of
 lines_done bytes number rest events h nothing = grind (arith, no_lines_left, append-nil)
 
--- there is one answer
 one_answer : (bytes : List ℕ) (answer other : Result (List Event) ScriptFault) → ScriptOf bytes answer → ScriptOf bytes other → other ≡ answer
 one_answer bytes answer other h1 h2 = grind arith
 
--- so the answer for the bytes is the right one
 pub only_answer : {V : Type 0} (items : V → List Event) (bytes : List ℕ) (answer : Result V ScriptFault)
     → MatchResult answer (λ v. ScriptOf bytes (Ok (items v))) (λ f. (f ≡ fault.Memory) ⊎ ScriptOf bytes (Err f)) → (other : Result (List Event) ScriptFault)
     → ScriptOf bytes other → MatchResult answer (λ v. other ≡ Ok (items v)) (λ f. (f ≡ fault.Memory) ⊎ (other ≡ Err f))

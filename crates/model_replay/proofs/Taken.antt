@@ -10,8 +10,7 @@ use Rattle.echo_filed.specs.{declared.key.Key.Key, Filed.Filed, Filed.key_of, Fi
 use Rattle.echo_filed.proofs.Keys.{same_key_decides}
 use Rattle.base_file.specs.Base.{is_known}
 use Rattle.base_file.proofs.StubBases.{purged_keys}
-use Rattle.model_steps.specs.Tossing.{received, sender_of, toss_outcome, tossed, tossing, where_filed}
-use Rattle.model_steps.specs.{declared.outcome.Outcome.Outcome, declared.packet.Packet.Packet, Posting.posting, Purging.purged, Scanning.scanned, Stamps.is_stamp}
+use Rattle.model_steps.specs.{Tossing.received, Tossing.sender_of, Tossing.toss_outcome, Tossing.tossed, Tossing.tossing, Tossing.where_filed, declared.outcome.Outcome.Outcome, declared.packet.Packet.Packet, Posting.posting, Purging.purged, Scanning.scanned, Stamps.is_stamp}
 use Rattle.model_steps.specs.declared.outcome.Outcome.TheVariants as outcome
 use Rattle.model_run.specs.Event.{RunEvent, Posting, Scanning, Delivery, PartDelivery, Purging}
 use Rattle.model_run.specs.Run.{Run, System, after_event, after_events, change, changing, coming, delivery, destination, filing, nth, part_delivery, posting_at, purging_at, receiver, run_of, scanning, scanning_at, start, taking, tossing_at}
@@ -53,13 +52,11 @@ unfiled-more area link known more m h1 h2 = grind (arith, none_some)
 unfiled-known : (area link known : Bool) (m : Filed) → known ≡ true → where_filed (outcome_by area link known) m ≡ None
 unfiled-known area link known m h1 = grind arith
 
--- a message that is not filed is not filed if more keys are known
 still_unfiled : (file : LinkFile) (base more : List Filed) (sender : Address) (packed : Message) → Knows base more
     → tossing file base sender packed ≡ None → tossing file more sender packed ≡ None
 unfolding tossing toss_outcome
 still_unfiled file base more sender packed knows none = grind (arith, unfiled-more)
 
--- nor is a known message
 known_unfiled : (file : LinkFile) (base : List Filed) (sender : Address) (packed : Message) → is_known base (key_of (received sender packed)) ≡ true
     → tossing file base sender packed ≡ None
 unfolding tossing toss_outcome
@@ -72,7 +69,6 @@ tossing-is : (file : LinkFile) (base : List Filed) (sender : Address) (packed : 
 unfolding tossing
 tossing-is file base sender packed m h = where_filed-is (toss_outcome file base sender packed) (received sender packed) m h
 
--- once tossed, a message is not filed again
 unfiled_after : (file : LinkFile) (base : List Filed) (sender : Address) (packed : Message)
     → tossing file (base ++ option_to_list (tossing file base sender packed)) sender packed ≡ None
 unfiled_after file base sender packed = grind (arith, append-nil, known_unfiled, tossing-is, known-last)
@@ -89,14 +85,12 @@ knows-tossed file base sender (packed ∷ ms) key h =
     let filed = option_to_list (tossing file base sender packed) in
     knows-tossed file (base ++ filed) sender ms key (knows-append base filed key h)
 
--- once tossed, no messages are filed again
 none_after : (file : LinkFile) (base : List Filed) (sender : Address) (ms : List Message) → NoneIsFiled file (tossed file base sender ms) sender ms
 none_after file base sender [] = tt
 none_after file base sender (packed ∷ ms) =
     let next = base ++ option_to_list (tossing file base sender packed) in
     (still_unfiled file next (tossed file next sender ms) sender packed (knows-tossed file next sender ms) (unfiled_after file base sender packed), none_after file next sender ms)
 
--- and a toss that files nothing leaves the base unchanged
 none_tossed : (file : LinkFile) (base : List Filed) (sender : Address) (ms : List Message) → NoneIsFiled file base sender ms → tossed file base sender ms ≡ base
 none_tossed file base sender [] h = refl
 none_tossed file base sender (packed ∷ ms) h =
@@ -125,7 +119,6 @@ still_taken s z p grows taken = grind (arith, still_none)
 taken_after : (s : System) (p : Packet) → HasTaken (taking p (length p.messages) s) p
 taken_after s p = grind (arith, state-taking, none_after)
 
--- the first system of an address is the same after a change
 receiver_stays : (run : Run) (i : ℕ) (f : System → System) (p : Packet) → ((s : System) → Grows s (f s)) → receiver (changing run i f) p ≡ receiver run p
 receiver_stays run i f p grows =
     let own : System → Address = λ s. s.file.system in
@@ -148,7 +141,6 @@ changing-taken run i f grows are = record {
       ];
 }
 
--- packets are made
 packets-taken : (run : Run) (more : List Packet) → AreTaken run → AreTaken (record { systems = run.systems; packets = run.packets ++ more; delivered = run.delivered })
 packets-taken run more are = record {
   there = λ k among. omega (arith, are.there k among, length-append run.packets more);
@@ -158,7 +150,6 @@ packets-taken run more are = record {
       are.taken k p s among (was ∙ ap (λ (r : Packet). Some r) same) here;
 }
 
--- a packet comes
 coming-taken : (run : Run) (k : ℕ) (p : Packet) (s : System) → nth k run.packets ≡ Some p → AreTaken run → AreTaken (coming run k p (Some s))
 coming-taken run k p s there are =
     let i = receiver run p in
@@ -223,11 +214,9 @@ events-taken : (events : List RunEvent) (run : Run) → AreTaken run → AreTake
 events-taken [] run are = are
 events-taken (event ∷ events) run are = events-taken events (after_event run event) (event-taken run event are)
 
--- in every run each delivered packet is taken
 pub run-taken : (files : List LinkFile) (events : List RunEvent) → AreTaken (run_of files events)
 run-taken files events =
     events-taken events (start files) (record { there = λ k among. absurd among; taken = λ k p s among at here. absurd among })
 
--- a system that has taken the packet stays unchanged when it comes again
 pub state_stays : (s : System) (p : Packet) → HasTaken s p → state_of (taking p (length p.messages) s) ≡ state_of s
 state_stays s p taken = grind (arith, none_tossed, state-taking)

@@ -6,8 +6,7 @@ use Rattle.model_graph.specs.Walk.{Among}
 use Rattle.echo_packet.specs.{Packet.PacketOf, Packet.packet_bytes, declared.limits.Limits.Limits}
 use Rattle.echo_links.specs.Links.{same_address}
 use Rattle.echo_filed.specs.Filed.{Filed}
-use Rattle.model_steps.specs.{declared.packet.Packet.Packet, declared.stamp.Stamp.Stamp, declared.draft.Draft.Draft, SystemState.SystemState, SystemState.state_with, Posting.posting, Purging.purged}
-use Rattle.model_steps.specs.{Scanning.scanned, Stamps.is_stamp, Tossing.sender_of, Tossing.tossed}
+use Rattle.model_steps.specs.{declared.packet.Packet.Packet, declared.stamp.Stamp.Stamp, declared.draft.Draft.Draft, SystemState.SystemState, SystemState.state_with, Posting.posting, Purging.purged, Scanning.scanned, Stamps.is_stamp, Tossing.sender_of, Tossing.tossed}
 use Rattle.model_run.specs.Run.{Run, System, change, destination, nth}
 pub use Rattle.model_run.specs.Run.{state_of}
 

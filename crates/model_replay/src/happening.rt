@@ -3,8 +3,7 @@
 ghost use Rattle.std.specs.Prelude.{◌≡◌, ◌≢◌, ◌++◌, ◌∷◌, [], ◌<◌, length, map, Bool, true, false, None, Some, IfOk, OnOk};
 ghost use Rattle.std.specs.List.{All};
 ghost use Rattle.model_steps.specs.declared.fault.PostFault.TheVariants as post_fault;
-ghost use Rattle.model_run.specs.Run.{Run, after_event, change, destination, nth};
-ghost use Rattle.model_run.specs.Event.{run_event};
+ghost use Rattle.model_run.specs.{Run.Run, Run.after_event, Run.change, Run.destination, Run.nth, Event.run_event};
 ghost use Rattle.model_steps.specs.{declared.packet.Packet.Packet, SystemState.SystemState};
 ghost use Rattle.model_replay.specs.Worlds.{Fits, IsWorldOf, LeadsToFirst, ScanFits, own_addresses, after_posting, after_purge, after_scan, after_toss, arrived, encoded, made, made_by, scanned_world, with_change, world_after};
 ghost use Rattle.model_replay.specs.Taken.{AreTaken};
@@ -45,7 +44,6 @@ pub(crate) fn happen(
     }
 }
 
-// A system posts.
 fn post(
     world: &mut World,
     system: usize,
@@ -96,7 +94,6 @@ fn unless_memory(fault: PostFault) -> Result<(), AllocError>
     }
 }
 
-// A system is purged.
 fn purge(world: &mut World, system: usize) -> Result<(), AllocError>
     ensures addresses { own_addresses world.new.systems ≡ own_addresses world.old.systems }
     ensures purged { OnOk result (world.new ≡ with_change world.old system after_purge) }

@@ -30,7 +30,7 @@ pub fn replay(
     replay_reported(alloc, files, events, hasher, &Unreported)
 }
 
-/// The same, and `reported` hears of each event once it happened.
+/// Replays, and `reported` hears of each event once it happened.
 pub fn replay_reported<T: ReplayProgress>(
     alloc: Global,
     files: Vec<LinkFile>,
@@ -57,7 +57,6 @@ pub fn replay_counted(
     replayed(alloc, files, events, hasher, &Unreported)
 }
 
-// The same, and `reported` hears of each event.
 fn replayed<T: ReplayProgress>(
     alloc: Global,
     files: Vec<LinkFile>,

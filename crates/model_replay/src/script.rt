@@ -4,8 +4,7 @@ ghost use Rattle.std.specs.Prelude.{◌≡◌, ◌⊎◌, ◌≤◌, ◌^◌, �
 ghost use Rattle.std.specs.{Char.is_ascii_uppercase, List.list_any};
 ghost use Rattle.echo_addr.specs.Entries.{tokens};
 ghost use Rattle.model_run.specs.declared.event.Event.{Event, TheVariants.Deliver, TheVariants.Purge, TheVariants.Scan};
-ghost use Rattle.model_replay.specs.Script.{ScriptOf, draft_of, event_in, events_in, index_in, script_line_fault, moment, number_in, only_index, posting_in, serial_in};
-ghost use Rattle.model_replay.specs.declared.script.ScriptFault.{ScriptFault};
+ghost use Rattle.model_replay.specs.{Script.ScriptOf, Script.draft_of, Script.event_in, Script.events_in, Script.index_in, Script.script_line_fault, Script.moment, Script.number_in, Script.only_index, Script.posting_in, Script.serial_in, declared.script.ScriptFault.ScriptFault};
 ghost use Rattle.model_replay.specs.declared.script.ScriptFault.TheVariants as script;
 
 use echo_addr::{Items, next_token};
@@ -122,7 +121,6 @@ fn take_line(
     Ok(())
 }
 
-/// The event of a line.
 fn event_in(alloc: Global, line: &[u8]) -> Result<Option<Event>, AllocError>
     ensures { IfOk result (λ event. event ≡ event_in line.now) }
 {
@@ -224,7 +222,6 @@ fn draft(alloc: Global, digits: &[u8], body: &[u8]) -> Result<Draft, AllocError>
     })
 }
 
-/// The index, if the line has nothing else.
 fn only_index(rest: &[u8]) -> Option<usize>
     ensures { result ≡ only_index (tokens rest.now) }
 {

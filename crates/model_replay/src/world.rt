@@ -3,8 +3,7 @@
 ghost use Rattle.std.specs.Prelude.{◌≡◌, None, IfOk, IfSome, length, drop, count_by, nat_le, not, false, bytes_eq, unwrap_or, slice_get, option_copied, option_map};
 ghost use Rattle.std.specs.{Io.KnownBytes.Keeps, List.list_all};
 ghost use Rattle.base_file.specs.{BaseFile.is_countable, BaseFile.saved_bytes, Saving.CountsSaved, Saving.Saves, Saving.ReportsTooMany};
-ghost use Rattle.model_run.specs.World.{area_count, filed_at, waiting_at, is_settled, undelivered};
-ghost use Rattle.model_run.specs.Run.{Run, destination, nth};
+ghost use Rattle.model_run.specs.{World.area_count, World.filed_at, World.waiting_at, World.is_settled, World.undelivered, Run.Run, Run.destination, Run.nth};
 ghost use Rattle.model_replay.specs.Worlds.{IsWorldOf, OfSystem, encoded, made, message_at};
 
 use base_file::BaseFault;
@@ -64,7 +63,6 @@ impl Exported {
         })
     }
 
-    /// Whom it is for.
     pub(crate) fn to(&self) -> Address
         ensures { result ≡ self.now.to }
     {
@@ -78,7 +76,6 @@ impl Exported {
         !self.came
     }
 
-    /// Its bytes.
     pub(crate) fn bytes(&self, alloc: Global) -> Result<Vec<u8>, AllocError>
         ensures { IfOk result (λ bytes. bytes.items ≡ self.now.bytes) }
     {
@@ -89,7 +86,6 @@ impl Exported {
     }
 }
 
-// Whom a packet is for.
 fn destination(packet: &Packet) -> Address
     ensures { result ≡ destination packet.now }
 {

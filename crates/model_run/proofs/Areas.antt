@@ -1,8 +1,7 @@
 -- The area in link files, and the keys of its messages.
 use Rattle.std.proofs.Common.{◌≡◌, inl, inr, refl, sym, ap, ◌∙◌, ℕ, IsTrue, List, [], ◌∷◌, map, Option, Some, arith, nat_lt, ◌≢◌, ◌⊎◌, ◌++◌}
 use Rattle.std.proofs.lemmas.Bool.{cond-true, cond-false, Decides.nat_tests}
-use Rattle.std.specs.Prelude.{Bool, true, false, bytes_eq, is_some, ◌&&◌, not, find}
-use Rattle.std.specs.{List.AllByRecursion, List.list_all, Char.to_ascii_uppercase, Cmp.Lexicographic.bytes_decides}
+use Rattle.std.specs.{Prelude.Bool, Prelude.true, Prelude.false, Prelude.bytes_eq, Prelude.is_some, Prelude.◌&&◌, Prelude.not, Prelude.find, List.AllByRecursion, List.list_all, Char.to_ascii_uppercase, Cmp.Lexicographic.bytes_decides}
 use Rattle.echo_addr.specs.{declared.address.Address.Address, Address.IsAddress, Address.net_node_of, declared.address.NetNode.NetNode}
 use Rattle.model_graph.specs.Walk.{Among, Different}
 use Rattle.model_graph.proofs.Members.{Among-at, Among-append_cases, Among-append_left, Among-append_right, Among-from_Contains, Contains-from_Among}
@@ -10,14 +9,12 @@ use Rattle.model_run.specs.{Nets.Tidy, Run.System, Orderly.tag_of, Tidy.lists, T
 use Rattle.echo_links.specs.Links.{Area, LinkFile, has_area, is_link, links_of, same_address, IsArea, IsFile, upper}
 use Rattle.echo_filed.specs.{declared.key.Key.Key, declared.key.Key.TheVariants.ById, Filed.Filed, Filed.key_of, Sets.entry_set, Sets.same_entry}
 use Rattle.echo_text.specs.{Echo.EchoText, Ids.id_of, Lines.is_tag, Lines.is_tag_byte}
-use Rattle.model_run.proofs.Lists.{not_both, and-parts, and-from, any-to, any-from, Among-map_to, Among-map_from, yes_or_no, Among-filter_from, Among-filter_to}
-use Rattle.model_run.proofs.TosserPremises.{Laws}
+use Rattle.model_run.proofs.{Lists.not_both, Lists.and-parts, Lists.and-from, Lists.any-to, Lists.any-from, Lists.Among-map_to, Lists.Among-map_from, Lists.yes_or_no, Lists.Among-filter_from, Lists.Among-filter_to, TosserPremises.Laws}
 use Rattle.echo_links.proofs.Addresses.{same_address_decides}
 use Rattle.echo_filed.proofs.Orders.{entry_set_is_set, same_entry_decides}
 use Rattle.model_steps.specs.Scanning.{exported, is_seen_by, is_sender, targets}
 use Rattle.model_run.specs.Tidy as files_are
 
--- the area of a message's key is the area of the message
 pub key-tag : (m : Filed) → tag_of (key_of m) ≡ m.echo.tag
 unfolding key_of
 key-tag m = grind arith
@@ -35,15 +32,9 @@ module _ (laws : Laws) where
       let same = laws.keys.sound (ById x []) (ById y []) (and-from (bytes_eq x y) (bytes_eq [] []) t refl) in
       cc
 
-  pub bytes-equal : (x y : List ℕ) → x ≡ y → bytes_eq x y ≡ true
-  bytes-equal x y e =
-      (and-parts (bytes_eq x y) (bytes_eq [] []) (laws.keys.full (ById x []) (ById y []) (ap (λ (t : List ℕ). ById t []) e))).0
-
-  -- a key has one writer
   pub one-writer : (tag : List ℕ) (f g : Address) (k : Key) → Wrote tag f k → Wrote tag g k → f ≡ g
   one-writer tag f g k wrote_f wrote_g = grind arith
 
--- members of a list without repeated names are equal if their names are
 pub one_name : {X Y : Type 0} (g : X → Y) (xs : List X) → Different (map g xs) → (x y : X) → Among x xs → Among y xs → g x ≡ g y → x ≡ y
 one_name g [] d x y i j e = absurd i
 one_name g (z ∷ xs) d x y i j e = grind (arith, Among-at, Among-map_to, one_name g xs d.1 x y)
@@ -52,7 +43,6 @@ pub map-map : {X Y Z : Type 0} (g : Y → Z) (f : X → Y) (xs : List X) → map
 map-map g f [] = refl
 map-map g f (x ∷ xs) = ap (λ (zs : List _). g (f x) ∷ zs) (map-map g f xs)
 
--- a file with a link of an area has the area
 pub link-has_area : (file : LinkFile) (tag : List ℕ) (a : Address) → is_link file tag a ≡ true → has_area file tag ≡ true
 unfolding links_of
 link-has_area file tag a h = grind (arith, not_both)
@@ -87,7 +77,6 @@ module _ (laws : Laws) (files : List LinkFile) (tag : List ℕ) (tidy : files_ar
     pub area-carries : (s : System) → Among s ss → has_area s.file tag ≡ true → Carries files tag (address_of s)
     area-carries s at_s h = grind (arith, any-to, file-in, and-from)
 
-    -- no two systems have one address
     pub one-system : (s z : System) → Among s ss → Among z ss → address_of s ≡ address_of z → s ≡ z
     one-system = one_name address_of ss addresses_differ
 
@@ -112,7 +101,6 @@ found (area ∷ areas) tag all h =
 pub upper-same : (file : LinkFile) (tag : List ℕ) → IsFile file → has_area file tag ≡ true → upper tag ≡ tag
 upper-same file tag fits h = grind (arith, found, upper-bytes, and-parts, nat_lt)
 
--- a file with a link of an area has the area
 pub link-area : (file : LinkFile) (tag : List ℕ) (a : Address) → Among a (links_of file tag) → has_area file tag ≡ true
 unfolding links_of
 link-area file tag a h = grind arith
@@ -122,14 +110,12 @@ link-area file tag a h = grind arith
 not-true : (b : Bool) → not b ≡ true → b ≡ false
 not-true b h1 = grind (arith, not_both)
 
--- an address that is a link is among the links
 pub link-among : (file : LinkFile) (tag : List ℕ) (a : Address) → is_link file tag a ≡ true → Among a (links_of file tag)
 link-among file tag a h = grind (arith, any-from, same_address_decides)
 
 pub among-link : (file : LinkFile) (tag : List ℕ) (a : Address) → Among a (links_of file tag) → is_link file tag a ≡ true
 among-link file tag a h = any-to (same_address a) a (links_of file tag) h ((same_address_decides a a).1 refl)
 
--- a target is a link that is not in SEEN-BY
 pub target-link : (file : LinkFile) (m : Filed) (a : Address) → Among a (targets file m) → Among a (links_of file m.echo.tag)
 unfolding targets
 target-link file m a h = (Among-filter_from (λ link. not (is_sender m link) && not (is_seen_by m link)) a (links_of file m.echo.tag) h).0
@@ -138,7 +124,6 @@ pub target-unseen : (file : LinkFile) (m : Filed) (a : Address) → Among a (tar
 unfolding targets
 target-unseen file m a h = grind (arith, not-true, and-parts, Among-filter_from)
 
--- and such a link is a target, unless it sent the message
 pub target-to : (file : LinkFile) (m : Filed) (a : Address) → Among a (links_of file m.echo.tag) → m.sender ≢ Some a → is_seen_by m a ≡ false → Among a (targets file m)
 unfolding targets
 target-to file m a h other unseen = grind (arith, Among-filter_to, and-from, yes_or_no, same_address_decides)
@@ -176,7 +161,6 @@ pub exported-tag : (file : LinkFile) (e : EchoText) → (exported file e).tag �
 unfolding exported
 exported-tag file e = refl
 
--- a seen address has its entry in SEEN-BY
 pub seen-among : (m : Filed) (a : Address) → is_seen_by m a ≡ true → Among (net_node_of a) m.echo.seen
 seen-among m a h = grind (arith, any-from, same_entry_decides)
 

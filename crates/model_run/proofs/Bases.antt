@@ -1,21 +1,16 @@
 -- A base, and its history of filed messages.
 pub use Rattle.model_run.specs.States.{IsKept, IsReadable, Kept, RunOk, SystemOk}
 use Rattle.std.proofs.Common.{◌≡◌, ◌≢◌, inl, inr, refl, sym, subst, ap, ◌∙◌, ℕ, zero, suc, ◌≤◌, arith, List, [], ◌∷◌, ◌++◌, length, take, drop, map, Option, Some, None}
-use Rattle.std.specs.Prelude.{true, false, bytes_eq, unwrap_or, option_map, filter}
-use Rattle.std.specs.List.{list_any}
+use Rattle.std.specs.{Prelude.true, Prelude.false, Prelude.bytes_eq, Prelude.unwrap_or, Prelude.option_map, Prelude.filter, List.list_any}
 use Rattle.model_graph.specs.Walk.{Among}
 use Rattle.model_graph.proofs.Members.{Among-append_cases}
 use Rattle.echo_text.specs.{Echo.IsEcho, Echo.msgid_of, Refusal.text_refusal, Ids.id_of}
 use Rattle.echo_filed.specs.{declared.key.Key.Key, declared.key.Key.TheVariants.ById, Filed.Filed, Filed.key_of, Filed.key_with, Filed.same_key, Stubs.stub_of, Written.echo_of}
 use Rattle.base_file.specs.Base.{is_known}
-use Rattle.model_steps.specs.Scanning.{scanned, packets_of, packet_to, header_to, copy_to, recipients, goes_to}
-use Rattle.model_steps.specs.{Posting.has_id, Posting.posted, Posting.posting, Purging.purged, declared.packet.Packet.Packet, declared.draft.Draft.Draft, declared.stamp.Stamp.Stamp}
-use Rattle.model_steps.specs.Tossing.{received, tossing, sender_of}
-use Rattle.model_run.specs.Run.{System, filing, nth, Run, fresh, posting_at, tossing_at, scanning_at, purging_at, receiver, changing, taking, after_event, start}
-use Rattle.model_run.specs.{Orderly.count, Orderly.FiledUnchanged, Orderly.SameContent, Event.RunEvent, Fits.FilesFit, Keeping.content_of}
+use Rattle.model_steps.specs.{Scanning.scanned, Scanning.packets_of, Scanning.packet_to, Scanning.header_to, Scanning.copy_to, Scanning.recipients, Scanning.goes_to, Posting.has_id, Posting.posted, Posting.posting, Purging.purged, declared.packet.Packet.Packet, declared.draft.Draft.Draft, declared.stamp.Stamp.Stamp, Tossing.received, Tossing.tossing, Tossing.sender_of}
+use Rattle.model_run.specs.{Run.System, Run.filing, Run.nth, Run.Run, Run.fresh, Run.posting_at, Run.tossing_at, Run.scanning_at, Run.purging_at, Run.receiver, Run.changing, Run.taking, Run.after_event, Run.start, Orderly.count, Orderly.FiledUnchanged, Orderly.SameContent, Event.RunEvent, Fits.FilesFit, Keeping.content_of}
 use Rattle.echo_links.specs.Links.{IsFile, LinkFile, upper}
-use Rattle.model_run.proofs.Lists.{any-to, any-from, and-parts, not_both, Among-filter_from, Among-take, Among-drop, change-all, nth-among, Among-map_from}
-use Rattle.model_run.proofs.{EventKinds.each-kind, EventKinds.scan_of, TosserPremises.Laws, Targets.some_same}
+use Rattle.model_run.proofs.{Lists.any-to, Lists.any-from, Lists.and-parts, Lists.not_both, Lists.Among-filter_from, Lists.Among-take, Lists.Among-drop, Lists.change-all, Lists.nth-among, Lists.Among-map_from, EventKinds.each-kind, EventKinds.scan_of, TosserPremises.Laws, Targets.some_same}
 use Rattle.echo_addr.specs.declared.address.Address.{Address}
 use Rattle.echo_packet.specs.Message.{Message}
 use Rattle.model_steps.proofs.{Posted.posting_posted, Received.tossing_received}
@@ -24,7 +19,6 @@ use Rattle.model_run.proofs.TosserPremises as counts
 pub IsKept-itself : (m : Filed) → IsKept m m
 IsKept-itself m = record { form = inl refl; key = refl; sender = refl }
 
--- the base with one message more
 pub Kept-filed : (c : ℕ) (base history : List Filed) (m : Filed) → Kept c base history → Kept c (base ++ m ∷ []) (history ++ m ∷ [])
 Kept-filed zero base history m k = ap (λ (ms : List Filed). ms ++ m ∷ []) k
 Kept-filed (suc c) [] history m k = absurd k
@@ -35,7 +29,6 @@ same_kept : (base : List Filed) → Kept (length base) base base
 same_kept [] = refl
 same_kept (b ∷ base) = (IsKept-itself b, same_kept base)
 
--- the cursor moves to the end
 pub Kept-scanned : (c : ℕ) (base history : List Filed) → Kept c base history → Kept (length base) base history
 Kept-scanned zero base history k = let P : List Filed → Type 0 = λ ms. Kept (length base) base ms in subst P k (same_kept base)
 Kept-scanned (suc c) [] history k = absurd k
@@ -66,7 +59,6 @@ Kept-count key (suc c) [] history k = absurd k
 Kept-count key (suc c) (b ∷ base) [] k = absurd k
 Kept-count key (suc c) (b ∷ base) (h ∷ history) k = grind (arith, Kept-count key c base history k.1)
 
--- the base has the key of each filed message
 pub Kept-in : (c : ℕ) (base history : List Filed) → Kept c base history → (h : Filed) → Among h history →
     (b : Filed) × Among b base × (key_of b ≡ key_of h)
 Kept-in zero base history k m i = (m, (let P : List Filed → Type 0 = λ ms. Among m ms in subst P (sym k) i), refl)
@@ -74,7 +66,6 @@ Kept-in (suc c) [] history k m i = absurd k
 Kept-in (suc c) (b ∷ base) [] k m i = absurd k
 Kept-in (suc c) (b ∷ base) (h ∷ history) k m i = grind (arith, Kept-in c base history k.1 m)
 
--- each message of the base was filed with its key
 pub Kept-back : (c : ℕ) (base history : List Filed) → Kept c base history → (b : Filed) → Among b base →
     (h : Filed) × Among h history × IsKept b h
 Kept-back zero base history k m i = (m, (let P : List Filed → Type 0 = λ ms. Among m ms in subst P k i), IsKept-itself m)
@@ -82,7 +73,6 @@ Kept-back (suc c) [] history k m i = absurd i
 Kept-back (suc c) (b ∷ base) [] k m i = absurd k
 Kept-back (suc c) (b ∷ base) (h ∷ history) k m i = grind (arith, Kept-back c base history k.1 m)
 
--- each message of the base before the cursor was filed before it
 pub Kept-front : (c : ℕ) (base history : List Filed) → Kept c base history → (b : Filed) → Among b (take c base) →
     (h : Filed) × Among h (take c history) × IsKept b h
 Kept-front zero base history k m i = absurd i
@@ -90,7 +80,6 @@ Kept-front (suc c) [] history k m i = absurd k
 Kept-front (suc c) (b ∷ base) [] k m i = absurd k
 Kept-front (suc c) (b ∷ base) (h ∷ history) k m i = grind (arith, Kept-front c base history k.1 m)
 
--- messages at one index of base and history
 pub Kept-at : (c : ℕ) (base history : List Filed) → Kept c base history → (i : ℕ) (b h : Filed) →
     nth i base ≡ Some b → nth i history ≡ Some h → IsKept b h
 Kept-at zero base history k i b h e f = grind (arith, some_same, IsKept-itself)
@@ -114,7 +103,6 @@ module _ (laws : Laws) where
   unfolding purged
   Kept-purged c base history k = purged_kept c base history k
 
--- this count is the count of `Counts`
 pub count-is : (key : Key) (ms : List Filed) → count key ms ≡ counts.count key_of same_key key ms
 count-is key [] = refl
 count-is key (m ∷ ms) = omega (arith, count-is key ms)
@@ -124,15 +112,12 @@ abbrev pub HasKey : Key → List Filed → Type 0
 HasKey key ms = (m : Filed) × Among m ms × (key_of m ≡ key)
 
 module _ (laws : Laws) (s : System) (ok : SystemOk s) where
-  -- a key that the history has is known
   pub known-from_history : (key : Key) → HasKey key s.history → is_known s.base key ≡ true
   known-from_history key has = grind (arith, Kept-in, any-to)
 
-  -- the history has each key that the base knows
   pub known-in_history : (key : Key) → is_known s.base key ≡ true → HasKey key s.history
   known-in_history key known = grind (arith, any-from, Kept-back)
 
-  -- and the id of a message in the history
   has_id-from_key : (m : Filed) (tag id : List ℕ) → key_of m ≡ ById tag id → has_id id m ≡ true
   unfolding key_of
   has_id-from_key m tag id e = with_id (msgid_of m.echo.kept) e
@@ -239,7 +224,6 @@ module _ (laws : Laws) where
   pub purging-ok : (s : System) → SystemOk s → SystemOk (purging_at s)
   purging-ok s ok = grind (arith, Kept-purged)
 
-  -- waiting messages are as they were filed
   pub waiting-valid : (s : System) → SystemOk s → (m : Filed) → Among m (drop s.cursor s.base) → IsEcho m.echo
   waiting-valid s ok m h = grind (arith, Among-drop, Kept-waiting)
 
@@ -315,7 +299,6 @@ module _ (laws : Laws) where
   pub start-ok : (files : List LinkFile) → FilesFit files → RunOk (start files)
   start-ok files fits = grind (arith, Among-map_from, fresh-ok)
 
--- on every net each system has filed each message at most once
 pub filed-once : (run : Run) → RunOk run → (s : System) → Among s run.systems → (key : Key) → count key s.base ≤ 1
 filed-once run ok s h key =
     let at_s = ok.systems s h in
@@ -323,12 +306,10 @@ filed-once run ok s h key =
 
 -- A system filed a message once, unchanged.
 
--- messages with equal content agree part by part
 pub same-parts : (m o : Filed) → content_of m ≡ content_of o → SameContent m o
 same-parts m o e = grind arith
 
 module _ (laws : Laws) where
-  -- messages that a system filed with one key are equal
   pub one-message : (s : System) → SystemOk s → (m n : Filed) → Among m s.history → Among n s.history → key_of m ≡ key_of n → m ≡ n
   one-message s ok m n i j e =
       let few : counts.count key_of same_key (key_of n) s.history ≤ 1 = omega (arith, count-is (key_of n) s.history, ok.once (key_of n)) in

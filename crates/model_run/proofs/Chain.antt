@@ -26,7 +26,6 @@ both a b h = grind (arith, chain-parts, and_from, lt-ltb, eq-eqb)
 simple : Simple linked
 simple = record { both_ways = both; no_self = λ a h. elim (chain-parts a a h).2 [ inl e ↦ omega (arith, e) | inr e ↦ omega (arith, e) ] }
 
--- of three different systems in a row the middle one is 1
 middle : (a b c : ℕ) → IsTrue (linked a b) → IsTrue (linked b c) → a ≢ c → b ≡ 1
 middle a b c to_b to_c other = grind (arith, chain-parts)
 
@@ -35,7 +34,6 @@ no-cycle first [] cycle = absurd (let long = cycle.long in omega (arith, long))
 no-cycle first (b ∷ []) cycle = absurd (let long = cycle.long in omega (arith, long))
 no-cycle first (b ∷ c ∷ rest) cycle = grind (arith, middle, behind)
   where
-    -- then c, between b and its next member, is 1 too
     behind : (rest : List ℕ) (last : ℕ) → Walk linked c rest last → IsTrue (linked last first) → Different (b ∷ c ∷ rest) → b ≡ 1 →
         IsTrue (linked b c) → ⊥
     behind [] last walk back different at_b link =

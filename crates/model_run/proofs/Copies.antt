@@ -1,19 +1,16 @@
 -- The contents of the packets of a scan.
 use Rattle.std.proofs.Common.{◌≡◌, ◌≢◌, inl, inr, refl, ap, List, [], ◌∷◌, ◌++◌, map, Option, Some, arith}
-use Rattle.std.specs.Prelude.{Bool, true, false, filter, not, is_none, unwrap_or, option_map}
-use Rattle.std.specs.List.{flat_map}
+use Rattle.std.specs.{Prelude.Bool, Prelude.true, Prelude.false, Prelude.filter, Prelude.not, Prelude.is_none, Prelude.unwrap_or, Prelude.option_map, List.flat_map}
 use Rattle.echo_addr.specs.{declared.address.Address.Address, declared.address.NetNode.NetNode, Address.net_node_of}
 use Rattle.model_graph.specs.Walk.{Among, Different}
 use Rattle.model_graph.proofs.Members.{Among-at}
 use Rattle.echo_packet.specs.Message.{Message}
 use Rattle.echo_text.specs.{Echo.IsEcho, Refusal.text_refusal}
-use Rattle.model_steps.specs.Scanning.{packet_to, header_to, copy_to, exported, goes_to, targets, recipients}
-use Rattle.model_steps.specs.{declared.stamp.Stamp.Stamp, Tossing.received}
+use Rattle.model_steps.specs.{Scanning.packet_to, Scanning.header_to, Scanning.copy_to, Scanning.exported, Scanning.goes_to, Scanning.targets, Scanning.recipients, declared.stamp.Stamp.Stamp, Tossing.received}
 use Rattle.echo_links.specs.Links.{LinkFile, is_link, links_of, same_address, IsFile}
 use Rattle.echo_filed.specs.Filed.{Filed, key_of}
 use Rattle.model_run.specs.{Run.destination, Orderly.copies, Keeping.content_of}
-use Rattle.model_run.proofs.Lists.{not_both, yes_or_no, and-parts, and-from, any-to, any-from, filter-yes, Among-filter_from, Among-filter_to, Among-flat_map_to}
-use Rattle.model_run.proofs.TosserPremises.{Laws}
+use Rattle.model_run.proofs.{Lists.not_both, Lists.yes_or_no, Lists.and-parts, Lists.and-from, Lists.any-to, Lists.any-from, Lists.filter-yes, Lists.Among-filter_from, Lists.Among-filter_to, Lists.Among-flat_map_to, TosserPremises.Laws}
 
 -- the copy of a message, as its receiver files it
 unfoldable pub copied : LinkFile → Filed → Filed
@@ -83,7 +80,6 @@ module _ (laws : Laws) (file : LinkFile) where
   false-not : (b : Bool) → b ≡ false → not b ≡ true
   false-not b e = ap not e
 
-  -- by cases on the sender
   sender-is : (o : Option Address) (a : Address) → unwrap_or (option_map (same_address a) o) false ≡ true → o ≡ Some a
   sender-is h1 a e = grind (arith, not_both)
 
@@ -107,7 +103,6 @@ module _ (laws : Laws) (file : LinkFile) where
   pub goes-to : (m : Filed) (a : Address) → Targeted m a → goes_to file a m ≡ true
   goes-to m a t = any-to (same_address a) a (targets file m) (targets-to m a t) (laws.addresses.full a a refl)
 
-  -- a target of a message gets a packet
   pub target-recipient : (waiting : List Filed) (m : Filed) (a : Address) → Among m waiting → Targeted m a → Among a (recipients file waiting)
   unfolding recipients
   target-recipient waiting m a h t = grind (arith, Among-flat_map_to, targets-to)

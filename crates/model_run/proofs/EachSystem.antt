@@ -7,8 +7,7 @@ use Rattle.echo_packet.specs.Message.{Message}
 use Rattle.model_steps.specs.{declared.packet.Packet.Packet, Posting.posting, Tossing.sender_of, Tossing.tossing}
 use Rattle.echo_links.specs.Links.{LinkFile}
 use Rattle.echo_filed.specs.Filed.{Filed}
-use Rattle.model_run.specs.Run.{System, Run, after_event, filing, fresh, posting_at, purging_at, receiver, run_of, scanning_at, start, taking, tossing_at}
-use Rattle.model_run.specs.Event.{RunEvent}
+use Rattle.model_run.specs.{Run.System, Run.Run, Run.after_event, Run.filing, Run.fresh, Run.posting_at, Run.purging_at, Run.receiver, Run.run_of, Run.scanning_at, Run.start, Run.taking, Run.tossing_at, Event.RunEvent}
 use Rattle.model_run.proofs.{EventKinds.each-kind, Lists.change-all, Lists.Among-map_from, Bases.Kept, Bases.Kept-filed, Bases.Kept-purged, Bases.Kept-scanned, WholeRuns.along, TosserPremises.Laws}
 
 module _ (P : System → Type 0) (filed : (s : System) (o : Option Filed) → P s → P (filing s o))

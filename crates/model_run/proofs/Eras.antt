@@ -3,13 +3,10 @@ use Rattle.std.proofs.Common.{◌≡◌, ◌≢◌, inl, inr, refl, sym, subst, 
 use Rattle.std.specs.Prelude.{Bool, true, false}
 use Rattle.model_graph.specs.{Walk.Among, Walk.Reaches, Beyond.IsWay}
 use Rattle.model_graph.proofs.{Members.CanTell, Cycles.along_ways}
-use Rattle.model_run.specs.Events.{Filed, Event, Posts, Exports, Comes, filed, copies, Has}
+use Rattle.model_run.specs.{Events.Filed, Events.Event, Events.Posts, Events.Exports, Events.Comes, Events.filed, Events.copies, Events.Has, Nets.Net, Nets.Tidy}
 use Rattle.model_run.specs.Rules.{Always, FilesOnce, IsPossible, Keeps, Kept, NewKeys, Rule, SendsOnce, Tells, filing, keeping, sending, telling, keys}
 use Rattle.model_run.specs.RulesOrderly.{Compares, IsSettled, Orderly, place, goal}
-use Rattle.model_run.specs.Nets.{Net, Tidy}
-use Rattle.model_run.proofs.Targets.{simple, parted, none_some, Invariant, view_of}
-use Rattle.model_run.proofs.Steps.{Has-cases, posting-keeps, arrival-keeps, coming-keeps, exporting-keeps}
-use Rattle.model_run.proofs.Lists.{Among-map_from}
+use Rattle.model_run.proofs.{Targets.simple, Targets.parted, Targets.none_some, Targets.Invariant, Targets.view_of, Lists.Among-map_from, Steps.Has-cases, Steps.posting-keeps, Steps.arrival-keeps, Steps.coming-keeps, Steps.exporting-keeps}
 
 module _ {A N K C : Type 0} (net : Net A N) (Same : C → C → Type 0) where
   -- a run by the rules
@@ -45,13 +42,11 @@ module _ {A N K C : Type 0} (net : Net A N) (Same : C → C → Type 0) where
       each telling = (h.1 telling).1
       each keys = (h.1 keys).1
 
--- the empty run keeps the rules
 pub nothing-by_rules : {A N : Type 0} (K C : Type 0) (net : Net A N) (Same : C → C → Type 0) → ByRules {K = K} net Same []
 nothing-by_rules K C net Same = grind arith
 
 module _ {A N K C : Type 0} (can : CanTell A) (can_keys : CanTell K) (net : Net A N) (tidy : Tidy net)
     (Same : C → C → Type 0) (compares : Compares Same) where
-  -- the invariant of the empty run
   nothing-yet : Invariant {K = K} net Same (view_of [])
   nothing-yet = grind arith
 
@@ -83,7 +78,6 @@ module _ {A N K C : Type 0} (can : CanTell A) (can_keys : CanTell K) (net : Net 
   always (event ∷ run) h = event-keeps event run (always run (earlier-by_rules net Same event run h)) h
 
   module _ (run : List (Event A N K C)) (inv : Invariant net Same (view_of run)) where
-    -- no system is sent its own posting
     never-own : (m : Filed A N K C) → Among m (filed run) → m.sender ≡ None → ¬ Among (place m) (map goal (copies run))
     never-own m h own sent_back =
         let (c, i, e) = Among-map_from goal (place m) (copies run) sent_back in

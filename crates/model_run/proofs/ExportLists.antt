@@ -1,25 +1,20 @@
 -- Lists of exports, and the packets of a run as its exports.
 use Rattle.std.proofs.Common.{◌≡◌, ◌≢◌, inl, inr, refl, sym, ap, ◌∙◌, ℕ, ◌+◌, ◌≤◌, arith, List, [], ◌∷◌, ◌++◌, map, Option, Some, None, subst, length, take, drop, ◌<◌}
-use Rattle.std.proofs.lemmas.List.{append_assoc, append-nil, map-append, take-append-drop, take-append-le, take_all}
-use Rattle.std.proofs.lemmas.{Bool.eq-eqb, Bool.ne_eqb, List.Elements.filter-append}
+use Rattle.std.proofs.lemmas.{List.append_assoc, List.append-nil, List.map-append, List.take-append-drop, List.take-append-le, List.take_all, Bool.eq-eqb, Bool.ne_eqb, List.Elements.filter-append}
 use Rattle.std.specs.Prelude.{Bool, true, false, filter, if◌then◌else◌}
 use Rattle.echo_addr.specs.declared.address.Address.{Address}
 use Rattle.echo_filed.specs.{declared.key.Key.Key, Filed.Filed, Filed.key_of, Filed.same_key}
 use Rattle.model_steps.specs.{declared.packet.Packet.Packet, declared.stamp.Stamp.Stamp, Scanning.scanned, Scanning.copy_to, Scanning.goes_to, Scanning.targets, Stamps.is_stamp, Tossing.sender_of}
-use Rattle.model_run.specs.Event.{RunEvent, Posting, Scanning, Delivery, PartDelivery, Purging}
+use Rattle.model_run.specs.{Event.RunEvent, Event.Posting, Event.Scanning, Event.Delivery, Event.PartDelivery, Event.Purging, Orderly.count, Orderly.sent_count, Orderly.copies, Orderly.origin, Fits.FilesFit, Exports.Export, Exports.event_exports, Exports.export_of, Exports.exports_after, Exports.scan_exports, Exports.sent_by, Exports.IsSentCopy, Exports.exports}
 use Rattle.model_run.specs.Run.{System, Run, after_event, after_events, change, delivery, nth, part_delivery, scanning, scanning_at, destination, filing, fresh, purging_at, tossing_at, run_of, start, taking}
-use Rattle.model_run.specs.Exports.{Export, event_exports, export_of, exports_after, scan_exports, sent_by, IsSentCopy, exports}
-use Rattle.model_run.specs.{Orderly.count, Orderly.sent_count, Orderly.copies, Orderly.origin, Fits.FilesFit}
 use Rattle.model_run.proofs.Lists.{yes_or_no, filter-all, filter-no, filter-none, filter-yes, Among-map_from, any-from, any-to, Among-filter_from, Among-filter_to, Among-drop, nth-among, nth-change, nth-changed, Among-map_to}
-use Rattle.model_run.proofs.Bases.{Kept-cursor, Kept-length, SystemOk, count-is, RunOk, event-ok, start-ok}
-use Rattle.model_run.proofs.{TosserPremises.Laws, ScanPackets.copy-packet, ScanPackets.scanned-copy, ScanPackets.scanned-count, ScanPackets.scanned-origin}
+use Rattle.model_run.proofs.{Bases.Kept-cursor, Bases.Kept-length, Bases.SystemOk, Bases.count-is, Bases.RunOk, Bases.event-ok, Bases.start-ok, TosserPremises.Laws, ScanPackets.copy-packet, ScanPackets.scanned-copy, ScanPackets.scanned-count, ScanPackets.scanned-origin}
 use Rattle.model_graph.specs.Walk.{Among}
 use Rattle.model_graph.proofs.Members.{Among-append_cases, Among-append_left, Among-append_right}
 use Rattle.echo_packet.specs.Message.{Message}
 use Rattle.echo_links.specs.Links.{LinkFile, same_address}
 use Rattle.model_run.proofs.TosserPremises as counts
 
--- the count of a joined list is the sum of the counts
 pub count-append : (k : Key) (ms ns : List Filed) → count k (ms ++ ns) ≡ count k ms + count k ns
 count-append k [] ns = omega arith
 count-append k (m ∷ ms) ns = omega (arith, count-append k ms ns)
@@ -32,7 +27,6 @@ pub count-filter : (k : Key) (p : Filed → Bool) (ms : List Filed) → count k 
 count-filter k p [] = omega arith
 count-filter k p (m ∷ ms) = grind (arith, yes_or_no, filter-yes, filter-no, count-filter k p ms)
 
--- the packets that a system made
 pub made-packets : (n i : ℕ) (ps : List Packet) → map (λ (e : Export). e.packet) (map (export_of n i) ps) ≡ ps
 made-packets n i [] = refl
 made-packets n i (p ∷ ps) = ap (λ (qs : List Packet). p ∷ qs) (made-packets n i ps)
@@ -46,7 +40,6 @@ sent_by-own n i ps = grind (arith, filter-all, Among-map_from, eq-eqb, made-pack
 pub sent_by-other : (n i j : ℕ) (ps : List Packet) → i ≢ j → sent_by j (map (export_of n i) ps) ≡ []
 sent_by-other n i j ps other = grind (arith, filter-none, Among-map_from, ne_eqb)
 
--- the packets of a run are its exports
 scan-packets : (run : Run) (n i : ℕ) (stamp : Stamp) (found : Option System) →
     (scanning run i stamp found).packets ≡ run.packets ++ map (λ (e : Export). e.packet) (scan_exports n i stamp found)
 scan-packets run n i stamp found = grind (arith, append-nil, made-packets)
@@ -129,7 +122,6 @@ pub made-same : (s z : System) (sent : List Packet) → SameDone s z → Made s 
 made-same s z sent same made = grind arith
 
 module _ (laws : Laws) where
-  -- no key is both among the scanned messages and the waiting ones
   pub apart : (s : System) → SystemOk s → (m n : Filed) → Among m (take s.cursor s.history) → Among n (drop s.cursor s.history) → key_of m ≢ key_of n
   apart s ok m n i j e =
       let k = key_of n in
@@ -148,7 +140,6 @@ module _ (laws : Laws) where
 
   -- a system scans
   module _ (s : System) (ok : SystemOk s) (stamp : Stamp) (sent : List Packet) (made : Made s sent) where
-    -- after the scan all messages are scanned
     all-done : take (length s.base) s.history ≡ s.history
     all-done = take_all (length s.base) s.history (omega (arith, Kept-length s.cursor s.base s.history ok.kept))
 
@@ -225,7 +216,6 @@ module _ (laws : Laws) where
 
 -- The scan that made each packet, at all times, on every net.
 
--- an export is among those of its system
 sent-by_own : (e : Export) (all : List Export) → Among e all → Among e.packet (sent_by e.system all)
 sent-by_own e all h = grind (arith, Among-map_to, Among-filter_to, eq-eqb)
 
@@ -238,7 +228,6 @@ module _ (laws : Laws) where
     pub one_scan : (e f : Export) → Among e all → Among f all → e.system ≡ f.system →
         (c d : Filed) → Among c (copies e.packet) → Among d (copies f.packet) → key_of c ≡ key_of d → e.event ≡ f.event
 
-  -- the maker of an export stays
   maker-changed : (run : Run) (e : Export) → (s : System) × (nth e.system run.systems ≡ Some s) → (i : ℕ) (f : System → System) →
       (s : System) × (nth e.system (change i f run.systems) ≡ Some s)
   maker-changed run e maker i f = elim (nth-changed i e.system f maker.0 run.systems maker.1) [
@@ -262,7 +251,6 @@ module _ (laws : Laws) where
     one_scan = logged.one_scan;
   }
 
-  -- nothing happens
   idle-logged : (run : Run) (n : ℕ) (all : List Export) → Logged run n all → Logged run (n + 1) all
   idle-logged run n all logged = grind arith
 
@@ -290,7 +278,6 @@ module _ (laws : Laws) where
     made-there : (j : ℕ) (z : System) → i ≢ j → Made z (sent_by j all) → Made z (sent_by j (all ++ new))
     made-there j z other made = grind (arith, sent_by-append, sent_by-other, append-nil)
 
-    -- a message exported now was not exported before
     new-keys : (e f : Export) → Among e all → Among f new → e.system ≡ f.system →
         (c d : Filed) → Among c (copies e.packet) → Among d (copies f.packet) → key_of c ≢ key_of d
     new-keys e f h g same c d at_c at_d q =

@@ -7,14 +7,10 @@ use Rattle.model_graph.specs.{Walk.Among, Walk.Connected, Walk.Reaches, Walk.Sim
 use Rattle.model_graph.proofs.{Cycles.Polygons-from_Parted, Members.Among-cases}
 use Rattle.echo_links.specs.Links.{LinkFile, has_area}
 use Rattle.echo_filed.specs.Filed.{Filed}
-use Rattle.model_run.specs.Grave.{AllAreCarriers, AreTakenForOne, AreTwins, HaveOwnAddresses, GraveFault, SelfLink, OneSided, SameNetNode, Apart, Loop}
-use Rattle.model_run.specs.{Event.RunEvent, Run.nth, Run.run_of, Run.Run, Run.System, Tidy.Carries, Tidy.lists, Tidy.Tidy, Harms.Harm, Harms.IsHarmed, LawsOfRuns.LawsOfRuns}
-use Rattle.model_run.specs.{Postings.ComesToRest, Postings.trial_posting, Postings.post_and_scan, Orderly.Orderly}
-use Rattle.model_run.proofs.Lists.{any-to, Among-map_to, not_both, nth-cases, yes_or_no}
+use Rattle.model_run.specs.{Grave.AllAreCarriers, Grave.AreTakenForOne, Grave.AreTwins, Grave.HaveOwnAddresses, Grave.GraveFault, Grave.SelfLink, Grave.OneSided, Grave.SameNetNode, Grave.Apart, Grave.Loop, Event.RunEvent, Run.nth, Run.run_of, Run.Run, Run.System, Tidy.Carries, Tidy.lists, Tidy.Tidy, Harms.Harm, Harms.IsHarmed, LawsOfRuns.LawsOfRuns, Postings.ComesToRest, Postings.trial_posting, Postings.post_and_scan, Orderly.Orderly}
+use Rattle.model_run.proofs.{Lists.any-to, Lists.Among-map_to, Lists.not_both, Lists.nth-cases, Lists.yes_or_no, Branches.Touches, Branches.closed-by, Branches.no_way_around, HarmLists.among-nth, HarmLists.nth-index, Places.carrier-file, Places.lister-carries, Targets.some_same, Targets.none_some, Resting.runs-settle, OneMessage.poster, HarmSteps.run-files}
 use Rattle.model_run.proofs.Holders.{Holds, Unharmed, harm-or_none, spread, listed-sent}
 use Rattle.model_run.proofs.Spreads.{IsNear, Spread, answered, from_poster, no_kite, not_hidden, one_or_two, reached}
-use Rattle.model_run.proofs.{Branches.Touches, Branches.closed-by, Branches.no_way_around, HarmLists.among-nth, HarmLists.nth-index, Places.carrier-file, Places.lister-carries}
-use Rattle.model_run.proofs.{Targets.some_same, Targets.none_some, Resting.runs-settle, OneMessage.poster, HarmSteps.run-files}
 
 module _ (files : List LinkFile) (known : LawsOfRuns files) (tag : List ℕ) (one_file : HaveOwnAddresses files) (all_known : AllAreCarriers files tag)
     (moves : ℕ → List RunEvent) (rests : (i : ℕ) → ComesToRest files tag i (moves i)) where
@@ -34,7 +30,6 @@ module _ (files : List LinkFile) (known : LawsOfRuns files) (tag : List ℕ) (on
         Spread linked (Carries files tag) file.system (Held i file is area)
     spread-at i file is area = spread files known tag one_file all_known i file is area (moves i) (rests i).only_moves (none i file is area)
 
-    -- a property of the poster of every posting that spreads holds of each carrier
     of_carriers : (P : Address → Type 0) →
         ((f : Address) (Has : Address → Filed → Type 0) → Spread linked (Carries files tag) f Has → P f) → (a : Address) → Carries files tag a → P a
     of_carriers P each a carries =
@@ -51,14 +46,12 @@ module _ (files : List LinkFile) (known : LawsOfRuns files) (tag : List ℕ) (on
     connected a b at_a at_b =
         of_carriers (λ f. Reaches linked f b) (λ f Has spreads. reached linked (Carries files tag) f Has spreads b at_b) a at_a
 
-    -- a poster is not sent its own posting
     pub no_self : (a : Address) → ¬ IsTrue (linked a a)
     no_self a link =
         of_carriers (λ f. (IsTrue (linked f f) → ⊥))
         (λ f Has spreads to_self. none_some (sym spreads.own ∙ from_poster linked (Carries files tag) f Has spreads f spreads.posting to_self spreads.at_poster))
         a (lister-carries files tag a a link) link
 
-    -- the first SEEN-BY hides no carrier
     open_to : (a y : Address) → Carries files tag a → Carries files tag y → IsNear linked a y → y ≢ a → IsTrue (linked a y)
     open_to a y at_a at_y near other =
         of_carriers (λ f. (IsNear linked f y → y ≢ f → IsTrue (linked f y)))
@@ -71,7 +64,6 @@ module _ (files : List LinkFile) (known : LawsOfRuns files) (tag : List ℕ) (on
       simple : Simple linked
       simple = record { both_ways = both; no_self = no_self }
 
-      -- of two linked links of b, c touches both or neither
       closed : (b c : Address) → IsTrue (linked b c) → (x y : Address) → IsTrue (linked b x) → IsTrue (linked b y) → IsTrue (linked x y) →
           Touches linked c x → Touches linked c y
       closed b c to_c = closed-by linked b c (no_self b) (λ x y near to_y side other unlinked.
@@ -140,7 +132,6 @@ module _ (files : List LinkFile) (known : LawsOfRuns files) (tag : List ℕ) (on
 
 -- Each grave fault does harm, and an area without one is tidy.
 
--- a run that does harm is not orderly
 pub harm-breaks : (run : Run) (tag : List ℕ) → Harm run tag → ¬ Orderly run tag
 harm-breaks run tag harm orderly =
     elim harm [
@@ -152,7 +143,6 @@ harm-breaks run tag harm orderly =
     ]
 
 module _ (files : List LinkFile) (known : LawsOfRuns files) (tag : List ℕ) where
-  -- a system that lists itself is sent its own posting
   pub self_link-harms : (a : Address) → IsTrue (lists files tag a a) → IsHarmed files tag
   self_link-harms a lists_itself =
       let (i, harm) = listed-sent files known tag a lists_itself in
@@ -164,7 +154,6 @@ module _ (files : List LinkFile) (known : LawsOfRuns files) (tag : List ℕ) whe
   module _ (one_file : HaveOwnAddresses files) (all_known : AllAreCarriers files tag) where
     -- for any moves
     module _ (moves : ℕ → List RunEvent) (rests : (i : ℕ) → ComesToRest files tag i (moves i)) where
-      -- if no posting does harm, no fault is grave
       pub not_grave : NoneHarms files known tag one_file all_known moves rests → ¬ GraveFault files tag
       not_grave none (SelfLink a link) = no_self files known tag one_file all_known moves rests none a link
       not_grave none (OneSided a b link no_answer) = no_answer (both files known tag one_file all_known moves rests none a b link)
@@ -211,7 +200,6 @@ module _ (files : List LinkFile) (known : LawsOfRuns files) (tag : List ℕ) whe
               | inr none ↦ inl (tidy-by none)
             ]
 
-    -- such moves exist
     moves : ℕ → List RunEvent
     moves i = (runs-settle files known tag all_known (trial_posting i tag ∷ [])).0
 
@@ -229,7 +217,6 @@ module _ (files : List LinkFile) (known : LawsOfRuns files) (tag : List ℕ) whe
         ((a b : Address) → AreTwins files tag a b → AreTakenForOne files tag a b) → Tidy files tag ⊎ IsHarmed files tag
     tidy-or_harmed some taken = elim (tidy-or_shown moves rests some taken) [ inl tidy ↦ inl tidy | inr shown ↦ inr (shown-harmed shown) ]
 
--- an area that no file has is orderly
 pub nobody-orderly : (files : List LinkFile) (tag : List ℕ) → ¬ IsTrue (list_any (λ (file : LinkFile). has_area file tag) files) →
     (events : List RunEvent) → Orderly (run_of files events) tag
 nobody-orderly files tag none events = record {

@@ -7,10 +7,8 @@ use Rattle.echo_packet.specs.Message.{Message}
 use Rattle.echo_links.specs.Links.{LinkFile}
 use Rattle.echo_filed.specs.{Filed.Filed, Filed.key_of, Stubs.stub_of, declared.key.Key.Key}
 use Rattle.echo_filed.proofs.Keys.{stub_of_stub}
-use Rattle.model_steps.specs.{declared.stamp.Stamp.Stamp, Posting.posting, Posting.IsAllowed, Posting.posted, Purging.purged, Stamps.is_stamp, Tossing.tossing, Tossing.received}
-use Rattle.model_steps.specs.declared.{packet.Packet.Packet, draft.Draft.Draft}
-use Rattle.model_run.specs.Lone.{LoneEvent, LoneSystem, PostHere, PurgeHere, ScanHere, TossHere, after_all_lone, after_lone, lone_at_first, lone_run, with_scanned, with_system}
-use Rattle.model_run.specs.{Run.System, Run.filing, Run.tossing_at, Run.IsLater, Orderly.count, Owed.IsFiledBy, Owed.IsFromLink}
+use Rattle.model_steps.specs.{declared.stamp.Stamp.Stamp, Posting.posting, Posting.IsAllowed, Posting.posted, Purging.purged, Stamps.is_stamp, Tossing.tossing, Tossing.received, declared.packet.Packet.Packet, declared.draft.Draft.Draft}
+use Rattle.model_run.specs.{Lone.LoneEvent, Lone.LoneSystem, Lone.PostHere, Lone.PurgeHere, Lone.ScanHere, Lone.TossHere, Lone.after_all_lone, Lone.after_lone, Lone.lone_at_first, Lone.lone_run, Lone.with_scanned, Lone.with_system, Run.System, Run.filing, Run.tossing_at, Run.IsLater, Orderly.count, Owed.IsFiledBy, Owed.IsFromLink}
 use Rattle.model_graph.specs.Walk.{Among}
 use Rattle.model_graph.proofs.Members.{Among-append_left, Among-append_cases, Among-append_right}
 use Rattle.base_file.specs.Base.{is_known}
@@ -34,20 +32,17 @@ purged-length zero ms = ap (λ (ns : List Filed). length ns) (purged-none ms)
 purged-length (suc n) [] = ap (λ (ns : List Filed). length ns) (purged-empty (suc n))
 purged-length (suc n) (m ∷ ms) = omega (arith, purged-length n ms, ap (λ (ns : List Filed). length ns) (purged-cons m ms n))
 
--- one message more
 purged-more : (n : ℕ) (ms : List Filed) (m : Filed) → n ≤ length ms → purged (ms ++ m ∷ []) n ≡ purged ms n ++ m ∷ []
 purged-more zero ms m h = purged-none (ms ++ m ∷ []) ∙ ap (λ (ns : List Filed). ns ++ m ∷ []) (sym (purged-none ms))
 purged-more (suc n) [] m h = absurd (omega arith)
 purged-more (suc n) (x ∷ ms) m h = grind (arith, purged-cons, purged-more n ms m (omega arith))
 
--- a later purge covers the one before it
 purged-again : (n c : ℕ) (ms : List Filed) → n ≤ c → purged (purged ms n) c ≡ purged ms c
 purged-again zero c ms h = ap (λ (ns : List Filed). purged ns c) (purged-none ms)
 purged-again (suc n) zero ms h = absurd (omega arith)
 purged-again (suc n) (suc c) [] h = ap (λ (ns : List Filed). purged ns (suc c)) (purged-empty (suc n))
 purged-again (suc n) (suc c) (m ∷ ms) h = grind (arith, purged-cons, stub_of_stub, purged-again n c ms (omega arith))
 
--- all messages past the last purge are as they were filed
 purged-waiting : (n c : ℕ) (ms : List Filed) → n ≤ c → drop c (purged ms n) ≡ drop c ms
 purged-waiting zero c ms h = ap (λ (ns : List Filed). drop c ns) (purged-none ms)
 purged-waiting (suc n) zero ms h = absurd (omega arith)
@@ -146,7 +141,6 @@ Lasts-itself s = record { system = grown-later s.system s.system (Grows-itself s
 Lasts-again : (s t z : LoneSystem) → Lasts s t → Lasts t z → Lasts s z
 Lasts-again s t z a b = grind (arith, append_assoc)
 
--- events let the history and the sent packets only grow
 scan-lasts : (s : LoneSystem) (stamp : Stamp) (b : Bool) → IsLoneLeft s → Lasts s (if b then with_scanned stamp s else s)
 scan-lasts s stamp true left = grind (arith, left-length, append-nil)
 scan-lasts s stamp false left = Lasts-itself s
@@ -168,7 +162,6 @@ events-last (event ∷ later) s left =
     Lasts-again s (after_lone s event) (after_all_lone (after_lone s event) later)
     (event-lasts s event left) (events-last later (after_lone s event) (event-left s event left))
 
--- events one after another, and a run in two parts
 pub events-append : (earlier later : List LoneEvent) (s : LoneSystem) → after_all_lone s (earlier ++ later) ≡ after_all_lone (after_all_lone s earlier) later
 events-append [] later s = refl
 events-append (event ∷ earlier) later s = events-append earlier later (after_lone s event)
@@ -181,15 +174,12 @@ run-lasts file earlier later =
     let P : LoneSystem → Type 0 = λ z. Lasts (lone_run file earlier) z in
     subst P (sym (run-append file earlier later)) (events-last later (lone_run file earlier) (run-left file earlier))
 
--- the link file stays
 pub run-file : (file : LinkFile) (events : List LoneEvent) → (lone_run file events).system.file ≡ file
 run-file file events = (events-last events (lone_at_first file) (first-left file)).system.file
 
--- a system keeps its filed messages
 pub filed-later : (s z : System) → IsLater s z → (m : Filed) → Among m s.history → Among m z.history
 filed-later s z later m h = grind (arith, Among-append_left)
 
--- the mark of the last purge does not fall
 event-purged : (s : LoneSystem) (event : LoneEvent) → IsLoneLeft s → s.purged_to ≤ (after_lone s event).purged_to
 event-purged s event h1 = grind arith
 
@@ -199,7 +189,6 @@ events-purged (event ∷ later) s left = grind (arith, event-purged, event-left,
 
 -- Every filed message came from somewhere, and every due message is filed.
 
--- a filed message was there before, or is the one that `filing` adds
 pub filing-from : (s : System) (o : Option Filed) (m : Filed) → Among m (filing s o).history → Among m s.history ⊎ (o ≡ Some m)
 filing-from s None m h = inl h
 filing-from s (Some n) m h =
@@ -273,7 +262,6 @@ pub run-from : (file : LinkFile) (events : List LoneEvent) (m : Filed) → Among
 run-from file events m h =
     elim (events-from events (lone_at_first file) (first-left file) m h) [ inl none ↦ absurd none | inr found ↦ found ]
 
--- a message filed at an event is there after later ones
 event-stays : (file : LinkFile) (earlier later : List LoneEvent) (event : LoneEvent) (m : Filed) →
     Among m (after_lone (lone_run file earlier) event).system.history → Among m (lone_run file (earlier ++ event ∷ later)).system.history
 event-stays file earlier later event m h =
@@ -286,7 +274,6 @@ event-stays file earlier later event m h =
 filed-now : (s : System) (o : Option Filed) (m : Filed) → o ≡ Some m → Among m (filing s o).history
 filed-now s o m e = grind (arith, Among-append_right)
 
--- a posting that nothing refuses is filed
 accepted-posting : (file : LinkFile) (base : List Filed) (tag : List ℕ) (draft : Draft) (serial : ℕ) (stamp : Stamp) →
     IsAllowed file base tag draft serial stamp → posting file base tag draft serial stamp ≡ Some (posted file tag draft serial stamp)
 unfolding posting
@@ -303,12 +290,10 @@ run-posted file earlier later tag draft serial stamp allowed =
     let here : P s.system.file = grind (arith, filed-now, accepted-posting) in
     event-stays file earlier later event (posted file tag draft serial stamp) (subst P (run-file file earlier) here allowed)
 
--- a base without the key does not know it
 unknown : (key : Key) (base : List Filed) → count key base ≡ 0 → is_known base key ≡ false
 unknown key [] h = refl
 unknown key (m ∷ base) h = grind (arith, yes_or_no, cond-true, cond-false, not_both, unknown key base)
 
--- a message from a link with a new key is filed
 pub new-filed : (s : System) (sender : Address) (q : Message) → IsFromLink s.file sender q → is_known s.base (key_of (received sender q)) ≡ false →
     Among (received sender q) (filing s (tossing s.file s.base sender q)).history
 new-filed s sender q from new = grind (arith, filed-now, received_tossing, area-has)

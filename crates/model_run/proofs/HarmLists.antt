@@ -6,7 +6,6 @@ use Rattle.model_graph.specs.Walk.{Among}
 use Rattle.model_run.specs.Run.{nth, change}
 use Rattle.model_run.proofs.{Lists.yes_or_no, Targets.some_same, Targets.none_some}
 
--- there is an item at each index below the length, and at no other
 pub nth-below : {X : Type 0} (i : ℕ) (xs : List X) → i < length xs → (x : X) × (nth i xs ≡ Some x)
 nth-below i [] less = absurd (omega arith)
 nth-below zero (x ∷ xs) less = (x, refl)
@@ -39,13 +38,11 @@ nth-map_from {X} {Y} g i y [] h = absurd (none_some h)
 nth-map_from g zero y (x ∷ xs) h = (x, refl, sym (some_same h))
 nth-map_from g (suc i) y (x ∷ xs) h = nth-map_from g i y xs h
 
--- the changed item at an index
 pub nth-changed : {X : Type 0} (i : ℕ) (f : X → X) (x : X) (xs : List X) → nth i xs ≡ Some x → nth i (change i f xs) ≡ Some (f x)
 nth-changed {X} i f x [] h = absurd (none_some h)
 nth-changed {X} zero f x (y ∷ xs) h = ap (λ (z : X). Some (f z)) (some_same h)
 nth-changed (suc i) f x (y ∷ xs) h = nth-changed i f x xs h
 
--- if no item passes
 pub none_passes : {X : Type 0} (p : X → Bool) (xs : List X) → nth (position_or_len p xs) xs ≡ None → (x : X) → Among x xs → p x ≡ false
 none_passes p [] h x i = absurd i
 none_passes {X} p (y ∷ xs) h x i = grind (arith, yes_or_no, cond-false, none_some, cond-true, none_passes p xs)

@@ -8,16 +8,13 @@ use Rattle.echo_packet.specs.Message.{Message}
 use Rattle.model_steps.specs.{declared.outcome.Outcome.Outcome, Tossing.received, Tossing.toss_outcome, Tossing.tossing, Tossing.where_filed}
 use Rattle.echo_links.specs.Links.{LinkFile}
 use Rattle.echo_filed.specs.Filed.{Filed}
-use Rattle.model_run.specs.Run.{System, Run, after_event, after_events, filing, run_of, start, tossing_at}
-use Rattle.model_run.specs.Event.{RunEvent}
+use Rattle.model_run.specs.{Run.System, Run.Run, Run.after_event, Run.after_events, Run.filing, Run.run_of, Run.start, Run.tossing_at, Event.RunEvent}
 use Rattle.model_run.proofs.{WholeRuns.event-files, WholeRuns.files_of, WholeRuns.filing-file, WholeRuns.fresh-files, Filings.filing-from as filing-new, Targets.some_same, Targets.none_some}
 
--- events one after another
 pub after-append : (events later : List RunEvent) (run : Run) → after_events run (events ++ later) ≡ after_events (after_events run events) later
 after-append [] later run = refl
 after-append (event ∷ events) later run = after-append events later (after_event run event)
 
--- an invariant after one event more
 pub after_one_more : (P : Run → Type 0) (files : List LinkFile) (events : List RunEvent) (event : RunEvent) →
     P (after_event (run_of files events) event) → P (run_of files (events ++ event ∷ []))
 after_one_more P files events event h = subst P (sym (after-append events (event ∷ []) (start files))) h

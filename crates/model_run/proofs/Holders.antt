@@ -9,18 +9,12 @@ use Rattle.model_steps.specs.{declared.packet.Packet.Packet, Posting.posted, Sca
 use Rattle.echo_text.specs.Echo.{EchoText}
 use Rattle.echo_links.specs.Links.{LinkFile, has_area, is_link, links_of}
 use Rattle.echo_filed.specs.{declared.key.Key.Key, Filed.Filed, Filed.key_of}
-use Rattle.model_run.specs.Run.{Run, System, destination, nth, run_of, filing, fresh, scanning_at}
+use Rattle.model_run.specs.{Run.Run, Run.System, Run.destination, Run.nth, Run.run_of, Run.filing, Run.fresh, Run.scanning_at, Event.RunEvent, Exports.Export, Exports.IsSentCopy, Exports.exports, Exports.sent_by, Tidy.Carries, Tidy.lists, Grave.AllAreCarriers, Harms.Harm, Harms.SentItsOwn, Postings.IsMove, Postings.trial_posting, Postings.post_and_scan, LawsOfRuns.LawsOfRuns}
 use Rattle.model_run.specs.Orderly.{IsPosting, Settled, copies, count, origin, sent_count, tag_of}
-use Rattle.model_run.specs.{Event.RunEvent, Exports.Export, Exports.IsSentCopy, Exports.exports, Exports.sent_by, Tidy.Carries, Tidy.lists, Grave.AllAreCarriers, Harms.Harm, Harms.SentItsOwn}
-use Rattle.model_run.specs.{Postings.IsMove, Postings.trial_posting, Postings.post_and_scan, LawsOfRuns.LawsOfRuns}
 use Rattle.model_run.proofs.OneMessage.{Arrived, OnlyPosted, only-posted, post_of, post_of-tag, poster, counted, counted-one, one-or_zero, sent-part, sent-two, posted-at}
-use Rattle.model_run.proofs.Places.{carrier-file, file-carries, file-lists, lists-link, one-system, lists-file}
+use Rattle.model_run.proofs.{Places.carrier-file, Places.file-carries, Places.file-lists, Places.lists-link, Places.one-system, Places.lists-file, Lists.Among-take, Lists.not_both, Lists.nth-among, HarmLists.among-nth, HarmLists.nth-map, HarmLists.nth-changed, Resting.export-of, Resting.file-there, Resting.system-there, Spreads.Came, Spreads.Spread, HarmSteps.run-files, HarmSteps.after_one_more, Targets.some_same, Targets.none_some}
 use Rattle.model_run.proofs.Areas.{link-area, among-link, among-seen, exported-path, listed-from, listed-to, seen-among, target-link, target-to, target-unseen, link-among, key-tag}
-use Rattle.model_run.proofs.{Lists.Among-take, Lists.not_both, Lists.nth-among, HarmLists.among-nth, HarmLists.nth-map, HarmLists.nth-changed}
-use Rattle.model_run.proofs.{Resting.export-of, Resting.file-there, Resting.system-there, Spreads.Came, Spreads.Spread, HarmSteps.run-files, HarmSteps.after_one_more}
-use Rattle.model_run.proofs.Targets.{some_same, none_some}
 
--- some item has the property, or all have the other one
 some-or_all : {X : Type 0} (P Q : X → Type 0) → ((x : X) → P x ⊎ Q x) → (xs : List X) → ((x : X) × Among x xs × P x) ⊎ ((x : X) → Among x xs → Q x)
 some-or_all P Q decide [] = inr (λ x h. absurd h)
 some-or_all P Q decide (y ∷ xs) =
@@ -32,7 +26,6 @@ some-or_all P Q decide (y ∷ xs) =
       ]
     ]
 
--- for systems with the area
 where_area : {P Q : Type 0} (has : Bool) → P ⊎ Q → ((has ≡ true) × P) ⊎ (has ≡ true → Q)
 where_area has h1 = grind (arith, not_both)
 
@@ -101,7 +94,6 @@ module _ (files : List LinkFile) (known : LawsOfRuns files) (tag : List ℕ) (on
     pub never_own : sent_count f (key_of p) run.packets ≡ 0
     pub filed : (s : System) → Among s run.systems → has_area s.file tag ≡ true → 1 ≤ count (key_of p) s.base
 
-  -- a posting that has settled does harm or no harm
   pub harm-or_none : Settled run tag → Harm run tag ⊎ Unharmed
   harm-or_none settled =
       elim (some-or_all (λ s. (has_area s.file tag ≡ true) × (2 ≤ sent_count s.file.system (key_of p) run.packets))
@@ -144,7 +136,6 @@ module _ (files : List LinkFile) (known : LawsOfRuns files) (tag : List ℕ) (on
           inl (inr (inl (of_poster z at same held sent)))
 
   module _ (unharmed : Unharmed) where
-    -- each system with the area has it once
     once : (j : ℕ) (s : System) → nth j run.systems ≡ Some s → has_area s.file tag ≡ true → count (key_of p) s.history ≡ 1
     once j s at has =
         let h = system-at j s at in
@@ -161,7 +152,6 @@ module _ (files : List LinkFile) (known : LawsOfRuns files) (tag : List ℕ) (on
         let (m, l, key) = counted (key_of p) s.history (let one = once j s at has_s in omega arith) in
         (m, record { index = j; system = s; at = at; address = ap (λ (g : LinkFile). g.system) (sym same) ∙ e; area_there = has_s; filed = l; key = key })
 
-    -- two messages that one address holds are equal
     same-system : (x : Address) (m n : Filed) (a : Holds x m) (b : Holds x n) → (a.index ≡ b.index) × (a.system ≡ b.system)
     same-system x m n a b =
         let e = one-system files known one_file events a.index b.index a.system b.system a.at b.at (a.address ∙ sym b.address) in
@@ -262,13 +252,11 @@ module _ (files : List LinkFile) (known : LawsOfRuns files) (tag : List ℕ) (on
             ])));
       }
 
-      -- this system sent it there
       sent-there : sent_count x (key_of p) (sent_by sent.export.system (exports files events)) ≡ 1
       sent-there =
           let P : Key → Type 0 = λ k. sent_count x k (sent_by sent.export.system (exports files events)) ≡ 1 in
           subst P original-key (known.sent events sent.export.system maker sent.at original sent.scanned x copy.target)
 
-    -- the posting at its poster, or a copy that came
     held-or_came : (x : Address) (m : Filed) (a : Holds x m) → ((a.index ≡ i) × (x ≡ f) × (m ≡ p)) ⊎ Sent x m
     held-or_came x m a =
         elim (only.from a.index a.system a.at m a.filed) [
@@ -281,7 +269,6 @@ module _ (files : List LinkFile) (known : LawsOfRuns files) (tag : List ℕ) (on
               )
         ]
 
-    -- each filed message was scanned
     was_scanned : (x : Address) (m : Filed) (a : Holds x m) → Among m (take a.system.cursor a.system.history)
     was_scanned x m a =
         let s = a.system in
@@ -366,7 +353,6 @@ module _ (files : List LinkFile) (known : LawsOfRuns files) (tag : List ℕ) (i 
       let all = ap (λ (ps : List Packet). sent_count a (key_of p) ps) (known.packets events) in
       omega (arith, one, all, sent-part a (key_of p) i (exports files events))
 
-  -- a system that lists itself is sent its own posting
   pub own-sent : is_link file tag file.system ≡ true → SentItsOwn (run_of files (post_and_scan i tag)) tag
   own-sent link = record {
     system = scanned-poster;
@@ -378,7 +364,6 @@ module _ (files : List LinkFile) (known : LawsOfRuns files) (tag : List ℕ) (i 
     sent = sent-to_link file.system link;
   }
 
--- a system that lists itself is sent its posting at once
 pub listed-sent : (files : List LinkFile) → LawsOfRuns files → (tag : List ℕ) (a : Address) → IsTrue (lists files tag a a) →
     (i : ℕ) × SentItsOwn (run_of files (post_and_scan i tag)) tag
 listed-sent files known tag a lists_itself = grind (arith, lists-file, among-nth, link-area, link-among, own-sent)

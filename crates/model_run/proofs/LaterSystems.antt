@@ -7,10 +7,8 @@ use Rattle.echo_packet.specs.Message.{Message}
 use Rattle.model_steps.specs.{declared.packet.Packet.Packet, Posting.posting, Tossing.sender_of, Tossing.tossing}
 use Rattle.echo_links.specs.Links.{LinkFile}
 use Rattle.echo_filed.specs.Filed.{Filed}
-use Rattle.model_run.specs.Run.{IsLater, System, Run, after_event, after_events, change, filing, nth, posting_at, purging_at, receiver, run_of, scanning_at, start, taking, tossing_at}
-use Rattle.model_run.specs.Event.{RunEvent}
-use Rattle.model_run.proofs.{EventKinds.each-kind, TosserPremises.Laws, Lists.nth-among, Lists.nth-changed, Bases.Kept, Bases.Kept-cursor, Bases.Kept-length}
-use Rattle.model_run.proofs.{EachSystem.AllKept, EachSystem.event-kept, EachSystem.run-kept, HarmSteps.after-append}
+use Rattle.model_run.specs.{Run.IsLater, Run.System, Run.Run, Run.after_event, Run.after_events, Run.change, Run.filing, Run.nth, Run.posting_at, Run.purging_at, Run.receiver, Run.run_of, Run.scanning_at, Run.start, Run.taking, Run.tossing_at, Event.RunEvent}
+use Rattle.model_run.proofs.{EventKinds.each-kind, TosserPremises.Laws, Lists.nth-among, Lists.nth-changed, Bases.Kept, Bases.Kept-cursor, Bases.Kept-length, EachSystem.AllKept, EachSystem.event-kept, EachSystem.run-kept, HarmSteps.after-append}
 
 pub later-itself : (s : System) → IsLater s s
 later-itself s = record { file = refl; cursor = omega arith; filed = ([], sym (append-nil s.history)) }

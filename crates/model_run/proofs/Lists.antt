@@ -1,14 +1,12 @@
 -- Items of lists by their index, and members of mapped and filtered lists.
 use Rattle.std.proofs.Common.{◌≡◌, ◌≢◌, ◌⊎◌, inl, inr, refl, subst, ap, ◌∙◌, ℕ, zero, suc, arith, List, [], ◌∷◌, ◌++◌, length, take, drop, map, Some, None}
 use Rattle.std.proofs.lemmas.Bool.{cond-true, cond-false, eq-eqb}
-use Rattle.std.specs.Prelude.{Bool, true, false, filter, ◌&&◌, ◌||◌}
-use Rattle.std.specs.List.{flat_map, list_any, position_or_len}
+use Rattle.std.specs.{Prelude.Bool, Prelude.true, Prelude.false, Prelude.filter, Prelude.◌&&◌, Prelude.◌||◌, List.flat_map, List.list_any, List.position_or_len}
 use Rattle.model_graph.specs.Walk.{Among, Different}
 use Rattle.model_run.specs.Run.{nth, change, with_index}
 use Rattle.model_run.proofs.Targets.{none_some}
 use Rattle.model_graph.proofs.Members.{Among-append_cases, Among-append_left, Among-append_right}
 
--- a test says yes or no
 pub yes_or_no : (b : Bool) → (b ≡ true) ⊎ (b ≡ false)
 yes_or_no b = grind arith
 
@@ -54,7 +52,6 @@ nth-among {X} i x [] h = absurd (none_some h)
 nth-among zero x (y ∷ xs) h = inl (let e : Some y ≡ Some x = h in cc)
 nth-among (suc i) x (y ∷ xs) h = inr (nth-among i x xs h)
 
--- after a change an item at an index is an old item, or the changed one
 pub nth-change : {X : Type 0} (i j : ℕ) (f : X → X) (z : X) (xs : List X) → nth j (change i f xs) ≡ Some z →
     ((i ≢ j) × (nth j xs ≡ Some z)) ⊎ ((i ≡ j) × ((x : X) × (nth j xs ≡ Some x) × (z ≡ f x)))
 nth-change {X} i j f z [] h = absurd (none_some h)
@@ -63,7 +60,6 @@ nth-change zero (suc j) f z (x ∷ xs) h = inl (λ e. absurd (omega (arith, e)),
 nth-change (suc i) zero f z (x ∷ xs) h = inl (λ e. absurd (omega (arith, e)), h)
 nth-change (suc i) (suc j) f z (x ∷ xs) h = grind (arith, nth-change i j f z xs h)
 
--- each old item stays, or is changed
 pub nth-changed : {X : Type 0} (i j : ℕ) (f : X → X) (x : X) (xs : List X) → nth j xs ≡ Some x →
     ((i ≢ j) × (nth j (change i f xs) ≡ Some x)) ⊎ ((i ≡ j) × (nth j (change i f xs) ≡ Some (f x)))
 nth-changed {X} i j f x [] h = absurd (none_some h)
@@ -72,7 +68,6 @@ nth-changed zero (suc j) f x (y ∷ xs) h = inl (λ e. absurd (omega (arith, e))
 nth-changed (suc i) zero f x (y ∷ xs) h = inl (λ e. absurd (omega (arith, e)), h)
 nth-changed (suc i) (suc j) f x (y ∷ xs) h = grind (arith, nth-changed i j f x xs h)
 
--- the first item that passes, passes
 pub first_passes : {X : Type 0} (p : X → Bool) (x : X) (xs : List X) → nth (position_or_len p xs) xs ≡ Some x → p x ≡ true
 first_passes {X} p x [] h = absurd (none_some h)
 first_passes {X} p x (y ∷ xs) h = grind (arith, yes_or_no, cond-false, cond-true, first_passes p x xs)
@@ -83,7 +78,6 @@ filter-yes p x xs t = cond-true (p x) (x ∷ filter p xs) (filter p xs) t
 pub filter-no : {X : Type 0} (p : X → Bool) (x : X) (xs : List X) → p x ≡ false → filter p (x ∷ xs) ≡ filter p xs
 filter-no p x xs f = cond-false (p x) (x ∷ filter p xs) (filter p xs) f
 
--- no item passes, or all do
 pub filter-none : {X : Type 0} (p : X → Bool) (xs : List X) → ((x : X) → Among x xs → p x ≡ false) → filter p xs ≡ []
 filter-none p [] h = refl
 filter-none p (x ∷ xs) h = filter-no p x xs (h x (inl refl)) ∙ filter-none p xs (λ y i. h y (inr i))
@@ -151,11 +145,9 @@ map-change g i f same [] = refl
 map-change g zero f same (x ∷ xs) = (let e = same x in cc)
 map-change g (suc i) f same (x ∷ xs) = (let e = map-change g i f same xs in cc)
 
--- an index in the longer list is the new one or an old one
 pub with_index-from : (k j : ℕ) (ks : List ℕ) → Among j (with_index k ks) → (j ≡ k) ⊎ Among j ks
 with_index-from k j ks h = grind arith
 
--- and all stay different
 pub with_index-different : (k : ℕ) (ks : List ℕ) → Different ks → Different (with_index k ks)
 with_index-different k ks d = grind (arith, not_both, any-to, eq-eqb)
 
@@ -164,7 +156,6 @@ nth-append {X} i x [] ys h = absurd (none_some h)
 nth-append zero x (z ∷ xs) ys h = h
 nth-append (suc i) x (z ∷ xs) ys h = nth-append i x xs ys h
 
--- a property of each item that the change keeps holds after the change
 pub change-all : {X : Type 0} (P : X → Type 0) (i : ℕ) (f : X → X) → ((x : X) → P x → P (f x)) → (xs : List X) →
     ((x : X) → Among x xs → P x) → (z : X) → Among z (change i f xs) → P z
 change-all P i f keeps xs all z h = grind (arith, Among-change)
@@ -191,7 +182,6 @@ pub Among-map_from : {X Y : Type 0} (g : X → Y) (y : Y) (xs : List X) → Amon
 Among-map_from g y [] h = absurd h
 Among-map_from g y (x ∷ xs) h = grind (arith, Among-map_from g y xs)
 
--- two lists with no member in common
 pub Different-append : {X : Type 0} (xs ys : List X) → Different xs → Different ys → ((x : X) → Among x xs → ¬ Among x ys) → Different (xs ++ ys)
 Different-append [] ys d e apart = e
 Different-append (x ∷ xs) ys d e apart = (

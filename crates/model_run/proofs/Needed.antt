@@ -4,9 +4,8 @@ use Rattle.std.proofs.lemmas.Bool.{ltb-true, lt-ltb, and_parts, and_from, Decide
 use Rattle.std.specs.Prelude.{Bool, true, false, not, ◌&&◌, ◌==◌, nat_lt}
 use Rattle.model_graph.specs.{Walk.Among, Walk.Simple, Cycle.Cycle}
 use Rattle.model_graph.proofs.Members.{ℕ-can_tell, walk_links}
-use Rattle.model_run.specs.Events.{Text, Filed, Copy, Event, Posts, Exports, Comes, Has, exported, filed}
+use Rattle.model_run.specs.{Events.Text, Events.Filed, Events.Copy, Events.Event, Events.Posts, Events.Exports, Events.Comes, Events.Has, Events.exported, Events.filed, Nets.Net, Nets.Tidy, RulesOrderly.IsMet, RulesOrderly.IsNeeded, RulesOrderly.IsSettled}
 use Rattle.model_run.specs.Rules.{IsTarget, IsSentOnce, HasSeenBy, Rule, Kept, Always, IsPossible, ListsAll, filing, keeping, sending, telling, keys}
-use Rattle.model_run.specs.{Nets.Net, Nets.Tidy, RulesOrderly.IsMet, RulesOrderly.IsNeeded, RulesOrderly.IsSettled}
 use Rattle.model_run.proofs.{Targets.some_same, Chain.chain, Chain.chain-parts, Chain.chain-tidy}
 
 -- the systems 0, 1 and so on below n

@@ -3,11 +3,8 @@ use Rattle.std.proofs.Common.{◌≡◌, ℕ, List, [], ◌∷◌, codes, length
 use Rattle.std.specs.{Prelude.Bool, Prelude.true, Fmt.digits}
 use Rattle.echo_addr.specs.{declared.address.Address.Address, Entries.entries, Entries.pair_of, Entries.tokens}
 use Rattle.echo_text.specs.{Lines.lines, Lines.trimmed, Lines.begins, Lines.after_word, Tail.kept_of, Tail.path_lists, Tail.seen_lists, Echo.msgid_of, Ids.id_of, Refusal.text_refusal}
-use Rattle.model_steps.specs.Scanning.{copy_to, exported, header_to, packet_to, packets_of, recipients, scanned, targets}
-use Rattle.model_steps.specs.{declared.draft.Draft.Draft, declared.stamp.Stamp.Stamp, Stamps.date_of, Posting.post_refusal, Posting.posted, Posting.posted_lines, Posting.posting, Purging.purged}
-use Rattle.model_steps.specs.Tossing.{received, toss_outcome, tossing}
-use Rattle.echo_filed.specs.{declared.key.Key.Key, declared.key.Key.TheVariants.ById, Sets.address_set, Sets.entry_set, Written.echo_of, Written.short_lines, Written.text_of, Filed.key_of}
-use Rattle.echo_filed.specs.Stubs.{stub_of}
+use Rattle.model_steps.specs.{Scanning.copy_to, Scanning.exported, Scanning.header_to, Scanning.packet_to, Scanning.packets_of, Scanning.recipients, Scanning.scanned, Scanning.targets, declared.draft.Draft.Draft, declared.stamp.Stamp.Stamp, Stamps.date_of, Posting.post_refusal, Posting.posted, Posting.posted_lines, Posting.posting, Purging.purged, Tossing.received, Tossing.toss_outcome, Tossing.tossing}
+use Rattle.echo_filed.specs.{declared.key.Key.Key, declared.key.Key.TheVariants.ById, Sets.address_set, Sets.entry_set, Written.echo_of, Written.short_lines, Written.text_of, Filed.key_of, Stubs.stub_of}
 use Rattle.echo_links.specs.Links.{LinkFile, links_of}
 use Rattle.model_run.specs.{Event.RunEvent, Event.Posting, Event.Scanning, Event.Delivery, Run.Run, Run.run_of, Orderly.sent_count, World.area_count, World.is_settled, World.undelivered}
 
@@ -18,7 +15,6 @@ address node = record { zone = 1; net = 10; node = node }
 abbrev pub carrier : Address → List Address → LinkFile
 carrier own links = record { system = own; name = codes "echonet"; areas = record { tag = codes "TEST"; links = links } ∷ [] }
 
--- the same for systems of one net
 abbrev pub file : ℕ → List ℕ → LinkFile
 file node links = carrier (address node) (map address links)
 

@@ -6,17 +6,13 @@ use Rattle.echo_addr.specs.declared.address.Address.{Address}
 use Rattle.model_graph.specs.Walk.{Among}
 use Rattle.model_graph.proofs.Members.{Among-append_left}
 use Rattle.echo_packet.specs.Message.{Message}
-use Rattle.model_steps.specs.{declared.packet.Packet.Packet, declared.stamp.Stamp.Stamp, Posting.posted, Posting.posting, Tossing.received, Tossing.sender_of, Tossing.tossing, Tossing.zone_of}
-use Rattle.model_steps.specs.Scanning.{scanned}
+use Rattle.model_steps.specs.{declared.packet.Packet.Packet, declared.stamp.Stamp.Stamp, Posting.posted, Posting.posting, Tossing.received, Tossing.sender_of, Tossing.tossing, Tossing.zone_of, Scanning.scanned}
 use Rattle.echo_links.specs.Links.{LinkFile, has_area, is_link, same_address, upper}
 use Rattle.echo_links.proofs.Addresses.{same_address_decides}
 use Rattle.echo_filed.specs.{Written.echo_of, Filed.Filed, Filed.key_of, declared.key.Key.Key}
 use Rattle.model_run.specs.Run.{System, Run, after_event, change, coming, delivery, destination, filing, fresh, nth, posting_at, receiver, run_of, scanning, scanning_at, taking, tossing_at}
-use Rattle.model_run.specs.{Event.RunEvent, Orderly.copies, Orderly.origin, Orderly.count, Orderly.sent_count, Postings.IsMove, Postings.trial_moment, Postings.trial_posting, Postings.trial_draft}
-use Rattle.model_run.specs.{LawsOfRuns.LawsOfRuns, Exports.Export, Exports.sent_by}
-use Rattle.model_run.proofs.Lists.{Among-take, first_passes, nth-among, nth-change, yes_or_no}
-use Rattle.model_run.proofs.{HarmLists.nth-changed, HarmLists.nth-map, HarmLists.nth-map_from, Resting.copy-there, Resting.export-of, Resting.file-there}
-use Rattle.model_run.proofs.{HarmSteps.along, HarmSteps.after_one_more, HarmSteps.tossing-is, HarmSteps.tossing-new, WholeRuns.taking-file, Targets.some_same, Areas.upper-same}
+use Rattle.model_run.specs.{Event.RunEvent, Orderly.copies, Orderly.origin, Orderly.count, Orderly.sent_count, Postings.IsMove, Postings.trial_moment, Postings.trial_posting, Postings.trial_draft, LawsOfRuns.LawsOfRuns, Exports.Export, Exports.sent_by}
+use Rattle.model_run.proofs.{Lists.Among-take, Lists.first_passes, Lists.nth-among, Lists.nth-change, Lists.yes_or_no, HarmLists.nth-changed, HarmLists.nth-map, HarmLists.nth-map_from, Resting.copy-there, Resting.export-of, Resting.file-there, HarmSteps.along, HarmSteps.after_one_more, HarmSteps.tossing-is, HarmSteps.tossing-new, WholeRuns.taking-file, Targets.some_same, Areas.upper-same}
 use Rattle.echo_filed.proofs.Keys.{same_key_decides}
 
 -- the message that the system files
@@ -52,7 +48,6 @@ tossing-whole : (sender : Address) (ms : List Message) (s : System) → s.base �
 tossing-whole sender [] s e = e
 tossing-whole sender (q ∷ ms) s e = grind (arith, filing-whole, tossing-whole sender ms (filing s (tossing s.file s.base sender q)) (filing-whole s (tossing s.file s.base sender q) e))
 
--- the run has more packets, or the system stays the one with its file
 arrived-more : (run after : Run) (s z : System) (m : Filed) → ((q : Packet) → Among q run.packets → Among q after.packets) → z.file ≡ s.file →
     Arrived run s m → Arrived after z m
 arrived-more run after s z m more same a = record {
@@ -69,7 +64,6 @@ module _ (files : List LinkFile) (known : LawsOfRuns files) (i : ℕ) (p : Filed
     abbrev run : Run
     run = run_of files events
 
-    -- its zone is not 0, so the sender is its origin
     zone-is : (file : LinkFile) → zone_of file q.header.orig_zone ≡ q.header.orig_zone
     zone-is file =
         let (e, at_e, same) = export-of files known events q at in
@@ -193,7 +187,6 @@ module _ (files : List LinkFile) (known : LawsOfRuns files) (tag : List ℕ) (i 
   pub only-posted : (more : List RunEvent) → AllByRecursion IsMove more → OnlyPosted i (post_of file tag) (run_of files (trial_posting i tag ∷ more))
   only-posted more moves = moved-all files known i (post_of file tag) (trial_posting i tag ∷ []) more moves only-first
 
-  -- the poster has the posting, and keeps it
   pub posted-at : nth i (run_of files (trial_posting i tag ∷ [])).systems ≡ Some (filing (fresh file) (Some (post_of file tag)))
   posted-at = nth-changed i (posting_at tag trial_draft 1 trial_moment) (fresh file) (map fresh files) (nth-map fresh i file files is)
       ∙ ap (λ (t : System). Some t) filed-first
@@ -213,18 +206,10 @@ pub has-one : (key : Key) (ms : List Filed) (m : Filed) → Among m ms → key_o
 has-one key [] m h e = absurd h
 has-one key (x ∷ ms) m h e = grind (arith, same_key_decides, has-one key ms m)
 
--- a counted message is in the list
 pub counted : (key : Key) (ms : List Filed) → 1 ≤ count key ms → (m : Filed) × Among m ms × (key_of m ≡ key)
 counted key [] h = absurd (omega (arith, h))
 counted key (m ∷ ms) h = grind (arith, yes_or_no, same_key_decides, counted key ms)
 
--- a sent message is in a packet to the address
-pub sent-packet : (a : Address) (key : Key) (ps : List Packet) → 1 ≤ sent_count a key ps →
-    (q : Packet) × Among q ps × (destination q ≡ a) × ((m : Filed) × Among m (copies q) × (key_of m ≡ key))
-sent-packet a key [] h = absurd (omega (arith, h))
-sent-packet a key (q ∷ ps) h = grind (arith, yes_or_no, cond-false, cond-true, one-or_zero, same_address_decides, counted, sent-packet a key ps)
-
--- and is one message, if it is counted once
 pub counted-one : (key : Key) (ms : List Filed) → count key ms ≤ 1 → (m n : Filed) → Among m ms → Among n ms → key_of m ≡ key → key_of n ≡ key → m ≡ n
 counted-one key [] few m n h i e q = absurd h
 counted-one key (x ∷ ms) few m n h i e q = grind (arith, same_key_decides, has-one, counted-one key ms (omega (arith, few)) m n)
@@ -242,12 +227,10 @@ module _ (a : Address) (key : Key) where
       sent_count a key (sent_by i (e ∷ es)) ≡ sent_count a key (sent_by i es)
   sent-other i e es f = grind (arith, cond-false)
 
-  -- the messages sent by one system are part of all sent
   pub sent-part : (i : ℕ) (es : List Export) → sent_count a key (sent_by i es) ≤ sent_count a key (map (λ (e : Export). e.packet) es)
   sent-part i [] = omega arith
   sent-part i (e ∷ es) = grind (arith, yes_or_no, sent-own, sent-other, sent-part i es)
 
-  -- and so are those sent by two systems
   pub sent-two : (i j : ℕ) → i ≢ j → (es : List Export) →
       sent_count a key (sent_by i es) + sent_count a key (sent_by j es) ≤ sent_count a key (map (λ (e : Export). e.packet) es)
   sent-two i j other [] = omega arith

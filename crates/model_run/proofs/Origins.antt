@@ -5,15 +5,12 @@ use Rattle.echo_addr.specs.declared.address.Address.{Address}
 use Rattle.model_graph.specs.Walk.{Among}
 use Rattle.model_graph.proofs.Members.{Among-append_left, Among-append_cases}
 use Rattle.echo_packet.specs.Message.{Message}
-use Rattle.model_steps.specs.{declared.packet.Packet.Packet, declared.draft.Draft.Draft, declared.stamp.Stamp.Stamp, Posting.posting, Tossing.received, Tossing.tossing, Tossing.sender_of}
-use Rattle.model_steps.specs.Scanning.{goes_to, scanned}
+use Rattle.model_steps.specs.{declared.packet.Packet.Packet, declared.draft.Draft.Draft, declared.stamp.Stamp.Stamp, Posting.posting, Tossing.received, Tossing.tossing, Tossing.sender_of, Scanning.goes_to, Scanning.scanned}
 use Rattle.echo_links.specs.Links.{LinkFile}
 use Rattle.echo_filed.specs.Filed.{Filed, key_of}
-use Rattle.model_run.specs.Run.{System, Run, filing, posting_at, tossing_at, scanning_at, purging_at, change, receiver, changing, taking, after_event, after_events, run_of, start}
-use Rattle.model_run.specs.{Event.RunEvent, Fits.FilesFit, Orderly.copies, Orderly.origin, Keeping.content_of}
-use Rattle.model_run.proofs.Lists.{Among-change, Among-filter_from, Among-filter_to, Among-drop, Among-take, nth-among, Among-map_to, Among-map_from}
+use Rattle.model_run.specs.{Run.System, Run.Run, Run.filing, Run.posting_at, Run.tossing_at, Run.scanning_at, Run.purging_at, Run.change, Run.receiver, Run.changing, Run.taking, Run.after_event, Run.after_events, Run.run_of, Run.start, Event.RunEvent, Fits.FilesFit, Orderly.copies, Orderly.origin, Keeping.content_of}
+use Rattle.model_run.proofs.{Lists.Among-change, Lists.Among-filter_from, Lists.Among-filter_to, Lists.Among-drop, Lists.Among-take, Lists.nth-among, Lists.Among-map_to, Lists.Among-map_from, EventKinds.each-kind, TosserPremises.Laws, Copies.copied, Copies.copied-content, Copies.copied-key, Copies.copies-are, StandingTosses.origin-is}
 use Rattle.model_run.proofs.Bases.{AllMade, Kept-waiting, SystemOk, RunOk, event-made, event-ok, start-ok, scanned-from, waiting-valid}
-use Rattle.model_run.proofs.{EventKinds.each-kind, TosserPremises.Laws, Copies.copied, Copies.copied-content, Copies.copied-key, Copies.copies-are, StandingTosses.origin-is}
 use Rattle.model_run.proofs.Filings.{filing-from as filing-new}
 use Rattle.model_steps.proofs.{Posted.posted_own, Received.tossing_received}
 
@@ -21,7 +18,6 @@ use Rattle.model_steps.proofs.{Posted.posted_own, Received.tossing_received}
 abbrev pub Origin : List System → Filed → Type 0
 Origin ss m = (f : System) × Among f ss × ((o : Filed) × Among o f.history × (o.sender ≡ None) × (key_of o ≡ key_of m) × (content_of o ≡ content_of m))
 
--- a message with the key and the content of another has its origin
 Origin-same : (ss : List System) (m n : Filed) → key_of n ≡ key_of m → content_of n ≡ content_of m → Origin ss m → Origin ss n
 Origin-same ss m n key content from = grind arith
 
@@ -87,7 +83,6 @@ module _ (laws : Laws) where
             ])
       ]
 
-  -- a scan's copies have the origins of their messages
   scanned-traced : (run : Run) → Traced run → (s : System) → Among s run.systems → SystemOk s → (stamp : Stamp) (p : Packet) →
       Among p (scanned s.file s.base s.cursor stamp) → (c : Filed) → Among c (copies p) → Origin run.systems c
   scanned-traced run traced s at_s ok stamp p h c i =
@@ -144,7 +139,7 @@ module _ (laws : Laws) where
       keeps : Keeps (taking p n)
       keeps s m j = tossing-kept (sender_of s.file p.header) (take n p.messages) s m j
 
-  event-traced : (run : Run) → RunOk run → AllMade run → Traced run → (event : RunEvent) → Traced (after_event run event)
+  pub event-traced : (run : Run) → RunOk run → AllMade run → Traced run → (event : RunEvent) → Traced (after_event run event)
   event-traced run ok made traced event = each-kind run Traced event (record {
     idle = traced;
     posts = λ i tag draft serial stamp e. changing-traced run traced i (posting_at tag draft serial stamp)

@@ -9,7 +9,6 @@ use Rattle.model_run.specs.{Event.RunEvent, Run.System, Run.nth, Run.run_of, Tid
 use Rattle.model_run.proofs.Lists.{and-from, and-parts, any-from, any-to, nth-among, Among-map_to}
 use Rattle.model_run.proofs.{HarmLists.nth-map, Resting.file-there, HarmSteps.run-files, Targets.some_same, Targets.none_some, Areas.one_name as different-same, Areas.link-area, Areas.link-among}
 
--- in a list of different images an image has one index
 different-index : {X Y : Type 0} (g : X → Y) (xs : List X) → Different (map g xs) → (i j : ℕ) (x y : X) → nth i xs ≡ Some x → nth j xs ≡ Some y → g x ≡ g y → i ≡ j
 different-index {X} {Y} g [] d i j x y at_i at_j e = absurd (none_some at_i)
 different-index g (z ∷ xs) d zero zero x y at_i at_j e = refl
@@ -21,7 +20,6 @@ different-index {X} {Y} g (z ∷ xs) d (suc i) zero x y at_i at_j e =
     absurd (d.0 (subst P (e ∙ ap g (sym (some_same at_j))) (Among-map_to g x xs (nth-among i x xs at_i))))
 different-index g (z ∷ xs) d (suc i) (suc j) x y at_i at_j e = ap suc (different-index g xs d.1 i j x y at_i at_j e)
 
--- a file that has the area carries it, and lists its links
 pub file-carries : (files : List LinkFile) (tag : List ℕ) (file : LinkFile) → Among file files → has_area file tag ≡ true → Carries files tag file.system
 file-carries files tag file h area = grind (arith, any-to, and-from, same_address_decides)
 
@@ -37,7 +35,6 @@ pub lists-file : (files : List LinkFile) (tag : List ℕ) (a b : Address) → Is
 lists-file files tag a b h = grind (arith, any-from, and-parts, same_address_decides)
 
 module _ (files : List LinkFile) (known : LawsOfRuns files) (one_file : Different (map (λ (file : LinkFile). file.system) files)) (events : List RunEvent) where
-  -- a system of a run is known by its address
   pub one-system : (i j : ℕ) (s z : System) → nth i (run_of files events).systems ≡ Some s → nth j (run_of files events).systems ≡ Some z →
       s.file.system ≡ z.file.system → i ≡ j
   one-system i j s z at_i at_j e =
@@ -46,11 +43,9 @@ module _ (files : List LinkFile) (known : LawsOfRuns files) (one_file : Differen
       different-index (λ (file : LinkFile). file.system) (map (λ (t : System). t.file) ss) (subst P (sym (run-files files events)) one_file) i j s.file z.file
       (nth-map (λ (t : System). t.file) i s ss at_i) (nth-map (λ (t : System). t.file) j z ss at_j) e
 
-  -- and lists what its file lists
   pub lists-link : (tag : List ℕ) (s : System) → Among s (run_of files events).systems → (b : Address) → IsTrue (lists files tag s.file.system b) →
       Among b (links_of s.file tag)
   lists-link tag s h b link = grind (arith, lists-file, different-same, file-there, link-among)
 
--- a system that lists a link is a carrier
 pub lister-carries : (files : List LinkFile) (tag : List ℕ) (a b : Address) → IsTrue (lists files tag a b) → Carries files tag a
 lister-carries files tag a b link = grind (arith, lists-file, file-carries, link-area, link-among)

@@ -1,8 +1,7 @@
 -- The number of some keys that each system lacks: it falls with each filed message.
 use Rattle.std.proofs.Common.{◌≡◌, ◌⊎◌, inl, inr, refl, sym, subst, ap, ◌∙◌, ℕ, zero, suc, ◌+◌, ◌<◌, ◌≤◌, arith, List, [], ◌∷◌, ◌++◌, Option, Some, None, ◌≢◌, length, take, drop, map}
 use Rattle.std.proofs.lemmas.{Bool.cases_eq, Bool.eqb-true, List.append_assoc, List.append-nil, List.drop_all}
-use Rattle.std.specs.Prelude.{Bool, true, false, if◌then◌else◌, ◌&&◌, filter, is_none}
-use Rattle.std.specs.List.{AllByRecursion}
+use Rattle.std.specs.{Prelude.Bool, Prelude.true, Prelude.false, Prelude.if◌then◌else◌, Prelude.◌&&◌, Prelude.filter, Prelude.is_none, List.AllByRecursion}
 use Rattle.echo_addr.specs.declared.address.Address.{Address}
 use Rattle.model_graph.specs.Walk.{Among}
 use Rattle.model_graph.proofs.Members.{Among-append_left, Among-append_right}
@@ -12,12 +11,9 @@ use Rattle.echo_filed.proofs.Keys.{same_key_decides}
 use Rattle.base_file.specs.Base.{is_known}
 use Rattle.model_steps.specs.{Tossing.received, Tossing.tossing, Tossing.sender_of, declared.packet.Packet.Packet}
 use Rattle.model_run.specs.Run.{System, change, filing, tossing_at, Run, coming, delivery, destination, nth, receiver, run_of, scanning, scanning_at, taking, with_index}
-use Rattle.model_run.specs.{Event.RunEvent, Event.Scanning, Event.Delivery, Orderly.Settled, Orderly.copies, Orderly.origin, Exports.Export, Exports.exports, Tidy.lists, Grave.AllAreCarriers}
-use Rattle.model_run.specs.{Postings.IsMove, Postings.trial_moment, LawsOfRuns.LawsOfRuns}
+use Rattle.model_run.specs.{Event.RunEvent, Event.Scanning, Event.Delivery, Orderly.Settled, Orderly.copies, Orderly.origin, Exports.Export, Exports.exports, Tidy.lists, Grave.AllAreCarriers, Postings.IsMove, Postings.trial_moment, LawsOfRuns.LawsOfRuns}
 use Rattle.model_run.proofs.Lists.{any-from, any-to, not_both, Among-change, Among-filter_to, Among-take, and-from, and-parts, nth-among, nth-change, Among-map_to, Among-map_from}
-use Rattle.model_run.proofs.HarmSteps.{tossing-is, after_one_more, all-append, run-files, tossing-new}
-use Rattle.model_run.proofs.{HarmLists.none_passes, HarmLists.among-nth, HarmLists.nth-index, HarmLists.nth-middle, Targets.some_same, Targets.none_some}
-use Rattle.model_run.proofs.Areas.{among-link, exported-tag, target-link}
+use Rattle.model_run.proofs.{HarmSteps.tossing-is, HarmSteps.after_one_more, HarmSteps.all-append, HarmSteps.run-files, HarmSteps.tossing-new, HarmLists.none_passes, HarmLists.among-nth, HarmLists.nth-index, HarmLists.nth-middle, Targets.some_same, Targets.none_some, Areas.among-link, Areas.exported-tag, Areas.target-link}
 use Rattle.echo_text.specs.{Refusal.text_refusal, declared.fault.TextFault.TextFault, Echo.msgid_of}
 use Rattle.echo_links.specs.Links.{LinkFile, is_link, same_address}
 use Rattle.echo_links.proofs.Addresses.{same_address_decides}
@@ -36,7 +32,6 @@ abbrev pub all_lacking : List Key → List System → ℕ
 all_lacking keys [] = 0
 all_lacking keys (s ∷ ss) = lacking keys s.base + all_lacking keys ss
 
--- a known key stays known
 known-more : (base : List Filed) (m : Filed) (key : Key) → is_known base key ≡ true → is_known (base ++ m ∷ []) key ≡ true
 known-more base m key h = grind (arith, any-from, any-to, Among-append_left)
 
@@ -52,7 +47,6 @@ lacking-less : (keys : List Key) (base : List Filed) (m : Filed) → lacking key
 lacking-less [] base m = omega arith
 lacking-less (key ∷ keys) base m = grind (arith, less_weight, known-more, lacking-less keys base m)
 
--- fewer, if one of them is filed now
 lacking-fewer : (keys : List Key) (base : List Filed) (m : Filed) → Among (key_of m) keys → is_known base (key_of m) ≡ false →
     lacking keys (base ++ m ∷ []) < lacking keys base
 lacking-fewer [] base m h new = absurd h
@@ -89,7 +83,6 @@ change-same keys f same (suc i) (s ∷ ss) = ap (λ (n : ℕ). lacking keys s.ba
 
 -- Scans and deliveries bring any run to rest.
 
--- the key of a received message does not depend on its sender
 key-same : (a b : Address) (q : Message) (o : Option (List ℕ)) → key_with (received a q) o ≡ key_with (received b q) o
 unfolding received
 key-same a b q o = grind arith
@@ -99,7 +92,6 @@ unfolding key_of received
 received-key a b q = key-same a b q (msgid_of (echo_of q.text).kept)
 
 module _ (files : List LinkFile) (known : LawsOfRuns files) where
-  -- a system of a run has one of the files, and each file has a system
   pub file-there : (events : List RunEvent) (s : System) → Among s (run_of files events).systems → Among s.file files
   file-there events s h =
       let P : List LinkFile → Type 0 = λ fs. Among s.file fs in
@@ -111,7 +103,6 @@ module _ (files : List LinkFile) (known : LawsOfRuns files) where
       let P : List LinkFile → Type 0 = λ fs. Among file fs in
       Among-map_from (λ (z : System). z.file) file (run_of files events).systems (subst P (sym (run-files files events)) h)
 
-  -- each message of a packet is a copy
   pub copy-there : (events : List RunEvent) (p : Packet) → Among p (run_of files events).packets → (q : Message) → Among q p.messages →
       Among (received (origin p) q) (copies p)
   copy-there events p h q i =
@@ -119,7 +110,6 @@ module _ (files : List LinkFile) (known : LawsOfRuns files) where
       (Among-filter_to (λ packed. is_none (text_refusal packed.text)) q p.messages i
       (ap (λ (o : Option TextFault). is_none o) (known.accepted events p h q i)))
 
-  -- each packet was made by a scan
   pub export-of : (events : List RunEvent) (p : Packet) → Among p (run_of files events).packets → (e : Export) × Among e (exports files events) × (p ≡ e.packet)
   export-of events p h = grind (arith, Among-map_from)
 
@@ -305,7 +295,6 @@ module _ (files : List LinkFile) (known : LawsOfRuns files) where
         }
 
     module _ (tag : List ℕ) (all_known : AllAreCarriers files tag) where
-      -- a packet with a message of the area has a receiver
       goes_somewhere : (events : List RunEvent) (p : Packet) → Among p (run_of files events).packets → (c : Filed) → Among c (copies p) → c.echo.tag ≡ tag →
           ¬ GoesNowhere p
       goes_somewhere events p h c i of_area nowhere =
@@ -383,7 +372,6 @@ module _ (files : List LinkFile) (known : LawsOfRuns files) where
             | inr settled ↦ record { more = one.more; moves = one.moves; settled = settled }
           ]
 
--- the keys of all filed messages
 all_keys : List System → List Key
 all_keys [] = []
 all_keys (s ∷ ss) = map key_of s.history ++ all_keys ss

@@ -9,11 +9,9 @@ use Rattle.echo_filed.specs.{declared.key.Key.Key, Filed.Filed}
 use Rattle.model_steps.specs.Scanning.{copy_to, exported, goes_to, header_to, packet_to, packets_of, recipients, scanned}
 use Rattle.model_steps.specs.declared.{packet.Packet.Packet, stamp.Stamp.Stamp}
 use Rattle.echo_links.specs.Links.{LinkFile}
-use Rattle.model_run.specs.Orderly.{SameContent, copies, count, origin, sent_count}
-use Rattle.model_run.specs.{Run.System, Run.destination, Exports.IsSentCopy}
-use Rattle.model_run.proofs.Lists.{not_both, yes_or_no, any-from, any-to, filter-none, Among-filter_from, Among-filter_to, Among-map_to, Among-map_from}
+use Rattle.model_run.specs.{Orderly.SameContent, Orderly.copies, Orderly.count, Orderly.origin, Orderly.sent_count, Run.System, Run.destination, Exports.IsSentCopy}
+use Rattle.model_run.proofs.{Lists.not_both, Lists.yes_or_no, Lists.any-from, Lists.any-to, Lists.filter-none, Lists.Among-filter_from, Lists.Among-filter_to, Lists.Among-map_to, Lists.Among-map_from, TosserPremises.Laws, Bases.Kept-waiting, Bases.SystemOk, Bases.scanned-from, Bases.waiting-valid}
 use Rattle.model_run.proofs.Copies.{Targeted, copied, copied-key, copies-are, goes-from, goes-to, packet-destination, target-recipient, targets-to, recipients-differ}
-use Rattle.model_run.proofs.{TosserPremises.Laws, Bases.Kept-waiting, Bases.SystemOk, Bases.scanned-from, Bases.waiting-valid}
 
 packet-origin : (file : LinkFile) (stamp : Stamp) (waiting : List Filed) (address : Address) → origin (packet_to file stamp waiting address) ≡ file.system
 unfolding packet_to header_to
@@ -36,7 +34,6 @@ packet-has : (file : LinkFile) (stamp : Stamp) (waiting : List Filed) (address :
 unfolding packet_to
 packet-has file stamp waiting address m h goes = grind (arith, Among-map_to, Among-filter_to)
 
--- copies have the keys of their messages
 count-copied : (file : LinkFile) (k : Key) (ms : List Filed) → count k (map (copied file) ms) ≡ count k ms
 count-copied file k [] = refl
 count-copied file k (m ∷ ms) = grind (arith, copied-key, count-copied file k ms)
@@ -58,7 +55,6 @@ module _ (laws : Laws) (s : System) (ok : SystemOk s) (stamp : Stamp) where
   pub scanned-origin : (p : Packet) → Among p (scanned s.file s.base s.cursor stamp) → origin p ≡ s.file.system
   scanned-origin p h = grind (arith, scanned-from, packet-origin)
 
-  -- each message of a packet is the copy of a waiting message, for one of its targets
   pub scanned-copied : (p : Packet) → Among p (scanned s.file s.base s.cursor stamp) → (c : Filed) → Among c (copies p) →
       (m : Filed) × Among m (drop s.cursor s.history) × Targeted laws s.file m (destination p) × (c ≡ copied s.file m)
   scanned-copied p h c i =
@@ -90,7 +86,6 @@ module _ (laws : Laws) (s : System) (ok : SystemOk s) (stamp : Stamp) where
         }),
       )
 
-  -- and each target of a waiting message is sent it
   pub target-packet : (m : Filed) → Among m (drop s.cursor s.history) → (a : Address) → Targeted laws s.file m a →
       (p : Packet) × Among p (scanned s.file s.base s.cursor stamp) × (origin p ≡ s.file.system) × (destination p ≡ a) × Among (copied s.file m) (copies p)
   target-packet m h a target =
@@ -106,7 +101,6 @@ module _ (laws : Laws) (s : System) (ok : SystemOk s) (stamp : Stamp) where
             (Among-filter_to (goes_to s.file a) m waits i (goes-to laws s.file m a target))),
       )
 
-  -- the copy of each message for an address is in a packet to it
   pub copy-packet : (m : Filed) → Among m (drop s.cursor s.history) → (a : Address) → goes_to s.file a m ≡ true →
       (p : Packet) × Among p (scanned s.file s.base s.cursor stamp) × (destination p ≡ a) × Among (copy_to s.file a m) p.messages
   copy-packet m h a goes =
@@ -147,7 +141,6 @@ module _ (laws : Laws) (s : System) (ok : SystemOk s) (stamp : Stamp) where
   recipients-count : (a : Address) (k : Key) → sent_among a k (recipients s.file waits) ≡ count k (filter (goes_to s.file a) waits)
   recipients-count a k = grind (arith, yes_or_no, any-from, to-one, recipients-differ, Among-at, copies-count, not_both, any-to, to-none, none-goes)
 
-  -- each target of a waiting message gets one copy of it
   pub scanned-count : (a : Address) (k : Key) →
       sent_count a k (scanned s.file s.base s.cursor stamp) ≡ count k (filter (goes_to s.file a) (drop s.cursor s.history))
   scanned-count a k = grind (arith, made-are, recipients-count, waits-kept)

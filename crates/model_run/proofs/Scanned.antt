@@ -8,18 +8,12 @@ use Rattle.model_graph.proofs.Members.{Among-at, Among-append_left, Among-append
 use Rattle.model_steps.specs.{declared.packet.Packet.Packet, declared.stamp.Stamp.Stamp, Scanning.goes_to, Scanning.scanned, Scanning.targets}
 use Rattle.echo_links.specs.Links.{same_address}
 use Rattle.echo_filed.specs.{declared.key.Key.Key, Sets.address_set, Filed.Filed, Filed.key_of, Filed.same_key}
-use Rattle.model_run.specs.Run.{System, Run, change, destination, nth, scanning_at}
-use Rattle.model_run.specs.Keeping.{Content, IsFiledIn, IsHistory, IsSent, copy_count, filed_as, said, sent_as}
-use Rattle.model_run.specs.{Events.Exports, Events.Text, Events.copy_to, Orderly.count, Orderly.sent_count}
+use Rattle.model_run.specs.{Run.System, Run.Run, Run.change, Run.destination, Run.nth, Run.scanning_at, Events.Exports, Events.Text, Events.copy_to, Orderly.count, Orderly.sent_count, Keeping.Content, Keeping.IsFiledIn, Keeping.IsHistory, Keeping.IsSent, Keeping.copy_count, Keeping.filed_as, Keeping.said, Keeping.sent_as}
 use Rattle.model_run.proofs.Lists.{yes_or_no, not_both, and-parts, filter-yes, filter-no, nth-append, Among-drop, Among-filter_from, Among-filter_to, same_list as Among-in, Among-map_to, Among-map_from}
-use Rattle.model_run.proofs.Copies.{copied, copied-key, goes-from, goes-to, targets-from, targets-to}
+use Rattle.model_run.proofs.{Copies.copied, Copies.copied-key, Copies.goes-from, Copies.goes-to, Copies.targets-from, Copies.targets-to, TosserPremises.Laws, TosserPremises.one_if, Bases.Kept-length, Bases.SystemOk, Areas.address_of, ScanPackets.scanned-copied, ScanPackets.scanned-count, ScanPackets.scanned-origin, ScanPackets.target-packet, ExportLists.sent-append, Targets.some_same, WholeRuns.IsDeliveredOnce}
 use Rattle.model_run.proofs.Histories.{RCopy, REvent, RFiled, filed-after, filed-before, filed-new}
-use Rattle.model_run.proofs.{TosserPremises.Laws, TosserPremises.one_if, Bases.Kept-length, Bases.SystemOk, Areas.address_of}
-use Rattle.model_run.proofs.{ScanPackets.scanned-copied, ScanPackets.scanned-count, ScanPackets.scanned-origin, ScanPackets.target-packet, ExportLists.sent-append, Targets.some_same}
-use Rattle.model_run.proofs.WholeRuns.{IsDeliveredOnce}
 use Rattle.model_run.specs.Events as rules
 
--- the number of copies to an address, for joined lists, and for one message
 copy_count-append : (x : Address) (k : Key) (cs ds : List RCopy) → copy_count x k (cs ++ ds) ≡ copy_count x k cs + copy_count x k ds
 copy_count-append x k [] ds = omega arith
 copy_count-append x k (c ∷ cs) ds = omega (arith, copy_count-append x k cs ds)
@@ -93,7 +87,6 @@ module _ (laws : Laws) (mine : Key → Bool) (s : System) (ok : SystemOk s) wher
         | inr t ↦ Among-append_right (copy_of x m) (map (copy_to (filed_as (address_of s) n) (λ x. text_of n)) (targets_of n)) (new_copies ms) (new-to ms m x t i)
       ]
 
-  -- there are as many copies as messages that go there
   count-new : (x : Address) (k : Key) (ms : List Filed) → copy_count x k (new_copies ms) ≡ count k (filter (goes_to s.file x) ms)
   count-new x k [] = refl
   count-new x k (m ∷ ms) =

@@ -11,19 +11,15 @@ use Rattle.echo_filed.specs.{Filed.Filed, Filed.key_of, Stubs.stub_of}
 use Rattle.echo_filed.proofs.{Keys.stub_of_stub, StubTests.stub_reported}
 use Rattle.model_steps.specs.{declared.packet.Packet.Packet, Resending.is_resent, Resending.is_whole_in, Resending.resent, Resending.scanned_from, Scanning.copy_to, Scanning.goes_to}
 use Rattle.model_run.specs.{Event.RunEvent, Run.System, Run.destination, Run.nth, Run.run_of, Exports.Export, Exports.exports, Fits.FilesFit}
-use Rattle.model_run.proofs.Lists.{and-parts, nth-among, Among-drop, Among-filter_from, Among-map_from}
-use Rattle.model_run.proofs.{TosserPremises.Laws, Bases.IsKept, Bases.Kept-front, WholeRuns.run-ok, ExportLists.run-logged}
+use Rattle.model_run.proofs.{Lists.and-parts, Lists.nth-among, Lists.Among-drop, Lists.Among-filter_from, Lists.Among-map_from, TosserPremises.Laws, Bases.IsKept, Bases.Kept-front, WholeRuns.run-ok, ExportLists.run-logged}
 
--- a stub that is not purged has no id
 no-id : (id : Option (List ℕ)) (stub : Bool) → not (is_some id && stub) ≡ true → stub ≡ true → id ≡ None
 no-id h1 stub whole is = grind (arith, true≢false)
 
--- a message with the key of one without an id is its own stub
 unstubbed : (b h : Filed) → key_of b ≡ key_of h → msgid_of b.echo.kept ≡ None → stub_of h ≡ h
 unfolding key_of stub_of
 unstubbed b h key none = grind arith
 
--- a message that is not purged equals the filed one
 as-filed : (area : List ℕ) (b h : Filed) → IsKept b h → is_whole_in area b ≡ true → b ≡ h
 as-filed area b h kept whole = grind (arith, stub_of_stub, and-parts, unstubbed, no-id, stub_reported)
 

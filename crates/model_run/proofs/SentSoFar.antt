@@ -13,14 +13,11 @@ use Rattle.echo_filed.proofs.Texts.{says_read}
 use Rattle.base_file.specs.Base.{is_known}
 use Rattle.model_steps.specs.{Stamps.is_stamp, Tossing.received, Tossing.tossing, declared.packet.Packet.Packet, declared.stamp.Stamp.Stamp, Posting.posting, Scanning.goes_to, Scanning.scanned}
 use Rattle.model_steps.proofs.Received.{tossing_received}
-use Rattle.model_run.specs.Run.{IsLater, System, filing, tossing_at, destination}
+use Rattle.model_run.specs.{Run.IsLater, Run.System, Run.filing, Run.tossing_at, Run.destination, Orderly.count, Orderly.copies, Orderly.origin, Orderly.sent_count, Owed.IsFromLink, Owed.IsOwed, Exports.IsSentCopy}
 use Rattle.model_run.specs.Lone.{AreOfPackets, IsOfPackets, LoneEvent, LoneSystem, PostHere, PurgeHere, ScanHere, TossHere, after_all_lone, after_lone, lone_at_first, lone_run, with_scanned, with_system}
-use Rattle.model_run.specs.{Orderly.count, Orderly.copies, Orderly.origin, Orderly.sent_count, Owed.IsFromLink, Owed.IsOwed, Exports.IsSentCopy}
-use Rattle.model_run.proofs.Lists.{yes_or_no, Among-drop, Among-filter_from, Among-filter_to, Among-take, any-to}
+use Rattle.model_run.proofs.{Lists.yes_or_no, Lists.Among-drop, Lists.Among-filter_from, Lists.Among-filter_to, Lists.Among-take, Lists.any-to, TosserPremises.Laws, ScanPackets.scanned-copy, ScanPackets.scanned-count, ScanPackets.scanned-origin, Copies.goes-from, Copies.goes-to, ExportLists.count-append, ExportLists.count-filter, ExportLists.sent-append}
 use Rattle.model_run.proofs.Bases.{HasKey, Kept-count, SystemOk, count-is, filing-ok, known-in_history, posting-ok, purging-ok, received-echo, scanning-ok, tossed-fresh, Kept-cursor, Kept-length, packet-ok, scanned-from, waiting-valid}
 use Rattle.model_run.proofs.Filings.{new-filed, events-last, filed-later, filing-grows, grown-later, tossing-grows, IsLoneLeft, event-left, first-left, Grows, run-append, run-file, left-length, run-left}
-use Rattle.model_run.proofs.{TosserPremises.Laws, ScanPackets.scanned-copy, ScanPackets.scanned-count, ScanPackets.scanned-origin, Copies.goes-from, Copies.goes-to}
-use Rattle.model_run.proofs.ExportLists.{count-append, count-filter, sent-append}
 use Rattle.model_graph.proofs.Members.{Among-append_cases}
 use Rattle.model_run.proofs.TosserPremises as counts
 
@@ -60,11 +57,9 @@ module _ (laws : Laws) where
   pub base-once : (s : System) → SystemOk s → (key : Key) → count key s.base ≤ 1
   base-once s ok key = omega (arith, ok.once key, Kept-count key s.cursor s.base s.history ok.kept)
 
-  -- a key that was filed stays
   key-later : (key : Key) (s z : System) → IsLater s z → HasKey key s.history → HasKey key z.history
   key-later key s z later has = (has.0, filed-later s z later has.0 has.1, has.2)
 
-  -- the key of a message from a link is known then
   key-filed : (s : System) → SystemOk s → (sender : Address) (q : Message) → IsFromLink s.file sender q →
       HasKey (key_of (received sender q)) (filing s (tossing s.file s.base sender q)).history
   key-filed s ok sender q from =
@@ -150,7 +145,6 @@ record StaysDone (s z : System) : Type 0 where
 grown-done : (s z : System) → Grows s z → s.cursor ≤ length s.history → StaysDone s z
 grown-done s z g within = grind (arith, take-append-le)
 
--- scanned messages stay at later times
 own-later : (s z : System) (p : Packet) → z.file ≡ s.file → ((m : Filed) → Among m (done s) → Among m (done z)) → IsOwn s p → IsOwn z p
 own-later s z p same more own = record {
   origin_is = own.origin_is ∙ ap (λ (f : LinkFile). f.system) (sym same);
@@ -168,14 +162,12 @@ quiet-sent s z stays sofar = record {
       (λ m i. (let P : List Filed → Type 0 = λ ms. Among m ms in subst P (sym stays.done_is) i)) (sofar.packets p h);
 }
 
--- a message scanned before is scanned later
 take-more : (m : Filed) (n k : ℕ) (ms ns : List Filed) → n ≤ k → Among m (take n ms) → Among m (take k (ms ++ ns))
 take-more m zero k ms ns h i = absurd i
 take-more m (suc n) k [] ns h i = absurd i
 take-more m (suc n) zero (x ∷ ms) ns h i = absurd (omega arith)
 take-more m (suc n) (suc k) (x ∷ ms) ns h i = elim i [ inl e ↦ inl e | inr j ↦ inr (take-more m n k ms ns (omega arith) j) ]
 
--- a scan covers all messages filed before it
 scan-done : (file : LinkFile) (earlier later : List LoneEvent) (stamp : Stamp) → is_stamp stamp ≡ true →
     (m : Filed) → Among m (lone_run file earlier).system.history → Among m (done (lone_run file (earlier ++ ScanHere stamp ∷ later)).system)
 scan-done file earlier later stamp in_range m h =
@@ -286,7 +278,6 @@ module _ (laws : Laws) where
     pub sent-owed : (m : Filed) → Among m (done s.system) → (a : Address) → IsOwed s.system.file m a → sent_count a (key_of m) s.sent ≡ 1
     sent-owed m h a owed = grind (arith, Among-filter_to, owed-goes, counts.count-has, count-is, sent-once)
 
-    -- no message with the key went to the address
     none-went : (a : Address) (k : Key) → ((o : Filed) → Among o (went a) → key_of o ≢ k) → sent_count a k s.sent ≡ 0
     none-went a k h = sofar.counts_are a k ∙ (count-is k (went a) ∙ counts.count-none key_of same_key laws.keys k (went a) h)
 
@@ -326,7 +317,6 @@ module _ (laws : Laws) where
     pub owed-back : (m : Filed) (a : Address) → IsOwed at_end.system.file m a → IsOwed file m a
     owed-back m a owed = let P : LinkFile → Type 0 = λ f. IsOwed f m a in subst P (run-file file events) owed
 
-    -- each copy in its packets is the copy of a scanned message, for an address that should get it
     pub copy-owed : (p : Packet) → Among p at_end.sent → (c : Filed) → Among c (copies p) →
         (m : Filed) × Among m (done at_end.system) × IsSentCopy file m (destination p) c × IsOwed file m (destination p)
     copy-owed p h c i =

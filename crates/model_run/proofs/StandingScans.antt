@@ -8,15 +8,12 @@ use Rattle.model_graph.proofs.Members.{Among-append_right, Among-append_cases}
 use Rattle.model_steps.specs.{declared.stamp.Stamp.Stamp, Scanning.scanned, Scanning.targets}
 use Rattle.echo_links.specs.Links.{LinkFile, is_link, links_of, same_address}
 use Rattle.echo_filed.specs.{Sets.address_set, declared.key.Key.Key, Filed.Filed, Filed.key_of, Filed.same_key}
-use Rattle.model_run.specs.Run.{System, Run, change, nth, scanning_at}
-use Rattle.model_run.specs.{Nets.Net, Rules.IsTarget, Rules.HasPlainSeenBy, Orderly.count, Orderly.tag_of, Tidy.Tidy, Tidy.lists, AreaNets.net_of, Keeping.filed_as}
+use Rattle.model_run.specs.{Run.System, Run.Run, Run.change, Run.nth, Run.scanning_at, Nets.Net, Rules.IsTarget, Rules.HasPlainSeenBy, Orderly.count, Orderly.tag_of, Tidy.Tidy, Tidy.lists, AreaNets.net_of, Keeping.filed_as}
 use Rattle.model_run.proofs.Lists.{any-from, any-to, map-change, nth-among, Among-drop, same_list as Among-in, Among-map_to, Among-map_from}
-use Rattle.model_run.proofs.Areas.{Wrote, address_of, key-tag, link-lists, lists-link, one-system, tidy-net}
+use Rattle.model_run.proofs.{Areas.Wrote, Areas.address_of, Areas.key-tag, Areas.link-lists, Areas.lists-link, Areas.one-system, Areas.tidy-net, Eras.ByRules, Eras.one_more, Telling.reported-plainly, TosserPremises.Laws, TosserPremises.count-has, Bases.SystemOk, Bases.count-is, Bases.RunOk, Bases.scanned-ok, ExportLists.count-append, ExportLists.count-filter, WholeRuns.IsDeliveredOnce}
 use Rattle.model_run.proofs.Copies.{copied, copied-content, copied-key, copied-seen, seen-copied, targets-from, targets-to}
 use Rattle.model_run.proofs.Histories.{REvent, RFiled, before-then, Equal, Standing, filed-event}
 use Rattle.model_run.proofs.Scanned.{export, exported-are, exports, filed-are, history-scans, waits, waits-from}
-use Rattle.model_run.proofs.{Eras.ByRules, Eras.one_more, Telling.reported-plainly, TosserPremises.Laws, TosserPremises.count-has, Bases.SystemOk, Bases.count-is, Bases.RunOk, Bases.scanned-ok}
-use Rattle.model_run.proofs.{ExportLists.count-append, ExportLists.count-filter, WholeRuns.IsDeliveredOnce}
 use Rattle.model_run.specs.Events as rules
 
 module _ (laws : Laws) (files : List LinkFile) (tag : List ℕ) (mine : Key → Bool) (of_area : (k : Key) → IsTrue (mine k) → tag_of k ≡ tag) (tidy : Tidy files tag)
@@ -33,14 +30,12 @@ module _ (laws : Laws) (files : List LinkFile) (tag : List ℕ) (mine : Key → 
   abbrev targets_of : Filed → List Address
   targets_of m = address_set (targets s.file m)
 
-  -- the area's links in the file are those of the net
   link-in : (m : Filed) (a : Address) → m.echo.tag ≡ tag → is_link s.file m.echo.tag a ≡ true → IsTrue (lists files tag (address_of s) a)
   link-in m a area link = grind (arith, link-lists, there_s)
 
   link-out : (m : Filed) (a : Address) → m.echo.tag ≡ tag → IsTrue (lists files tag (address_of s) a) → is_link s.file m.echo.tag a ≡ true
   link-out m a area link = grind (arith, lists-link, there_s)
 
-  -- a message goes to its targets
   goes : (m : Filed) → m.echo.tag ≡ tag → (a : Address) → Among a (targets_of m) ↔ IsTarget net (filed_as (address_of s) m) a
   goes m area a = (
     λ j. (let target = targets-from laws s.file m a (laws.addresses_only a (targets s.file m) j) in
@@ -52,7 +47,6 @@ module _ (laws : Laws) (files : List LinkFile) (tag : List ℕ) (mine : Key → 
     })),
   )
 
-  -- and its SEEN-BY is plain
   tells : (m : Filed) → m.echo.tag ≡ tag → HasPlainSeenBy net (filed_as (address_of s) m) (targets_of m) (copied s.file m).echo.seen
   tells m area = record {
     all = λ l j.
@@ -70,7 +64,6 @@ module _ (laws : Laws) (files : List LinkFile) (tag : List ℕ) (mine : Key → 
     ];
   }
 
-  -- each exported message of the system was scanned
   exported-done : (k : Key) → rules.Has (address_of s) k (rules.exported st.events) → 1 ≤ count k (take s.cursor s.history)
   exported-done k has =
       let (m, h, at, key) = has in
@@ -90,7 +83,6 @@ module _ (laws : Laws) (files : List LinkFile) (tag : List ℕ) (mine : Key → 
   has-count : (k : Key) (ms : List Filed) (m : Filed) → Among m ms → key_of m ≡ k → 1 ≤ count k ms
   has-count k ms m h e = omega (arith, count-is k ms, count-has key_of same_key laws.keys k ms m h e)
 
-  -- each export is by the rules
   by-rules : (ms : List Filed) → ((m : Filed) → Among m ms → Among m (waits laws mine s ok_s)) → ((k : Key) → count k (take s.cursor s.history) + count k ms ≤ 1) →
       ByRules net Equal (then ms)
   by-rules [] wait few = st.by_rules

@@ -3,8 +3,7 @@ use Rattle.std.proofs.Common.{◌≡◌, ◌≢◌, ◌⊎◌, inl, inr, refl, s
 use Rattle.std.proofs.lemmas.List.{map-append}
 use Rattle.model_graph.specs.{Walk.Among, Walk.Different, Beyond.Beyond, Beyond.IsWay}
 use Rattle.model_graph.proofs.{Members.CanTell, Members.Among-append_left, Members.Among-append_right, Members.Among-append_cases, Cycles.one_way}
-use Rattle.model_run.specs.Events.{Text, Filed, Copy, copy_to, Has}
-use Rattle.model_run.specs.{Nets.Net, Nets.Tidy, Rules.IsTarget, Rules.HasSeenBy, RulesOrderly.Compares, RulesOrderly.place, RulesOrderly.goal}
+use Rattle.model_run.specs.{Events.Text, Events.Filed, Events.Copy, Events.copy_to, Events.Has, Nets.Net, Nets.Tidy, Rules.IsTarget, Rules.HasSeenBy, RulesOrderly.Compares, RulesOrderly.place, RulesOrderly.goal}
 use Rattle.model_run.proofs.Targets.{simple, carriers_to, beyond-target, reported-parent, Parent, View, IsPoster, Good, Sent, IsSentTo, Invariant}
 use Rattle.model_run.proofs.Lists.{Among-map_to, Among-map_from, Different-append}
 
@@ -109,7 +108,6 @@ module _ {A N K C : Type 0} (can : CanTell A) (net : Net A N) (tidy : Tidy net) 
       known = λ c h. Has-in c.to c.text.key v.filed (m ∷ v.filed) (λ a i. inr i) (old.known c h);
     }
 
-    -- a posting that lists no other carrier
     pub posting-keeps : m.sender ≡ None → IsTrue (net.carries m.at) →
         ((d : A) → IsTrue (net.carries d) → Among (net.net_node d) m.text.seen → d ≡ m.at) → Invariant net Same after_filing
     posting-keeps own carrier unseen = filing-keeps (record {
@@ -119,7 +117,6 @@ module _ {A N K C : Type 0} (can : CanTell A) (net : Net A N) (tidy : Tidy net) 
       source = inl (refl, own, unseen);
     })
 
-    -- the facts of a copy that was sent
     pub arrival-keeps : (c : Copy A N K C) → Among c v.copies → m ≡ record { at = c.to; sender = Some c.from; text = c.text } →
         Invariant net Same after_filing
     arrival-keeps c h e =
@@ -136,7 +133,6 @@ module _ {A N K C : Type 0} (can : CanTell A) (net : Net A N) (tidy : Tidy net) 
   abbrev after_coming : Copy A N K C → View A N K C
   after_coming c = record { filed = v.filed; exported = v.exported; copies = v.copies; came = c ∷ v.came }
 
-  -- a copy came that its receiver knows
   pub coming-keeps : (c : Copy A N K C) → Has c.to c.text.key v.filed → Invariant net Same (after_coming c)
   coming-keeps c has = record {
     once = old.once;
@@ -189,7 +185,6 @@ module _ {A N K C : Type 0} (can : CanTell A) (net : Net A N) (tidy : Tidy net) 
           subst P (sym e) (new-sent x i))
     ]
 
-    -- no copy to a target had the key before
     first-time : (x : A) → Among x to → (c : Copy A N K C) → Among c v.copies → c.to ≡ x → c.text.key ≡ m.text.key → ⊥
     first-time x h c i to_x key =
         let sent = old.sent c i in

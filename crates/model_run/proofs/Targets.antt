@@ -1,8 +1,7 @@
 -- Properties of a run by the rules at all times.
 use Rattle.std.proofs.Common.{◌≡◌, ◌≢◌, ◌⊎◌, IsTrue, List, map, Some, None, inl, inr, sym, subst, ◌∙◌, ◌∷◌, Option, arith}
 use Rattle.model_graph.specs.{Walk.Among, Walk.Different, Walk.Simple, Walk.Reaches, Beyond.Beyond, Beyond.IsWay, Beyond.Parted}
-use Rattle.model_run.specs.Events.{Text, Filed, Copy, Event, filed, exported, copies, came, Has}
-use Rattle.model_run.specs.{Nets.Net, Nets.Tidy, RulesOrderly.place, RulesOrderly.goal, Rules.IsTarget, Rules.HasSeenBy}
+use Rattle.model_run.specs.{Events.Text, Events.Filed, Events.Copy, Events.Event, Events.filed, Events.exported, Events.copies, Events.came, Events.Has, Nets.Net, Nets.Tidy, RulesOrderly.place, RulesOrderly.goal, Rules.IsTarget, Rules.HasSeenBy}
 use Rattle.model_graph.proofs.Members.{CanTell, Among-at, linked_differ, walk_ends, Around-step, Around-trans, Beyond-from_no_around, no_around-from_Beyond}
 use Rattle.model_graph.proofs.Cycles.{Around-from_Beyond, Beyond-trans, way-not_beyond, link_cases, further, Parted-from_Polygons}
 

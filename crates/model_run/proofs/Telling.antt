@@ -5,11 +5,9 @@ use Rattle.model_run.specs.{Nets.Net, Nets.Tidy, Events.Filed, Rules.HasSeenBy, 
 
 module _ {A N K C : Type 0} (net : Net A N) (tidy : Tidy net) (m : Filed A N K C) (to : List A) (x : A) (seen : List N)
     (link : IsTrue (net.linked m.at x)) (plain : HasPlainSeenBy net m to seen) where
-  -- the addressee is not the sender
   differ : x ≢ m.at
   differ e = let P : A → Type 0 = λ a. IsTrue (net.linked m.at a) in tidy.no_self m.at (subst P e link)
 
-  -- behind x are neither the sender nor its other links
   not-behind : (d : A) → Beyond net.linked x m.at d → d ≢ x → (l : A) → d ≡ l → (l ≡ m.at) ⊎ IsTrue (net.linked m.at l) → ⊥
   not-behind d beyond other l same near =
       let P : A → Type 0 = λ a. Beyond net.linked x m.at a in

@@ -11,15 +11,12 @@ use Rattle.model_steps.specs.{declared.draft.Draft.Draft, declared.stamp.Stamp.S
 use Rattle.echo_links.specs.Links.{IsFile, LinkFile, upper}
 use Rattle.echo_text.specs.Ids.{id_of, serial_text}
 use Rattle.echo_links.proofs.Addresses.{same_address_decides}
-use Rattle.echo_filed.proofs.Sets.{IsOrder, Ascending, set_ascending, set_only, set_keeps}
-use Rattle.echo_filed.proofs.{Choices.contained_in, Choices.in_contained, Orders.address_order, Orders.entry_set_is_set, Orders.same_entry_decides}
-use Rattle.echo_filed.proofs.{Keys.same_key_decides, Keys.stub_keeps_key, Keys.stub_of_stub, Texts.written_accepted, Texts.written_back}
+use Rattle.echo_filed.proofs.{Sets.IsOrder, Sets.Ascending, Sets.set_ascending, Sets.set_only, Sets.set_keeps, Choices.contained_in, Choices.in_contained, Orders.address_order, Orders.entry_set_is_set, Orders.same_entry_decides, Keys.same_key_decides, Keys.stub_keeps_key, Keys.stub_of_stub, Texts.written_accepted, Texts.written_back}
 use Rattle.model_steps.proofs.{Posted.posted_id, Posted.posted_is_echo, Copies.exported_is_echo}
 use Rattle.model_run.proofs.{Lists.not_both, TosserPremises.Laws}
 use Rattle.model_run.specs.{AreaNets.IsTidyNet, Tidy.Tidy}
 use Rattle.model_run.proofs.Areas as areas
 
--- an id names its system
 ids-differ : (a b : Address) (serial other : ℕ) → IsAddress a → IsAddress b → id_of a serial ≡ id_of b other → a ≡ b
 unfolding id_of
 ids-differ a b serial other at_a at_b e =
@@ -42,7 +39,6 @@ unfolding key_of posted
 posted-key file tag draft serial stamp fits =
     ap (λ (o : Option (List ℕ)). key_with (posted file tag draft serial stamp) o) (posted_id file fits tag draft serial stamp)
 
--- an ascending list has no repeats
 ascending-differ : {X : Type 0} (before : X → X → Bool) → IsOrder before → (xs : List X) → Ascending before xs → Different xs
 ascending-differ before order [] up = tt
 ascending-differ {X} before order (x ∷ xs) up = (later xs up.0, ascending-differ before order xs up.1)

@@ -6,8 +6,7 @@ use Rattle.echo_addr.specs.{declared.address.Address.Address, declared.address.N
 use Rattle.echo_text.specs.{Echo.EchoText, Echo.IsEcho, Refusal.text_refusal, Ids.id_of}
 use Rattle.model_steps.specs.{declared.draft.Draft.Draft, declared.stamp.Stamp.Stamp, Posting.IsAllowed, Posting.posted, Scanning.exported}
 use Rattle.echo_links.specs.Links.{LinkFile, same_address, upper, IsFile}
-use Rattle.echo_filed.specs.{declared.key.Key.TheVariants.ById, Sets.address_set, Sets.entry_set, Sets.same_entry, Filed.Filed, Filed.key_of, Filed.same_key, Stubs.stub_of}
-use Rattle.echo_filed.specs.Written.{echo_of, text_of}
+use Rattle.echo_filed.specs.{declared.key.Key.TheVariants.ById, Sets.address_set, Sets.entry_set, Sets.same_entry, Filed.Filed, Filed.key_of, Filed.same_key, Stubs.stub_of, Written.echo_of, Written.text_of}
 
 -- a test of equality
 pub record Tells {K : Type 0} (same : K → K → Bool) : Type 0 where
@@ -59,13 +58,11 @@ module _ {K M : Type 0} (key : M → K) (same : K → K → Bool) (tells : Tells
   count-none k [] h = refl
   count-none k (x ∷ ms) h = omega (arith, none k x (h x (inl refl)), count-none k ms (λ m i. h m (inr i)))
 
-  -- a key that occurs at most once names one message
   pub count-names_one : (k : K) (ms : List M) → count key same k ms ≤ 1 → (a b : M) → Among a ms → Among b ms →
       key a ≡ k → key b ≡ k → a ≡ b
   count-names_one k [] h a b at_a at_b e q = absurd at_a
   count-names_one k (x ∷ ms) h a b at_a at_b e q = grind (arith, one, count-has, count-names_one k ms (omega arith) a b)
 
-  -- if no two messages are alike, a key occurs at most once
   pub count-different : (k : K) (ms : List M) → Different (map key ms) → count key same k ms ≤ 1
   count-different k [] d = omega arith
   count-different k (x ∷ ms) d =

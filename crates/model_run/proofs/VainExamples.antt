@@ -5,8 +5,7 @@ use Rattle.std.specs.{Prelude.true, Prelude.false, Fmt.digits}
 use Rattle.echo_addr.specs.{declared.address.Address.Address, Entries.entries, Entries.pair_of, Entries.tokens}
 use Rattle.echo_text.specs.{Lines.lines, Lines.trimmed, Lines.begins, Lines.after_word, Tail.kept_of, Tail.path_lists, Tail.seen_lists, Echo.msgid_of, Ids.id_of, Refusal.text_refusal}
 use Rattle.echo_filed.specs.{Sets.address_set, Sets.entry_set, Written.echo_of, Written.short_lines, Written.text_of, Filed.key_of, Stubs.stub_of}
-use Rattle.model_steps.specs.Scanning.{copy_to, exported, header_to, packet_to, packets_of, recipients, scanned, targets}
-use Rattle.model_steps.specs.{Stamps.date_of, Posting.post_refusal, Posting.posted, Posting.posted_lines, Posting.posting, Purging.purged, Tossing.received, Tossing.toss_outcome, Tossing.tossing}
+use Rattle.model_steps.specs.{Scanning.copy_to, Scanning.exported, Scanning.header_to, Scanning.packet_to, Scanning.packets_of, Scanning.recipients, Scanning.scanned, Scanning.targets, Stamps.date_of, Posting.post_refusal, Posting.posted, Posting.posted_lines, Posting.posting, Purging.purged, Tossing.received, Tossing.toss_outcome, Tossing.tossing}
 use Rattle.echo_links.specs.Links.{LinkFile, links_of}
 use Rattle.model_run.specs.{Event.Delivery, Run.Run, Run.run_of, Orderly.sent_count, Tidy.Tidy, Tidy.lists}
 use Rattle.model_graph.specs.Cycle.{NoCycle}
@@ -29,7 +28,6 @@ to_another = file 1 (2 ∷ (3 ∷ [])) ∷ (file 2 (1 ∷ []) ∷ (without 3 ∷
 abbrev twins : List LinkFile
 twins = carrier (address 1) (far ∷ []) ∷ (carrier far (address 1 ∷ []) ∷ [])
 
--- these nets are not tidy
 two_of_one_address : ¬ Tidy second_file test
 two_of_one_address t = t.joined.one_file.1.0 (inl refl)
 
@@ -61,7 +59,6 @@ goes_well : GoesWell
 unfolding posted posted_lines posting post_refusal id_of trimmed lines digits date_of scanned packets_of recipients packet_to targets links_of address_set header_to copy_to exported entry_set text_of short_lines received toss_outcome tossing text_refusal echo_of kept_of path_lists seen_lists begins after_word entries tokens pair_of key_of msgid_of purged stub_of
 goes_well = grind arith
 
--- a triangle is tidy, and its three systems are a cycle
 three_in_a_cycle : ¬ NoCycle (lists triangle test)
 unfolding links_of
 three_in_a_cycle none = none (address 1) (address 2 ∷ (address 3 ∷ [])) (grind (arith, differ, address))

@@ -9,11 +9,8 @@ use Rattle.echo_packet.specs.Message.{Message}
 use Rattle.model_steps.specs.{declared.packet.Packet.Packet, declared.draft.Draft.Draft, declared.stamp.Stamp.Stamp, Posting.posting, Tossing.sender_of, Tossing.tossing, Scanning.scanned}
 use Rattle.echo_links.specs.Links.{LinkFile}
 use Rattle.echo_filed.specs.Filed.{Filed}
-use Rattle.model_run.specs.Run.{System, Run, filing, fresh, posting_at, tossing_at, scanning_at, nth, taking, after_event, after_events, run_of, start, receiver, purging_at}
-use Rattle.model_run.specs.{Event.RunEvent, Fits.FilesFit, Orderly.Settled, World.is_settled, World.missing}
-use Rattle.model_run.proofs.Lists.{map-change, Among-map_from, nth-append, with_index-different, with_index-from, and-parts, any-from, yes_or_no}
-use Rattle.model_run.proofs.Bases.{AllMade, RunOk, event-made, event-ok, start-ok}
-use Rattle.model_run.proofs.{EventKinds.each-kind, TosserPremises.Laws}
+use Rattle.model_run.specs.{Run.System, Run.Run, Run.filing, Run.fresh, Run.posting_at, Run.tossing_at, Run.scanning_at, Run.nth, Run.taking, Run.after_event, Run.after_events, Run.run_of, Run.start, Run.receiver, Run.purging_at, Event.RunEvent, Fits.FilesFit, Orderly.Settled, World.is_settled, World.missing}
+use Rattle.model_run.proofs.{Lists.map-change, Lists.Among-map_from, Lists.nth-append, Lists.with_index-different, Lists.with_index-from, Lists.and-parts, Lists.any-from, Lists.yes_or_no, EventKinds.each-kind, TosserPremises.Laws, Bases.AllMade, Bases.RunOk, Bases.event-made, Bases.event-ok, Bases.start-ok}
 use Rattle.model_graph.proofs.Members.{Among-at}
 
 pub filing-file : (s : System) (o : Option Filed) → (filing s o).file ≡ s.file
@@ -48,17 +45,14 @@ fresh-files (file ∷ files) = ap (λ (fs : List LinkFile). file ∷ fs) (fresh-
 pub fresh-empty : (files : List LinkFile) (s : System) → Among s (map fresh files) → (m : Filed) → ¬ Among m s.history
 fresh-empty files s h m i = grind (arith, Among-map_from)
 
--- a property that each event keeps holds after all of them
 pub along : (P : Run → Type 0) → ((run : Run) (event : RunEvent) → P run → P (after_event run event)) →
     (events : List RunEvent) → (run : Run) → P run → P (after_events run events)
 along P keeps [] run at = at
 along P keeps (event ∷ later) run at = along P keeps later (after_event run event) (keeps run event at)
 
--- for every net
 pub run-ok : (laws : Laws) (files : List LinkFile) → FilesFit files → (events : List RunEvent) → RunOk (run_of files events)
 run-ok laws files fit events = along (λ run. RunOk run) (λ run event. event-ok laws run event) events (start files) (start-ok laws files fit)
 
--- and its packets are those of scans
 pub run-made : (laws : Laws) (files : List LinkFile) → FilesFit files → (events : List RunEvent) → AllMade (run_of files events)
 run-made laws files fit events =
     (along (λ run. RunOk run × AllMade run) (λ run event made. (event-ok laws run event made.0, event-made laws run event made.0 made.1)) events (start files)
@@ -95,7 +89,6 @@ all-from : {X : Type 0} (p : X → Bool) (x : X) (xs : List X) → list_all p xs
 all-from p x [] all h = absurd h
 all-from p x (y ∷ xs) all h = grind (arith, and-parts, all-from p x xs)
 
--- a packet that is not missing was delivered
 not-missing : (delivered : List ℕ) (k : ℕ) (before : List Packet) (packet : Packet) (after : List Packet) →
     missing delivered k (before ++ packet ∷ after) ≡ 0 → list_any (λ d. d == k + length before) delivered ≡ true
 not-missing delivered k [] packet after e = grind (arith, yes_or_no)

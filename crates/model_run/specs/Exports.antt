@@ -5,8 +5,7 @@ use Rattle.model_graph.specs.Walk.{Among}
 use Rattle.model_steps.specs.{declared.packet.Packet.Packet, declared.stamp.Stamp.Stamp, Scanning.exported, Scanning.scanned, Scanning.targets, Stamps.is_stamp}
 use Rattle.echo_links.specs.Links.{LinkFile}
 use Rattle.echo_filed.specs.Filed.{Filed, key_of}
-use Rattle.model_run.specs.Run.{System, Run, after_event, nth, start}
-use Rattle.model_run.specs.{Event.RunEvent, Event.Scanning, Orderly.SameContent}
+use Rattle.model_run.specs.{Run.System, Run.Run, Run.after_event, Run.nth, Run.start, Event.RunEvent, Event.Scanning, Orderly.SameContent}
 
 -- A packet, the index of the system that made it, and the index of the scan that made it in the list of events.
 pub record Export : Type 0 where

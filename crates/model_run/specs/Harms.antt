@@ -3,8 +3,7 @@ use Rattle.std.specs.Prelude.{◌≡◌, ◌⊎◌, ℕ, ◌≤◌, IsTrue, List
 use Rattle.model_graph.specs.Walk.{Among}
 use Rattle.echo_links.specs.Links.{LinkFile, has_area}
 use Rattle.echo_filed.specs.{declared.key.Key.Key, Filed.Filed, Filed.key_of}
-use Rattle.model_run.specs.Orderly.{IsPosting, Orderly, Settled, count, sent_count, tag_of}
-use Rattle.model_run.specs.{Event.RunEvent, Run.Run, Run.System, Run.run_of}
+use Rattle.model_run.specs.{Orderly.IsPosting, Orderly.Orderly, Orderly.Settled, Orderly.count, Orderly.sent_count, Orderly.tag_of, Event.RunEvent, Run.Run, Run.System, Run.run_of}
 
 -- A system with the area is sent a message of it more than once.
 pub record SentAgain (run : Run) (tag : List ℕ) : Type 0 where

@@ -4,12 +4,10 @@ use Rattle.echo_addr.specs.declared.address.Address.{Address}
 use Rattle.model_graph.specs.Walk.{Among}
 use Rattle.echo_packet.specs.Message.{Message}
 use Rattle.echo_text.specs.Refusal.{text_refusal}
-use Rattle.model_steps.specs.{declared.packet.Packet.Packet, Scanning.targets, declared.draft.Draft.Draft, declared.stamp.Stamp.Stamp, Posting.IsAllowed, Posting.post_refusal}
-use Rattle.model_steps.specs.Tossing.{IsToBeFiled, received, tossing}
+use Rattle.model_steps.specs.{declared.packet.Packet.Packet, Scanning.targets, declared.draft.Draft.Draft, declared.stamp.Stamp.Stamp, Posting.IsAllowed, Posting.post_refusal, Tossing.IsToBeFiled, Tossing.received, Tossing.tossing}
 use Rattle.echo_links.specs.Links.{LinkFile}
 use Rattle.echo_filed.specs.{declared.key.Key.Key, Filed.Filed, Filed.key_of}
-use Rattle.model_run.specs.Run.{IsLater, System, destination, nth, run_of}
-use Rattle.model_run.specs.{Event.RunEvent, Orderly.copies, Orderly.count, Orderly.origin, Orderly.sent_count, Exports.Export, Exports.IsSentCopy, Exports.exports, Exports.sent_by, Fits.FilesFit}
+use Rattle.model_run.specs.{Run.IsLater, Run.System, Run.destination, Run.nth, Run.run_of, Event.RunEvent, Orderly.copies, Orderly.count, Orderly.origin, Orderly.sent_count, Exports.Export, Exports.IsSentCopy, Exports.exports, Exports.sent_by, Fits.FilesFit}
 
 -- The public laws of runs and steps.
 pub record LawsOfRuns (files : List LinkFile) : Type 0 where

@@ -1,10 +1,8 @@
 -- One posting, and the events until the area is at rest.
-use Rattle.std.specs.Prelude.{ℕ, List, [], ◌∷◌, codes}
-use Rattle.std.specs.List.{AllByRecursion}
+use Rattle.std.specs.{Prelude.ℕ, Prelude.List, Prelude.[], Prelude.◌∷◌, Prelude.codes, List.AllByRecursion}
 use Rattle.model_steps.specs.declared.{draft.Draft.Draft, stamp.Stamp.Stamp}
 use Rattle.echo_links.specs.Links.{LinkFile}
-use Rattle.model_run.specs.Event.{RunEvent, Posting, Scanning, Delivery, PartDelivery, Purging}
-use Rattle.model_run.specs.{Run.run_of, Orderly.Settled}
+use Rattle.model_run.specs.{Event.RunEvent, Event.Posting, Event.Scanning, Event.Delivery, Event.PartDelivery, Event.Purging, Run.run_of, Orderly.Settled}
 
 -- An event that moves messages on: a scan, or a whole packet that arrives.
 abbrev pub IsMove : RunEvent → Type 0

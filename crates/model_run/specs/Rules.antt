@@ -1,8 +1,7 @@
 -- Five rules for tossers.
 use Rattle.std.specs.Prelude.{◌≡◌, ◌≢◌, ◌⊎◌, ◌↔◌, IsTrue, List, [], ◌∷◌, Some}
 use Rattle.model_graph.specs.{Walk.Among, Walk.Different, Beyond.Beyond}
-use Rattle.model_run.specs.Events.{Filed, Event, Posts, Exports, Comes, filed, exported, copies, Has}
-use Rattle.model_run.specs.Nets.{Net}
+use Rattle.model_run.specs.{Events.Filed, Events.Event, Events.Posts, Events.Exports, Events.Comes, Events.filed, Events.exported, Events.copies, Events.Has, Nets.Net}
 
 -- In a net only systems with the area post in it, and only sent copies come.
 abbrev pub IsPossible : {A N K C : Type 0} → Net A N → List (Event A N K C) → Event A N K C → Type 0

@@ -1,8 +1,7 @@
 -- The promise of tossers that keep the rules, and its premises.
 use Rattle.std.specs.Prelude.{◌≡◌, ◌≢◌, ◌⊎◌, ℕ, IsTrue, List, map, None}
 use Rattle.model_graph.specs.Walk.{Among, Different}
-use Rattle.model_run.specs.Events.{Filed, Copy, Event, filed, exported, copies, came}
-use Rattle.model_run.specs.{Nets.Net, Nets.Tidy, Rules.Always, Rules.IsPossible, Rules.Kept, Rules.Rule}
+use Rattle.model_run.specs.{Events.Filed, Events.Copy, Events.Event, Events.filed, Events.exported, Events.copies, Events.came, Nets.Net, Nets.Tidy, Rules.Always, Rules.IsPossible, Rules.Kept, Rules.Rule}
 
 -- Any two are equal or not.
 abbrev pub AreDistinct : Type 0 → Type 0

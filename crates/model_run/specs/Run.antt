@@ -3,8 +3,7 @@ use Rattle.std.specs.Prelude.{◌≡◌, ◌≤◌, ◌==◌, ℕ, zero, suc, Li
 use Rattle.std.specs.List.{list_any, position_or_len}
 use Rattle.echo_addr.specs.declared.address.Address.{Address}
 use Rattle.echo_packet.specs.Message.{Message}
-use Rattle.model_steps.specs.{declared.packet.Packet.Packet, declared.stamp.Stamp.Stamp, declared.draft.Draft.Draft, SystemState.SystemState, Posting.posting, Tossing.tossing, Tossing.sender_of}
-use Rattle.model_steps.specs.{Scanning.scanned, Stamps.is_stamp, Purging.purged}
+use Rattle.model_steps.specs.{declared.packet.Packet.Packet, declared.stamp.Stamp.Stamp, declared.draft.Draft.Draft, SystemState.SystemState, Posting.posting, Tossing.tossing, Tossing.sender_of, Scanning.scanned, Stamps.is_stamp, Purging.purged}
 use Rattle.echo_links.specs.Links.{LinkFile, same_address}
 use Rattle.echo_filed.specs.Filed.{Filed}
 use Rattle.model_run.specs.Event.{RunEvent, Posting, Scanning, Delivery, PartDelivery, Purging}
@@ -26,7 +25,7 @@ pub record Run : Type 0 where
   pub packets : List Packet
   pub delivered : List ℕ
 
--- The same system at a later time. Its file stays, its cursor has not fallen, and its earlier messages come first,
+-- A system at a later time. Its file stays, its cursor has not fallen, and its earlier messages come first,
 -- unchanged.
 pub record IsLater (s z : System) : Type 0 where
   pub file : z.file ≡ s.file

@@ -1,6 +1,5 @@
 -- Which nets are tidy in an area.
-use Rattle.std.specs.Prelude.{◌≡◌, ◌&&◌, ℕ, Bool, IsTrue, List, map}
-use Rattle.std.specs.List.{list_any}
+use Rattle.std.specs.{Prelude.◌≡◌, Prelude.◌&&◌, Prelude.ℕ, Prelude.Bool, Prelude.IsTrue, Prelude.List, Prelude.map, List.list_any}
 use Rattle.echo_addr.specs.{declared.address.Address.Address, Address.net_node_of}
 use Rattle.model_graph.specs.{Walk.Different, Walk.Connected, Cycle.Polygons}
 use Rattle.echo_links.specs.Links.{LinkFile, has_area, is_link, same_address}

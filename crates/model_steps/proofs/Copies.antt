@@ -1,18 +1,15 @@
 -- The copies that a scan makes of a message, and their content in a toss.
 use Rattle.std.proofs.Common.{◌≡◌, ℕ, zero, suc, Bool, List, [], ◌∷◌, ◌++◌, map, drop, sym, ap, subst, ◌∙◌, Option, Some, None, arith, inl, inr}
 use Rattle.std.proofs.lemmas.{Bool.cases_Bool, Bool.cond-false, Bool.cond-true, List.Elements.All-append, List.Elements.All-from_recursion, List.Elements.recursion_from_All}
-use Rattle.std.specs.Prelude.{bytes_eq, filter, find, option_map, unwrap_or}
-use Rattle.std.specs.List.{AllByRecursion}
+use Rattle.std.specs.{Prelude.bytes_eq, Prelude.filter, Prelude.find, Prelude.option_map, Prelude.unwrap_or, List.AllByRecursion}
 use Rattle.echo_addr.specs.{declared.address.Address.Address, declared.address.NetNode.NetNode, Address.IsAddress, Address.net_node_of, ShortLines.IsNetNode}
 use Rattle.echo_text.specs.{Echo.EchoText, Echo.IsEcho, Refusal.text_refusal}
 use Rattle.echo_filed.specs.{Sets.entry_before, Sets.entry_set, Filed.Filed, Filed.IsFiled, Filed.key_of}
-use Rattle.model_steps.specs.Scanning.{copy_to, exported, goes_to, packet_to, packets_of, recipients, scanned}
-use Rattle.model_steps.specs.{declared.stamp.Stamp.Stamp, Tossing.received}
+use Rattle.model_steps.specs.{Scanning.copy_to, Scanning.exported, Scanning.goes_to, Scanning.packet_to, Scanning.packets_of, Scanning.recipients, Scanning.scanned, declared.stamp.Stamp.Stamp, Tossing.received}
 use Rattle.echo_links.specs.Links.{Area, IsArea, IsFile, LinkFile, links_of}
 use Rattle.base_file.specs.Base.{IsBase}
 use Rattle.echo_filed.proofs.{Sets.set_all, Orders.entry_set_is_set, Texts.written_accepted, Texts.written_back}
 
--- the links of the area that is found
 found_links : (p : Area → Bool) (areas : List Area) → AllByRecursion IsArea areas → AllByRecursion IsAddress (unwrap_or (option_map (λ area. area.links) (find p areas)) [])
 found_links p [] all = tt
 found_links p (first ∷ later) all =
@@ -23,7 +20,6 @@ found_links p (first ∷ later) all =
       | inr fails ↦ subst P (sym (cond-false (p first) (Some first) (find p later) fails)) (found_links p later all.1)
     ]
 
--- the links of a link file are addresses
 pub links_are_addresses : (file : LinkFile) → IsFile file → (tag : List ℕ) → AllByRecursion IsAddress (links_of file tag)
 unfolding links_of
 links_are_addresses file h tag = found_links (λ area. bytes_eq area.tag tag) file.areas h.each_area
@@ -39,7 +35,6 @@ set_fits : (all : List NetNode) → AllByRecursion IsNetNode all → AllByRecurs
 unfolding entry_set
 set_fits all h = set_all entry_before IsNetNode all h
 
--- an exported text reads back
 pub exported_is_echo : (file : LinkFile) → IsFile file → (e : EchoText) → IsEcho e → IsEcho (exported file e)
 unfolding exported
 exported_is_echo file h e is =
@@ -57,7 +52,6 @@ exported_is_echo file h e is =
           (All-from_recursion IsNetNode (net_node_of file.system ∷ []) (net_node_fits file.system h.address, tt));
     }
 
--- a copy is echomail with the exported parts
 pub copy_accepted : (file : LinkFile) (to : Address) (m : Filed) → IsFile file → IsEcho m.echo → text_refusal ((copy_to file to m).text) ≡ None
 unfolding copy_to
 copy_accepted file to m h is = written_accepted (exported file m.echo) (exported_is_echo file h m.echo is)
@@ -68,17 +62,14 @@ pub copy_read_back : (file : LinkFile) (from to : Address) (m : Filed) → IsFil
 unfolding copy_to received
 copy_read_back file from to m h is = grind (arith, written_back, exported_is_echo)
 
--- the key does not depend on the sender, SEEN-BY and PATH
 exported_key : (file : LinkFile) (m : Filed) (from : Option Address)
     → key_of (record { sender = from; date = m.date; to_name = m.to_name; from_name = m.from_name; subject = m.subject; echo = exported file m.echo }) ≡ key_of m
 unfolding key_of exported
 exported_key file m from = grind arith
 
--- the copy that is tossed has the key of the message
 pub copy_keeps_key : (file : LinkFile) (from to : Address) (m : Filed) → IsFile file → IsEcho m.echo → key_of (received from (copy_to file to m)) ≡ key_of m
 copy_keeps_key file from to m h is = ap key_of (copy_read_back file from to m h is) ∙ exported_key file m (Some from)
 
--- a fact about each element holds for those that pass a test, and for the last ones
 pub all_filter : {X : Type 0} (P : X → Type 0) (p : X → Bool) (xs : List X) → AllByRecursion P xs → AllByRecursion P (filter p xs)
 all_filter P p [] all = tt
 all_filter {X} P p (x ∷ xs) all =
@@ -93,7 +84,6 @@ all_later P zero xs all = all
 all_later P (suc n) [] all = tt
 all_later P (suc n) (x ∷ xs) all = all_later P n xs all.1
 
--- a fact about each element gives one about each image
 all_made : {X Y : Type 0} (P : X → Type 0) (Q : Y → Type 0) (f : X → Y) → ((x : X) → P x → Q (f x)) → (xs : List X) → AllByRecursion P xs → AllByRecursion Q (map f xs)
 all_made P Q f step [] all = tt
 all_made P Q f step (x ∷ xs) all = (step x all.0, all_made P Q f step xs all.1)

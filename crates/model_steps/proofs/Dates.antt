@@ -3,7 +3,6 @@ use Rattle.std.proofs.Common.{◌≡◌, ℕ, ◌+◌, ◌-◌, ◌*◌, ◌≤�
 use Rattle.std.proofs.lemmas.{Bool.and_parts, Bool.leb-true, List.drop_more}
 use Rattle.model_steps.specs.{declared.stamp.Stamp.Stamp, Stamps.date_of, Stamps.is_stamp, Stamps.month_name, Stamps.two_digits}
 
--- three items of a list from a place on
 pub three_from : (xs : List ℕ) (i : ℕ) → i + 3 ≤ length xs → take 3 (drop i xs) ≡ get_or xs i 0 ∷ (get_or xs (i + 1) 0 ∷ (get_or xs (i + 2) 0 ∷ []))
 three_from xs i h = grind (arith, get_or, drop_more)
 

@@ -4,10 +4,10 @@ use Rattle.std.specs.List.{list_any}
 use Rattle.echo_addr.specs.declared.address.Address.{Address}
 use Rattle.echo_packet.specs.Message.{Message}
 use Rattle.echo_text.specs.Lines.{area_tag, first_line, is_area, is_tag, lines}
-use Rattle.echo_text.specs.{declared.fault.TextFault.TextFault, Refusal.text_refusal, Ids.id_of, Ids.is_id}
+use Rattle.echo_text.specs.{declared.fault.TextFault.TextFault, Refusal.text_refusal, Ids.id_of}
 use Rattle.echo_text.specs.declared.fault.TextFault.TheVariants as text
 use Rattle.model_steps.specs.Posting.{IsAllowed, IsFirstRefusal, has_id, holds_zero, is_too_long, post_refusal}
-use Rattle.model_steps.specs.{declared.draft.Draft.Draft, declared.stamp.Stamp.Stamp, declared.fault.PostFault.PostFault, declared.outcome.Outcome.Outcome, Stamps.is_stamp}
+use Rattle.model_steps.specs.{declared.draft.Draft.Draft, declared.stamp.Stamp.Stamp, declared.fault.PostFault.PostFault, declared.outcome.Outcome.Outcome, ReplyIds.is_reply_id, Stamps.is_stamp}
 use Rattle.model_steps.specs.Tossing.{IsOutcome, outcome_after, received, toss_outcome}
 use Rattle.model_steps.specs.declared.fault.PostFault.TheVariants as fault
 use Rattle.model_steps.specs.declared.outcome.Outcome.TheVariants as outcome
@@ -43,13 +43,13 @@ first_chain area zero long moment reply known f h1 = grind arith
 
 -- by cases on the fault, both definitions have the same first refusal
 to_first : (file : LinkFile) (base : List Filed) (tag : List ℕ) (draft : Draft) (serial : ℕ) (stamp : Stamp) (f : PostFault)
-    → First (has_area file (upper tag)) (holds_zero draft) (is_too_long draft) (is_stamp stamp) ((length draft.reply == 0) || is_id draft.reply) (list_any (has_id (id_of file.system serial)) base) f
+    → First (has_area file (upper tag)) (holds_zero draft) (is_too_long draft) (is_stamp stamp) ((length draft.reply == 0) || is_reply_id draft.reply) (list_any (has_id (id_of file.system serial)) base) f
     → IsFirstRefusal file base tag draft serial stamp f
 to_first file base tag draft serial stamp f h1 = grind arith
 
 of_first : (file : LinkFile) (base : List Filed) (tag : List ℕ) (draft : Draft) (serial : ℕ) (stamp : Stamp) (f : PostFault)
     → IsFirstRefusal file base tag draft serial stamp f
-    → First (has_area file (upper tag)) (holds_zero draft) (is_too_long draft) (is_stamp stamp) ((length draft.reply == 0) || is_id draft.reply) (list_any (has_id (id_of file.system serial)) base) f
+    → First (has_area file (upper tag)) (holds_zero draft) (is_too_long draft) (is_stamp stamp) ((length draft.reply == 0) || is_reply_id draft.reply) (list_any (has_id (id_of file.system serial)) base) f
 of_first file base tag draft serial stamp f h1 = grind arith
 
 -- the text_refusal of a posting is the first that applies
@@ -64,7 +64,6 @@ pub refusal_none : (file : LinkFile) (base : List Filed) (tag : List ℕ) (draft
 unfolding post_refusal
 refusal_none file base tag draft serial stamp = grind (arith, allowed)
 
--- a text is refused as no echomail, or for its tag
 IsOfText : Option TextFault → Type 0
 IsOfText (Some text.Memory) = ⊥
 IsOfText (Some text.BadMsgId) = ⊥
@@ -118,7 +117,6 @@ one_spelling : (file : LinkFile) (base : List Filed) (from : Address) (packed : 
 unfolding received
 one_spelling file base from packed refused = grind arith
 
--- the outcome of a toss is the first that applies
 pub outcome_is_first : (file : LinkFile) (base : List Filed) (from : Address) (packed : Message) (o : Outcome)
     → (toss_outcome file base from packed ≡ o) ↔ IsOutcome file base from packed o
 unfolding toss_outcome

@@ -5,8 +5,7 @@ use Rattle.std.specs.List.{list_any}
 use Rattle.echo_addr.specs.declared.address.Address.{Address}
 use Rattle.echo_packet.specs.Message.{IsMessage, Message, max_name, max_subject}
 use Rattle.echo_text.specs.{Ids.is_zero, Refusal.text_refusal}
-use Rattle.model_steps.specs.{declared.draft.Draft.Draft, declared.stamp.Stamp.Stamp, Stamps.date_of, Stamps.is_stamp, Stamps.month_name, Stamps.two_digits}
-use Rattle.model_steps.specs.{Posting.IsAllowed, Posting.posted, Posting.posting, Tossing.received, Tossing.tossing}
+use Rattle.model_steps.specs.{declared.draft.Draft.Draft, declared.stamp.Stamp.Stamp, Stamps.date_of, Stamps.is_stamp, Stamps.month_name, Stamps.two_digits, Posting.IsAllowed, Posting.posted, Posting.posting, Tossing.received, Tossing.tossing}
 use Rattle.echo_links.specs.Links.{IsFile, LinkFile}
 use Rattle.echo_filed.specs.{Filed.Filed, Filed.HasSmallSender, Filed.IsFiled, Filed.key_of, Written.echo_of}
 use Rattle.base_file.specs.Base.{IsBase, is_known}
@@ -15,7 +14,6 @@ use Rattle.model_steps.proofs.{Received.tossing_received, Posted.posted_id, Post
 use Rattle.echo_filed.proofs.{Texts.says_read, Plain.some_bytes}
 use Rattle.base_file.proofs.Entries.{none_known, one_more}
 
--- DateTime has 20 bytes
 month_long : (month : ℕ) → 1 ≤ month → month ≤ 12 → length (month_name month) ≡ 3
 month_long month low high = grind (arith, length-take, length-drop)
 
@@ -44,7 +42,6 @@ posted_filed file base tag draft serial stamp h ok =
       is_echo = posted_is_echo file base tag draft serial stamp h ok;
     }
 
--- its key is no key of the base
 pub posted_new : (file : LinkFile) (base : List Filed) (tag : List ℕ) (draft : Draft) (serial : ℕ) (stamp : Stamp) → IsFile file → IsAllowed file base tag draft serial stamp
     → is_known base (key_of (posted file tag draft serial stamp)) ≡ false
 unfolding key_of

@@ -7,7 +7,6 @@ use Rattle.echo_addr.proofs.Decimals.{IsDigit, digits_of_decimal}
 use Rattle.echo_text.specs.Ids.{hex_digit, id_of, serial_text}
 use Rattle.echo_filed.proofs.{Trims.joined_trim, Keys.IsIdText, Plain.IsLineByte, Plain.Plain, Plain.all_append, Plain.plain_address}
 
--- a digit to the base 16 is no control byte and no blank
 hex_digit_high : (n : ℕ) → n < 16 → 48 ≤ hex_digit n
 hex_digit_high n small =
     leb-true 48 (hex_digit n) (AllPass-from_list_all (λ b. nat_le 48 b) (codes "0123456789abcdef") refl n 0 small)
@@ -39,7 +38,6 @@ digits_begin (d ∷ digits) rest some all = cond-false (is_blank d) (1 + prefix_
 serial_ends : (serial : ℕ) → suffix_len is_blank (codes " " ++ serial_text serial) ≡ 0
 serial_ends serial = cond-false (is_blank (hex_digit (serial / 16 ^ 0 % 16))) _ 0 (no_blank (hex_digit (serial / 16 ^ 0 % 16)) (hex_at (serial / 16 ^ 0)))
 
--- an own id has bytes and no blank at an end
 pub own_id_is_id : (a : Address) → IsAddress a → (serial : ℕ) → IsIdText (id_of a serial)
 unfolding id_of
 own_id_is_id a h serial =

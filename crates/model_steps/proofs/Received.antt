@@ -4,8 +4,7 @@ use Rattle.std.proofs.lemmas.Bool.{cond-false, not-false, not_from_true}
 use Rattle.echo_addr.specs.declared.address.Address.{Address}
 use Rattle.echo_packet.specs.Message.{Message}
 use Rattle.echo_text.specs.declared.fault.TextFault.{TextFault}
-use Rattle.model_steps.specs.Tossing.{IsToBeFiled, outcome_after, outcome_of_filed, received, toss_outcome, tossing, where_filed}
-use Rattle.model_steps.specs.declared.outcome.Outcome.{Outcome}
+use Rattle.model_steps.specs.{Tossing.IsToBeFiled, Tossing.outcome_after, Tossing.outcome_of_filed, Tossing.received, Tossing.toss_outcome, Tossing.tossing, Tossing.where_filed, declared.outcome.Outcome.Outcome}
 use Rattle.model_steps.specs.declared.outcome.Outcome.TheVariants as outcome
 use Rattle.echo_links.specs.Links.{LinkFile, has_area, is_link}
 use Rattle.echo_filed.specs.Filed.{Filed, key_of}

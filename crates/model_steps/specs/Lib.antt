@@ -1,5 +1,6 @@
 pub mod Stamps
 pub mod SystemState
+pub mod ReplyIds
 pub mod Posting
 pub mod Tossing
 pub mod Scanning

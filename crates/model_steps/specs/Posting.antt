@@ -4,10 +4,10 @@ use Rattle.std.specs.Prelude.{◌≡◌, ℕ, ◌⊎◌, ◌==◌, ◌||◌, not
 use Rattle.std.specs.List.{list_any}
 use Rattle.echo_addr.specs.Address.{address_text}
 use Rattle.echo_text.specs.Lines.{lines, msgid_word, origin_word, reply_word, trimmed}
-use Rattle.echo_text.specs.Ids.{id_of, is_id, is_zero}
+use Rattle.echo_text.specs.Ids.{id_of, is_zero}
 use Rattle.echo_packet.specs.Message.{max_name, max_subject}
 use Rattle.model_steps.specs.{declared.draft.Draft.Draft, declared.stamp.Stamp.Stamp, declared.fault.PostFault.PostFault, Stamps.date_of, Stamps.is_stamp}
-use Rattle.model_steps.specs.SystemState.{SystemState, state_with}
+use Rattle.model_steps.specs.{SystemState.SystemState, SystemState.state_with, ReplyIds.is_reply_id}
 use Rattle.model_steps.specs.declared.fault.PostFault.TheVariants as fault
 use Rattle.echo_links.specs.Links.{LinkFile, has_area, upper}
 use Rattle.echo_filed.specs.Filed.{Filed, id_line}
@@ -56,7 +56,7 @@ post_refusal file base tag draft serial stamp =
     else if holds_zero draft then Some fault.ByteZero
     else if is_too_long draft then Some fault.FieldTooLong
     else if not (is_stamp stamp) then Some fault.BadStamp
-    else if not ((length draft.reply == 0) || is_id draft.reply) then Some fault.BadReply
+    else if not ((length draft.reply == 0) || is_reply_id draft.reply) then Some fault.BadReply
     else if list_any (has_id (id_of file.system serial)) base then Some fault.KnownSerial
     else None
 
@@ -66,7 +66,7 @@ pub record IsAllowed (file : LinkFile) (base : List Filed) (tag : List ℕ) (dra
   pub zero : holds_zero draft ≡ false
   pub short : is_too_long draft ≡ false
   pub moment : is_stamp stamp ≡ true
-  pub reply : ((length draft.reply == 0) || is_id draft.reply) ≡ true
+  pub reply : ((length draft.reply == 0) || is_reply_id draft.reply) ≡ true
   pub new : list_any (has_id (id_of file.system serial)) base ≡ false
 
 -- This refusal is the first that applies, in the order B1, B2, B3, B5, B6, B4.
@@ -79,10 +79,10 @@ IsFirstRefusal file base tag draft serial stamp fault.BadStamp =
     (has_area file (upper tag) ≡ true) × (holds_zero draft ≡ false) × (is_too_long draft ≡ false) × (is_stamp stamp ≡ false)
 IsFirstRefusal file base tag draft serial stamp fault.BadReply =
     (has_area file (upper tag) ≡ true) × (holds_zero draft ≡ false) × (is_too_long draft ≡ false) × (is_stamp stamp ≡ true)
-    × (((length draft.reply == 0) || is_id draft.reply) ≡ false)
+    × (((length draft.reply == 0) || is_reply_id draft.reply) ≡ false)
 IsFirstRefusal file base tag draft serial stamp fault.KnownSerial =
     (has_area file (upper tag) ≡ true) × (holds_zero draft ≡ false) × (is_too_long draft ≡ false) × (is_stamp stamp ≡ true)
-    × (((length draft.reply == 0) || is_id draft.reply) ≡ true) × (list_any (has_id (id_of file.system serial)) base ≡ true)
+    × (((length draft.reply == 0) || is_reply_id draft.reply) ≡ true) × (list_any (has_id (id_of file.system serial)) base ≡ true)
 IsFirstRefusal file base tag draft serial stamp fault.Memory = ⊥
 
 -- The message that a posting files.

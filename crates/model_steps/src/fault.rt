@@ -20,7 +20,7 @@ pub enum PostFault {
     /// A part of the stamp is out of its range.
     #[error("B5 BadStamp")]
     BadStamp,
-    /// The reply is not empty and no MSGID (FTS-0009).
+    /// The reply is not empty, and no id that a REPLY line may name (FTS-0009).
     #[error("B6 BadReply")]
     BadReply,
     /// A message of the base, in any area, has the MSGID that this one would get.

@@ -3,7 +3,7 @@
 //! Promise: `PostStep`, `TossStep`, `ScanStep` and `PurgeStep` of specs/. Each keeps the rules of a base.
 //!
 //! Begin with specs/Posting and specs/Tossing. `stamp` and `draft` are posted, `moment` checks and writes a stamp.
-//! `outcome` is the result of a tossed message, a scan makes a `packet`. specs/Resending has the packets that are
+//! `reply_ids` judges the ids that are answered. `outcome` is the result of a tossed message, a scan makes a `packet`. specs/Resending has the packets that are
 //! made again. `fault` lists the refusals, `laws` states the promise.
 #![tactic(auto)]
 
@@ -13,6 +13,7 @@ mod laws;
 mod moment;
 mod outcome;
 mod packet;
+mod reply_ids;
 mod stamp;
 
 pub use draft::Draft;
@@ -23,4 +24,5 @@ pub use laws::{
 pub use moment::{date_of, is_stamp};
 pub use outcome::Outcome;
 pub use packet::{Packet, message_size};
+pub use reply_ids::is_reply_id;
 pub use stamp::Stamp;

@@ -1,6 +1,5 @@
 //! Checks a stamp, and writes it as a DateTime.
-ghost use Rattle.std.specs.Prelude.{◌≡◌, ◌+◌, ◌*◌, ◌/◌, ◌%◌, ◌-◌, true};
-ghost use Rattle.std.specs.Int.{is_in_range};
+ghost use Rattle.std.specs.{Prelude.◌≡◌, Prelude.◌+◌, Prelude.◌*◌, Prelude.◌/◌, Prelude.◌%◌, Prelude.◌-◌, Prelude.true, Int.is_in_range};
 ghost use Rattle.model_steps.specs.Stamps.{date_of, is_stamp};
 
 use crate::stamp::Stamp;

@@ -17,7 +17,6 @@ use Rattle.model_why.specs.Carrying.{crossing_at, crossings_from, step_of}
 abbrev pub sender_if : Key → Packet → Option Address
 sender_if key p = cond (nat_lt 0 (count key (copies p))) (Some (origin p)) None
 
--- the packet at an index is the first of those left there
 left_at : (k : ℕ) (ps : List Packet) → k < length ps → (p : Packet) × (nth k ps ≡ Some p) × (drop k ps ≡ p ∷ drop (suc k) ps)
 left_at k [] h = absurd (omega arith)
 left_at zero (p ∷ ps) h = (p, refl, refl)
@@ -46,7 +45,6 @@ crossing-there counts to from key k step p for is found = grind (arith, same_add
 pub crossing-none : (counts : List ℕ) (to : Address) (key : Key) (k : ℕ) (p : Packet) → (let o : Option Address = None in o ≡ sender_if key p) → crossing_at counts to key k p ≡ []
 crossing-none counts to key k p none = grind arith
 
--- the messages of the packet hold it
 pub sender-there : (key : Key) (p : Packet) (from : Address) (ms : List Message) (times : ℕ) → ms ≡ p.messages → times ≡ total (origin p) key ms → 0 < times →
     from ≡ origin p → Some from ≡ sender_if key p
 sender-there key p from ms times are counted some is = grind (arith, cond-true, lt-ltb)

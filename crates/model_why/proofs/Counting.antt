@@ -15,7 +15,6 @@ use Rattle.model_run.specs.{Run.destination, Run.nth, Orderly.copies, Orderly.co
 abbrev pub copies_for : Address → Key → Packet → ℕ
 copies_for to key p = if same_address (destination p) to then count key (copies p) else 0
 
--- one packet more
 sent-step : (to : Address) (key : Key) (k : ℕ) (p : Packet) (ps : List Packet) → nth k ps ≡ Some p →
     sent_count to key (take (suc k) ps) ≡ sent_count to key (take k ps) + copies_for to key p
 sent-step to key k p [] h = absurd (cc)
@@ -63,7 +62,6 @@ total-more sender key i n q ms b within there e is =
     ap (λ (j : ℕ). total sender key (take j ms)) next ∙ total-step sender key i q ms (nth-read i q ms within there)
     ∙ ap {B = ℕ} (λ (t : Bool). total sender key (take i ms) + cond t 1 0) (sym is)
 
--- whether a message has this tag and id
 and-false : (b : Bool) → b && false ≡ false
 and-false true = refl
 and-false false = refl
@@ -78,14 +76,12 @@ pub has_key : (m : Filed) (tag id : List ℕ) →
 unfolding key_of
 has_key m tag id = with_id m tag id (msgid_of m.echo.kept)
 
--- the same for a received text
 pub has_key-received : (sender : Address) (q : Message) (tag id : List ℕ) →
     same_key (key_of (received sender q)) (ById tag id)
     ≡ bytes_eq (echo_of q.text).tag tag && unwrap_or (option_map (λ (found : List ℕ). bytes_eq found id) (msgid_of (echo_of q.text).kept)) false
 unfolding received
 has_key-received sender q tag id = has_key (received sender q) tag id
 
--- a packet that is read from its bytes
 pub same_parts : (p : Packet) (bytes : List ℕ) (found : Found) → Fits p → bytes ≡ encoded p →
     ((other : Answer) → Describes unlimited bytes other → AnswersAsDescribed (Ok found) other) → found ≡ (p.header, p.messages, length bytes)
 same_parts p bytes found fits is only =

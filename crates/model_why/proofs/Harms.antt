@@ -9,7 +9,6 @@ use Rattle.model_why.specs.Found.{BreaksIt, HasHarm, HasPosted}
 use Rattle.model_why.proofs.Judged.{in-nth, nth-in}
 use Rattle.model_run.proofs.HarmLists.{nth-below as nth-there}
 
--- a purge leaves sender and tag
 stub-sender : (m : Filed) (o : Option (List ℕ)) → (stub_with m o).sender ≡ m.sender
 stub-sender m None = refl
 stub-sender m (Some id) = refl

@@ -1,8 +1,7 @@
 -- The harm that a world shows is the harm of its run.
 use Rattle.std.proofs.Common.{◌≡◌, ◌≢◌, ◌∙◌, ◌⊎◌, inl, inr, refl, sym, subst, ap, ℕ, zero, suc, ◌+◌, ◌<◌, ◌≤◌, arith, Bool, true, false, cond, List, [], ◌∷◌, length, Option, Some, None}
 use Rattle.std.proofs.lemmas.List.Sums.{sum_by-cons}
-use Rattle.std.specs.Prelude.{◌&&◌, bytes_eq, option_map, slice_get, unwrap_or}
-use Rattle.std.specs.Cmp.Lexicographic.{bytes_decides}
+use Rattle.std.specs.{Prelude.◌&&◌, Prelude.bytes_eq, Prelude.option_map, Prelude.slice_get, Prelude.unwrap_or, Cmp.Lexicographic.bytes_decides}
 use Rattle.echo_addr.specs.declared.address.Address.{Address}
 use Rattle.model_graph.specs.Walk.{Among}
 use Rattle.echo_text.specs.Echo.{msgid_of}
@@ -11,8 +10,7 @@ use Rattle.echo_links.proofs.Addresses.{same_address_decides}
 use Rattle.echo_filed.specs.{declared.key.Key.TheVariants.ById, Filed.Filed, Filed.key_of}
 use Rattle.echo_filed.proofs.Keys.{same_key_decides}
 use Rattle.model_steps.specs.declared.packet.Packet.{Packet}
-use Rattle.model_run.specs.Orderly.{IsPosting, Settled, copies, count, sent_count}
-use Rattle.model_run.specs.{Run.Run, Run.System, Run.destination, Run.nth, World.area_count, World.filed_at}
+use Rattle.model_run.specs.{Orderly.IsPosting, Orderly.Settled, Orderly.copies, Orderly.count, Orderly.sent_count, Run.Run, Run.System, Run.destination, Run.nth, World.area_count, World.filed_at}
 use Rattle.model_replay.specs.Worlds.{message_at}
 use Rattle.model_why.specs.Found.{CarriesAt, GoesToNobody, HasPosted, IsCarrierAt, IsNeverGot, IsSentAgain, IsSentOwn, PostedAt}
 use Rattle.model_why.proofs.Counting.{has_key}
@@ -48,7 +46,6 @@ in-nth (y ∷ xs) x h =
       | inr t ↦ (let (i, at, within) = in-nth xs x t in (suc i, at, omega (arith, within)))
     ]
 
--- the first message of a base is the posting
 pub posted-at : (run : Run) (i : ℕ) (tag id : List ℕ) (a : Address) (m : Filed) → CarriesAt run i tag a → Some m ≡ message_at run i 0 →
     IsPosting tag m × (key_of m ≡ ById tag id) → PostedAt run i tag id a
 posted-at run i tag id a m carrier found is =

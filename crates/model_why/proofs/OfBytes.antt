@@ -1,15 +1,12 @@
 -- Link files that are read one after another.
 use Rattle.std.proofs.Common.{◌≡◌, ◌⊎◌, ◌∙◌, inl, inr, sym, subst, ap, ℕ, zero, suc, ◌+◌, ◌<◌, arith, List, [], ◌∷◌, ◌++◌, length, get_or, take, Some}
 use Rattle.std.specs.Prelude.{Result, Ok, Err}
-use Rattle.model_graph.specs.Walk.{Among}
-use Rattle.model_graph.proofs.Members.{Among-append_cases}
 use Rattle.echo_links.specs.{declared.fault.LinkFault.LinkFault, LinkLines.LinksOf, LinkLines.file_of, Links.IsFile, Links.LinkFile}
 use Rattle.echo_links.specs.declared.fault.LinkFault.TheVariants as fault
 use Rattle.model_run.specs.{Fits.FilesFit, Run.nth}
 use Rattle.model_why.specs.Sources.{files_of}
 use Rattle.model_why.proofs.Counting.{nth-read}
 
--- the read files are those of the bytes
 pub of_bytes : (bytes : List ℕ) (file : LinkFile) → (let read : Result LinkFile LinkFault = Ok file in (read ≡ Err fault.Memory) ⊎ LinksOf bytes read) → LinksOf bytes (Ok file)
 of_bytes bytes file h = elim h [ inl memory ↦ absurd (cc) | inr is ↦ is ]
 

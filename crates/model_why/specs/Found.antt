@@ -5,8 +5,7 @@ use Rattle.model_graph.specs.Walk.{Among}
 use Rattle.echo_links.specs.Links.{LinkFile, has_area}
 use Rattle.echo_filed.specs.{declared.key.Key.TheVariants.ById, Filed.Filed, Filed.key_of}
 use Rattle.model_steps.specs.declared.packet.Packet.{Packet}
-use Rattle.model_run.specs.Orderly.{IsPosting, Settled, copies, count, sent_count}
-use Rattle.model_run.specs.Run.{Run, System, destination, nth}
+use Rattle.model_run.specs.{Orderly.IsPosting, Orderly.Settled, Orderly.copies, Orderly.count, Orderly.sent_count, Run.Run, Run.System, Run.destination, Run.nth}
 use Rattle.model_why.specs.declared.shown.{Harm.Harm, Harm.TheVariants.NeverGets, Harm.TheVariants.NeverSettles, Harm.TheVariants.SentAgain, Harm.TheVariants.SentOwn, Shown.Shown}
 use Rattle.model_why.specs.Shown.{shown_run}
 

@@ -5,8 +5,7 @@ ghost use Rattle.echo_filed.specs.declared.key.Key.TheVariants.{ById};
 ghost use Rattle.model_replay.specs.Worlds.{Fits, IsWorldOf, encoded};
 ghost use Rattle.model_run.specs.{Orderly.copies, Orderly.count, Orderly.origin, Run.Run, Run.nth};
 ghost use Rattle.model_steps.specs.declared.packet.Packet.{Packet};
-ghost use Rattle.model_why.specs.Carrying.{crossing_at, crossings_from, found_crossings, shown_crossings, step_of, system_named};
-ghost use Rattle.model_why.specs.Sources.{files_of};
+ghost use Rattle.model_why.specs.{Carrying.crossing_at, Carrying.crossings_from, Carrying.found_crossings, Carrying.shown_crossings, Carrying.step_of, Carrying.system_named, Sources.files_of};
 
 use crate::copies::{count_copies, is_for};
 use crate::events::events_of;
@@ -37,7 +36,6 @@ pub fn crossings(
     }
 }
 
-// The same of a run that was found.
 fn shown_crossings(
     alloc: Global,
     sources: &[Items<u8>],
@@ -57,7 +55,6 @@ fn shown_crossings(
     crossings_to(alloc, &world, &counts, HarmedMessage { to, tag, id })
 }
 
-// The system that the harm names.
 fn system_named(harm: Harm) -> Option<Address>
     ensures { result ≡ system_named harm }
 {
@@ -162,7 +159,6 @@ fn parts_of(alloc: Global, bytes: &[u8]) -> Result<(Header, Vec<Packed>), AllocE
     }
 }
 
-// The sender's address of a header.
 fn origin(header: &Header) -> Address
     ensures { (p : Packet) → header.now ≡ p.header → result ≡ origin p }
 {

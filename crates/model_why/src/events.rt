@@ -40,7 +40,6 @@ pub(crate) fn events_of(
     Ok(events)
 }
 
-// The posting.
 fn posting(alloc: Global, poster: usize, tag: &[u8]) -> Result<Event, AllocError>
     ensures { IfOk result (λ event. run_event event ≡ trial_posting poster tag.now) }
 {
@@ -66,7 +65,6 @@ fn draft(alloc: Global) -> Result<Draft, AllocError>
     })
 }
 
-// The event of a move.
 fn event_of(one: Move) -> Event
     ensures { run_event result ≡ run_move one }
 {

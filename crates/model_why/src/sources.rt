@@ -20,7 +20,6 @@ pub(crate) fn read_files(alloc: Global, sources: &[Items<u8>]) -> Result<Vec<Lin
     Ok(files)
 }
 
-// The link file of these bytes.
 fn read_file(alloc: Global, bytes: &[u8]) -> Result<LinkFile, AllocError>
     ensures { IfOk result (λ file. file ≡ file_of bytes.now) }
 {

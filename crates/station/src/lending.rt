@@ -1,8 +1,8 @@
-//! A station that can pass its disk on, for files that do not belong to its store.
-ghost use Rattle.std.specs.Prelude.{◌≡◌, ◌↔◌, ℕ, List, IsTrue};
-ghost use Rattle.disk_io.specs.Runs.{ChangesNothing};
-ghost use Rattle.base_store.specs.Store.{LooksOn, StoreState};
-ghost use Rattle.station.specs.Beneath.{IsGivenBack};
+//! A store lends its disk to a job, for files that do not belong to the store.
+ghost use Rattle.std.specs.Prelude.{◌↔◌, ℕ, List, IsTrue};
+ghost use Rattle.disk_io.specs.Disk.{DiskState};
+ghost use Rattle.disk_atomic.specs.Changes.{ChangesOnly};
+ghost use Rattle.station.specs.Beneath.{AreSettledByOwn, IsUsedAt};
 
 use crate::opening::OpenStation;
 use disk_io::Disk;
@@ -18,32 +18,42 @@ pub trait OwnPaths {
         ensures { IsTrue result ↔ is_own self.now path.now };
 }
 
-/// A station that can take its disk out of its store, pass it on for other files, and take it back.
+/// Work on a disk.
+pub trait DiskJob<D: Disk> {
+    type Answer;
+
+    // The disk allows it.
+    ghost can_run: { Self → DiskState → Type 0 };
+
+    // The files at these paths may change.
+    ghost changes_at: { Self → List ℕ → Type 0 };
+
+    // What it did: the disk and the count of its failures, each before and after, and the answer.
+    ghost has_run: { Self → DiskState → DiskState → ℕ → ℕ → Self.Answer → Type 0 };
+
+    /// Does the work.
+    fn run(&self, alloc: Global, disk: &mut D) -> Self::Answer
+        requires { can_run self.now (D.state disk.old) }
+        ensures changes { ChangesOnly (changes_at self.now) (D.state disk.old) (D.state disk.new) }
+        ensures done { has_run self.now (D.state disk.old) (D.state disk.new) (D.failures disk.old) (D.failures disk.new) result };
+}
+
+/// A station whose store lends its disk.
 pub trait LendStation<'a, D: Disk>: OpenStation<'a, D> {
-    /// The parts of the store without the disk.
-    type Rest;
-
     type Paths: OwnPaths + Drop;
-
-    // What the store is with this disk.
-    ghost store_on: { Self.Rest → D → StoreState };
 
     /// The paths of the station's files.
     fn paths(&self) -> Self::Paths
-        ensures { (m : List ℕ) → Self.Paths.is_own result m ↔ (Self.place self.now).is_own m };
+        ensures own { (m : List ℕ) → Self.Paths.is_own result m ↔ (Self.place self.now).is_own m }
 
-    /// The disk and the rest, taken out of the store.
-    fn lend(kept: Self::Kept) -> (D, Self::Rest)
-        requires { (Self.Kept.state kept).is_ready }
-        ensures looks { LooksOn (Self.Kept.state kept) (store_on result.1 result.0) }
-        ensures quiet { ChangesNothing (Self.Kept.state kept).disk (D.state result.0) }
-        ensures failures { D.failures result.0 ≡ Self.Kept.failures kept }
-        ensures back { (w : D) → IsGivenBack (store_on result.1 result.0) (D.state result.0) (D.state w) (store_on result.1 w) };
+        // Only files at these paths say which base a store of this kind has.
+        ensures settled { (kept : Self.Kept) → AreSettledByOwn (Self.Kept.state kept) };
 
-    /// The store with its disk again.
-    fn give_back(alloc: Global, disk: D, rest: Self::Rest) -> Self::Kept
-        requires { (store_on rest disk).is_ready }
-        ensures looks { LooksOn (store_on rest disk) (Self.Kept.state result) }
-        ensures quiet { ChangesNothing (D.state disk) (Self.Kept.state result).disk }
-        ensures failures { Self.Kept.failures result ≡ D.failures disk };
+    /// Lends the disk of the store to a job that leaves the files of the store alone.
+    fn with_disk<J: DiskJob<D>>(alloc: Global, kept: &mut Self::Kept, job: &J) -> J::Answer
+        requires ready { (Self.Kept.state kept.old).is_ready }
+        requires off { (m : List ℕ) → (Self.Kept.state kept.old).is_own m → J.changes_at job.now m → ⊥ }
+        requires can { J.can_run job.now (Self.Kept.state kept.old).disk }
+        ensures used { IsUsedAt (J.changes_at job.now) (Self.Kept.state kept.old) (Self.Kept.state kept.new) }
+        ensures done { J.has_run job.now (Self.Kept.state kept.old).disk (Self.Kept.state kept.new).disk (Self.Kept.failures kept.old) (Self.Kept.failures kept.new) result };
 }

@@ -5,8 +5,8 @@
 //!
 //! Begin with `opening` (the trait of a kind of station) and `running`. They use `locks` (the locks of a station) and
 //! `paths` (the own name in paths). `reading` and `links` read the link file; `progress` has progress while a base file
-//! is read. `before` is what a program does with the store before the command. `lending` passes the disk of a store on for
-//! other files. `packets` opens the packet files of `toss`, `packet_reader` reads them, `held_bytes` are those in memory.
+//! is read. `before` is what a program does with the store before the command. `lending` lends the disk of a store to a
+//! job. `packets` opens the packet files of `toss`, `packet_reader` reads them, `held_bytes` are those in memory.
 #![tactic(auto)]
 
 mod before;
@@ -24,7 +24,7 @@ mod running;
 
 pub use before::{BeforeCommand, Nothing, Unread};
 pub use held_bytes::HeldBytes;
-pub use lending::{LendStation, OwnPaths};
+pub use lending::{DiskJob, LendStation, OwnPaths};
 pub use links::{links_at, lock_at, lock_links};
 pub use locks::Locks;
 pub use opening::{OpenStation, Opened, Stopped};

@@ -8,9 +8,11 @@ use Rattle.disk_io.proofs.Moments.{left_now}
 use Rattle.base_log.specs.{AtRest.IsStaged, Log.opened, Names.keys_of, Names.log_of, Names.messages_of, Standing.BaseBytes, Standing.IsEnded, Standing.Represents, Standing.base_at}
 use Rattle.base_log.specs.declared.log.{End.End, CommitRecord.CommitRecord}
 use Rattle.base_log.proofs.{Paths.keys_in, Paths.log_in, Paths.messages_in, Same.AreThere-same, Same.RecordsBase-same}
-use Rattle.base_folder_store.specs.{Held.HoldsBase, Opened.and_waiting, Opened.held_by, Opened.path_of, State.IsUsable, State.state_of, declared.folder.Folder.Folder}
+use Rattle.base_folder_store.specs.{Ahead.AreParts, Held.HoldsBase, Opened.and_waiting, Opened.held_by, Opened.path_of, State.IsCached, State.state_of, State.where_so, declared.folder.Folder.Folder, declared.read_ahead.Buffers.Buffers}
+use Rattle.base_store.specs.{Index.IsIndexOf, Store.StoreState, declared.index.Index.Index}
 use Rattle.disk_atomic.specs.Changes.{ChangesOnly, DifferAt}
-use Rattle.station.specs.Beneath.{HoldsAsBefore, IsGivenBack}
+use Rattle.disk_atomic.proofs.Changes.{wider}
+use Rattle.station.specs.Beneath.{AreSettledByOwn, HoldsAsBefore, IsUsedAt}
 
 -- states with the same files in the folder end alike
 ended_same : (path : List ℕ) (bodies : List (List ℕ)) (a c : Files) → ((m : List ℕ) → IsIn path m → c m ≡ a m) → IsEnded path bodies a → IsEnded path bodies c
@@ -70,31 +72,41 @@ module _ (path : List ℕ) (d e : DiskState) (run : ChangesOnly (Outside path) d
         keys_behind = was.keys_behind;
       }
 
-module _ (keyed : ℕ → ℕ → List ℕ → ℕ) (f : Folder) (message : Option Filed) (d e : DiskState) where
+module _ (keyed : ℕ → ℕ → List ℕ → ℕ) (f : Folder) (message : Option Filed) (index : Index) (buffers : Buffers) where
+  abbrev state : DiskState → StoreState
+  state d = where_so (state_of d keyed f message) (IsCached d f index buffers)
+
+  pub settled : (d : DiskState) → AreSettledByOwn (state d)
+  settled d base before after same represented = record { bytes = represented.bytes; represented = represented_same (path_of f) represented.bytes before after same represented.represented; holds = represented.holds }
+
   -- an open folder stays open, with its base and its committed base
-  as_before : ChangesOnly (Outside (path_of f)) d e → IsUsable d f → HoldsAsBefore (state_of d keyed f message) (state_of e keyed f message)
-  as_before run usable =
+  holds : (d e : DiskState) → ChangesOnly (Outside (path_of f)) d e → (state d).is_ready → HoldsAsBefore (state d) (state e)
+  holds d e run (usable, cached) =
       let held : held_by e f ≡ held_by d f = ap (λ (b : BaseBytes). and_waiting b f.waiting) (base_same (path_of f) d e run f.recorded) in
       record {
-        ready = record {
-          named = usable.named;
-          opened = λ honest.
-              let was = usable.opened (run.honest honest) in
-              record {
-                names = was.names;
-                staged = staged_same (path_of f) d e run f.end f.recorded was.staged;
-                keys = was.keys;
-              };
-        };
+        ready = (
+          record {
+            named = usable.named;
+            opened = λ honest.
+                let was = usable.opened (run.honest honest) in
+                record {
+                  names = was.names;
+                  staged = staged_same (path_of f) d e run f.end f.recorded was.staged;
+                  keys = was.keys;
+                };
+          },
+          λ honest. subst (λ (b : BaseBytes). IsIndexOf b.keys index × AreParts b.messages b.keys buffers) (sym held) (cached (run.honest honest)),
+        );
         keeps = λ base is. subst (λ (b : BaseBytes). HoldsBase keyed b base) (sym held) is;
         committed = λ base is. subst (λ (b : BaseBytes). HoldsBase keyed b base) (sym (base_same (path_of f) d e run f.end.recorded)) is;
       }
 
-  pub given_back : IsGivenBack (state_of d keyed f message) d e (state_of e keyed f message)
-  given_back = record {
-    settled = λ base before after same represented. record { bytes = represented.bytes; represented = represented_same (path_of f) represented.bytes before after same represented.represented; holds = represented.holds };
+  pub is_used : (paths : List ℕ → Type 0) (d e : DiskState) → (state d).is_ready → ((m : List ℕ) → IsIn (path_of f) m → paths m → ⊥) → ChangesOnly paths d e → IsUsedAt paths (state d) (state e)
+  is_used paths d e ready off run = record {
+    settled = settled d;
     same = record { represented = λ base c. (λ is. is, λ is. is); own = λ m. (λ is. is, λ is. is); undoes = (λ is. is, λ is. is) };
-    holds = λ usable run. as_before run usable;
+    holds = holds d e (wider paths (Outside (path_of f)) d e (λ m at own. off m own at) run) ready;
+    changes = run;
   }
 
 -- a path that begins with that of the folder is in it exactly if the rest is plain

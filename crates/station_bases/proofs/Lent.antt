@@ -1,15 +1,20 @@
 -- The disk of a base file after its use for other files, and the staging paths.
-use Rattle.std.proofs.Common.{◌≡◌, ◌≢◌, ◌↔◌, ◌++◌, ℕ, Bool, true, false, IsTrue, List, length, drop, inr, sym, ◌∙◌, ap, refl, arith}
+use Rattle.std.proofs.Common.{◌≡◌, ◌≢◌, ◌↔◌, ◌++◌, ℕ, Bool, true, false, IsTrue, List, Option, length, drop, inr, sym, subst, ◌∙◌, ap, refl, arith}
 use Rattle.std.proofs.lemmas.List.{drop_at}
 use Rattle.base_file.specs.Base.{Base}
 use Rattle.disk_io.specs.Disk.{DiskState}
 use Rattle.disk_io.proofs.Moments.{left_now}
 use Rattle.disk_atomic.specs.Changes.{ChangesOnly}
-use Rattle.station.specs.Beneath.{IsGivenBack}
+use Rattle.disk_atomic.proofs.Changes.{wider}
+use Rattle.cmd_status.specs.Inputs.{IsBaseGiven}
+use Rattle.station.specs.Beneath.{AreSettledByOwn, HoldsAsBefore, IsUsedAt}
 use Rattle.station_bases.specs.{InFile.IsInFile, InFile.IsOfFile, InFile.file_state, declared.held.Held.Held}
 use Rattle.station_bases.proofs.Reach.{held_seen, reach_seen}
 
-module _ {S T : Type 0} (path own : List ℕ) (held : Held S T) (place : ℕ) (d e : DiskState) where
+module _ {S T : Type 0} (path own : List ℕ) (held : Held S T) (place : ℕ) where
+  pub settled : (d : DiskState) → AreSettledByOwn (file_state d path own held place)
+  settled d base before after same represented = subst (λ (f : Option (List ℕ)). IsBaseGiven f base.messages base.cursor) (sym (same path (inr refl))) represented
+
   -- the paths that do not belong to the file
   abbrev Others : List ℕ → Type 0
   Others m = IsOfFile path own m → ⊥
@@ -17,11 +22,20 @@ module _ {S T : Type 0} (path own : List ℕ) (held : Held S T) (place : ℕ) (d
   own_path : Others path → ⊥
   own_path out = out (inr refl)
 
-  in_file : ChangesOnly Others d e → (b : Base) → IsInFile d path b → IsInFile e path b
-  in_file run b was = grind (arith, own_path, left_now)
+  in_file : (d e : DiskState) → ChangesOnly Others d e → (b : Base) → IsInFile d path b → IsInFile e path b
+  in_file d e run b was = grind (arith, own_path, left_now)
 
-  pub given_back : IsGivenBack (file_state d path own held place) d e (file_state e path own held place)
-  given_back = grind (arith, reach_seen, own_path, held_seen, in_file)
+  holds : (d e : DiskState) → (file_state d path own held place).is_ready → ChangesOnly Others d e → HoldsAsBefore (file_state d path own held place) (file_state e path own held place)
+  holds d e ready run = grind (arith, reach_seen, own_path, held_seen, in_file)
+
+  pub is_used : (paths : List ℕ → Type 0) (d e : DiskState) → (file_state d path own held place).is_ready → ((m : List ℕ) → IsOfFile path own m → paths m → ⊥) → ChangesOnly paths d e
+      → IsUsedAt paths (file_state d path own held place) (file_state e path own held place)
+  is_used paths d e ready off run = record {
+    settled = settled d;
+    same = record { represented = λ base c. (λ is. is, λ is. is); own = λ m. (λ is. is, λ is. is); undoes = (λ is. is, λ is. is) };
+    holds = holds d e ready (wider paths Others d e (λ m at own. off m own at) run);
+    changes = run;
+  }
 
 -- a path with this beginning is one of them exactly if its rest is
 module _ (a path : List ℕ) (f : List ℕ → List ℕ) where

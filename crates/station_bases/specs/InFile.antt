@@ -6,7 +6,7 @@ use Rattle.echo_filed.specs.Filed.{Filed}
 use Rattle.disk_atomic.specs.{Changes.DifferAt, StagingPaths.staging_path}
 use Rattle.cmd_status.specs.Inputs.{IsBaseGiven}
 use Rattle.base_store.specs.Store.{StoreState}
-use Rattle.station_bases.specs.{Entries.CanLookUp, Entries.HasRoomFor, Entries.HoldEntries, declared.file_rest.FileRest.FileRest, declared.held.Held.Held}
+use Rattle.station_bases.specs.{Entries.CanLookUp, Entries.HasRoomFor, Entries.HoldEntries, declared.held.Held.Held}
 use Rattle.station_bases.specs.declared.held.Held.TheVariants.{Apart, Whole}
 
 -- The path has a base file of this base, or there is no file and the base is empty.
@@ -72,10 +72,6 @@ file_state disk path own held place = record {
   stays = λ honest ready b is c left. is.left c left;
   shown = λ honest ready b is. is.seen;
 }
-
--- The same from the store's parts without its disk.
-abbrev pub rest_state : {S T : Type 0} → DiskState → FileRest S T → StoreState
-rest_state disk rest = file_state disk rest.path.now rest.own rest.held rest.place
 
 -- The path has its old file or a file of this base. The staging path may have any file, and all else is unchanged.
 pub record PutsBase (path own : List ℕ) (base : Base) (before after : Files) : Type 0 where

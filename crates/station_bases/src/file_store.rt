@@ -1,10 +1,13 @@
 //! A base file on a disk, as a store.
-ghost use Rattle.std.specs.Prelude.{◌≡◌};
-ghost use Rattle.station_bases.specs.InFile.{rest_state};
+ghost use Rattle.std.specs.Prelude.{◌≡◌, IsErrOf, OnOk};
+ghost use Rattle.disk_io.specs.{Disk.Honestly, Runs.ChangesNothing};
+ghost use Rattle.base_file.specs.Base.{Base as TheBase};
+ghost use Rattle.base_store.specs.Store.{HasStoreCause};
+ghost use Rattle.station_bases.specs.InFile.{IsHeld, IsInMemory, file_state};
 
 use crate::entry_adding::check_room;
-use crate::file_rest::FileRest;
 use crate::held::Held;
+use crate::saving::write_file;
 use base_store::{PurgedStore, Store, StoreError};
 use disk_io::Disk;
 use echo_addr::Items;
@@ -12,12 +15,18 @@ use echo_filed::{Filed, Key};
 use std::alloc::Global;
 use std::hash::BuildHasher;
 
-/// The part of a base file in memory, and the disk that has the file.
+/// The part of a base file in memory, and the disk that has the file. A commit replaces the file. `own` is the name of
+/// the system in the staging path.
 #[derive(Drop)]
 pub struct FileStore<'a, D: Disk, S: BuildHasher> {
     alloc: Global,
-    disk: D,
-    rest: FileRest<'a, S>,
+    pub(crate) disk: D,
+    held: Held<S>,
+    // The number of the current message, if all are in memory.
+    place: usize,
+    hasher: S,
+    path: &'a str,
+    own: Items<u8>,
 }
 
 impl<'a, D: Disk, S: BuildHasher + Copy + Drop> FileStore<'a, D, S> {
@@ -31,18 +40,19 @@ impl<'a, D: Disk, S: BuildHasher + Copy + Drop> FileStore<'a, D, S> {
         own: Items<u8>,
     ) -> FileStore<'a, D, S>
         ensures disk { result.disk ≡ disk }
-        ensures held { result.rest.held ≡ held }
-        ensures path { result.rest.path.now ≡ path.now }
-        ensures own { result.rest.own ≡ own }
+        ensures held { result.held ≡ held }
+        ensures path { result.path.now ≡ path.now }
+        ensures own { result.own ≡ own }
     {
-        let rest = FileRest {
+        FileStore {
+            alloc,
+            disk,
             held,
             place: 0,
             hasher,
             path,
             own,
-        };
-        FileStore { alloc, disk, rest }
+        }
     }
 
     /// The disk.
@@ -52,63 +62,89 @@ impl<'a, D: Disk, S: BuildHasher + Copy + Drop> FileStore<'a, D, S> {
         self.disk
     }
 
-    /// The disk and the rest, taken out.
-    pub(crate) fn into_parts(self) -> (D, FileRest<'a, S>)
-        ensures disk { result.0 ≡ self.entry.disk }
-        ensures rest { result.1 ≡ self.entry.rest }
+    // Brings all messages into memory. At an error nothing has changed.
+    fn bring_in(&mut self) -> Result<(), StoreError>
+        requires { (file_state (D.state self.old.disk) self.old.path.now self.old.own self.old.held self.old.place).is_ready }
+        ensures held { Honestly (D.state self.new.disk) ((base : TheBase) → IsHeld (D.state self.old.disk) self.old.path.now self.old.held base → IsHeld (D.state self.new.disk) self.new.path.now self.new.held base) }
+        ensures memory { OnOk result (IsInMemory self.new.held) }
+        ensures same { self.new ≡ record self.old { disk = self.new.disk; held = self.new.held } }
+        ensures ready { (file_state (D.state self.new.disk) self.new.path.now self.new.own self.new.held self.new.place).is_ready }
+        ensures quiet { ChangesNothing (D.state self.old.disk) (D.state self.new.disk) }
+        ensures few { IsErrOf result StoreError.TooMany → ⊥ }
+        ensures cause { HasStoreCause (file_state (D.state self.old.disk) self.old.path.now self.old.own self.old.held self.old.place) (file_state (D.state self.new.disk) self.new.path.now self.new.own self.new.held self.new.place)
+            (D.failures self.old.disk) (D.failures self.new.disk) result }
     {
-        (self.disk, self.rest)
-    }
-
-    /// The store of these parts.
-    pub(crate) fn of_parts(alloc: Global, disk: D, rest: FileRest<'a, S>) -> FileStore<'a, D, S>
-        ensures disk { result.disk ≡ disk }
-        ensures rest { result.rest ≡ rest.entry }
-    {
-        FileStore { alloc, disk, rest }
+        let path = self.path;
+        let hasher = self.hasher;
+        if let Held::Apart(entries) = &self.held {
+            let base = entries.load(self.alloc, &mut self.disk, path.as_bytes(), hasher)?;
+            self.held = Held::Whole(base);
+        }
+        Ok(())
     }
 }
 
 impl<'a, D: Disk, S: BuildHasher + Copy + Drop> Store for FileStore<'a, D, S> {
-    ghost state = { λ store. rest_state (D.state store.disk) store.rest };
+    ghost state = { λ store. file_state (D.state store.disk) store.path.now store.own store.held store.place };
 
     ghost failures = { λ store. D.failures store.disk };
 
     fn len(&self) -> usize {
-        match &self.rest.held {
+        match &self.held {
             Held::Apart(entries) => entries.count(),
             Held::Whole(base) => base.len(),
         }
     }
 
     fn cursor(&self) -> usize {
-        match &self.rest.held {
+        match &self.held {
             Held::Apart(entries) => entries.cursor(),
             Held::Whole(base) => base.cursor(),
         }
     }
 
     fn knows(&mut self, key: &Key) -> Result<bool, StoreError> {
-        self.rest.knows(self.alloc, &mut self.disk, key)
+        let path = self.path;
+        match &mut self.held {
+            Held::Apart(entries) => {
+                entries.knows(self.alloc, &mut self.disk, path.as_bytes(), key)
+            }
+            Held::Whole(base) => Ok(base.knows(key)),
+        }
     }
 
     fn has_id(&mut self, msgid: &[u8]) -> Result<bool, StoreError> {
-        self.rest.has_id(self.alloc, &mut self.disk, msgid)
+        let path = self.path;
+        match &mut self.held {
+            Held::Apart(entries) => {
+                entries.has_id(self.alloc, &mut self.disk, path.as_bytes(), msgid)
+            }
+            Held::Whole(base) => Ok(base.has_id(msgid)?),
+        }
     }
 
     fn fetch(&mut self, place: usize) -> Result<(), StoreError> {
-        self.rest.fetch(self.alloc, &mut self.disk, place)
+        let path = self.path;
+        match &mut self.held {
+            Held::Apart(entries) => {
+                entries.fetch(self.alloc, &mut self.disk, path.as_bytes(), place)
+            }
+            Held::Whole(_) => {
+                self.place = place;
+                Ok(())
+            }
+        }
     }
 
     fn at_hand(&self) -> Option<&Filed> {
-        match &self.rest.held {
+        match &self.held {
             Held::Apart(entries) => entries.at_hand(),
-            Held::Whole(base) => base.message(self.rest.place),
+            Held::Whole(base) => base.message(self.place),
         }
     }
 
     fn file(&mut self, key: Key, message: Filed) -> Result<(), StoreError> {
-        match &mut self.rest.held {
+        match &mut self.held {
             Held::Apart(entries) => entries.file(self.alloc, &key, &message),
             Held::Whole(base) => {
                 // On a disk that is not honest a caller need not know it.
@@ -122,28 +158,37 @@ impl<'a, D: Disk, S: BuildHasher + Copy + Drop> Store for FileStore<'a, D, S> {
     }
 
     fn move_to_end(&mut self) -> Result<(), StoreError> {
-        if let Held::Apart(entries) = &mut self.rest.held {
+        if let Held::Apart(entries) = &mut self.held {
             if !entries.is_odd() {
                 entries.move_to_end();
                 return Ok(());
             }
         }
-        self.rest.bring_in(self.alloc, &mut self.disk)?;
-        if let Held::Whole(base) = &mut self.rest.held {
+        self.bring_in()?;
+        if let Held::Whole(base) = &mut self.held {
             base.move_to_end();
         }
         Ok(())
     }
 
     fn commit(&mut self) -> Result<(), StoreError> {
-        self.rest.commit(self.alloc, &mut self.disk)
+        let path = self.path;
+        let own = &self.own;
+        match &mut self.held {
+            Held::Apart(entries) => {
+                entries.commit(self.alloc, &mut self.disk, path, own.as_slice())
+            }
+            Held::Whole(base) => {
+                write_file(self.alloc, &mut self.disk, base, path, own.as_slice())
+            }
+        }
     }
 }
 
 impl<'a, D: Disk, S: BuildHasher + Copy + Drop> PurgedStore for FileStore<'a, D, S> {
     fn purge(&mut self) -> Result<u64, StoreError> {
-        self.rest.bring_in(self.alloc, &mut self.disk)?;
-        match &mut self.rest.held {
+        self.bring_in()?;
+        match &mut self.held {
             Held::Whole(base) => Ok(base.purge()?),
             Held::Apart(_) => Err(StoreError::Damaged),
         }

@@ -1,15 +1,13 @@
 //! The disk of a station with a base folder is used for other files.
-ghost use Rattle.std.specs.Prelude.{◌≡◌, ◌≢◌, ◌↔◌, true, false, All, IsTrue, None};
-ghost use Rattle.disk_io.specs.{Disk.IsIn, Runs.ChangesNothing};
-ghost use Rattle.base_folder_store.specs.State.{state_of};
-ghost use Rattle.base_store.specs.Store.{LooksOn};
-ghost use Rattle.station.specs.Beneath.{IsGivenBack};
+ghost use Rattle.std.specs.Prelude.{◌≡◌, ◌≢◌, ◌↔◌, ℕ, List, true, false, All, IsTrue};
+ghost use Rattle.disk_io.specs.Disk.{IsIn};
+ghost use Rattle.station.specs.Beneath.{IsUsedAt};
 
 use crate::folder_station::FolderStation;
-use base_folder_store::{Folder, FolderStore};
+use base_folder_store::FolderStore;
 use base_store::{Digest, Store};
 use disk_io::Disk;
-use station::{LendStation, OwnPaths};
+use station::{DiskJob, LendStation, OwnPaths};
 use std::alloc::Global;
 
 /// The paths of the files in a folder: this front, and then a name.
@@ -50,32 +48,20 @@ fn is_plain(name: &[u8]) -> bool
 }
 
 impl<'a, D: Disk + Drop, H: Digest> LendStation<'a, D> for FolderStation<'a, H> {
-    type Rest = Folder;
-
     type Paths = FolderPaths<'a>;
-
-    ghost store_on = { λ rest disk. state_of (D.state disk) H.keyed rest None };
 
     fn paths(&self) -> FolderPaths<'a> {
         FolderPaths { path: self.at.path }
     }
 
-    fn lend(kept: FolderStore<D, H>) -> (D, Folder)
-        requires { (⟦<FolderStore<D, H> as Store>⟧.state kept).is_ready }
-        ensures looks { LooksOn (⟦<FolderStore<D, H> as Store>⟧.state kept) (state_of (D.state result.0) H.keyed result.1 None) }
-        ensures quiet { ChangesNothing (⟦<FolderStore<D, H> as Store>⟧.state kept).disk (D.state result.0) }
-        ensures failures { D.failures result.0 ≡ ⟦<FolderStore<D, H> as Store>⟧.failures kept }
-        ensures back { (w : D) → IsGivenBack (state_of (D.state result.0) H.keyed result.1 None) (D.state result.0) (D.state w) (state_of (D.state w) H.keyed result.1 None) }
+    fn with_disk<J: DiskJob<D>>(alloc: Global, kept: &mut FolderStore<D, H>, job: &J) -> J::Answer
+        requires ready { (⟦<FolderStore<D, H> as Store>⟧.state kept.old).is_ready }
+        requires off { (m : List ℕ) → (⟦<FolderStore<D, H> as Store>⟧.state kept.old).is_own m → J.changes_at job.now m → ⊥ }
+        requires can { J.can_run job.now (⟦<FolderStore<D, H> as Store>⟧.state kept.old).disk }
+        ensures used { IsUsedAt (J.changes_at job.now) (⟦<FolderStore<D, H> as Store>⟧.state kept.old) (⟦<FolderStore<D, H> as Store>⟧.state kept.new) }
+        ensures done { J.has_run job.now (⟦<FolderStore<D, H> as Store>⟧.state kept.old).disk (⟦<FolderStore<D, H> as Store>⟧.state kept.new).disk
+            (⟦<FolderStore<D, H> as Store>⟧.failures kept.old) (⟦<FolderStore<D, H> as Store>⟧.failures kept.new) result }
     {
-        kept.into_parts()
-    }
-
-    fn give_back(alloc: Global, disk: D, rest: Folder) -> FolderStore<D, H>
-        requires { (state_of (D.state disk) H.keyed rest None).is_ready }
-        ensures looks { LooksOn (state_of (D.state disk) H.keyed rest None) (⟦<FolderStore<D, H> as Store>⟧.state result) }
-        ensures quiet { ChangesNothing (D.state disk) (⟦<FolderStore<D, H> as Store>⟧.state result).disk }
-        ensures failures { ⟦<FolderStore<D, H> as Store>⟧.failures result ≡ D.failures disk }
-    {
-        FolderStore::new(alloc, disk, rest)
+        job.run(alloc, &mut kept.disk)
     }
 }

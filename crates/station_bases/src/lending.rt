@@ -1,14 +1,13 @@
 //! The disk of a station with a base file is used for other files.
 ghost use Rattle.std.specs.Prelude.{◌≡◌, ◌↔◌, ◌++◌, ℕ, List, IsTrue, codes};
 ghost use Rattle.disk_atomic.specs.StagingPaths.{staging_path};
-ghost use Rattle.station_bases.specs.InFile.{IsOfFile, rest_state};
+ghost use Rattle.station_bases.specs.InFile.{IsOfFile};
 
-use crate::file_rest::FileRest;
 use crate::file_station::FileStation;
 use crate::file_store::FileStore;
 use cmd_status::MessageProgress;
 use disk_io::Disk;
-use station::{LendStation, OwnPaths};
+use station::{DiskJob, LendStation, OwnPaths};
 use std::alloc::Global;
 use std::hash::BuildHasher;
 
@@ -79,21 +78,17 @@ fn is_new(name: &[u8]) -> bool
 
 impl<'a, D: Disk + Drop, S: BuildHasher + Copy + Drop, T: MessageProgress + Drop> LendStation<'a, D>
     for FileStation<'a, S, T> {
-    type Rest = FileRest<'a, S>;
-
     type Paths = FilePaths<'a>;
-
-    ghost store_on = { λ rest disk. rest_state (D.state disk) rest };
 
     fn paths(&self) -> FilePaths<'a> {
         FilePaths { path: self.base }
     }
 
-    fn lend(kept: FileStore<'a, D, S>) -> (D, FileRest<'a, S>) {
-        kept.into_parts()
-    }
-
-    fn give_back(alloc: Global, disk: D, rest: FileRest<'a, S>) -> FileStore<'a, D, S> {
-        FileStore::of_parts(alloc, disk, rest)
+    fn with_disk<J: DiskJob<D>>(
+        alloc: Global,
+        kept: &mut FileStore<'a, D, S>,
+        job: &J,
+    ) -> J::Answer {
+        job.run(alloc, &mut kept.disk)
     }
 }

@@ -1,6 +1,6 @@
 -- Leftover packets are finished.
 use Rattle.std.proofs.Common.{◌≡◌, ◌≢◌, inl, inr, ⊎_elim, ◌∙◌, ◌<◌, ℕ, List, [], ◌++◌, ap, arith, get_or, length, map, refl, subst, sym}
-use Rattle.std.proofs.lemmas.{Bool.cases_lt, List.get_or-map, List.length-map, List.Elements.All-contains, List.Elements.Contains-get_or}
+use Rattle.std.proofs.lemmas.{Result.on_ok_weaker, Bool.cases_lt, List.get_or-map, List.length-map, List.Elements.All-contains, List.Elements.Contains-get_or}
 use Rattle.std.specs.Prelude.{All, Contains, Err, IsSome, None, Ok, OnOk, Result}
 use Rattle.disk_io.specs.{Disk.DiskState, Disk.Files, Disk.IsIn, Runs.ChangesNothing, Runs.LeavesOnly, Runs.OneStepOn}
 use Rattle.disk_io.proofs.Moments.{no_call, then_nothing, weaker_run}
@@ -217,3 +217,16 @@ module _ (is_true : Type 0) (Own : List ℕ → Type 0) (folder own : List ℕ) 
           any_moment = quiet_then d0 d1 d2 (FinishesEach cursor found) (FinishesEach cursor found) quiet (finishes_none cursor found) ends.any_moment (λ a c f. f);
           changes = then_only (IsOfLeft found) d0 d1 d2 (only_nothing (IsOfLeft found) d0 d1 quiet) ends.changes;
         }
+
+-- the same where the list is true only if something else is
+pub ends_for : (P Q : Type 0) → (Q → P) → (Own : List ℕ → Type 0) (folder own : List ℕ) (cursor : ℕ) (d e : DiskState) (r : Result (Unit {0}) PlacingError) → EndsLeft P Own folder own cursor d e r → EndsLeft Q Own folder own cursor d e r
+ends_for P Q gives Own folder own cursor d e r ends = record {
+  found = ends.found;
+  each = λ k z lt. let is = ends.each k z lt in (is.0, is.1, λ truth. is.2 (gives truth));
+  all = on_ok_weaker r (λ all truth. all (gives truth)) ends.all;
+  over = ends.over;
+  named = ends.named;
+  flushed = ends.flushed;
+  any_moment = ends.any_moment;
+  changes = ends.changes;
+}

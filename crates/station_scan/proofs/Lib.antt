@@ -2,13 +2,11 @@ mod Lists
 mod Names
 mod Found
 mod Lefts
-mod UsedDisks
 mod Published
 mod Staged
 mod Stops
 mod Outs
 mod Looked
-mod Through
 mod Written
 mod Causes
 mod Routes

@@ -54,6 +54,7 @@ module _ (Own : List ℕ → Type 0) (outbound own : List ℕ) (Stays Comes Stay
         between = at.between;
         ended = at.ended;
         staging_them = at.staging_them;
+        free = at.free;
         packets = at.packets;
         gone = at.gone;
         shown = comes d2.seen at.shown;

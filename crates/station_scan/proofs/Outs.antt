@@ -10,9 +10,10 @@ use Rattle.disk_atomic.specs.declared.placing_error.PlacingError.TheVariants.{De
 use Rattle.model_steps.specs.PacketFiles.{PacketFile}
 use Rattle.base_store.specs.Store.{StoreState}
 use Rattle.base_store.proofs.Runs.{same_twice}
+use Rattle.station.specs.Beneath.{IsUsedAt}
 use Rattle.station_scan.specs.Left.{AreFreeLeft, EndsLeft, IsEnded, IsLeftOf, IsOfNameOff}
 use Rattle.station_scan.specs.Scanning.{AreSentOut, CommitsScan, IsTaken, IsTouched, PreparesScan, SendsOut}
-use Rattle.station_scan.specs.{Beneath.IsUsedAt, Fitting.AreTaken, Publishing.IsOnDisk, Publishing.KeepsStoreBut, Sending.HasBytes, Sending.IsAtItsPath, Sending.IsStagingGone}
+use Rattle.station_scan.specs.{Fitting.AreTaken, Publishing.IsOnDisk, Publishing.KeepsStoreBut, Sending.HasBytes, Sending.IsAtItsPath, Sending.IsFreeAt, Sending.IsStagingGone}
 use Rattle.station_scan.specs.{Sends.AreSentOn, Sends.IsOfThese, Sends.SendsThese, Sends.WritesStaging, Stops.IsOfPlacing, Stops.most, declared.scan_error.ScanError.ScanError}
 use Rattle.station_scan.specs.declared.scan_error.ScanError.TheVariants.{Placing}
 use Rattle.station_scan.proofs.{Published.keeps_only, Published.keeps_then, Published.keeps_wider, Stops.placing_why, Stops.put_wider}
@@ -101,8 +102,8 @@ module _ (Own : List ℕ → Type 0) (outbound own : List ℕ) (is_true failed :
     sent_crash : LeavesOnly s1.disk s2.disk (SendsThese s1 outbound own files first next) → LeavesOnly s0.disk s2.disk All_may
     sent_crash run = then_run s0.disk s1.disk s2.disk All_may (SendsThese s1 outbound own files first next) (ended_moments (Ok tt) ends) run sent_moment
 
-    sent_out : (made : Base → List PacketFile) → made next ≡ files → AreSentOn outbound own made s1 s2 → AreSentOut is_true Own outbound own Comes cursor these files s0.disk.seen s2.disk
-    sent_out made are sent =
+    sent_out : (made : Base → List PacketFile) → made next ≡ files → All (IsFreeAt outbound s1.disk.seen) files → AreSentOn outbound own made s1 s2 → AreSentOut is_true Own outbound own Comes cursor these files s0.disk.seen s2.disk
+    sent_out made are free sent =
         let kept_next = used.holds.keeps next is in
         let now = sent.committed.committed honest2 next kept_next in
         let back : (c : Files) → s2.represented next c → Comes c = λ c represented. (used.same.represented next c).0 ((kept.same.represented next c).0 represented) in
@@ -111,6 +112,7 @@ module _ (Own : List ℕ → Type 0) (outbound own : List ℕ) (is_true failed :
           between = s1.disk.seen;
           ended = all_ended;
           staging_them = ends.changes.seen;
+          free = free;
           packets = subst (λ (l : List PacketFile). All (IsAtItsPath outbound s2.disk) l) are (sent.packets honest2 next kept_next);
           gone = subst (λ (l : List PacketFile). All (IsStagingGone outbound own s2.disk.seen) l) are (sent.gone honest2 next kept_next);
           shown = back s2.disk.seen (s2.shown honest2 sent.committed.ready next now);
@@ -119,16 +121,16 @@ module _ (Own : List ℕ → Type 0) (outbound own : List ℕ) (is_true failed :
           bytes = subst (λ (l : List PacketFile). All HasBytes l) are (sent.bytes honest2 next kept_next);
         }
 
-    sent_if : (made : Base → List PacketFile) → made next ≡ files → (result : Result (Unit {0}) ScanError) → OnOk result (AreSentOn outbound own made s1 s2) → OnOk result (AreSentOut is_true Own outbound own Comes cursor these files s0.disk.seen s2.disk)
-    sent_if made are (Ok done) sent = sent_out made are sent
-    sent_if made are (Err cause) sent = tt
+    sent_if : (made : Base → List PacketFile) → made next ≡ files → (result : Result (Unit {0}) ScanError) → OnOk result (All (IsFreeAt outbound s1.disk.seen) files) → OnOk result (AreSentOn outbound own made s1 s2) → OnOk result (AreSentOut is_true Own outbound own Comes cursor these files s0.disk.seen s2.disk)
+    sent_if made are (Ok done) free sent = sent_out made are free sent
+    sent_if made are (Err cause) free sent = tt
 
-    pub sends_out : (made : Base → List PacketFile) → made next ≡ files → (result : Result (Unit {0}) ScanError) → OnOk result (AreSentOn outbound own made s1 s2) → LeavesOnly s1.disk s2.disk (SendsThese s1 outbound own files first next)
+    pub sends_out : (made : Base → List PacketFile) → made next ≡ files → (result : Result (Unit {0}) ScanError) → OnOk result (All (IsFreeAt outbound s1.disk.seen) files) → OnOk result (AreSentOn outbound own made s1 s2) → LeavesOnly s1.disk s2.disk (SendsThese s1 outbound own files first next)
         → IfErr result (IsOfPlacing failed (AreTaken Own outbound own files s1.disk.seen) (most < cursor)) → SendsOut is_true failed Own outbound own Stays Comes cursor files s0.disk s2.disk result
-    sends_out made are result sent run why = record {
+    sends_out made are result free sent run why = record {
       found = these;
       each = ends.each;
-      sent = sent_if made are result sent;
+      sent = sent_if made are result free sent;
       crash = sent_crash run;
       why = put_wider failed failed _ _ _ result (λ f. f) (λ taken. inr (s1.disk.seen, all_ended, ends.changes.seen, taken)) why;
     }

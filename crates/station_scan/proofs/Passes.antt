@@ -15,8 +15,9 @@ use Rattle.echo_toss.specs.{declared.counting.CountedPacket.CountedPacket, Expor
 use Rattle.echo_toss.proofs.Counts.{copies_append, more_in}
 use Rattle.base_store.specs.Store.{LooksOn, StoreState}
 use Rattle.base_store.proofs.Runs.{same_twice}
+use Rattle.station.specs.Beneath.{IsUsedAt}
 use Rattle.station_scan.specs.Passing.{AreCounted, AreDropped, AreFor, AreGoneOrSame, AreGrowing, AreTakenTo, CanSend, Fits, FitTo, HasPassed, HasStaged, IsAppending, IsBetween, IsCounted, IsFront, IsGrowingTo, IsMaking, IsPartOf, IsRouted, IsStagingFor, IsStagingTo, IsTakenFor, StopsPassing, all_sent, begun_in, copied_in, counts_in, is_begun, is_filled, is_first, is_longer, is_made, links_to, made_in, path_to, staging_to, with_group}
-use Rattle.station_scan.specs.{Beneath.IsUsedAt, Fitting.IsOff, Publishing.AreGoing, Publishing.AreGone, Publishing.IsGoingAt, Publishing.KeepsStoreBut, Scanning.IsTouched, Sending.AreRoutes}
+use Rattle.station_scan.specs.{Fitting.IsOff, Publishing.AreGoing, Publishing.AreGone, Publishing.IsGoingAt, Publishing.KeepsStoreBut, Scanning.IsTouched, Sending.AreRoutes}
 use Rattle.station_scan.specs.declared.{counting.LinkPacket.LinkPacket, publish_error.PublishError.PublishError, sending.Sending.Sending}
 use Rattle.station_scan.proofs.Lists.{among, kept_passes, map_filter, map_twice, of_each, to_each}
 use Rattle.station_scan.proofs.Routes.{address_for, all_for, begun_if, begun_narrow, copied_narrow, for_all, going, made_before, made_narrow, made_none, made_wider, more_made, path_off, plain_name, some_for, staging_at, staging_named, staging_of, staging_wider, trial_off}

@@ -10,9 +10,9 @@ use Rattle.disk_atomic.specs.{Changes.ChangesOnly, Changes.DifferAt, Changes.Has
 use Rattle.disk_atomic.specs.declared.outgoing.Outgoing.{Outgoing}
 use Rattle.base_store.specs.Store.{Commits, IsSameStore, MayCommit, StoreState}
 use Rattle.base_store.proofs.Runs.{same_twice}
-use Rattle.station.specs.Beneath.{HoldsAsBefore}
+use Rattle.station.specs.Beneath.{HoldsAsBefore, IsUsedAt}
 use Rattle.station_scan.specs.Publishing.{AreGoing, ArePublished, AreStaged, CommitsWith, IsGoingAt, IsNamedAs, IsPublishedAt, IsWritten, UnchangedExcept, KeepsStoreBut, NoneStays, PublishesOn, StopsCommitting, StopsPublishing, staged_before}
-use Rattle.station_scan.specs.{Beneath.IsUsedAt, declared.publish_error.PublishError.PublishError}
+use Rattle.station_scan.specs.{declared.publish_error.PublishError.PublishError}
 
 -- no own path of the store belongs to a packet
 pub own_not_of : (s : StoreState) (packets : List Outgoing) → All (IsApartFrom s.is_own) packets → (m : List ℕ) → s.is_own m → IsOfOne packets m → ⊥

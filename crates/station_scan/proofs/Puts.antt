@@ -13,9 +13,10 @@ use Rattle.echo_toss.specs.PacketsIn.{state_in}
 use Rattle.model_steps.specs.PacketFiles.{PacketFile}
 use Rattle.base_store.specs.Store.{StoreState, all_scanned}
 use Rattle.base_store.specs.declared.store_error.StoreError.TheVariants as error
+use Rattle.station.specs.Beneath.{IsUsedAt}
 use Rattle.station_scan.specs.Moved.{IsMoved, IsPutFrom, ScansFrom, StopsFrom, ReportsFrom, files_reported, from_number, left_cause, left_reported, reported_as}
 use Rattle.station_scan.specs.Scanning.{IsPutOn, IsTaken, ScansOnStore, SendsOut, StopsScan, TriesOn, packets_in}
-use Rattle.station_scan.specs.{Beneath.IsUsedAt, Fitting.AreTaken, Left.AreFreeLeft, Left.EndsLeft, Left.IsLeftOf, Left.IsOfNameOff, Sending.IsStagingOfPacket, Sends.WasTriedFor}
+use Rattle.station_scan.specs.{Fitting.AreTaken, Left.AreFreeLeft, Left.EndsLeft, Left.IsLeftOf, Left.IsOfNameOff, Sending.IsStagingOfPacket, Sends.WasTriedFor}
 use Rattle.station_scan.specs.{Stops.IsOfPlacing, Stops.most, declared.pieces.Source.Source, declared.scan_error.ScanError.ScanError}
 use Rattle.station_scan.specs.declared.{scan_error.ScanError.TheVariants.Command, scan_error.ScanError.TheVariants.Placing, scan_error.ScanError.TheVariants.Staying, sending.Sending.Sending}
 use Rattle.station_scan.proofs.Outs.{is_ended, not_sent, sends_out, stopped_crash, stopped_only}
@@ -89,7 +90,7 @@ module _ (Own : List ℕ → Type 0) (to : Sending) (own_is : to.own.now ≡ dot
       put_made : (made : Result (List PacketFile) CommandError) → IsPutFrom state Own outbound own some s1 s2 base packets made result → IsPutOn Own outbound own IsTrue failed s0 s2 base packets made result
       put_made (Ok files) put =
           subst (λ (n : ℕ). SendsOut is_true failed Own outbound own (s0.represented base) (s0.represented (all_scanned base)) n files s0.disk s2.disk result) same_cursor
-          (sends_out Own outbound own is_true failed cursor files s0 s1 inside used moved.ready honest0 base (all_scanned base) moved.committed ends s2 honest2 put.keeps moved.keeps (λ b. files) refl result put.sent put.crash
+          (sends_out Own outbound own is_true failed cursor files s0 s1 inside used moved.ready honest0 base (all_scanned base) moved.committed ends s2 honest2 put.keeps moved.keeps (λ b. files) refl result put.free put.sent put.crash
           (subst (λ (n : ℕ). IfErr result (IsOfPlacing failed (AreTaken Own outbound own files s1.disk.seen) (most < n))) (sym same_cursor)
           (put_wider some failed (AreTaken Own outbound own files s1.disk.seen) (AreTaken Own outbound own files s1.disk.seen) (most < base.cursor) result wider (λ t. t) put.why)))
       put_made (Err why) put = subst (λ (n : ℕ). StopsScan is_true failed Own outbound own (s0.represented base) n packets s0.disk s2.disk why result) same_cursor (stops_put some wider packets why result put)

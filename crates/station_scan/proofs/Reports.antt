@@ -17,9 +17,10 @@ use Rattle.model_steps.specs.{PacketFiles.PacketFile, Scanning.scanned, Stamps.i
 use Rattle.base_store.specs.{Store.LooksOn, Store.StoreState, Store.all_scanned, declared.store_error.StoreError.StoreError}
 use Rattle.base_store.specs.declared.store_error.StoreError.TheVariants as error
 use Rattle.base_store.proofs.Runs.{same_twice}
+use Rattle.station.specs.Beneath.{IsUsedAt}
 use Rattle.station_scan.specs.Moved.{HasReported, IsMoved, IsPutFrom, ScansFrom, SendsFrom, StopsFrom, ReportsFrom, files_reported, from_number, reported_as}
 use Rattle.station_scan.specs.Passing.{AreCounted, AreDropped, AreGoneOrSame, CanSend, HasStaged, IsPartOf, IsStagingTo, IsTakenFor, StopsPassing, all_sent, counts_in, is_made}
-use Rattle.station_scan.specs.{Beneath.IsUsedAt, Fitting.AreTaken, Publishing.KeepsStoreBut, Scanning.IsTouched, Scanning.packets_in, Sending.IsStagingOfPacket, Sends.WritesStaging}
+use Rattle.station_scan.specs.{Fitting.AreTaken, Publishing.KeepsStoreBut, Scanning.IsTouched, Scanning.packets_in, Sending.IsStagingOfPacket, Sends.WritesStaging}
 use Rattle.station_scan.specs.{Stops.IsOfPlacing, Stops.IsUnplanned, Stops.most, declared.pieces.Source.Source, declared.publish_error.PublishError.PublishError}
 use Rattle.station_scan.specs.declared.{counting.LinkPacket.LinkPacket, scan_error.ScanError.ScanError}
 use Rattle.station_scan.specs.declared.scan_error.ScanError.TheVariants.{Command, Placing, Staying, TooFar}
@@ -98,6 +99,7 @@ module _ {D : Type 0} (state : D → DiskState) (Own : List ℕ → Type 0) (to 
     sends_not : (cause : PlacingError) → (cause ≡ placing.Device → failed) → (cause ≡ placing.Taken → IsTakenFor Own to base s0.disk.seen) → IsUsedAt few s0 s2 → SendsFrom state Own to.outbound.now to.own.now failed s0 s2 base files (Err (Placing cause))
     sends_not cause device taken used = record {
       sent = tt;
+      free = tt;
       crash = sends_before to.outbound.now to.own.now files few into s0 s2 used moved.ready honest0 base (all_scanned base) moved.committed off;
       keeps = few_keeps to.outbound.now to.own.now files few into s0 s2 used moved.ready honest0 base (all_scanned base) moved.committed off;
       why =

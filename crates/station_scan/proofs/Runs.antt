@@ -145,6 +145,7 @@ module _ (place : Place) (d0 d2 : DiskState) (s1 s2 : StoreState) (begun : IsOpe
         between = sent.between;
         ended = sent.ended;
         staging_them = sent.staging_them;
+        free = sent.free;
         packets = grind arith;
         gone = λ k z lt. quiet.seen (staging_path (outbound ++ (get_or files k z).name) own) ∙ sent.gone k z lt;
         shown = subst Comes (sym (same_seen s2.disk d2 quiet)) ((of.represented (all_scanned base) s2.disk.seen).0 sent.shown);

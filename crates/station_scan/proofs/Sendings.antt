@@ -1,6 +1,6 @@
 -- A scan once its cursor was moved: packets are sent out after a pass over the messages.
-use Rattle.std.proofs.Common.{◌≡◌, ◌⊎◌, inl, inr, ⊎_elim, ◌∙◌, ◌<◌, ℕ, List, [], Result, Ok, Err, length, sym, subst, ap, arith}
-use Rattle.std.proofs.lemmas.{Result.on_ok_weaker, Bool.cases_lt, List.append-nil, List.length-map}
+use Rattle.std.proofs.Common.{◌≡◌, ◌⊎◌, inl, inr, ⊎_elim, ◌∙◌, ◌<◌, ℕ, List, [], Result, Ok, Err, get_or, length, sym, subst, ap, arith}
+use Rattle.std.proofs.lemmas.{Result.on_ok_weaker, Bool.cases_lt, List.append-nil, List.Elements.Contains-get_or, List.length-map}
 use Rattle.disk_atomic.proofs.Whole.{on_ok_any}
 use Rattle.std.specs.Prelude.{All, IfErr, IsErrOf, OnOk}
 use Rattle.base_file.specs.Base.{Base}
@@ -12,18 +12,18 @@ use Rattle.disk_atomic.specs.declared.placing_error.PlacingError.TheVariants as 
 use Rattle.model_steps.specs.PacketFiles.{PacketFile}
 use Rattle.base_store.specs.Store.{Commits, LeavesEither, MayCommit, StoreState, all_scanned}
 use Rattle.base_store.proofs.Runs.{same_twice}
-use Rattle.echo_toss.specs.Exports.{Outgoing as Sent}
-use Rattle.station.specs.Beneath.{HoldsAsBefore}
+use Rattle.echo_toss.specs.{Counts.link_set, Exports.Outgoing as Sent}
+use Rattle.station.specs.Beneath.{HoldsAsBefore, IsUsedAt}
 use Rattle.station_scan.specs.Passing.{AreFor, AreGrowing, CanSend, HasPassed, IsGrowingTo, IsStagingTo, all_sent, is_made, links_to}
-use Rattle.station_scan.specs.Publishing.{ArePublished, HasPublishCause, IsGoingAt, IsPublishedAt, IsTriedWith, KeepsStoreBut, MayPublish, PublishesOn, ended_before}
+use Rattle.station_scan.specs.Publishing.{ArePublished, HasPublishCause, IsFreeIn, IsGoingAt, IsPublishedAt, IsTriedWith, KeepsStoreBut, MayPublish, PublishesOn, ended_before}
 use Rattle.station_scan.specs.Sending.{HasBytes, IsAtItsPath, IsFreeAt, IsOfPacket, IsStagingGone, IsStagingOfPacket, IsWhole, for_address}
 use Rattle.station_scan.specs.Sends.{AreSentOn, IsOfThese, SendsThese, WasTriedFor, WritesStaging}
-use Rattle.station_scan.specs.{Beneath.IsUsedAt, Moved.IsMoved, Moved.SendsFrom, Fitting.AreTaken, Left.IsOfNameOff, Scanning.packets_in}
+use Rattle.station_scan.specs.{Moved.IsMoved, Moved.SendsFrom, Fitting.AreTaken, Left.IsOfNameOff, Scanning.packets_in}
 use Rattle.station_scan.specs.{Stops.IsOfBase, Stops.IsOfPlacing, Stops.most, Stops.scan_done, declared.publish_error.PublishError.PublishError}
 use Rattle.station_scan.specs.declared.{publish_error.PublishError.TheVariants.Packets, counting.LinkPacket.LinkPacket, scan_error.ScanError.TheVariants.Staying, sending.Sending.Sending}
 use Rattle.station_scan.proofs.Files.{are_whole, at_its_path, content_of, ended_has, file_to, files_are, files_bytes, files_to, growing_free, have_none, none_staging, of_packet, same_files, staging_files, staging_packet}
 use Rattle.station_scan.proofs.Published.{bytes_as, commits_used, holds_still, keeps_only, keeps_then, keeps_wider, path_as, store_wider, whole_as}
-use Rattle.station_scan.proofs.{Routes.staging_at, Routes.staging_named, Staged.tried_after, Stops.sent_why}
+use Rattle.station_scan.proofs.{Lists.kept_passes, Routes.address_for, Routes.path_off, Routes.staging_at, Routes.staging_named, Staged.tried_after, Stops.sent_why}
 
 -- ---- staging files are written, and then the packets are sent
 
@@ -126,6 +126,7 @@ module _ {D : Type 0} (state : D → DiskState) (Own : List ℕ → Type 0) (to 
   pub sends_none : SendsFrom state Own out own failed s0 s1 base files (Err (Staying disk.Memory))
   sends_none = record {
     sent = tt;
+    free = tt;
     crash = sends_before out own files few into s0 s1 passed.used moved.ready honest0 base next moved.committed off;
     keeps = few_keeps out own files few into s0 s1 passed.used moved.ready honest0 base next moved.committed off;
     why = tt;
@@ -154,6 +155,7 @@ module _ {D : Type 0} (state : D → DiskState) (Own : List ℕ → Type 0) (to 
             gone = λ honest b kept. nothing (IsStagingGone out own s2.disk.seen);
             bytes = λ honest b kept. nothing HasBytes;
           }) commits);
+          free = on_ok_done (All (IsFreeAt out s0.disk.seen) files) done (on_ok_any done (nothing (IsFreeAt out s0.disk.seen)));
           crash = crash_then s2 (weaker_run s1.disk s2.disk (LeavesEither s1 base next) (SendsThese s1 out own files base next) (may.any_moment honest2 base next committed kept)
               (λ c either. inr (record {
                 others = λ m other on. either.others m (λ o. other (inl o)) on.0 on.1;
@@ -185,6 +187,13 @@ module _ {D : Type 0} (state : D → DiskState) (Own : List ℕ → Type 0) (to 
 
     as_files : (P : List PacketFile → Type 0) → P (files_to to base) → P files
     as_files P is = subst P files_of is
+
+    -- their paths were free before the pass
+    free_first : All (IsFreeIn s0.disk.seen) packets
+    free_first k z lt =
+        let p = get_or packets k z in
+        let linked = (kept_passes (is_made (all_sent to base)) (link_set to.source.links.now) p.to (address_for to (is_made (all_sent to base)) packets for p (Contains-get_or packets k z lt))).0 in
+        sym (passed.used.changes.seen p.path.now (λ at. path_off to can.routes (is_made passed.sent) p.to linked (subst few (for.routed k z lt).path at))) ∙ growing_free to can.routes base packets for s1.disk honest1 grows k z lt
 
     sent_as : ArePublished (ended_before s1) packets s1 s2 → AreSentOn out own (λ b. files) s0 s2
     sent_as published =
@@ -227,6 +236,7 @@ module _ {D : Type 0} (state : D → DiskState) (Own : List ℕ → Type 0) (to 
         → (IsErrOf done (Packets placing.Taken) → All (IsFree s1.disk) packets → ⊥) → HoldsAsBefore s1 s2 ⊎ IsTriedWith state packets to.trial.now s1.disk → SendsFrom state Own out own failed s0 s2 base files (scan_done done)
     sends_published published may keeps taken tried = record {
       sent = on_ok_done (AreSentOn out own (λ b. files) s0 s2) done (on_ok_weaker done sent_as published);
+      free = on_ok_done (All (IsFreeAt out s0.disk.seen) files) done (on_ok_any done (as_files (λ l. All (IsFreeAt out s0.disk.seen) l) (have_none to can.routes base packets for s0.disk.seen free_first)));
       crash = crash_then s2 (weaker_run s1.disk s2.disk (PublishesOn s1 (ended_before s1 next) packets to.trial.now base next) (SendsThese s1 out own files base next) (may honest2 base next committed kept) moment);
       keeps = keeps_after s2 (store_wider (IsPublishedAt s1 (IsGoingAt packets to.trial.now)) (IsOfThese s1.is_own out own files) s1 s2
           (λ m is. ⊎_elim (λ o. inl o) (λ of. inr (as_files (λ l. IsOfPacket out own l m) (of_packet to can.routes base packets for m of))) is) keeps);

@@ -8,4 +8,5 @@ pub mod Stops
 pub mod Scanning
 pub mod Writing
 pub mod Passing
+pub mod Jobs
 pub mod Moved

@@ -1,5 +1,5 @@
 -- A scan once its cursor was moved: its packets are sent out, or it stops while they are made.
-use Rattle.std.specs.Prelude.{◌≡◌, ◌≤◌, ◌⊎◌, ◌<◌, ℕ, List, Result, Ok, Err, IfErr, IsErrOf, OnOk}
+use Rattle.std.specs.Prelude.{◌≡◌, ◌≤◌, ◌⊎◌, ◌<◌, ℕ, List, All, Result, Ok, Err, IfErr, IsErrOf, OnOk}
 use Rattle.base_file.specs.Base.{Base}
 use Rattle.disk_io.specs.{Device.Failed, Disk.DiskState, Disk.Files, Disk.Honestly, Runs.LeavesOnly, declared.disk_error.DiskError.DiskError}
 use Rattle.disk_io.specs.declared.disk_error.DiskError.TheVariants as disk
@@ -14,7 +14,7 @@ use Rattle.cmd_store.specs.declared.command_error.CommandError.TheVariants.{Met,
 use Rattle.echo_toss.specs.{Bounds.IsFullWhenRead, PacketsIn.state_in}
 use Rattle.station.specs.Beneath.{HoldsAsBefore}
 use Rattle.station_scan.specs.Sends.{AreSentOn, IsOfThese, SendsThese, WasTriedFor, WritesStaging}
-use Rattle.station_scan.specs.{Beneath.IsFullOnWay, Fitting.AreTaken, Passing.AreGoneOrSame, Publishing.KeepsStoreBut, Scanning.packets_in, Sending.IsStagingOfPacket, Stops.IsOfPlacing, Stops.most}
+use Rattle.station_scan.specs.{Beneath.IsFullOnWay, Fitting.AreTaken, Passing.AreGoneOrSame, Publishing.KeepsStoreBut, Scanning.packets_in, Sending.IsFreeAt, Sending.IsStagingOfPacket, Stops.IsOfPlacing, Stops.most}
 use Rattle.station_scan.specs.declared.{pieces.Source.Source, sending.Sending.Sending, scan_error.ScanError.ScanError}
 use Rattle.station_scan.specs.declared.scan_error.ScanError.TheVariants.{Command, Placing, Staying}
 
@@ -28,6 +28,7 @@ pub record IsMoved (s : StoreState) (from : ℕ) (base : Base) : Type 0 where
 -- These packets and the held base were sent out.
 pub record SendsFrom {D : Type 0} (state : D → DiskState) (Own : List ℕ → Type 0) (outbound own : List ℕ) (failed : Type 0) (old new : StoreState) (base : Base) (files : List PacketFile) (result : Result (Unit {0}) ScanError) : Type 0 where
   pub sent : OnOk result (AreSentOn outbound own (λ b. files) old new)
+  pub free : OnOk result (All (IsFreeAt outbound old.disk.seen) files)
   pub crash : LeavesOnly old.disk new.disk (SendsThese old outbound own files base (all_scanned base))
   pub keeps : KeepsStoreBut (IsOfThese old.is_own outbound own files) old new
   pub why : IfErr result (IsOfPlacing failed (AreTaken Own outbound own files old.disk.seen) (most < base.cursor))

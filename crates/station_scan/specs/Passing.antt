@@ -11,8 +11,8 @@ use Rattle.echo_toss.specs.Counts.{copies_out, counted_to, counted_with, has_mes
 use Rattle.echo_toss.specs.{Exports.Outgoing as Sent, Exports.sent_of, declared.counting.CountedPacket.CountedPacket}
 use Rattle.cmd_store.specs.PacketLines.{packet_name}
 use Rattle.base_store.specs.Store.{StoreState}
-use Rattle.station.specs.Beneath.{AreSettledByOwn}
-use Rattle.station_scan.specs.{Beneath.IsUsedAt, Sending.AreRoutes, declared.counting.LinkPacket.LinkPacket, declared.publish_error.PublishError.PublishError}
+use Rattle.station.specs.Beneath.{AreSettledByOwn, IsUsedAt}
+use Rattle.station_scan.specs.{Sending.AreRoutes, declared.counting.LinkPacket.LinkPacket, declared.publish_error.PublishError.PublishError}
 use Rattle.station_scan.specs.declared.publish_error.PublishError.TheVariants.{Base as OfBase, Packets, Reading, Staging}
 use Rattle.station_scan.specs.declared.sending.Sending.{Sending}
 

@@ -128,16 +128,13 @@ NoneStays packets trial new (Reading cause) = AreGone packets trial new
 NoneStays packets trial new (Staging cause) = Unit {0}
 NoneStays packets trial new (OfBase cause) = ⊥
 
--- A failure of the device is reported only if its count of failures rose. On an honest disk, damage is reported only for a store that holds
--- no base, and too much only if the store was full. A used path and a failed commit are never reported.
-pub record HasStageCause {S T : Type 0} (state : S → StoreState) (old new : StoreState) (before now : ℕ) (result : Result T PublishError) : Type 0 where
+-- A failure of the device is reported only if its count of failures rose. A used path and a failed store are never reported.
+pub record HasStageCause {T : Type 0} (before now : ℕ) (result : Result T PublishError) : Type 0 where
   pub later : before ≤ now
   pub packets : IsErrOf result (Packets placing.Device) → Failed before now
   pub staging : IsErrOf result (Staging disk_error.Device) → Failed before now
-  pub reading : IsErrOf result (Reading store.Device) → Failed before now
-  pub unread : Honestly new.disk (IsErrOf result (Reading store.Damaged) → (base : Base) → old.keeps base → ⊥)
-  pub many : IsErrOf result (Reading store.TooMany) → IsFullOnWay state old
   pub free : IsErrOf result (Packets placing.Taken) → ⊥
+  pub reading : (cause : StoreError) → IsErrOf result (Reading cause) → ⊥
   pub base : (cause : StoreError) → IsErrOf result (OfBase cause) → ⊥
 
 -- each packet is at its path on the disk, and the store's base is committed

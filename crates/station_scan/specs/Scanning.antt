@@ -46,6 +46,8 @@ pub record AreSentOut (is_true : Type 0) (Own : List ℕ → Type 0) (outbound o
   pub between : Files
   pub ended : All (IsEnded cursor seen between) found
   pub staging_them : DifferAt (IsOfLeft found) seen between
+  -- Then no file had the path of a packet of this scan.
+  pub free : All (IsFreeAt outbound between) files
   -- Each packet of this scan is on the disk, at its path alone.
   pub packets : All (IsAtItsPath outbound new) files
   pub gone : All (IsStagingGone outbound own new.seen) files

@@ -2,10 +2,11 @@
 use Rattle.std.specs.Prelude.{◌≤◌, ℕ, [], All, Result, IsErrOf}
 use Rattle.base_file.specs.Base.{Base}
 use Rattle.disk_io.specs.{Device.Failed, Disk.DiskState, Disk.Honestly}
+use Rattle.disk_atomic.specs.Outgoing.{ArePlaced}
 use Rattle.disk_atomic.specs.declared.placing_error.PlacingError.TheVariants as placing
 use Rattle.base_store.specs.Store.{StoreState}
 use Rattle.base_store.specs.declared.store_error.StoreError.TheVariants as store
-use Rattle.station_scan.specs.{Beneath.IsFullOnWay, Publishing.AreGoing, Publishing.AreOpen, Publishing.IsWritten, declared.passing.PassStop.PassStop}
+use Rattle.station_scan.specs.{Beneath.IsFullOnWay, Publishing.AreGoing, Publishing.AreOpen, Publishing.IsTrial, Publishing.IsWritten, declared.passing.PassStop.PassStop}
 use Rattle.station_scan.specs.declared.{passing.PassStop.TheVariants.Placing, passing.PassStop.TheVariants.Reading, publish_error.PublishError.PublishError}
 use Rattle.station_scan.specs.declared.{publish_error.PublishError.TheVariants.Packets, publish_error.PublishError.TheVariants.Reading as OfReading, writing.Batch.Batch}
 
@@ -16,6 +17,16 @@ IsBatchOff s batch = AreGoing s.is_own batch.outbound.now batch.trial.now batch.
 -- the staging files were made, and can grow
 abbrev pub IsOpen : Batch → DiskState → Type 0
 IsOpen batch disk = AreOpen batch.outbound.now batch.packets.now disk
+
+-- Its packets go to paths of the folder, and the trial path is in the folder too. All these paths are distinct.
+pub record IsBatchPlaced (batch : Batch) : Type 0 where
+  pub placed : ArePlaced batch.outbound.now batch.packets.now
+  pub is_trial : IsTrial batch.outbound.now batch.packets.now batch.trial.now
+
+-- Such a batch, with staging files that were made and can grow.
+pub record CanEnd (batch : Batch) (disk : DiskState) : Type 0 where
+  pub placed : IsBatchPlaced batch
+  pub opened : IsOpen batch disk
 
 -- The store may be called. It owns no path of the batch, and on its disk the staging files can grow.
 pub record CanStage (s : StoreState) (batch : Batch) : Type 0 where

@@ -1,77 +1,53 @@
 //! Packets in staging files come to their end, before a commit.
 ghost use Rattle.std.specs.Prelude.{◌≡◌, true, false, All, IfErr, IfOk, OnOk};
 ghost use Rattle.disk_io.specs.{Disk.Honestly, Runs.HasCause};
-ghost use Rattle.disk_atomic.specs.Outgoing.{IsAtStaging};
+ghost use Rattle.disk_atomic.specs.{Changes.ChangesOnly, Outgoing.IsAtStaging};
 ghost use Rattle.station_scan.specs.Publishing.{AreStaged, HasStageCause, IsTriedWith, IsWritten, NoneStays, ended_in};
-ghost use Rattle.station_scan.specs.{Beneath.IsUsedAt, Writing.CanStage};
+ghost use Rattle.station_scan.specs.Writing.{CanEnd};
 
-use crate::beneath::Used;
 use crate::pieces::Ends;
 use crate::publish_error::PublishError;
-use crate::writing::{Batch, append_on, drop_on, end_on};
-use base_store::Store;
-use disk_atomic::PlacingError;
+use crate::staging::end_staging;
+use crate::writing::{Batch, append_open};
+use disk_atomic::{PlacingError, drop_staging};
 use disk_io::{Disk, DiskError};
-use station::LendStation;
 use std::alloc::Global;
 
 // Writes the ends of the packets, syncs them, and tries whether files there can get a second path.
-fn end_packets<'a, D: Disk, P: LendStation<'a, D>>(
-    alloc: Global,
-    store: P::Kept,
-    batch: Batch<'_>,
-) -> Used<P::Kept, Result<bool, DiskError>>
-    requires { CanStage (P.Kept.state store) batch }
-    ensures used { IsUsedAt (IsAtStaging batch.entry.packets.now batch.entry.trial.now) (P.Kept.state store) (P.Kept.state result.store) }
-    ensures staged { IfOk result.done (λ free. free ≡ true → AreStaged batch.entry.packets.now (P.Kept.state result.store).disk) }
-    ensures ended { Honestly (P.Kept.state result.store).disk (OnOk result.done (All (IsWritten (ended_in (P.Kept.state store).disk.seen) (P.Kept.state result.store).disk.seen) batch.entry.packets.now)) }
-    ensures tried { IfOk result.done (λ free. free ≡ true → IsTriedWith D.state batch.entry.packets.now batch.entry.trial.now (P.Kept.state store).disk) }
-    ensures taken { Honestly (P.Kept.state result.store).disk (IfOk result.done (λ free. free ≡ false → ⊥)) }
-    ensures cause { HasCause (P.Kept.failures store) (P.Kept.failures result.store) result.done }
+fn end_packets<D: Disk>(alloc: Global, disk: &mut D, batch: Batch<'_>) -> Result<bool, DiskError>
+    requires { CanEnd batch (D.state disk.old) }
+    ensures staged { IfOk result (λ free. free ≡ true → AreStaged batch.entry.packets.now (D.state disk.new)) }
+    ensures ended { Honestly (D.state disk.new) (OnOk result (All (IsWritten (ended_in (D.state disk.old).seen) (D.state disk.new).seen) batch.entry.packets.now)) }
+    ensures tried { IfOk result (λ free. free ≡ true → IsTriedWith D.state batch.entry.packets.now batch.entry.trial.now (D.state disk.old)) }
+    ensures taken { Honestly (D.state disk.new) (IfOk result (λ free. free ≡ false → ⊥)) }
+    ensures changes { ChangesOnly (IsAtStaging batch.entry.packets.now batch.entry.trial.now) (D.state disk.old) (D.state disk.new) }
+    ensures cause { HasCause (D.failures disk.old) (D.failures disk.new) result }
 {
-    let Used { store, done } = append_on::<D, P, Ends>(alloc, store, batch, &Ends {});
-    match done {
-        Ok(()) => end_on::<D, P>(alloc, store, batch),
-        Err(cause) => Used {
-            store,
-            done: Err(cause),
-        },
-    }
+    append_open(alloc, disk, batch, &Ends {})?;
+    end_staging(disk, batch.outbound, batch.trial, batch.packets)
 }
 
-/// The same. If this fails, the staging files are removed.
-pub(crate) fn stage_on<'a, D: Disk, P: LendStation<'a, D>>(
+/// Writes the ends of the packets, syncs them, and tries whether files there can get a second path. If this fails, the
+/// staging files are removed.
+pub(crate) fn stage_packets<D: Disk>(
     alloc: Global,
-    store: P::Kept,
+    disk: &mut D,
     batch: Batch<'_>,
-) -> Used<P::Kept, Result<bool, PublishError>>
-    requires { CanStage (P.Kept.state store) batch }
-    ensures used { IsUsedAt (IsAtStaging batch.entry.packets.now batch.entry.trial.now) (P.Kept.state store) (P.Kept.state result.store) }
-    ensures staged { IfOk result.done (λ free. free ≡ true → AreStaged batch.entry.packets.now (P.Kept.state result.store).disk) }
-    ensures ended { Honestly (P.Kept.state result.store).disk (OnOk result.done (All (IsWritten (ended_in (P.Kept.state store).disk.seen) (P.Kept.state result.store).disk.seen) batch.entry.packets.now)) }
-    ensures tried { IfOk result.done (λ free. free ≡ true → IsTriedWith D.state batch.entry.packets.now batch.entry.trial.now (P.Kept.state store).disk) }
-    ensures taken { Honestly (P.Kept.state result.store).disk (IfOk result.done (λ free. free ≡ false → ⊥)) }
-    ensures gone { Honestly (P.Kept.state result.store).disk (IfErr result.done (NoneStays batch.entry.packets.now batch.entry.trial.now (P.Kept.state result.store).disk)) }
-    ensures cause { HasStageCause P.Kept.state (P.Kept.state store) (P.Kept.state result.store) (P.Kept.failures store) (P.Kept.failures result.store) result.done }
+) -> Result<bool, PublishError>
+    requires { CanEnd batch (D.state disk.old) }
+    ensures staged { IfOk result (λ free. free ≡ true → AreStaged batch.entry.packets.now (D.state disk.new)) }
+    ensures ended { Honestly (D.state disk.new) (OnOk result (All (IsWritten (ended_in (D.state disk.old).seen) (D.state disk.new).seen) batch.entry.packets.now)) }
+    ensures tried { IfOk result (λ free. free ≡ true → IsTriedWith D.state batch.entry.packets.now batch.entry.trial.now (D.state disk.old)) }
+    ensures taken { Honestly (D.state disk.new) (IfOk result (λ free. free ≡ false → ⊥)) }
+    ensures gone { Honestly (D.state disk.new) (IfErr result (NoneStays batch.entry.packets.now batch.entry.trial.now (D.state disk.new))) }
+    ensures changes { ChangesOnly (IsAtStaging batch.entry.packets.now batch.entry.trial.now) (D.state disk.old) (D.state disk.new) }
+    ensures cause { HasStageCause (D.failures disk.old) (D.failures disk.new) result }
 {
-    let Used { store, done } = end_packets::<D, P>(alloc, store, batch);
-    match done {
-        Ok(free) => Used {
-            store,
-            done: Ok(free),
+    match end_packets(alloc, disk, batch) {
+        Ok(free) => Ok(free),
+        Err(cause) => match drop_staging(disk, batch.outbound, batch.trial, batch.packets) {
+            Ok(()) => Err(PublishError::Packets(PlacingError::from(cause))),
+            Err(left) => Err(PublishError::Staging(left)),
         },
-        Err(cause) => {
-            let Used { store, done } = drop_on::<D, P>(alloc, store, batch);
-            match done {
-                Ok(()) => Used {
-                    store,
-                    done: Err(PublishError::Packets(PlacingError::from(cause))),
-                },
-                Err(left) => Used {
-                    store,
-                    done: Err(PublishError::Staging(left)),
-                },
-            }
-        }
     }
 }

@@ -1,11 +1,11 @@
 //! The packets that earlier scans left are named or removed.
-ghost use Rattle.std.specs.Prelude.{◌≢◌, ◌≤◌, ◌⊎◌, List, All, IfOk, IsErrOf};
-ghost use Rattle.disk_io.specs.{Device.Failed, Disk.Honestly};
-ghost use Rattle.disk_atomic.specs.{Changes.ChangesOnly, Finishing.AreLeftIn, Publishing.HasPlacingCause, declared.finishing.Left.Left};
+ghost use Rattle.std.specs.Prelude.{◌≢◌, List, All, IfOk, IsErrOf};
+ghost use Rattle.disk_io.specs.Disk.{Honestly};
+ghost use Rattle.disk_atomic.specs.{Changes.ChangesOnly, Finishing.AreLeftIn, ListStaged.AreListed, Publishing.HasPlacingCause, declared.finishing.Left.Left};
 ghost use Rattle.station_scan.specs.Left.{AreFreeLeft, AreSameLeft, EndsLeft, EndsThese, IsStagingThere, IsFreeFound, IsOfNameOff, IsOfPaths};
 
 use crate::finding::{LeftPaths, find_left};
-use disk_atomic::{Left, ListStaged, PlacingError, finish_stopped};
+use disk_atomic::{Left, PlacingError, StagedPacket, finish_stopped};
 use disk_io::{Disk, sync_folder_of};
 use station::OwnPaths;
 use std::alloc::{AllocError, Global};
@@ -50,27 +50,24 @@ fn end_these<D: Disk>(
     Ok(())
 }
 
-/// Names or removes the packets that earlier scans left in staging files, by the cursor of the base, which is synced.
-/// The station's own files are no packets.
-pub(crate) fn finish_left<D: Disk, O: OwnPaths, G: ListStaged>(
+/// Names or removes the listed packets, which earlier scans left in staging files, by the cursor of the base, which is
+/// synced. The station's own files are no packets.
+pub(crate) fn finish_left<D: Disk, O: OwnPaths>(
     alloc: Global,
     disk: &mut D,
-    listing: &mut G,
     paths: &O,
     folder: &[u8],
     own: &[u8],
+    listed: &[StagedPacket],
     cursor: u32,
 ) -> Result<(), PlacingError>
     requires { All (λ b. b ≢ 47) own.now }
-    ensures ends { Honestly (D.state disk.new) (EndsLeft (G.is_true listing.new (D.state disk.old).seen) (O.is_own paths.now) folder.now own.now cursor (D.state disk.old) (D.state disk.new) result) }
+    ensures ends { Honestly (D.state disk.new) (EndsLeft (AreListed folder.now own.now (D.state disk.old).seen listed.now) (O.is_own paths.now) folder.now own.now cursor (D.state disk.old) (D.state disk.new) result) }
     ensures taken { Honestly (D.state disk.new) (IsErrOf result PlacingError.Taken → AreFreeLeft (O.is_own paths.now) folder.now own.now (D.state disk.old).seen → ⊥) }
     ensures changes { ChangesOnly (IsOfNameOff (O.is_own paths.now) folder.now own.now) (D.state disk.old) (D.state disk.new) }
-    ensures later { D.failures disk.old ≤ D.failures disk.new }
-    ensures listing_later { G.failures listing.old ≤ G.failures listing.new }
-    ensures failed { IsErrOf result PlacingError.Device → Failed (D.failures disk.old) (D.failures disk.new) ⊎ Failed (G.failures listing.old) (G.failures listing.new) }
+    ensures cause { HasPlacingCause (D.failures disk.old) (D.failures disk.new) result }
 {
-    let named = listing.left_staged(alloc, folder, own)?;
-    let found = find_left(alloc, disk, paths, folder, own, &named)?;
+    let found = find_left(alloc, disk, paths, folder, own, listed)?;
     if found.is_empty() {
         return Ok(());
     }

@@ -12,18 +12,18 @@
 //! messages once. `counting` keeps one list of the packets for the links. `fitting` judges the paths of packets that begin,
 //! and `growing` writes each group into staging files. `stopping` removes these files where the pass stops. `ending` and
 //! `publishing` end the packets and commit. They use `pieces` (the next bytes of a packet), `writing` and `staging`
-//! (staging files on the disk). `finding` and `finishing` end what earlier scans left. `beneath` works on the disk of a
-//! store, `reporting` prints the lines of a scan that stops, and `reported` reports progress. `publish_error` and
-//! `scan_error` are the errors.
+//! (staging files on the disk). `finding` and `finishing` end what earlier scans left. `jobs` are the steps for which a
+//! store lends its disk. `reporting` prints the lines of a scan that stops, and `reported` reports progress.
+//! `publish_error` and `scan_error` are the errors.
 #![tactic(auto)]
 
-mod beneath;
 mod counting;
 mod ending;
 mod finding;
 mod finishing;
 mod fitting;
 mod growing;
+mod jobs;
 mod outgoing;
 mod passing;
 mod pieces;
@@ -39,7 +39,6 @@ mod staging;
 mod stopping;
 mod writing;
 
-pub use beneath::Used;
 pub use pieces::Source;
 pub use publish_error::PublishError;
 pub use reported::ReportedStore;

@@ -8,10 +8,10 @@ ghost use Rattle.echo_toss.specs.Exports.{Outgoing as Sent};
 ghost use Rattle.station_scan.specs.{Moved.HasScanCause, Moved.IsMoved, Moved.ScansFrom, Moved.SendsFrom, Passing.CanSend, Passing.HasPassed, Passing.IsMaking};
 ghost use Rattle.station_scan.specs.{Publishing.HasPublishCause, Publishing.KeepsStoreBut, Scanning.IsTouched, Scanning.packets_in, Stops.IsOfBase, Stops.scan_done};
 
-use crate::beneath::Used;
 use crate::counting::{LinkPacket, made_of, print_made};
 use crate::publish_error::PublishError;
 use crate::publishing::publish;
+use crate::reported::ReportedStore;
 use crate::reporting::{report, reported_as};
 use crate::scan_error::ScanError;
 use crate::sending::Sending;
@@ -25,59 +25,43 @@ use station::LendStation;
 use std::alloc::Global;
 
 // Commits the store of a scan without packets.
-fn commit_alone<'a, D: Disk, P: LendStation<'a, D>>(
-    store: P::Kept,
-) -> Used<P::Kept, Result<(), PublishError>>
-    requires { (P.Kept.state store).is_ready }
-    ensures base { IfErr result.done IsOfBase }
-    ensures committed { OnOk result.done (Commits (P.Kept.state store) (P.Kept.state result.store)) }
-    ensures either { MayCommit (P.Kept.state store) (P.Kept.state result.store) }
-    ensures cause { HasPublishCause P.Kept.state (P.Kept.state store) (P.Kept.state result.store) (P.Kept.failures store) (P.Kept.failures result.store) result.done }
+fn commit_alone<S: Store>(store: &mut S) -> Result<(), PublishError>
+    requires { (S.state store.old).is_ready }
+    ensures base { IfErr result IsOfBase }
+    ensures committed { OnOk result (Commits (S.state store.old) (S.state store.new)) }
+    ensures either { MayCommit (S.state store.old) (S.state store.new) }
+    ensures cause { HasPublishCause S.state (S.state store.old) (S.state store.new) (S.failures store.old) (S.failures store.new) result }
 {
-    let mut store = store;
-    match store.commit() {
-        Ok(()) => Used {
-            store,
-            done: Ok(()),
-        },
-        Err(cause) => Used {
-            store,
-            done: Err(PublishError::Base(cause)),
-        },
-    }
+    store.commit()?;
+    Ok(())
 }
 
 // Ends the packets in their staging files, and commits the store. A scan without packets needs no folder.
 fn publish_made<'a, D: Disk, P: LendStation<'a, D>>(
     alloc: Global,
-    store: P::Kept,
+    store: &mut P::Kept,
     paths: &P::Paths,
     sending: Sending<'_>,
     packets: &[LinkPacket<'_>],
-) -> Used<P::Kept, Result<(), PublishError>>
-    requires ready { CanSend (P.Paths.is_own paths.now) sending (P.Kept.state store) }
-    requires making { (sent : List Sent) × IsMaking (P.Paths.is_own paths.now) sending sent (P.Kept.state store).disk packets.now }
+) -> Result<(), PublishError>
+    requires ready { CanSend (P.Paths.is_own paths.now) sending (P.Kept.state store.old) }
+    requires making { (sent : List Sent) × IsMaking (P.Paths.is_own paths.now) sending sent (P.Kept.state store.old).disk packets.now }
 
     // The store and its disk as they were before the messages were gone over.
-    ensures sends { (before : P.Kept) → HasPassed (P.Paths.is_own paths.now) sending.entry (P.Kept.state before) (P.Kept.state store) packets.now
-        → Honestly (P.Kept.state result.store).disk ((base : Base) → IsMoved (P.Kept.state before) sending.entry.source.from base
-        → SendsFrom D.state (P.Paths.is_own paths.now) sending.entry.outbound.now sending.entry.own.now (Failed (P.Kept.failures store) (P.Kept.failures result.store)) (P.Kept.state before) (P.Kept.state result.store)
-        base (packets_in sending.entry.source.stamp sending.entry.source.links.now base) (scan_done result.done)) }
-    ensures keeps { KeepsStoreBut (IsTouched (P.Kept.state store).is_own sending.entry.outbound.now) (P.Kept.state store) (P.Kept.state result.store) }
-    ensures cause { HasPublishCause P.Kept.state (P.Kept.state store) (P.Kept.state result.store) (P.Kept.failures store) (P.Kept.failures result.store) result.done }
+    ensures sends { (before : P.Kept) → HasPassed (P.Paths.is_own paths.now) sending.entry (P.Kept.state before) (P.Kept.state store.old) packets.now
+        → Honestly (P.Kept.state store.new).disk ((base : Base) → IsMoved (P.Kept.state before) sending.entry.source.from base
+        → SendsFrom D.state (P.Paths.is_own paths.now) sending.entry.outbound.now sending.entry.own.now (Failed (P.Kept.failures store.old) (P.Kept.failures store.new)) (P.Kept.state before) (P.Kept.state store.new)
+        base (packets_in sending.entry.source.stamp sending.entry.source.links.now base) (scan_done result)) }
+    ensures keeps { KeepsStoreBut (IsTouched (P.Kept.state store.old).is_own sending.entry.outbound.now) (P.Kept.state store.old) (P.Kept.state store.new) }
+    ensures cause { HasPublishCause P.Kept.state (P.Kept.state store.old) (P.Kept.state store.new) (P.Kept.failures store.old) (P.Kept.failures store.new) result }
 {
     let made = match made_of(alloc, packets) {
         Ok(made) => made,
-        Err(_refused) => {
-            return Used {
-                store,
-                done: Err(PublishError::Staging(DiskError::Memory)),
-            };
-        }
+        Err(_refused) => return Err(PublishError::Staging(DiskError::Memory)),
     };
     let ended = made.as_slice();
     if ended.is_empty() {
-        return commit_alone::<D, P>(store);
+        return commit_alone(store);
     }
     let batch = Batch {
         outbound: sending.outbound,
@@ -90,42 +74,32 @@ fn publish_made<'a, D: Disk, P: LendStation<'a, D>>(
 // Prints the lines of the packets that were made, and sends them out.
 fn send_made<'a, D: Disk, P: LendStation<'a, D>, W: Sink>(
     alloc: Global,
-    store: P::Kept,
+    store: &mut P::Kept,
     paths: &P::Paths,
     sending: Sending<'_>,
     packets: &[LinkPacket<'_>],
     out: &mut W,
-) -> Used<P::Kept, Result<(), ScanError<'a>>>
-    requires ready { CanSend (P.Paths.is_own paths.now) sending (P.Kept.state store) }
-    requires making { (sent : List Sent) × IsMaking (P.Paths.is_own paths.now) sending sent (P.Kept.state store).disk packets.now }
+) -> Result<(), ScanError<'a>>
+    requires ready { CanSend (P.Paths.is_own paths.now) sending (P.Kept.state store.old) }
+    requires making { (sent : List Sent) × IsMaking (P.Paths.is_own paths.now) sending sent (P.Kept.state store.old).disk packets.now }
 
     // The store and its disk as they were before the messages were gone over.
-    ensures sends { (before : P.Kept) → HasPassed (P.Paths.is_own paths.now) sending.entry (P.Kept.state before) (P.Kept.state store) packets.now
-        → Honestly (P.Kept.state result.store).disk ((base : Base) → IsMoved (P.Kept.state before) sending.entry.source.from base
-        → ScansFrom D.state (P.Paths.is_own paths.now) sending.entry (Failed (P.Kept.failures store) (P.Kept.failures result.store)) (P.Kept.state before) (P.Kept.state result.store)
-        (output_of W.contents W.failures W.holds out.old) (output_of W.contents W.failures W.holds out.new) base result.done) }
-    ensures keeps { KeepsStoreBut (IsTouched (P.Kept.state store).is_own sending.entry.outbound.now) (P.Kept.state store) (P.Kept.state result.store) }
-    ensures cause { HasScanCause P.Kept.state (P.Kept.state store) (P.Kept.failures store) (P.Kept.failures result.store) result.done }
+    ensures sends { (before : P.Kept) → HasPassed (P.Paths.is_own paths.now) sending.entry (P.Kept.state before) (P.Kept.state store.old) packets.now
+        → Honestly (P.Kept.state store.new).disk ((base : Base) → IsMoved (P.Kept.state before) sending.entry.source.from base
+        → ScansFrom D.state (P.Paths.is_own paths.now) sending.entry (Failed (P.Kept.failures store.old) (P.Kept.failures store.new)) (P.Kept.state before) (P.Kept.state store.new)
+        (output_of W.contents W.failures W.holds out.old) (output_of W.contents W.failures W.holds out.new) base result) }
+    ensures keeps { KeepsStoreBut (IsTouched (P.Kept.state store.old).is_own sending.entry.outbound.now) (P.Kept.state store.old) (P.Kept.state store.new) }
+    ensures cause { HasScanCause P.Kept.state (P.Kept.state store.old) (P.Kept.failures store.old) (P.Kept.failures store.new) result }
 {
     match print_made(alloc, packets, out) {
         Ok(()) => {
-            let Used { store, done } = publish_made::<D, P>(alloc, store, paths, sending, packets);
-            let done = stop_done(done);
-            Used { store, done }
+            let done = publish_made::<D, P>(alloc, store, paths, sending, packets);
+            stop_done(done)
         }
-        Err(stop) => {
-            let Used { store, done } = drop_made::<D, P>(alloc, store, paths, sending, packets);
-            match done {
-                Ok(()) => Used {
-                    store,
-                    done: Err(ScanError::Command(stop)),
-                },
-                Err(left) => Used {
-                    store,
-                    done: Err(ScanError::Staying(left)),
-                },
-            }
-        }
+        Err(stop) => match drop_made::<D, P>(alloc, store, paths, sending, packets) {
+            Ok(()) => Err(ScanError::Command(stop)),
+            Err(left) => Err(ScanError::Staying(left)),
+        },
     }
 }
 
@@ -133,40 +107,30 @@ fn send_made<'a, D: Disk, P: LendStation<'a, D>, W: Sink>(
 /// get their paths. If a packet cannot be made, the lines are printed first.
 pub(crate) fn send_on<'a, D: Disk, P: LendStation<'a, D>, T: MessageProgress, W: Sink>(
     alloc: Global,
-    store: P::Kept,
+    store: &mut ReportedStore<'_, P::Kept, T>,
     paths: &P::Paths,
     sending: Sending<'_>,
-    watch: &T,
     out: &mut W,
-) -> Used<P::Kept, Result<(), ScanError<'a>>>
-    requires ready { CanSend (P.Paths.is_own paths.now) sending (P.Kept.state store) }
-    ensures sends { Honestly (P.Kept.state result.store).disk ((base : Base) → IsMoved (P.Kept.state store) sending.entry.source.from base
-        → ScansFrom D.state (P.Paths.is_own paths.now) sending.entry (Failed (P.Kept.failures store) (P.Kept.failures result.store)) (P.Kept.state store) (P.Kept.state result.store)
-        (output_of W.contents W.failures W.holds out.old) (output_of W.contents W.failures W.holds out.new) base result.done) }
-    ensures keeps { KeepsStoreBut (IsTouched (P.Kept.state store).is_own sending.entry.outbound.now) (P.Kept.state store) (P.Kept.state result.store) }
-    ensures cause { HasScanCause P.Kept.state (P.Kept.state store) (P.Kept.failures store) (P.Kept.failures result.store) result.done }
+) -> Result<(), ScanError<'a>>
+    requires ready { CanSend (P.Paths.is_own paths.now) sending (P.Kept.state store.old.store) }
+    ensures sends { Honestly (P.Kept.state store.new.store).disk ((base : Base) → IsMoved (P.Kept.state store.old.store) sending.entry.source.from base
+        → ScansFrom D.state (P.Paths.is_own paths.now) sending.entry (Failed (P.Kept.failures store.old.store) (P.Kept.failures store.new.store)) (P.Kept.state store.old.store) (P.Kept.state store.new.store)
+        (output_of W.contents W.failures W.holds out.old) (output_of W.contents W.failures W.holds out.new) base result) }
+    ensures keeps { KeepsStoreBut (IsTouched (P.Kept.state store.old.store).is_own sending.entry.outbound.now) (P.Kept.state store.old.store) (P.Kept.state store.new.store) }
+    ensures cause { HasScanCause P.Kept.state (P.Kept.state store.old.store) (P.Kept.failures store.old.store) (P.Kept.failures store.new.store) result }
 {
-    let Used { store, done } = pass_waiting::<D, P, T>(alloc, store, paths, sending, watch);
-    match done {
-        Ok(packets) => send_made::<D, P, W>(alloc, store, paths, sending, &packets, out),
+    match pass_waiting::<D, P, T>(alloc, store, paths, sending) {
+        Ok(packets) => {
+            send_made::<D, P, W>(alloc, &mut store.store, paths, sending, &packets, out)
+        }
         Err(why) => match why {
             PublishError::Packets(cause) => {
-                let Used { store, done } = report(alloc, sending.source, store, watch, out);
-                let done = reported_as(ScanError::Placing(cause), done);
-                Used { store, done }
+                let reported = report(alloc, sending.source, store, out);
+                reported_as(ScanError::Placing(cause), reported)
             }
-            PublishError::Reading(cause) => Used {
-                store,
-                done: Err(ScanError::Command(CommandError::Store(cause))),
-            },
-            PublishError::Staging(left) => Used {
-                store,
-                done: Err(ScanError::Staying(left)),
-            },
-            PublishError::Base(cause) => Used {
-                store,
-                done: Err(ScanError::Command(CommandError::Store(cause))),
-            },
+            PublishError::Reading(cause) => Err(ScanError::Command(CommandError::Store(cause))),
+            PublishError::Staging(left) => Err(ScanError::Staying(left)),
+            PublishError::Base(cause) => Err(ScanError::Command(CommandError::Store(cause))),
         },
     }
 }

@@ -1,25 +1,22 @@
 //! A pass over the messages of a store: packets are counted, and their copies are written while they are read.
-ghost use Rattle.std.specs.Prelude.{◌≡◌, ◌⊎◌, ◌≤◌, ◌<◌, ◌++◌, [], List, All, IfErr, IfOk, IsErrOf, OnOk, length, map};
+ghost use Rattle.std.specs.Prelude.{◌≡◌, ◌⊎◌, ◌++◌, [], List, All, IfErr, IfOk, IsErrOf, OnOk, map};
 ghost use Rattle.base_file.specs.Base.{Base};
-ghost use Rattle.base_store.specs.Store.{HasStoreCause, LooksOn};
 ghost use Rattle.disk_io.specs.Disk.{Honestly};
 ghost use Rattle.disk_atomic.specs.Publishing.{HasPlacingCause};
 ghost use Rattle.disk_atomic.specs.declared.placing_error.PlacingError.TheVariants as placing;
-ghost use Rattle.echo_toss.specs.{Bounds.IsFullWhenRead, Counts.IsGroupFrom, Exports.Outgoing as Sent};
+ghost use Rattle.echo_toss.specs.Exports.{Outgoing as Sent};
 ghost use Rattle.station_scan.specs.Passing.{AreTakenTo, CanSend, HasPassed, HasStaged, IsBetween, IsMaking, IsPartOf, IsTakenFor, begun_in, copied_in, with_group};
 ghost use Rattle.station_scan.specs.{Fitting.IsOff, Writing.HasStopCause};
 
-use crate::beneath::Used;
 use crate::counting::{LinkPacket, begun_of, copied_of, packets_with};
 use crate::fitting::are_off_own;
-use crate::growing::append_group;
+use crate::jobs::AppendGroup;
 use crate::reported::ReportedStore;
 use crate::sending::Sending;
 use base_store::{Store, StoreError};
 use cmd_status::MessageProgress;
 use disk_atomic::{Outgoing, PlacingError};
 use disk_io::Disk;
-use echo_links::LinkFile;
 use echo_toss::{Group, group_from};
 use station::{LendStation, OwnPaths};
 use std::alloc::Global;
@@ -39,28 +36,26 @@ struct Going<'p> {
     pub copied: Vec<Outgoing<'p>>,
 }
 
-// The next group of messages. The watcher hears of each message.
-fn read_group<S: Store, T: MessageProgress>(
-    alloc: Global,
-    links: &LinkFile,
-    store: S,
-    watch: &T,
-    from: usize,
-    end: usize,
-) -> Used<S, Result<Group, StoreError>>
-    requires ready { (S.state store).is_ready }
-    requires some { from < end }
-    requires within { Honestly (S.state store).disk ((base : Base) → (S.state store).keeps base → end ≤ length base.messages) }
-    ensures group { Honestly (S.state result.store).disk ((base : Base) → (S.state store).keeps base → IfOk result.done (IsGroupFrom links.now base.messages from)) }
-    ensures next { IfOk result.done (λ group. (from < group.next) × (group.next ≤ end)) }
-    ensures looks { LooksOn (S.state store) (S.state result.store) }
-    ensures many { IsErrOf result.done StoreError.TooMany → IsFullWhenRead S.state (S.state store) }
-    ensures cause { HasStoreCause (S.state store) (S.state result.store) (S.failures store) (S.failures result.store) result.done }
-{
-    let mut reported = ReportedStore { store, watch };
-    let done = group_from(alloc, links, &mut reported, from, end);
-    let ReportedStore { store, .. } = reported;
-    Used { store, done }
+impl From<StoreError> for PassStop {
+    ghost use Rattle.std.specs.Prelude.{◌≡◌};
+    ghost use Rattle.station_scan.specs.declared.passing.PassStop.TheVariants.{Reading};
+
+    ghost from_gives = { λ cause e. e ≡ Reading cause };
+
+    fn from(cause: StoreError) -> PassStop {
+        PassStop::Reading(cause)
+    }
+}
+
+impl From<PlacingError> for PassStop {
+    ghost use Rattle.std.specs.Prelude.{◌≡◌};
+    ghost use Rattle.station_scan.specs.declared.passing.PassStop.TheVariants.{Placing};
+
+    ghost from_gives = { λ cause e. e ≡ Placing cause };
+
+    fn from(cause: PlacingError) -> PassStop {
+        PassStop::Placing(cause)
+    }
 }
 
 // Counts the group, and judges the paths of the packets that begin with it.
@@ -93,93 +88,62 @@ fn going_of<'p, O: OwnPaths>(
 // Counts the group, and writes its copies.
 fn add_group<'a, 'p, D: Disk, P: LendStation<'a, D>>(
     alloc: Global,
-    store: P::Kept,
+    store: &mut P::Kept,
     paths: &P::Paths,
     sending: Sending<'p>,
     packets: &mut Vec<LinkPacket<'p>>,
     group: &Group,
-) -> Used<P::Kept, Result<(), PlacingError>>
-    requires ready { CanSend (P.Paths.is_own paths.now) sending (P.Kept.state store) }
-    requires making { (sent : List Sent) × IsMaking (P.Paths.is_own paths.now) sending sent (P.Kept.state store).disk packets.old.items }
-    ensures stages { (sent : List Sent) → IsMaking (P.Paths.is_own paths.now) sending.entry sent (P.Kept.state store).disk packets.old.items
-        → HasStaged (P.Paths.is_own paths.now) sending.entry (IsBetween sent (sent ++ group.now.sent)) (P.Kept.state store) (P.Kept.state result.store) packets.new.items }
-    ensures making { (sent : List Sent) → IsMaking (P.Paths.is_own paths.now) sending.entry sent (P.Kept.state store).disk packets.old.items
-        → OnOk result.done (IsMaking (P.Paths.is_own paths.now) sending.entry (sent ++ group.now.sent) (P.Kept.state result.store).disk packets.new.items) }
-    ensures taken { Honestly (P.Kept.state result.store).disk (IsErrOf result.done PlacingError.Taken → (sent : List Sent) → IsMaking (P.Paths.is_own paths.now) sending.entry sent (P.Kept.state store).disk packets.old.items
-        → AreTakenTo (P.Paths.is_own paths.now) sending.entry (sent ++ group.now.sent) (P.Kept.state store).disk.seen) }
-    ensures cause { HasPlacingCause (P.Kept.failures store) (P.Kept.failures result.store) result.done }
+) -> Result<(), PlacingError>
+    requires ready { CanSend (P.Paths.is_own paths.now) sending (P.Kept.state store.old) }
+    requires making { (sent : List Sent) × IsMaking (P.Paths.is_own paths.now) sending sent (P.Kept.state store.old).disk packets.old.items }
+    ensures stages { (sent : List Sent) → IsMaking (P.Paths.is_own paths.now) sending.entry sent (P.Kept.state store.old).disk packets.old.items
+        → HasStaged (P.Paths.is_own paths.now) sending.entry (IsBetween sent (sent ++ group.now.sent)) (P.Kept.state store.old) (P.Kept.state store.new) packets.new.items }
+    ensures making { (sent : List Sent) → IsMaking (P.Paths.is_own paths.now) sending.entry sent (P.Kept.state store.old).disk packets.old.items
+        → OnOk result (IsMaking (P.Paths.is_own paths.now) sending.entry (sent ++ group.now.sent) (P.Kept.state store.new).disk packets.new.items) }
+    ensures taken { Honestly (P.Kept.state store.new).disk (IsErrOf result PlacingError.Taken → (sent : List Sent) → IsMaking (P.Paths.is_own paths.now) sending.entry sent (P.Kept.state store.old).disk packets.old.items
+        → AreTakenTo (P.Paths.is_own paths.now) sending.entry (sent ++ group.now.sent) (P.Kept.state store.old).disk.seen) }
+    ensures cause { HasPlacingCause (P.Kept.failures store.old) (P.Kept.failures store.new) result }
 {
-    let going = match going_of(alloc, paths, sending.trial, packets, group) {
-        Ok(going) => going,
-        Err(cause) => {
-            return Used {
-                store,
-                done: Err(cause),
-            };
-        }
-    };
+    let going = going_of(alloc, paths, sending.trial, packets, group)?;
     *packets = going.counted;
     let copied = going.copied.as_slice();
     if copied.is_empty() {
-        return Used {
-            store,
-            done: Ok(()),
-        };
+        return Ok(());
     }
-    append_group::<D, P>(alloc, store, sending, copied, &going.begun, group)
+    let begun = going.begun.as_slice();
+    let job = AppendGroup {
+        sending,
+        copied,
+        begun,
+        group,
+    };
+    P::with_disk(alloc, store, &job)
 }
 
 /// Goes over the messages, and writes their copies. It updates the counts of the packets.
 pub(crate) fn pass_on<'a, 'p, D: Disk, P: LendStation<'a, D>, T: MessageProgress>(
     alloc: Global,
-    store: P::Kept,
+    store: &mut ReportedStore<'_, P::Kept, T>,
     paths: &P::Paths,
     sending: Sending<'p>,
-    watch: &T,
     packets: &mut Vec<LinkPacket<'p>>,
-) -> Used<P::Kept, Result<(), PassStop>>
-    requires ready { CanSend (P.Paths.is_own paths.now) sending (P.Kept.state store) }
-    requires begins { IsMaking (P.Paths.is_own paths.now) sending [] (P.Kept.state store).disk packets.old.items }
-    ensures staged { HasStaged (P.Paths.is_own paths.now) sending.entry (IsPartOf sending.entry (P.Kept.state store) (P.Kept.state result.store)) (P.Kept.state store) (P.Kept.state result.store) packets.new.items }
-    ensures passed { OnOk result.done (HasPassed (P.Paths.is_own paths.now) sending.entry (P.Kept.state store) (P.Kept.state result.store) packets.new.items) }
-    ensures taken { Honestly (P.Kept.state result.store).disk (IsErrOf result.done (PassStop.Placing PlacingError.Taken) → (base : Base) → (P.Kept.state store).keeps base
-        → IsTakenFor (P.Paths.is_own paths.now) sending.entry base (P.Kept.state store).disk.seen) }
-    ensures cause { HasStopCause P.Kept.state (P.Kept.state store) (P.Kept.state result.store) (P.Kept.failures store) (P.Kept.failures result.store) result.done }
+) -> Result<(), PassStop>
+    requires ready { CanSend (P.Paths.is_own paths.now) sending (P.Kept.state store.old.store) }
+    requires begins { IsMaking (P.Paths.is_own paths.now) sending [] (P.Kept.state store.old.store).disk packets.old.items }
+    ensures staged { HasStaged (P.Paths.is_own paths.now) sending.entry (IsPartOf sending.entry (P.Kept.state store.old.store) (P.Kept.state store.new.store)) (P.Kept.state store.old.store) (P.Kept.state store.new.store) packets.new.items }
+    ensures passed { OnOk result (HasPassed (P.Paths.is_own paths.now) sending.entry (P.Kept.state store.old.store) (P.Kept.state store.new.store) packets.new.items) }
+    ensures taken { Honestly (P.Kept.state store.new.store).disk (IsErrOf result (PassStop.Placing PlacingError.Taken) → (base : Base) → (P.Kept.state store.old.store).keeps base
+        → IsTakenFor (P.Paths.is_own paths.now) sending.entry base (P.Kept.state store.old.store).disk.seen) }
+    ensures cause { HasStopCause P.Kept.state (P.Kept.state store.old.store) (P.Kept.state store.new.store) (P.Kept.failures store.old.store) (P.Kept.failures store.new.store) result }
 {
     let links = sending.source.links;
-    let mut store = store;
     let mut at = sending.source.from;
     let mut end = store.len();
     'groups: while at < end {
-        let Used { store: read, done } = read_group(alloc, links, store, watch, at, end);
-        let group = match done {
-            Ok(group) => group,
-            Err(cause) => {
-                return Used {
-                    store: read,
-                    done: Err(PassStop::Reading(cause)),
-                };
-            }
-        };
-        let Used { store: back, done } = add_group::<D, P>(
-            alloc, read, paths, sending, packets, &group,
-        );
-        store = back;
-        match done {
-            Ok(()) => {
-                at = group.next();
-                end = store.len();
-            }
-            Err(cause) => {
-                return Used {
-                    store,
-                    done: Err(PassStop::Placing(cause)),
-                };
-            }
-        }
+        let group = group_from(alloc, links, store, at, end)?;
+        add_group::<D, P>(alloc, &mut store.store, paths, sending, packets, &group)?;
+        at = group.next();
+        end = store.len();
     }
-    Used {
-        store,
-        done: Ok(()),
-    }
+    Ok(())
 }

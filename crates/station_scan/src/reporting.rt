@@ -4,7 +4,6 @@ ghost use Rattle.cmd_status.specs.Devices.{output_of};
 ghost use Rattle.model_steps.specs.Stamps.{is_stamp};
 ghost use Rattle.station_scan.specs.Moved.{HasReported, left_cause, left_reported, reported_as};
 
-use crate::beneath::Used;
 use crate::pieces::Source;
 use crate::reported::ReportedStore;
 use crate::scan_error::ScanError;
@@ -16,32 +15,20 @@ use disk_io::{DiskError, Sink};
 use echo_toss::counted_from;
 use std::alloc::Global;
 
-/// Counts the packets of the messages, and prints their lines. The watcher hears of each message.
+/// Counts the packets of the messages, and prints their lines.
 pub(crate) fn report<'a, S: Store, T: MessageProgress, W: Sink>(
     alloc: Global,
     source: Source<'_>,
-    store: S,
-    watch: &T,
+    store: &mut ReportedStore<'_, S, T>,
     out: &mut W,
-) -> Used<S, Result<(), CommandError<'a>>>
-    requires ready { (S.state store).is_ready }
+) -> Result<(), CommandError<'a>>
+    requires ready { (S.state store.old.store).is_ready }
     requires stamp { is_stamp source.stamp ≡ true }
-    ensures { HasReported S.state source.entry (S.state store) (S.state result.store) (S.failures store) (S.failures result.store)
-        (output_of W.contents W.failures W.holds out.old) (output_of W.contents W.failures W.holds out.new) result.done }
+    ensures { HasReported S.state source.entry (S.state store.old.store) (S.state store.new.store) (S.failures store.old.store) (S.failures store.new.store)
+        (output_of W.contents W.failures W.holds out.old) (output_of W.contents W.failures W.holds out.new) result }
 {
-    let mut reported = ReportedStore { store, watch };
-    let counted = counted_from(alloc, source.links, &mut reported, source.from);
-    let ReportedStore { store, .. } = reported;
-    match counted {
-        Ok(packets) => {
-            let done = print_counted(alloc, &packets, out);
-            Used { store, done }
-        }
-        Err(cause) => Used {
-            store,
-            done: Err(CommandError::Store(cause)),
-        },
-    }
+    let packets = counted_from(alloc, source.links, store, source.from)?;
+    print_counted(alloc, &packets, out)
 }
 
 /// Why the scan stopped, once that was reported or could not be.

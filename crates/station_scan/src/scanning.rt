@@ -3,12 +3,12 @@ ghost use Rattle.std.specs.Prelude.{◌≤◌, ◌⊎◌, ℕ, List, IsErrOf, On
 ghost use Rattle.base_file.specs.Base.{Base};
 ghost use Rattle.disk_io.specs.{Device.Failed, Disk.Honestly, Runs.ChangesNothing};
 ghost use Rattle.cmd_status.specs.Devices.{output_of};
-ghost use Rattle.station.specs.Opening.{AreFree, HaveFailed};
+ghost use Rattle.station.specs.{Beneath.AreSettledByOwn, Opening.AreFree, Opening.HaveFailed};
 ghost use Rattle.station_scan.specs.Scanning.{IsScanFull, IsTouched, ScanTries, ScansIn, ScansOnStore, TriesOn};
 ghost use Rattle.station_scan.specs.Publishing.{UnchangedExcept, KeepsStoreBut};
 
-use crate::beneath::Used;
 use crate::putting::put_moved;
+use crate::reported::ReportedStore;
 use crate::scan_error::ScanError;
 use base_store::{Store, StoreError};
 use cmd_status::{Fault, FileLock, MessageProgress};
@@ -27,7 +27,7 @@ pub struct Scan<'s, G, T> {
     pub stamp: Stamp,
     pub outbound: &'s [u8],
     pub listing: G,
-    pub watch: T,
+    pub watch: &'s T,
 }
 
 /// The disk after a scan, and how the scan ended.
@@ -84,9 +84,17 @@ pub fn run_scan<
             let mut kept = kept;
             match before.prepare(&mut kept) {
                 Ok(()) => {
-                    let Used { store, done } = scan_kept::<D, P, G, T, W>(
-                        alloc, &links, kept, &paths, scan, out,
+                    let watch = scan.watch;
+                    let mut reported = ReportedStore { store: kept, watch };
+                    let done = scan_kept::<D, P, G, T, W>(
+                        alloc,
+                        &links,
+                        &mut reported,
+                        &paths,
+                        scan,
+                        out,
                     );
+                    let ReportedStore { store, .. } = reported;
                     let disk = P::into_disk(store);
                     Scanned { disk, done }
                 }
@@ -110,40 +118,34 @@ pub fn run_scan<
 fn scan_kept<'a, 's, D: Disk, P: LendStation<'a, D>, G: ListStaged, T: MessageProgress, W: Sink>(
     alloc: Global,
     links: &LinkFile,
-    store: P::Kept,
+    store: &mut ReportedStore<'_, P::Kept, T>,
     paths: &P::Paths,
     scan: &mut Scan<'s, G, T>,
     out: &mut W,
-) -> Used<P::Kept, Result<(), ScanError<'a>>>
-    requires ready { (P.Kept.state store).is_ready }
-    requires own { (m : List ℕ) → (P.Kept.state store).is_own m → P.Paths.is_own paths.now m }
-    ensures scans { Honestly (P.Kept.state result.store).disk ((base : Base) → (P.Kept.state store).keeps base → (P.Kept.state store).committed base
+) -> Result<(), ScanError<'a>>
+    requires ready { (P.Kept.state store.old.store).is_ready }
+    requires settled { (kept : P.Kept) → AreSettledByOwn (P.Kept.state kept) }
+    requires own { (m : List ℕ) → (P.Kept.state store.old.store).is_own m → P.Paths.is_own paths.now m }
+    ensures scans { Honestly (P.Kept.state store.new.store).disk ((base : Base) → (P.Kept.state store.old.store).keeps base → (P.Kept.state store.old.store).committed base
         → ScansOnStore scan.old.stamp (P.Paths.is_own paths.now) scan.old.outbound.now (G.is_true scan.new.listing)
-        (Failed (P.Kept.failures store) (P.Kept.failures result.store) ⊎ Failed (G.failures scan.old.listing) (G.failures scan.new.listing)) (P.Kept.state store) (P.Kept.state result.store)
-        (output_of W.contents W.failures W.holds out.old) (output_of W.contents W.failures W.holds out.new) links.now base result.done) }
-    ensures tried { Honestly (P.Kept.state result.store).disk ((base : Base) → (P.Kept.state store).keeps base → (P.Kept.state store).committed base
-        → OnOk result.done (TriesOn D.state scan.old.stamp (P.Paths.is_own paths.now) scan.old.outbound.now (P.Kept.state store) (P.Kept.state result.store)
+        (Failed (P.Kept.failures store.old.store) (P.Kept.failures store.new.store) ⊎ Failed (G.failures scan.old.listing) (G.failures scan.new.listing)) (P.Kept.state store.old.store) (P.Kept.state store.new.store)
+        (output_of W.contents W.failures W.holds out.old) (output_of W.contents W.failures W.holds out.new) links.now base result) }
+    ensures tried { Honestly (P.Kept.state store.new.store).disk ((base : Base) → (P.Kept.state store.old.store).keeps base → (P.Kept.state store.old.store).committed base
+        → OnOk result (TriesOn D.state scan.old.stamp (P.Paths.is_own paths.now) scan.old.outbound.now (P.Kept.state store.old.store) (P.Kept.state store.new.store)
         (output_of W.contents W.failures W.holds out.old) (output_of W.contents W.failures W.holds out.new) links.now base)) }
-    ensures keeps { KeepsStoreBut (IsTouched (P.Kept.state store).is_own scan.old.outbound.now) (P.Kept.state store) (P.Kept.state result.store) }
-    ensures later { P.Kept.failures store ≤ P.Kept.failures result.store }
+    ensures keeps { KeepsStoreBut (IsTouched (P.Kept.state store.old.store).is_own scan.old.outbound.now) (P.Kept.state store.old.store) (P.Kept.state store.new.store) }
+    ensures later { P.Kept.failures store.old.store ≤ P.Kept.failures store.new.store }
     ensures listing_later { G.failures scan.old.listing ≤ G.failures scan.new.listing }
-    ensures device { IsErrOf result.done (ScanError.Command (CommandError.Store StoreError.Device)) → Failed (P.Kept.failures store) (P.Kept.failures result.store) }
-    ensures many { Honestly (P.Kept.state result.store).disk ((base : Base) → (P.Kept.state store).keeps base → (P.Kept.state store).committed base
-        → IsErrOf result.done (ScanError.Command (CommandError.Store StoreError.TooMany)) → IsScanFull P.Kept.state base) }
+    ensures device { IsErrOf result (ScanError.Command (CommandError.Store StoreError.Device)) → Failed (P.Kept.failures store.old.store) (P.Kept.failures store.new.store) }
+    ensures many { Honestly (P.Kept.state store.new.store).disk ((base : Base) → (P.Kept.state store.old.store).keeps base → (P.Kept.state store.old.store).committed base
+        → IsErrOf result (ScanError.Command (CommandError.Store StoreError.TooMany)) → IsScanFull P.Kept.state base) }
 {
     if !is_stamp(scan.stamp) {
-        return Used {
-            store,
-            done: Err(ScanError::Command(CommandError::Met(Fault::Scan(ScanFault::BadStamp)))),
-        };
+        return Err(ScanError::Command(CommandError::Met(Fault::Scan(ScanFault::BadStamp))));
     }
     let from = store.cursor();
-    let mut store = store;
     match store.move_to_end() {
         Ok(()) => put_moved::<D, P, G, T, W>(alloc, links, store, paths, scan, out, from),
-        Err(cause) => Used {
-            store,
-            done: Err(ScanError::Command(CommandError::Store(cause))),
-        },
+        Err(cause) => Err(ScanError::Command(CommandError::Store(cause))),
     }
 }

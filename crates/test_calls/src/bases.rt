@@ -33,7 +33,6 @@ pub(crate) struct Change {
 }
 
 impl Base {
-    /// The base after the change.
     pub(crate) fn changed(&self, alloc: Global, change: &Change) -> Result<Base, AllocError> {
         let mut messages = Vec::new(alloc);
         let mut keys = Vec::new(alloc);
@@ -59,7 +58,6 @@ impl Base {
     }
 }
 
-// Stages messages and keys.
 fn stage<D: Disk>(
     disk: &mut D,
     names: &Names,

@@ -53,11 +53,6 @@ const LINES: &[(Fault<'static>, &str, u8)] = &[
         "echonet: N5 Memory\n",
         3,
     ),
-    (
-        Fault::Nodelist(NodeFault::Write { bytes: 7 }),
-        "echonet: N6 Write bytes 7\n",
-        3,
-    ),
     (Fault::Link(LinkFault::Memory), "echonet: L9 Memory\n", 3),
     (Fault::Base(BaseFault::Read), "echonet: F4 Read\n", 3),
     (

@@ -5,7 +5,7 @@ use Rattle.echo_filed.specs.{Stored.stored_bytes, declared.stored.Version.TheVar
 use Rattle.base_folder.specs.AsFile.{IsMessageFault, IsSendFault}
 use Rattle.base_folder_store.proofs.Causes.{at_error}
 use Rattle.base_folder.proofs.Files.{file_fault, file_sent, head_begun, head_sent, message_begun, message_sent, message_there, messages_begun, there, too_great}
-use Rattle.base_folder.proofs.{Lookings.err_is, Readings.looks_none, Readings.looks_on}
+use Rattle.base_folder.proofs.{Lookings.err_is, Readings.looks_none, Readings.looks_on, Readings.read_more}
 use Rattle.base_folder.specs.declared.send_error.SendError.TheVariants as unsent
 use Rattle.base_folder.proofs.as_file.send_file.Goals as goal
 
@@ -76,8 +76,13 @@ messages-preserved g c = record {
       ∙ ap (λ (n : ℕ). stored_bytes Second (stored_at n i m)) (c.cursor-cursor.ensures base holds) in
       message_sent (g.W.Write.contents c.args.file.now) (g.W.Write.contents c.messages.file) (g.W.Write.contents c.send_bytes-in-messages.new.file) base.cursor i base.messages m c.deref-in-messages.result.now is
       (c.messages.invariant.sent (c.stored_at.ensures.looks.honest honest) base holds) bytes c.in_ok-send_bytes-2.ensures.bytes;
+  since = λ i is. c.messages.invariant.since i (c.stored_at.ensures.legible.since i is);
+  read = read_more (g.M.MessageSource.state c.args.messages.now) (g.M.MessageSource.state c.messages.messages) (g.M.MessageSource.state c.stored_at.new.messages) c.messages.i c.messages.invariant.since c.stored_at.ensures.looks.honest c.messages.invariant.read c.in_ok-bytes.ensures.legible.here;
   failed = c.in_ok-send_bytes-2.ensures.ok ∙ c.messages.invariant.failed;
 }
 
 pub returns-clause-file : goal.returns-clause-file
 returns-clause-file g c = grind (arith, file_sent)
+
+pub returns-clause-whole : goal.returns-clause-whole
+returns-clause-whole g c honest = λ i within. c.messages.invariant.read honest i (omega (arith, within, c.messages-test.false, c.count-count.ensures.count))

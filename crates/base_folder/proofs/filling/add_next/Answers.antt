@@ -18,7 +18,7 @@ returns-in_err-add-in-Some-clause-kept g c =
 pub returns-in_ok-add-in-Some-clause-kept : goal.returns-in_ok-add-in-Some-clause-kept
 returns-in_ok-add-in-Some-clause-kept g c =
     let was = c.in_ok-add-in-Some.ensures in
-    record { adds = record { named = was.kept.named; opened = was.kept.opened; path = was.kept.path; same = was.kept.same; run = was.kept.run }; more = was.more; unread = λ honest. tt }
+    record { adds = record { named = was.kept.named; opened = was.kept.opened; path = was.kept.path; mark = was.kept.mark; same = was.kept.same; run = was.kept.run }; more = was.more; unread = λ honest. tt }
 
 pub returns-in_err-add-in-Some-clause-reads : goal.returns-in_err-add-in-Some-clause-reads
 returns-in_err-add-in-Some-clause-reads g c =

@@ -1,11 +1,12 @@
-use Rattle.std.proofs.Common.{◌≡◌, ◌+◌, ◌∙◌, ℕ, Err, inr, refl, sym, subst, arith}
+use Rattle.std.proofs.Common.{◌≡◌, ◌+◌, ◌∙◌, ℕ, Err, ap, inr, refl, sym, subst, arith}
 use Rattle.std.specs.Prelude.{IsErrOf}
 use Rattle.disk_io.specs.{Disk.Files, Runs.LeavesOnly}
 use Rattle.base_log.specs.Standing.{BaseBytes, Represents}
+use Rattle.base_log.specs.declared.log.CommitRecord.{CommitRecord}
 use Rattle.base_folder_store.specs.{Calls.CommitsOnly, Held.HoldsBase, Held.RepresentsBase, Opened.committed_by, Opened.held_by, Opened.path_of}
 use Rattle.base_store.specs.declared.store_error.StoreError.TheVariants as store
 use Rattle.base_folder_store.proofs.{Causes.handed_on, Causes.on_ok_none, Runs.run_to_commit, Runs.run_twice}
-use Rattle.base_folder.specs.Filled.{HoldsMany, IsUncommitted, RepresentsMany, RepresentsNoneOr, no_messages, unfilled_cause}
+use Rattle.base_folder.specs.Filled.{HasMark, HoldsMany, IsUncommitted, RepresentsMany, RepresentsNoneOr, no_messages, unfilled_cause}
 use Rattle.base_folder.specs.declared.fill_error.FillError.TheVariants as unfilled
 use Rattle.base_folder.proofs.Fillings.{cause_since, cause_stored, fills_before, fills_run, filled_is_kept, many_none, many_stored, reads_folder, uncommitted_added, uncommitted_stored}
 use Rattle.base_folder.proofs.{Lookings.err_is, filling.fill_opened.Goals.After-commit}
@@ -131,3 +132,12 @@ returns-in_err-commit-clause-many g c = λ honest source base holds front is.
 
 pub returns-in_err-add_all-clause-many : goal.returns-in_err-add_all-clause-many
 returns-in_err-add_all-clause-many g c = λ honest source base holds front is. c.in_err-add_all.ensures.many honest source base holds front (handed_on c.in_err-add_all.field-0.0 _ c.from_residual.result c.from_residual.ensures.1 is)
+
+pub returns-clause-marked : goal.returns-clause-marked
+returns-clause-marked g c honest =
+    let path = path_of c.args.folder.now in
+    let k = g.D.Disk.state c.commit.new.disk in
+    let says = c.in_ok-commit.ensures in
+    let adds = c.in_ok-add_all.ensures.kept.adds in
+    filled_is_kept path k c.commit.new.self (HasMark path c.args.folder.now.recorded.mark) (says.stays.path ∙ adds.path) (says.done.settled honest)
+    (λ files is. record { bytes = committed_by k c.commit.new.self; represented = is; is = ap (λ (t : CommitRecord). t.mark) says.done.recorded ∙ says.stays.mark ∙ adds.mark })

@@ -10,3 +10,6 @@ returns-clause-key c = grind (arith, IsClaim, by_claim)
 
 pub returns-clause-kept : goal.returns-clause-kept
 returns-clause-kept c = grind (arith, IsClaim, by_claim)
+
+pub returns-clause-drawn : goal.returns-clause-drawn
+returns-clause-drawn c = grind (arith, IsClaim, by_claim)

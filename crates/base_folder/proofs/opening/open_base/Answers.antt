@@ -1,4 +1,5 @@
-use Rattle.std.proofs.Common.{arith}
+use Rattle.std.proofs.Common.{◌∙◌, ap, sym, arith}
+use Rattle.base_log.specs.declared.log.End.{End}
 use Rattle.base_folder.proofs.{Openings.log_since, Openings.looked_only, Openings.opened_holds, Openings.opened_only, Wrongs.sound_by}
 use Rattle.base_folder.proofs.opening.open_base.Goals as goal
 
@@ -30,4 +31,11 @@ returns-clause-run g c =
     opened_only c.args.path.now (g.D.Disk.state c.args.disk.now) (g.D.Disk.state c.judged.new.disk) (g.D.Disk.state c.open.new.disk) c.in_ok-log.log c.judged.ensures.quiet says.log says.read c.open.ensures.any_moment c.open.ensures.outside
 
 pub returns-clause-sound : goal.returns-clause-sound
-returns-clause-sound g c honest = grind (arith, sound_by)
+returns-clause-sound g c honest =
+    let before = c.open.ensures.outside.honest honest in
+    let folder = c.in_ok-log.ensures.folder before in
+    let says = c.in_ok-folder.ensures in
+    record {
+      sound = sound_by c.args.strange c.args.path.now (g.D.Disk.state c.args.disk.now).seen c.in_ok-log.log.end _ folder (c.in_ok-log.ensures.represented before);
+      log = record { end = c.in_ok-log.log.end; log = folder; is = sym (says.fresh.settled ∙ ap (λ (e : End). e.recorded) says.end) };
+    }

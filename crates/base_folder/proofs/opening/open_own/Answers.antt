@@ -1,4 +1,5 @@
 use Rattle.std.proofs.Common.{refl, arith}
+use Rattle.base_folder_store.proofs.Causes.{on_ok_none}
 use Rattle.base_folder.proofs.Openings.{claimed_committed, claimed_named, claimed_opened, claimed_same, log_since, looked_only, opened_holds, opened_only, other_cause, other_left, other_recorded, recorded_other}
 use Rattle.base_folder.proofs.{Lookings.err_is, Wrongs.sound_by}
 use Rattle.base_folder.proofs.opening.open_own.Goals as goal
@@ -22,6 +23,21 @@ returns-in_err-judge_owner-clause-run g c = looked_only c.args.path.now (g.D.Dis
 
 pub returns-in_err-judge_owner-clause-refused : goal.returns-in_err-judge_owner-clause-refused
 returns-in_err-judge_owner-clause-refused g c = grind (arith, err_is, other_left)
+
+pub returns-in_err-log-clause-sound : goal.returns-in_err-log-clause-sound
+returns-in_err-log-clause-sound g c honest = record { sound = on_ok_none _ _ c.from_residual.result c.from_residual.ensures.1; untouched = λ none. c.judged.ensures.quiet }
+
+pub returns-in_err-judge_owner-clause-sound : goal.returns-in_err-judge_owner-clause-sound
+returns-in_err-judge_owner-clause-sound g c honest = record {
+  sound = on_ok_none _ _ c.from_residual-in_err-judge_owner.result c.from_residual-in_err-judge_owner.ensures.1;
+  untouched = λ none. c.judged.ensures.quiet;
+}
+
+pub returns-in_err-folder-clause-sound : goal.returns-in_err-folder-clause-sound
+returns-in_err-folder-clause-sound g c honest =
+    let before = c.open.ensures.outside.honest honest in
+    let sound = sound_by c.args.strange c.args.path.now (g.D.Disk.state c.args.disk.now).seen c.in_ok-log.log.end _ (c.in_ok-log.ensures.folder before) (c.in_ok-log.ensures.represented before) in
+    record { sound = on_ok_none _ _ c.from_residual-in_err-folder.result c.from_residual-in_err-folder.ensures.1; untouched = λ none. absurd (none sound) }
 
 pub returns-in_err-judge_owner-clause-wrong : goal.returns-in_err-judge_owner-clause-wrong
 returns-in_err-judge_owner-clause-wrong g c = grind (arith, err_is, other_recorded)
@@ -56,7 +72,10 @@ returns-clause-run g c =
     opened_only c.args.path.now (g.D.Disk.state c.args.disk.now) (g.D.Disk.state c.judged.new.disk) (g.D.Disk.state c.open.new.disk) c.in_ok-log.log c.judged.ensures.quiet says.log says.read c.open.ensures.any_moment c.open.ensures.outside
 
 pub returns-clause-sound : goal.returns-clause-sound
-returns-clause-sound g c honest = grind (arith, sound_by)
+returns-clause-sound g c honest =
+    let before = c.open.ensures.outside.honest honest in
+    let sound = sound_by c.args.strange c.args.path.now (g.D.Disk.state c.args.disk.now).seen c.in_ok-log.log.end _ (c.in_ok-log.ensures.folder before) (c.in_ok-log.ensures.represented before) in
+    record { sound = sound; untouched = λ none. absurd (none sound) }
 
 pub returns-clause-other : goal.returns-clause-other
 returns-clause-other g c honest address other =

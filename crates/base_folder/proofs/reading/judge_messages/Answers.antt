@@ -1,6 +1,8 @@
-use Rattle.std.proofs.{Common.arith, lemmas.Bool.cases_lt}
+use Rattle.std.proofs.{Common.◌≡◌, Common.◌<◌, Common.◌≤◌, Common.⊎_elim, Common.ℕ, Common.arith, Common.subst, lemmas.Bool.cases_lt}
+use Rattle.disk_io.proofs.Moments.{nothing_twice}
+use Rattle.base_folder_store.specs.{Opened.held_by, Vouched.IsVouched}
 use Rattle.base_folder_store.proofs.Legible.{held_quiet}
-use Rattle.base_folder.proofs.{Lookings.err_is, Readings.looked_quiet, Readings.not_behind, Readings.not_past}
+use Rattle.base_folder.proofs.{Lookings.err_is, Readings.looked_quiet, Readings.not_behind, Readings.not_past, Readings.vouched_quiet}
 use Rattle.base_folder.proofs.reading.judge_messages.Goals as goal
 
 pub messages-init : goal.messages-init
@@ -10,7 +12,25 @@ pub judge_message-requires-clause-looked : goal.judge_message-requires-clause-lo
 judge_message-requires-clause-looked g c = looked_quiet (g.D.Disk.state c.args.disk.now) (g.D.Disk.state c.messages.disk) c.args.folder.now c.messages.invariant.quiet c.requires
 
 pub messages-preserved : goal.messages-preserved
-messages-preserved g c = grind (arith, held_quiet, cases_lt)
+messages-preserved g c =
+    let keyed = g.H.Digest.keyed in
+    let folder = c.args.folder.now in
+    let d0 = g.D.Disk.state c.args.disk.now in
+    let d1 = g.D.Disk.state c.messages.disk in
+    let inv = c.messages.invariant in
+    let quiet = c.judge_message.ensures.quiet in
+    let i = c.messages.i in
+    record {
+      inside = omega arith;
+      vouched = λ honest j from below.
+          ⊎_elim (λ (e : j < i). inv.vouched (quiet.honest honest) j from e)
+          (λ (e : i ≤ j).
+          let same : i ≡ j = omega (arith, e, below) in
+          subst (λ (n : ℕ). IsVouched keyed (held_by d0 folder) n) same (vouched_quiet keyed d0 d1 folder inv.quiet i (c.in_ok-judge_message.ensures.vouched honest)))
+          (cases_lt j i);
+      quiet = nothing_twice d0 d1 (g.D.Disk.state c.judge_message.new.disk) inv.quiet quiet;
+      cause = omega (arith, inv.cause, c.judge_message.ensures.cause.later);
+    }
 
 pub returns-in_err-judge_message-clause-damaged : goal.returns-in_err-judge_message-clause-damaged
 returns-in_err-judge_message-clause-damaged g c honest = grind (arith, err_is, held_quiet)

@@ -29,3 +29,6 @@ returns-clause-left c = λ s size alone is.
       shorter = subst (λ (l : List ℕ). length l ≤ length (stored_bytes Second s)) (sym bytes) (leaves_less s size alone).less;
       changed = c.in_ok-changed.ensures.changed ∙ ap (λ (x : Filed). not (is_stub x)) read;
     }
+
+pub returns-clause-read : goal.returns-clause-read
+returns-clause-read c = (c.in_ok-message.message, c.in_ok-message.ensures.stored)

@@ -1,6 +1,6 @@
 use Rattle.std.proofs.Common.{◌≤◌, ◌+◌, ◌∙◌, [], ap, arith, length, option_copied, refl, sym}
 use Rattle.std.proofs.{lemmas.List.append-nil, KnownBytes.Appends-nil}
-use Rattle.base_folder.proofs.{Fetchings.unread_since, Lookings.err_is, Readings.looks_on}
+use Rattle.base_folder.proofs.{Fetchings.unread_since, Lookings.err_is, Readings.looks_on, Readings.read_more}
 use Rattle.cmd_numbered.specs.JamAdded.{Added, nothing_added}
 use Rattle.cmd_numbered.proofs.Addings.{at_error, front_of_all, one_added, unadded_here}
 use Rattle.cmd_numbered.proofs.adding.added_of.Goals as goal
@@ -11,6 +11,8 @@ messages-init g c = record {
   many = sym c.count-count.ensures.count;
   honest = λ h. h;
   held = λ base held. held;
+  since = λ i is. is;
+  read = λ honest i less. absurd (omega (arith, less));
   later = omega arith;
   so_far = (
     nothing_added,
@@ -39,7 +41,20 @@ pub returns-clause-looks : goal.returns-clause-looks
 returns-clause-looks g c = record { honest = c.messages.invariant.honest; ready = λ ready. c.messages.invariant.ready; count = c.messages.invariant.many ∙ c.count-count.ensures.count; holds = c.messages.invariant.held }
 
 pub messages-preserved : goal.messages-preserved
-messages-preserved g c = grind (arith, option_copied, one_added)
+messages-preserved g c =
+    let looks = c.fetch_message.ensures.looks in
+    let inv = c.messages.invariant in
+    record {
+      ready = looks.ready inv.ready;
+      many = looks.count ∙ inv.many;
+      honest = λ honest. inv.honest (looks.honest honest);
+      held = λ base held. looks.holds base (inv.held base held);
+      since = λ j is. inv.since j (c.fetch_message.ensures.legible.since j is);
+      read = read_more (g.M.MessageSource.state c.args.messages.now) (g.M.MessageSource.state c.messages.messages) (g.M.MessageSource.state c.fetch_message.new.messages) c.messages.i inv.since looks.honest inv.read c.in_ok-fetch_message.ensures.legible.here;
+      later = omega (arith, inv.later, c.fetch_message.ensures.later);
+      so_far = grind (arith, option_copied, one_added);
+      failed = c.in_ok-add_if_wanted.ensures.ok ∙ inv.failed;
+    }
 
 pub returns-clause-added : goal.returns-clause-added
 returns-clause-added g c = grind arith
@@ -75,3 +90,6 @@ returns-in_err-add_if_wanted-clause-begun g c =
           let is = one_added c.args.area.now jam.headers.now jam.index.now c.args.first i _ jam.end base _ was.0 (c.cursor-cursor.ensures base held) here (was.2 (c.fetch_message.ensures.looks.honest honest) base held) in
           front_of_all c.args.area.now jam.headers.now jam.index.now c.args.first (i + 1) jam.end base begun.passed.went begun.rest within (ap (λ (a : Added). a.texts) (sym is) ∙ begun.passed.whole);
     })
+
+pub returns-clause-whole : goal.returns-clause-whole
+returns-clause-whole g c honest = λ i within. c.messages.invariant.read honest i (omega (arith, within, c.messages-test.false, c.count-count.ensures.count))

@@ -1,6 +1,7 @@
 -- The additions of the messages so far.
-use Rattle.std.proofs.Common.{◌≡◌, ◌≤◌}
+use Rattle.std.proofs.Common.{◌≡◌, ◌≤◌, ℕ}
 use Rattle.base_file.specs.Base.{Base}
+use Rattle.base_folder.specs.Source.{AreLegibleTo}
 use Rattle.cmd_numbered.specs.JamAdded.{Added, HasAdded, added_of}
 use Rattle.cmd_numbered.proofs.adding.added_of.Given as goal
 
@@ -10,6 +11,8 @@ invariant-messages g l = record {
   many : (g.M.MessageSource.state l.messages).count ≡ l.count;
   honest : (g.M.MessageSource.state l.messages).is_honest → (g.M.MessageSource.state l.fn.messages).is_honest;
   held : (base : Base) → (g.M.MessageSource.state l.fn.messages).holds base → (g.M.MessageSource.state l.messages).holds base;
+  since : (i : ℕ) → (g.M.MessageSource.state l.messages).legible i → (g.M.MessageSource.state l.fn.messages).legible i;
+  read : (g.M.MessageSource.state l.messages).is_honest → AreLegibleTo (g.M.MessageSource.state l.fn.messages) l.i;
   later : (g.M.MessageSource.state l.fn.messages).failures ≤ (g.M.MessageSource.state l.messages).failures;
   so_far : (added : Added) × HasAdded l.adding (g.W.Write.contents l.fn.texts) (g.W.Write.contents l.texts) added
       × ((g.M.MessageSource.state l.messages).is_honest → (base : Base) → (g.M.MessageSource.state l.fn.messages).holds base

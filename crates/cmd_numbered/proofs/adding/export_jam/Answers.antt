@@ -15,3 +15,6 @@ returns-in_err-adding-clause-begun g c =
     let jam = c.args.jam in
     at_error c.from_residual-in_err-adding.result
     (grind arith)
+
+pub returns-clause-whole : goal.returns-clause-whole
+returns-clause-whole g c honest = c.in_ok-from.ensures.whole (c.added_of.ensures.looks.honest honest)

@@ -1,5 +1,5 @@
 use Rattle.std.proofs.Common.{◌≡◌, ◌∙◌, ◌+◌, ℕ, Bool, List, Option, add-one, ap, arith, option_copied, slice_get}
-use Rattle.base_folder.proofs.{Fetchings.unread_since, Lookings.err_is, Readings.looks_on}
+use Rattle.base_folder.proofs.{Fetchings.unread_since, Lookings.err_is, Readings.looks_on, Readings.read_more}
 use Rattle.std.specs.Prelude.{if◌then◌else◌}
 use Rattle.echo_filed.specs.Filed.{Filed}
 use Rattle.cmd_numbered.specs.Numbered.{is_last, resumed}
@@ -33,7 +33,22 @@ pub returns-clause-looks : goal.returns-clause-looks
 returns-clause-looks g c = record { honest = c.messages.invariant.honest; ready = λ ready. c.messages.invariant.ready; count = c.messages.invariant.many ∙ c.count-count.ensures.count; holds = c.messages.invariant.held }
 
 pub messages-preserved : goal.messages-preserved
-messages-preserved g c = grind (arith, one_more, option_copied)
+messages-preserved g c =
+    let looks = c.fetch_message.ensures.looks in
+    let inv = c.messages.invariant in
+    record {
+      ready = looks.ready inv.ready;
+      many = looks.count ∙ inv.many;
+      honest = λ honest. inv.honest (looks.honest honest);
+      held = λ base held. looks.holds base (inv.held base held);
+      since = λ j is. inv.since j (c.fetch_message.ensures.legible.since j is);
+      read = read_more (g.M.MessageSource.state c.args.messages.now) (g.M.MessageSource.state c.messages.messages) (g.M.MessageSource.state c.fetch_message.new.messages) c.messages.i inv.since looks.honest inv.read c.in_ok-fetch_message.ensures.legible.here;
+      later = omega (arith, inv.later, c.fetch_message.ensures.later);
+      so_far = grind (arith, one_more, option_copied);
+    }
 
 pub returns-clause-from : goal.returns-clause-from
 returns-clause-from g c = grind (arith, option_copied)
+
+pub returns-clause-whole : goal.returns-clause-whole
+returns-clause-whole g c honest = λ i within. c.messages.invariant.read honest i (omega (arith, within, c.messages-test.false, c.count-count.ensures.count))

@@ -6,4 +6,4 @@ pub returns : goal.returns
 returns g c =
     let base = c.in_ok-messages.messages.base in
     of_base_file c.args.links c.args.asked.stamp c.args.asked.area.now c.args.asked.to c.args.asked.first _ c.args.base.now base c.resend_of.result c.in_ok-messages.ensures.ok
-    (c.resend_of.ensures tt base (refl, refl))
+    (c.resend_of.ensures.made tt base (refl, refl))

@@ -1,5 +1,4 @@
-use Rattle.std.proofs.Common.{ap, codes, length, sym, ◌++◌, ◌∙◌}
-use Rattle.std.proofs.lemmas.{Bool.eqb-true, List.append-nil}
+use Rattle.std.proofs.{Common.ap, Common.codes, Common.length, Common.sym, Common.◌++◌, Common.◌∙◌, lemmas.Bool.eqb-true, lemmas.List.append-nil}
 use Rattle.std.specs.List.{flat_map}
 use Rattle.echo_text.proofs.TextLines.{no_lines}
 use Rattle.echo_charset.specs.Escaped.{escaped_line}

@@ -1,9 +1,18 @@
--- The source is ready for the next message.
-use Rattle.std.proofs.Common.{◌≡◌}
+-- The ids of the messages so far are gathered.
+use Rattle.std.proofs.Common.{ℕ, ◌≡◌, ◌≤◌, length, take}
+use Rattle.base_file.specs.Base.{Base}
+use Rattle.base_folder.specs.Source.{AreLegibleTo}
+use Rattle.cmd_repair.specs.IdsListed.{Gathers, area_ids, area_messages}
 use Rattle.cmd_repair.proofs.gathering.gather_ids.Given as goal
 
 abbrev pub invariant-messages : goal.invariant-messages
 invariant-messages g l = record {
   ready : (g.M.MessageSource.state l.messages).is_ready;
   many : (g.M.MessageSource.state l.messages).count ≡ l.count;
+  holds : (base : Base) → (g.M.MessageSource.state l.fn.messages).holds base → (g.M.MessageSource.state l.messages).holds base;
+  since : (i : ℕ) → (g.M.MessageSource.state l.messages).legible i → (g.M.MessageSource.state l.fn.messages).legible i;
+  read : (g.M.MessageSource.state l.messages).is_honest → AreLegibleTo (g.M.MessageSource.state l.fn.messages) l.i;
+  later : (g.M.MessageSource.state l.fn.messages).failures ≤ (g.M.MessageSource.state l.messages).failures;
+  so_far : (g.M.MessageSource.state l.messages).is_honest → (base : Base) → (g.M.MessageSource.state l.fn.messages).holds base
+      → Gathers (area_ids l.area (take l.i base.messages)) (length (area_messages l.area (take l.i base.messages))) l.gathered.bytes.items l.gathered.lengths.items l.gathered.messages;
 }

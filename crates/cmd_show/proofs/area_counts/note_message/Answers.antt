@@ -15,7 +15,6 @@ counted_more-after-requires-clause-waiting c = grind arith
 pub counted_more-after-requires-clause-purged : goal.counted_more-after-requires-clause-purged
 counted_more-after-requires-clause-purged c = grind arith
 
--- no message has this number
 pub returns-in_default-clause-counts : goal.returns-in_default-clause-counts
 returns-in_default-clause-counts c = λ base reported inside have.
     absurd (some_there base c.args.i inside (sym (ap option_copied c.in_default.is) ∙ reported))

@@ -1,5 +1,4 @@
-use Rattle.std.proofs.Common.{ap, append-nil, append_assoc, arith, length, ⊎_elim}
-use Rattle.std.proofs.lemmas.{Bool.cases_lt, Bool.true≢false, List.nil_from_length}
+use Rattle.std.proofs.{Common.ap, Common.append-nil, Common.append_assoc, Common.arith, Common.length, Common.⊎_elim, lemmas.Bool.cases_lt, lemmas.Bool.true≢false, lemmas.List.nil_from_length}
 use Rattle.cmd_show.proofs.area_counts.push_counts.Goals as goal
 
 pub areas-smaller : goal.areas-smaller

@@ -1,5 +1,4 @@
-use Rattle.std.proofs.Common.{◌∙◌, false, arith, length, sym}
-use Rattle.std.proofs.lemmas.{Bool.eqb-true, List.drop_all}
+use Rattle.std.proofs.{Common.◌∙◌, Common.false, Common.arith, Common.length, Common.sym, lemmas.Bool.eqb-true, lemmas.List.drop_all}
 use Rattle.cmd_show.proofs.Reported.{all_reported, none_reported, one_reported}
 use Rattle.cmd_show.proofs.before.faulty_lines.Goals as goal
 

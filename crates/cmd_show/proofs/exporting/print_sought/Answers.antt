@@ -1,7 +1,6 @@
 use Rattle.std.proofs.Common.{◌∙◌, ◌≤◌, ◌+◌, length, option_copied, arith}
 use Rattle.base_folder.proofs.{Lookings.err_is, Readings.not_behind, Readings.not_past}
-use Rattle.cmd_show.proofs.Exportings.{begun_before, none_counted, printed_none, sought_begun, sought_counted, sought_printed}
-use Rattle.cmd_show.proofs.Fetchings.{stops_reading}
+use Rattle.cmd_show.proofs.{Exportings.begun_before, Exportings.none_counted, Exportings.printed_none, Exportings.sought_begun, Exportings.sought_counted, Exportings.sought_printed, Fetchings.stops_reading}
 use Rattle.cmd_show.proofs.exporting.print_sought.Goals as goal
 use Rattle.base_folder_store.proofs.Causes.{at_error}
 

@@ -1,5 +1,4 @@
-use Rattle.std.proofs.Common.{◌∙◌, ◌++◌, ℕ, ap, option_copied, arith}
-use Rattle.std.proofs.lemmas.Result.{err_from_is_err_and}
+use Rattle.std.proofs.{Common.◌∙◌, Common.◌++◌, Common.ℕ, Common.ap, Common.option_copied, Common.arith, lemmas.Result.err_from_is_err_and}
 use Rattle.cmd_print.specs.BaseListed.{total_text}
 use Rattle.cmd_status.specs.Devices.{output_of}
 use Rattle.cmd_status.proofs.Lines.{none_begun}

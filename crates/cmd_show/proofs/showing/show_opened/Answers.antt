@@ -1,5 +1,4 @@
-use Rattle.std.proofs.Common.{◌+◌, ◌++◌, ◌∷◌, [], refl, ◌∙◌, arith}
-use Rattle.std.proofs.lemmas.Result.{err_from_is_err_and}
+use Rattle.std.proofs.{Common.◌+◌, Common.◌++◌, Common.◌∷◌, Common.[], Common.refl, Common.◌∙◌, Common.arith, lemmas.Result.err_from_is_err_and}
 use Rattle.echo_packet.specs.Header.{header_bytes}
 use Rattle.echo_packet.proofs.Slices.{slice-opens, slice-gives, slice-ends}
 use Rattle.cmd_status.specs.{Devices.output_of, Limits.show_limits}

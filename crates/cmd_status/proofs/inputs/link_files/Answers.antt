@@ -1,5 +1,4 @@
-use Rattle.std.proofs.Common.{List, take, ◌+◌, sym, subst}
-use Rattle.std.proofs.lemmas.Result.{err_from_is_err_and}
+use Rattle.std.proofs.{Common.List, Common.take, Common.◌+◌, Common.sym, Common.subst, lemmas.Result.err_from_is_err_and}
 use Rattle.echo_links.specs.Links.{LinkFile}
 use Rattle.cmd_status.specs.Inputs.{AreLinkFiles}
 use Rattle.cmd_status.proofs.Giving.{link_refused, read_more}

@@ -1,5 +1,4 @@
-use Rattle.std.proofs.Common.{◌∙◌, ◌+◌, ap, arith, refl}
-use Rattle.std.proofs.lemmas.Result.{err_from_is_err_and}
+use Rattle.std.proofs.{Common.◌∙◌, Common.◌+◌, Common.ap, Common.arith, Common.refl, lemmas.Result.err_from_is_err_and}
 use Rattle.base_store.proofs.Runs.{commits_none, goes_on_twice}
 use Rattle.model_steps.specs.Tossing.{tossing}
 use Rattle.echo_toss.specs.{Stores.and_filed, Tallies.all_counted}

@@ -1,7 +1,7 @@
 use Rattle.std.proofs.Common.{◌<◌, ◌∙◌, get_or, inr, ⊎_elim, length, arith}
 use Rattle.std.proofs.lemmas.Bool.{and_parts}
-use Rattle.disk_atomic.specs.{Naming.HasItsPath, Naming.Names, Naming.NamesEach, Naming.IsWholeAtEither, Outgoing.AreApart, Outgoing.IsOfOne, Outgoing.IsStaged, Outgoing.staged_in}
-use Rattle.disk_atomic.proofs.Anchors.{anchor_stays, anchored_now, has_path, has_path_stays, IsAnchored, IsSameAt, same_stays, staged_stays, whole_now, whole_stays}
+use Rattle.disk_atomic.specs.{Naming.HasItsPath, Naming.KeepsPath, Naming.Names, Naming.NamesEach, Naming.IsWholeAtEither, Outgoing.AreApart, Outgoing.IsOfOne, Outgoing.IsStaged, Outgoing.staged_in}
+use Rattle.disk_atomic.proofs.Anchors.{anchor_stays, anchored_now, has_path, has_path_stays, IsAnchored, IsSameAt, path_now, path_stays, same_stays, staged_stays, whole_now, whole_stays}
 use Rattle.disk_atomic.proofs.Each.{ahead, among, behind, each, here}
 use Rattle.disk_atomic.proofs.{Changes.then_only, Changes.then_steps, Packets.apart_back, Packets.nobody, Packets.of_one, Whole.none_is_not_there, Whole.one_false}
 use Rattle.disk_atomic.proofs.naming.name_packets.Goals as goal
@@ -80,5 +80,6 @@ packets-preserved g c =
           behind AreApart apart_back packets pairs i z lt (HasItsPath of d) (HasItsPath of e) (λ y apart. has_path_stays of x y apart d e one) (has_path of x d e staged.file (moved honest both.1)) (inv.named (one.honest honest) both.0);
       taken = λ honest is free.
           ⊎_elim (λ no. inv.taken (one.honest honest) no free) (λ no. none_is_not_there (d.seen x.path.now) (was ∙ free i z lt) (taken honest no).there) (one_false c.packets.all c.in_ok-all.field-0 is);
+      kept = λ honest. behind AreApart apart_back packets pairs i z lt (KeepsPath d0 d) (KeepsPath d0 e) (λ y apart. path_stays of x y apart d e one d0) (path_now x d0 d e was (now.over_none honest)) (inv.kept (one.honest honest));
       cause = omega (arith, c.name_packet.ensures.cause.later, inv.cause);
     }

@@ -1,5 +1,4 @@
-use Rattle.std.proofs.Common.{◌∙◌, refl, ap, length, arith, length-drop}
-use Rattle.std.proofs.{lemmas.List.take_rest, KnownBytes.Appends-nil}
+use Rattle.std.proofs.{Common.◌∙◌, Common.refl, Common.ap, Common.length, Common.arith, Common.length-drop, lemmas.List.take_rest, KnownBytes.Appends-nil}
 use Rattle.disk_io.proofs.Moving.{Appends-more_of}
 use Rattle.disk_io.proofs.sink.send.Goals as goal
 

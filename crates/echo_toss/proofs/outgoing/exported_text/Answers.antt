@@ -1,4 +1,4 @@
-use Rattle.std.proofs.Common.{◌++◌, ◌∷◌, [], List, AllPairs, ap, sym, subst, ◌∙◌, arith}
+use Rattle.std.proofs.Common.{List, AllPairs, ap, sym, subst, ◌∙◌, arith}
 use Rattle.echo_addr.specs.{declared.address.NetNode.NetNode, Address.net_node_of, ShortLines.ComesBefore}
 use Rattle.echo_text.specs.Echo.{EchoText, IsEcho}
 use Rattle.model_steps.proofs.Copies.{exported_is_echo}
@@ -11,10 +11,10 @@ write_parts-requires c =
     let view = c.echo.view_is in
     let is =
     exported_made c.args.links.now c.args.echo.now c.net_node-own.result c.links_of-all.result.now c.as_slice-tag.result.now c.echo.inside.kept
-    c.as_slice.result.now c.in_ok-seen.seen c.as_slice-2.result.now c.push.new.self.items
+    c.as_slice.result.now c.in_ok-seen.seen c.as_slice-2.result.now c.in_ok-path.path.items
     (c.net_node-own.ensures ∙ ap net_node_of c.system.ensures.own) c.links_of-all.ensures (c.as_slice-tag.ensures ∙ ap (λ (x : EchoText). x.tag) view)
     (ap (λ (x : EchoText). x.kept) view) (c.as_slice.ensures ∙ ap (λ (x : EchoText). x.seen) view) c.in_ok-seen.ensures
-    (c.as_slice-2.ensures ∙ ap (λ (x : EchoText). x.path) view) (c.in_ok-push.ensures.items ∙ ap (λ (l : List NetNode). l ++ c.net_node-own.result ∷ []) c.in_ok-path.ensures.items)
+    (c.as_slice-2.ensures ∙ ap (λ (x : EchoText). x.path) view) c.in_ok-path.ensures
     in
     let made = subst IsEcho (sym is) (exported_is_echo c.args.links.now c.system.ensures.file c.args.echo.now (subst IsEcho view c.echo.invariant)) in
     let P : List NetNode → Type 0 = AllPairs ComesBefore in
@@ -28,7 +28,7 @@ returns-clause-text c =
     c.as_slice.result.now c.as_slice-3.result.now c.as_slice-2.result.now c.deref.result.now
     (c.net_node-own.ensures ∙ ap net_node_of c.system.ensures.own) c.links_of-all.ensures (c.as_slice-tag.ensures ∙ ap (λ (x : EchoText). x.tag) view)
     (ap (λ (x : EchoText). x.kept) view) (c.as_slice.ensures ∙ ap (λ (x : EchoText). x.seen) view) (c.as_slice-3.ensures ∙ c.in_ok-seen.ensures)
-    (c.as_slice-2.ensures ∙ ap (λ (x : EchoText). x.path) view) (c.deref.ensures.value ∙ c.in_ok-push.ensures.items ∙ ap (λ (l : List NetNode). l ++ c.net_node-own.result ∷ []) c.in_ok-path.ensures.items)
+    (c.as_slice-2.ensures ∙ ap (λ (x : EchoText). x.path) view) (c.deref.ensures.value ∙ c.in_ok-path.ensures)
     in
     grind (arith, exported_is_echo c.args.links.now c.system.ensures.file c.args.echo.now (subst IsEcho view c.echo.invariant), written_is)
 

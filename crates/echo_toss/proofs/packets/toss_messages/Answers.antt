@@ -1,10 +1,8 @@
-use Rattle.std.proofs.Common.{◌∙◌, ◌+◌, ap, arith, refl}
-use Rattle.std.proofs.lemmas.Result.{err_from_is_err_and}
+use Rattle.std.proofs.{Common.◌∙◌, Common.◌+◌, Common.ap, Common.arith, Common.refl, lemmas.Result.err_from_is_err_and}
 use Rattle.base_store.proofs.Runs.{commits_none, goes_on_twice}
 use Rattle.model_steps.specs.Tossing.{toss_outcome, tossing}
 use Rattle.echo_toss.specs.{Tallies.all_counted, Tallies.tally_with, Stores.and_filed}
-use Rattle.echo_toss.proofs.PacketsIn.{all_counted-tally_with, begun, read_all, read_faulty, read_so_far}
-use Rattle.echo_toss.proofs.{Bounds.handed_many, Bounds.past_after, Bounds.past_wider, PacketTosses.one_more_taken}
+use Rattle.echo_toss.proofs.{PacketsIn.all_counted-tally_with, PacketsIn.begun, PacketsIn.read_all, PacketsIn.read_faulty, PacketsIn.read_so_far, Bounds.handed_many, Bounds.past_after, Bounds.past_wider, PacketTosses.one_more_taken}
 use Rattle.echo_toss.proofs.packets.toss_messages.Goals as goal
 
 pub messages-init : goal.messages-init

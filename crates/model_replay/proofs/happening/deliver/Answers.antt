@@ -1,5 +1,4 @@
-use Rattle.std.proofs.Common.{false, ◌≡◌, ◌∙◌, Some, sym, ap, subst}
-use Rattle.std.proofs.lemmas.Result.{on_ok_weaker}
+use Rattle.std.proofs.{Common.false, Common.◌≡◌, Common.◌∙◌, Common.Some, Common.sym, Common.ap, Common.subst, lemmas.Result.on_ok_weaker}
 use Rattle.model_run.specs.Run.{destination, nth}
 use Rattle.model_replay.specs.Worlds.{Exported, WorldState, own_addresses, encoded}
 use Rattle.model_replay.proofs.{Changes.read-nth, Runs.led-nowhere, Runs.led-to}

@@ -1,5 +1,4 @@
-use Rattle.std.proofs.Common.{◌≡◌, ◌∙◌, List, ℕ, Result, Ok, Err, sym, ap, subst}
-use Rattle.std.proofs.lemmas.Result.{on_ok_weaker}
+use Rattle.std.proofs.{Common.◌≡◌, Common.◌∙◌, Common.List, Common.ℕ, Common.Result, Common.Ok, Common.Err, Common.sym, Common.ap, Common.subst, lemmas.Result.on_ok_weaker}
 use Rattle.std.specs.Prelude.{OnOk}
 use Rattle.model_run.specs.{Event.run_event, declared.event.Event.Event, Run.Run, Run.after_event}
 use Rattle.model_run.specs.declared.event.Event.TheVariants as event
@@ -7,12 +6,10 @@ use Rattle.model_replay.specs.Worlds.{IsWorldOf, WorldState, after_posting, with
 use Rattle.model_replay.proofs.{Deliveries.delivery-run, Runs.posted-run, Runs.purged-run, Runs.scanned-run}
 use Rattle.model_replay.proofs.happening.happen.Goals as goal
 
--- two facts of one answer
 both_ok : {A E : Type 0} (P Q : Type 0) (r : Result A E) → OnOk r P → OnOk r Q → OnOk r (P × Q)
 both_ok P Q (Ok x) p q = (p, q)
 both_ok P Q (Err e) p q = tt
 
--- the world after the named event is that of the run
 known : (world : WorldState) (run : Run) (event named : Event) → event ≡ named → IsWorldOf world (after_event run (run_event named)) → IsWorldOf world (after_event run (run_event event))
 known world run event named e = subst (λ (x : Event). IsWorldOf world (after_event run (run_event x))) (sym e)
 

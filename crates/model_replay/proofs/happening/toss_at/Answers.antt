@@ -13,7 +13,6 @@ either : (b : Bool) (own zone : ℕ) → zone ≡ own → cond b own zone ≡ ow
 either true own zone e = refl
 either false own zone e = e
 
--- a packet for the system itself, even if its zone is 0
 for_us : (file : LinkFile) (p : Packet) → destination p ≡ file.system → destination_of file p.header ≡ file.system
 for_us file p e = grind (arith, either)
 

@@ -5,7 +5,6 @@ use Rattle.model_steps.specs.SystemState.{SystemState}
 use Rattle.model_replay.specs.Worlds.{state_of}
 use Rattle.model_replay.proofs.laws.replay_laws.Goals as goal
 
--- a state among those of systems is that of one of them
 owner : (s : SystemState) (zs : List System) → Among s (map state_of zs) → (z : System) × Among z zs × (s ≡ state_of z)
 owner s [] among = absurd among
 owner s (z ∷ zs) (inl e) = (z, inl refl, e)

@@ -1,5 +1,4 @@
-use Rattle.std.proofs.Common.{◌∙◌, List, [], map, take, sym, ap, subst, arith}
-use Rattle.std.proofs.lemmas.List.{take_all}
+use Rattle.std.proofs.{Common.◌∙◌, Common.List, Common.[], Common.map, Common.take, Common.sym, Common.ap, Common.subst, Common.arith, lemmas.List.take_all}
 use Rattle.echo_addr.specs.declared.address.Address.{Address}
 use Rattle.model_run.specs.{Event.run_event, Run.Run, Run.run_of}
 use Rattle.model_replay.specs.Worlds.{IsWorldOf, LeadsToFirst, WorldState, own_addresses}

@@ -1,5 +1,4 @@
-use Rattle.std.proofs.Common.{◌∙◌, ◌+◌, ap, arith, refl}
-use Rattle.std.proofs.lemmas.List.{take_all}
+use Rattle.std.proofs.{Common.◌∙◌, Common.◌+◌, Common.ap, Common.arith, Common.refl, lemmas.List.take_all}
 use Rattle.echo_links.specs.LinkLines.{file_of}
 use Rattle.model_why.proofs.OfBytes.{read_more}
 use Rattle.model_why.proofs.sources.read_files.Goals as goal

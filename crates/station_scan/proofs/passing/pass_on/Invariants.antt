@@ -7,9 +7,9 @@ use Rattle.station_scan.proofs.passing.pass_on.Given as goal
 
 abbrev pub invariant-groups : goal.invariant-groups
 invariant-groups g l = record {
-  passing : IsPassing (g.P.Paths.OwnPaths.is_own l.paths) l.sending (g.P.Kept.Store.state l.fn.store) (g.P.Kept.Store.state l.store) l.packets.items l.at;
-  count : Honestly (g.P.Kept.Store.state l.store).disk ((base : Base) → (g.P.Kept.Store.state l.store).keeps base → l.end ≡ length base.messages);
-  later : g.P.Kept.Store.failures l.fn.store ≤ g.P.Kept.Store.failures l.store;
+  passing : IsPassing (g.P.Paths.OwnPaths.is_own l.paths) l.sending (g.P.Kept.Store.state l.fn.store.store) (g.P.Kept.Store.state l.store.store) l.packets.items l.at;
+  count : Honestly (g.P.Kept.Store.state l.store.store).disk ((base : Base) → (g.P.Kept.Store.state l.store.store).keeps base → l.end ≡ length base.messages);
+  later : g.P.Kept.Store.failures l.fn.store.store ≤ g.P.Kept.Store.failures l.store.store;
 }
 
 abbrev pub decreases-groups : goal.decreases-groups

@@ -13,22 +13,22 @@ returns-in-Ok-prepare-clause-runs g c = λ honest.
     let d2 = g.D.Disk.state c.into_disk-disk.result in
     let s0 = g.P.Kept.Store.state c.in-Ok.opened.kept in
     let s1 = g.P.Kept.Store.state c.prepare.new.store in
-    let s2 = g.P.Kept.Store.state c.scan_kept-store.result.store in
+    let s2 = g.P.Kept.Store.state c.scan_kept-done.new.store.store in
     let place = g.P.OpenStation.place c.args.station in
     let opened = c.in-Ok.ensures.opened in
     let looked = c.prepare.ensures in
-    let did = c.scan_kept-store.ensures in
+    let did = c.scan_kept-done.ensures in
     let quiet = c.into_disk-disk.ensures.quiet in
     let honest2 = quiet.honest honest in
     let honest1 = did.keeps.keeps.honest honest2 in
     let honest0 = looked.looks.quiet.honest honest1 in
     let begun = looks_open place d0 s0 s1 looked.looks (opened.begun honest0) in
     let of = looks_of place d0 s0 s1 looked.looks opened.of_place in
-    let own = c.paths-paths.ensures in
+    let own = c.paths-paths.ensures.own in
     let f0 = g.D.Disk.failures c.args.disk in
     let f1 = g.P.Kept.Store.failures c.in-Ok.opened.kept in
     let f2 = g.P.Kept.Store.failures c.prepare.new.store in
-    let f3 = g.P.Kept.Store.failures c.scan_kept-store.result.store in
+    let f3 = g.P.Kept.Store.failures c.scan_kept-done.new.store.store in
     let f4 = g.D.Disk.failures c.into_disk-disk.result in
     let first : f0 ≤ f1 = opened.later in
     let second : f1 ≤ f2 = looked.later in
@@ -38,15 +38,15 @@ returns-in-Ok-prepare-clause-runs g c = λ honest.
     let l1 = g.L.FileLock.failures c.open.new.locks.links in
     let k0 = g.K.FileLock.failures c.args.locks.now.base in
     let k1 = g.K.FileLock.failures c.open.new.locks.base in
-    let listed = Failed (g.G.ListStaged.failures c.args.scan.now.listing) (g.G.ListStaged.failures c.scan_kept-store.new.scan.listing) in
+    let listed = Failed (g.G.ListStaged.failures c.args.scan.now.listing) (g.G.ListStaged.failures c.scan_kept-done.new.scan.listing) in
     let out = output_of g.W.Write.contents g.W.Sink.failures g.W.Sink.holds c.args.out.now in
-    let now = output_of g.W.Write.contents g.W.Sink.failures g.W.Sink.holds c.scan_kept-store.new.out in
+    let now = output_of g.W.Write.contents g.W.Sink.failures g.W.Sink.holds c.scan_kept-done.new.out in
     inl (record {
       file = c.in-Ok.opened.links;
       read = opened.read honest0;
       runs = λ base represented.
           scanned_on place d0 d2 s1 s2 begun of quiet (g.P.Paths.OwnPaths.is_own c.paths-paths.result) (λ m o. (own m).0 o) (λ m o. (own m).1 o) c.args.scan.now.outbound.now c.args.scan.now.stamp
-          (g.G.ListStaged.is_true c.scan_kept-store.new.scan.listing) (Failed f2 f3 ⊎ listed) (HaveFailed f0 f4 l0 l1 k0 k1 ⊎ listed) out now c.in-Ok.opened.links base c.scan_kept-store.result.done represented (failed_too (Failed f2 f3) (Failed f0 f4) (Failed l0 l1 ⊎ Failed k0 k1) listed wider)
+          (g.G.ListStaged.is_true c.scan_kept-done.new.scan.listing) (Failed f2 f3 ⊎ listed) (HaveFailed f0 f4 l0 l1 k0 k1 ⊎ listed) out now c.in-Ok.opened.links base c.scan_kept-done.result represented (failed_too (Failed f2 f3) (Failed f0 f4) (Failed l0 l1 ⊎ Failed k0 k1) listed wider)
           (did.scans honest2 base (begun.keeps base represented) (begun.committed base represented));
       cause = λ is. inl (inl (wider (did.device is)));
     })
@@ -57,19 +57,19 @@ returns-in-Ok-prepare-clause-tried g c = λ honest.
     let d2 = g.D.Disk.state c.into_disk-disk.result in
     let s0 = g.P.Kept.Store.state c.in-Ok.opened.kept in
     let s1 = g.P.Kept.Store.state c.prepare.new.store in
-    let s2 = g.P.Kept.Store.state c.scan_kept-store.result.store in
+    let s2 = g.P.Kept.Store.state c.scan_kept-done.new.store.store in
     let place = g.P.OpenStation.place c.args.station in
     let opened = c.in-Ok.ensures.opened in
     let looks = c.prepare.ensures.looks in
-    let did = c.scan_kept-store.ensures in
+    let did = c.scan_kept-done.ensures in
     let quiet = c.into_disk-disk.ensures.quiet in
     let honest2 = quiet.honest honest in
     let honest0 = looks.quiet.honest (did.keeps.keeps.honest honest2) in
     let begun = looks_open place d0 s0 s1 looks (opened.begun honest0) in
     let out = output_of g.W.Write.contents g.W.Sink.failures g.W.Sink.holds c.args.out.now in
-    let now = output_of g.W.Write.contents g.W.Sink.failures g.W.Sink.holds c.scan_kept-store.new.out in
+    let now = output_of g.W.Write.contents g.W.Sink.failures g.W.Sink.holds c.scan_kept-done.new.out in
     scan_tries g.D.Disk.state c.args.scan.now.stamp place c.args.scan.now.outbound.now (g.P.OpenStation.reads c.args.station d0) d0 d2 s1 s2 (looks_of place d0 s0 s1 looks opened.of_place) quiet did.keeps.same honest2
-    (g.P.Paths.OwnPaths.is_own c.paths-paths.result) out now c.in-Ok.opened.links (opened.read honest0) c.scan_kept-store.result.done
+    (g.P.Paths.OwnPaths.is_own c.paths-paths.result) out now c.in-Ok.opened.links (opened.read honest0) c.scan_kept-done.result
     (λ base represented. did.tried honest2 base (begun.keeps base represented) (begun.committed base represented))
 
 pub returns-in-Ok-prepare-clause-many : goal.returns-in-Ok-prepare-clause-many
@@ -82,8 +82,8 @@ returns-in-Ok-prepare-clause-keeps g c =
     let s0 = g.P.Kept.Store.state c.in-Ok.opened.kept in
     let s1 = g.P.Kept.Store.state c.prepare.new.store in
     let place = g.P.OpenStation.place c.args.station in
-    scan_keeps place c.args.scan.now.outbound.now d0 d2 s1 (g.P.Kept.Store.state c.scan_kept-store.result.store) (looks_of place d0 s0 s1 c.prepare.ensures.looks c.in-Ok.ensures.opened.of_place)
-    c.into_disk-disk.ensures.quiet c.scan_kept-store.ensures.keeps
+    scan_keeps place c.args.scan.now.outbound.now d0 d2 s1 (g.P.Kept.Store.state c.scan_kept-done.new.store.store) (looks_of place d0 s0 s1 c.prepare.ensures.looks c.in-Ok.ensures.opened.of_place)
+    c.into_disk-disk.ensures.quiet c.scan_kept-done.ensures.keeps
 
 pub returns-in-Ok-clause-runs : goal.returns-in-Ok-clause-runs
 returns-in-Ok-clause-runs g c = λ honest.

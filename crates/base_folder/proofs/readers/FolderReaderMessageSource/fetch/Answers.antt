@@ -2,8 +2,8 @@ use Rattle.std.proofs.Common.{◌≡◌, ◌∙◌, ◌<◌, length, sym, arith}
 use Rattle.std.specs.Prelude.{slice_get}
 use Rattle.echo_filed.specs.{Filed.Filed, Stored.message_in, declared.stored.Version.TheVariants.Second}
 use Rattle.base_folder_store.specs.Opened.{held_by}
-use Rattle.base_folder_store.proofs.{Causes.answers_error, Seen.message_at}
-use Rattle.base_folder.proofs.Readings.{looked_quiet, read_at, sees_quiet}
+use Rattle.base_folder_store.proofs.{Causes.answers_error, Causes.on_ok_none, Seen.message_at}
+use Rattle.base_folder.proofs.Readings.{looked_quiet, read_at, sees_quiet, vouched_quiet}
 use Rattle.base_folder.proofs.readers.FolderReaderMessageSource.fetch.Goals as goal
 
 pub read_vouched-requires-clause-legible : goal.read_vouched-requires-clause-legible
@@ -32,3 +32,15 @@ returns-in_err-message-clause-looks g c = grind (arith, looked_quiet, sees_quiet
 
 pub returns-clause-looks : goal.returns-clause-looks
 returns-clause-looks g c = grind (arith, looked_quiet, sees_quiet)
+
+pub returns-in_err-message-clause-legible : goal.returns-in_err-message-clause-legible
+returns-in_err-message-clause-legible g c = record {
+  here = λ honest. on_ok_none _ _ c.from_residual.result c.from_residual.ensures.1;
+  since = vouched_quiet g.H.Digest.keyed (g.D.Disk.state c.args.self.now.disk) (g.D.Disk.state c.read_vouched.new.disk) c.args.self.now.folder c.read_vouched.ensures.quiet;
+}
+
+pub returns-clause-legible : goal.returns-clause-legible
+returns-clause-legible g c = record {
+  here = λ honest. (c.in_ok-message.ensures.vouched honest).vouched;
+  since = vouched_quiet g.H.Digest.keyed (g.D.Disk.state c.args.self.now.disk) (g.D.Disk.state c.read_vouched.new.disk) c.args.self.now.folder c.read_vouched.ensures.quiet;
+}

@@ -211,7 +211,7 @@ returns-clause-purged g c =
             left =
                 left_more keyed (committed_by d0 f) (held_by d1 n) (held_by d2 c.stage_left.new.self) base place c.in_ok-stored.stored.digest d bytes scanned m.holds was.others.mark m.within was_held.left
                 (scanned_below (g.D.Disk.state c.args.disk.now) c.args.self.now c.args.place keyed base m.holds) stored
-                (c.in_ok-stored.ensures.digest h1 ∙ ap (λ (b : BaseBytes). digest_at b.keys place) (readable_held d0 f (was.readable h0))) more.staged more.fits;
+                ((c.in_ok-stored.ensures.at h1).digest ∙ ap (λ (b : BaseBytes). digest_at b.keys place) (readable_held d0 f (was.readable h0))) more.staged more.fits;
             shorter = λ within. shorter_more base.messages (committed_by d0 f) (held_by d1 n) (held_by d2 c.stage_left.new.self) place c.in_ok-stored.stored.digest bytes at.represented recorded at.has (was_held.shorter m.within) at.shorter more.staged within;
           });
     }

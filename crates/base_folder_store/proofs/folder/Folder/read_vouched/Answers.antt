@@ -3,9 +3,9 @@ use Rattle.std.proofs.lemmas.Bool.{true≢false}
 use Rattle.base_file.specs.Alone.{IsStoredAlone}
 use Rattle.base_store.specs.Keys.{digested}
 use Rattle.echo_filed.specs.{Filed.Filed, Stored.Stored, Stored.message_in, Stored.stored_bytes, declared.stored.Version.TheVariants.Second}
-use Rattle.base_folder_store.specs.{Held.digest_by, Vouched.IsThere}
+use Rattle.base_folder_store.specs.{Held.digest_by, Opened.held_by, Vouched.IsThere}
 use Rattle.base_log.specs.Standing.{BaseBytes}
-use Rattle.base_folder_store.proofs.Causes.{answers_error}
+use Rattle.base_folder_store.proofs.{Causes.answers_error, Vouchings.bytes_there}
 use Rattle.base_folder_store.proofs.folder.Folder.read_vouched.Goals as goal
 
 -- the bytes of an existing message
@@ -23,14 +23,28 @@ returns-then-branch-clause-message g c honest = λ s there has.
     c.in_ok-message.ensures.read (message_in Second s) (alone_there _ _ s _ _ there c.deref.ensures.value (c.in_ok-stored.ensures.there honest s there.stored))
 
 pub returns-then-branch-clause-vouched : goal.returns-then-branch-clause-vouched
-returns-then-branch-clause-vouched g c honest = λ s there.
+returns-then-branch-clause-vouched g c honest =
     let mark = c.args.self.now.recorded.mark in
-    let read = c.in_ok-message.ensures.read (message_in Second s) (alone_there _ _ s _ _ there c.deref.ensures.value (c.in_ok-stored.ensures.there honest s there.stored)) in
-    sym (c.in_ok-stored.ensures.digest honest) ∙ c.in_ok-has_digest.ensures.0 c.if-branch.true ∙ ap (λ (m : Filed). digest_by g.H.Digest.keyed mark (digested m)) read
+    let held = held_by (g.D.Disk.state c.args.disk.now) c.args.self.now in
+    let stored = c.in_ok-stored.ensures.at honest in
+    let alone = c.in_ok-message.ensures.stored in
+    let by = λ (m : Filed). digest_by g.H.Digest.keyed mark (digested m) in
+    record {
+      vouched = record {
+        s = alone.s;
+        there = record {
+          size = alone.size;
+          alone = alone.alone;
+          stored = bytes_there held.messages held.keys c.in_ok-stored.stored.bytes.items c.args.place alone.s stored.bytes (sym c.deref.ensures.value ∙ alone.same);
+        };
+        digest = sym stored.digest ∙ c.in_ok-has_digest.ensures.0 c.if-branch.true ∙ ap by (sym alone.is);
+      };
+      is = alone.is;
+    }
 
 pub returns-clause-message : goal.returns-clause-message
 returns-clause-message g c honest = λ s there has.
     let mark = c.args.self.now.recorded.mark in
     let read = c.in_ok-message.ensures.read (message_in Second s) (alone_there _ _ s _ _ there c.deref.ensures.value (c.in_ok-stored.ensures.there honest s there.stored)) in
-    let is = c.in_ok-stored.ensures.digest honest ∙ has ∙ sym (ap (λ (m : Filed). digest_by g.H.Digest.keyed mark (digested m)) read) in
+    let is = (c.in_ok-stored.ensures.at honest).digest ∙ has ∙ sym (ap (λ (m : Filed). digest_by g.H.Digest.keyed mark (digested m)) read) in
     true≢false (sym (c.in_ok-has_digest.ensures.1 is) ∙ c.if-branch.false)

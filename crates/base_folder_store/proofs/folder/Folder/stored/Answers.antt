@@ -1,9 +1,10 @@
-use Rattle.std.proofs.Common.{◌≡◌, ◌<◌, ◌-◌, ◌/◌, ℕ, length, min, arith}
+use Rattle.std.proofs.Common.{◌≡◌, ◌<◌, ◌-◌, ◌/◌, ℕ, List, length, min, subst, arith}
 use Rattle.std.specs.{Prelude.Vec, declared.alloc.Global.Global}
 use Rattle.base_store.specs.Keys.{HasBytesOf, IsPieceOf}
 use Rattle.echo_filed.specs.{Stored.Stored, Stored.stored_bytes, declared.stored.Version.TheVariants.Second}
-use Rattle.base_folder_store.specs.{Answers.IsStoredOf, Opened.held_by, declared.reading.StoredMessage.StoredMessage}
-use Rattle.base_folder_store.proofs.{Causes.answers_error, Causes.answers_whole, Legible.held_quiet, Legible.keys_all, Numbered.first_digest, Numbered.piece_has}
+use Rattle.base_log.specs.Standing.{BaseBytes}
+use Rattle.base_folder_store.specs.{Answers.IsStoredOf, Opened.held_by, Vouched.AreBytesAt, declared.reading.StoredMessage.StoredMessage}
+use Rattle.base_folder_store.proofs.{Causes.answers_error, Causes.answers_whole, Legible.held_quiet, Legible.keys_all, Numbered.first_digest, Numbered.piece_bytes, Numbered.piece_has}
 use Rattle.base_folder_store.proofs.folder.Folder.stored.Goals.{After-stored_by}
 use Rattle.base_folder_store.proofs.folder.Folder.stored.Given as given
 use Rattle.base_folder_store.proofs.folder.Folder.stored.Goals as goal
@@ -56,5 +57,17 @@ returns-clause-stored g c honest = λ base recorded inside.
 pub returns-clause-there : goal.returns-clause-there
 returns-clause-there g c honest = λ s has. c.in_ok-bytes.ensures.stored honest s (has_entry g (goal.at.returns-clause-there g c).After-stored_by honest s has)
 
-pub returns-clause-digest : goal.returns-clause-digest
-returns-clause-digest g c honest = grind (arith, entry, first_digest)
+pub returns-clause-at : goal.returns-clause-at
+returns-clause-at g c honest =
+    let after = (goal.at.returns-clause-at g c).After-stored_by in
+    let d = g.D.Disk.state c.args.disk.now in
+    let e = g.D.Disk.state c.entry_at.new.disk in
+    let f = c.args.self.now in
+    let h1 = c.stored_by.ensures.quiet.honest honest in
+    let read = entry g after h1 in
+    let held = held_by d f in
+    record {
+      bytes = piece_bytes held.messages held.keys c.deref.result.now c.args.place read.piece read.inside read.two c.in_ok-bytes.bytes.items
+          (subst (λ (b : BaseBytes). AreBytesAt b.messages c.deref.result.now 0 c.in_ok-bytes.bytes.items) (held_quiet d e f c.entry_at.ensures.quiet) (c.in_ok-bytes.ensures.at honest));
+      digest = grind (arith, entry, first_digest);
+    }

@@ -1,5 +1,4 @@
-use Rattle.std.proofs.Common.{IfSome, Ok, Result, subst, arith}
-use Rattle.std.proofs.lemmas.Result.{err_from_is_err_and}
+use Rattle.std.proofs.{Common.IfSome, Common.Ok, Common.Result, Common.subst, Common.arith, lemmas.Result.err_from_is_err_and}
 use Rattle.echo_packet.specs.Header.{AreBytes}
 use Rattle.base_file.specs.{declared.fault.BaseFault.BaseFault as Fault, Base.Base, BaseFile.LoadOf, BaseFile.Loaded, Loading.AnswersLoad}
 use Rattle.echo_toss.proofs.tosser.Tosser.load.Goals as goal

@@ -1,5 +1,4 @@
-use Rattle.std.proofs.Common.{◌<◌, List, get_or, length, ap, subst, ◌∙◌, arith}
-use Rattle.std.proofs.lemmas.List.{take_all}
+use Rattle.std.proofs.{Common.◌<◌, Common.List, Common.get_or, Common.length, Common.ap, Common.subst, Common.◌∙◌, Common.arith, lemmas.List.take_all}
 use Rattle.echo_packet.specs.Message.{Message}
 use Rattle.model_steps.proofs.Encoding.{front_counted, one_more_counted, packet_size}
 use Rattle.model_steps.proofs.packet.Packet.size.Goals as goal

@@ -1,0 +1,124 @@
+//! What `picture --without` answers.
+
+use crate::assuming::is_carried;
+use crate::checking::status_of;
+use crate::leaving::files_left;
+use crate::supposed_areas::push_alone;
+use cmd_print::push_picture;
+use cmd_status::{Fault, Status, link_files, print_rest};
+use disk_io::Sink;
+use echo_addr::{Address, Items};
+use echo_charset::written;
+use echo_links::LinkFile;
+use echo_net::{Drawing, Verdict};
+use std::alloc::{AllocError, Global};
+use std::io::Write;
+
+/// `picture --without ADDRESS.. TAG LINKS...`: prints the graph that `picture` prints of what is left of these files. The
+/// systems of each part that is cut off have a colour. The status is that of `check`.
+pub fn picture_without<'a, W: Sink>(
+    alloc: Global,
+    tag: &[u8],
+    files: &[Items<u8>],
+    without: &[Address],
+    out: &mut W,
+) -> Result<Status, Fault<'a>> {
+    let whole = link_files(alloc, files)?;
+    let left = files_left(alloc, &whole, without)?;
+    let tag = tag.to_ascii_uppercase(alloc)?;
+    picture_left(alloc, &tag, &whole, &left, out)
+}
+
+// The same of files that are read, and of the tag in upper case.
+fn picture_left<'a, W: Sink>(
+    alloc: Global,
+    tag: &[u8],
+    whole: &[LinkFile],
+    left: &[LinkFile],
+    out: &mut W,
+) -> Result<Status, Fault<'a>> {
+    let mut lines = Vec::new(alloc);
+    let status = push_left(alloc, &mut lines, tag, whole, left)?;
+    print_rest(&mut lines, out)?;
+    Ok(status)
+}
+
+// Adds the lines of what is left. Returns the status.
+fn push_left(
+    alloc: Global,
+    lines: &mut Vec<u8>,
+    tag: &[u8],
+    whole: &[LinkFile],
+    left: &[LinkFile],
+) -> Result<Status, AllocError> {
+    if is_carried(whole, tag) && !is_carried(left, tag) {
+        lines.extend_from_slice(b"graph {\n}\n// ")?;
+        push_alone(lines, tag)?;
+        return Ok(Status::Good);
+    }
+    let verdict = echo_net::check(alloc, left, tag)?;
+    let drawing = echo_net::draw(alloc, left, tag, &verdict)?;
+    let cut = echo_net::cut_off(alloc, left, tag)?;
+    push_parts_picture(alloc, lines, tag, &verdict, &drawing, &cut)?;
+    Ok(status_of(&verdict))
+}
+
+// Adds the lines of a drawing, with those of the parts before the last one.
+fn push_parts_picture(
+    alloc: Global,
+    lines: &mut Vec<u8>,
+    tag: &[u8],
+    verdict: &Verdict,
+    drawing: &Drawing,
+    cut: &[Items<Address>],
+) -> Result<(), AllocError> {
+    let front = picture_front(alloc, tag, verdict, drawing)?;
+    lines.extend_from_slice(&front)?;
+    push_filled(lines, cut)?;
+    lines.extend_from_slice(b"}\n")
+}
+
+// The lines of a drawing but the last one.
+fn picture_front(
+    alloc: Global,
+    tag: &[u8],
+    verdict: &Verdict,
+    drawing: &Drawing,
+) -> Result<Vec<u8>, AllocError> {
+    let mut drawn = Vec::new(alloc);
+    push_picture(alloc, &mut drawn, tag, verdict, drawing, &[])?;
+    let count = drawn.len().saturating_sub(2);
+    drawn.truncate(count);
+    Ok(drawn)
+}
+
+// Adds the lines of the systems of each part.
+fn push_filled(lines: &mut Vec<u8>, cut: &[Items<Address>]) -> Result<(), AllocError> {
+    'parts: for place in 0..cut.len() {
+        push_filled_part(lines, place % 9 + 1, cut[place].as_slice())?;
+    }
+    Ok(())
+}
+
+// Adds the line of each of these systems, filled with the colour of this number.
+fn push_filled_part(
+    lines: &mut Vec<u8>,
+    colour: usize,
+    part: &[Address],
+) -> Result<(), AllocError> {
+    'part: for system in part {
+        push_filled_system(lines, colour, *system)?;
+    }
+    Ok(())
+}
+
+fn push_filled_system(
+    lines: &mut Vec<u8>,
+    colour: usize,
+    system: Address,
+) -> Result<(), AllocError> {
+    written(writeln!(
+        lines,
+        "\"{system}\" [style=filled, fillcolor=\"/pastel19/{colour}\"];"
+    ))
+}

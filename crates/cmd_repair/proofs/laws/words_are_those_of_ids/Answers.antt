@@ -1,0 +1,5 @@
+use Rattle.cmd_repair.proofs.IdWords.{given, printed_taken}
+use Rattle.cmd_repair.proofs.laws.words_are_those_of_ids.Goals as goal
+
+pub returns : goal.returns
+returns c = λ word. (given word, printed_taken word)

@@ -1,0 +1,10 @@
+use Rattle.std.proofs.Common.{◌≡◌, ◌↔◌, List, refl, subst, sym}
+use Rattle.std.specs.Prelude.{Contains}
+use Rattle.echo_net.specs.declared.link.Link.{Link}
+use Rattle.echo_net.proofs.Listers.{run_reports}
+use Rattle.echo_net.proofs.listing.Listing.has.Goals as goal
+
+pub returns : goal.returns
+returns c = λ files tag listing.
+    let run = rw (c.deref.ensures.value, c.self.view_is) at c.links_from.ensures in
+    run_reports files tag c.args.self.now c.links_from.result.now c.args.system c.is_empty.result _ listing run c.is_empty.ensures refl
