@@ -54,7 +54,7 @@ fn words_given(rt: &HostRuntime) -> Result<Vec<String>, Status> {
 fn run_asked(rt: &HostRuntime, asked: &ParsedLine<'_>) -> Status {
     let progress = Progress::new(rt);
     let noted = ExplainedCommand::of(rt, asked);
-    let keeps = match &noted {
+    let keeps = match noted {
         Some(noted) => noted.has_noted_answer(),
         None => false,
     };
@@ -64,8 +64,8 @@ fn run_asked(rt: &HostRuntime, asked: &ParsedLine<'_>) -> Status {
     let mut errors = Watched::new(KeptLines::new(rt.alloc(), to, true));
     let status = run_words(rt, &asked.words, &progress, &mut out, &mut errors);
     let printed = errors.into_inner().into_kept();
+    let answer = out.into_inner().into_kept();
     if let Some(noted) = noted {
-        let answer = out.into_inner().into_kept();
         let mut errors = Watched::new(ErasingOutput::new(&progress, rt.stderr()));
         noted.tell(&printed, &answer, &mut errors);
     }
