@@ -5,7 +5,7 @@ use Rattle.std.specs.{Prelude.Bool, Prelude.true, Prelude.false, Prelude.bytes_e
 use Rattle.echo_addr.specs.{declared.address.Address.Address, Address.IsAddress, Address.net_node_of, declared.address.NetNode.NetNode}
 use Rattle.model_graph.specs.Walk.{Among, Different}
 use Rattle.model_graph.proofs.Members.{Among-at, Among-append_cases, Among-append_left, Among-append_right, Among-from_Contains, Contains-from_Among}
-use Rattle.model_run.specs.{Nets.Tidy, Run.System, Orderly.tag_of, Tidy.lists, Tidy.Carries, AreaNets.net_of}
+use Rattle.model_run.specs.{Nets.Joined, Run.System, Orderly.tag_of, Tidy.lists, Tidy.Carries, AreaNets.net_of}
 use Rattle.echo_links.specs.Links.{Area, LinkFile, has_area, is_link, links_of, same_address, IsArea, IsFile, upper}
 use Rattle.echo_filed.specs.{declared.key.Key.Key, declared.key.Key.TheVariants.ById, Filed.Filed, Filed.key_of, Sets.entry_set, Sets.same_entry}
 use Rattle.echo_text.specs.{Echo.EchoText, Ids.id_of, Lines.is_tag, Lines.is_tag_byte}
@@ -47,15 +47,21 @@ pub link-has_area : (file : LinkFile) (tag : List ℕ) (a : Address) → is_link
 unfolding links_of
 link-has_area file tag a h = grind (arith, not_both)
 
-module _ (laws : Laws) (files : List LinkFile) (tag : List ℕ) (tidy : files_are.Tidy files tag) where
+module _ (laws : Laws) (files : List LinkFile) (tag : List ℕ) (joined : files_are.Joined files tag) where
   abbrev linked : Address → Address → Bool
   linked = lists files tag
 
   lists-carries : (a b : Address) → IsTrue (linked a b) → Carries files tag a
   lists-carries a b h = grind (arith, any-from, and-parts, any-to, and-from, link-has_area)
 
-  pub tidy-net : Tidy (net_of files tag)
-  tidy-net = grind (arith, lists-carries)
+  pub joined-net : Joined (net_of files tag)
+  joined-net = record {
+    no_self = joined.no_self;
+    both = joined.both;
+    carriers = lists-carries;
+    apart = joined.apart;
+    connected = joined.connected;
+  }
 
   -- the systems of a run with these files
   module _ (ss : List System) (same_files : map (λ s. s.file) ss ≡ files) where

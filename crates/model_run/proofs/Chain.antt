@@ -46,11 +46,13 @@ no-cycle first (b ∷ c ∷ rest) cycle = grind (arith, middle, behind)
 
 pub chain-tidy : Tidy chain
 chain-tidy = record {
-  no_self = simple.no_self;
-  both = both;
-  carriers = λ a b h. lt-ltb a 3 (chain-parts a b h).0;
-  apart = λ a b at_a at_b e. e;
-  connected = Connected-from_root (λ a. IsTrue (chain.carries a)) linked simple 1 from_1;
+  joined = record {
+    no_self = simple.no_self;
+    both = both;
+    carriers = λ a b h. lt-ltb a 3 (chain-parts a b h).0;
+    apart = λ a b at_a at_b e. e;
+    connected = Connected-from_root (λ a. IsTrue (chain.carries a)) linked simple 1 from_1;
+  };
   cycles = Polygons-from_no_cycle linked no-cycle;
 }
   where

@@ -4,7 +4,7 @@ use Rattle.std.specs.Prelude.{Bool, true, false}
 use Rattle.model_graph.specs.{Walk.Among, Walk.Reaches, Beyond.IsWay}
 use Rattle.model_graph.proofs.{Members.CanTell, Cycles.along_ways}
 use Rattle.model_run.specs.{Events.Filed, Events.Event, Events.Posts, Events.Exports, Events.Comes, Events.filed, Events.copies, Events.Has, Nets.Net, Nets.Tidy}
-use Rattle.model_run.specs.Rules.{Always, FilesOnce, IsPossible, Keeps, Kept, NewKeys, Rule, SendsOnce, Tells, filing, keeping, sending, telling, keys}
+use Rattle.model_run.specs.Rules.{Always, IsPossible, Kept, Rule, filing, keeping, sending, telling, keys}
 use Rattle.model_run.specs.RulesOrderly.{Compares, IsSettled, Orderly, place, goal}
 use Rattle.model_run.proofs.{Targets.simple, Targets.parted, Targets.none_some, Targets.Invariant, Targets.view_of, Lists.Among-map_from, Steps.Has-cases, Steps.posting-keeps, Steps.arrival-keeps, Steps.coming-keeps, Steps.exporting-keeps}
 
@@ -12,25 +12,6 @@ module _ {A N K C : Type 0} (net : Net A N) (Same : C → C → Type 0) where
   -- a run by the rules
   abbrev pub ByRules : List (Event A N K C) → Type 0
   ByRules run = Always (IsPossible net) run × ((rule : Rule) → Kept net Same run rule)
-
-  -- an event by the rules, after these
-  pub record IsByRules (run : List (Event A N K C)) (event : Event A N K C) : Type 0 where
-    pub possible : IsPossible net run event
-    pub files_once : FilesOnce net run event
-    pub keeps : Keeps Same run event
-    pub sends_once : SendsOnce net run event
-    pub tells : Tells net run event
-    pub new_keys : NewKeys run event
-
-  pub one_more : (run : List (Event A N K C)) (event : Event A N K C) → ByRules run → IsByRules run event → ByRules (event ∷ run)
-  one_more run event h e = ((e.possible, h.0), each)
-    where
-      each : (rule : Rule) → Kept net Same (event ∷ run) rule
-      each filing = (e.files_once, h.1 filing)
-      each keeping = (e.keeps, h.1 keeping)
-      each sending = (e.sends_once, h.1 sending)
-      each telling = (e.tells, h.1 telling)
-      each keys = (e.new_keys, h.1 keys)
 
   earlier-by_rules : (event : Event A N K C) (run : List (Event A N K C)) → ByRules (event ∷ run) → ByRules run
   earlier-by_rules event run h = (h.0.1, each)
@@ -41,9 +22,6 @@ module _ {A N K C : Type 0} (net : Net A N) (Same : C → C → Type 0) where
       each sending = (h.1 sending).1
       each telling = (h.1 telling).1
       each keys = (h.1 keys).1
-
-pub nothing-by_rules : {A N : Type 0} (K C : Type 0) (net : Net A N) (Same : C → C → Type 0) → ByRules {K = K} net Same []
-nothing-by_rules K C net Same = grind arith
 
 module _ {A N K C : Type 0} (can : CanTell A) (can_keys : CanTell K) (net : Net A N) (tidy : Tidy net)
     (Same : C → C → Type 0) (compares : Compares Same) where
@@ -87,7 +65,7 @@ module _ {A N K C : Type 0} (can : CanTell A) (can_keys : CanTell K) (net : Net 
         let Q : A → Type 0 = λ a. IsWay net.linked m.at a c.from in
         let way : Q m.at = subst Q (sym (ap (λ (p : A × K). p.0) e)) (subst P one_poster sent.parent.way) in
         elim (way.passed [] refl) [
-          | inl q ↦ (let R : A → Type 0 = λ a. IsTrue (net.linked m.at a) in tidy.no_self m.at (subst R q way.link))
+          | inl q ↦ (let R : A → Type 0 = λ a. IsTrue (net.linked m.at a) in tidy.joined.no_self m.at (subst R q way.link))
           | inr t ↦ t
         ]
 
@@ -96,7 +74,7 @@ module _ {A N K C : Type 0} (can : CanTell A) (can_keys : CanTell K) (net : Net 
       arrives : (x : A) → IsTrue (net.carries x) → Has x p.text.key (filed run)
       arrives x at_x =
           along_ways can net.linked (simple can net tidy) (parted can net tidy) p.at (λ y. Has y p.text.key (filed run))
-          (p, at_p, refl, refl) next x (tidy.connected x p.at at_x (inv.good p at_p).carrier)
+          (p, at_p, refl, refl) next x (tidy.joined.connected x p.at at_x (inv.good p at_p).carrier)
         where
           next : (y u : A) → y ≢ p.at → Reaches net.linked y p.at → IsWay net.linked p.at y u → Has u p.text.key (filed run) →
               Has y p.text.key (filed run)
@@ -105,7 +83,7 @@ module _ {A N K C : Type 0} (can : CanTell A) (can_keys : CanTell K) (net : Net 
               let P : A → Type 0 = λ a. IsTrue (net.linked a y) in
               let Q : A → Type 0 = λ a. IsWay net.linked p.at y a in
               let way_m : Q m.at = subst Q (sym at_u) way in
-              let (c, j, to_y, key_c) = inv.passed_on m (settled.all_exported m i) p at_p own (sym key) y (tidy.both y m.at way_m.link) way_m.passed in
+              let (c, j, to_y, key_c) = inv.passed_on m (settled.all_exported m i) p at_p own (sym key) y (tidy.joined.both y m.at way_m.link) way_m.passed in
               let (n, k, at_y, key_n) = inv.known c (settled.all_came c j) in
               (n, k, at_y ∙ to_y, key_n ∙ (key_c ∙ key))
 

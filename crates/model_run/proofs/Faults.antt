@@ -8,7 +8,7 @@ use Rattle.model_graph.proofs.{Cycles.Polygons-from_Parted, Members.Among-cases}
 use Rattle.echo_links.specs.Links.{LinkFile, has_area}
 use Rattle.echo_filed.specs.Filed.{Filed}
 use Rattle.model_run.specs.{Grave.AllAreCarriers, Grave.AreTakenForOne, Grave.AreTwins, Grave.HaveOwnAddresses, Grave.GraveFault, Grave.SelfLink, Grave.OneSided, Grave.SameNetNode, Grave.Apart, Grave.Loop, Event.RunEvent, Run.nth, Run.run_of, Run.Run, Run.System, Tidy.Carries, Tidy.lists, Tidy.Tidy, Harms.Harm, Harms.IsHarmed, LawsOfRuns.LawsOfRuns, Postings.ComesToRest, Postings.trial_posting, Postings.post_and_scan, Orderly.Orderly}
-use Rattle.model_run.proofs.{Lists.any-to, Lists.Among-map_to, Lists.not_both, Lists.nth-cases, Lists.yes_or_no, Branches.Touches, Branches.closed-by, Branches.no_way_around, HarmLists.among-nth, HarmLists.nth-index, Places.carrier-file, Places.lister-carries, Targets.some_same, Targets.none_some, Resting.runs-settle, OneMessage.poster, HarmSteps.run-files}
+use Rattle.model_run.proofs.{Lists.any-to, Lists.Among-map_to, Lists.not_both, Lists.nth-cases, Lists.yes_or_no, Branches.Touches, Branches.closed-by, Branches.no_way_around, HarmLists.among-nth, HarmLists.nth-index, Places.carrier-file, Places.lister-carries, Targets.some_same, Targets.none_some, Resting.runs-settle, HarmSteps.run-files}
 use Rattle.model_run.proofs.Holders.{Holds, Unharmed, harm-or_none, spread, listed-sent}
 use Rattle.model_run.proofs.Spreads.{IsNear, Spread, answered, from_poster, no_kite, not_hidden, one_or_two, reached}
 

@@ -2,9 +2,10 @@ pub mod Targets
 pub mod Lists
 pub mod Steps
 pub mod Eras
+pub mod Telling
+pub mod Plain
 pub mod Needed
 pub mod Chain
-pub mod Telling
 pub mod TosserPremises
 pub mod StandingRuns
 pub mod Bases
@@ -27,6 +28,7 @@ pub mod NewPostings
 pub mod Repair
 pub mod Repairs
 pub mod Saying
+pub mod BesideRepairs
 pub mod TosserLaws
 pub mod ScanPackets
 pub mod ExportLists

@@ -37,14 +37,16 @@ module _ (n : ℕ) where
 
   pub polygon-tidy : Tidy (polygon n)
   polygon-tidy = record {
-    no_self = simple.no_self;
-    both = simple.both_ways;
-    carriers = λ a b h. lt-ltb a n (linked-parts a b h).0;
-    apart = λ a b at_a at_b e. e;
-    connected = λ a b at_a at_b. elim (ℕ-can_tell a b) [
-      | inl e ↦ ([], e)
-      | inr other ↦ (b ∷ [], (linked-from a b (ltb-true a n at_a) (ltb-true b n at_b) other, refl))
-    ];
+    joined = record {
+      no_self = simple.no_self;
+      both = simple.both_ways;
+      carriers = λ a b h. lt-ltb a n (linked-parts a b h).0;
+      apart = λ a b at_a at_b e. e;
+      connected = λ a b at_a at_b. elim (ℕ-can_tell a b) [
+        | inl e ↦ ([], e)
+        | inr other ↦ (b ∷ [], (linked-from a b (ltb-true a n at_a) (ltb-true b n at_b) other, refl))
+      ];
+    };
     cycles = grind (arith, linked-from, in-cycle);
   }
 

@@ -8,15 +8,15 @@ use Rattle.model_graph.proofs.Members.{Among-append_right, Among-append_cases}
 use Rattle.model_steps.specs.{declared.stamp.Stamp.Stamp, Scanning.scanned, Scanning.targets}
 use Rattle.echo_links.specs.Links.{LinkFile, is_link, links_of, same_address}
 use Rattle.echo_filed.specs.{Sets.address_set, declared.key.Key.Key, Filed.Filed, Filed.key_of, Filed.same_key}
-use Rattle.model_run.specs.{Run.System, Run.Run, Run.change, Run.nth, Run.scanning_at, Nets.Net, Rules.IsTarget, Rules.HasPlainSeenBy, Orderly.count, Orderly.tag_of, Tidy.Tidy, Tidy.lists, AreaNets.net_of, Keeping.filed_as}
+use Rattle.model_run.specs.{Run.System, Run.Run, Run.change, Run.nth, Run.scanning_at, Nets.Net, Rules.IsTarget, Rules.HasPlainSeenBy, Orderly.count, Orderly.tag_of, Tidy.Joined, Tidy.lists, AreaNets.net_of, Keeping.filed_as}
 use Rattle.model_run.proofs.Lists.{any-from, any-to, map-change, nth-among, Among-drop, same_list as Among-in, Among-map_to, Among-map_from}
-use Rattle.model_run.proofs.{Areas.Wrote, Areas.address_of, Areas.key-tag, Areas.link-lists, Areas.lists-link, Areas.one-system, Areas.tidy-net, Eras.ByRules, Eras.one_more, Telling.reported-plainly, TosserPremises.Laws, TosserPremises.count-has, Bases.SystemOk, Bases.count-is, Bases.RunOk, Bases.scanned-ok, ExportLists.count-append, ExportLists.count-filter, WholeRuns.IsDeliveredOnce}
+use Rattle.model_run.proofs.{Areas.Wrote, Areas.address_of, Areas.key-tag, Areas.link-lists, Areas.lists-link, Areas.one-system, Plain.ArePlain, TosserPremises.Laws, TosserPremises.count-has, Bases.SystemOk, Bases.count-is, Bases.RunOk, Bases.scanned-ok, ExportLists.count-append, ExportLists.count-filter, WholeRuns.IsDeliveredOnce}
 use Rattle.model_run.proofs.Copies.{copied, copied-content, copied-key, copied-seen, seen-copied, targets-from, targets-to}
 use Rattle.model_run.proofs.Histories.{REvent, RFiled, before-then, Equal, Standing, filed-event}
-use Rattle.model_run.proofs.Scanned.{export, exported-are, exports, filed-are, history-scans, waits, waits-from}
+use Rattle.model_run.proofs.Scanned.{exported-are, exports, filed-are, history-scans, waits, waits-from}
 use Rattle.model_run.specs.Events as rules
 
-module _ (laws : Laws) (files : List LinkFile) (tag : List ℕ) (mine : Key → Bool) (of_area : (k : Key) → IsTrue (mine k) → tag_of k ≡ tag) (tidy : Tidy files tag)
+module _ (laws : Laws) (files : List LinkFile) (tag : List ℕ) (mine : Key → Bool) (of_area : (k : Key) → IsTrue (mine k) → tag_of k ≡ tag) (joined : Joined files tag)
     (run : Run) (st : Standing files tag mine run) (i : ℕ) (s : System) (at_s : nth i run.systems ≡ Some s) (stamp : Stamp) where
   abbrev net : Net Address NetNode
   net = net_of files tag
@@ -69,7 +69,7 @@ module _ (laws : Laws) (files : List LinkFile) (tag : List ℕ) (mine : Key → 
       let (m, h, at, key) = has in
       let is = (st.history.exported m).0 h in
       let here : address_of is.system ≡ address_of s = ap (λ (f : RFiled). f.at) (sym is.same) ∙ at in
-      let one = one-system laws files tag tidy run.systems st.same_files is.system s is.there there_s here in
+      let one = one-system laws files tag joined run.systems st.same_files is.system s is.there there_s here in
       let P : System → Type 0 = λ t. Among is.message (take t.cursor t.history) in
       omega (
         arith,
@@ -84,26 +84,28 @@ module _ (laws : Laws) (files : List LinkFile) (tag : List ℕ) (mine : Key → 
   has-count k ms m h e = omega (arith, count-is k ms, count-has key_of same_key laws.keys k ms m h e)
 
   by-rules : (ms : List Filed) → ((m : Filed) → Among m ms → Among m (waits laws mine s ok_s)) → ((k : Key) → count k (take s.cursor s.history) + count k ms ≤ 1) →
-      ByRules net Equal (then ms)
+      ArePlain net Equal (then ms)
   by-rules [] wait few = st.by_rules
   by-rules (m ∷ ms) wait few =
       let (waiting, key) = waits-from laws mine s ok_s m (wait m (inl refl)) in
       let area : m.echo.tag ≡ tag = sym (key-tag m) ∙ of_area (key_of m) key in
-      let f = filed_as (address_of s) m in
-      one_more net Equal (then ms) (export laws mine s ok_s m) (by-rules ms (λ n h. wait n (inr h)) (λ k. omega (arith, few k))) (record {
-        possible = tt;
-        files_once = tt;
-        keeps = λ x h. (copied-key s.file m, copied-content s.file m);
-        sends_once = record {
-          is_filed = Among-in f (rules.filed st.events) (rules.filed (then ms)) (sym (filed-are laws mine s ok_s ms st.events))
-              (filed-event laws files tag mine tidy run st s there_s m (Among-drop s.cursor m s.history waiting) key);
-          first = not-yet;
-          targets = λ x. goes m area x;
-          one_each = laws.addresses_once (targets s.file m);
-        };
-        tells = λ x h. reported-plainly net (tidy-net laws files tag tidy) (filed_as (address_of s) m) (targets_of m) x (copied s.file m).echo.seen ((goes m area x).0 h).link (tells m area);
-        new_keys = tt;
-      })
+      let f = filed_as (address_of s) m in (
+        record {
+          possible = tt;
+          files_once = tt;
+          keeps = λ x h. (copied-key s.file m, copied-content s.file m);
+          sends_once = record {
+            is_filed = Among-in f (rules.filed st.events) (rules.filed (then ms)) (sym (filed-are laws mine s ok_s ms st.events))
+                (filed-event laws files tag mine joined run st s there_s m (Among-drop s.cursor m s.history waiting) key);
+            first = not-yet;
+            targets = λ x. goes m area x;
+            one_each = laws.addresses_once (targets s.file m);
+          };
+          tells = λ x h. tells m area;
+          new_keys = tt;
+        },
+        by-rules ms (λ n h. wait n (inr h)) (λ k. omega (arith, few k)),
+      )
     where
       one : 1 ≤ count (key_of m) (m ∷ [])
       one = has-count (key_of m) (m ∷ []) m (inl refl) refl

@@ -194,7 +194,7 @@ module _ {A N K C : Type 0} (can : CanTell A) (net : Net A N) (tidy : Tidy net) 
         let way : Q good_m.poster = subst Q one_poster (subst P to_x sent.parent.way) in
         let at_x = carriers_to can net tidy m.at x (targets x h).link in
         let sender : c.from ≡ m.at = one_way can net.linked (simple can net tidy) good_m.poster.at x c.from m.at
-        (tidy.connected x good_m.poster.at at_x good_m.posted.carrier) way (parent x h).way in
+        (tidy.joined.connected x good_m.poster.at at_x good_m.posted.carrier) way (parent x h).way in
         let (e, j, at_e, key_e) = sent.is_exported in
         first (e, j, at_e ∙ sender, key_e ∙ key)
 

@@ -79,13 +79,13 @@ some_same e = cc
 
 module _ {A N : Type 0} (can : CanTell A) (net : Net A N) (tidy : Tidy net) where
   pub simple : Simple net.linked
-  simple = record { both_ways = tidy.both; no_self = tidy.no_self }
+  simple = record { both_ways = tidy.joined.both; no_self = tidy.joined.no_self }
 
   pub parted : Parted net.linked
   parted = Parted-from_Polygons can net.linked simple tidy.cycles
 
   pub carriers_to : (a b : A) → IsTrue (net.linked a b) → IsTrue (net.carries b)
-  carriers_to a b link = tidy.carriers b a (tidy.both a b link)
+  carriers_to a b link = tidy.joined.carriers b a (tidy.joined.both a b link)
 
   -- every walk from anywhere to f passes f
   beyond_itself : (y f x : A) → f ≡ y → Beyond net.linked y f x
@@ -107,7 +107,7 @@ module _ {A N : Type 0} (can : CanTell A) (net : Net A N) (tidy : Tidy net) wher
   module _ {K C : Type 0} (f : A) (m : Filed A N K C) (at_m : IsTrue (net.carries m.at)) (at_f : IsTrue (net.carries f))
       (source : Source net f m) where
     reaches : Reaches net.linked m.at f
-    reaches = tidy.connected m.at f at_m at_f
+    reaches = tidy.joined.connected m.at f at_m at_f
 
     -- a target is beyond
     pub target-beyond : (x : A) → IsTarget net m x → Beyond net.linked m.at f x
@@ -145,7 +145,7 @@ module _ {A N : Type 0} (can : CanTell A) (net : Net A N) (tidy : Tidy net) wher
         IsTarget net m x → HasSeenBy net m to x seen → Parent net x f seen m.at
     reported-parent to all x seen target reported =
         record {
-          way = record { link = tidy.both m.at x target.link; passed = beyond };
+          way = record { link = tidy.joined.both m.at x target.link; passed = beyond };
           outside = λ d at_d beyond_x other h.
               let (not_m, not_link) = further can net.linked simple f m.at x d reaches target.link beyond beyond_x other in
               not_listed d at_d beyond_x not_m (reported.behind d at_d (behind f m.at x d differ reaches_x beyond beyond_x) other h);
@@ -159,7 +159,7 @@ module _ {A N : Type 0} (can : CanTell A) (net : Net A N) (tidy : Tidy net) wher
         differ = linked_differ net.linked simple m.at x target.link
 
         reaches_x : Reaches net.linked x f
-        reaches_x = tidy.connected x f (carriers_to m.at x target.link) at_f
+        reaches_x = tidy.joined.connected x f (carriers_to m.at x target.link) at_f
 
         not_listed : (d : A) → IsTrue (net.carries d) → Beyond net.linked x f d → d ≢ m.at → ¬ Among (net.net_node d) m.text.seen
         not_listed d at_d beyond_x other h =

@@ -85,4 +85,4 @@ the_laws = record {
 -- The net of tidy link files is tidy.
 
 pub tidy-net : (files : List LinkFile) (tag : List ℕ) → Tidy files tag → IsTidyNet files tag
-tidy-net files tag tidy = areas.tidy-net the_laws files tag tidy
+tidy-net files tag tidy = record { joined = areas.joined-net the_laws files tag tidy.joined; cycles = tidy.cycles }

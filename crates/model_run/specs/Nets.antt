@@ -8,8 +8,8 @@ pub record Net (A N : Type 0) : Type 0 where
   pub linked : A → A → Bool
   pub net_node : A → N
 
--- The net is in order.
-pub record Tidy {A N : Type 0} (net : Net A N) : Type 0 where
+-- The net is in order except for its cycles.
+pub record Joined {A N : Type 0} (net : Net A N) : Type 0 where
   -- No system is a link of itself.
   pub no_self : (a : A) → ¬ IsTrue (net.linked a a)
   -- Each link is in both systems.
@@ -20,5 +20,9 @@ pub record Tidy {A N : Type 0} (net : Net A N) : Type 0 where
   pub apart : (a b : A) → IsTrue (net.carries a) → IsTrue (net.carries b) → net.net_node a ≡ net.net_node b → a ≡ b
   -- Between any two systems with the area there is a walk.
   pub connected : Connected (λ a. IsTrue (net.carries a)) net.linked
+
+-- The net is in order.
+pub record Tidy {A N : Type 0} (net : Net A N) : Type 0 where
+  pub joined : Joined net
   -- The systems of every cycle are all linked with each other.
   pub cycles : Polygons net.linked

@@ -58,7 +58,12 @@ Tells {A} net earlier (Posts at text) = (d : A) → IsTrue (net.carries d) → A
 Tells {A} net earlier (Exports m to text) = (x : A) → Among x to → HasSeenBy net m to x (text x).seen
 Tells net earlier (Comes copy is_filed) = Unit {0}
 
--- Half of this rule: the SEEN-BY lists each receiver.
+-- A stronger rule: each copy has a plain SEEN-BY.
+abbrev pub TellsPlainly : {A N K C : Type 0} → Net A N → List (Event A N K C) → Event A N K C → Type 0
+TellsPlainly {A} net earlier (Exports m to text) = (x : A) → Among x to → HasPlainSeenBy net m to (text x).seen
+TellsPlainly net earlier other = Tells net earlier other
+
+-- Half of the rule: the SEEN-BY lists each receiver.
 abbrev pub ListsAll : {A N K C : Type 0} → Net A N → List (Event A N K C) → Event A N K C → Type 0
 ListsAll {A} net earlier (Exports m to text) = (x : A) → Among x to → (l : A) → Among l to → Among (net.net_node l) (text x).seen
 ListsAll net earlier other = Unit {0}

@@ -4,7 +4,7 @@ use Rattle.model_run.proofs.{Bases.filed-once, OneMessage.has-one, Repair.differ
 use Rattle.model_run.proofs.repair_laws.repairs_bring_all_there.Goals as goal
 
 pub returns : goal.returns
-returns c = λ n before after tag state differ rounds key nowhere x h whole y i walk few walks.
+returns c = λ n before after tag state differ rounds key x h whole y i walk few none walks.
     let (are, end) = rounds-of the_laws tag n before after differ state rounds in
-    let there = rounds-everywhere the_laws (map (λ (s : System). s.file) before.systems) tag (differ-files before.systems differ) key n walk few before.systems after.systems refl nowhere are x h whole y i walks in
+    let there = rounds-everywhere the_laws (map (λ (s : System). s.file) before.systems) tag (differ-files before.systems differ) key n walk few before.systems after.systems refl none are x h whole y i walks in
     (there, omega (arith, filed-once after end.0 y i key, has-one key y.base there.0 there.1 there.2))

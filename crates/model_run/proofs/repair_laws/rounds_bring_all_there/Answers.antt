@@ -4,5 +4,5 @@ use Rattle.model_run.proofs.{Repair.differ-files, Repair.rounds-everywhere, Toss
 use Rattle.model_run.proofs.repair_laws.rounds_bring_all_there.Goals as goal
 
 pub returns : goal.returns
-returns c = λ n before after tag differ rounds key nowhere x h whole y i walk few walks.
-    rounds-everywhere the_laws (map (λ (s : System). s.file) before) tag (differ-files before differ) key n walk few before after refl nowhere rounds x h whole y i walks
+returns c = λ n before after tag differ rounds key x h whole y i walk few none walks.
+    rounds-everywhere the_laws (map (λ (s : System). s.file) before) tag (differ-files before differ) key n walk few before after refl none rounds x h whole y i walks
