@@ -29,6 +29,7 @@ pub mod Repair
 pub mod Repairs
 pub mod Saying
 pub mod BesideRepairs
+pub mod Reaching
 pub mod TosserLaws
 pub mod ScanPackets
 pub mod ExportLists
