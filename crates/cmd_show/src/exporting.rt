@@ -36,8 +36,8 @@ struct ExportFilter {
 
 /// `export [--area TAG] [--from I] [--purged] [--mbox
 ///
-/// --json] BASE`: prints the messages asked for. Returns how many U+FFFD replace characters that a charset lacks. Of a
-/// faulty base it prints nothing.
+/// --json] BASE`: prints these messages, none of a faulty base. Returns how many U+FFFD replace characters that a
+/// charset lacks.
 pub fn export<'a, S: BuildHasher + Drop, W: Sink>(
     alloc: Global,
     asked: &ExportQuery<'_>,
