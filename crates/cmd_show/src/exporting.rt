@@ -36,8 +36,8 @@ struct ExportFilter {
 
 /// `export [--area TAG] [--from I] [--purged] [--mbox
 ///
-/// --json] BASE`: prints these messages, none of a faulty base. It returns how many U+FFFD were printed for characters
-/// that a charset lacks.
+/// --json] BASE`: prints the messages asked for. Returns how many U+FFFD replace characters that a charset lacks. Of a
+/// faulty base it prints nothing.
 pub fn export<'a, S: BuildHasher + Drop, W: Sink>(
     alloc: Global,
     asked: &ExportQuery<'_>,
