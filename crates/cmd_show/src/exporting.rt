@@ -34,10 +34,8 @@ struct ExportFilter {
     purged: bool,
 }
 
-/// `export [--area TAG] [--from I] [--purged] [--mbox
-///
-/// --json] BASE`: prints the messages asked for. Returns how many U+FFFD replace characters that a charset lacks. Of a
-/// faulty base it prints nothing.
+/// `export [--area TAG] [--from I] [--purged] [--mbox | --json] BASE`: prints the messages asked for, none of a faulty
+/// base. Returns how many U+FFFD were printed for characters that the charset of a message lacks.
 pub fn export<'a, S: BuildHasher + Drop, W: Sink>(
     alloc: Global,
     asked: &ExportQuery<'_>,
