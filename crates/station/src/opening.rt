@@ -1,6 +1,6 @@
 //! The trait of a kind of station.
 ghost use Rattle.std.specs.Prelude.{◌≡◌, ◌⊎◌, ℕ, List, Option, IfErr, IfOk, OnOk};
-ghost use Rattle.disk_io.specs.{Disk.DiskState, Disk.Honestly, Runs.ChangesNothing};
+ghost use Rattle.disk_io.specs.{Disk.DiskState, Disk.Files, Disk.Honestly, Runs.ChangesNothing};
 ghost use Rattle.echo_links.specs.Links.{LinkFile as TheLinks};
 ghost use Rattle.cmd_status.specs.declared.fault.Fault.{Fault as TheFault};
 ghost use Rattle.station.specs.{Opening.AreFree, Opening.HaveFailed, Opening.IsNotOpened, Opening.IsOpened, Place.Place};
@@ -33,6 +33,9 @@ pub trait OpenStation<'a, D: Disk> {
     // Which files hold which base, and which paths belong to it.
     ghost place: { Self → Place };
 
+    // These files hold a base of this kind, or none is there yet.
+    ghost holds_base: { Self → Files → Type 0 };
+
     // The premise of an honest disk.
     ghost can_open: { Self → DiskState → Type 0 };
 
@@ -60,7 +63,9 @@ pub trait OpenStation<'a, D: Disk> {
             (Self.Kept.state opened.kept) opened.links) }
         ensures stopped { IfErr result (λ stopped. IsNotOpened (place self) (is_shut self
             (HaveFailed (D.failures disk) (D.failures stopped.disk) (L.failures locks.old.links) (L.failures locks.new.links) (K.failures locks.old.base) (K.failures locks.new.base))
-            (D.state disk) (D.state stopped.disk)) (D.state disk) (D.state stopped.disk) stopped.fault) };
+            (D.state disk) (D.state stopped.disk)) (D.state disk) (D.state stopped.disk) stopped.fault) }
+        ensures whole { IfOk result (λ opened. Honestly (Self.Kept.state opened.kept).disk (holds_base self (D.state disk).seen)) }
+        ensures untouched { IfErr result (λ stopped. Honestly (D.state stopped.disk) ((holds_base self (D.state disk).seen → ⊥) → ChangesNothing (D.state disk) (D.state stopped.disk))) };
 
     /// The disk, taken out of the store.
     fn into_disk(kept: Self::Kept) -> D

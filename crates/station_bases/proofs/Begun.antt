@@ -1,10 +1,11 @@
 -- A folder that was begun, as an open station.
-use Rattle.std.proofs.Common.{◌≤◌, ℕ, Bool, List, arith}
+use Rattle.std.proofs.Common.{◌≤◌, ℕ, Bool, List, ⊎_elim, arith}
 use Rattle.base_file.specs.Base.{Base}
-use Rattle.disk_io.specs.{Disk.DiskState, Disk.Honestly, Runs.LeavesOnly}
+use Rattle.disk_io.specs.{Disk.DiskState, Disk.Honestly, Runs.ChangesNothing, Runs.LeavesOnly}
 use Rattle.disk_io.proofs.Moments.{weaker_run}
 use Rattle.base_log.specs.Moments.{KeepsOutside}
 use Rattle.station_bases.specs.{Opening.IsBegun, Opening.IsOfFolder, InFolder.IsFolderShut, InFolder.IsOwnLinks, InFolder.folder_place}
+use Rattle.base_folder.specs.Wrong.{IsSound}
 use Rattle.base_folder_store.specs.Held.{RepresentsBase, RepresentsBaseOrWasLeft}
 use Rattle.echo_links.specs.Links.{LinkFile}
 use Rattle.cmd_status.specs.declared.fault.Fault.{Fault}
@@ -28,6 +29,11 @@ module _ (keyed : ℕ → ℕ → List ℕ → ℕ) (path : List ℕ) (d0 : Disk
     of_place = record { own = λ m. (of.own m).0; represented = of.represented; elsewhere = elsewhere_of s.disk of.outside };
     later = later;
   }
+
+  -- where the folder holds no base, nothing was changed
+  pub shut_untouched : (d1 : DiskState) (links base : List ℕ) (strange : Bool) (failed : Type 0) (fault : Fault) → IsFolderShut links base path strange failed d0 d1 fault
+      → (IsSound strange path d0.seen → ⊥) → ChangesNothing d0 d1
+  shut_untouched d1 links base strange failed fault shut none = ⊎_elim (λ out. out.same) (λ not. not.folder.untouched none) shut
 
   pub is_not_opened : (d1 : DiskState) (links base : List ℕ) (strange : Bool) (failed : Type 0) (fault : Fault) → Honestly d1 (IsFolderShut links base path strange failed d0 d1 fault)
       → Honestly d1 ((b : Base) → RepresentsBase keyed path b d0.seen → LeavesOnly d0 d1 (RepresentsBaseOrWasLeft keyed path d0 b)) → KeepsOutside path d0 d1

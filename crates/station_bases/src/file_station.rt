@@ -1,7 +1,8 @@
 //! A station with its base in a file.
 ghost use Rattle.std.specs.Prelude.{◌≡◌, Some};
+ghost use Rattle.base_file.specs.Base.{Base};
 ghost use Rattle.station.specs.Links.{AreLinks};
-ghost use Rattle.station_bases.specs.Reading.{IsShutFor, file_place};
+ghost use Rattle.station_bases.specs.{InFile.RepresentsInFile, Reading.IsShutFor, Reading.file_place};
 
 use crate::file_store::FileStore;
 use crate::loading::{Read, read_station};
@@ -26,6 +27,8 @@ impl<'a, D: Disk + Drop, S: BuildHasher + Copy + Drop, T: MessageProgress + Drop
     type Kept = FileStore<'a, D, S>;
 
     ghost place = { λ at. file_place at.base.now };
+
+    ghost holds_base = { λ at files. (base : Base) × RepresentsInFile at.base.now base files };
 
     ghost can_open = { λ at disk. Unit {0} };
 

@@ -1,6 +1,7 @@
 //! A station with its base in a folder.
 ghost use Rattle.std.specs.Prelude.{◌≡◌, Some};
 ghost use Rattle.disk_io.specs.Runs.{ChangesNothing};
+ghost use Rattle.base_folder.specs.Wrong.{IsSound};
 ghost use Rattle.base_log.specs.Opening.{AreAlone};
 ghost use Rattle.station_bases.specs.InFolder.{IsFolderShut, IsOwnLinks, folder_place};
 
@@ -26,6 +27,8 @@ impl<'a, D: Disk + Drop, H: Digest> OpenStation<'a, D> for FolderStation<'a, H> 
     type Kept = FolderStore<D, H>;
 
     ghost place = { λ station. folder_place H.keyed station.at.path.now };
+
+    ghost holds_base = { λ station files. IsSound station.found.strange station.at.path.now files };
 
     ghost can_open = { λ station disk. AreAlone station.at.path.now disk };
 

@@ -1,10 +1,9 @@
 //! The link file of a station is read, and its base file is opened.
 ghost use Rattle.std.specs.Prelude.{◌≡◌, ◌≢◌, ◌⊎◌, ◌↔◌, All, IfErr, IfNone, IfOk, IfSome, IsSome, IsTrue, OnOk, Some, None};
-ghost use Rattle.base_file.specs.Base.{Base as TheBase};
 ghost use Rattle.disk_io.specs.{Device.Failed, Disk.Honestly, Runs.ChangesNothing, Runs.HasCause};
 ghost use Rattle.station.specs.{Links.AreLinks, Opening.AreFree, Opening.HaveFailed, Faults.IsFaultAt};
 ghost use Rattle.cmd_status.specs.{Ended.IsOutOfMemory, Inputs.IsBaseFault, Inputs.IsBaseGiven};
-ghost use Rattle.station_bases.specs.{InFile.IsHeld, InFile.IsWithinReach, InFile.RepresentsInFile, Reading.IsFileShut, Reading.IsSettled, Reading.IsUnreadFor, Reading.ReadsOnly};
+ghost use Rattle.station_bases.specs.{InFile.IsReadAs, InFile.IsWithinReach, InFile.RepresentsInFile, Reading.IsFileShut, Reading.IsSettled, Reading.IsUnreadFor, Reading.ReadsOnly};
 
 use crate::entry_opening::open_entries;
 use crate::file_station::FileStation;
@@ -49,7 +48,7 @@ fn loaded<'a, S: BuildHasher + Drop, T: MessageProgress>(
     hasher: S,
     watch: &T,
 ) -> Result<Base<S>, Fault<'a>>
-    ensures same { (base : TheBase) → IsBaseGiven (Some all.now) base.messages base.cursor → IfOk result (λ b. base ≡ b) }
+    ensures same { IfOk result (λ base. IsBaseGiven (Some all.now) base.messages base.cursor) }
     ensures err { IfErr result (λ fault. IsOutOfMemory fault ⊎ IsBaseFault (Some all.now) fault) }
 {
     let mut left = Followed::new(all, all.len(), watch);
@@ -79,7 +78,7 @@ fn open_apart<D: Disk, S: BuildHasher + Drop, T: MessageProgress>(
     hasher: S,
     watch: &T,
 ) -> Result<Option<Held<S>>, DiskError>
-    ensures held { Honestly (D.state disk.new) (IfOk result (λ found. IfSome found (λ held. (base : TheBase) → RepresentsInFile path.now base (D.state disk.old).seen → IsHeld (D.state disk.new) path.now held base))) }
+    ensures held { Honestly (D.state disk.new) (IfOk result (λ found. IfSome found (IsReadAs (D.state disk.old).seen (D.state disk.new) path.now))) }
     ensures reach { IfOk result (λ found. IfSome found (IsWithinReach (D.state disk.new) path.now)) }
     ensures there { Honestly (D.state disk.new) (IfOk result (λ found. IfNone found (IsSome ((D.state disk.old).seen path.now)))) }
     ensures settled { Honestly (D.state disk.new) (OnOk result (IsSettled (D.state disk.new) path.now)) }
@@ -105,7 +104,7 @@ fn open_whole<'a, D: Disk, S: BuildHasher + Drop, T: MessageProgress>(
     watch: &T,
 ) -> Result<Base<S>, Fault<'a>>
     requires there { Honestly (D.state disk.old) (IsSome ((D.state disk.old).seen path.now)) }
-    ensures same { Honestly (D.state disk.new) ((base : TheBase) → RepresentsInFile path.entry.now base (D.state disk.old).seen → IfOk result (λ b. base ≡ b)) }
+    ensures same { Honestly (D.state disk.new) (IfOk result (λ base. RepresentsInFile path.entry.now base (D.state disk.old).seen)) }
     ensures reads { ReadsOnly (D.state disk.old) (D.state disk.new) (D.failures disk.old) (D.failures disk.new) }
     ensures err { Honestly (D.state disk.new) (IfErr result (IsUnreadFor path.entry.now (Failed (D.failures disk.old) (D.failures disk.new)) (D.state disk.old))) }
 {
@@ -131,7 +130,7 @@ fn base_at<
 ) -> Result<Held<S>, Fault<'a>>
     requires links_locked { L.held _locks.now.links ≡ Some at.links.now }
     requires base_locked { K.held _locks.now.base ≡ Some at.base.now }
-    ensures same { Honestly (D.state disk.new) ((base : TheBase) → RepresentsInFile at.entry.base.now base (D.state disk.old).seen → IfOk result (λ held. IsHeld (D.state disk.new) at.entry.base.now held base)) }
+    ensures same { Honestly (D.state disk.new) (IfOk result (IsReadAs (D.state disk.old).seen (D.state disk.new) at.entry.base.now)) }
     ensures reach { IfOk result (IsWithinReach (D.state disk.new) at.entry.base.now) }
     ensures settled { Honestly (D.state disk.new) (OnOk result (IsSettled (D.state disk.new) at.entry.base.now)) }
     ensures reads { ReadsOnly (D.state disk.old) (D.state disk.new) (D.failures disk.old) (D.failures disk.new) }
@@ -171,7 +170,7 @@ fn locked_base<
     requires free { K.held locks.old.base ≡ None }
     ensures locked { OnOk result (K.held locks.new.base ≡ Some at.entry.base.now) }
     ensures links { locks.new.links ≡ locks.old.links }
-    ensures same { Honestly (D.state disk.new) ((base : TheBase) → RepresentsInFile at.entry.base.now base (D.state disk.old).seen → IfOk result (λ held. IsHeld (D.state disk.new) at.entry.base.now held base)) }
+    ensures same { Honestly (D.state disk.new) (IfOk result (IsReadAs (D.state disk.old).seen (D.state disk.new) at.entry.base.now)) }
     ensures reach { IfOk result (IsWithinReach (D.state disk.new) at.entry.base.now) }
     ensures settled { Honestly (D.state disk.new) (OnOk result (IsSettled (D.state disk.new) at.entry.base.now)) }
     ensures reads { ReadsOnly (D.state disk.old) (D.state disk.new) (D.failures disk.old) (D.failures disk.new) }
@@ -198,7 +197,7 @@ pub(crate) fn read_station<
     requires { AreFree (L.held locks.old.links) (K.held locks.old.base) }
     ensures locked { OnOk result ((L.held locks.new.links ≡ Some at.entry.links.now) × (K.held locks.new.base ≡ Some at.entry.base.now)) }
     ensures order { K.held locks.new.base ≡ Some at.entry.base.now → L.held locks.new.links ≡ Some at.entry.links.now }
-    ensures read { Honestly (D.state disk.new) (IfOk result (λ read. AreLinks (D.state disk.old) at.entry.links.now read.links × ((base : TheBase) → RepresentsInFile at.entry.base.now base (D.state disk.old).seen → IsHeld (D.state disk.new) at.entry.base.now read.held base))) }
+    ensures read { Honestly (D.state disk.new) (IfOk result (λ read. AreLinks (D.state disk.old) at.entry.links.now read.links × IsReadAs (D.state disk.old).seen (D.state disk.new) at.entry.base.now read.held)) }
     ensures reach { IfOk result (λ read. IsWithinReach (D.state disk.new) at.entry.base.now read.held) }
     ensures plain { IfOk result (λ read. All (λ b. b ≢ 47) read.own) }
     ensures settled { Honestly (D.state disk.new) (OnOk result (IsSettled (D.state disk.new) at.entry.base.now)) }

@@ -2,7 +2,7 @@
 ghost use Rattle.std.specs.Prelude.{◌≡◌, ◌≤◌, ◌⊎◌, ℕ, List, IfErr, IfOk, OnOk, Some};
 ghost use Rattle.base_file.specs.Base.{Base};
 ghost use Rattle.echo_addr.specs.declared.address.Address.{Address as TheAddress};
-ghost use Rattle.base_folder.specs.{Ours.IsOfOther, Unopened.HasOpened, Unopened.HaveRoom, Unopened.IsOpenedFor, Unopened.OpensOnly};
+ghost use Rattle.base_folder.specs.{Ours.IsOfOther, Unopened.HasOpened, Unopened.HaveRoom, Unopened.IsOpenedFor, Unopened.OpensOnly, Wrong.NeedsSound};
 ghost use Rattle.disk_io.specs.{Device.Failed, Disk.Honestly, Runs.ChangesNothing};
 ghost use Rattle.base_log.specs.Opening.{AreAlone};
 ghost use Rattle.base_folder_store.specs.Held.{RepresentsBase};
@@ -30,14 +30,14 @@ fn folder_at<'a, D: Disk, L: FileLock, K: FileLock>(
     found: FolderProbe,
     own: Address,
 ) -> Result<Folder, Fault<'a>>
-    requires links_locked { L.held _lock.now ≡ Some at.links.now }
-    requires folder_locked { K.held _held.now ≡ Some at.base.now }
+    requires locked { (L.held _lock.now ≡ Some at.links.now) × (K.held _held.now ≡ Some at.base.now) }
     requires alone { Honestly (D.state disk.old) (AreAlone at.path.now (D.state disk.old)) }
     ensures own { IfOk result (IsOpenedFor at.entry.path.now own found.key.0 found.key.1 (D.state disk.new)) }
     ensures other { Honestly (D.state disk.new) ((address : TheAddress) → IsOfOther own found.strange at.entry.path.now (D.state disk.old).seen address → OnOk result ⊥) }
     ensures same { Honestly (D.state disk.new) ((keyed : ℕ → ℕ → List ℕ → ℕ) (base : Base) → HaveRoom keyed → RepresentsBase keyed at.entry.path.now base (D.state disk.old).seen
         → IfOk result (HasOpened keyed (D.state disk.new) base)) }
     ensures run { OpensOnly at.entry.path.now (D.state disk.old) (D.state disk.new) }
+    ensures sound { Honestly (D.state disk.new) (NeedsSound found.strange at.entry.path.now (D.state disk.old) (D.state disk.new) result) }
     ensures err { Honestly (D.state disk.new) (IfErr result (IsNotOpened own found.strange at.entry.base.now at.entry.path.now (Failed (D.failures disk.old) (D.failures disk.new)) (D.state disk.old) (D.state disk.new))) }
     ensures later { D.failures disk.old ≤ D.failures disk.new }
 {

@@ -1,7 +1,7 @@
 use Rattle.std.proofs.Common.{arith, inl, inr, subst, sym}
 use Rattle.std.proofs.lemmas.Result.{err_from_is_err_and}
 use Rattle.echo_addr.specs.declared.address.Address.{Address}
-use Rattle.base_folder.specs.{Ours.IsOfOther, Unopened.IsOpenedFor}
+use Rattle.base_folder.specs.{Ours.IsOfOther, Unopened.IsOpenedFor, Wrong.IsSound}
 use Rattle.disk_io.specs.{Device.Failed, Disk.Files}
 use Rattle.station.specs.Opening.{HaveFailed}
 use Rattle.station.proofs.Failures.{failed_wider}
@@ -56,5 +56,6 @@ returns-clause-opened g c =
       other = λ honest address of.
           let seen = subst (λ (files : Files). IsOfOther own strange path files address) (sym (seen_same d0 d1 quiet)) of in
           says.other honest address (subst (λ (a : Address). IsOfOther a strange path d1.seen address) (sym c.system.ensures.own) seen);
+      sound = λ honest. subst (λ (files : Files). IsSound strange path files) (seen_same d0 d1 quiet) (says.sound honest).sound;
       same = λ honest keyed base fits represented. says.same honest keyed base fits (quiet_represented keyed path base d0 d1 quiet represented);
     }

@@ -1,6 +1,6 @@
 use Rattle.std.proofs.Common.{◌≡◌, ◌≤◌, ◌⊎◌, Err, arith, inl, inr, refl}
 use Rattle.disk_io.specs.Device.{Failed}
-use Rattle.station.proofs.{Failures.failed_wider, Ran.looks_of, Ran.looks_open, Ran.stopped_on}
+use Rattle.station.proofs.{Failures.failed_wider, Ran.looks_of, Ran.looks_open, Ran.needs_held, Ran.stopped_on}
 use Rattle.cmd_store.specs.declared.command_error.CommandError.TheVariants.{Met}
 use Rattle.cmd_status.specs.Devices.{output_of}
 use Rattle.station.specs.Opening.{HaveFailed}
@@ -116,3 +116,27 @@ returns-clause-runs g c = λ honest.
       is = refl;
       not_run = inl (record { fault = c.in-Err.stopped.fault; is = refl; cause = shut.cause honest; printed = refl; crash = shut.crash honest });
     })
+
+pub returns-in-Ok-prepare-clause-needs : goal.returns-in-Ok-prepare-clause-needs
+returns-in-Ok-prepare-clause-needs g c = λ honest.
+    let honest2 = c.into_disk-disk.ensures.quiet.honest honest in
+    let honest0 = c.prepare.ensures.looks.quiet.honest (c.scan_kept-done.ensures.keeps.keeps.honest honest2) in
+    needs_held _ _ (g.D.Disk.state c.args.disk) (g.D.Disk.state c.into_disk-disk.result) c.scan_kept-done.result (c.in-Ok.ensures.whole honest0)
+
+pub returns-in-Ok-clause-needs : goal.returns-in-Ok-clause-needs
+returns-in-Ok-clause-needs g c = λ honest.
+    let honest0 = c.prepare.ensures.looks.quiet.honest (c.into_disk-disk-in-Err-prepare.ensures.quiet.honest honest) in
+    needs_held _ _ (g.D.Disk.state c.args.disk) (g.D.Disk.state c.into_disk-disk-in-Err-prepare.result) _ (c.in-Ok.ensures.whole honest0)
+
+pub returns-clause-needs : goal.returns-clause-needs
+returns-clause-needs g c = λ honest.
+    let shut = c.in-Err.ensures.stopped in
+    record {
+      whole = tt;
+      refused = λ none. record {
+        stopped = Err (Met c.in-Err.stopped.fault);
+        is = refl;
+        not_run = inl (record { fault = c.in-Err.stopped.fault; is = refl; cause = shut.cause honest; printed = refl; crash = shut.crash honest });
+      };
+      untouched = c.in-Err.ensures.untouched honest;
+    }

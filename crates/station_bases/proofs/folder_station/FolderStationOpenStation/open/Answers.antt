@@ -1,5 +1,5 @@
 use Rattle.base_folder_store.specs.State.{IsCached, state_of, where_so}
-use Rattle.station_bases.proofs.Begun.{is_not_opened, is_opened}
+use Rattle.station_bases.proofs.Begun.{is_not_opened, is_opened, shut_untouched}
 use Rattle.station_bases.proofs.folder_station.FolderStationOpenStation.open.Goals as goal
 
 pub returns-in-Ok-clause-opened : goal.returns-in-Ok-clause-opened
@@ -17,3 +17,11 @@ returns-in-Err-clause-stopped g c =
     let at = c.args.self.at in
     is_not_opened g.H.Digest.keyed at.path.now (g.D.Disk.state c.args.disk) (g.D.Disk.state c.in-Err.stopped.disk) at.links.now at.base.now c.args.self.found.strange _ c.in-Err.stopped.fault
     c.in-Err.ensures.err (λ honest. c.in-Err.ensures.run.any_moment honest g.H.Digest.keyed) c.in-Err.ensures.run.outside
+
+pub returns-in-Ok-clause-whole : goal.returns-in-Ok-clause-whole
+returns-in-Ok-clause-whole g c honest = (c.in-Ok.ensures.begun honest).sound
+
+pub returns-in-Err-clause-untouched : goal.returns-in-Err-clause-untouched
+returns-in-Err-clause-untouched g c honest =
+    let at = c.args.self.at in
+    shut_untouched g.H.Digest.keyed at.path.now (g.D.Disk.state c.args.disk) (g.D.Disk.state c.in-Err.stopped.disk) at.links.now at.base.now c.args.self.found.strange _ c.in-Err.stopped.fault (c.in-Err.ensures.err honest)
