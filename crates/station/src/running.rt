@@ -8,7 +8,7 @@ ghost use Rattle.cmd_store.specs.declared.command_error.CommandError.TheVariants
 
 use crate::before::BeforeCommand;
 use crate::locks::Locks;
-use crate::opening::{OpenStation, Opened};
+use crate::opening::{OpenStation, Opened, lock_and_open};
 use cmd_status::FileLock;
 use cmd_store::{CommandError, StoreCommand};
 use disk_io::{Disk, Sink};
@@ -63,7 +63,7 @@ pub fn run_command<
     ensures elsewhere { KeepsElsewhere (P.place station) (D.state disk) (D.state result.disk) }
     ensures passed { OnOk result.done (Q.lets before.old) }
 {
-    match station.open(alloc, disk, locks) {
+    match lock_and_open(alloc, disk, locks, station) {
         Ok(opened) => {
             let Opened { links, kept } = opened;
             let mut kept = kept;

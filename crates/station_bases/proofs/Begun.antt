@@ -1,15 +1,16 @@
 -- A folder that was begun, as an open station.
-use Rattle.std.proofs.Common.{◌≤◌, ℕ, Bool, List, ⊎_elim, arith}
+use Rattle.std.proofs.Common.{◌≤◌, ℕ, Bool, List, ⊎_elim, inl, inr, arith}
 use Rattle.base_file.specs.Base.{Base}
 use Rattle.disk_io.specs.{Disk.DiskState, Disk.Honestly, Runs.ChangesNothing, Runs.LeavesOnly}
 use Rattle.disk_io.proofs.Moments.{weaker_run}
 use Rattle.base_log.specs.Moments.{KeepsOutside}
-use Rattle.station_bases.specs.{Opening.IsBegun, Opening.IsOfFolder, InFolder.IsFolderShut, InFolder.IsOwnLinks, InFolder.folder_place}
+use Rattle.station_bases.specs.{Opening.IsBegun, Opening.IsLockedOut, Opening.IsOfFolder, Opening.IsShut, InFolder.IsFolderShut, InFolder.IsOwnLinks, InFolder.folder_place}
 use Rattle.base_folder.specs.Wrong.{IsSound}
 use Rattle.base_folder_store.specs.Held.{RepresentsBase, RepresentsBaseOrWasLeft}
 use Rattle.echo_links.specs.Links.{LinkFile}
 use Rattle.cmd_status.specs.declared.fault.Fault.{Fault}
 use Rattle.base_store.specs.Store.{StoreState}
+use Rattle.station.proofs.Failures.{fails_wider, no_links_wider}
 use Rattle.station.specs.{Opening.IsNotOpened, Opening.IsOpened, Place.KeepsElsewhere, Place.RepresentsOrWasLeft}
 
 module _ (keyed : ℕ → ℕ → List ℕ → ℕ) (path : List ℕ) (d0 : DiskState) where
@@ -34,6 +35,16 @@ module _ (keyed : ℕ → ℕ → List ℕ → ℕ) (path : List ℕ) (d0 : Disk
   pub shut_untouched : (d1 : DiskState) (links base : List ℕ) (strange : Bool) (failed : Type 0) (fault : Fault) → IsFolderShut links base path strange failed d0 d1 fault
       → (IsSound strange path d0.seen → ⊥) → ChangesNothing d0 d1
   shut_untouched d1 links base strange failed fault shut none = ⊎_elim (λ out. out.same) (λ not. not.folder.untouched none) shut
+
+  -- the same reason for the failures of a whole run
+  pub folder_shut_wider : (d1 : DiskState) (links base : List ℕ) (strange : Bool) (P F : Type 0) (fault : Fault) → (P → F) → IsFolderShut links base path strange P d0 d1 fault → IsFolderShut links base path strange F d0 d1 fault
+  folder_shut_wider d1 links base strange P F fault more shut =
+      ⊎_elim (λ (out : IsLockedOut links base P d0 d1 fault). inl (record { same = out.same; cause = ⊎_elim (λ no. inl (no_links_wider d0 links P F fault more no)) (λ at. inr (fails_wider base P F fault more at)) out.cause }))
+      (λ (not : IsShut links base path strange P d0 d1 fault). inr (record {
+        file = not.file;
+        of_links = not.of_links;
+        folder = record { why = not.folder.why; wrong = not.folder.wrong; left = not.folder.left; recorded = not.folder.recorded; cause = λ is. more (not.folder.cause is); untouched = not.folder.untouched };
+      })) shut
 
   pub is_not_opened : (d1 : DiskState) (links base : List ℕ) (strange : Bool) (failed : Type 0) (fault : Fault) → Honestly d1 (IsFolderShut links base path strange failed d0 d1 fault)
       → Honestly d1 ((b : Base) → RepresentsBase keyed path b d0.seen → LeavesOnly d0 d1 (RepresentsBaseOrWasLeft keyed path d0 b)) → KeepsOutside path d0 d1

@@ -1,5 +1,5 @@
 -- A base file opened as a store.
-use Rattle.std.proofs.Common.{◌≡◌, ◌≤◌, ◌∙◌, inr, ℕ, List, Option, None, Some, ap, arith, refl, subst, sym}
+use Rattle.std.proofs.Common.{◌≡◌, ◌≤◌, ◌∙◌, inl, inr, ⊎_elim, ℕ, List, Option, None, Some, ap, arith, refl, subst, sym}
 use Rattle.std.specs.Prelude.{All, ◌≢◌, IsSome}
 use Rattle.base_file.specs.Base.{Base}
 use Rattle.base_file.proofs.Loading.{base_is}
@@ -8,10 +8,11 @@ use Rattle.disk_io.specs.{Disk.DiskState, Disk.Files, Disk.Honestly, Disk.bytes_
 use Rattle.disk_io.proofs.Moments.{weaker_run}
 use Rattle.echo_links.specs.Links.{LinkFile}
 use Rattle.cmd_status.specs.{Inputs.IsBaseGiven, declared.fault.Fault.Fault}
+use Rattle.station.proofs.Failures.{fails_wider, no_links_wider}
 use Rattle.station.specs.{Links.AreLinks, Opening.IsNotOpened, Opening.IsOpenFor, Opening.IsOpened, Place.IsOfPlace, Place.KeepsElsewhere, Place.RepresentsOrWasLeft}
 use Rattle.station_bases.specs.{InFile.IsHeld, InFile.IsReadAs, InFile.IsWithinReach, InFile.RepresentsInFile, InFile.file_state, declared.held.Held.Held, declared.held.Held.TheVariants.Whole}
 use Rattle.station_bases.proofs.Loaded.{base_in}
-use Rattle.station_bases.specs.Reading.{IsFileShut, IsSettled, IsShutFor, file_place}
+use Rattle.station_bases.specs.Reading.{IsFileShut, IsSettled, IsShutFor, IsUnreadFor, file_place}
 
 -- the base in the bytes of an existing file
 pub given_by : (f : Option (List ℕ)) (messages : List Filed) (cursor : ℕ) → IsSome f → IsBaseGiven (Some (bytes_in f)) messages cursor → IsBaseGiven f messages cursor
@@ -59,6 +60,11 @@ module _ {S T : Type 0} (d0 d1 : DiskState) (path own : List ℕ) (held : Held S
       → Honestly d1 ((b : Base) → RepresentsInFile path b d0.seen → IsHeld d1 path held b)
       → IsOpened (file_place path) (λ file. AreLinks d0 links file) d0 before now (file_state d1 path own held place) file
   is_opened links file before now later plain reach read on only = grind (arith, opened_file, of_file)
+
+-- the same reason for the failures of a whole run
+pub file_shut_wider : (links path : List ℕ) (P F : Type 0) (d : DiskState) (fault : Fault) → (P → F) → IsFileShut links path P d fault → IsFileShut links path F d fault
+file_shut_wider links path P F d fault more shut =
+    ⊎_elim (λ no. inl (no_links_wider d links P F fault more no)) (λ (unread : IsUnreadFor path P d fault). inr (⊎_elim (λ at. inl (fails_wider path P F fault more at)) (λ other. inr other) unread)) shut
 
 pub is_not_opened : (links path : List ℕ) (F : Type 0) (d0 d1 : DiskState) (fault : Fault) → ChangesNothing d0 d1 → Honestly d1 (IsFileShut links path F d0 fault)
     → IsNotOpened (file_place path) (IsShutFor links path F d0 d1) d0 d1 fault

@@ -17,7 +17,7 @@ use disk_atomic::ListStaged;
 use disk_io::{Disk, Sink};
 use echo_links::LinkFile;
 use model_steps::{ScanFault, Stamp, is_stamp};
-use station::{BeforeCommand, LendStation, Locks, OpenStation, Opened};
+use station::{BeforeCommand, LendStation, Locks, OpenStation, Opened, lock_and_open};
 use std::alloc::Global;
 
 /// A scan: its stamp, its folder of packets, a list of what earlier scans left there, and a progress report. The folder
@@ -82,7 +82,7 @@ pub fn run_scan<
     ensures passed { OnOk result.done (Q.lets before.old) }
 {
     let paths = station.paths();
-    match station.open(alloc, disk, locks) {
+    match lock_and_open(alloc, disk, locks, station) {
         Ok(opened) => {
             let Opened { links, kept } = opened;
             let mut kept = kept;
