@@ -69,7 +69,8 @@ returns-in-Ok-prepare-clause-tried g c = λ honest.
     let out = output_of g.W.Write.contents g.W.Sink.failures g.W.Sink.holds c.args.out.now in
     let now = output_of g.W.Write.contents g.W.Sink.failures g.W.Sink.holds c.scan_kept-done.new.out in
     scan_tries g.D.Disk.state c.args.scan.now.stamp place c.args.scan.now.outbound.now (g.P.OpenStation.reads c.args.station d0) d0 d2 s1 s2 (looks_of place d0 s0 s1 looks opened.of_place) quiet did.keeps.same honest2
-    (g.P.Paths.OwnPaths.is_own c.paths-paths.result) out now c.in-Ok.opened.links (opened.read honest0) c.scan_kept-done.result
+    (g.P.Paths.OwnPaths.is_own c.paths-paths.result) (λ m o. (c.paths-paths.ensures.own m).1 ((looks_of place d0 s0 s1 looks opened.of_place).own m o)) (c.paths-paths.ensures.settled c.prepare.new.store) out now c.in-Ok.opened.links (opened.read honest0) c.scan_kept-done.result
+    (λ base represented. s1.shown (did.keeps.keeps.honest honest2) looks.ready base (begun.committed base represented))
     (λ base represented. did.tried honest2 base (begun.keeps base represented) (begun.committed base represented))
 
 pub returns-in-Ok-prepare-clause-many : goal.returns-in-Ok-prepare-clause-many
