@@ -1,6 +1,6 @@
 -- A base file opened as a store.
-use Rattle.std.proofs.Common.{◌≡◌, ◌≤◌, ◌∙◌, inl, inr, ⊎_elim, ℕ, List, Option, None, Some, ap, arith, refl, subst, sym}
-use Rattle.std.specs.Prelude.{All, ◌≢◌, IsSome}
+use Rattle.std.proofs.Common.{◌≡◌, ◌≤◌, ◌⊎◌, ◌∙◌, inl, inr, ⊎_elim, ℕ, List, Option, None, Some, Result, Ok, Err, ap, arith, refl, subst, sym}
+use Rattle.std.specs.Prelude.{All, ◌≢◌, IfErr, IsSome}
 use Rattle.base_file.specs.Base.{Base}
 use Rattle.base_file.proofs.Loading.{base_is}
 use Rattle.echo_filed.specs.Filed.{Filed}
@@ -8,8 +8,8 @@ use Rattle.disk_io.specs.{Disk.DiskState, Disk.Files, Disk.Honestly, Disk.bytes_
 use Rattle.disk_io.proofs.Moments.{weaker_run}
 use Rattle.echo_links.specs.Links.{LinkFile}
 use Rattle.cmd_status.specs.{Inputs.IsBaseGiven, declared.fault.Fault.Fault}
-use Rattle.station.proofs.Failures.{fails_wider, no_links_wider}
-use Rattle.station.specs.{Links.AreLinks, Opening.IsNotOpened, Opening.IsOpenFor, Opening.IsOpened, Place.IsOfPlace, Place.KeepsElsewhere, Place.RepresentsOrWasLeft}
+use Rattle.station.proofs.Failures.{fails_wider, no_links_wider, not_locked, nothing_done}
+use Rattle.station.specs.{Faults.FailsAt, Links.AreLinks, Opening.IsNotOpened, Opening.IsOpenFor, Opening.IsOpened, Place.IsOfPlace, Place.KeepsElsewhere, Place.RepresentsOrWasLeft}
 use Rattle.station_bases.specs.{InFile.IsHeld, InFile.IsReadAs, InFile.IsWithinReach, InFile.RepresentsInFile, InFile.file_state, declared.held.Held.Held, declared.held.Held.TheVariants.Whole}
 use Rattle.station_bases.proofs.Loaded.{base_in}
 use Rattle.station_bases.specs.Reading.{IsFileShut, IsSettled, IsShutFor, IsUnreadFor, file_place}
@@ -65,6 +65,11 @@ module _ {S T : Type 0} (d0 d1 : DiskState) (path own : List ℕ) (held : Held S
 pub file_shut_wider : (links path : List ℕ) (P F : Type 0) (d : DiskState) (fault : Fault) → (P → F) → IsFileShut links path P d fault → IsFileShut links path F d fault
 file_shut_wider links path P F d fault more shut =
     ⊎_elim (λ no. inl (no_links_wider d links P F fault more no)) (λ (unread : IsUnreadFor path P d fault). inr (⊎_elim (λ at. inl (fails_wider path P F fault more at)) (λ other. inr other) unread)) shut
+
+-- a lock was not taken
+pub locked_out : {T : Type 0} (links path : List ℕ) (P Q F : Type 0) (d : DiskState) (result : Result T Fault) → (P → F) → (Q → F) → IfErr result (λ fault. FailsAt links P fault ⊎ FailsAt path Q fault) → IfErr result (IsShutFor links path F d d)
+locked_out links path P Q F d (Ok done) first second fails = tt
+locked_out links path P Q F d (Err fault) first second fails = (nothing_done d, ⊎_elim (λ no. inl no) (λ at. inr (inl at)) (not_locked d links path P Q F fault first second fails))
 
 pub is_not_opened : (links path : List ℕ) (F : Type 0) (d0 d1 : DiskState) (fault : Fault) → ChangesNothing d0 d1 → Honestly d1 (IsFileShut links path F d0 fault)
     → IsNotOpened (file_place path) (IsShutFor links path F d0 d1) d0 d1 fault
