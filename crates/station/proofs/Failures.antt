@@ -22,7 +22,7 @@ pub fails_wider : (path : List ℕ) (P F : Type 0) (fault : Fault) → (P → F)
 fails_wider path P F fault more at = ⊎_elim (λ memory. inl memory) (λ cannot. inr (cannot.0, more cannot.1)) at
 
 pub no_links_wider : (d : DiskState) (links : List ℕ) (P F : Type 0) (fault : Fault) → (P → F) → NoLinks d links P fault → NoLinks d links F fault
-no_links_wider d links P F fault more no = grind arith
+no_links_wider d links P F fault more none = grind arith
 
 -- no call was made
 pub nothing_done : (d : DiskState) → ChangesNothing d d

@@ -27,7 +27,7 @@ pub struct Stopped<'a, D> {
 }
 
 /// A kind of station: how it is opened as a store.
-pub trait OpenStation<'a, D: Disk> {
+pub trait OpenStation<'a, D: Disk>: Drop {
     type Kept: PurgedStore;
 
     // Which files hold which base, and which paths belong to it.

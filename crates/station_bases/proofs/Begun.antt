@@ -40,7 +40,7 @@ module _ (keyed : ℕ → ℕ → List ℕ → ℕ) (path : List ℕ) (d0 : Disk
   -- the same reason for the failures of a whole run
   pub folder_shut_wider : (d1 : DiskState) (links base : List ℕ) (strange : Bool) (P F : Type 0) (fault : Fault) → (P → F) → IsFolderShut links base path strange P d0 d1 fault → IsFolderShut links base path strange F d0 d1 fault
   folder_shut_wider d1 links base strange P F fault more shut =
-      ⊎_elim (λ (out : IsLockedOut links base P d0 d1 fault). inl (record { same = out.same; cause = ⊎_elim (λ no. inl (no_links_wider d0 links P F fault more no)) (λ at. inr (fails_wider base P F fault more at)) out.cause }))
+      ⊎_elim (λ (out : IsLockedOut links base P d0 d1 fault). inl (record { same = out.same; cause = ⊎_elim (λ none. inl (no_links_wider d0 links P F fault more none)) (λ at. inr (fails_wider base P F fault more at)) out.cause }))
       (λ (not : IsShut links base path strange P d0 d1 fault). inr (record {
         file = not.file;
         of_links = not.of_links;

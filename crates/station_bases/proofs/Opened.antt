@@ -64,12 +64,12 @@ module _ {S T : Type 0} (d0 d1 : DiskState) (path own : List ℕ) (held : Held S
 -- the same reason for the failures of a whole run
 pub file_shut_wider : (links path : List ℕ) (P F : Type 0) (d : DiskState) (fault : Fault) → (P → F) → IsFileShut links path P d fault → IsFileShut links path F d fault
 file_shut_wider links path P F d fault more shut =
-    ⊎_elim (λ no. inl (no_links_wider d links P F fault more no)) (λ (unread : IsUnreadFor path P d fault). inr (⊎_elim (λ at. inl (fails_wider path P F fault more at)) (λ other. inr other) unread)) shut
+    ⊎_elim (λ none. inl (no_links_wider d links P F fault more none)) (λ (unread : IsUnreadFor path P d fault). inr (⊎_elim (λ at. inl (fails_wider path P F fault more at)) (λ other. inr other) unread)) shut
 
 -- a lock was not taken
 pub locked_out : {T : Type 0} (links path : List ℕ) (P Q F : Type 0) (d : DiskState) (result : Result T Fault) → (P → F) → (Q → F) → IfErr result (λ fault. FailsAt links P fault ⊎ FailsAt path Q fault) → IfErr result (IsShutFor links path F d d)
 locked_out links path P Q F d (Ok done) first second fails = tt
-locked_out links path P Q F d (Err fault) first second fails = (nothing_done d, ⊎_elim (λ no. inl no) (λ at. inr (inl at)) (not_locked d links path P Q F fault first second fails))
+locked_out links path P Q F d (Err fault) first second fails = (nothing_done d, ⊎_elim (λ none. inl none) (λ at. inr (inl at)) (not_locked d links path P Q F fault first second fails))
 
 pub is_not_opened : (links path : List ℕ) (F : Type 0) (d0 d1 : DiskState) (fault : Fault) → ChangesNothing d0 d1 → Honestly d1 (IsFileShut links path F d0 fault)
     → IsNotOpened (file_place path) (IsShutFor links path F d0 d1) d0 d1 fault

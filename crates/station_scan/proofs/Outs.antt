@@ -142,7 +142,7 @@ module _ (Own : List ℕ → Type 0) (outbound own : List ℕ) (is_true failed :
       crash = sent_crash run;
       why = put_wider failed failed _ _ _ result (λ f. f) (λ taken. inr (s1.disk.seen, all_ended, ends.changes.seen, taken)) why;
       left =
-          tells_as _ _ _ _ _ _ _ _ (used.same.represented first s2.disk.seen).0 (λ none m at other. ⊎_elim (λ gone. inl gone) (λ same. inr (same ∙ ends.changes.seen m other)) (none m at (λ no. no)))
+          tells_as _ _ _ _ _ _ _ _ (used.same.represented first s2.disk.seen).0 (λ none m at other. ⊎_elim (λ gone. inl gone) (λ same. inr (same ∙ ends.changes.seen m other)) (none m at (λ never. never)))
           (used.same.represented next s2.disk.seen).0 (λ all. all) result left;
     }
 

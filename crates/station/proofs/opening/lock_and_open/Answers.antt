@@ -5,5 +5,5 @@ pub returns-in-Ok-clause-stopped : goal.returns-in-Ok-clause-stopped
 returns-in-Ok-clause-stopped g c =
     c.open.ensures.stopped (g.L.FileLock.failures c.args.locks.now.links) (g.L.FileLock.failures c.lock.new.locks.links) (g.K.FileLock.failures c.args.locks.now.base) (g.K.FileLock.failures c.lock.new.locks.base)
 
-pub returns-in-Err-clause-stopped : goal.returns-in-Err-clause-stopped
-returns-in-Err-clause-stopped g c = never_opened (g.P.OpenStation.place c.args.station) _ (g.D.Disk.state c.args.disk) c.in-Err.fault c.in-Err.ensures.shut
+pub returns-clause-stopped : goal.returns-clause-stopped
+returns-clause-stopped g c = never_opened (g.P.OpenStation.place c.args.station) _ (g.D.Disk.state c.args.disk) c.in-Err.fault c.in-Err.ensures.shut
