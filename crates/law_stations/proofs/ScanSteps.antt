@@ -24,8 +24,8 @@ module _ {D Kept : Type 0} (state : D → DiskState) (place : Kept → Place) (s
 
     still : ShowsStation (place seat.kept) seat.links i (state begun).seen d → Goes
     still shows = (
-        record { command = None; is = tt; next = d; cut = record { left = left; begins = all; may = refl; shows = shows; elsewhere = elsewhere } },
-        inl refl,
+      record { command = None; is = tt; next = d; cut = record { left = left; begins = all; may = refl; shows = shows; elsewhere = elsewhere } },
+      inl refl,
     )
 
     cut : Goes
