@@ -11,8 +11,8 @@ pub struct Last {
     pub size: u32,
 }
 
-/// The state of a JAM base. `entries` leaves out index entries of zeros at the end. The active messages are counted
-/// twice, as stated and as found. The last message is none if it is gone.
+/// The state of a JAM base. `entries` leaves out index entries of zeros at the end. `active` is the count of active
+/// messages that the base states, `counted` that of those found. `last` is none if that message is gone.
 #[derive(Clone, Copy, Debug, PartialEq, Eq)]
 pub struct Standing {
     pub entries: u32,
