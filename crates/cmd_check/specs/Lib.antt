@@ -4,6 +4,10 @@ pub mod Checking
 pub mod CheckingAll
 pub mod Assuming
 pub mod CheckingAssumed
+pub mod SupposedFiles
+pub mod Leaving
+pub mod JudgedAreas
+pub mod Supposing
 pub mod Picturing
 pub mod Whys
 pub mod Reasoning
