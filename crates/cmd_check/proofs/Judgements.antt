@@ -1,17 +1,20 @@
 -- The lines of a net with supposed and left out systems, from those of their parts.
-use Rattle.std.proofs.Common.{◌≡◌, ◌↔◌, ◌⊎◌, inl, inr, ℕ, ◌+◌, ◌<◌, ◌≤◌, ◌&&◌, Bool, true, false, List, [], ◌∷◌, ◌++◌, Contains, length, take, get_or, Option, Result, refl, sym, ap, subst, ◌∙◌, arith, append_assoc, append-nil}
-use Rattle.std.specs.List.{AllByRecursion, AllZip, flat_map}
+use Rattle.std.proofs.Common.{◌≡◌, ◌↔◌, ◌⊎◌, inl, inr, ℕ, ◌&&◌, Bool, true, false, List, [], ◌∷◌, ◌++◌, Contains, length, Option, Ok, Err, Result, refl, sym, ap, subst, ◌∙◌, arith, append_assoc, append-nil}
+use Rattle.std.specs.List.{AllZip, count_by, flat_map}
 use Rattle.echo_addr.specs.declared.address.Address.{Address}
 use Rattle.echo_links.specs.Links.{LinkFile}
 use Rattle.echo_net.specs.Parts.{AreCutOff}
 use Rattle.echo_nodelist.specs.declared.line.Line.{Line}
 use Rattle.model_run.specs.{Tidy.Tidy, AnyState.NewMessagesAreInOrder}
-use Rattle.cmd_status.specs.{declared.fault.Fault.Fault, declared.status.Status.Status, declared.status.Status.TheVariants.Good, Inputs.IsLinkFault}
+use Rattle.cmd_status.specs.{Devices.Output, declared.fault.Fault.Fault, declared.status.Status.Status, declared.status.Status.TheVariants.Good, Ended.Answers, Ended.IsOutOfMemory, Inputs.IsLinkFault}
 use Rattle.cmd_status.proofs.Lines.{alone}
 use Rattle.cmd_print.specs.Pushed.{Pushes}
 use Rattle.cmd_check.specs.{Assuming.assumed_line, CheckingAll.IsAreaChecked, CheckingAll.verdicts_status, Leaving.texts_left}
-use Rattle.cmd_check.specs.JudgedAreas.{AreAreasJudged, AreCutWithout, AreNetLines, AreTailLines, CutsShown, IsAreaJudged, IsVerdictLeft, JudgedNet, cut_line, is_alone, supposed_here, tail_lines, unseen_line, without_line}
-use Rattle.cmd_check.specs.{SupposedFiles.AreUnseen, Supposing.InEachArea, Supposing.IsNetShown}
+use Rattle.cmd_check.specs.JudgedAreas.{AreAreasJudged, AreCutWithout, AreNetLines, AreTailLines, CutsShown, IsAreaJudged, IsVerdictLeft, JudgedNet, alone_line, cut_line, is_alone, judged_areas_line, supposed_here, tail_lines, unseen_line, without_line}
+use Rattle.cmd_check.specs.SupposedFiles.{AreSupposed, AreUnseen, IsSupposedFile, ReadsSupposed}
+use Rattle.cmd_check.specs.Supposing.{EndsOrUnknown, IsJudged, IsJudgingFault, IsLeftShown, IsNetShown, IsWhole, ended_as}
+use Rattle.cmd_check.specs.declared.supposing.Judged.{Judged}
+use Rattle.cmd_check.proofs.Printing.{answers_as}
 use Rattle.cmd_check.proofs.AllAreas.{all_yes, area_in_order, area_tidy, each_tag, in_order, of_tag, status_good}
 
 module _ (net : JudgedNet) (list : Option (List Line)) (more listed : Bool) where
@@ -58,6 +61,32 @@ module _ (net : JudgedNet) (list : Option (List Line)) (more listed : Bool) wher
         orderly = λ good tag there has. (ordered good tag there has).1;
       }
 
+-- the line of an area without a verdict, and those of a verdict
+pub alone_pushed : (alone : Bool) (left : List LinkFile) (list : Option (List Line)) (more : Bool) (tag old new : List ℕ) → alone ≡ true → new ≡ old ++ alone_line tag
+    → Pushes (IsVerdictLeft alone left list more tag 0) old new
+alone_pushed true left list more tag old new is pushed = record { lines = alone_line tag; are = (refl, refl); whole = pushed }
+alone_pushed false left list more tag old new is pushed = absurd cc
+
+pub verdict_pushed : (alone : Bool) (left : List LinkFile) (list : Option (List Line)) (more : Bool) (tag : List ℕ) (noes : ℕ) (old new : List ℕ) → alone ≡ false
+    → Pushes (IsAreaChecked left list more tag noes) old new → Pushes (IsVerdictLeft alone left list more tag noes) old new
+verdict_pushed true left list more tag noes old new is pushed = absurd cc
+verdict_pushed false left list more tag noes old new is pushed = pushed
+
+-- the lines of the areas, and that of their numbers
+pub net_pushed : (net : JudgedNet) (list : Option (List Line)) (more listed : Bool) (tags : List (List ℕ)) (areas alone noes : ℕ) (asked : Bool) (old mid new : List ℕ)
+    → Pushes (AreAreasJudged net list more listed tags noes) old mid → asked ≡ (listed && more) → areas ≡ length tags → alone ≡ count_by (is_alone net.whole net.left) tags
+    → new ≡ mid ++ judged_areas_line asked areas alone noes → Pushes (AreNetLines net list more listed tags noes) old new
+net_pushed net list more listed tags areas alone noes asked old mid new front is count lone pushed =
+    let line : List ℕ = judged_areas_line (listed && more) (length tags) (count_by (is_alone net.whole net.left) tags) noes in
+    let same : judged_areas_line asked areas alone noes ≡ line =
+    ap (λ b. judged_areas_line b areas alone noes) is ∙ ap (λ n. judged_areas_line (listed && more) n alone noes) count
+    ∙ ap (λ n. judged_areas_line (listed && more) (length tags) n noes) lone in
+    record {
+      lines = front.lines ++ line;
+      are = (front.lines, front.are, refl);
+      whole = pushed ∙ ap (λ l. mid ++ l) same ∙ ap (λ l. l ++ line) front.whole ∙ append_assoc old front.lines line;
+    }
+
 -- the lines after those of the verdict
 pub tail_pushed : (net : JudgedNet) (listed : Bool) (tag : List ℕ) (here unseen : List Address) (old a b c new : List ℕ)
     → here ≡ supposed_here listed net.given tag net.assumed → AreUnseen net.whole tag net.out here unseen → a ≡ old ++ flat_map assumed_line here
@@ -94,3 +123,33 @@ pub some_cut : (out : List Address) (left : List LinkFile) (tag : List ℕ) (cut
     → new ≡ old ++ flat_map cut_line cut → Pushes (CutsShown out left tag) old new
 some_cut out left tag cut old new some are pushed =
     record { lines = flat_map cut_line cut; are = (cut, are_cut out left tag cut some are, refl); whole = pushed }
+
+-- a supposed system's file that is refused
+pub supposed_refused : (files : List LinkFile) (tags : List (List ℕ)) (named : List Address) (missing listed : Bool) (out assumed : List Address) (fault : Fault)
+    → AreSupposed files tags named missing assumed
+    → IsOutOfMemory fault ⊎ ((texts : List (List ℕ)) × AllZip (IsSupposedFile listed files tags) assumed texts × IsLinkFault texts fault)
+    → IsOutOfMemory fault ⊎ IsJudgingFault files tags named missing listed out fault
+supposed_refused files tags named missing listed out assumed fault are (inl memory) = inl memory
+supposed_refused files tags named missing listed out assumed fault are (inr found) =
+    inr (inl (record { assumed = assumed; are_supposed = are; texts = found.0; are_texts = found.1; fault_is = found.2 }))
+
+-- the answer on all files is that on the given ones
+pub was_judged : (files : List LinkFile) (list : Option (List Line)) (more listed : Bool) (tags : List (List ℕ)) (named : List Address) (missing : Bool) (out assumed : List Address)
+    (whole : List LinkFile) (old new : Output) (answer : Result Status Fault) → AreSupposed files tags named missing assumed → ReadsSupposed listed files tags assumed whole
+    → Answers (IsLeftShown files whole assumed out list more listed tags) (IsLinkFault (texts_left out whole)) old new answer
+    → Answers (IsJudged files list more listed tags named missing out) (IsJudgingFault files tags named missing listed out) old new answer
+was_judged files list more listed tags named missing out assumed whole old new answer are reads shown =
+    let is_whole : IsWhole files tags named missing listed assumed whole = record { are_supposed = are; reads = reads } in
+    answers_as (IsLeftShown files whole assumed out list more listed tags) (IsJudged files list more listed tags named missing out)
+    (IsLinkFault (texts_left out whole)) (IsJudgingFault files tags named missing listed out) old new answer
+    (λ lines status is. record { assumed = assumed; whole = whole; is_whole = is_whole; shown = is })
+    (λ fault is. inr (record { assumed = assumed; whole = whole; is_whole = is_whole; fault_is = is })) shown
+
+-- the answer of a net is that of the command
+pub ended_answers : (IsPart IsWhole : List ℕ → Status → Type 0) (IsFirst : Address → Type 0) (IsFault IsRefused : Fault → Type 0) (old new : Output) (answer : Result Status Fault)
+    (result : Result Judged Fault) → ((lines : List ℕ) (a : Status) → IsPart lines a → IsWhole lines a) → ((fault : Fault) → IsFault fault → IsRefused fault)
+    → Answers IsPart IsFault old new answer → result ≡ ended_as answer → EndsOrUnknown IsWhole IsFirst IsRefused old new result
+ended_answers IsPart IsWhole IsFirst IsFault IsRefused old new (Ok status) result lines faults shown is =
+    subst (EndsOrUnknown IsWhole IsFirst IsRefused old new) (sym is) (answers_as IsPart IsWhole IsFault IsRefused old new (Ok status) lines faults shown)
+ended_answers IsPart IsWhole IsFirst IsFault IsRefused old new (Err fault) result lines faults shown is =
+    subst (EndsOrUnknown IsWhole IsFirst IsRefused old new) (sym is) (answers_as IsPart IsWhole IsFault IsRefused old new (Err fault) lines faults shown)

@@ -13,3 +13,4 @@ pub mod Zips
 pub mod SupposedTexts
 pub mod Leftovers
 pub mod Judgements
+pub mod FilledParts

@@ -10,7 +10,7 @@ use Rattle.model_run.proofs.Lists.{Among-filter_from, Among-filter_to}
 use Rattle.echo_net.specs.{declared.link.Link.Link, Drawn.has_address, Faults.IsCarried, Listings.IsListedIn, Listings.IsListing, Nets.link, Nets.systems}
 use Rattle.echo_net.proofs.Drawings.{address_held}
 use Rattle.cmd_print.specs.Pushed.{Pushes}
-use Rattle.cmd_check.specs.{Assuming.link_word, JudgedAreas.unseen_line, Leaving.stays}
+use Rattle.cmd_check.specs.{Assuming.link_word, JudgedAreas.unseen_line, JudgedAreas.unseen_note, Leaving.stays}
 use Rattle.cmd_check.specs.SupposedFiles.{AddsSupposed, AreExactly, AreMissing, AreSupposed, AreSupposedLines, AreUnseen, IsMissing, IsSupposedFile, area_line, has_supposed, line_of, system_line}
 use Rattle.cmd_check.proofs.Zips.{zip_from, zip_next, zip_to}
 
@@ -23,18 +23,18 @@ were_missing files tags listings named all are up held = record {
   ascending = up;
   members = λ a. (
     λ h. (let (listed, no_file, unnamed) = (held a).0 h in
-      let (backs, b, there, has) = listed in
-      let (tag, judged, listing) = zip_from (IsListing files) backs tags listings (Among-from_Contains backs listings there) are in
-      record {
-        tag = tag;
-        lister = b;
-        judged = Contains-from_Among tag tags judged;
-        listed = (listing (link a b)).0 has;
-        no_file = no_file;
-        unnamed = unnamed;
-      }),
+        let (backs, b, there, has) = listed in
+        let (tag, judged, listing) = zip_from (IsListing files) backs tags listings (Among-from_Contains backs listings there) are in
+        record {
+          tag = tag;
+          lister = b;
+          judged = Contains-from_Among tag tags judged;
+          listed = (listing (link a b)).0 has;
+          no_file = no_file;
+          unnamed = unnamed;
+        }),
     λ m. (let (backs, there, listing) = zip_to (IsListing files) m.tag tags listings (Among-from_Contains m.tag tags m.judged) are in
-      (held a).1 ((backs, m.lister, Contains-from_Among backs listings there, (listing (link a m.lister)).1 m.listed), m.no_file, m.unnamed)),
+        (held a).1 ((backs, m.lister, Contains-from_Among backs listings there, (listing (link a m.lister)).1 m.listed), m.no_file, m.unnamed)),
   );
 }
 
@@ -139,11 +139,11 @@ were_unseen files tag out here left all carried kept up same = record {
       λ is. (let held : has_address out a ≡ true = (address_held out a).1 is in cc),
     )),
     λ m. (let stay : not (has_address out a) ≡ true = elim (cases_Bool (has_address out a)) [
-        | inl passes ↦ absurd (m.2 ((address_held out a).0 passes))
-        | inr fails ↦ ap not fails
-      ] in
-      (same a).1 (subst (λ (l : List Address). Contains l a) (sym kept)
-      (Contains-from_Among a (filter (stays out) here) (Among-filter_to (stays out) a here (Among-from_Contains a here m.1) stay)))),
+      | inl passes ↦ absurd (m.2 ((address_held out a).0 passes))
+      | inr fails ↦ ap not fails
+    ] in
+        (same a).1 (subst (λ (l : List Address). Contains l a) (sym kept)
+        (Contains-from_Among a (filter (stays out) here) (Among-filter_to (stays out) a here (Among-from_Contains a here m.1) stay)))),
   );
 }
 
@@ -167,3 +167,14 @@ pub many_unseen : (all : List Address) → 2 ≤ length all → unseen_line all 
 many_unseen [] many = absurd (omega (arith, many))
 many_unseen (a ∷ []) many = absurd (omega (arith, many))
 many_unseen (a ∷ (b ∷ more)) many = refl
+
+-- the same of notes
+pub few_noted : (begin : List ℕ) (all : List Address) → length all < 2 → unseen_note begin all ≡ []
+few_noted begin [] few = refl
+few_noted begin (a ∷ []) few = refl
+few_noted begin (a ∷ (b ∷ more)) few = absurd (omega (arith, few))
+
+pub many_noted : (begin : List ℕ) (all : List Address) → 2 ≤ length all → unseen_note begin all ≡ begin ++ unseen_line all
+many_noted begin [] many = absurd (omega (arith, many))
+many_noted begin (a ∷ []) many = absurd (omega (arith, many))
+many_noted begin (a ∷ (b ∷ more)) many = refl

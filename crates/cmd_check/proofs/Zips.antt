@@ -25,11 +25,15 @@ module _ {X Y : Type 0} (R : X → Y → Type 0) where
   zip_length (z ∷ xs) (u ∷ ys) are = let e = zip_length xs ys are.1 in omega (arith, e)
 
   -- the items at one index
-  pub zip_at : (xs : List X) (ys : List Y) (k : ℕ) (d : X) (e : Y) → AllZip R xs ys → k < length xs → R (get_or xs k d) (get_or ys k e)
+  zip_at : (xs : List X) (ys : List Y) (k : ℕ) (d : X) (e : Y) → AllZip R xs ys → k < length xs → R (get_or xs k d) (get_or ys k e)
   zip_at [] ys k d e are inside = absurd (omega (arith, inside))
   zip_at (z ∷ xs) [] k d e are inside = absurd are
   zip_at (z ∷ xs) (u ∷ ys) zero d e are inside = are.0
   zip_at (z ∷ xs) (u ∷ ys) (suc k) d e are inside = zip_at xs ys k d e are.1 (omega (arith, inside))
+
+  pub zip_read : (xs : List X) (ys : List Y) (k : ℕ) (x z : X) (y : Y) → AllZip R xs ys → k < length xs → x ≡ get_or xs k x → z ≡ x → y ≡ get_or ys k y → R z y
+  zip_read xs ys k x z y are inside x-is z-is y-is =
+      subst (λ (u : X). R u y) (sym (z-is ∙ x-is)) (subst (λ (v : Y). R (get_or xs k x) v) (sym y-is) (zip_at xs ys k x y are inside))
 
   -- an item of the one list belongs to one of the other
   pub zip_from : (y : Y) (xs : List X) (ys : List Y) → Among y ys → AllZip R xs ys → (x : X) × Among x xs × R x y

@@ -9,6 +9,7 @@ pub mod Leaving
 pub mod JudgedAreas
 pub mod Supposing
 pub mod Picturing
+pub mod PicturingParts
 pub mod Whys
 pub mod Reasoning
 pub mod Replayed

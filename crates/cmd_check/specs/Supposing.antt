@@ -66,20 +66,24 @@ abbrev pub IsJudgingFault : List LinkFile → List (List ℕ) → List Address �
 IsJudgingFault files tags named missing listed out fault =
     IsSupposedFault files tags named missing listed fault ⊎ IsLeftFault files tags named missing listed out fault
 
--- The inputs have no fault: these are the link files, the nodelist and the judged areas.
-pub record AreRead (nodelist : Option (List ℕ)) (tag : Option (List ℕ)) (inputs : List (List ℕ)) (out : List Address) (files : List LinkFile) (list : Option (List Line)) (tags : List (List ℕ)) : Type 0 where
-  pub are_files : AreLinkFiles inputs files
-  pub is_list : IsNodelistGiven nodelist list
-  pub are_tags : AreJudgedTags files tag out tags
+-- The lines on files that were read, in the judged areas.
+abbrev pub IsKnownJudged : List LinkFile → Option (List Line) → Bool → Option (List ℕ) → List Address → Bool → List Address → List ℕ → Status → Type 0
+IsKnownJudged files list more tag named missing out lines status =
+    (tags : List (List ℕ)) × AreJudgedTags files tag out tags × IsJudged files list more (is_none tag) tags named missing out lines status
+
+-- The fault of a file that is written for the judgement of these areas.
+abbrev pub IsKnownFault : List LinkFile → Option (List ℕ) → List Address → Bool → List Address → Fault → Type 0
+IsKnownFault files tag named missing out fault =
+    (tags : List (List ℕ)) × AreJudgedTags files tag out tags × IsJudgingFault files tags named missing (is_none tag) out fault
 
 -- The lines for the given inputs. Each left out address is known.
 pub record IsSupposingShown (nodelist : Option (List ℕ)) (more : Bool) (tag : Option (List ℕ)) (inputs : List (List ℕ)) (named : List Address) (missing : Bool) (out : List Address) (lines : List ℕ) (status : Status) : Type 0 where
   pub files : List LinkFile
+  pub are_files : AreLinkFiles inputs files
   pub list : Option (List Line)
-  pub tags : List (List ℕ)
-  pub are_read : AreRead nodelist tag inputs out files list tags
+  pub is_list : IsNodelistGiven nodelist list
   pub known : first_unknown files out ≡ None
-  pub judged : IsJudged files list more (is_none tag) tags named missing out lines status
+  pub judged : IsKnownJudged files list more tag named missing out lines status
 
 -- No file is of this left out address or lists it, and it is the first such.
 pub record IsFirstUnknown (nodelist : Option (List ℕ)) (inputs : List (List ℕ)) (out : List Address) (a : Address) : Type 0 where
@@ -93,9 +97,12 @@ pub record IsFirstUnknown (nodelist : Option (List ℕ)) (inputs : List (List �
 pub record IsWrittenFault (tag : Option (List ℕ)) (inputs : List (List ℕ)) (named : List Address) (missing : Bool) (out : List Address) (fault : Fault) : Type 0 where
   pub files : List LinkFile
   pub are_files : AreLinkFiles inputs files
-  pub tags : List (List ℕ)
-  pub are_tags : AreJudgedTags files tag out tags
-  pub fault_is : IsJudgingFault files tags named missing (is_none tag) out fault
+  pub fault_is : IsKnownFault files tag named missing out fault
+
+-- The answer of a net in which each left out address is known.
+abbrev pub ended_as : Result Status Fault → Result Judged Fault
+ended_as (Ok status) = Ok (Ended status)
+ended_as (Err fault) = Err fault
 
 -- The right answer after an unknown address, or any other one.
 abbrev pub EndsOrUnknown : (List ℕ → Status → Type 0) → (Address → Type 0) → (Fault → Type 0) → Output → Output → Result Judged Fault → Type 0

@@ -230,11 +230,7 @@ pub(crate) fn push_system(text: &mut Vec<u8>, address: Address) -> Result<(), Al
 }
 
 /// Adds the line of an area with these links.
-pub(crate) fn push_area(
-    text: &mut Vec<u8>,
-    tag: &[u8],
-    links: &[Address],
-) -> Result<(), AllocError>
+pub(crate) fn push_area(text: &mut Vec<u8>, tag: &[u8], links: &[Address]) -> Result<(), AllocError>
     ensures { OnOk result (text.new.items ≡ text.old.items ++ area_line tag.now links.now) }
 {
     text.extend_from_slice(b"AREA ")?;

@@ -50,13 +50,19 @@ pub(crate) fn push_net(
     areas: SupposedAreas<'_>,
     net: Net<'_>,
 ) -> Result<usize, AllocError>
-    requires { length areas.entry.listings.now ≡ length areas.entry.tags.now }
+    requires { length areas.listings.now ≡ length areas.tags.now }
     ensures { (given : List LinkFile) → AllZip (IsListing given) areas.entry.tags.now areas.entry.listings.now → IfOk result (λ noes.
         Pushes (AreNetLines (judged_net given net.entry.whole.now net.entry.left.now net.entry.assumed.now net.entry.out.now) (option_copied judging.entry.list) judging.entry.more judging.entry.listed areas.entry.tags.now noes) lines.old.items lines.new.items) }
 {
     let noes = push_areas(alloc, lines, judging, areas, net)?;
     let alone = count_alone(net, areas.tags);
-    push_count(lines, judging.listed && judging.more, areas.tags.len(), alone, noes)?;
+    push_count(
+        lines,
+        judging.listed && judging.more,
+        areas.tags.len(),
+        alone,
+        noes,
+    )?;
     Ok(noes)
 }
 
@@ -101,7 +107,7 @@ fn push_areas(
     areas: SupposedAreas<'_>,
     net: Net<'_>,
 ) -> Result<usize, AllocError>
-    requires { length areas.entry.listings.now ≡ length areas.entry.tags.now }
+    requires { length areas.listings.now ≡ length areas.tags.now }
     ensures lines { (given : List LinkFile) → AllZip (IsListing given) areas.entry.tags.now areas.entry.listings.now → IfOk result (λ noes.
         Pushes (AreAreasJudged (judged_net given net.entry.whole.now net.entry.left.now net.entry.assumed.now net.entry.out.now) (option_copied judging.entry.list) judging.entry.more judging.entry.listed areas.entry.tags.now noes) lines.old.items lines.new.items) }
     ensures within { IfOk result (λ noes. noes ≤ length areas.entry.tags.now) }
@@ -147,9 +153,11 @@ fn push_head(
 {
     if is_alone(net.whole, net.left, tag) {
         push_alone(lines, tag)?;
-        return Ok(0);
+        Ok(0)
+    } else {
+        let noes = push_verdict_left(alloc, lines, judging, net.left, tag)?;
+        Ok(noes)
     }
-    push_verdict_left(alloc, lines, judging, net.left, tag)
 }
 
 // Adds the lines of `check`. Returns 1 if the verdict is a no.
@@ -196,7 +204,8 @@ fn push_tail(
     push_assumed_lines(lines, &here)?;
     push_unseen_line(lines, &unseen)?;
     push_cut(alloc, lines, net.left, tag, net.out)?;
-    push_without(lines, net.out)
+    push_without(lines, net.out)?;
+    Ok(())
 }
 
 // Adds a line for each part that is cut off, if systems are left out.
@@ -210,10 +219,12 @@ fn push_cut(
     ensures { OnOk result (Pushes (CutsShown out.now left.now tag.now) lines.old.items lines.new.items) }
 {
     if out.is_empty() {
-        return Ok(());
+        Ok(())
+    } else {
+        let cut = cut_off(alloc, left, tag)?;
+        push_parts(lines, &cut)?;
+        Ok(())
     }
-    let cut = cut_off(alloc, left, tag)?;
-    push_parts(lines, &cut)
 }
 
 fn push_parts(lines: &mut Vec<u8>, cut: &[Items<Address>]) -> Result<(), AllocError>
@@ -281,11 +292,7 @@ fn push_supposed_notes(
 }
 
 // Adds the note on the systems behind which nothing was seen.
-fn push_unseen_note(
-    lines: &mut Vec<u8>,
-    begin: &[u8],
-    unseen: &[Address],
-) -> Result<(), AllocError>
+fn push_unseen_note(lines: &mut Vec<u8>, begin: &[u8], unseen: &[Address]) -> Result<(), AllocError>
     ensures { OnOk result (lines.new.items ≡ lines.old.items ++ unseen_note begin.now unseen.now) }
 {
     if unseen.len() < 2 {
@@ -296,11 +303,7 @@ fn push_unseen_note(
 }
 
 // Adds a note on each left out system.
-fn push_without_notes(
-    lines: &mut Vec<u8>,
-    begin: &[u8],
-    out: &[Address],
-) -> Result<(), AllocError>
+fn push_without_notes(lines: &mut Vec<u8>, begin: &[u8], out: &[Address]) -> Result<(), AllocError>
     ensures { OnOk result (lines.new.items ≡ lines.old.items ++ flat_map (without_note begin.now) out.now) }
 {
     'out: for address in out {
@@ -309,11 +312,7 @@ fn push_without_notes(
     Ok(())
 }
 
-fn push_without_note(
-    lines: &mut Vec<u8>,
-    begin: &[u8],
-    address: Address,
-) -> Result<(), AllocError>
+fn push_without_note(lines: &mut Vec<u8>, begin: &[u8], address: Address) -> Result<(), AllocError>
     ensures { OnOk result (lines.new.items ≡ lines.old.items ++ without_note begin.now address) }
 {
     lines.extend_from_slice(begin)?;

@@ -126,7 +126,8 @@ fn missing_in(
     ensures { (tags : List (List ℕ)) → AllZip (IsListing files.now) tags listings.now → IfOk result (λ all. AreMissing asked files.now tags named.now all.items) }
 {
     if asked {
-        missing(alloc, files, listings, named)
+        let all = missing(alloc, files, listings, named)?;
+        Ok(all)
     } else {
         Ok(Vec::new(alloc))
     }
@@ -148,7 +149,7 @@ pub(crate) fn read_supposed<'a>(
     listed: bool,
     assumed: &[Address],
 ) -> Result<(), Fault<'a>>
-    requires { AllZip (IsListing links.old.items) areas.entry.tags.now areas.entry.listings.now }
+    requires { AllZip (IsListing links.old.items) areas.tags.now areas.listings.now }
     ensures ok { OnOk result (ReadsSupposed listed links.old.items areas.entry.tags.now assumed.now links.new.items) }
     ensures err { IfErr result (λ fault. IsOutOfMemory fault ⊎ ((texts : List (List ℕ)) × AllZip (IsSupposedFile listed links.old.items areas.entry.tags.now) assumed.now texts × IsLinkFault texts fault)) }
 {
@@ -166,7 +167,7 @@ fn push_files(
     listed: bool,
     assumed: &[Address],
 ) -> Result<(), AllocError>
-    requires { AllZip (IsListing files.now) areas.entry.tags.now areas.entry.listings.now }
+    requires { AllZip (IsListing files.now) areas.tags.now areas.listings.now }
     ensures { OnOk result (AddsSupposed listed files.now areas.entry.tags.now assumed.now texts.old.items texts.new.items) }
 {
     'assumed: for address in assumed {
@@ -183,7 +184,7 @@ fn file_text(
     listed: bool,
     address: Address,
 ) -> Result<Items<u8>, AllocError>
-    requires { AllZip (IsListing files.now) areas.entry.tags.now areas.entry.listings.now }
+    requires { AllZip (IsListing files.now) areas.tags.now areas.listings.now }
     ensures { IfOk result (λ text. IsSupposedFile listed files.now areas.entry.tags.now address text) }
 {
     let mut text = Vec::new(alloc);
@@ -201,7 +202,7 @@ fn push_supposed_areas(
     listed: bool,
     address: Address,
 ) -> Result<(), AllocError>
-    requires { AllZip (IsListing files.now) areas.entry.tags.now areas.entry.listings.now }
+    requires { AllZip (IsListing files.now) areas.tags.now areas.listings.now }
     ensures { OnOk result (Pushes (AreSupposedLines listed files.now areas.entry.tags.now address) text.old.items text.new.items) }
 {
     let SupposedAreas { tags, listings } = areas;
@@ -225,11 +226,13 @@ fn push_supposed_area(
     requires { IsListing files.now tag.now listing.now }
     ensures { OnOk result (Pushes (AreSupposedLines listed files.now (tag.now ∷ []) address) text.old.items text.new.items) }
 {
-    if !has_supposed(files, tag, listing, listed, address) {
-        return Ok(());
+    if has_supposed(files, tag, listing, listed, address) {
+        let links = listing.listers(alloc, address)?;
+        push_area(text, tag, &links)?;
+        Ok(())
+    } else {
+        Ok(())
     }
-    let links = listing.listers(alloc, address)?;
-    push_area(text, tag, &links)
 }
 
 // Whether the system has the area.
@@ -294,12 +297,13 @@ pub(crate) fn unseen(
 ) -> Result<Vec<Address>, AllocError>
     ensures { IfOk result (λ unseen. AreUnseen files.now tag.now out.now assumed.now unseen.items) }
 {
-    if !is_carried(files, tag) {
-        return Ok(Vec::new(alloc));
+    if is_carried(files, tag) {
+        let mut unseen = staying(alloc, out, assumed)?;
+        put_in_order(&mut unseen);
+        Ok(unseen)
+    } else {
+        Ok(Vec::new(alloc))
     }
-    let mut unseen = staying(alloc, out, assumed)?;
-    put_in_order(&mut unseen);
-    Ok(unseen)
 }
 
 /// Adds a line for the systems behind which nothing was seen. One alone has no line.

@@ -6,7 +6,7 @@ ghost use Rattle.echo_net.specs.Listings.{IsListing};
 ghost use Rattle.cmd_status.specs.{Devices.output_of, Ended.Answers, Inputs.IsLinkFault};
 ghost use Rattle.cmd_check.specs.JudgedAreas.{judged_net};
 ghost use Rattle.cmd_check.specs.Leaving.{is_judged, texts_left};
-ghost use Rattle.cmd_check.specs.Supposing.{AreJudgedTags, IsJudged, IsJudgingFault, IsLeftShown, IsNetShown, SupposingAnswers};
+ghost use Rattle.cmd_check.specs.Supposing.{AreJudgedTags, IsJudged, IsJudgingFault, IsKnownFault, IsKnownJudged, IsLeftShown, IsNetShown, SupposingAnswers, ended_as};
 
 use crate::area_tags::area_tags;
 use crate::checking::Besides;
@@ -20,6 +20,7 @@ use cmd_status::{Fault, Status, link_files, nodelist_given, print_rest};
 use disk_io::Sink;
 use echo_addr::{Address, Items};
 use echo_links::LinkFile;
+use echo_nodelist::Nodelist;
 use std::alloc::{AllocError, Global};
 
 /// The answer of `check`, or the first left out address that no file is of or lists.
@@ -50,19 +51,52 @@ pub fn check_supposing<'a, W: Sink>(
     if let Some(fault) = stopped {
         return Err(fault);
     }
-    if let Some(address) = first_unknown(&links, supposed.without) {
-        return Ok(Judged::Unknown(address));
+    match first_unknown(&links, supposed.without) {
+        Some(address) => Ok(Judged::Unknown(address)),
+        None => ended(check_known(
+            alloc,
+            list.as_ref(),
+            besides.more,
+            tag,
+            links,
+            supposed,
+            out,
+        )),
     }
-    let tags = judged_tags(alloc, &links, tag, supposed.without)?;
-    let judging = Judging {
-        list: list.as_ref(),
-        more: besides.more,
-        listed: tag.is_none(),
-    };
-    match check_read(alloc, judging, supposed, &tags, &mut links, out) {
+}
+
+// The answer without an unknown address.
+fn ended(answer: Result<Status, Fault<'_>>) -> Result<Judged, Fault<'_>>
+    ensures { result ≡ ended_as answer.entry }
+{
+    match answer {
         Ok(status) => Ok(Judged::Ended(status)),
         Err(fault) => Err(fault),
     }
+}
+
+// The same of inputs that are read.
+fn check_known<'a, W: Sink>(
+    alloc: Global,
+    list: Option<&Nodelist>,
+    more: bool,
+    tag: Option<&[u8]>,
+    links: Vec<LinkFile>,
+    supposed: Supposed<'_>,
+    out: &mut W,
+) -> Result<Status, Fault<'a>>
+    ensures { Answers (IsKnownJudged links.items (option_copied list.entry) more (option_copied tag.entry) supposed.entry.named.now supposed.entry.missing supposed.entry.without.now)
+        (IsKnownFault links.items (option_copied tag.entry) supposed.entry.named.now supposed.entry.missing supposed.entry.without.now)
+        (output_of W.contents W.failures W.holds out.old) (output_of W.contents W.failures W.holds out.new) result }
+{
+    let tags = judged_tags(alloc, &links, tag, supposed.without)?;
+    let judging = Judging {
+        list,
+        more,
+        listed: tag.is_none(),
+    };
+    let mut links = links;
+    check_read(alloc, judging, supposed, &tags, &mut links, out)
 }
 
 // The judged areas: that of the tag in upper case, or all areas. With left out systems these are the areas of their
@@ -133,13 +167,27 @@ fn check_read<'a, W: Sink>(
         (output_of W.contents W.failures W.holds out.old) (output_of W.contents W.failures W.holds out.new) result }
 {
     let listings = listings(alloc, links.as_slice(), tags)?;
-    let assumed = supposed_in(alloc, links.as_slice(), &listings, supposed.named, supposed.missing)?;
+    let assumed = supposed_in(
+        alloc,
+        links.as_slice(),
+        &listings,
+        supposed.named,
+        supposed.missing,
+    )?;
     let areas = SupposedAreas {
         tags,
         listings: &listings,
     };
     read_supposed(alloc, links, areas, judging.listed, &assumed)?;
-    check_whole(alloc, judging, areas, links.as_slice(), &assumed, supposed.without, out)
+    check_whole(
+        alloc,
+        judging,
+        areas,
+        links.as_slice(),
+        &assumed,
+        supposed.without,
+        out,
+    )
 }
 
 // The answer on these files and those of the assumed systems.
@@ -152,7 +200,7 @@ fn check_whole<'a, W: Sink>(
     without: &[Address],
     out: &mut W,
 ) -> Result<Status, Fault<'a>>
-    requires { length areas.entry.listings.now ≡ length areas.entry.tags.now }
+    requires { length areas.listings.now ≡ length areas.tags.now }
     ensures { (given : List LinkFile) → AllZip (IsListing given) areas.entry.tags.now areas.entry.listings.now
         → Answers (IsLeftShown given whole.now assumed.now without.now (option_copied judging.entry.list) judging.entry.more judging.entry.listed areas.entry.tags.now)
         (IsLinkFault (texts_left without.now whole.now)) (output_of W.contents W.failures W.holds out.old) (output_of W.contents W.failures W.holds out.new) result }
@@ -164,16 +212,17 @@ fn check_whole<'a, W: Sink>(
             assumed,
             out: without,
         };
-        return print_net(alloc, judging, areas, net, out);
+        print_net(alloc, judging, areas, net, out)
+    } else {
+        let left = files_left(alloc, whole, without)?;
+        let net = Net {
+            whole,
+            left: &left,
+            assumed,
+            out: without,
+        };
+        print_net(alloc, judging, areas, net, out)
     }
-    let left = files_left(alloc, whole, without)?;
-    let net = Net {
-        whole,
-        left: &left,
-        assumed,
-        out: without,
-    };
-    print_net(alloc, judging, areas, net, out)
 }
 
 // Prints the lines of a net.
@@ -184,7 +233,7 @@ fn print_net<'a, W: Sink>(
     net: Net<'_>,
     out: &mut W,
 ) -> Result<Status, Fault<'a>>
-    requires { length areas.entry.listings.now ≡ length areas.entry.tags.now }
+    requires { length areas.listings.now ≡ length areas.tags.now }
     ensures { (given : List LinkFile) → AllZip (IsListing given) areas.entry.tags.now areas.entry.listings.now
         → Answers (IsNetShown (judged_net given net.entry.whole.now net.entry.left.now net.entry.assumed.now net.entry.out.now) (option_copied judging.entry.list) judging.entry.more judging.entry.listed areas.entry.tags.now)
         (λ fault. ⊥) (output_of W.contents W.failures W.holds out.old) (output_of W.contents W.failures W.holds out.new) result }
