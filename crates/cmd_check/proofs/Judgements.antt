@@ -1,18 +1,18 @@
 -- The lines of a net with supposed and left out systems, from those of their parts.
-use Rattle.std.proofs.Common.{◌≡◌, ◌↔◌, ◌⊎◌, inl, inr, ℕ, ◌&&◌, Bool, true, false, List, [], ◌∷◌, ◌++◌, Contains, length, Option, Ok, Err, Result, refl, sym, ap, subst, ◌∙◌, arith, append_assoc, append-nil}
+use Rattle.std.proofs.Common.{◌≡◌, ◌↔◌, ◌⊎◌, inl, inr, ℕ, ◌&&◌, Bool, true, false, List, [], ◌∷◌, ◌++◌, Contains, length, Option, None, Ok, Err, Result, is_none, refl, sym, ap, subst, ◌∙◌, arith, append_assoc, append-nil}
 use Rattle.std.specs.List.{AllZip, count_by, flat_map}
 use Rattle.echo_addr.specs.declared.address.Address.{Address}
 use Rattle.echo_links.specs.Links.{LinkFile}
 use Rattle.echo_net.specs.Parts.{AreCutOff}
 use Rattle.echo_nodelist.specs.declared.line.Line.{Line}
 use Rattle.model_run.specs.{Tidy.Tidy, AnyState.NewMessagesAreInOrder}
-use Rattle.cmd_status.specs.{Devices.Output, declared.fault.Fault.Fault, declared.status.Status.Status, declared.status.Status.TheVariants.Good, Ended.Answers, Ended.IsOutOfMemory, Inputs.IsLinkFault}
+use Rattle.cmd_status.specs.{Devices.Output, declared.fault.Fault.Fault, declared.status.Status.Status, declared.status.Status.TheVariants.Good, Ended.Answers, Ended.IsOutOfMemory, Inputs.AreLinkFiles, Inputs.IsFirstFaultGiven, Inputs.IsLinkFault, Inputs.IsNodelistGiven}
 use Rattle.cmd_status.proofs.Lines.{alone}
 use Rattle.cmd_print.specs.Pushed.{Pushes}
-use Rattle.cmd_check.specs.{Assuming.assumed_line, CheckingAll.IsAreaChecked, CheckingAll.verdicts_status, Leaving.texts_left}
+use Rattle.cmd_check.specs.{Assuming.assumed_line, CheckingAll.IsAreaChecked, CheckingAll.verdicts_status, Leaving.first_unknown, Leaving.texts_left}
 use Rattle.cmd_check.specs.JudgedAreas.{AreAreasJudged, AreCutWithout, AreNetLines, AreTailLines, CutsShown, IsAreaJudged, IsVerdictLeft, JudgedNet, alone_line, cut_line, is_alone, judged_areas_line, supposed_here, tail_lines, unseen_line, without_line}
 use Rattle.cmd_check.specs.SupposedFiles.{AreSupposed, AreUnseen, IsSupposedFile, ReadsSupposed}
-use Rattle.cmd_check.specs.Supposing.{EndsOrUnknown, IsJudged, IsJudgingFault, IsLeftShown, IsNetShown, IsWhole, ended_as}
+use Rattle.cmd_check.specs.Supposing.{AreJudgedTags, EndsOrUnknown, IsFirstUnknown, IsJudged, IsJudgingFault, IsKnownFault, IsKnownJudged, IsLeftShown, IsNetShown, IsSupposingShown, IsWhole, IsWrittenFault, SupposingAnswers, ended_as}
 use Rattle.cmd_check.specs.declared.supposing.Judged.{Judged}
 use Rattle.cmd_check.proofs.Printing.{answers_as}
 use Rattle.cmd_check.proofs.AllAreas.{all_yes, area_in_order, area_tidy, each_tag, in_order, of_tag, status_good}
@@ -153,3 +153,27 @@ ended_answers IsPart IsWhole IsFirst IsFault IsRefused old new (Ok status) resul
     subst (EndsOrUnknown IsWhole IsFirst IsRefused old new) (sym is) (answers_as IsPart IsWhole IsFault IsRefused old new (Ok status) lines faults shown)
 ended_answers IsPart IsWhole IsFirst IsFault IsRefused old new (Err fault) result lines faults shown is =
     subst (EndsOrUnknown IsWhole IsFirst IsRefused old new) (sym is) (answers_as IsPart IsWhole IsFault IsRefused old new (Err fault) lines faults shown)
+
+-- the answer in the judged areas is that on the files
+pub known_judged : (files : List LinkFile) (list : Option (List Line)) (more : Bool) (tag : Option (List ℕ)) (named : List Address) (missing : Bool) (out : List Address) (tags : List (List ℕ)) (listed : Bool)
+    (old new : Output) (answer : Result Status Fault) → AreJudgedTags files tag out tags → listed ≡ is_none tag
+    → Answers (IsJudged files list more listed tags named missing out) (IsJudgingFault files tags named missing listed out) old new answer
+    → Answers (IsKnownJudged files list more tag named missing out) (IsKnownFault files tag named missing out) old new answer
+known_judged files list more tag named missing out tags listed old new answer are is judged =
+    answers_as (IsJudged files list more listed tags named missing out) (IsKnownJudged files list more tag named missing out)
+    (IsJudgingFault files tags named missing listed out) (IsKnownFault files tag named missing out) old new answer
+    (λ lines status shown. (tags, are, subst (λ (b : Bool). IsJudged files list more b tags named missing out lines status) is shown))
+    (λ fault refused. (tags, are, subst (λ (b : Bool). IsJudgingFault files tags named missing b out fault) is refused)) judged
+
+-- the answer for the given inputs
+pub supposing_ended : (nodelist : Option (List ℕ)) (list : Option (List Line)) (more : Bool) (tag : Option (List ℕ)) (inputs : List (List ℕ)) (files : List LinkFile) (named : List Address)
+    (missing : Bool) (out : List Address) (stopped : Option Fault) (old new : Output) (answer : Result Status Fault) (result : Result Judged Fault)
+    → AreLinkFiles inputs files → IsNodelistGiven nodelist list → first_unknown files out ≡ None → stopped ≡ None
+    → Answers (IsKnownJudged files list more tag named missing out) (IsKnownFault files tag named missing out) old new answer → result ≡ ended_as answer
+    → SupposingAnswers nodelist more tag inputs named missing out stopped old new result
+supposing_ended nodelist list more tag inputs files named missing out stopped old new answer result are is_list known whole judged is =
+    ended_answers (IsKnownJudged files list more tag named missing out) (λ lines status. IsSupposingShown nodelist more tag inputs named missing out lines status × (stopped ≡ None))
+    (λ a. IsFirstUnknown nodelist inputs out a × (stopped ≡ None)) (IsKnownFault files tag named missing out)
+    (λ fault. IsFirstFaultGiven nodelist inputs stopped fault ⊎ IsWrittenFault tag inputs named missing out fault) old new answer result
+    (λ lines status shown. (record { files = files; are_files = are; list = list; is_list = is_list; known = known; judged = shown }, whole))
+    (λ fault refused. inr (record { files = files; are_files = are; fault_is = refused })) judged is

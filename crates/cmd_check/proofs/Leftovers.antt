@@ -1,11 +1,11 @@
 -- What is left of link files.
-use Rattle.std.proofs.Common.{◌≡◌, ℕ, zero, suc, ◌+◌, ◌<◌, Bool, true, false, ◌||◌, List, [], ◌∷◌, length, take, get_or, Some, refl, sym, ap, ◌∙◌, arith, inl, inr}
-use Rattle.std.proofs.lemmas.{List.Folds.list_any_more, Option.slice_get_cases}
-use Rattle.std.specs.Prelude.{nat_eq, slice_get}
+use Rattle.std.proofs.Common.{◌≡◌, ℕ, zero, suc, ◌+◌, ◌<◌, ◌==◌, Bool, true, false, ◌||◌, List, [], ◌∷◌, length, take, get_or, Some, refl, sym, ap, ◌∙◌, arith, inl, inr}
+use Rattle.std.proofs.lemmas.{Bool.ne_eqb, List.Folds.list_any_more, Option.slice_get_cases}
+use Rattle.std.specs.Prelude.{slice_get}
 use Rattle.std.specs.List.{list_any}
 use Rattle.echo_addr.specs.declared.address.Address.{Address}
 use Rattle.echo_links.specs.Links.{LinkFile}
-use Rattle.cmd_check.specs.Leaving.{AreLeft, concerns, is_judged, texts_left}
+use Rattle.cmd_check.specs.Leaving.{AreLeft, texts_left}
 use Rattle.cmd_status.specs.Inputs.{AreLinkFiles}
 
 -- an item passes at this index
@@ -29,11 +29,13 @@ none_here p xs k r inside is fails before = elim (slice_get_cases xs k).1 [
   | inr past ↦ absurd (let less = past.0 in omega (arith, less, inside))
 ]
 
--- whether an area is judged, by whether systems are left out
-pub judged_by : (files : List LinkFile) (out : List Address) (tag : List ℕ) (empty other r : Bool) → empty ≡ nat_eq (length out) 0
-    → other ≡ list_any (concerns out tag) files → r ≡ (empty || other) → r ≡ is_judged files out tag
-judged_by files [] tag empty other r is_empty concerned is = is ∙ ap (λ b. b || other) is_empty
-judged_by files (a ∷ out) tag empty other r is_empty concerned is = is ∙ ap (λ b. b || other) is_empty ∙ concerned
+-- whether a list is empty
+pub empty_none : (n : ℕ) (b : Bool) → b ≡ (n == 0) → b ≡ true → n ≡ 0
+empty_none zero b is yes = refl
+empty_none (suc n) b is yes = let other = ne_eqb (suc n) 0 (λ e. absurd (omega (arith, e))) in cc
+
+pub full_some : (n : ℕ) (b : Bool) → b ≡ (n == 0) → b ≡ false → n ≡ 0 → ⊥
+full_some n b is no none = let same : (n == 0) ≡ true = ap (λ m. m == 0) none in cc
 
 -- what is left if no system is left out, and else
 pub all_left : (out : List Address) (whole : List LinkFile) → length out ≡ 0 → AreLeft out whole whole

@@ -1,17 +1,19 @@
 -- Which systems are supposed, and their link files.
-use Rattle.std.proofs.Common.{◌≡◌, ◌↔◌, ℕ, ◌+◌, ◌<◌, ◌≤◌, Bool, true, false, cond, IsTrue, not, List, [], ◌∷◌, ◌++◌, Contains, codes, length, take, get_or, map, filter, refl, sym, ap, subst, ◌∙◌, inl, inr, arith, append_assoc, append-nil}
+use Rattle.std.proofs.Common.{◌≡◌, ◌↔◌, ◌⊎◌, ℕ, ◌+◌, ◌<◌, ◌≤◌, Bool, true, false, cond, IsTrue, not, List, [], ◌∷◌, ◌++◌, Contains, codes, length, take, get_or, map, filter, refl, sym, ap, subst, ◌∙◌, inl, inr, arith, append_assoc, append-nil}
 use Rattle.std.proofs.lemmas.{Bool.cases_Bool, Grind.flat_map-append, List.map-append, List.take_more, List.Elements.filter-append}
 use Rattle.std.specs.List.{AllByRecursion, AllZip, flat_map, Sorted.IsStrictlySortedBy}
 use Rattle.echo_addr.specs.declared.address.Address.{Address}
-use Rattle.echo_links.specs.{Found.address_order, Links.Area, Links.LinkFile}
+use Rattle.echo_links.specs.{Found.address_order, Links.Area, Links.LinkFile, Links.upper}
 use Rattle.model_graph.proofs.Members.{Among-from_Contains, Contains-from_Among}
 use Rattle.model_run.specs.Tidy.{lists}
 use Rattle.model_run.proofs.Lists.{Among-filter_from, Among-filter_to}
 use Rattle.echo_net.specs.{declared.link.Link.Link, Drawn.has_address, Faults.IsCarried, Listings.IsListedIn, Listings.IsListing, Nets.link, Nets.systems}
 use Rattle.echo_net.proofs.Drawings.{address_held}
+use Rattle.cmd_status.specs.{declared.fault.Fault.Fault, Ended.IsOutOfMemory, Inputs.AreLinkFiles, Inputs.IsLinkFault}
 use Rattle.cmd_print.specs.Pushed.{Pushes}
 use Rattle.cmd_check.specs.{Assuming.link_word, JudgedAreas.unseen_line, JudgedAreas.unseen_note, Leaving.stays}
-use Rattle.cmd_check.specs.SupposedFiles.{AddsSupposed, AreExactly, AreMissing, AreSupposed, AreSupposedLines, AreUnseen, IsMissing, IsSupposedFile, area_line, has_supposed, line_of, system_line}
+use Rattle.cmd_check.specs.SupposedFiles.{AddsSupposed, AreExactly, AreMissing, AreSupposed, AreSupposedLines, AreUnseen, IsMissing, IsSupposedFile, Supposes, SupposesIn, area_line, has_supposed, line_of, system_line}
+use Rattle.cmd_check.proofs.Assumed.{behind_none}
 use Rattle.cmd_check.proofs.Zips.{zip_from, zip_next, zip_to}
 
 -- the missing systems of the listings are those of the areas
@@ -178,3 +180,17 @@ pub many_noted : (begin : List ℕ) (all : List Address) → 2 ≤ length all �
 many_noted begin [] many = absurd (omega (arith, many))
 many_noted begin (a ∷ []) many = absurd (omega (arith, many))
 many_noted begin (a ∷ (b ∷ more)) many = refl
+
+-- the systems of the area of the tag in upper case
+pub of_upper : (given t : List ℕ) (files : List LinkFile) (named : List Address) (missing : Bool) (out : List Address) (old new : List (List ℕ)) (assumed unseen : List Address)
+    → AreLinkFiles old files → t ≡ upper given → SupposesIn files t named missing out old new assumed unseen → Supposes (upper given) named missing out old new assumed unseen
+of_upper given t files named missing out old new assumed unseen are raised here =
+    (files, are, subst (λ (u : List ℕ). SupposesIn files u named missing out old new assumed unseen) raised here)
+
+-- a link file of theirs that is refused
+pub texts_refused : (listed : Bool) (files : List LinkFile) (tags : List (List ℕ)) (assumed : List Address) (none texts shown : List (List ℕ)) (fault : Fault)
+    → AddsSupposed listed files tags assumed none texts → none ≡ [] → shown ≡ texts → IsOutOfMemory fault ⊎ IsLinkFault shown fault
+    → IsOutOfMemory fault ⊎ ((some : List (List ℕ)) × AllZip (IsSupposedFile listed files tags) assumed some × IsLinkFault some fault)
+texts_refused listed files tags assumed none texts shown fault added nothing same (inl memory) = inl memory
+texts_refused listed files tags assumed none texts shown fault added nothing same (inr refused) =
+    inr (added.texts, added.are, subst (λ (t : List (List ℕ)). IsLinkFault t fault) (same ∙ behind_none none texts added.texts nothing added.whole) refused)

@@ -1,6 +1,6 @@
--- Two lists whose items belong together.
-use Rattle.std.proofs.Common.{◌≡◌, ℕ, zero, suc, ◌+◌, ◌<◌, List, [], ◌∷◌, ◌++◌, length, take, get_or, refl, sym, ap, subst, ◌∙◌, inl, inr, arith}
-use Rattle.std.proofs.lemmas.List.{take_more}
+-- Two lists whose items belong together, and the items of a list that pass.
+use Rattle.std.proofs.Common.{◌≡◌, Bool, true, false, cond, filter, append-nil, ℕ, zero, suc, ◌+◌, ◌<◌, List, [], ◌∷◌, ◌++◌, length, take, get_or, refl, sym, ap, subst, ◌∙◌, inl, inr, arith}
+use Rattle.std.proofs.lemmas.List.{take_more, Elements.filter-append}
 use Rattle.std.specs.List.{AllZip}
 use Rattle.model_graph.specs.Walk.{Among}
 
@@ -53,3 +53,17 @@ module _ {X Y : Type 0} (R : X → Y → Type 0) where
     | inl e ↦ (u, inl refl, subst (λ (w : X). R w u) (sym e) are.0)
     | inr later ↦ (let (y, among, is) = zip_to x xs ys later are.1 in (y, inr among, is))
   ]
+
+module _ {X : Type 0} (p : X → Bool) where
+  -- one more item that passes, and one that does not
+  pub kept_one : (x : X) (old new : List X) → p x ≡ true → new ≡ old ++ x ∷ [] → new ≡ old ++ filter p (x ∷ [])
+  kept_one x old new passes pushed = pushed ∙ ap (λ l. old ++ l) (sym (ap (λ b. cond b (x ∷ []) []) passes))
+
+  pub lost_one : (x : X) (old : List X) → p x ≡ false → old ≡ old ++ filter p (x ∷ [])
+  lost_one x old fails = sym (append-nil old) ∙ ap (λ l. old ++ l) (sym (ap (λ b. cond b (x ∷ []) []) fails))
+
+  pub kept_next : (xs : List X) (k : ℕ) (x : X) (old new : List X) → k < length xs → x ≡ get_or xs k x → old ≡ filter p (take k xs) → new ≡ old ++ filter p (x ∷ [])
+      → new ≡ filter p (take (k + 1) xs)
+  kept_next xs k x old new inside is before pushed =
+      pushed ∙ ap (λ l. l ++ filter p (x ∷ [])) before ∙ sym (filter-append p (take k xs) (x ∷ []))
+      ∙ ap (filter p) (ap (λ z. take k xs ++ z ∷ []) is ∙ sym (take_more xs k x inside))

@@ -155,7 +155,8 @@ pub(crate) fn read_supposed<'a>(
 {
     let mut texts = Vec::new(alloc);
     push_files(alloc, &mut texts, links.as_slice(), areas, listed, assumed)?;
-    read_more(alloc, links, &texts)
+    read_more(alloc, links, &texts)?;
+    Ok(())
 }
 
 // Adds the link file of each assumed system.
@@ -279,11 +280,25 @@ fn listed_here(
 {
     let mut here = Vec::new(alloc);
     'assumed: for address in assumed {
-        if listing.has(*address) {
-            here.push(*address)?;
-        }
+        push_listed(&mut here, listing, *address)?;
     }
     Ok(here)
+}
+
+// Adds the system, if the area lists it.
+fn push_listed(
+    here: &mut Vec<Address>,
+    listing: &Listing,
+    address: Address,
+) -> Result<(), AllocError>
+    ensures { (files : List LinkFile) (tag : List ℕ) → IsListing files tag listing.now → OnOk result (here.new.items ≡ here.old.items ++ filter (is_listed files tag) (address ∷ [])) }
+{
+    if listing.has(address) {
+        here.push(address)?;
+        Ok(())
+    } else {
+        Ok(())
+    }
 }
 
 /// The assumed systems behind which nothing was seen: if some file has the area, all but those left out, ascending, each

@@ -1,5 +1,5 @@
 //! What `check` answers with several assumed systems, and with `--without`.
-ghost use Rattle.std.specs.Prelude.{◌≡◌, ◌∷◌, [], List, None, IfOk, filter, length, map, option_copied};
+ghost use Rattle.std.specs.Prelude.{◌≡◌, ◌∷◌, [], List, None, IfOk, filter, is_none, length, map, option_copied};
 ghost use Rattle.std.specs.List.{AllZip};
 ghost use Rattle.echo_links.specs.Links.{LinkFile, upper};
 ghost use Rattle.echo_net.specs.Listings.{IsListing};
@@ -93,10 +93,20 @@ fn check_known<'a, W: Sink>(
     let judging = Judging {
         list,
         more,
-        listed: tag.is_none(),
+        listed: is_all(tag),
     };
     let mut links = links;
     check_read(alloc, judging, supposed, &tags, &mut links, out)
+}
+
+// Whether all areas are judged.
+fn is_all(tag: Option<&[u8]>) -> bool
+    ensures { result ≡ is_none (option_copied tag.entry) }
+{
+    match tag {
+        Some(_) => false,
+        None => true,
+    }
 }
 
 // The judged areas: that of the tag in upper case, or all areas. With left out systems these are the areas of their

@@ -24,9 +24,9 @@ areas-preserved c =
       λ given are.
           let net : JudgedNet = judged_net given c.args.net.whole.now c.args.net.left.now c.args.net.assumed.now c.args.net.out.now in
           let listing = zip_read (IsListing given) c.args.areas.tags.now c.args.areas.listings.now c.areas.place c.index-tags-place.result c.as_slice.result.now c.index-listings-place.result
-          are (omega (arith, c.areas-test.true)) c.index-tags-place.is c.as_slice.ensures.value c.index-listings-place.is in
+          are (omega (arith, c.areas-test.true)) c.index-tags-place.is c.as_slice.ensures c.index-listings-place.is in
           next_area (IsAreaJudged net (option_copied c.args.judging.list) c.args.judging.more c.args.judging.listed) c.args.areas.tags.now c.areas.place c.index-tags-place.result c.as_slice.result.now
-          c.areas.noes c.in_ok-one.one c.args.lines.now.items c.areas.lines.items c.push_area.new.lines.items (omega (arith, c.areas-test.true)) c.index-tags-place.is c.as_slice.ensures.value
+          c.areas.noes c.in_ok-one.one c.args.lines.now.items c.areas.lines.items c.push_area.new.lines.items (omega (arith, c.areas-test.true)) c.index-tags-place.is c.as_slice.ensures
           (c.areas.invariant.0 given are) (c.in_ok-one.ensures.lines given listing),
       omega (arith, within, small),
     )
