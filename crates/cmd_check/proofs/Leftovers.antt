@@ -31,11 +31,11 @@ none_here p xs k r inside is fails before = elim (slice_get_cases xs k).1 [
 
 -- whether a list is empty
 pub empty_none : (n : ℕ) (b : Bool) → b ≡ (n == 0) → b ≡ true → n ≡ 0
-empty_none zero b is yes = refl
-empty_none (suc n) b is yes = let other = ne_eqb (suc n) 0 (λ e. absurd (omega (arith, e))) in cc
+empty_none zero b is passes = refl
+empty_none (suc n) b is passes = let other = ne_eqb (suc n) 0 (λ e. absurd (omega (arith, e))) in cc
 
 pub full_some : (n : ℕ) (b : Bool) → b ≡ (n == 0) → b ≡ false → n ≡ 0 → ⊥
-full_some n b is no none = let same : (n == 0) ≡ true = ap (λ m. m == 0) none in cc
+full_some n b is fails none = let same : (n == 0) ≡ true = ap (λ m. m == 0) none in cc
 
 -- what is left if no system is left out, and else
 pub all_left : (out : List Address) (whole : List LinkFile) → length out ≡ 0 → AreLeft out whole whole

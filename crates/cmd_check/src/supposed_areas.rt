@@ -1,5 +1,5 @@
 //! The lines of `check` with `--assume`, `--assume-missing` and `--without`.
-ghost use Rattle.std.specs.Prelude.{◌≡◌, ◌≤◌, ◌++◌, ℕ, List, IfOk, OnOk, length, option_copied};
+ghost use Rattle.std.specs.Prelude.{◌≡◌, ◌≤◌, ◌++◌, ◌&&◌, ℕ, List, IfOk, OnOk, length, option_copied};
 ghost use Rattle.std.specs.List.{AllZip, count_by, flat_map};
 ghost use Rattle.echo_links.specs.Links.{LinkFile};
 ghost use Rattle.echo_net.specs.Listings.{IsListing};
@@ -56,14 +56,16 @@ pub(crate) fn push_net(
 {
     let noes = push_areas(alloc, lines, judging, areas, net)?;
     let alone = count_alone(net, areas.tags);
-    push_count(
-        lines,
-        judging.listed && judging.more,
-        areas.tags.len(),
-        alone,
-        noes,
-    )?;
+    let count = areas.tags.len();
+    push_count(lines, is_counted(judging), count, alone, noes)?;
     Ok(noes)
+}
+
+// Whether it is asked for how many areas there are.
+fn is_counted(judging: Judging<'_>) -> bool
+    ensures { result ≡ (judging.entry.listed && judging.entry.more) }
+{
+    judging.listed && judging.more
 }
 
 // Adds how many areas there are, and how many of them have a yes and a no, if that is asked for.

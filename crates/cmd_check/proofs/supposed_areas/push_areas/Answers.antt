@@ -23,10 +23,10 @@ areas-preserved c =
     let small = c.in_ok-one.ensures.small in (
       λ given are.
           let net : JudgedNet = judged_net given c.args.net.whole.now c.args.net.left.now c.args.net.assumed.now c.args.net.out.now in
-          let listing = zip_read (IsListing given) c.args.areas.tags.now c.args.areas.listings.now c.areas.place c.index-tags-place.result c.as_slice.result.now c.index-listings-place.result
-          are (omega (arith, c.areas-test.true)) c.index-tags-place.is c.as_slice.ensures c.index-listings-place.is in
-          next_area (IsAreaJudged net (option_copied c.args.judging.list) c.args.judging.more c.args.judging.listed) c.args.areas.tags.now c.areas.place c.index-tags-place.result c.as_slice.result.now
-          c.areas.noes c.in_ok-one.one c.args.lines.now.items c.areas.lines.items c.push_area.new.lines.items (omega (arith, c.areas-test.true)) c.index-tags-place.is c.as_slice.ensures
+          let listing = zip_read (IsListing given) c.args.areas.tags.now c.args.areas.listings.now c.areas.place c.index-tags-place.result c.as_slice-tag.result.now c.index-listings-place.result
+          are (omega (arith, c.areas-test.true)) c.index-tags-place.is c.as_slice-tag.ensures c.index-listings-place.is in
+          next_area (IsAreaJudged net (option_copied c.args.judging.list) c.args.judging.more c.args.judging.listed) c.args.areas.tags.now c.areas.place c.index-tags-place.result c.as_slice-tag.result.now
+          c.areas.noes c.in_ok-one.one c.args.lines.now.items c.areas.lines.items c.push_area.new.lines.items (omega (arith, c.areas-test.true)) c.index-tags-place.is c.as_slice-tag.ensures
           (c.areas.invariant.0 given are) (c.in_ok-one.ensures.lines given listing),
       omega (arith, within, small),
     )

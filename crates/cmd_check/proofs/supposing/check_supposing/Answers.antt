@@ -5,8 +5,8 @@ use Rattle.cmd_check.specs.Leaving.{first_unknown}
 use Rattle.cmd_check.proofs.Judgements.{supposing_ended}
 use Rattle.cmd_check.proofs.supposing.check_supposing.Goals as goal
 
-pub returns-in-None : goal.returns-in-None
-returns-in-None g c =
+pub returns : goal.returns
+returns g c =
     let whole : c.args.stopped ≡ None = grind arith in
     let known : first_unknown c.in_ok-links.links.items c.args.supposed.without.now ≡ None = grind arith in
     supposing_ended (option_copied c.args.besides.nodelist) _ c.args.besides.more (option_copied c.args.tag) c.args.files.now c.in_ok-links.links.items c.args.supposed.named.now c.args.supposed.missing

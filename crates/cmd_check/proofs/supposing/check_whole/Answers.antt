@@ -21,6 +21,6 @@ returns-in_ok-left g c given are =
     printed_as (IsNetShown (judged_net given c.args.whole.now c.in_ok-left.left.items c.args.assumed.now c.args.without.now) (option_copied c.args.judging.list) c.args.judging.more c.args.judging.listed c.args.areas.tags.now)
     (IsLeftShown given c.args.whole.now c.args.assumed.now c.args.without.now (option_copied c.args.judging.list) c.args.judging.more c.args.judging.listed c.args.areas.tags.now)
     (IsLinkFault (texts_left c.args.without.now c.args.whole.now))
-    (output_of g.W.Write.contents g.W.Sink.failures g.W.Sink.holds c.args.out.now) (output_of g.W.Write.contents g.W.Sink.failures g.W.Sink.holds c.print_net-2.new.out) c.print_net-2.result
+    (output_of g.W.Write.contents g.W.Sink.failures g.W.Sink.holds c.args.out.now) (output_of g.W.Write.contents g.W.Sink.failures g.W.Sink.holds c.print_net-else-is_empty.new.out) c.print_net-else-is_empty.result
     (λ lines status is. (c.in_ok-left.left.items, some_left c.args.without.now c.args.whole.now c.in_ok-left.left.items (full_some (length c.args.without.now) c.is_empty.result c.is_empty.ensures c.if-is_empty.false) c.in_ok-left.ensures.ok, is))
-    (rw c.deref.ensures.value at (c.print_net-2.ensures given are))
+    (rw c.deref.ensures.value at (c.print_net-else-is_empty.ensures given are))
