@@ -1,5 +1,5 @@
 -- The lines of a net with supposed and left out systems, from those of their parts.
-use Rattle.std.proofs.Common.{◌≡◌, ◌↔◌, ◌⊎◌, inl, inr, ℕ, ◌&&◌, Bool, true, false, List, [], ◌∷◌, ◌++◌, Contains, length, Option, None, Ok, Err, Result, is_none, refl, sym, ap, subst, ◌∙◌, arith, append_assoc, append-nil}
+use Rattle.std.proofs.Common.{◌≡◌, ◌⊎◌, inl, inr, ℕ, ◌&&◌, Bool, true, false, List, [], ◌∷◌, ◌++◌, Contains, length, Option, None, Ok, Err, Result, is_none, refl, sym, ap, subst, ◌∙◌, arith, append_assoc, append-nil}
 use Rattle.std.specs.List.{AllZip, count_by, flat_map}
 use Rattle.echo_addr.specs.declared.address.Address.{Address}
 use Rattle.echo_links.specs.Links.{LinkFile}

@@ -1,4 +1,4 @@
-use Rattle.std.proofs.Common.{arith, sym}
+use Rattle.std.proofs.Common.{arith}
 use Rattle.echo_net.proofs.Collected.{links_found}
 use Rattle.cmd_check.proofs.leaving.links_in.Goals as goal
 

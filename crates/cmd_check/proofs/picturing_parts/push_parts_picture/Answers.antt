@@ -1,4 +1,3 @@
-use Rattle.std.proofs.Common.{◌∙◌, sym}
 use Rattle.cmd_check.proofs.FilledParts.{parts_drawn}
 use Rattle.cmd_check.proofs.picturing_parts.push_parts_picture.Goals as goal
 

@@ -1,6 +1,5 @@
-use Rattle.std.proofs.Common.{arith, List, sym}
-use Rattle.std.specs.{List.AllZip, Option.option_copied}
-use Rattle.echo_links.specs.Links.{LinkFile}
+use Rattle.std.proofs.Common.{arith}
+use Rattle.std.specs.{Option.option_copied}
 use Rattle.echo_net.specs.Listings.{IsListing}
 use Rattle.cmd_check.specs.JudgedAreas.{IsAreaJudged, JudgedNet, judged_net}
 use Rattle.cmd_check.proofs.{AllAreas.next_area, AllAreas.none_checked, Zips.zip_read}

@@ -1,5 +1,4 @@
 use Rattle.std.proofs.Common.{arith}
-use Rattle.echo_net.specs.Listings.{IsListing}
 use Rattle.cmd_check.proofs.Zips.{zip_next}
 use Rattle.cmd_check.proofs.supposed_files.listings.Goals as goal
 

@@ -1,4 +1,4 @@
-use Rattle.std.proofs.Common.{Bool, List, subst, sym, ℕ}
+use Rattle.std.proofs.Common.{Bool, subst, sym}
 use Rattle.cmd_check.specs.SupposedFiles.{AreMissing}
 use Rattle.cmd_check.proofs.SupposedTexts.{were_missing}
 use Rattle.cmd_check.proofs.supposed_files.missing_in.Goals as goal

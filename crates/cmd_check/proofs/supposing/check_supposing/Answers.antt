@@ -1,6 +1,6 @@
-use Rattle.std.proofs.Common.{◌≡◌, None, Option, sym, arith}
+use Rattle.std.proofs.Common.{◌≡◌, None, arith}
 use Rattle.std.specs.Option.{option_copied}
-use Rattle.cmd_status.specs.{Devices.output_of, declared.fault.Fault.Fault}
+use Rattle.cmd_status.specs.{Devices.output_of}
 use Rattle.cmd_check.specs.Leaving.{first_unknown}
 use Rattle.cmd_check.proofs.Judgements.{supposing_ended}
 use Rattle.cmd_check.proofs.supposing.check_supposing.Goals as goal
