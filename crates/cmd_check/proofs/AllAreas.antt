@@ -9,7 +9,7 @@ use Rattle.model_run.specs.{Tidy.Tidy, AnyState.NewMessagesAreInOrder}
 use Rattle.echo_net.specs.{declared.verdict.Verdict.Verdict, declared.verdict.Verdict.TheVariants.Yes, declared.verdict.Verdict.TheVariants.No, Faults.IsCarried, Faults.IsYes}
 use Rattle.cmd_status.proofs.Lines.{alone}
 use Rattle.cmd_print.specs.Pushed.{Pushes}
-use Rattle.cmd_check.specs.CheckingAll.{AreAreasChecked, CheckAllAnswers, IsAllChecked, IsAreaChecked, no_count, verdicts_status}
+use Rattle.cmd_check.specs.CheckingAll.{AreAreasChecked, AreEachChecked, CheckAllAnswers, IsAllChecked, IsAreaChecked, no_count, verdicts_status}
 use Rattle.cmd_check.specs.{AreaTags.AreAllTags, Checking.IsCheckVerdict, Further.IsVerdictShown, Further.areas_line}
 use Rattle.cmd_check.proofs.Checks.{one_reading}
 
@@ -22,20 +22,29 @@ yes_is_none : (v : Verdict) → IsYes v → no_count v ≡ 0
 yes_is_none (Yes systems links) is = refl
 yes_is_none (No fault) is = absurd is
 
-module _ (files : List LinkFile) (list : Option (List Line)) (more : Bool) where
-  -- the lines of the verdict on an area
-  pub area_checked : (tag : List ℕ) (verdict : Verdict) (noes : ℕ) (old new : List ℕ) → IsCheckVerdict files tag verdict
-      → (IsYes verdict → NewMessagesAreInOrder files tag) → noes ≡ no_count verdict → Pushes (IsVerdictShown files tag list more verdict) old new
-      → Pushes (IsAreaChecked files list more tag noes) old new
-  area_checked tag verdict noes old new judged runs is pushed = grind (arith, none_is_yes)
+-- the lines of the verdict on an area
+pub area_checked : (files : List LinkFile) (list : Option (List Line)) (more : Bool) (tag : List ℕ) (verdict : Verdict) (noes : ℕ) (old new : List ℕ) → IsCheckVerdict files tag verdict
+    → (IsYes verdict → NewMessagesAreInOrder files tag) → noes ≡ no_count verdict → Pushes (IsVerdictShown files tag list more verdict) old new
+    → Pushes (IsAreaChecked files list more tag noes) old new
+area_checked files list more tag verdict noes old new judged runs is pushed = grind (arith, none_is_yes)
 
+-- no verdict on an area is a no exactly if it is tidy
+pub area_in_order : (files : List LinkFile) (list : Option (List Line)) (more : Bool) (tag : List ℕ) (noes : ℕ) (lines : List ℕ) → IsAreaChecked files list more tag noes lines
+    → noes ≡ 0 → Tidy files tag × NewMessagesAreInOrder files tag
+area_in_order files list more tag noes lines own none = (own.is_verdict.tidy.0 (none_is_yes own.verdict (sym own.counted ∙ none)), own.orderly none)
+
+pub area_tidy : (files : List LinkFile) (list : Option (List Line)) (more : Bool) (tag : List ℕ) (noes : ℕ) (lines : List ℕ) → IsAreaChecked files list more tag noes lines
+    → Tidy files tag → noes ≡ 0
+area_tidy files list more tag noes lines own tidy = own.counted ∙ yes_is_none own.verdict (own.is_verdict.tidy.1 tidy)
+
+module _ (IsOne : List ℕ → ℕ → List ℕ → Type 0) where
   -- no areas, and no lines
-  pub none_checked : (lines : List ℕ) → Pushes (AreAreasChecked files list more [] 0) lines lines
+  pub none_checked : (lines : List ℕ) → Pushes (AreEachChecked IsOne [] 0) lines lines
   none_checked lines = record { lines = []; are = (refl, refl); whole = sym (append-nil lines) }
 
   -- one more area
-  areas_then : (tags : List (List ℕ)) (tag : List ℕ) (noes one : ℕ) (lines own : List ℕ) → AreAreasChecked files list more tags noes lines
-      → IsAreaChecked files list more tag one own → AreAreasChecked files list more (tags ++ tag ∷ []) (noes + one) (lines ++ own)
+  areas_then : (tags : List (List ℕ)) (tag : List ℕ) (noes one : ℕ) (lines own : List ℕ) → AreEachChecked IsOne tags noes lines
+      → IsOne tag one own → AreEachChecked IsOne (tags ++ tag ∷ []) (noes + one) (lines ++ own)
   areas_then [] tag noes one lines own before last =
       let none = before.0 in
       record {
@@ -61,52 +70,64 @@ module _ (files : List LinkFile) (list : Option (List Line)) (more : Bool) where
         whole = ap (λ l. l ++ own) before.whole ∙ append_assoc before.first_lines before.rest_lines own;
       }
 
-  pub area_pushed : (tags : List (List ℕ)) (tag : List ℕ) (noes one : ℕ) (first old new : List ℕ) → Pushes (AreAreasChecked files list more tags noes) first old
-      → Pushes (IsAreaChecked files list more tag one) old new → Pushes (AreAreasChecked files list more (tags ++ tag ∷ []) (noes + one)) first new
-  area_pushed tags tag noes one first old new before last = grind (arith, areas_then, append_assoc)
+  area_pushed : (tags : List (List ℕ)) (tag : List ℕ) (noes one : ℕ) (first old new : List ℕ) → Pushes (AreEachChecked IsOne tags noes) first old
+      → Pushes (IsOne tag one) old new → Pushes (AreEachChecked IsOne (tags ++ tag ∷ []) (noes + one)) first new
+  area_pushed tags tag noes one first old new before last = record {
+    lines = before.lines ++ last.lines;
+    are = areas_then tags tag noes one before.lines last.lines before.are last.are;
+    whole = last.whole ∙ ap (λ l. l ++ last.lines) before.whole ∙ append_assoc first before.lines last.lines;
+  }
 
   pub one_more : {V : Type 0} (bytes : V → List ℕ) (all : List V) (k : ℕ) (v : V) (tag : List ℕ) (noes one : ℕ) (first old new : List ℕ) → k < length all
-      → v ≡ get_or all k v → tag ≡ bytes v → Pushes (AreAreasChecked files list more (map bytes (take k all)) noes) first old
-      → Pushes (IsAreaChecked files list more tag one) old new → Pushes (AreAreasChecked files list more (map bytes (take (k + 1) all)) (noes + one)) first new
+      → v ≡ get_or all k v → tag ≡ bytes v → Pushes (AreEachChecked IsOne (map bytes (take k all)) noes) first old
+      → Pushes (IsOne tag one) old new → Pushes (AreEachChecked IsOne (map bytes (take (k + 1) all)) (noes + one)) first new
   one_more bytes all k v tag noes one first old new inside is own before last =
       let tags : map bytes (take (k + 1) all) ≡ map bytes (take k all) ++ bytes v ∷ [] =
       ap (map bytes) (take_more all k v inside ∙ ap (λ x. take k all ++ x ∷ []) (sym is)) ∙ map-append bytes (take k all) (v ∷ []) in
       let pushed = area_pushed (map bytes (take k all)) tag noes one first old new before last in
-      subst (λ t. Pushes (AreAreasChecked files list more t (noes + one)) first new) (ap (λ t. map bytes (take k all) ++ t ∷ []) own ∙ sym tags) pushed
+      subst (λ t. Pushes (AreEachChecked IsOne t (noes + one)) first new) (ap (λ t. map bytes (take k all) ++ t ∷ []) own ∙ sym tags) pushed
 
-  -- no verdict is a no exactly if each area is tidy
-  in_order : (tags : List (List ℕ)) (noes : ℕ) (lines : List ℕ) → AreAreasChecked files list more tags noes lines → noes ≡ 0
-      → AllByRecursion (λ tag. Tidy files tag × NewMessagesAreInOrder files tag) tags
-  in_order [] noes lines checked is = tt
-  in_order (tag ∷ tags) noes lines checked is =
-      let own = checked.is_first in
+  -- the same of tags
+  pub next_area : (tags : List (List ℕ)) (k : ℕ) (tag bytes : List ℕ) (noes one : ℕ) (first old new : List ℕ) → k < length tags → tag ≡ get_or tags k tag
+      → bytes ≡ tag → Pushes (AreEachChecked IsOne (take k tags) noes) first old → Pushes (IsOne bytes one) old new
+      → Pushes (AreEachChecked IsOne (take (k + 1) tags) (noes + one)) first new
+  next_area tags k tag bytes noes one first old new inside is same before last =
+      subst (λ t. Pushes (AreEachChecked IsOne t (noes + one)) first new)
+      (ap (λ b. take k tags ++ b ∷ []) (same ∙ is) ∙ sym (take_more tags k tag inside))
+      (area_pushed (take k tags) bytes noes one first old new before last)
+
+  -- what follows on each area from no verdict that is a no
+  pub in_order : (P : List ℕ → Type 0) → ((tag : List ℕ) (noes : ℕ) (lines : List ℕ) → IsOne tag noes lines → noes ≡ 0 → P tag)
+      → (tags : List (List ℕ)) (noes : ℕ) (lines : List ℕ) → AreEachChecked IsOne tags noes lines → noes ≡ 0 → AllByRecursion P tags
+  in_order P one [] noes lines checked is = tt
+  in_order P one (tag ∷ tags) noes lines checked is =
       let both = checked.both in
       let first_none : checked.first_no ≡ 0 = omega (arith, both, is) in
       let rest_none : checked.rest_no ≡ 0 = omega (arith, both, is) in (
-        (own.is_verdict.tidy.0 (none_is_yes own.verdict (sym own.counted ∙ first_none)), own.orderly first_none),
-        in_order tags checked.rest_no checked.rest_lines checked.is_rest rest_none,
+        one tag checked.first_no checked.first_lines checked.is_first first_none,
+        in_order P one tags checked.rest_no checked.rest_lines checked.is_rest rest_none,
       )
 
-  all_yes : (tags : List (List ℕ)) (noes : ℕ) (lines : List ℕ) → AreAreasChecked files list more tags noes lines → AllByRecursion (λ tag. Tidy files tag) tags → noes ≡ 0
-  all_yes [] noes lines checked tidy = checked.0
-  all_yes (tag ∷ tags) noes lines checked tidy =
-      let own = checked.is_first in
+  pub all_yes : (P : List ℕ → Type 0) → ((tag : List ℕ) (noes : ℕ) (lines : List ℕ) → IsOne tag noes lines → P tag → noes ≡ 0)
+      → (tags : List (List ℕ)) (noes : ℕ) (lines : List ℕ) → AreEachChecked IsOne tags noes lines → AllByRecursion P tags → noes ≡ 0
+  all_yes P one [] noes lines checked tidy = checked.0
+  all_yes P one (tag ∷ tags) noes lines checked tidy =
       let both = checked.both in
-      let first_none : checked.first_no ≡ 0 = own.counted ∙ yes_is_none own.verdict (own.is_verdict.tidy.1 tidy.0) in
-      let rest_none = all_yes tags checked.rest_no checked.rest_lines checked.is_rest tidy.1 in
+      let first_none : checked.first_no ≡ 0 = one tag checked.first_no checked.first_lines checked.is_first tidy.0 in
+      let rest_none = all_yes P one tags checked.rest_no checked.rest_lines checked.is_rest tidy.1 in
       omega (arith, both, first_none, rest_none)
 
 -- a property of each of some tags holds of one of them
-of_tag : (P : List ℕ → Type 0) (tags : List (List ℕ)) (tag : List ℕ) → AllByRecursion P tags → Contains tags tag → P tag
+pub of_tag : (P : List ℕ → Type 0) (tags : List (List ℕ)) (tag : List ℕ) → AllByRecursion P tags → Contains tags tag → P tag
 of_tag P tags tag all there = subst P there.2 (All-from_recursion P tags all there.0 tag there.1)
 
-each_tag : (P : List ℕ → Type 0) (tags : List (List ℕ)) → ((tag : List ℕ) → Contains tags tag → P tag) → AllByRecursion P tags
+pub each_tag : (P : List ℕ → Type 0) (tags : List (List ℕ)) → ((tag : List ℕ) → Contains tags tag → P tag) → AllByRecursion P tags
 each_tag P tags each =
     recursion_from_All P tags
     (λ k d within. let tag : List ℕ = get_or tags k d in let there : get_or tags k tag ≡ tag = get_or_default tags k tag d within in each tag (k, within, there))
 
 -- the status is 0 exactly if no verdict is a no
-status_good : (noes : ℕ) → verdicts_status noes ≡ Good → noes ≡ 0
+pub status_good : (noes : ℕ) → verdicts_status noes ≡ Good → noes ≡ 0
 status_good noes h1 = grind (arith, ne_eqb)
 
 -- the lines of the verdicts on link files that were read
@@ -116,7 +137,7 @@ pub were_checked : (nodelist : Option (List ℕ)) (list : Option (List Line)) (m
     → IsAllChecked nodelist more inputs lines status
 were_checked nodelist list more inputs files tags noes areas none front lines status is_list are are_tags count nothing pushed whole ended =
     let ordered : status ≡ Good → AllByRecursion (λ tag. Tidy files tag × NewMessagesAreInOrder files tag) tags =
-    λ good. in_order files list more tags noes pushed.lines pushed.are (status_good noes (sym ended ∙ good)) in
+    λ good. in_order (IsAreaChecked files list more) _ (area_in_order files list more) tags noes pushed.lines pushed.are (status_good noes (sym ended ∙ good)) in
     let in_all : status ≡ Good → (tag : List ℕ) → IsCarried files tag → Tidy files tag × NewMessagesAreInOrder files tag =
     λ good tag carried. of_tag (λ t. Tidy files t × NewMessagesAreInOrder files t) tags tag (ordered good) ((are_tags.members tag).1 carried) in
     record {
@@ -133,7 +154,7 @@ were_checked nodelist list more inputs files tags noes areas none front lines st
       status_is = ended;
       tidy = (
         λ good tag carried. (in_all good tag carried).0,
-        λ tidy. ended ∙ ap verdicts_status (all_yes files list more tags noes pushed.lines pushed.are
+        λ tidy. ended ∙ ap verdicts_status (all_yes (IsAreaChecked files list more) (λ tag. Tidy files tag) (area_tidy files list more) tags noes pushed.lines pushed.are
             (each_tag (λ tag. Tidy files tag) tags (λ tag there. tidy tag ((are_tags.members tag).0 there)))),
       );
       orderly = λ good tag carried. (in_all good tag carried).1;

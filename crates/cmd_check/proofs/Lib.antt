@@ -9,3 +9,8 @@ pub mod WorldLines
 pub mod Replays
 pub mod PicturesWhy
 pub mod Assumed
+pub mod Zips
+pub mod SupposedTexts
+pub mod Leftovers
+pub mod Judgements
+pub mod FilledParts

@@ -33,10 +33,14 @@ pub record AreJoined (First Rest : ℕ → List ℕ → Type 0) (noes : ℕ) (li
   pub both : noes ≡ first_no + rest_no
   pub whole : lines ≡ first_lines ++ rest_lines
 
--- The lines of `check` on each of these areas, one after another, and the number of verdicts that are a no.
+-- Lines for each of these areas, one after another, and the number of verdicts that are a no.
+abbrev pub AreEachChecked : (List ℕ → ℕ → List ℕ → Type 0) → List (List ℕ) → ℕ → List ℕ → Type 0
+AreEachChecked IsOne [] noes lines = (noes ≡ 0) × (lines ≡ [])
+AreEachChecked IsOne (tag ∷ tags) noes lines = AreJoined (IsOne tag) (AreEachChecked IsOne tags) noes lines
+
+-- The lines of `check` on each of these areas.
 abbrev pub AreAreasChecked : List LinkFile → Option (List Line) → Bool → List (List ℕ) → ℕ → List ℕ → Type 0
-AreAreasChecked files list more [] noes lines = (noes ≡ 0) × (lines ≡ [])
-AreAreasChecked files list more (tag ∷ tags) noes lines = AreJoined (IsAreaChecked files list more tag) (AreAreasChecked files list more tags) noes lines
+AreAreasChecked files list more = AreEachChecked (IsAreaChecked files list more)
 
 -- 1 if a verdict is a no.
 abbrev pub verdicts_status : ℕ → Status

@@ -4,7 +4,12 @@ pub mod Checking
 pub mod CheckingAll
 pub mod Assuming
 pub mod CheckingAssumed
+pub mod SupposedFiles
+pub mod Leaving
+pub mod JudgedAreas
+pub mod Supposing
 pub mod Picturing
+pub mod PicturingParts
 pub mod Whys
 pub mod Reasoning
 pub mod Replayed

@@ -180,7 +180,12 @@ pub fn print_assumed<'a, W: Sink>(
     Ok(())
 }
 
-fn push_notes(lines: &mut Vec<u8>, begin: &[u8], assumed: &[Address]) -> Result<(), AllocError>
+/// Adds a note that begins so for each assumed system.
+pub(crate) fn push_notes(
+    lines: &mut Vec<u8>,
+    begin: &[u8],
+    assumed: &[Address],
+) -> Result<(), AllocError>
     ensures { OnOk result (lines.new.items ≡ lines.old.items ++ flat_map (assumed_note begin.now) assumed.now) }
 {
     'assumed: for address in assumed {

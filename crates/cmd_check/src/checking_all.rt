@@ -112,7 +112,8 @@ fn push_area(
     Ok(no_count(&verdict))
 }
 
-fn no_count(verdict: &Verdict) -> usize
+/// 1 for a no.
+pub(crate) fn no_count(verdict: &Verdict) -> usize
     ensures value { result ≡ no_count verdict.now }
     ensures small { result ≤ 1 }
 {
@@ -122,8 +123,8 @@ fn no_count(verdict: &Verdict) -> usize
     }
 }
 
-// The status, by how many verdicts are a no.
-fn status_of_verdicts(noes: usize) -> Status
+/// The status, by how many verdicts are a no.
+pub(crate) fn status_of_verdicts(noes: usize) -> Status
     ensures { result ≡ verdicts_status noes }
 {
     if noes == 0 {

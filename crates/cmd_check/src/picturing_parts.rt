@@ -1,9 +1,14 @@
 //! What `picture --without` answers.
+ghost use Rattle.std.specs.Prelude.{◌≡◌, ◌++◌, IfOk, OnOk};
+ghost use Rattle.std.specs.List.{flat_map};
+ghost use Rattle.cmd_status.specs.{Devices.output_of, Ended.Answers};
+ghost use Rattle.cmd_print.specs.Pushed.{Pushes};
+ghost use Rattle.cmd_check.specs.JudgedAreas.{is_alone};
+ghost use Rattle.cmd_check.specs.PicturingParts.{IsLeftDrawn, IsPartsDrawn, PictureWithoutAnswers, filled_line, filled_lines, picture_front};
 
-use crate::assuming::is_carried;
 use crate::checking::status_of;
 use crate::leaving::files_left;
-use crate::supposed_areas::push_alone;
+use crate::supposed_areas::{is_alone, push_alone};
 use cmd_print::push_picture;
 use cmd_status::{Fault, Status, link_files, print_rest};
 use disk_io::Sink;
@@ -22,7 +27,9 @@ pub fn picture_without<'a, W: Sink>(
     files: &[Items<u8>],
     without: &[Address],
     out: &mut W,
-) -> Result<Status, Fault<'a>> {
+) -> Result<Status, Fault<'a>>
+    ensures { PictureWithoutAnswers tag.now files.now without.now (output_of W.contents W.failures W.holds out.old) (output_of W.contents W.failures W.holds out.new) result }
+{
     let whole = link_files(alloc, files)?;
     let left = files_left(alloc, &whole, without)?;
     let tag = tag.to_ascii_uppercase(alloc)?;
@@ -36,7 +43,9 @@ fn picture_left<'a, W: Sink>(
     whole: &[LinkFile],
     left: &[LinkFile],
     out: &mut W,
-) -> Result<Status, Fault<'a>> {
+) -> Result<Status, Fault<'a>>
+    ensures { Answers (IsLeftDrawn (is_alone whole.now left.now tag.now) left.now tag.now) (λ fault. ⊥) (output_of W.contents W.failures W.holds out.old) (output_of W.contents W.failures W.holds out.new) result }
+{
     let mut lines = Vec::new(alloc);
     let status = push_left(alloc, &mut lines, tag, whole, left)?;
     print_rest(&mut lines, out)?;
@@ -50,32 +59,36 @@ fn push_left(
     tag: &[u8],
     whole: &[LinkFile],
     left: &[LinkFile],
-) -> Result<Status, AllocError> {
-    if is_carried(whole, tag) && !is_carried(left, tag) {
+) -> Result<Status, AllocError>
+    ensures { IfOk result (λ status. Pushes (λ all. IsLeftDrawn (is_alone whole.now left.now tag.now) left.now tag.now all status) lines.old.items lines.new.items) }
+{
+    if is_alone(whole, left, tag) {
         lines.extend_from_slice(b"graph {\n}\n// ")?;
         push_alone(lines, tag)?;
-        return Ok(Status::Good);
+        Ok(Status::Good)
+    } else {
+        let status = push_parts_picture(alloc, lines, tag, left)?;
+        Ok(status)
     }
-    let verdict = echo_net::check(alloc, left, tag)?;
-    let drawing = echo_net::draw(alloc, left, tag, &verdict)?;
-    let cut = echo_net::cut_off(alloc, left, tag)?;
-    push_parts_picture(alloc, lines, tag, &verdict, &drawing, &cut)?;
-    Ok(status_of(&verdict))
 }
 
-// Adds the lines of a drawing, with those of the parts before the last one.
+// Adds the lines of a drawing, with those of the parts before the last one. Returns the status.
 fn push_parts_picture(
     alloc: Global,
     lines: &mut Vec<u8>,
     tag: &[u8],
-    verdict: &Verdict,
-    drawing: &Drawing,
-    cut: &[Items<Address>],
-) -> Result<(), AllocError> {
-    let front = picture_front(alloc, tag, verdict, drawing)?;
+    left: &[LinkFile],
+) -> Result<Status, AllocError>
+    ensures { IfOk result (λ status. Pushes (λ all. IsPartsDrawn left.now tag.now all status) lines.old.items lines.new.items) }
+{
+    let verdict = echo_net::check(alloc, left, tag)?;
+    let drawing = echo_net::draw(alloc, left, tag, &verdict)?;
+    let cut = echo_net::cut_off(alloc, left, tag)?;
+    let front = picture_front(alloc, tag, &verdict, &drawing)?;
     lines.extend_from_slice(&front)?;
-    push_filled(lines, cut)?;
-    lines.extend_from_slice(b"}\n")
+    push_filled(lines, &cut)?;
+    lines.extend_from_slice(b"}\n")?;
+    Ok(status_of(&verdict))
 }
 
 // The lines of a drawing but the last one.
@@ -84,7 +97,9 @@ fn picture_front(
     tag: &[u8],
     verdict: &Verdict,
     drawing: &Drawing,
-) -> Result<Vec<u8>, AllocError> {
+) -> Result<Vec<u8>, AllocError>
+    ensures { IfOk result (λ front. front.items ≡ picture_front tag.now verdict.now drawing.now) }
+{
     let mut drawn = Vec::new(alloc);
     push_picture(alloc, &mut drawn, tag, verdict, drawing, &[])?;
     let count = drawn.len().saturating_sub(2);
@@ -93,7 +108,9 @@ fn picture_front(
 }
 
 // Adds the lines of the systems of each part.
-fn push_filled(lines: &mut Vec<u8>, cut: &[Items<Address>]) -> Result<(), AllocError> {
+fn push_filled(lines: &mut Vec<u8>, cut: &[Items<Address>]) -> Result<(), AllocError>
+    ensures { OnOk result (lines.new.items ≡ lines.old.items ++ filled_lines 0 cut.now) }
+{
     'parts: for place in 0..cut.len() {
         push_filled_part(lines, place % 9 + 1, cut[place].as_slice())?;
     }
@@ -101,22 +118,18 @@ fn push_filled(lines: &mut Vec<u8>, cut: &[Items<Address>]) -> Result<(), AllocE
 }
 
 // Adds the line of each of these systems, filled with the colour of this number.
-fn push_filled_part(
-    lines: &mut Vec<u8>,
-    colour: usize,
-    part: &[Address],
-) -> Result<(), AllocError> {
+fn push_filled_part(lines: &mut Vec<u8>, colour: usize, part: &[Address]) -> Result<(), AllocError>
+    ensures { OnOk result (lines.new.items ≡ lines.old.items ++ flat_map (filled_line colour) part.now) }
+{
     'part: for system in part {
         push_filled_system(lines, colour, *system)?;
     }
     Ok(())
 }
 
-fn push_filled_system(
-    lines: &mut Vec<u8>,
-    colour: usize,
-    system: Address,
-) -> Result<(), AllocError> {
+fn push_filled_system(lines: &mut Vec<u8>, colour: usize, system: Address) -> Result<(), AllocError>
+    ensures { OnOk result (lines.new.items ≡ lines.old.items ++ filled_line colour system) }
+{
     written(writeln!(
         lines,
         "\"{system}\" [style=filled, fillcolor=\"/pastel19/{colour}\"];"

@@ -1,5 +1,13 @@
-//! The link files of systems that sent none, for several areas at once. No clause says what these functions return; the
-//! trials compare it with files that they write. The same of one system and one area is proved in `assuming`.
+//! The link files of systems that sent none, for several areas at once.
+ghost use Rattle.std.specs.Prelude.{◌≡◌, ◌++◌, ◌∷◌, [], ◌⊎◌, ℕ, List, IfErr, IfOk, OnOk, filter};
+ghost use Rattle.std.specs.List.{AllZip};
+ghost use Rattle.echo_links.specs.Links.{LinkFile, upper};
+ghost use Rattle.echo_net.specs.Listings.{IsListing, is_listed};
+ghost use Rattle.cmd_status.specs.{Ended.IsOutOfMemory, Inputs.IsLinkFault};
+ghost use Rattle.cmd_print.specs.Pushed.{Pushes};
+ghost use Rattle.cmd_check.specs.SupposedFiles.{AddsSupposed, AreMissing, AreSupposed, AreSupposedLines, AreUnseen, IsSupposedFile, ReadsSupposed, Supposes, SupposesIn};
+ghost use Rattle.cmd_check.specs.SupposedFiles as supposed;
+ghost use Rattle.cmd_check.specs.JudgedAreas.{supposed_here, unseen_line};
 
 use crate::assuming::{is_carried, push_links};
 use crate::checking_assumed::read_more;
@@ -35,51 +43,44 @@ pub fn suppose<'a>(
     tag: &[u8],
     files: &mut Vec<Items<u8>>,
     supposed: Supposed<'_>,
-) -> Result<SupposedHere, Fault<'a>> {
+) -> Result<SupposedHere, Fault<'a>>
+    ensures ok { IfOk result (λ here. Supposes (upper tag.now) supposed.entry.named.now supposed.entry.missing supposed.entry.without.now files.old.items files.new.items here.systems.items here.unseen.items) }
+    ensures err { IfErr result (λ fault. IsOutOfMemory fault ⊎ IsLinkFault files.old.items fault) }
+{
     let links = link_files(alloc, files.as_slice())?;
     let tag = tag.to_ascii_uppercase(alloc)?;
-    let here = suppose_read(alloc, tag, files, &links, supposed)?;
+    let here = suppose_read(alloc, &tag, files, &links, supposed)?;
     Ok(here)
 }
 
 // The same of link files that are read, and of the tag in upper case.
 fn suppose_read(
     alloc: Global,
-    tag: Vec<u8>,
+    tag: &[u8],
     texts: &mut Vec<Items<u8>>,
     files: &[LinkFile],
     supposed: Supposed<'_>,
-) -> Result<SupposedHere, AllocError> {
+) -> Result<SupposedHere, AllocError>
+    ensures { IfOk result (λ here. SupposesIn files.now tag.now supposed.entry.named.now supposed.entry.missing supposed.entry.without.now texts.old.items texts.new.items here.systems.items here.unseen.items) }
+{
     let tags = one_tag(alloc, tag)?;
     let listings = listings(alloc, files, &tags)?;
-    let systems = supposed_in(alloc, files, &listings, supposed)?;
+    let systems = supposed_in(alloc, files, &listings, supposed.named, supposed.missing)?;
     let areas = SupposedAreas {
         tags: &tags,
         listings: &listings,
-        listed: false,
     };
-    push_files(alloc, texts, files, areas, &systems)?;
-    let unseen = unseen_of_first(alloc, files, &tags, supposed.without, &systems)?;
+    push_files(alloc, texts, files, areas, false, &systems)?;
+    let unseen = unseen(alloc, files, tag, supposed.without, &systems)?;
     Ok(SupposedHere { systems, unseen })
 }
 
-fn unseen_of_first(
-    alloc: Global,
-    files: &[LinkFile],
-    tags: &[Vec<u8>],
-    without: &[Address],
-    systems: &[Address],
-) -> Result<Vec<Address>, AllocError> {
-    match tags.first() {
-        Some(tag) => unseen(alloc, files, tag, without, systems),
-        None => Ok(Vec::new(alloc)),
-    }
-}
-
 /// This tag alone.
-pub(crate) fn one_tag(alloc: Global, tag: Vec<u8>) -> Result<Vec<Vec<u8>>, AllocError> {
+pub(crate) fn one_tag(alloc: Global, tag: &[u8]) -> Result<Vec<Items<u8>>, AllocError>
+    ensures { IfOk result (λ tags. tags.items ≡ tag.now ∷ []) }
+{
     let mut tags = Vec::new(alloc);
-    tags.push(tag)?;
+    tags.push(Items::new(Vec::from_slice(alloc, tag)?))?;
     Ok(tags)
 }
 
@@ -87,12 +88,13 @@ pub(crate) fn one_tag(alloc: Global, tag: Vec<u8>) -> Result<Vec<Vec<u8>>, Alloc
 pub(crate) fn listings(
     alloc: Global,
     files: &[LinkFile],
-    tags: &[Vec<u8>],
-) -> Result<Vec<Listing>, AllocError> {
+    tags: &[Items<u8>],
+) -> Result<Vec<Listing>, AllocError>
+    ensures { IfOk result (λ all. AllZip (IsListing files.now) tags.now all.items) }
+{
     let mut all = Vec::new(alloc);
     'tags: for tag in tags {
-        let listing = Listing::of(alloc, files, tag)?;
-        all.push(listing)?;
+        all.push(Listing::of(alloc, files, tag.as_slice())?)?;
     }
     Ok(all)
 }
@@ -102,33 +104,57 @@ pub(crate) fn supposed_in(
     alloc: Global,
     files: &[LinkFile],
     listings: &[Listing],
-    supposed: Supposed<'_>,
-) -> Result<Vec<Address>, AllocError> {
-    let mut all = Vec::from_slice(alloc, supposed.named)?;
-    if supposed.missing {
-        let missing = missing(alloc, files, listings, supposed.named)?;
-        all.extend_from_slice(&missing)?;
-    }
+    named: &[Address],
+    asked: bool,
+) -> Result<Vec<Address>, AllocError>
+    ensures { (tags : List (List ℕ)) → AllZip (IsListing files.now) tags listings.now → IfOk result (λ all. AreSupposed files.now tags named.now asked all.items) }
+{
+    let others = missing_in(alloc, files, listings, named, asked)?;
+    let mut all = Vec::from_slice(alloc, named)?;
+    all.extend_from_slice(&others)?;
     Ok(all)
 }
 
-/// The areas of assumed systems: the tags, who lists whom in them, and whether a system has only areas that list it.
-#[derive(Clone, Copy)]
-pub(crate) struct SupposedAreas<'s> {
-    pub tags: &'s [Vec<u8>],
-    pub listings: &'s [Listing],
-    pub listed: bool,
+// The missing systems, if they are asked for.
+fn missing_in(
+    alloc: Global,
+    files: &[LinkFile],
+    listings: &[Listing],
+    named: &[Address],
+    asked: bool,
+) -> Result<Vec<Address>, AllocError>
+    ensures { (tags : List (List ℕ)) → AllZip (IsListing files.now) tags listings.now → IfOk result (λ all. AreMissing asked files.now tags named.now all.items) }
+{
+    if asked {
+        let all = missing(alloc, files, listings, named)?;
+        Ok(all)
+    } else {
+        Ok(Vec::new(alloc))
+    }
 }
 
-/// Appends the link files of the assumed systems to those that were read.
+/// Areas, and who lists whom in each.
+#[derive(Clone, Copy)]
+pub(crate) struct SupposedAreas<'s> {
+    pub tags: &'s [Items<u8>],
+    pub listings: &'s [Listing],
+}
+
+/// Appends the link files of the assumed systems to those that were read. With `listed` an assumed system has only areas
+/// that list it.
 pub(crate) fn read_supposed<'a>(
     alloc: Global,
     links: &mut Vec<LinkFile>,
     areas: SupposedAreas<'_>,
+    listed: bool,
     assumed: &[Address],
-) -> Result<(), Fault<'a>> {
+) -> Result<(), Fault<'a>>
+    requires { AllZip (IsListing links.old.items) areas.tags.now areas.listings.now }
+    ensures ok { OnOk result (ReadsSupposed listed links.old.items areas.entry.tags.now assumed.now links.new.items) }
+    ensures err { IfErr result (λ fault. IsOutOfMemory fault ⊎ ((texts : List (List ℕ)) × AllZip (IsSupposedFile listed links.old.items areas.entry.tags.now) assumed.now texts × IsLinkFault texts fault)) }
+{
     let mut texts = Vec::new(alloc);
-    push_files(alloc, &mut texts, links.as_slice(), areas, assumed)?;
+    push_files(alloc, &mut texts, links.as_slice(), areas, listed, assumed)?;
     read_more(alloc, links, &texts)?;
     Ok(())
 }
@@ -139,11 +165,14 @@ fn push_files(
     texts: &mut Vec<Items<u8>>,
     files: &[LinkFile],
     areas: SupposedAreas<'_>,
+    listed: bool,
     assumed: &[Address],
-) -> Result<(), AllocError> {
+) -> Result<(), AllocError>
+    requires { AllZip (IsListing files.now) areas.tags.now areas.listings.now }
+    ensures { OnOk result (AddsSupposed listed files.now areas.entry.tags.now assumed.now texts.old.items texts.new.items) }
+{
     'assumed: for address in assumed {
-        let text = file_text(alloc, files, areas, *address)?;
-        texts.push(Items::new(text))?;
+        texts.push(file_text(alloc, files, areas, listed, *address)?)?;
     }
     Ok(())
 }
@@ -153,17 +182,36 @@ fn file_text(
     alloc: Global,
     files: &[LinkFile],
     areas: SupposedAreas<'_>,
+    listed: bool,
     address: Address,
-) -> Result<Vec<u8>, AllocError> {
+) -> Result<Items<u8>, AllocError>
+    requires { AllZip (IsListing files.now) areas.tags.now areas.listings.now }
+    ensures { IfOk result (λ text. IsSupposedFile listed files.now areas.entry.tags.now address text) }
+{
     let mut text = Vec::new(alloc);
     push_system(&mut text, address)?;
-    'areas: for place in 0..areas.tags.len() {
-        if let Some(listing) = areas.listings.get(place) {
-            let tag = areas.tags[place].as_slice();
-            push_supposed_area(alloc, &mut text, files, tag, listing, areas.listed, address)?;
-        }
+    push_supposed_areas(alloc, &mut text, files, areas, listed, address)?;
+    Ok(Items::new(text))
+}
+
+// Adds the line of each area that the system has.
+fn push_supposed_areas(
+    alloc: Global,
+    text: &mut Vec<u8>,
+    files: &[LinkFile],
+    areas: SupposedAreas<'_>,
+    listed: bool,
+    address: Address,
+) -> Result<(), AllocError>
+    requires { AllZip (IsListing files.now) areas.tags.now areas.listings.now }
+    ensures { OnOk result (Pushes (AreSupposedLines listed files.now areas.entry.tags.now address) text.old.items text.new.items) }
+{
+    let SupposedAreas { tags, listings } = areas;
+    'areas: for place in 0..tags.len() {
+        let tag = tags[place].as_slice();
+        push_supposed_area(alloc, text, files, tag, &listings[place], listed, address)?;
     }
-    Ok(text)
+    Ok(())
 }
 
 // Adds the line of an area, if the system has it.
@@ -175,17 +223,35 @@ fn push_supposed_area(
     listing: &Listing,
     listed: bool,
     address: Address,
-) -> Result<(), AllocError> {
-    let has = if listed {
+) -> Result<(), AllocError>
+    requires { IsListing files.now tag.now listing.now }
+    ensures { OnOk result (Pushes (AreSupposedLines listed files.now (tag.now ∷ []) address) text.old.items text.new.items) }
+{
+    if has_supposed(files, tag, listing, listed, address) {
+        let links = listing.listers(alloc, address)?;
+        push_area(text, tag, &links)?;
+        Ok(())
+    } else {
+        Ok(())
+    }
+}
+
+// Whether the system has the area.
+fn has_supposed(
+    files: &[LinkFile],
+    tag: &[u8],
+    listing: &Listing,
+    listed: bool,
+    address: Address,
+) -> bool
+    requires { IsListing files.now tag.now listing.now }
+    ensures { result ≡ supposed.has_supposed listed files.now address tag.now }
+{
+    if listed {
         listing.has(address)
     } else {
         is_carried(files, tag)
-    };
-    if has {
-        let links = listing.listers(alloc, address)?;
-        push_area(text, tag, &links)?;
     }
-    Ok(())
 }
 
 /// The assumed systems of one area. With `listed` these are those that the area lists.
@@ -194,14 +260,45 @@ pub(crate) fn supposed_here(
     listing: &Listing,
     listed: bool,
     assumed: &[Address],
-) -> Result<Vec<Address>, AllocError> {
+) -> Result<Vec<Address>, AllocError>
+    ensures { (files : List LinkFile) (tag : List ℕ) → IsListing files tag listing.now → IfOk result (λ here. here.items ≡ supposed_here listed files tag assumed.now) }
+{
+    if listed {
+        listed_here(alloc, listing, assumed)
+    } else {
+        Vec::from_slice(alloc, assumed)
+    }
+}
+
+// Those of these systems that the area lists.
+fn listed_here(
+    alloc: Global,
+    listing: &Listing,
+    assumed: &[Address],
+) -> Result<Vec<Address>, AllocError>
+    ensures { (files : List LinkFile) (tag : List ℕ) → IsListing files tag listing.now → IfOk result (λ here. here.items ≡ filter (is_listed files tag) assumed.now) }
+{
     let mut here = Vec::new(alloc);
     'assumed: for address in assumed {
-        if !listed || listing.has(*address) {
-            here.push(*address)?;
-        }
+        push_listed(&mut here, listing, *address)?;
     }
     Ok(here)
+}
+
+// Adds the system, if the area lists it.
+fn push_listed(
+    here: &mut Vec<Address>,
+    listing: &Listing,
+    address: Address,
+) -> Result<(), AllocError>
+    ensures { (files : List LinkFile) (tag : List ℕ) → IsListing files tag listing.now → OnOk result (here.new.items ≡ here.old.items ++ filter (is_listed files tag) (address ∷ [])) }
+{
+    if listing.has(address) {
+        here.push(address)?;
+        Ok(())
+    } else {
+        Ok(())
+    }
 }
 
 /// The assumed systems behind which nothing was seen: if some file has the area, all but those left out, ascending, each
@@ -212,17 +309,22 @@ pub(crate) fn unseen(
     tag: &[u8],
     out: &[Address],
     assumed: &[Address],
-) -> Result<Vec<Address>, AllocError> {
-    if !is_carried(files, tag) {
-        return Ok(Vec::new(alloc));
+) -> Result<Vec<Address>, AllocError>
+    ensures { IfOk result (λ unseen. AreUnseen files.now tag.now out.now assumed.now unseen.items) }
+{
+    if is_carried(files, tag) {
+        let mut unseen = staying(alloc, out, assumed)?;
+        put_in_order(&mut unseen);
+        Ok(unseen)
+    } else {
+        Ok(Vec::new(alloc))
     }
-    let mut unseen = staying(alloc, out, assumed)?;
-    put_in_order(&mut unseen);
-    Ok(unseen)
 }
 
 /// Adds a line for the systems behind which nothing was seen. One alone has no line.
-pub(crate) fn push_unseen_line(lines: &mut Vec<u8>, unseen: &[Address]) -> Result<(), AllocError> {
+pub(crate) fn push_unseen_line(lines: &mut Vec<u8>, unseen: &[Address]) -> Result<(), AllocError>
+    ensures { OnOk result (lines.new.items ≡ lines.old.items ++ unseen_line unseen.now) }
+{
     if unseen.len() < 2 {
         return Ok(());
     }

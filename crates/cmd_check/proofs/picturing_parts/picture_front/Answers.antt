@@ -1,0 +1,6 @@
+use Rattle.std.proofs.Common.{arith}
+use Rattle.cmd_check.proofs.FilledParts.{front_drawn}
+use Rattle.cmd_check.proofs.picturing_parts.picture_front.Goals as goal
+
+pub returns : goal.returns
+returns c = grind (arith, front_drawn)

@@ -1,0 +1,6 @@
+use Rattle.std.proofs.Common.{◌≡◌, filter, map, take}
+use Rattle.cmd_check.specs.Leaving.{is_judged}
+use Rattle.cmd_check.proofs.supposing.judged_of.Given as goal
+
+abbrev pub invariant-all : goal.invariant-all
+invariant-all l = l.tags.items ≡ filter (is_judged l.files l.out) (map (λ tag. tag.items) (take l.tag-index l.all))
