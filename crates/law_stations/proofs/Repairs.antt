@@ -18,7 +18,7 @@ use Rattle.model_run.specs.Repair as model
 use Rattle.model_run.proofs.{Areas.address_of, Areas.link-among, Bases.filed-once, HarmLists.among-nth, Lists.nth-among, OneMessage.has-one, Repair.differ-files, Repair.enough-rounds, Repair.later-at, Repair.later-itself, Repairs.mended-by, Repairs.rounds-of, Targets.some_same, TosserLaws.the_laws}
 use Rattle.law_stations.specs.Commands.{Command, CommandEvent, Post, Purge, Scan, Toss}
 use Rattle.law_stations.specs.{Agreement.Agrees, Agreement.AreEventsOf, Agreement.AreTossesOf, Agreement.HasSystem, Agreement.IsPacketFile, Agreement.IsTossOf, Agreement.base_of, Agreement.file_address, Agreement.own_address, AnyNets.IsSomeNet, AnyNets.links_at, AnyNets.net_at, Disks.with_packet, InOrder.StationHolds, Nets.Net, Nets.Paired, Nets.Station}
-use Rattle.law_stations.specs.Repairs.{AreStationRounds, Calls, CallsNoPurge, FilesNothing, HasNoStubs, HaveWhole, IsStationRound, RepairAll, RepairCommand, Repairs, Resend, Resends, RoundsBringAll, RoundsEnd, bytes_sent}
+use Rattle.law_stations.specs.Repairs.{AreStationRounds, Calls, CallsNoPurge, FilesNothing, HasNoStubs, HaveWhole, IsStationRound, RepairsHappen, RepairCommand, RepairHappens, Resend, Resends, RoundsBringAll, RoundsEnd, bytes_sent}
 use Rattle.law_stations.proofs.{AnyNets.begins, AnyNets.first, AnyNets.state, AnyNets.systems-files, EachEvent.event-is-events, Headline.read-once, Packets.copies-packet, Pairs.paired-append, Pairs.paired-back, Pairs.paired-nth, Places.addresses-of, Places.addresses-stay, Sound.represented, Systems.file-fits, Systems.one-file, Systems.says-so}
 
 paired-length : {X Y : Type 0} (R : X → Y → Type 0) (xs : List X) (ys : List Y) → Paired R xs ys → length xs ≡ length ys
@@ -84,8 +84,8 @@ toss-calm k events (inr (inr (messages, e))) = subst (AllByRecursion IsCalm) (sy
 
 tosses-calm : (indexes : List ℕ) (events : List RunEvent) → AreTossesOf indexes events → AllByRecursion IsCalm events
 tosses-calm [] events e = subst (AllByRecursion IsCalm) (sym e) tt
-tosses-calm (k ∷ later) events (first, rest, e, is, are) =
-    subst (AllByRecursion IsCalm) (sym e) (all_append IsCalm first rest (toss-calm k first is) (tosses-calm later rest are))
+tosses-calm (k ∷ later) events (front, rest, e, is, are) =
+    subst (AllByRecursion IsCalm) (sym e) (all_append IsCalm front rest (toss-calm k front is) (tosses-calm later rest are))
 
 command-calm : (command : Command) (i : ℕ) (events : List RunEvent) → command ≢ Purge → AreEventsOf command i events → AllByRecursion IsCalm events
 command-calm (Post words body) i events other e = subst (AllByRecursion IsCalm) (sym e) (tt, tt)
@@ -103,7 +103,7 @@ record LedTo (new : Net) (run : Run) : Type 0 where
 idle : (net new : Net) (run : Run) → Different (map own_address run.systems) → Agrees net run → new ≡ net → LedTo new run
 idle net new run apart agrees same = record { events = []; calm = tt; agrees = subst (λ (n : Net). Agrees n run) (sym same) agrees; apart = apart }
 
-led-one : (command : RepairCommand) (net new : Net) (run : Run) → Different (map own_address run.systems) → Agrees net run → CallsNoPurge command → Repairs command net new → LedTo new run
+led-one : (command : RepairCommand) (net new : Net) (run : Run) → Different (map own_address run.systems) → Agrees net run → CallsNoPurge command → RepairHappens command net new → LedTo new run
 led-one (Resend i area to held stamp) net new run apart agrees calm (inl same) = idle net new run apart agrees same
 led-one (Resend i area to held stamp) net new run apart agrees calm (inr resends) =
     let (s, there, then) = resend-agrees i area to held stamp net new run agrees resends in
@@ -125,7 +125,7 @@ led-one (Calls event) net new run apart agrees calm happens =
     }
 
 led-to : (commands : List RepairCommand) (net new : Net) (run : Run) → Different (map own_address run.systems) → Agrees net run → AllByRecursion CallsNoPurge commands →
-    RepairAll commands net new → LedTo new run
+    RepairsHappen commands net new → LedTo new run
 led-to [] net new run apart agrees calm same = idle net new run apart agrees same
 led-to (command ∷ later) net new run apart agrees calm (next, step, rest) =
     let one = led-one command net next run apart agrees calm.0 step in

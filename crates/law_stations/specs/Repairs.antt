@@ -30,13 +30,13 @@ pub data RepairCommand : Type 0 where
   Resend : (station : ℕ) (area : List ℕ) (to : Address) (held : List (List ℕ)) (stamp : Stamp) → RepairCommand
   Calls : (event : CommandEvent) → RepairCommand
 
-abbrev pub Repairs : RepairCommand → Net → Net → Type 0
-Repairs (Resend i area to held stamp) net new = (new ≡ net) ⊎ Resends i area to held stamp net new
-Repairs (Calls event) net new = Happens event net new
+abbrev pub RepairHappens : RepairCommand → Net → Net → Type 0
+RepairHappens (Resend i area to held stamp) net new = (new ≡ net) ⊎ Resends i area to held stamp net new
+RepairHappens (Calls event) net new = Happens event net new
 
-abbrev pub RepairAll : List RepairCommand → Net → Net → Type 0
-RepairAll [] net new = new ≡ net
-RepairAll (command ∷ later) net new = (next : Net) × Repairs command net next × RepairAll later next new
+abbrev pub RepairsHappen : List RepairCommand → Net → Net → Type 0
+RepairsHappen [] net new = new ≡ net
+RepairsHappen (command ∷ later) net new = (next : Net) × RepairHappens command net next × RepairsHappen later next new
 
 -- No base is purged.
 abbrev pub CallsNoPurge : RepairCommand → Type 0
@@ -64,7 +64,7 @@ pub record HasReachedLink (area : List ℕ) (before after : Net) (from to : Link
 pub record IsStationRound (area : List ℕ) (before after : Net) : Type 0 where
   pub commands : List RepairCommand
   pub no_purge : AllByRecursion CallsNoPurge commands
-  pub happen : RepairAll commands before after
+  pub happen : RepairsHappen commands before after
   pub reached : (i : ℕ) (from : LinkFile) (messages : List Filed) (cursor : ℕ) → StationHolds before i from messages cursor →
       (j : ℕ) (to : LinkFile) (others : List Filed) (end : ℕ) → StationHolds before j to others end →
       IsTrue (is_link from area to.system) → IsTrue (is_link to area from.system) → HasReachedLink area before after from to messages
