@@ -10,7 +10,6 @@ use Rattle.echo_filed.specs.{declared.key.Key.Key, declared.key.Key.TheVariants.
 use Rattle.echo_filed.proofs.{DerivedKeys.derived, DerivedKeys.derived_is_same, Keys.same_key_decides, Plain.all_append}
 use Rattle.base_file.specs.{Base.AreNew, Base.IsBase, Base.is_known, Entries.AreEntries, Entries.ArePurged, Entries.HasTagIn}
 
--- one more message that is new
 one_more_new : (earlier base : List Filed) (m : Filed) → AreNew earlier base → is_known (earlier ++ base) (key_of m) ≡ false → AreNew earlier (base ++ m ∷ [])
 one_more_new earlier [] m h new =
     let P : List Filed → Type 0 = λ l. is_known l (key_of m) ≡ false in
@@ -19,18 +18,15 @@ one_more_new earlier (b ∷ base) m h new =
     let P : List Filed → Type 0 = λ l. is_known l (key_of m) ≡ false in
     (h.0, one_more_new (earlier ++ b ∷ []) base m h.1 (subst P (sym (append_assoc earlier (b ∷ []) base)) new))
 
--- one more message at the end of a base
 pub one_more : (base : List Filed) (cursor : ℕ) (m : Filed) → IsBase base cursor → IsFiled m → is_known base (key_of m) ≡ false → IsBase (base ++ m ∷ []) cursor
 one_more base cursor m h filed new = grind (arith, all_append, one_more_new, length-append)
 
--- a message with another id has another key
 other_key : (b : Filed) (tag id : List ℕ) (has : Option (List ℕ)) → unwrap_or (option_map (bytes_eq id) has) false ≡ false → same_key (key_with b has) (ById tag id) ≡ false
 other_key b tag id None h = refl
 other_key b tag id (Some x) h =
     and_right (bytes_eq b.echo.tag tag) (bytes_eq x id)
     (false_from_ne_true (bytes_eq x id) (λ e. true≢false (sym ((bytes_decides id x).1 (sym ((bytes_decides x id).0 e))) ∙ h)))
 
--- if no message has the id, no key with it is known
 pub none_known : (base : List Filed) (tag id : List ℕ) → list_any (has_id id) base ≡ false → is_known base (ById tag id) ≡ false
 unfolding key_of
 none_known [] tag id h = refl
@@ -38,11 +34,9 @@ none_known (b ∷ base) tag id h =
     let parts = or_parts (has_id id b) (list_any (has_id id) base) h in
     or_from (same_key (key_of b) (ById tag id)) (is_known base (ById tag id)) (other_key b tag id (msgid_of b.echo.kept) parts.0) (none_known base tag id parts.1)
 
--- a message that is known by an id has it
 pub known_by_id : (base : List Filed) (tag id : List ℕ) → is_known base (ById tag id) ≡ true → list_any (has_id id) base ≡ true
 known_by_id base tag id h = grind (arith, cases_Bool, true≢false, none_known)
 
--- a message with the id has the key of its tag and the id
 own_key : (m : Filed) (id : List ℕ) (has : Option (List ℕ)) → unwrap_or (option_map (bytes_eq id) has) false ≡ true → same_key (key_with m has) (ById m.echo.tag id) ≡ true
 own_key m id None h = absurd (true≢false (sym h))
 own_key m id (Some x) h =
@@ -55,13 +49,11 @@ any_weaker p q weaker (x ∷ xs) h =
     let parts = or_parts (p x) (list_any p xs) h in
     or_from (q x) (list_any q xs) (weaker x parts.0) (any_weaker p q weaker xs parts.1)
 
--- if no tag passes, a tag that passes is not among them
 not_among : (p : List ℕ → Bool) (tag : List ℕ) (tags : List (List ℕ)) → p tag ≡ true → list_any p tags ≡ false → list_any (bytes_eq tag) tags ≡ false
 not_among p tag tags passes =
     any_weaker p (bytes_eq tag)
     (λ t fails. false_from_ne_true (bytes_eq tag t) (λ e. true≢false (sym passes ∙ ap p ((bytes_decides tag t).0 e) ∙ fails))) tags
 
--- if the id is not known with any tag, no message has it
 pub no_such_id : (id : List ℕ) (tags : List (List ℕ)) (base : List Filed) → AllByRecursion (HasTagIn tags) base
     → list_any (λ t. is_known base (ById t id)) tags ≡ false → list_any (has_id id) base ≡ false
 unfolding key_of
@@ -74,7 +66,6 @@ no_such_id id tags (m ∷ base) h none =
     (false_from_ne_true (has_id id m) (λ e. true≢false (sym h.0 ∙ not_among (λ t. same_key (key_of m) (ById t id)) m.echo.tag tags (own_key m id (msgid_of m.echo.kept) e) own)))
     (no_such_id id tags base h.1 (any_weaker (λ t. is_known (m ∷ base) (ById t id)) (λ t. is_known base (ById t id)) here tags none))
 
--- the comparison of a look-up, which has the asked key first
 turned : (k l : Key) → derived k l ≡ same_key l k
 turned k l = grind (arith, derived_is_same, cases_Bool, same_key_decides, false_from_ne_true, true≢false)
 
@@ -85,7 +76,6 @@ some_if : {X : Type 0} (b : Bool) (x : X) (o : Option X) → is_some (cond b (So
 some_if true x o = refl
 some_if false x o = refl
 
--- a look-up finds just the keys of the messages
 pub looked_up : (entries : List (Key × Filed)) (key : Key) → keys_of entries ≡ map key_of (values_of entries)
     → is_some (lookup (derived key) entries) ≡ is_known (values_of entries) key
 looked_up [] key h = refl
@@ -98,13 +88,11 @@ pub any_map : {X Y : Type 0} (f : X → Y) (p : Y → Bool) (xs : List X) → li
 any_map f p [] = refl
 any_map f p (x ∷ xs) = ap (λ b. p (f x) || b) (any_map f p xs)
 
--- the tags may become more
 pub more_tags : (tags tags' : List (List ℕ)) → ((t : List ℕ) → list_any (bytes_eq t) tags ≡ true → list_any (bytes_eq t) tags' ≡ true)
     → (base : List Filed) → AllByRecursion (HasTagIn tags) base → AllByRecursion (HasTagIn tags') base
 more_tags tags tags' more [] h = tt
 more_tags tags tags' more (m ∷ base) h = (more m.echo.tag h.0, more_tags tags tags' more base h.1)
 
--- entries after the list of tags grew
 pub still_entries : (entries : List (Key × Filed)) (tags tags' : List (List ℕ)) (cursor purged : ℕ)
     → ((t : List ℕ) → list_any (bytes_eq t) tags ≡ true → list_any (bytes_eq t) tags' ≡ true) → AreEntries entries tags cursor purged → AreEntries entries tags' cursor purged
 still_entries entries tags tags' cursor purged more h = grind (arith, more_tags)
@@ -117,11 +105,9 @@ still_stubs zero base m within h = tt
 still_stubs (suc n) [] m within h = absurd (omega arith)
 still_stubs (suc n) (x ∷ base) m within h = (h.0, still_stubs n base m (omega arith) h.1)
 
--- one more message after those that are purged
 still_purged : (base : List Filed) (cursor purged : ℕ) (m : Filed) → cursor ≤ length base → ArePurged base cursor purged → ArePurged (base ++ m ∷ []) cursor purged
 still_purged base cursor purged m within h = let before = h.within in record { within = before; stubs = still_stubs purged base m (omega arith) h.stubs }
 
--- one more entry, of a new message and its key
 pub one_more_entry : (entries : List (Key × Filed)) (tags : List (List ℕ)) (cursor purged : ℕ) (key : Key) (m : Filed) → AreEntries entries tags cursor purged → IsFiled m
     → key ≡ key_of m → is_known (values_of entries) key ≡ false → HasTagIn tags m → AreEntries (entries ++ (key, m) ∷ []) tags cursor purged
 one_more_entry entries tags cursor purged key m h filed own new tagged =
@@ -140,7 +126,6 @@ one_more_entry entries tags cursor purged key m h filed own new tagged =
       front = let P : List Filed → Type 0 = λ l. ArePurged l cursor purged in subst P (sym values) (still_purged (values_of entries) cursor purged m h.is_base.within h.front);
     }
 
--- a message with its key was put behind the others, unless one of them has the key
 pub known_unless : (added b : Bool) → added ≡ not b → b ≡ not added
 known_unless added true h = sym (ap not h)
 known_unless added false h = sym (ap not h)
@@ -165,7 +150,6 @@ messages_after entries entries' key m (Ok true) is = ap values_of is ∙ values_
 messages_after entries entries' key m (Ok false) is = ap values_of is
 messages_after entries entries' key m (Err e) is = tt
 
--- if the tags include those of all messages, they include the tag of each one
 pub tag_of_one : (tags : List (List ℕ)) (tag : List ℕ) (base : List Filed) → AllByRecursion (HasTagIn tags) base
     → list_any (λ m. bytes_eq tag m.echo.tag) base ≡ true → list_any (bytes_eq tag) tags ≡ true
 tag_of_one tags tag [] h some = absurd (true≢false (sym some))
@@ -176,7 +160,6 @@ tag_of_one tags tag (m ∷ base) h some = elim (cases_Bool (bytes_eq tag m.echo.
   | inr other ↦ tag_of_one tags tag base h.1 (ap (λ b. b || list_any (λ m. bytes_eq tag m.echo.tag) base) (sym other) ∙ some)
 ]
 
--- if the message of an entry passes, one of the messages passes
 pub passes_at : (p : Filed → Bool) (entries : List (Key × Filed)) (i : ℕ) (key : Key) (m : Filed) → Some (key, m) ≡ slice_get entries i → p m ≡ true → list_any p (values_of entries) ≡ true
 passes_at p entries i key m is pass =
     let within = slice_get_within entries i (key, m) (sym is) in

@@ -20,7 +20,6 @@ if_any : {X : Type 0} (o : Option X) → IfSome o (λ _. Unit {0})
 if_any None = tt
 if_any (Some x) = tt
 
--- behind some bytes, the input or the device ended inside a field
 pub cut_fails : {X : Type 0} {F : X → Type 0} {w : X → List ℕ} (n : ℕ) (front : List ℕ) (a b c : Option (List ℕ)) (e : Broken) → Consumes a b front
     → ((consumed : List ℕ) → EndsIn X F w consumed → BaseFaultOf (front ++ consumed) (fault.Truncated n)) → Breaks X F w b c e → FailsToLoad a c (fault_behind e n)
 cut_fails n front a b c broken.Cut took is h = record {
@@ -33,7 +32,6 @@ cut_fails n front a b c broken.Device took is h = record {
 }
 cut_fails n front a b c broken.Memory took is h = record { wrong = if_any a; inside = λ r. absurd (cc) }
 
--- the head ends inside one of its numbers
 part_of_long : (consumed : List ℕ) → EndsIn ℕ IsLong long consumed → length consumed < 4
 part_of_long consumed inside =
     let some = inside.some in
@@ -53,7 +51,6 @@ unfolding head_bytes
 head_taken version cursor number a b c d first second third =
     Consumes-trans a b d (magic version) (long cursor ++ long number) first (Consumes-trans b c d (long cursor) (long number) second third)
 
--- sound messages behind a head
 pub record HasTaken (version : Version) (cursor : ℕ) (messages : List Filed) (old new : Option (List ℕ)) : Type 0 where
   pub all : List Stored
   pub sizes : AllByRecursion (IsStored version) all
@@ -61,7 +58,6 @@ pub record HasTaken (version : Version) (cursor : ℕ) (messages : List Filed) (
   pub took : Consumes old new (flat_map (stored_bytes version) all)
   pub said : messages ≡ map (message_in version) all
 
--- one more
 pub taken_more : (version : Version) (cursor : ℕ) (messages messages' : List Filed) (a b c : Option (List ℕ)) → HasTaken version cursor messages a b
     → TakesNextStored version cursor messages messages' b c → HasTaken version cursor messages' a c
 taken_more version cursor messages messages' a b c so next =
@@ -77,7 +73,6 @@ taken_more version cursor messages messages' a b c so next =
       said = next.filed ∙ ap (λ l. l ++ message_in version s ∷ []) so.said ∙ sym (say_more version so.all s);
     }
 
--- a head and the messages behind it
 behind_head : (version : Version) (cursor number : ℕ) (messages : List Filed) (a b c : Option (List ℕ)) → number < 2 ^ 32 → cursor ≤ number
     → (so : HasTaken version cursor messages b c) → (rest bytes : List ℕ) → bytes ≡ (head_bytes version cursor number ++ flat_map (stored_bytes version) so.all) ++ rest
     → Begins version cursor number so.all rest bytes
@@ -102,13 +97,11 @@ message_cut version cursor number n messages b c fits within more many so consum
   cut = stops.cut;
 })
 
--- a damaged message at the front of the remaining bytes
 message_damaged : (version : Version) (cursor number n : ℕ) (messages : List Filed) (a b c d : Option (List ℕ)) → number < 2 ^ 32 → cursor ≤ number → n < number → n ≡ length messages
     → Consumes a b (head_bytes version cursor number) → (so : HasTaken version cursor messages b c) → TakesDamaged version cursor messages c d
     → IfSome a (λ bytes. IsDamagedAt n bytes)
 message_damaged version cursor number n messages a b c d fits within more many head so bad = grind (arith, Consumes-trans, behind_head, append_assoc, length-map)
 
--- a message behind sound ones was not taken
 pub message_fails : (version : Version) (cursor number : ℕ) (messages messages' : List Filed) (a b c d : Option (List ℕ)) (answered : BaseFault) → number < 2 ^ 32 → cursor ≤ number
     → length messages < number → Consumes a b (head_bytes version cursor number) → HasTaken version cursor messages b c
     → TakesStored {A = Unit {0}} version cursor messages messages' c d (Err answered) → FailsToLoad a d answered
@@ -129,11 +122,9 @@ message_fails version cursor number messages messages' a b c d fault.NotBase fit
 message_fails version cursor number messages messages' a b c d (fault.Write n) fits within more head so h = absurd h
 message_fails version cursor number messages messages' a b c d fault.TooMany fits within more head so h = absurd h
 
--- head and all messages are a base
 pub base_taken : (head : Head) (base : Base) (a b c : Option (List ℕ)) → TakesHead head a b → TakesAll head base b c → TakesBase base.messages head.cursor a c
 base_taken head base a b c first rest = grind (arith, Consumes-trans, append-nil)
 
--- an answer that describes the bytes is the only one
 pub only_answer : (old new : Option (List ℕ)) (r : Result Base BaseFault) (other : Result Loaded BaseFault)
     → IfOk r (λ base. TakesBase base.messages base.cursor old new) → IfErr r (FailsToLoad old new)
     → IfSome old (λ bytes. AreBytes bytes → LoadOf bytes other → AnswersLoad r other)

@@ -11,13 +11,11 @@ use Rattle.echo_filed.proofs.{Plain.no_zero, Plain.plain_if, Plain.some_bytes, S
 use Rattle.base_file.specs.BaseFile.{AreSound, BaseOf, has_wrong_form, has_wrong_last, has_wrong_sender, has_wrong_string, is_damaged, is_no_string, is_other_kind, is_wrong_id, is_wrong_text}
 use Rattle.base_file.specs.Base.{AreNew, IsBase, is_known}
 
--- the sender of a stored message
 small_of : (posted : Bool) (s : Stored) → s.zone < 2 ^ 16 → s.net < 2 ^ 16 → s.node < 2 ^ 16
     → HasSmallSender (cond posted None (Some (record { zone = s.zone; net = s.net; node = s.node })))
 small_of true s zone net node = tt
 small_of false s zone net node = (zone, net, node)
 
--- a string that is not wrong
 record IsRight (most : ℕ) (s : List ℕ) : Type 0 where
   room : length s ≤ most
   bytes : HasNoZero s
@@ -47,12 +45,10 @@ right_last true s h =
     bare_echo s.tag s.last (not-false (is_tag s.tag) p1.0) (plain_if s.last (not-false (list_all is_line_byte s.last) p3.0))
 right_last false s h = right_text s.last h
 
--- a message with right strings and this text
 pub filed_with : (version : Version) (s : Stored) (echo : EchoText) → IsStored version s → has_wrong_string s ≡ false → IsEcho echo
     → IsFiled (record { sender = sender_in s; date = s.date; to_name = s.to_name; from_name = s.from_name; subject = s.subject; echo = echo })
 filed_with version s echo size h is = grind (arith, or_parts, right_string, small_of)
 
--- a stored message that is not damaged, as a message of a base
 pub record IsSound (earlier : List Filed) (m : Filed) : Type 0 where
   pub filed : IsFiled m
   pub new : is_known earlier (key_of m) ≡ false

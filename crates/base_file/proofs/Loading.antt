@@ -14,24 +14,20 @@ use Rattle.base_file.specs.BaseFile.{AreSound, BaseOf, Begins, EndsInside, IsDam
 use Rattle.base_file.specs.declared.fault.BaseFault.{BaseFault}
 use Rattle.base_file.specs.declared.fault.BaseFault.TheVariants as fault
 
--- the messages and the bytes after them, or a fault
 abbrev Messages : Type 0
 Messages = Result (List Filed × List ℕ) BaseFault
 
--- the answer if this message is whole and follows the earlier ones
 judged : Version → ℕ → List Filed → (List Filed → List ℕ → Messages) → Option (Stored × List ℕ) → Messages
 judged version cursor earlier more None = Err (fault.Truncated (length earlier))
 judged version cursor earlier more (Some found) =
     cond (is_damaged version cursor earlier found.0) (Err (fault.Damaged (length earlier)))
     (more (earlier ++ message_in version found.0 ∷ []) found.1)
 
--- this many messages, read one by one after the earlier ones
 messages_in : Version → ℕ → List Filed → ℕ → List ℕ → Messages
 messages_in version cursor earlier zero bytes = Ok (earlier, bytes)
 messages_in version cursor earlier (suc n) bytes =
     judged version cursor earlier (λ now rest. messages_in version cursor now n rest) (stored_in version bytes)
 
--- with the cursor, and how many bytes were taken
 finished : List ℕ → ℕ → Messages → Result Loaded BaseFault
 finished bytes cursor (Ok found) = Ok (found.0, cursor, length bytes - length found.1)
 finished bytes cursor (Err refused) = Err refused
@@ -48,7 +44,6 @@ load_outcome bytes =
     (finished bytes (long_at 8 bytes) (messages_in (version_of bytes) (long_at 8 bytes) [] (long_at 12 bytes) (drop 16 bytes)))))
     (Err fault.NotBase)
 
--- sound messages in front are read
 sound_front : (version : Version) (cursor : ℕ) (earlier : List Filed) (all : List Stored) (more : ℕ) (rest : List ℕ)
     → AllByRecursion (IsStored version) all → AreSound version cursor earlier all
     → messages_in version cursor earlier (length all + more) (flat_map (stored_bytes version) all ++ rest)
@@ -67,7 +62,6 @@ sound_front version cursor earlier (s ∷ later) more rest sizes sound =
     ∙ sound_front version cursor next later more rest sizes.1 sound.1
     ∙ ap (λ (now : List Filed). messages_in version cursor now more rest) (append_assoc earlier (message_in version s ∷ []) (map (message_in version) later))
 
--- the facts that a head gives about the bytes that begin with it
 record HeadRecords (version : Version) (cursor number : ℕ) (rest bytes : List ℕ) : Type 0 where
   front : is_front bytes ≡ true
   room : 16 ≤ length bytes
@@ -80,7 +74,6 @@ head_tells : (version : Version) (cursor number : ℕ) (rest : List ℕ) → Hea
 unfolding head_bytes version_of
 head_tells h1 cursor number rest = grind (arith, long_value)
 
--- the outcome of the bytes after their head
 behind_head : (version : Version) (cursor number : ℕ) (rest bytes : List ℕ) → cursor ≤ number → bytes ≡ head_bytes version cursor number ++ rest
     → load_outcome bytes ≡ finished bytes cursor (messages_in version cursor [] number rest)
 unfolding load_outcome
@@ -100,7 +93,6 @@ behind_head version cursor number rest bytes within e =
     ∙ cond-false (nat_lt (long_at 12 bytes) (long_at 8 bytes)) (Err fault.NotBase) found (le-ltb (long_at 12 bytes) (long_at 8 bytes) ordered)
     ∙ (λ i. finished bytes (c i) (messages_in (v i) (c i) [] (n i) (b i)))
 
--- the same behind sound messages
 behind_messages : (version : Version) (cursor number more : ℕ) (all : List Stored) (rest bytes : List ℕ) → Begins version cursor number all rest bytes → number ≡ length all + more
     → load_outcome bytes ≡ finished bytes cursor (messages_in version cursor (map (message_in version) all) more rest)
 behind_messages version cursor number more all rest bytes b count =
@@ -108,7 +100,6 @@ behind_messages version cursor number more all rest bytes b count =
     ∙ ap (λ (n : ℕ). finished bytes cursor (messages_in version cursor [] n (flat_map (stored_bytes version) all ++ rest))) count
     ∙ ap (finished bytes cursor) (sound_front version cursor [] all more rest b.sizes b.sound)
 
--- a base is the outcome
 pub base_is : (bytes : List ℕ) (found : Loaded) → found.2 ≤ length bytes → BaseOf found.0 found.1 (take found.2 bytes) → Ok found ≡ load_outcome bytes
 unfolding messages_in finished
 base_is bytes found room b =
@@ -133,7 +124,6 @@ base_is bytes found room b =
     ∙ (λ i. Ok (messages i, found.1, taken i))
     )
 
--- an input that ends inside a message is the outcome
 cut_is : (bytes : List ℕ) (n : ℕ) → AreBytes bytes → EndsInside n bytes → Err (fault.Truncated n) ≡ load_outcome bytes
 unfolding messages_in judged finished
 cut_is bytes n are h =
@@ -159,7 +149,6 @@ cut_is bytes n are h =
         let size : length bytes - length rest ≡ length front = omega (arith, ap length e, length-append front rest) in
         ap (λ (k : ℕ). drop k bytes) size ∙ ap (drop (length front)) e ∙ drop-append_seam front rest
 
--- a damaged message is the outcome
 damage_is : (bytes : List ℕ) (n : ℕ) → IsDamagedAt n bytes → Err (fault.Damaged n) ≡ load_outcome bytes
 unfolding messages_in judged finished
 damage_is bytes n h =
@@ -177,7 +166,6 @@ damage_is bytes n h =
     ∙ ap (λ (k : ℕ). Err (fault.Damaged k)) so_many
     )
 
--- the other tests of the outcome
 no_front : (bytes : List ℕ) → is_front bytes ≡ false → load_outcome bytes ≡ Err fault.NotBase
 unfolding load_outcome
 no_front bytes h = cond-false (is_front bytes) _ (Err fault.NotBase) h
@@ -211,7 +199,6 @@ only_outcome bytes are (Err (fault.Write n)) h = absurd h
 only_outcome bytes are (Err fault.Memory) h = absurd h
 only_outcome bytes are (Err fault.TooMany) h = absurd h
 
--- one more message that may follow the earlier ones
 pub sound_more : (version : Version) (cursor : ℕ) (earlier : List Filed) (all : List Stored) (s : Stored) → AreSound version cursor earlier all
     → is_damaged version cursor (earlier ++ map (message_in version) all) s ≡ false → AreSound version cursor earlier (all ++ s ∷ [])
 sound_more version cursor earlier [] s h new =
@@ -238,13 +225,11 @@ pub begins_more : (version : Version) (cursor number : ℕ) (all : List Stored) 
     → Begins version cursor number (all ++ s ∷ []) rest bytes
 begins_more version cursor number all s left rest bytes b e size fine = grind (arith, all_append, sound_more, bytes_more)
 
--- the answer for the rest of a base, after sound messages
 abbrev Rest : Version → ℕ → ℕ → List ℕ → ℕ → Type 0
 Rest version cursor number bytes more =
     (all : List Stored) (rest : List ℕ) → Begins version cursor number all rest bytes → number ≡ length all + more → AreBytes rest
     → LoadOf bytes (finished bytes cursor (messages_in version cursor (map (message_in version) all) more rest))
 
--- the whole base, if no message remains
 pub whole_loads : (version : Version) (cursor number : ℕ) (bytes : List ℕ) (all : List Stored) (rest : List ℕ) → Begins version cursor number all rest bytes → number ≡ length all
     → LoadOf bytes (Ok (map (message_in version) all, cursor, length bytes - length rest))
 whole_loads version cursor number bytes all rest b many = grind (arith, append_assoc, length-append, take_at, append-nil)
@@ -253,7 +238,6 @@ none_left : (version : Version) (cursor number : ℕ) (bytes : List ℕ) → Res
 unfolding messages_in finished
 none_left version cursor number bytes all rest b count are = whole_loads version cursor number bytes all rest b (omega arith)
 
--- one more message, if the bytes have one
 one_left : (version : Version) (cursor number more : ℕ) (bytes : List ℕ) → Rest version cursor number bytes more → (all : List Stored) (rest : List ℕ)
     → Begins version cursor number all rest bytes → number ≡ length all + suc more → AreBytes rest → (found : Stored × List ℕ) → Stands version rest found.0 found.1
     → LoadOf bytes (finished bytes cursor (judged version cursor (map (message_in version) all) (λ now left. messages_in version cursor now more left) (Some found)))
@@ -323,7 +307,6 @@ rest_loads version cursor number bytes zero = none_left version cursor number by
 rest_loads version cursor number bytes (suc more) = λ all rest b count are.
     some_left version cursor number more bytes (rest_loads version cursor number bytes more) all rest b count are (stored_in version rest) refl
 
--- the first eight bytes are the beginning of one version
 magic_front : (version : Version) (front : List ℕ) → length front ≡ 8 → starts_with nat_eq (magic version) front ≡ true → front ≡ magic version
 magic_front version front size h =
     (bytes_decides front (take (length front) (magic version))).0 h ∙ ap (λ (n : ℕ). take n (magic version)) size ∙ whole version
@@ -336,14 +319,12 @@ version_is : (bytes : List ℕ) → 16 ≤ length bytes → is_front bytes ≡ t
 unfolding version_of
 version_is bytes room h = grind (arith, length-take-le, cases_Bool, cond-true, magic_front, cond-false)
 
--- the numbers of the head, at their places
 eight_on : (bytes : List ℕ) → long_at 0 (drop 8 bytes) ≡ long_at 8 bytes
 eight_on bytes = grind (arith, get_or-drop)
 
 twelve_on : (bytes : List ℕ) → long_at 0 (drop 12 bytes) ≡ long_at 12 bytes
 twelve_on bytes = grind (arith, get_or-drop)
 
--- bytes with a head begin with it
 pub record HasHead (version : Version) (bytes : List ℕ) : Type 0 where
   pub whole : bytes ≡ head_bytes version (long_at 8 bytes) (long_at 12 bytes) ++ drop 16 bytes
   pub number_fits : long_at 12 bytes < 2 ^ 32
@@ -352,7 +333,6 @@ pub has_head : (v : Version) (bytes : List ℕ) → AreBytes bytes → 16 ≤ le
 unfolding head_bytes
 has_head v bytes are room is = grind (arith, long_front, AreBytes-drop, length-drop, twelve_on, take-append-drop, eight_on, drop-drop, append_assoc)
 
--- the outcome describes the bytes
 pub outcome_loads : (bytes : List ℕ) → AreBytes bytes → LoadOf bytes (load_outcome bytes)
 outcome_loads bytes are =
     let P : Result Loaded BaseFault → Type 0 = LoadOf bytes in

@@ -6,7 +6,6 @@ use Rattle.std.specs.declared.cmp.Ordering.TheVariants.{Less, Equal, Greater}
 use Rattle.std.specs.{Ordering.is_eq, Ordering.match_ordering, Ordering.nat_cmp, BTreeSet.insert_key, Cmp.Lexicographic.bytes_decides, Cmp.Lexicographic.slice_cmp}
 use Rattle.base_file.specs.Entries.{AreAmong}
 
--- one of two tests passes
 either_passes : (b c : Bool) → (b || c) ≡ true → (b ≡ true) ⊎ (c ≡ true)
 either_passes true c h = inl refl
 either_passes false c h = inr h
@@ -18,7 +17,6 @@ passes_later : (b c : Bool) → c ≡ true → (b || c) ≡ true
 passes_later true c h = refl
 passes_later false c h = h
 
--- if an element passes after an insertion, it is a new or an old one
 inserted : {K : Type 0} (p : K → Bool) (order : K → K → Ordering) (ks : List K) (k : K)
     → list_any p (insert_key order ks k) ≡ true → (p k ≡ true) ⊎ (list_any p ks ≡ true)
 inserted p order [] k h = either_passes (p k) false h
@@ -36,7 +34,6 @@ inserted p order (x ∷ xs) k h = by (order k x) h (inserted p order xs k)
     by Greater h later = further later (either_passes (p x) (list_any p (insert_key order xs k)) h)
 
 module _ {K : Type 0} (tag_of : K → List ℕ) where
-  -- a tag behind the others is there, and the others stay
   pub last_found : (tags : List K) (k : K) (tag : List ℕ) → tag ≡ tag_of k → list_any (bytes_eq tag) (map tag_of (tags ++ k ∷ [])) ≡ true
   last_found [] k tag e = passes_first (bytes_eq tag (tag_of k)) false ((bytes_decides tag (tag_of k)).1 e)
   last_found (t ∷ tags) k tag e = passes_later (bytes_eq tag (tag_of t)) _ (last_found tags k tag e)
@@ -48,7 +45,6 @@ module _ {K : Type 0} (tag_of : K → List ℕ) where
     | inr e ↦ passes_later (bytes_eq tag (tag_of t)) _ (still_found tags k tag e)
   ]
 
-  -- and that one among the keys
   pub tag_noted : (sorted tags : List K) (k l : K) → tag_of l ≡ tag_of k → AreAmong tag_of sorted tags
       → AreAmong tag_of (insert_key (λ x y. slice_cmp nat_cmp (tag_of x) (tag_of y)) sorted l) (tags ++ k ∷ [])
   tag_noted sorted tags k l own h tag found =

@@ -1,4 +1,3 @@
--- The same bytes have one base or one fault.
 use Rattle.std.proofs.Common.{◌≡◌, ℕ, ◌≤◌, List, length, take, refl, sym, ap, subst, ◌∙◌, Result, Ok, Err, arith}
 use Rattle.std.proofs.lemmas.List.{take_all}
 use Rattle.echo_packet.specs.Header.{AreBytes}
@@ -6,7 +5,6 @@ use Rattle.echo_filed.specs.Filed.{Filed}
 use Rattle.base_file.specs.{declared.fault.BaseFault.BaseFault, BaseFile.BaseFaultOf, BaseFile.BaseOf, BaseFile.LoadOf, BaseFile.Loaded}
 use Rattle.base_file.proofs.Loading.{only_outcome}
 
--- two bases in front of the same bytes
 two_loads : (bytes : List ℕ) → AreBytes bytes → (a b : Result Loaded BaseFault) → LoadOf bytes a → LoadOf bytes b → a ≡ b
 two_loads bytes are a b h g = only_outcome bytes are a h ∙ sym (only_outcome bytes are b g)
 

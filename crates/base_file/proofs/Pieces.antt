@@ -10,7 +10,6 @@ use Rattle.base_file.specs.Pieces.{BeginsWith, IsJudged, IsNext, JudgesOne}
 use Rattle.base_file.specs.declared.piece.Next.TheVariants as next
 use Rattle.base_file.proofs.{Loading.begins_more, Loading.has_head, Verdicts.known_damaged}
 
--- the bytes of a message are in front
 judged_here : (version : Version) (cursor place : ℕ) (bytes rest : List ℕ) (s : Stored) (j : Next) → IsStored version s → bytes ≡ stored_bytes version s ++ rest
     → JudgesOne version cursor place s (length bytes - length rest) j → IsJudged version cursor place bytes j
 judged_here version cursor place bytes rest s j fits e h = grind (arith, length-append, take_at)
@@ -22,7 +21,6 @@ next_judged version cursor place bytes rest s (Ok next.Damaged) fits e h = judge
 next_judged version cursor place bytes rest s (Ok next.Cut) fits e h = absurd h
 next_judged version cursor place bytes rest s (Err x) fits e h = tt
 
--- the head in a piece is that of the file
 pub head_here : (version : Version) (cursor number : ℕ) (bytes : List ℕ) → AreBytes bytes → 16 ≤ length bytes → take 8 bytes ≡ magic version → cursor ≡ long_at 8 bytes → number ≡ long_at 12 bytes
     → cursor ≤ number → BeginsWith (record { version = version; cursor = cursor; number = number }) bytes
 head_here version cursor number bytes are room is at to within = grind (arith, has_head)
@@ -47,13 +45,11 @@ head_begins head piece more bytes h e =
           ∙ ap (λ bs. front ++ bs) (sym (ap (drop 16) e ∙ drop-append-le 16 piece more room));
     }
 
--- the bytes of a message in front of a piece are in front of all that is left
 in_front : (version : Version) (cursor place : ℕ) (rest piece more : List ℕ) (s : Stored) (size : ℕ) → size ≤ length piece → stored_bytes version s ≡ take size piece → rest ≡ piece ++ more
     → rest ≡ stored_bytes version s ++ drop size rest
 in_front version cursor place rest piece more s size within same e =
     sym (take-append-drop size rest) ∙ ap (λ bs. bs ++ drop size rest) (ap (take size) e ∙ take-append-le size piece more within ∙ sym same)
 
--- a message that may be next, after sound ones
 pub next_begins : (version : Version) (cursor number place : ℕ) (all : List Stored) (rest piece more bytes : List ℕ) (key : Key) (size : ℕ) (short : Bool)
     → Begins version cursor number all rest bytes → place ≡ length all → rest ≡ piece ++ more → (j : IsJudged version cursor place piece (next.Sound key size short))
     → is_known (map (message_in version) all) key ≡ false → Begins version cursor number (all ++ j.s ∷ []) (drop size rest) bytes

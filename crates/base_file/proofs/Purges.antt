@@ -8,18 +8,15 @@ use Rattle.indexmap.specs.IndexMap.{set_value_at}
 use Rattle.echo_filed.specs.{Filed.Filed, Stubs.is_stub, Stubs.lines_left, Stubs.stub_of}
 use Rattle.echo_filed.proofs.StubTests.{stays}
 
--- a value written at a place
 pub values_written : {K X : Type 0} (es : List (K × X)) (i : ℕ) (w : X) → values_of (set_value_at es i w) ≡ set (values_of es) i w
 values_written [] i w = refl
 values_written (e ∷ es) zero w = refl
 values_written (e ∷ es) (suc i) w = ap (λ l. e.1 ∷ l) (values_written es i w)
 
--- the messages before a place, and one more
 pub front_more : (all : List Filed) (i : ℕ) (m : Filed) → slice_get all i ≡ Some m → take (i + 1) all ≡ take i all ++ m ∷ []
 front_more all i m at =
     take_more all i m (slice_get_within all i m at) ∙ ap (λ x. take i all ++ x ∷ []) (get_or_from_slice_get all i m m at)
 
--- those from a place up to the cursor
 rest_more : (all : List Filed) (i cursor : ℕ) (m : Filed) → slice_get all i ≡ Some m → i < cursor → drop i (take cursor all) ≡ m ∷ drop (i + 1) (take cursor all)
 rest_more all i cursor m at before =
     let within = slice_get_within all i m at in
@@ -28,7 +25,6 @@ rest_more all i cursor m at before =
     ∙ ap (λ x. x ∷ drop (suc i) (take cursor all)) (get_or-take cursor all i m before ∙ get_or_from_slice_get all i m m at)
     ∙ ap (λ n. m ∷ drop n (take cursor all)) (sym (add-one i))
 
--- the lines left of one message
 abbrev pub left_of : Bool → Filed → List (List (List ℕ))
 left_of stub m = cond (not stub) ((stub_of m).echo.kept ∷ []) []
 
@@ -44,7 +40,6 @@ left_more all i m at =
     ∙ map-append kept (filter changed (take i all)) (filter changed (m ∷ []))
     ∙ ap (λ l. lines_left (take i all) ++ l) (left_one m)
 
--- a stub leaves no lines, another message its own
 pub left_same : (all : List Filed) (i : ℕ) (m : Filed) → slice_get all i ≡ Some m → is_stub m ≡ true → lines_left (take (i + 1) all) ≡ lines_left (take i all)
 left_same all i m at stub = left_more all i m at ∙ ap (λ b. lines_left (take i all) ++ left_of b m) stub ∙ append-nil (lines_left (take i all))
 
@@ -56,20 +51,17 @@ left_changed all i m at stub = left_more all i m at ∙ ap (λ b. lines_left (ta
 abbrev pub from_place : List Filed → ℕ → ℕ → List Filed
 from_place all i cursor = take i all ++ (map stub_of (drop i (take cursor all)) ++ drop cursor all)
 
--- such a list before the message at the place, and then that message
 pub place_split : (all : List Filed) (i cursor : ℕ) (m : Filed) → slice_get all i ≡ Some m
     → from_place all (i + 1) cursor ≡ take i all ++ m ∷ (map stub_of (drop (i + 1) (take cursor all)) ++ drop cursor all)
 place_split all i cursor m at =
     ap (λ l. l ++ (map stub_of (drop (i + 1) (take cursor all)) ++ drop cursor all)) (front_more all i m at)
     ∙ append_assoc (take i all) (m ∷ []) (map stub_of (drop (i + 1) (take cursor all)) ++ drop cursor all)
 
--- the same list after that message became a stub
 pub place_joined : (all : List Filed) (i cursor : ℕ) (m : Filed) → slice_get all i ≡ Some m → i < cursor
     → from_place all i cursor ≡ take i all ++ stub_of m ∷ (map stub_of (drop (i + 1) (take cursor all)) ++ drop cursor all)
 place_joined all i cursor m at before =
     ap (λ l. take i all ++ (map stub_of l ++ drop cursor all)) (rest_more all i cursor m at before)
 
--- the message at the place, which no write has reached
 pub place_same : (all : List Filed) (i cursor : ℕ) (m : Filed) → i < length all → slice_get (from_place all (i + 1) cursor) i ≡ Some m → slice_get all i ≡ Some m
 place_same all i cursor m within at =
     let rest = map stub_of (drop (i + 1) (take cursor all)) ++ drop cursor all in
@@ -79,7 +71,6 @@ place_same all i cursor m within at =
     ∙ get_or_from_slice_get (from_place all (i + 1) cursor) i m m at in
     slice_get-get_or all i m within ∙ ap Some same
 
--- a stub stays
 pub stub_step : (all : List Filed) (i cursor : ℕ) (m : Filed) → slice_get all i ≡ Some m → i < cursor → is_stub m ≡ true
     → from_place all (i + 1) cursor ≡ from_place all i cursor
 stub_step all i cursor m at before stub =
@@ -87,7 +78,6 @@ stub_step all i cursor m at before stub =
     ∙ ap (λ x. take i all ++ x ∷ (map stub_of (drop (i + 1) (take cursor all)) ++ drop cursor all)) (sym (stays m stub))
     ∙ sym (place_joined all i cursor m at before)
 
--- another message becomes its stub
 pub changed_step : (all : List Filed) (i cursor : ℕ) (m : Filed) → slice_get all i ≡ Some m → i < cursor
     → set (from_place all (i + 1) cursor) i (stub_of m) ≡ from_place all i cursor
 changed_step all i cursor m at before =
@@ -99,7 +89,6 @@ changed_step all i cursor m at before =
     ∙ set-append_seam (take i all) m rest (stub_of m)
     ∙ sym (place_joined all i cursor m at before)
 
--- no lines are left of stubs
 pub no_lines : (front : List Filed) → AllByRecursion (λ m. is_stub m ≡ true) front → lines_left front ≡ []
 no_lines [] h = refl
 no_lines (m ∷ front) h =
@@ -116,7 +105,6 @@ take_front zero (suc i) all h = absurd (omega arith)
 take_front (suc n) (suc i) [] h = refl
 take_front (suc n) (suc i) (m ∷ all) h = ap (λ l. m ∷ l) (take_front n i all (omega arith))
 
--- a purge may begin behind messages that are stubs
 pub from_stubs : (all : List Filed) (start cursor : ℕ) → start ≤ cursor → AllByRecursion (λ m. is_stub m ≡ true) (take start all)
     → from_place all start cursor ≡ map stub_of (take cursor all) ++ drop cursor all
 from_stubs all start cursor order h =
@@ -126,7 +114,6 @@ from_stubs all start cursor order h =
     ∙ sym (append_assoc (map stub_of (take start scanned)) (map stub_of (drop start scanned)) (drop cursor all))
     ∙ ap (λ l. l ++ drop cursor all) (sym (map-append stub_of (take start scanned) (drop start scanned)) ∙ ap (map stub_of) (take-append-drop start scanned))
 
--- how many lines are left
 pub count_left : (all : List Filed) → length (lines_left all) ≡ count_by (λ m. not (is_stub m)) all
 count_left all = length-map (filter (λ m. not (is_stub m)) all) (λ m. (stub_of m).echo.kept) ∙ length-filter (λ m. not (is_stub m)) all
 

@@ -17,7 +17,6 @@ use Rattle.base_file.specs.Base.{AreNew, IsBase, is_known}
 known_kind : (short : Bool) (sender : Option Address) → is_other_kind Second (kind_of short sender) ≡ false
 known_kind h1 h2 = grind arith
 
--- the sender that the bytes of one tell
 abbrev reported : Bool → Option Address → Option Address
 reported short o =
     cond (is_posted (kind_of short o)) None (Some (record { zone = (sender_or_zeros o).zone; net = (sender_or_zeros o).net; node = (sender_or_zeros o).node }))
@@ -53,7 +52,6 @@ short_of m h =
       path = nil_from_length m.echo.path (eqb-true (length m.echo.path) 0 p2.1);
     }
 
--- short form means what it should
 abbrev IsFormOf : Bool → Filed → Type 0
 IsFormOf true m = IsShort m
 IsFormOf false m = ⊤
@@ -70,12 +68,10 @@ bare_is e id kept seen path =
 echo_back : (short : Bool) (m : Filed) → IsEcho m.echo → IsFormOf short m → echo_in Second (stored_as short m) ≡ m.echo
 echo_back h1 m is h = grind (arith, cond-true, tagged, bare_is, cond-false, written_back)
 
--- the stored form gives the message back
 stored_back : (short : Bool) (m : Filed) → IsEcho m.echo → IsFormOf short m → message_in Second (stored_as short m) ≡ m
 unfolding message_in
 stored_back short m is h = grind (arith, reported_is, echo_back)
 
--- no sender of a posted message
 sender_right : (short : Bool) (m : Filed) (o : Option Address) → m.sender ≡ o → has_wrong_sender (stored_as short m) ≡ false
 sender_right short m o e = grind arith
 
@@ -95,7 +91,6 @@ text_right e is =
     (not_from_true (bytes_eq (text_of (echo_of (text_of e))) (text_of e))
     ((bytes_decides (text_of (echo_of (text_of e))) (text_of e)).1 (ap text_of (written_back e is)))))
 
--- the end of bytes that a line may contain
 plain_end : (front back : List ℕ) → Plain (front ++ back) → list_all is_line_byte back ≡ true
 plain_end [] [] h = refl
 plain_end [] (b ∷ back) h = grind (arith, and_from, not_from_false, or_from, ne_eqb, plain_end [] back h.1)
@@ -120,7 +115,6 @@ form_right : (cursor place : ℕ) (short : Bool) (m : Filed) → IsEcho m.echo �
     → has_wrong_form Second cursor place (stored_as short m) ≡ false
 form_right cursor place h3 m is e h = grind (arith, cond-true, tagged, stored_back, cond-false)
 
--- a message that follows the earlier ones in a base is not damaged
 stored_right : (cursor : ℕ) (earlier : List Filed) (m : Filed) → IsFiled m → is_known earlier (key_of m) ≡ false → (short : Bool) → is_short Second cursor (length earlier) m ≡ short
     → is_damaged Second cursor earlier (stored_as short m) ≡ false
 unfolding is_damaged
@@ -133,7 +127,6 @@ stored_right cursor earlier m h new short e =
     (or_from (has_wrong_form Second cursor (length earlier) (stored_as short m)) _ (form_right cursor (length earlier) short m h.is_echo e form)
     (ap (λ (x : Filed). is_known earlier (key_of x)) (stored_back short m h.is_echo form) ∙ new)))))
 
--- the stored form at a place gives the message
 pub stored_says : (cursor place : ℕ) (m : Filed) → IsEcho m.echo → message_in Second (stored_at cursor place m) ≡ m
 unfolding stored_at
 stored_says cursor place m is =
@@ -166,7 +159,6 @@ as_many cursor place (m ∷ later) = ap suc (as_many cursor (place + 1) later)
 kind_small : (short : Bool) (sender : Option Address) → kind_of short sender < 2 ^ 8
 kind_small h1 h2 = grind arith
 
--- the numbers of a sender
 record AreSmall (a : Address) : Type 0 where
   zone : a.zone < 2 ^ 16
   net : a.net < 2 ^ 16
@@ -197,12 +189,10 @@ all_sizes cursor place (m ∷ later) all enough =
     let parts = and_parts (is_short_enough (stored_at cursor place m)) (list_all is_short_enough (stored_from cursor (place + 1) later)) enough in
     (size_at cursor place m all.0 parts.0, all_sizes cursor (place + 1) later all.1 parts.1)
 
--- a base that is not too large loads from its saved bytes
 pub saved_is_base : (base : List Filed) (cursor : ℕ) → IsBase base cursor → is_countable base cursor ≡ true → BaseOf base cursor (saved_bytes base cursor)
 unfolding saved_bytes is_countable
 saved_is_base base cursor h few = grind (arith, and_parts, nat_lt, as_many, ltb-true, all_sizes, all_sound, append-nil, all_say)
 
--- and whatever follows it
 pub saved_loads : (base : List Filed) (cursor : ℕ) (rest : List ℕ) → IsBase base cursor → is_countable base cursor ≡ true
     → LoadOf (saved_bytes base cursor ++ rest) (Ok (base, cursor, length (saved_bytes base cursor)))
 saved_loads base cursor rest h few = grind (arith, length-append, take_at, saved_is_base)

@@ -10,16 +10,13 @@ use Rattle.echo_filed.specs.{Written.echo_of, Written.text_of, Filed.Filed, Stub
 use Rattle.base_file.proofs.ShortForms.{id_reported}
 use Rattle.base_file.specs.BaseFile.{AreSound, BaseOf, has_wrong_form, has_wrong_last, has_wrong_sender, has_wrong_string, head_bytes, is_countable, is_damaged, is_other_kind, is_wrong_id, is_wrong_text, magic, saved_bytes, stored_at, stored_from}
 
--- the first byte is given by the sender and the form
 kind_back : (k : ℕ) (sender : Address) → k ≤ 3 → kind_of ((k == 2) || (k == 3)) (cond (is_posted k) None (Some sender)) ≡ k
 kind_back h1 sender h = grind arith
 
--- a posted message has zeros for a sender
 sender_back : (posted : Bool) (a : Address) → (posted && not ((a.zone == 0) && ((a.net == 0) && (a.node == 0)))) ≡ false
     → sender_or_zeros (cond posted None (Some a)) ≡ a
 sender_back h1 a h = grind (arith, and_parts, not-false, eqb-true)
 
--- the tag and the id, or the text
 last_back : (with_tag : Bool) (tag last : List ℕ) → (with_tag ≡ false → tag ≡ []) → cond with_tag (not (is_tag tag) || is_wrong_id last) (is_wrong_text last) ≡ false
     → let e : EchoText = cond with_tag (bare tag last) (echo_of last) in
     (cond with_tag e.tag [] ≡ tag) × (cond with_tag (unwrap_or (msgid_of e.kept) []) (text_of e) ≡ last)
@@ -31,13 +28,11 @@ last_back false tag last none right =
     let p2 = or_parts (not (is_none (text_refusal last))) (not (bytes_eq (text_of (echo_of last)) last)) p1.1 in
     (sym (none refl), (bytes_decides (text_of (echo_of last)) last).0 (not-false (bytes_eq (text_of (echo_of last)) last) p2.1))
 
--- the form is the one that is to be used
 form_back : (with_tag short : Bool) → cond with_tag (not short) short ≡ false → short ≡ with_tag
 form_back true true h = refl
 form_back true false h = sym h
 form_back false short h = h
 
--- storing a loaded message gives the bytes that it had
 stored_as_back : (s : Stored) → IsStored Second s → is_other_kind Second s.kind ≡ false → has_wrong_sender s ≡ false → has_wrong_last Second s ≡ false
     → stored_as (has_tag Second s.kind) (message_in Second s) ≡ s
 unfolding message_in
@@ -68,12 +63,10 @@ all_short [] sizes = refl
 all_short (s ∷ later) sizes =
     and_from (is_short_enough s) (list_all is_short_enough later) (lt-ltb (length s.last) (2 ^ 32) sizes.0.last) (all_short later sizes.1)
 
--- the version is given by the first bytes
 second_by : (version : Version) (cursor number : ℕ) (rest bytes : List ℕ) → bytes ≡ head_bytes version cursor number ++ rest → take 8 bytes ≡ magic Second → version ≡ Second
 unfolding head_bytes
 second_by h1 cursor number rest bytes whole front = grind (arith, get_or)
 
--- the bytes of the second save, which four bytes can count
 pub record SavesAgain (base : List Filed) (cursor : ℕ) (bytes : List ℕ) : Type 0 where
   pub countable : is_countable base cursor ≡ true
   pub same : saved_bytes base cursor ≡ bytes

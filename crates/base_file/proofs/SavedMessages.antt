@@ -7,7 +7,6 @@ use Rattle.echo_filed.specs.{Filed.Filed, declared.stored.Version.TheVariants.Se
 use Rattle.base_file.specs.BaseFile.{head_bytes, is_countable, saved_bytes, stored_at, stored_from}
 use Rattle.base_file.proofs.Purges.{front_more}
 
--- the bytes of all messages
 abbrev pub stored_all : ℕ → List Filed → List ℕ
 stored_all cursor all = flat_map (stored_bytes Second) (stored_from cursor 0 all)
 
@@ -17,12 +16,10 @@ stored_append cursor place (x ∷ xs) ys =
     let on : place + 1 + length xs ≡ place + length (x ∷ xs) = omega arith in
     ap (λ l. stored_at cursor place x ∷ l) (stored_append cursor (place + 1) xs ys ∙ ap (λ n. stored_from cursor (place + 1) xs ++ stored_from cursor n ys) on)
 
--- the message at a place
 pub stored_here : (cursor place : ℕ) (m : Filed) (short : Bool) → short ≡ is_short Second cursor place m → stored_as short m ≡ stored_at cursor place m
 unfolding stored_at
 stored_here cursor place m short e = ap (λ b. stored_as b m) e
 
--- the messages before a place, and one more
 from_more : (cursor i : ℕ) (all : List Filed) (m : Filed) → slice_get all i ≡ Some m
     → stored_from cursor 0 (take (i + 1) all) ≡ stored_from cursor 0 (take i all) ++ stored_at cursor i m ∷ []
 from_more cursor i all m at =
@@ -31,7 +28,6 @@ from_more cursor i all m at =
     ap (stored_from cursor 0) (front_more all i m at) ∙ stored_append cursor 0 (take i all) (m ∷ [])
     ∙ ap (λ n. stored_from cursor 0 (take i all) ++ stored_at cursor n m ∷ []) here
 
--- all messages are those before a place, the one there and those after it
 from_parts : (cursor i : ℕ) (all : List Filed) (m : Filed) → slice_get all i ≡ Some m
     → stored_from cursor 0 all ≡ stored_from cursor 0 (take i all) ++ stored_at cursor i m ∷ stored_from cursor (i + 1) (drop (suc i) all)
 from_parts cursor i all m at =
@@ -55,7 +51,6 @@ all_parts cursor i all m at =
     sym (ap (flat_map (stored_bytes Second)) (from_parts cursor i all m at)
     ∙ flat_map-append (stored_bytes Second) (stored_from cursor 0 (take i all)) (stored_at cursor i m ∷ stored_from cursor (i + 1) (drop (suc i) all)))
 
--- each message is short enough if all are
 pub enough_here : (cursor i : ℕ) (all : List Filed) (m : Filed) → slice_get all i ≡ Some m → list_all is_short_enough (stored_from cursor 0 all) ≡ true
     → is_short_enough (stored_at cursor i m) ≡ true
 enough_here cursor i all m at enough =
@@ -78,7 +73,6 @@ pub too_long_here : (cursor i : ℕ) (all : List Filed) (m : Filed) → slice_ge
     → false ≡ list_all is_short_enough (stored_from cursor 0 all)
 too_long_here cursor i all m at long = grind (arith, enough_here)
 
--- four bytes count the messages, or not
 pub countable_if : (cursor : ℕ) (all : List Filed) → length all < 2 ^ 32 → list_all is_short_enough (stored_from cursor 0 all) ≡ is_countable all cursor
 unfolding is_countable
 countable_if cursor all few = sym (ap (λ b. b && list_all is_short_enough (stored_from cursor 0 all)) (lt-ltb (length all) (2 ^ 32) few))
@@ -91,7 +85,6 @@ pub countable_parts : (cursor : ℕ) (all : List Filed) → is_countable all cur
 unfolding is_countable
 countable_parts cursor all h = and_parts (nat_lt (length all) (2 ^ 32)) (list_all is_short_enough (stored_from cursor 0 all)) h
 
--- head and messages
 pub saved_parts : (cursor : ℕ) (all : List Filed) → head_bytes Second cursor (length all) ++ stored_all cursor all ≡ saved_bytes all cursor
 unfolding saved_bytes
 saved_parts cursor all = refl

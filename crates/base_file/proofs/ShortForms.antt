@@ -12,7 +12,6 @@ some : (l : List ℕ) → (length l == 0) ≡ false → 0 < length l
 some [] h = absurd (true≢false h)
 some (x ∷ l) h = omega arith
 
--- an id that is not wrong is that of its line
 pub id_reported : (id : List ℕ) → is_wrong_id id ≡ false → msgid_of (id_line msgid_word id ∷ []) ≡ Some id
 id_reported id right =
     let p1 = or_parts (length id == 0) (not (list_all is_line_byte id) || not (bytes_eq (trimmed id) id)) right in
@@ -20,23 +19,19 @@ id_reported id right =
     let same : trimmed id ≡ id = (bytes_decides (trimmed id) id).0 (not-false (bytes_eq (trimmed id) id) p2.1) in
     msgid_first id [] (record { some = some id p1.0; trim = subst IsTrim same (trimmed_trim id) })
 
--- its text is the bare one
 bare_text : (version : Version) (s : Stored) → has_tag version s.kind ≡ true → (message_in version s).echo ≡ bare s.tag s.last
 unfolding message_in
 bare_text version s tagged = cond-true (has_tag version s.kind) (bare s.tag s.last) (echo_of s.last) tagged
 
--- its id is the last field
 last_is_id : (version : Version) (s : Stored) → has_tag version s.kind ≡ true → has_wrong_field version s ≡ false
     → msgid_of (message_in version s).echo.kept ≡ Some s.last
 last_is_id version s tagged right = grind (arith, or_parts, cond-true, bare_text, id_reported)
 
--- its key has the tag and this id
 pub short_key : (version : Version) (s : Stored) → has_tag version s.kind ≡ true → has_wrong_field version s ≡ false
     → key_of (message_in version s) ≡ ById (message_in version s).echo.tag s.last
 unfolding key_of
 short_key version s tagged right = ap (key_with (message_in version s)) (last_is_id version s tagged right)
 
--- a purge leaves it as it is
 bare_is_stub : (version : Version) (s : Stored) → has_tag version s.kind ≡ true → has_wrong_field version s ≡ false → is_stub (message_in version s) ≡ true
 bare_is_stub version s tagged right =
     let line = id_line msgid_word s.last in
@@ -48,12 +43,10 @@ and_true : (b : Bool) → (b && true) ≡ b
 and_true true = refl
 and_true false = refl
 
--- so that it has this form wherever it was scanned
 pub short_once_scanned : (version : Version) (s : Stored) → has_tag version s.kind ≡ true → has_wrong_field version s ≡ false
     → IsShortOnceScanned version (message_in version s)
 short_once_scanned h1 s tagged right cursor place = grind (arith, true≢false, nat_lt, last_is_id, bare_is_stub, and_true)
 
--- the found message and its last field, if it has tag and id instead of the text
 pub found_short : (version : Version) (s : Stored) (with_tag : Bool) (p : Filed × List ℕ) → with_tag ≡ has_tag version s.kind → with_tag ≡ true
     → UnlessWrong (has_wrong_field version s) (message_in version s, s.last) (Some p)
     → IsShortOnceScanned version p.0 × (key_of p.0 ≡ ById p.0.echo.tag p.1)

@@ -21,7 +21,6 @@ all_drop zero base h = h
 all_drop (suc n) [] h = tt
 all_drop (suc n) (m ∷ base) h = all_drop n base h.1
 
--- a purge changes no key
 pub purged_keys : (n : ℕ) (base : List Filed) → map key_of (map stub_of (take n base) ++ drop n base) ≡ map key_of base
 purged_keys zero base = refl
 purged_keys (suc n) [] = refl
@@ -56,7 +55,6 @@ new_by_keys earlier earlier' (x ∷ base) (y ∷ base') e k h =
     map_append earlier x ∙ (λ i. e i ++ same.0 i ∷ []) ∙ sym (map_append earlier' y) in
     (same_known earlier earlier' (key_of x) (key_of y) e same.0 h.0, new_by_keys (earlier ++ x ∷ []) (earlier' ++ y ∷ []) base base' longer same.1 h.1)
 
--- a base remains one if its first messages become stubs
 pub stubs_keep : (base : List Filed) (cursor : ℕ) → IsBase base cursor → IsBase (map stub_of (take cursor base) ++ drop cursor base) cursor
 stubs_keep base cursor h = record {
   each = all_append IsFiled (map stub_of (take cursor base)) (drop cursor base) (stubs_filed (take cursor base) (all_take cursor base h.each)) (all_drop cursor base h.each);
@@ -92,7 +90,6 @@ stubs_front zero base = tt
 stubs_front (suc n) [] = tt
 stubs_front (suc n) (m ∷ base) = ((stub_reported (stub_of m)).1 (stub_of_stub m), stubs_front n base)
 
--- entries after their first messages became stubs
 pub stub_entries : (entries later : List (Key × Filed)) (tags : List (List ℕ)) (cursor purged : ℕ) → AreEntries entries tags cursor purged → keys_of later ≡ keys_of entries
     → values_of later ≡ map stub_of (take cursor (values_of entries)) ++ drop cursor (values_of entries) → AreEntries later tags cursor cursor
 stub_entries entries later tags cursor purged h keys values = grind (arith, stubs_keep, purged_keys, stub_tags, stubs_front)

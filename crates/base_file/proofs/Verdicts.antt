@@ -11,11 +11,9 @@ use Rattle.base_file.specs.BaseFile.{has_wrong_form, has_wrong_last, has_wrong_s
 use Rattle.base_file.specs.{Base.is_known, Loading.UnlessWrong, Loading.is_wrong, Loading.said_last, Loading.wrong_last}
 use Rattle.base_file.proofs.Loaded.{filed_with, right_last}
 
--- a text that parses is wrong if the tosser writes it in another way
 pub text_wrong : (text : List ℕ) (e : EchoText) (dropped : ℕ) → list_any is_zero text ≡ false → EchoOf text e dropped → is_wrong_text text ≡ not (bytes_eq (text_of e) text)
 text_wrong text e dropped zero says = grind (arith, says_accepted, says_one)
 
--- a tag and an id that are not wrong are a text
 pub bare_made : (tag id : List ℕ) (kept : List (List ℕ)) (seen path : List NetNode) → is_tag tag ≡ true → is_wrong_id id ≡ false
     → kept ≡ id_line msgid_word id ∷ [] → seen ≡ [] → path ≡ [] → IsEcho (record { tag = tag; kept = kept; seen = seen; path = path })
 bare_made tag id kept seen path right fine one no_seen no_path =
@@ -28,7 +26,6 @@ bare_made tag id kept seen path right fine one no_seen no_path =
     let P : EchoText → Type 0 = IsEcho in
     subst P (λ i. record { tag = tag; kept = one' i; seen = seen' i; path = path' i }) made
 
--- a message with correct fields
 pub message_made : (version : Version) (s : Stored) (sender : Option Address) (echo : EchoText) → IsStored version s → has_wrong_string s ≡ false → sender ≡ sender_in s
     → UnlessWrong (has_wrong_last version s) (said_last (has_tag version s.kind) s.tag s.last) (Some echo)
     → IsFiled (record { sender = sender; date = s.date; to_name = s.to_name; from_name = s.from_name; subject = s.subject; echo = echo })
@@ -45,7 +42,6 @@ unfolding message_in
 message_is version s sender echo same reported =
     λ i. record { sender = same i; date = s.date; to_name = s.to_name; from_name = s.from_name; subject = s.subject; echo = reported i }
 
--- the tests in groups
 regrouped : (o s t l f k : Bool) → (o || (s || (t || (l || (f || k))))) ≡ ((((o || (s || t)) || l) || f) || k)
 regrouped h1 h2 h3 h4 f k = grind arith
 
@@ -67,7 +63,6 @@ pub known_damaged : (version : Version) (cursor place : ℕ) (earlier : List Fil
     → is_wrong version cursor place s ≡ false → m ≡ message_in version s → is_known earlier (key_of m) ≡ known → is_damaged version cursor earlier s ≡ known
 known_damaged version cursor place earlier s m known at_end right reported is = grind (arith, damaged_by)
 
--- the bytes after the subject, with other names for their parts
 pub last_said : (version : Version) (s : Stored) (with_tag : Bool) (last : List ℕ) (o : Option EchoText) (echo : EchoText) → with_tag ≡ has_tag version s.kind → last ≡ s.last
     → o ≡ Some echo → UnlessWrong (wrong_last with_tag s.tag last) (said_last with_tag s.tag last) o
     → UnlessWrong (has_wrong_last version s) (said_last (has_tag version s.kind) s.tag s.last) (Some echo)
@@ -75,6 +70,5 @@ last_said version s with_tag last o echo tagged same is h =
     let P : Bool → List ℕ → Option EchoText → Type 0 = λ t l x. UnlessWrong (wrong_last t s.tag l) (said_last t s.tag l) x in
     subst (P (has_tag version s.kind) s.last) is (subst (λ l. P (has_tag version s.kind) l o) same (subst (λ t. P t last o) tagged h))
 
--- the found value is correct
 pub found_right : {X : Type 0} (wrong : Bool) (x y : X) (o : Option X) → o ≡ Some y → UnlessWrong wrong x o → (wrong ≡ false) × (y ≡ x)
 found_right wrong x y o is h = subst (UnlessWrong wrong x) is h

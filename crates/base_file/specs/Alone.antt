@@ -20,7 +20,6 @@ pub record IsStoredAlone (m : Filed) (bytes : List ℕ) : Type 0 where
   pub is : message_in Second s ≡ m
   pub same : bytes ≡ stored_bytes Second s
 
--- The bytes are this message, or no message.
 abbrev pub IsReadAlone : List ℕ → Option Filed → Type 0
 IsReadAlone bytes (Some m) = IsStoredAlone m bytes
 IsReadAlone bytes None = (m : Filed) → IsStoredAlone m bytes → ⊥

@@ -3,7 +3,6 @@ use Rattle.std.specs.Prelude.{◌≡◌, ◌≤◌, ⊤, ℕ, ◌∷◌, ◌++�
 use Rattle.std.specs.List.{AllByRecursion, list_any}
 use Rattle.echo_filed.specs.{declared.key.Key.Key, Filed.Filed, Filed.IsFiled, Filed.key_of, Filed.same_key}
 
--- A message of the base has the key.
 abbrev pub is_known : List Filed → Key → Bool
 is_known base key = list_any (λ m. same_key (key_of m) key) base
 

@@ -1,4 +1,3 @@
--- Base files.
 use Rattle.std.specs.Prelude.{◌≡◌, ℕ, ◌+◌, ◌^◌, ◌<◌, ◌≤◌, ◌⊎◌, ⊤, ◌==◌, ◌||◌, ◌&&◌, not, nat_eq, nat_lt, Bool, true, false, List, [], ◌∷◌, ◌++◌, map, length, take, codes, if◌then◌else◌, is_none, Result, Ok, Err, bytes_eq}
 use Rattle.std.specs.List.{AllByRecursion, flat_map, list_all, list_any, starts_with}
 use Rattle.echo_packet.specs.Message.{max_name, max_subject}
@@ -14,7 +13,6 @@ abbrev pub magic : Version → List ℕ
 magic First = codes "ECHOBAS1"
 magic Second = codes "ECHOBAS2"
 
--- A first byte that the version does not have.
 abbrev pub is_other_kind : Version → ℕ → Bool
 is_other_kind First kind = nat_lt 1 kind
 is_other_kind Second kind = nat_lt 3 kind
@@ -23,11 +21,9 @@ is_other_kind Second kind = nat_lt 3 kind
 abbrev pub has_wrong_sender : Stored → Bool
 has_wrong_sender s = is_posted s.kind && not ((s.zone == 0) && ((s.net == 0) && (s.node == 0)))
 
--- The bytes are too many or contain a 00.
 abbrev pub is_no_string : ℕ → List ℕ → Bool
 is_no_string most s = nat_lt most (length s) || list_any is_zero s
 
--- A name or the subject contains a 00 or is too long.
 abbrev pub has_wrong_string : Stored → Bool
 has_wrong_string s = is_no_string max_name s.to_name || (is_no_string max_name s.from_name || is_no_string max_subject s.subject)
 
@@ -40,7 +36,6 @@ is_wrong_text text =
 abbrev pub is_wrong_id : List ℕ → Bool
 is_wrong_id id = (length id == 0) || (not (list_all is_line_byte id) || not (bytes_eq (trimmed id) id))
 
--- The bytes after the subject do not fit a message.
 abbrev pub has_wrong_last : Version → Stored → Bool
 has_wrong_last version s =
     if has_tag version s.kind then not (is_tag s.tag) || is_wrong_id s.last else is_wrong_text s.last
@@ -123,7 +118,6 @@ pub record IsDamagedAt (n : ℕ) (bytes : List ℕ) : Type 0 where
   pub size : IsStored version next
   pub damaged : is_damaged version cursor (map (message_in version) all) next ≡ true
 
--- The bytes have this fault.
 abbrev pub BaseFaultOf : List ℕ → BaseFault → Type 0
 BaseFaultOf bytes fault.NotBase = IsNoBase bytes
 BaseFaultOf bytes (fault.Truncated n) =
@@ -140,11 +134,9 @@ abbrev pub LoadOf : List ℕ → Result Loaded BaseFault → Type 0
 LoadOf bytes (Ok found) = (found.2 ≤ length bytes) × BaseOf found.0 found.1 (take found.2 bytes)
 LoadOf bytes (Err refused) = BaseFaultOf bytes refused
 
--- The stored form of a message at this place.
 unfoldable pub stored_at : ℕ → ℕ → Filed → Stored
 stored_at cursor place m = stored_as (is_short Second cursor place m) m
 
--- The messages from a place on.
 abbrev pub stored_from : ℕ → ℕ → List Filed → List Stored
 stored_from cursor place [] = []
 stored_from cursor place (m ∷ later) = stored_at cursor place m ∷ stored_from cursor (place + 1) later

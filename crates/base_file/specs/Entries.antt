@@ -4,7 +4,6 @@ use Rattle.std.specs.{List.AllByRecursion, List.list_any, Ordering.is_eq, Orderi
 use Rattle.echo_filed.specs.{declared.key.Key.Key, Filed.Filed, Filed.key_of, Stubs.is_stub}
 use Rattle.base_file.specs.Base.{IsBase}
 
--- The tag of the message is in the list.
 abbrev pub HasTagIn : List (List ℕ) → Filed → Type 0
 HasTagIn tags m = list_any (bytes_eq m.echo.tag) tags ≡ true
 

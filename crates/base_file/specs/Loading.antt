@@ -16,14 +16,12 @@ abbrev pub UnlessWrong : {X : Type 0} → Bool → X → Option X → Type 0
 UnlessWrong wrong x None = wrong ≡ true
 UnlessWrong wrong x (Some found) = (wrong ≡ false) × (found ≡ x)
 
--- A test that finds wrong bytes after the subject, and the text that these bytes give.
 abbrev pub wrong_last : Bool → List ℕ → List ℕ → Bool
 wrong_last with_tag tag last = if with_tag then not (is_tag tag) || is_wrong_id last else is_wrong_text last
 
 abbrev pub said_last : Bool → List ℕ → List ℕ → EchoText
 said_last with_tag tag last = if with_tag then bare tag last else echo_of last
 
--- The first byte, the sender or a string is wrong, or the bytes after the subject are wrong.
 abbrev pub has_wrong_front : Version → Stored → Bool
 has_wrong_front version s = is_other_kind version s.kind || (has_wrong_sender s || has_wrong_string s)
 
@@ -35,7 +33,6 @@ abbrev pub wrong_form : Version → ℕ → ℕ → Bool → Filed → Bool
 wrong_form version cursor place with_tag m =
     if with_tag then not (is_short version cursor place m) else is_short version cursor place m
 
--- The form or a field is wrong.
 abbrev pub is_wrong : Version → ℕ → ℕ → Stored → Bool
 is_wrong version cursor place s = has_wrong_field version s || has_wrong_form version cursor place s
 
@@ -48,7 +45,6 @@ abbrev pub Judges : Bool → Filed → Option (Key × Filed) → Type 0
 Judges wrong m None = wrong ≡ true
 Judges wrong m (Some found) = (wrong ≡ false) × (found.0 ≡ key_of m) × (found.1 ≡ m)
 
--- The fault of an incomplete field, after this many whole messages.
 abbrev pub fault_behind : Broken → ℕ → BaseFault
 fault_behind broken.Cut messages = fault.Truncated messages
 fault_behind broken.Device messages = fault.Read
@@ -76,7 +72,6 @@ pub record FailsToLoad (old new : Option (List ℕ)) (answered : BaseFault) : Ty
   pub wrong : IfSome old (λ bytes. LoadFault bytes answered)
   pub inside : answered ≡ fault.Read → Consumed old new IsUnfinished
 
--- The call consumed the first bytes of a version.
 abbrev pub ReadsVersion : Option (List ℕ) → Option (List ℕ) → Result Version BaseFault → Type 0
 ReadsVersion old new (Ok version) = Consumes old new (magic version)
 ReadsVersion old new (Err answered) = FailsToLoad old new answered
@@ -99,7 +94,6 @@ pub record TakesNextStored (version : Version) (cursor : ℕ) (base base' : List
   pub took : Consumes old new (stored_bytes version next)
   pub filed : base' ≡ base ++ message_in version next ∷ []
 
--- The call consumed a damaged message.
 pub record TakesDamaged (version : Version) (cursor : ℕ) (base : List Filed) (old new : Option (List ℕ)) : Type 0 where
   pub next : Stored
   pub size : IsStored version next
@@ -133,7 +127,6 @@ abbrev pub TakesMessages : {A : Type 0} → Head → Base → Option (List ℕ) 
 TakesMessages head base old new (Ok _) = TakesAll head base old new
 TakesMessages head base old new (Err answered) = FailsBehindHead head old new answered
 
--- The call consumed exactly the bytes of this base.
 abbrev pub TakesBase : List Filed → ℕ → Option (List ℕ) → Option (List ℕ) → Type 0
 TakesBase messages cursor old new = Consumed old new (BaseOf messages cursor)
 

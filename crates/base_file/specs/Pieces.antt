@@ -23,13 +23,11 @@ pub record ReportsOf (version : Version) (s : Stored) (key : Key) (short : Bool)
   pub own : key ≡ key_of (message_in version s)
   pub shortens : short ≡ is_short Second 1 0 (message_in version s)
 
--- The judgement of a message with this many bytes.
 abbrev pub JudgesOne : Version → ℕ → ℕ → Stored → ℕ → Next → Type 0
 JudgesOne version cursor place s size (next.Sound key count short) = (is_wrong version cursor place s ≡ false) × (count ≡ size) × ReportsOf version s key short
 JudgesOne version cursor place s size next.Damaged = is_wrong version cursor place s ≡ true
 JudgesOne version cursor place s size next.Cut = ⊥
 
--- A whole message is at the front, and has this judgement.
 pub record IsJudged (version : Version) (cursor place : ℕ) (bytes : List ℕ) (judgement : Next) : Type 0 where
   pub s : Stored
   pub fits : IsStored version s
@@ -38,7 +36,6 @@ pub record IsJudged (version : Version) (cursor place : ℕ) (bytes : List ℕ) 
   pub same : stored_bytes version s ≡ take size bytes
   pub judges : JudgesOne version cursor place s size judgement
 
--- The judgement of the front of the bytes.
 abbrev pub IsNext : Version → ℕ → ℕ → List ℕ → Next → Type 0
 IsNext version cursor place bytes (next.Sound key size short) = IsJudged version cursor place bytes (next.Sound key size short)
 IsNext version cursor place bytes next.Damaged = IsJudged version cursor place bytes next.Damaged

@@ -9,16 +9,14 @@ use disk_io::{Broken, are_bytes};
 use echo_filed::{Filed, Version, has_tag, read_stored};
 use std::alloc::AllocError;
 
-// The cursor of a base file with only a message of this first byte.
 fn cursor_alone(kind: u8) -> usize
     ensures { result ≡ (if has_tag Second kind then 1 else 0) }
 {
     usize::from(has_tag(Version::Second, kind))
 }
 
-/// The message of these stored bytes, judged as `load` judges the only message of a base file. It counts as scanned if
-/// it has tag and id instead of the text. None if it is damaged, cut or followed by more bytes. The content of the room
-/// makes no difference.
+/// The message of these stored bytes, judged as the only one of a base file; tag and id instead of the text mean
+/// scanned. None if it is damaged, cut or followed by more bytes. The content of the room makes no difference.
 pub fn read_message(room: &mut MessageRoom, bytes: &[u8]) -> Result<Option<Filed>, AllocError>
     ensures { IfOk result (IsReadAlone bytes.now) }
 {

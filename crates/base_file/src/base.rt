@@ -17,12 +17,10 @@ use std::alloc::{AllocError, Global};
 use std::hash::BuildHasher;
 use std::marker::Model;
 
-/// The messages of a system in order of filing, no key twice, and the cursor: the messages before it
-/// were scanned. Look-ups by key go by the hasher `S`.
+/// The messages of a system in order of filing, no key twice. Those before the cursor were scanned. `S` hashes keys.
 #[derive(Drop)]
 pub struct Base<S: BuildHasher> {
     entries: IndexMap<Key, Filed, S>,
-    // Each tag of a message, once.
     tags: Tags,
     cursor: usize,
     // This many messages from the front are known to be stubs.
@@ -55,7 +53,6 @@ impl<S: BuildHasher> Base<S> {
         }
     }
 
-    /// How many messages there are.
     pub fn len(&self) -> usize
         ensures count { result ≡ length self.now.messages }
         ensures base { IsBase self.now.messages self.now.cursor }
@@ -79,7 +76,6 @@ impl<S: BuildHasher> Base<S> {
         Some(message)
     }
 
-    /// Whether a message has the key.
     pub fn knows(&self, key: &Key) -> bool
         ensures { result ≡ is_known self.now.messages key.now }
     {
@@ -112,8 +108,6 @@ impl<S: BuildHasher> Base<S> {
         Ok(())
     }
 
-    // Appends a message with its key, unless an earlier one has the key, and answers whether it
-    // did. If memory is refused, the base is unchanged.
     fn add(&mut self, key: Key, message: Filed) -> Result<bool, AllocError>
         requires own { key ≡ key_of message }
         ensures added { IfOk result (λ added. added ≡ not (is_known self.old.messages (key_of message))) }
@@ -136,9 +130,8 @@ impl<S: BuildHasher> Base<S> {
         self.cursor = self.entries.len();
     }
 
-    /// Replaces each scanned message that has an id by its stub, which keeps only the id, and
-    /// answers how many changed. If memory is refused, the base is unchanged. It skips messages of
-    /// an earlier purge.
+    /// Replaces each scanned message that has an id by its stub, which keeps only the id; answers how many changed. If
+    /// memory is refused, the base is unchanged. Messages of an earlier purge are skipped.
     pub fn purge(&mut self) -> Result<u64, AllocError>
         ensures count { IfOk result (λ count. count ≡ count_by (λ m. not (is_stub m)) (take self.old.cursor self.old.messages)) }
         ensures messages { OnOk result (self.new.messages
@@ -155,7 +148,6 @@ impl<S: BuildHasher> Base<S> {
     }
 }
 
-// Appends a message with its key, unless another one has the key, and answers whether it did.
 fn push_new<S: BuildHasher>(
     entries: &mut IndexMap<Key, Filed, S>,
     key: Key,
@@ -176,8 +168,7 @@ fn push_new<S: BuildHasher>(
     }
 }
 
-// Adds the tag to the tags if it is new. It looks at the last tag first: messages of one area often
-// follow each other.
+// It looks at the last tag first: messages of one area often follow each other.
 fn keep_tag<S: BuildHasher>(
     entries: &IndexMap<Key, Filed, S>,
     tags: &mut Tags,

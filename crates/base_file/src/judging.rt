@@ -13,7 +13,6 @@ use echo_packet::{MAX_NAME, MAX_SUBJECT};
 use echo_text::{Echo, TextFault, is_kept_tag, read_text_into, trimmed, write_text_into};
 use std::alloc::AllocError;
 
-// Whether the version does not have the first byte.
 fn is_other_kind(version: Version, kind: u8) -> bool
     ensures { result ≡ is_other_kind version kind }
 {
@@ -23,7 +22,6 @@ fn is_other_kind(version: Version, kind: u8) -> bool
     }
 }
 
-// Whether a message of this first byte was posted here.
 fn is_posted(kind: u8) -> bool
     ensures { result ≡ is_posted kind }
 {
@@ -37,14 +35,12 @@ fn has_wrong_sender(stored: &StoredMessage) -> bool
     is_posted(stored.kind) && !(sender.zone == 0 && sender.net == 0 && sender.node == 0)
 }
 
-// Whether the bytes are too many or hold a 00.
 fn is_no_string(most: usize, bytes: &[u8]) -> bool
     ensures { result ≡ is_no_string most bytes.now }
 {
     bytes.len() > most || bytes.contains(&0)
 }
 
-// Whether a name or the subject has 00 or is too long.
 fn has_wrong_string(stored: &StoredMessage) -> bool
     ensures { result ≡ has_wrong_string stored.now }
 {
@@ -53,7 +49,6 @@ fn has_wrong_string(stored: &StoredMessage) -> bool
         || is_no_string(MAX_SUBJECT, stored.subject.as_slice())
 }
 
-// Whether the bytes are no id: empty, with 00 or 0D, or with a blank at an end.
 fn is_wrong_id(id: &[u8]) -> bool
     ensures { result ≡ is_wrong_id id.now }
 {
@@ -66,7 +61,6 @@ fn has_line_bytes(bytes: &[u8]) -> bool
     bytes.iter().all(|b| *b != 0 && *b != 13)
 }
 
-// Whether the text is the one that is written for the echo.
 fn is_written(room: &mut MessageRoom, echo: &Echo, text: &[u8]) -> Result<bool, AllocError>
     requires { IsEcho echo.now }
     ensures { IfOk result (λ same. same ≡ bytes_eq (text_of echo.now) text.now) }
@@ -78,7 +72,6 @@ fn is_written(room: &mut MessageRoom, echo: &Echo, text: &[u8]) -> Result<bool, 
     Ok(same)
 }
 
-// The echo of the text, unless it is written in another way.
 fn echo_of(room: &mut MessageRoom, text: &[u8]) -> Result<Option<Echo>, AllocError>
     ensures { IfOk result (UnlessWrong (is_wrong_text text.now) (echo_of text.now)) }
 {
@@ -96,7 +89,6 @@ fn echo_of(room: &mut MessageRoom, text: &[u8]) -> Result<Option<Echo>, AllocErr
     Ok(Some(echo))
 }
 
-// The text of this tag and id, unless one of them is wrong.
 fn bare(room: &mut MessageRoom, tag: Items<u8>, id: &[u8]) -> Result<Option<Echo>, AllocError>
     ensures { IfOk result (UnlessWrong (not (is_tag tag) || is_wrong_id id.now) (bare tag id.now)) }
 {
@@ -116,7 +108,6 @@ fn bare(room: &mut MessageRoom, tag: Items<u8>, id: &[u8]) -> Result<Option<Echo
     }))
 }
 
-// The bytes after the subject as a text, unless they are wrong.
 fn echo_in(
     room: &mut MessageRoom,
     with_tag: bool,
@@ -139,7 +130,6 @@ fn sender_in(kind: u8, sender: Address) -> Option<Address>
     if is_posted(kind) { None } else { Some(sender) }
 }
 
-// The stored message with its `last`, unless the bytes after the subject are wrong.
 fn message_of(
     room: &mut MessageRoom,
     version: Version,
@@ -165,14 +155,12 @@ fn message_of(
     Ok(Some((message, stored.last)))
 }
 
-// Whether the first byte, the sender or a string is wrong.
 fn has_wrong_front(version: Version, stored: &StoredMessage) -> bool
     ensures { result ≡ has_wrong_front version stored.now }
 {
     is_other_kind(version, stored.kind) || has_wrong_sender(stored) || has_wrong_string(stored)
 }
 
-// The stored message with its `last`, unless a field of it is wrong.
 fn right_message(
     room: &mut MessageRoom,
     version: Version,
@@ -187,7 +175,6 @@ fn right_message(
     message_of(room, version, stored)
 }
 
-// Whether the message has the text where tag and id should be, or the other way round.
 fn has_wrong_form(
     version: Version,
     cursor: usize,
@@ -207,7 +194,6 @@ fn has_wrong_form(
     }
 }
 
-// The key of the message. If it has tag and id instead of the text, `last` is the id.
 fn key_of(
     room: &mut MessageRoom,
     with_tag: bool,
@@ -229,8 +215,7 @@ fn key_of(
     })
 }
 
-/// The message with its `last`, unless a field is wrong or it has another form than a message at this
-/// place should have.
+/// None if a field is wrong, or if a message at this place should have another form.
 pub(crate) fn sound_message(
     room: &mut MessageRoom,
     version: Version,
@@ -251,7 +236,6 @@ pub(crate) fn sound_message(
     Ok(Some((message, last)))
 }
 
-/// The message of `sound_message`, with its key.
 pub(crate) fn judged(
     room: &mut MessageRoom,
     version: Version,

@@ -6,16 +6,14 @@ ghost use Rattle.echo_filed.specs.{Filed.Filed, declared.stored.Version.TheVaria
 ghost use Rattle.base_file.specs.BaseFile.{BaseFaultOf, BaseOf, LoadOf, Loaded, is_countable, magic, saved_bytes};
 ghost use Rattle.base_file.specs.{declared.fault.BaseFault.BaseFault, Base.IsBase};
 
-/// The saved bytes of a base are a base file of it, if its counts fit into four bytes: its messages
-/// and the bytes of each text and id. It is read back as this base, whatever follows it.
+/// The saved bytes of a base that four bytes can count are a base file of it, read back whatever follows.
 pub fn saved_base_law()
     ensures base { (base : List Filed) (cursor : ℕ) → IsBase base cursor → is_countable base cursor ≡ true → BaseOf base cursor (saved_bytes base cursor) }
     ensures read_back { (base : List Filed) (cursor : ℕ) (rest : List ℕ) → IsBase base cursor → is_countable base cursor ≡ true →
         LoadOf (saved_bytes base cursor ++ rest) (Ok (base, cursor, length (saved_bytes base cursor))) }
 {}
 
-/// The base of a base file of version 2 is saved as the same bytes. Its counts fit into four bytes:
-/// its messages and the bytes of each text and id.
+/// A base file of version 2 is saved again as the same bytes, and four bytes can count its parts.
 pub fn saved_again_law()
     ensures countable { (base : List Filed) (cursor : ℕ) (bytes : List ℕ) → BaseOf base cursor bytes → take 8 bytes ≡ magic Second → is_countable base cursor ≡ true }
     ensures same { (base : List Filed) (cursor : ℕ) (bytes : List ℕ) → BaseOf base cursor bytes → take 8 bytes ≡ magic Second → saved_bytes base cursor ≡ bytes }

@@ -1,12 +1,6 @@
-//! The base of a system: its filed messages and a cursor, in memory, and its base file.
-//!
-//! Promise: bytes are one base or have one fault. A saved base is read back unchanged.
-//!
-//! Begin with `base`: the messages by their keys, saved and loaded. `purging` makes stubs,
-//! `judging` refuses stored messages that no base may have, `tags` has the tags of all messages.
-//! `piece` judges a base file in pieces, message by message, and `alone` reads one message by itself. `room` has vectors
-//! that messages are read into.
-//! `fault` lists the refusals, `laws` states the promise.
+//! The base of a system: its filed messages and a cursor, in memory, and its base file. Bytes are one base or have one
+//! fault. A saved base is read back unchanged. Begin with `base`; `piece` judges a base file in pieces, and `alone`
+//! reads one message by itself.
 #![tactic(auto)]
 
 mod alone;

@@ -14,16 +14,14 @@ use std::alloc::AllocError;
 /// The front of a piece of a base file.
 #[derive(Drop)]
 pub enum Next {
-    /// A message that no rule refuses by itself: its key, how many bytes it has, and whether it is stored with tag and
-    /// id instead of its text once it is scanned.
+    /// A message that no rule refuses by itself. `size` is in bytes. `short`: it has tag and id instead of its text
+    /// once it is scanned.
     Sound { key: Key, size: usize, short: bool },
     /// A message that no base has at this place.
     Damaged,
-    /// The piece ends inside the message.
     Cut,
 }
 
-// The number of four bytes at this offset.
 fn long_at(bytes: &[u8], at: usize) -> u32
     requires { at + 4 ≤ length bytes.now }
     ensures { result ≡ long_at at bytes.now }
@@ -31,7 +29,6 @@ fn long_at(bytes: &[u8], at: usize) -> u32
     u32::from_le_bytes([bytes[at], bytes[at + 1], bytes[at + 2], bytes[at + 3]])
 }
 
-// The first eight bytes, or all that there are.
 fn front_of(bytes: &[u8]) -> &[u8]
     ensures { result.now ≡ take 8 bytes.now }
 {
@@ -64,7 +61,6 @@ pub fn head_of(bytes: &[u8]) -> Result<Head, BaseFault>
     })
 }
 
-// Judges a message of so many bytes.
 fn judge_one(
     room: &mut MessageRoom,
     head: Head,

@@ -33,7 +33,6 @@ pub(crate) fn lines_left<S: BuildHasher>(
     Ok(all)
 }
 
-// Puts the stub of the message at this place in its place.
 fn put_stub<S: BuildHasher>(
     alloc: Global,
     entries: &mut IndexMap<Key, Filed, S>,
@@ -49,8 +48,7 @@ fn put_stub<S: BuildHasher>(
     leave(alloc, &mut entries[i], lines);
 }
 
-/// Puts the stubs of the messages before the cursor in their places. These are the lines left. Those
-/// before `start` are stubs.
+/// Puts these lines' stubs in place of the messages before the cursor. Those before `start` are stubs.
 pub(crate) fn put_stubs<S: BuildHasher>(
     alloc: Global,
     entries: &mut IndexMap<Key, Filed, S>,

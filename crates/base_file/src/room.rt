@@ -47,7 +47,6 @@ impl MessageRoom {
         let _put = self.entries.push(entries);
     }
 
-    /// A vector that may hold anything.
     pub(crate) fn take_bytes(&mut self) -> Vec<u8> {
         match self.bytes.pop() {
             Some(bytes) => bytes,

@@ -1,4 +1,3 @@
-//! The tags that messages have.
 ghost use Rattle.std.specs.Prelude.{◌≡◌, List, ℕ, [], true, map, bytes_eq, OnOk};
 ghost use Rattle.std.specs.List.{list_any};
 
@@ -41,7 +40,6 @@ impl Tags {
         self.all.as_slice()
     }
 
-    /// Puts the tag among the tags, if it is not there.
     pub(crate) fn note(&mut self, alloc: Global, tag: &[u8]) -> Result<(), AllocError>
         ensures found { OnOk result (list_any (bytes_eq tag.now) self.new ≡ true) }
         ensures kept { (other : List ℕ) → list_any (bytes_eq other) self.old ≡ true → list_any (bytes_eq other) self.new ≡ true }

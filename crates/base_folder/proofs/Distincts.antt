@@ -7,14 +7,12 @@ use Rattle.echo_filed.proofs.Keys.{same_key_decides}
 use Rattle.base_file.specs.Base.{IsBase, is_known}
 use Rattle.base_folder_store.proofs.Stubbed.{new_at}
 
--- the message of this number has the key
 abbrev pub HasKeyAt : List Filed → ℕ → Key → Type 0
 HasKeyAt all i key = option_map key_of (slice_get all i) ≡ Some key
 
 or_true : (b : Bool) → (b || true) ≡ true
 or_true h1 = grind arith
 
--- the messages up to a later one know it
 known_before : (all : List Filed) (key : Key) (i n : ℕ) → i < n → HasKeyAt all i key → is_known (take n all) key ≡ true
 known_before [] key i n less has = absurd (cc (has))
 known_before (m ∷ all) key i zero less has = absurd (omega (arith, less))
@@ -23,11 +21,9 @@ known_before (m ∷ all) key (suc i) (suc n) less has =
     let later = known_before all key i n (omega (arith, less)) has in
     ap (λ (b : Bool). same_key (key_of m) key || b) later ∙ or_true (same_key (key_of m) key)
 
--- the message of this number
 message_of : (message : Option Filed) (key : Key) → option_map key_of message ≡ Some key → (m : Filed) × (message ≡ Some m) × (key_of m ≡ key)
 message_of h1 key has = grind arith
 
--- so no two messages have one key
 pub one_key : (all : List Filed) (cursor i j : ℕ) (key : Key) → IsBase all cursor → i < j → HasKeyAt all i key → HasKeyAt all j key → ⊥
 one_key all cursor i j key is less first second =
     let found = message_of (slice_get all j) key second in

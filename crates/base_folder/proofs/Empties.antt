@@ -1,4 +1,3 @@
--- A folder without files.
 use Rattle.std.proofs.Common.{◌≡◌, ◌∙◌, ℕ, List, [], length, false, inr, refl, sym, ap, subst, arith, lit<}
 use Rattle.echo_addr.specs.declared.address.Address.{Address}
 use Rattle.disk_io.specs.Disk.{Files, bytes_in}

@@ -1,4 +1,3 @@
--- A read that failed later in a call.
 use Rattle.std.proofs.Common.{ℕ, ◌≤◌, List, arith}
 use Rattle.disk_io.specs.Device.{Failed}
 use Rattle.cmd_status.specs.declared.fault.Fault.{Fault}
@@ -11,7 +10,6 @@ read_since path first before now h5 less failed = grind (arith, failed_since)
 pub unread_since : (path : List ℕ) (first before now : ℕ) (fault : Fault) → first ≤ before → IsUnread path before now fault → IsUnread path first now fault
 unread_since path first before now fault less h7 = grind (arith, read_since)
 
--- a device that did not fail
 never : Failed 0 0 → ⊥
 never h1 = grind arith
 

@@ -27,12 +27,10 @@ use Rattle.base_folder.specs.declared.open_error.OpenError.TheVariants as unread
 use Rattle.base_folder.specs.declared.fill_error.FillError.TheVariants as unfilled
 use Rattle.base_folder.proofs.{Files.there, Lookings.err_is, Readings.looks_none, Readings.looks_on}
 
--- What holds at an error holds where it was handed on.
 pub by_error : {T E : Type 0} (P : Result T E → Type 0) (e : E) (r : Result T E) → IsErrAnd r (λ x. x ≡ e) → P (Err e) → P r
 by_error P e (Ok x) is was = absurd is
 by_error {E = E} P e (Err x) is was = subst (λ (y : E). P (Err y)) (sym is) was
 
--- one message more
 pub front_one : (keyed : ℕ → ℕ → List ℕ → ℕ) (old now : BaseBytes) (base : Base) (i cursor : ℕ) (m : Filed) → IsBase base.messages base.cursor → slice_get base.messages i ≡ Some m
     → HoldsMore keyed old now m → HoldsFront keyed old base.messages i cursor → HoldsFront keyed now base.messages (i + 1) cursor
 front_one keyed old now base i cursor m is at more was =
@@ -42,7 +40,6 @@ front_one keyed old now base i cursor m is at more was =
     subst (λ (l : List Filed). HoldsBase keyed now (record { messages = l; cursor = cursor })) (sym (front_more all i m at))
     (more (record { messages = take i all; cursor = cursor }) was unknown)
 
--- With so many held as were scanned, and the cursor moved to their end.
 pub front_scanned : (keyed : ℕ → ℕ → List ℕ → ℕ) (d : DiskState) (f g : Folder) (base : Base) (n : ℕ) → g ≡ at_end f → n ≡ base.cursor → IsOpen d f → IsBase base.messages base.cursor
     → HoldsFront keyed (held_by d f) base.messages n 0 → HoldsFront keyed (held_by d g) base.messages n base.cursor
 front_scanned keyed d f g base n end scanned opened is was =
@@ -50,12 +47,10 @@ front_scanned keyed d f g base n end scanned opened is was =
     subst (λ (x : Folder). HoldsFront keyed (held_by d x) base.messages n base.cursor) (sym end)
     (subst (λ (m : ℕ). HoldsFront keyed (held_by d (at_end f)) base.messages n m) long (end_holds keyed d f (record { messages = take n base.messages; cursor = 0 }) opened was))
 
--- with all messages it is the base
 pub front_all : (keyed : ℕ → ℕ → List ℕ → ℕ) (bytes : BaseBytes) (base : Base) (n : ℕ) → n ≡ length base.messages → HoldsFront keyed bytes base.messages n base.cursor → HoldsBase keyed bytes base
 front_all keyed bytes base n all was =
     subst (λ (l : List Filed). HoldsBase keyed bytes (record { messages = l; cursor = base.cursor })) (take_all n base.messages (omega arith)) was
 
--- one message more, as it is stored
 pub many_more : (keyed : ℕ → ℕ → List ℕ → ℕ) (now held : BaseBytes) (k : ℕ) (m : Filed) (bytes : List ℕ) (number : ℕ) → now ≡ with_stored held bytes number → IsStoredAlone m bytes
     → number ≡ digest_by keyed held.mark (digested_key (key_of m)) → HoldsMany keyed held k → HoldsMany keyed now (k + 1)
 many_more keyed now held k m bytes number staged is recorded was =
@@ -78,7 +73,6 @@ many_more keyed now held k m bytes number staged is recorded was =
       within = omega (arith, was.within);
     })
 
--- none at first, and with the cursor at the end
 pub many_none : (keyed : ℕ → ℕ → List ℕ → ℕ) (bytes : BaseBytes) → HoldsBase keyed bytes no_messages → HoldsMany keyed bytes 0
 many_none keyed bytes holds = grind (arith, length-map)
 
@@ -107,7 +101,6 @@ fills_run keyed path d f before now P was gives run =
       represented = ⊎_elim (λ (h : Represents path before c). inl (record { bytes = before; represented = h; holds = was })) (λ (h : Represents path now c). inr (gives c h)) left.represented;
     })
 
--- what a folder at rest, or one that is open, represents is kept
 pub filled_is_kept : (path : List ℕ) (d : DiskState) (f : Folder) (P : Files → Type 0) → path_of f ≡ path → IsAtRest d (path_of f) f.end → ((c : Files) → Represents path (committed_by d f) c → P c) → IsKept d P
 filled_is_kept path d f P at rest gives =
     let there = λ (c : Files) (is : Represents (path_of f) (committed_by d f) c). gives c (subst (λ (p : List ℕ). Represents p (committed_by d f) c) at is) in
@@ -116,7 +109,6 @@ filled_is_kept path d f P at rest gives =
 pub open_is_kept : (keyed : ℕ → ℕ → List ℕ → ℕ) (path : List ℕ) (d : DiskState) (f : Folder) (base : Base) → path_of f ≡ path → IsOpen d f → HoldsBase keyed (committed_by d f) base → IsKept d (RepresentsBase keyed path base)
 open_is_kept keyed path d f base at opened holds = grind arith
 
--- No message is committed after an error of adding, of the store, or of opening.
 pub uncommitted_opened : (keyed : ℕ → ℕ → List ℕ → ℕ) (path : List ℕ) (left : (Files → Type 0) → Files → Type 0) (d e : DiskState) (why : OpenError) → LeavesOnly d e (left (λ c. ⊥)) → IsUncommitted keyed path left d e (unfilled.Folder why)
 uncommitted_opened keyed path left d e unread.Memory run = tt
 uncommitted_opened keyed path left d e unread.Device run = tt
@@ -138,7 +130,6 @@ uncommitted_stored keyed path left d e store.TooMany run = run refl
 uncommitted_stored keyed path left d e store.Device run = tt
 uncommitted_stored keyed path left d e store.Damaged run = tt
 
--- the files that a crash leaves while a folder is opened and then filled
 pub opened_run : (keyed : ℕ → ℕ → List ℕ → ℕ) (path : List ℕ) (d e : DiskState) (P : Files → Type 0) → LeavesOnly d e (RepresentsBaseOrWasLeft keyed path d no_messages) → LeavesOnly d e (RepresentsNoneOrWasLeft keyed path d P)
 opened_run keyed path d e P run =
     weaker_run d e (RepresentsBaseOrWasLeft keyed path d no_messages) (RepresentsNoneOrWasLeft keyed path d P) run
@@ -169,7 +160,6 @@ fill_since keyed path d e f source later r opening kept fills = record {
   filled = fills.filled;
 }
 
--- Calls that add: none, one that failed, the cursor at the end, and one call after another.
 pub adds_none : {T E : Type 0} (f : Folder) (d : DiskState) (r : Result T E) → IsUsable d f → AddsOnly f f d d r
 adds_none f d (Ok x) usable = record { named = usable.named; opened = usable.opened; path = refl; mark = refl; same = λ honest. refl; run = run_none d f usable.opened }
 adds_none f d (Err e) usable = record { named = usable.named; opened = λ honest. tt; path = refl; mark = refl; same = λ honest. tt; run = run_none d f usable.opened }
@@ -187,7 +177,6 @@ adds_twice f g h d e k two was now = record {
   run = run_twice (path_of f) (path_of g) d e k (committed_by d f) (committed_by e g) was.path was.run now.run was.same;
 }
 
--- The same with messages of a source: none, a fault, an error of the folder, the cursor at the end, and one call after another.
 still_open : (f : Folder) (d : DiskState) (why : FillError) → IsOpen d f → IsOpenIfUnread f f d d why
 still_open f d h3 opened = grind arith
 
@@ -230,14 +219,12 @@ fills_twice keyed f g h d e k m n all two sum was now = record {
   unread = λ honest. IfErr-weaker two (IsOpenIfUnread g h e k) (IsOpenIfUnread f h d k) (λ why. still_twice f g h d e k why (was.adds.same (now.adds.run.outside.honest honest))) (now.unread honest);
 }
 
--- A base that is shown in two reads is shown in each.
 pub shows_before : (a b c : SourceState) (base : Base) → LooksAt b c → ShowsBase a c base → ShowsBase a b base
 shows_before a b c base later shows = record { honest = later.honest shows.honest; holds = shows.holds; is = shows.is }
 
 pub shows_later : (a b c : SourceState) (base : Base) → LooksAt a b → ShowsBase a c base → ShowsBase b c base
 shows_later a b c base looks shows = record { honest = shows.honest; holds = looks.holds base shows.holds; is = shows.is }
 
--- Reads of the messages: some, none, an error of the folder, and one read after another.
 pub reads_as : {T : Type 0} (a b : SourceState) (r : Result T FillError) → (IsErrOf r (unfilled.Messages fault.Read) → ⊥) → IfErr r IsUndamaged → LooksAt a b → a.failures ≤ b.failures → ReadsFor a b r
 reads_as a b r none whole looks less = record { looks = looks; later = less; failed = λ is. absurd (none is); whole = λ honest base holds. whole }
 
@@ -256,7 +243,6 @@ reads_twice a b c two was now = record {
   whole = λ honest base holds. now.whole honest base (was.looks.holds base holds);
 }
 
--- A message that was not read, and why.
 undamaged : (i : ℕ) (e : StoreError) → Answers {T = Unit {0}} (λ x. Unit {0}) (Err e) → IsUndamaged (unfilled.Messages (file_cause e i))
 undamaged i h2 was = grind arith
 
@@ -274,14 +260,11 @@ reads_fault a b i e why P is looks cause answers =
       whole = λ honest base holds. undamaged i e (answers_give {T = Unit {0}} (λ x. P base) (λ x. Unit {0}) (λ x p. tt) (Err e) (answers honest base holds));
     })
 
--- No message that was read is missing.
 pub none_missing : (a b : SourceState) (base : Base) (i : ℕ) → None ≡ b.at_hand → b.at_hand ≡ slice_get base.messages i → i < a.count → a.holds base → ⊥
 none_missing a b base i hand got within holds =
     let there = there base.messages i (omega (arith, within, a.counted base holds)) in
     cc
 
--- Causes in the folder: one of its store, one of its opening, and one after other calls.
--- No error of an open folder says that it was no base.
 pub sound_stored : (strange : Bool) (path : List ℕ) (files : Files) (e : StoreError) → IsUnfilled strange path files (unfilled.Folder (unfilled_cause e))
 sound_stored strange path files h4 = grind arith
 
@@ -309,7 +292,6 @@ cause_since a b c two was now = record {
   sound = now.sound;
 }
 
--- Too much for the folder is too much for its store.
 stored_many : (e : StoreError) → IsErrOf {T = Unit {0}} (Err (unfilled.Folder (unfilled_cause e))) (unfilled.Folder (unread.Wrong fault.TooMany)) → IsErrOf {T = Unit {0}} (Err e) store.TooMany
 stored_many h1 is = grind arith
 
@@ -317,7 +299,6 @@ pub many_stored : {T : Type 0} (e : StoreError) (r : Result T FillError) → IsE
     → IsErrOf {T = Unit {0}} (Err e) store.TooMany
 many_stored e r same is = stored_many e (handed_on (unfilled.Folder (unfilled_cause e)) (unfilled.Folder (unread.Wrong fault.TooMany)) r same is)
 
--- A folder that is not opened is not too much.
 pub never_many : {T : Type 0} (strange : Bool) (path : List ℕ) (files : Files) (why : OpenError) (r : Result T FillError) → IsErrAnd r (λ x. x ≡ unfilled.Folder why) → IsWrong strange path files why
     → IsErrOf r (unfilled.Folder (unread.Wrong fault.TooMany)) → ⊥
 never_many strange path files why r same was is =
@@ -325,17 +306,14 @@ never_many strange path files why r same was is =
     let many : why ≡ unread.Wrong fault.TooMany = cc (err) in
     subst (λ (w : OpenError). IsWrong strange path files w) many was
 
--- A full folder, by its path.
 pub full_at : {D : Type 0} (state : D → DiskState) (keyed : ℕ → ℕ → List ℕ → ℕ) (path at : List ℕ) (base : Base) → path ≡ at → IsFilledFull state keyed path base → IsFilledFull state keyed at base
 full_at state keyed path at base same full = record { disk = full.disk; folder = full.folder; at = full.at ∙ same; full = full.full }
 
--- No error of opening says that the folder has messages.
 pub never_used : {T : Type 0} (why : OpenError) (r : Result T FillError) → IsErrAnd r (λ x. x ≡ unfilled.Folder why) → IsErrOf r unfilled.Used → ⊥
 never_used why r same is =
     let err = handed_on {U = Unit {0}} (unfilled.Folder why) unfilled.Used r same is in
     cc (err)
 
--- A folder without messages has no keys.
 pub no_keys : (keyed : ℕ → ℕ → List ℕ → ℕ) (d : DiskState) (f : Folder) → IsOpen d f → HoldsBase keyed (held_by d f) no_messages → f.keys ≡ 0
 no_keys keyed d f opened holds =
     let all = holds.files.all in

@@ -13,27 +13,22 @@ use Rattle.base_folder.specs.{Looked.IsUnseen, Looked.IsUnvouched, OpenError.IsW
 use Rattle.base_folder.specs.declared.open_error.OpenError.TheVariants as unread
 use Rattle.base_folder.proofs.Wrongs.{one_end}
 
--- an error passed on unchanged
 pub err_is : {T E : Type 0} (P : E → Type 0) (e : E) (r : Result T E) → IsErrAnd r (λ x. x ≡ e) → P e → IfErr r P
 err_is P e (Ok x) same is = absurd same
 err_is P e (Err x) same is = subst P (sym same) is
 
--- a clause about a known result
 pub at_ok : {T E : Type 0} (P : T → Type 0) (r : Result T E) (x : T) → r ≡ Ok x → IfOk r P → P x
 at_ok P r x is was = subst (λ (q : Result _ _). IfOk q P) is was
 
 pub at_err : {T E : Type 0} (P : E → Type 0) (r : Result T E) (e : E) → r ≡ Err e → IfErr r P → P e
 at_err P r e is was = subst (λ (q : Result _ _). IfErr q P) is was
 
--- logs with the same bytes have the same end
 pub same_end : (before after : Log) → IsRead before → IsRead after → before.bytes.items ≡ after.bytes.items → before.end ≡ after.end
 same_end before after one two same = one_end after.bytes.items before.end after.end (subst (λ (l : List ℕ). ReadsAll l before.end) same one) two
 
--- no bytes are between two equal ends
 pub none_between : (first last : ℕ) (log : List ℕ) → first ≡ last → length (take (last - first) (drop first log)) ≡ 0
 none_between first last log same = grind arith
 
--- a folder with this log and messages is readable after looks
 pub looked_at : (path : List ℕ) (d e : DiskState) (log : Log) (folder : Folder) → ChangesNothing d e → IsRead log → IsFresh path folder → folder.end ≡ log.end → folder.keys ≡ log.end.recorded.keys
     → Honestly d (IsLogIn path d.seen log) → Honestly e (Represents path (base_at d path log.end.recorded) d.seen) → IsLookedAt e folder
 looked_at path d e log folder quiet read fresh same keys is represented =
@@ -56,11 +51,9 @@ looked_at path d e log folder quiet read fresh same keys is represented =
           };
     }
 
--- the error of a judged log is one of the folder
 pub unseen_by : (keyed : ℕ → ℕ → List ℕ → ℕ) (strange : Bool) (path : List ℕ) (files : Files) (why : OpenError) → IsWrong strange path files why → IsUnseen keyed strange path files why
 unseen_by keyed strange path files h5 wrong = grind arith
 
--- and so is a damaged message of the base that the files represent
 pub unseen_message : (keyed : ℕ → ℕ → List ℕ → ℕ) (strange : Bool) (path : List ℕ) (files : Files) (bytes : BaseBytes) (why : OpenError) → ((b : BaseBytes) → Represents path b files → bytes ≡ b)
     → IsUnvouched keyed bytes why → IsUnseen keyed strange path files why
 unseen_message keyed strange path files bytes (unread.Wrong (fault.Damaged n)) one none = λ b represented. subst (λ (x : BaseBytes). HasNone keyed x n) (one b represented) none
@@ -75,7 +68,6 @@ unseen_message keyed strange path files bytes unread.Device one none = tt
 unseen_message keyed strange path files bytes unread.Raced one none = absurd none
 unseen_message keyed strange path files bytes (unread.NotOwner address) one none = absurd none
 
--- the error of a message that was not read
 pub unvouched_by : (keyed : ℕ → ℕ → List ℕ → ℕ) (bytes : BaseBytes) (i : ℕ) (error : StoreError)
     → ((s : Stored) → IsThere bytes i s → HasDigest keyed bytes i s → Answers {T = Filed} (λ m. m ≡ message_in Second s) (Err error)) → IsUnvouched keyed bytes (unread_message error i)
 unvouched_by keyed bytes i h4 none = grind arith

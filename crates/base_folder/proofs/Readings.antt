@@ -12,7 +12,6 @@ use Rattle.base_folder_store.specs.{Held.HoldsBase, Held.digest_by, Opened.held_
 use Rattle.base_folder_store.proofs.{Bases.recorded_where, Legible.held_quiet, Legible.keys_all, Legible.legible_quiet, Waits.written_held}
 use Rattle.base_folder.specs.Source.{AreLegibleTo, LooksAt, SeesBase, SourceState}
 
--- the message of this number
 pub record ReadAt (keyed : ℕ → ℕ → List ℕ → ℕ) (bytes : BaseBytes) (base : Base) (i : ℕ) : Type 0 where
   pub s : Stored
   pub there : IsThere bytes i s
@@ -30,7 +29,6 @@ read_at keyed bytes base holds i within =
       is = at.is;
     }
 
--- the entries are as many as the messages
 pub looked_sees : (keyed : ℕ → ℕ → List ℕ → ℕ) (d : DiskState) (f : Folder) (base : Base) → IsLookedAt d f → Honestly d (HoldsBase keyed (held_by d f) base → SeesBase keyed d f base)
 looked_sees keyed d f base looked honest holds =
     let many = (recorded_where keyed (held_by d f) base holds).many in
@@ -45,14 +43,12 @@ looked_sees keyed d f base looked honest holds =
           (cases_lt 0 f.keys);
     }
 
--- a folder after a look is readable after more looks, and holds the same base
 pub looked_quiet : (d e : DiskState) (f : Folder) → ChangesNothing d e → IsLookedAt d f → IsLookedAt e f
 looked_quiet d e f quiet looked = grind (arith, legible_quiet)
 
 pub sees_quiet : (keyed : ℕ → ℕ → List ℕ → ℕ) (d e : DiskState) (f : Folder) (base : Base) → ChangesNothing d e → SeesBase keyed d f base → SeesBase keyed e f base
 sees_quiet keyed d e f base quiet sees = record { holds = subst (λ (b : BaseBytes). HoldsBase keyed b base) (sym (held_quiet d e f quiet)) sees.holds; count = sees.count }
 
--- the first requested number, or the one after the last message
 module _ (first count begin : ℕ) (within : first < count → begin ≡ first) (behind : count ≤ first → begin ≡ count) where
   pub not_past : begin ≤ first
   not_past = ⊎_elim (λ (h : first < count). omega (arith, within h)) (λ (h : count ≤ first). omega (arith, behind h, h)) (cases_lt first count)
@@ -60,23 +56,18 @@ module _ (first count begin : ℕ) (within : first < count → begin ≡ first) 
   pub not_behind : begin ≤ count
   not_behind = ⊎_elim (λ (h : first < count). omega (arith, within h, h)) (λ (h : count ≤ first). omega (arith, behind h)) (cases_lt first count)
 
--- no look
 pub looks_none : (a : SourceState) → LooksAt a a
 looks_none a = record { honest = λ h. h; ready = λ h. h; count = refl; holds = λ base h. h }
 
--- one look after another
 pub looks_on : (old mid new : SourceState) → LooksAt old mid → LooksAt mid new → LooksAt old new
 looks_on old mid new first next = grind arith
 
--- a message that is vouched for after a look was before it
 pub vouched_quiet : (keyed : ℕ → ℕ → List ℕ → ℕ) (d e : DiskState) (f : Folder) → ChangesNothing d e → (i : ℕ) → IsVouched keyed (held_by e f) i → IsVouched keyed (held_by d f) i
 vouched_quiet keyed d e f quiet i is = subst (λ (b : BaseBytes). IsVouched keyed b i) (held_quiet d e f quiet) is
 
--- a fact without a condition
 pub on_ok_so : {T E P : Type 0} (r : Result T E) → P → OnOk r P
 on_ok_so (Ok x) is = is
 on_ok_so (Err e) is = tt
 
--- one message more was read
 pub read_more : (a b c : SourceState) (i : ℕ) → ((j : ℕ) → b.legible j → a.legible j) → (c.is_honest → b.is_honest) → (b.is_honest → AreLegibleTo a i) → (c.is_honest → b.legible i) → c.is_honest → AreLegibleTo a (i + 1)
 read_more a b c i since honest before now is = below_more _ _ (before (honest is)) (since i (now is))

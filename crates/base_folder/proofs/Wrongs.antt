@@ -6,7 +6,6 @@ use Rattle.base_log.specs.{Names.log_of, Log.last_recorded, Log.opened, Reading.
 use Rattle.base_log.proofs.{Logs.one_log, Opened.lost_none, Opened.read_log}
 use Rattle.base_folder.specs.Wrong.{IsFolderLog, IsSound, is_foreign}
 
--- a log has one end
 pub one_end : (log : List ℕ) (one other : End) → ReadsAll log one → ReadsAll log other → one ≡ other
 one_end log one other first next =
     let same : first.reads.bodies ≡ next.reads.bodies = one_log first.reads.bodies next.reads.bodies log (read_log log one first) (read_log log other next) in
@@ -14,7 +13,6 @@ one_end log one other first next =
     let recorded : one.recorded ≡ other.recorded = sym first.reads.recorded ∙ ap last_recorded same ∙ next.reads.recorded in
     λ i. record { records_len = gate i; recorded = recorded i }
 
--- a folder with this log has no fault if its files represent a base
 pub sound_by : (strange : Bool) (path : List ℕ) (files : Files) (end : End) (base : BaseBytes) → IsFolderLog strange (bytes_in (files (log_of path))) end → Represents path base files → IsSound strange path files
 sound_by strange path files end base log represented =
     let bytes = bytes_in (files (log_of path)) in

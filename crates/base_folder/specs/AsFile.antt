@@ -27,12 +27,11 @@ IsTooLong s fault.Memory = Unit {0}
 IsTooLong s fault.TooMany = is_short_enough s ≡ false
 IsTooLong s _ = ⊥
 
--- The same, or a read failed.
+-- Memory ran out, a read failed, or four bytes can't count the message.
 abbrev pub IsMessageFault : Stored → ℕ → ℕ → BaseFault → Type 0
 IsMessageFault s before now fault.Read = Failed before now
 IsMessageFault s before now why = IsTooLong s why
 
--- The fault of the message of this number, which could not be read.
 abbrev pub file_cause : StoreError → ℕ → BaseFault
 file_cause error.Memory i = fault.Memory
 file_cause error.TooMany i = fault.Memory

@@ -8,6 +8,5 @@ abbrev pub CannotRead : List ℕ → ℕ → ℕ → Fault → Type 0
 CannotRead path before after (CannotUse shown) = (shown.now ≡ path) × Failed before after
 CannotRead path before after _ = ⊥
 
--- Memory ran out, or a read failed.
 abbrev pub IsUnread : List ℕ → ℕ → ℕ → Fault → Type 0
 IsUnread path before after fault = IsOutOfMemory fault ⊎ CannotRead path before after fault

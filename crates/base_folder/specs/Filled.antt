@@ -77,7 +77,6 @@ pub record HasUnfilledCause {T : Type 0} (before now : ℕ) (result : Result T F
   pub later : before ≤ now
   pub failed : IsErrOf result (unfilled.Folder unread.Device) → Failed before now
 
--- A base without messages.
 abbrev pub no_messages : Base
 no_messages = record { messages = []; cursor = 0 }
 
@@ -92,7 +91,7 @@ pub record RepresentsNoneOr (keyed : ℕ → ℕ → List ℕ → ℕ) (path : L
   pub outside : SameOutside path old c
   pub represented : RepresentsBase keyed path no_messages c ⊎ P c
 
--- The same, or files that a crash might have left before.
+-- It does so, or a crash might have left these files before.
 abbrev pub RepresentsNoneOrWasLeft : (ℕ → ℕ → List ℕ → ℕ) → List ℕ → DiskState → (Files → Type 0) → Files → Type 0
 RepresentsNoneOrWasLeft keyed path old P c = RepresentsNoneOr keyed path old P c ⊎ old.may_leave c
 
@@ -119,7 +118,6 @@ pub record FillsAllOrNothing {T : Type 0} (keyed : ℕ → ℕ → List ℕ → 
   pub refused : IfErr result (IsUncommitted keyed path left old new)
   pub filled : OnOk result (IsKept new (RepresentsMany keyed path source.count))
 
--- The last record of the folder's log.
 abbrev pub IsRecordedIn : Bool → List ℕ → Files → CommitRecord → Type 0
 IsRecordedIn strange path files recorded = IsRecordedBy strange (bytes_in (files (log_of path))) recorded
 
@@ -129,11 +127,9 @@ pub record IsUsed (strange : Bool) (path : List ℕ) (files : Files) : Type 0 wh
   pub log : IsRecordedIn strange path files recorded
   pub some : 0 < recorded.keys / 16
 
--- The mark of a folder without owner that has this key.
 abbrev pub drawn_mark : ℕ → ℕ → FolderIdentity
 drawn_mark first second = record { owner = 0; first = first; second = second }
 
--- The files represent a base with this mark.
 pub record HasMark (path : List ℕ) (mark : FolderIdentity) (c : Files) : Type 0 where
   pub bytes : BaseBytes
   pub represented : Represents path bytes c
@@ -167,7 +163,6 @@ pub record IsFilledFull {D : Type 0} (state : D → DiskState) (keyed : ℕ → 
   pub at : path_of folder ≡ path
   pub full : LacksNext keyed (state disk) folder base.messages ⊎ (HoldsBase keyed (held_by (state disk) folder) base × IsFull folder)
 
--- A fault of the store as a fault of the folder.
 abbrev pub unfilled_cause : StoreError → OpenError
 unfilled_cause error.Memory = unread.Memory
 unfilled_cause error.Device = unread.Device

@@ -10,12 +10,10 @@ use Rattle.cmd_status.specs.declared.fault.Fault.TheVariants as fault
 use Rattle.base_folder.specs.{Wrong.IsCutShort, Wrong.IsNoFolder, declared.open_error.OpenError.OpenError}
 use Rattle.base_folder.specs.declared.open_error.OpenError.TheVariants as unread
 
--- The error for a fault of the disk.
 abbrev pub unread_cause : DiskError → OpenError
 unread_cause disk.Memory = unread.Memory
 unread_cause disk.Device = unread.Device
 
--- The error of the message of this number, which could not be read.
 abbrev pub unread_message : StoreError → ℕ → OpenError
 unread_message store.Damaged i = unread.Wrong (base.Damaged i)
 unread_message store.Device i = unread.Device

@@ -11,7 +11,6 @@ use Rattle.base_folder.specs.declared.open_error.OpenError.TheVariants as unread
 abbrev pub number_of : Address → ℕ
 number_of own = own.zone * 4294967296 + own.net * 65536 + own.node
 
--- The address of such a number.
 abbrev pub address_of : ℕ → Address
 address_of number = record { zone = number / 4294967296 % 65536; net = number / 65536 % 65536; node = number % 65536 }
 
@@ -26,7 +25,6 @@ pub record IsMarkOfOther (own : Address) (mark : FolderIdentity) (address : Addr
   pub other : mark.owner ≢ number_of own
   pub recorded : address ≡ address_of mark.owner
 
--- The refusal names this other owner.
 abbrev pub IsOtherOwner : Address → FolderIdentity → OpenError → Type 0
 IsOtherOwner own mark (unread.NotOwner address) = IsMarkOfOther own mark address
 IsOtherOwner own mark _ = ⊥

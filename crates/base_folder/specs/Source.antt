@@ -34,7 +34,6 @@ pub record ReadsLegibly {T E : Type 0} (old new : SourceState) (place : ℕ) (re
 abbrev pub AreLegibleTo : SourceState → ℕ → Type 0
 AreLegibleTo s n = (i : ℕ) → i < n → s.legible i
 
--- All messages of the source are.
 abbrev pub AreLegible : SourceState → Type 0
 AreLegible s = AreLegibleTo s s.count
 
@@ -43,7 +42,6 @@ pub record SeesBase (keyed : ℕ → ℕ → List ℕ → ℕ) (disk : DiskState
   pub holds : HoldsBase keyed (held_by disk folder) base
   pub count : folder.keys / 16 ≡ length base.messages
 
--- A base folder as such a source.
 abbrev pub folder_source : DiskState → ℕ → (ℕ → ℕ → List ℕ → ℕ) → Folder → Option Filed → SourceState
 folder_source disk failures keyed folder message = record {
   is_honest = disk.is_honest;

@@ -29,7 +29,7 @@ pub record IsFolderLog (strange : Bool) (log : List ℕ) (end : End) : Type 0 wh
   pub reads : ReadsAll log end
   pub own : is_foreign strange (length log) end ≡ false
 
--- The same, and this is its last record.
+-- It is such a folder, and this is its last record.
 pub record IsRecordedBy (strange : Bool) (bytes : List ℕ) (recorded : CommitRecord) : Type 0 where
   pub end : End
   pub log : IsFolderLog strange bytes end
@@ -53,7 +53,7 @@ pub record IsSound (strange : Bool) (path : List ℕ) (files : Files) : Type 0 w
   pub folder : IsNoFolder strange path files → ⊥
   pub whole : (n : ℕ) → IsCutShort strange path files n → ⊥
 
--- The same, and this is the last record of its log.
+-- The folder has no such fault, and this is the last record of its log.
 pub record IsSoundBy (strange : Bool) (path : List ℕ) (files : Files) (recorded : CommitRecord) : Type 0 where
   pub sound : IsSound strange path files
   pub log : IsRecordedBy strange (bytes_in (files (log_of path))) recorded
@@ -63,6 +63,5 @@ pub record NeedsSound {T E : Type 0} (strange : Bool) (path : List ℕ) (old new
   pub sound : OnOk result (IsSound strange path old.seen)
   pub untouched : (IsSound strange path old.seen → ⊥) → ChangesNothing old new
 
--- A folder without files.
 abbrev pub HasNoFiles : List ℕ → Files → Type 0
 HasNoFiles path files = (m : List ℕ) → IsIn path m → files m ≡ None

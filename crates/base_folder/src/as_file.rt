@@ -19,7 +19,6 @@ use std::alloc::{AllocError, Global};
 /// The most messages that four bytes count.
 const MOST: usize = 0xffff_ffff;
 
-// The bytes before the messages.
 fn head_of(alloc: Global, cursor: u32, number: u32) -> Result<Vec<u8>, AllocError>
     ensures { IfOk result (λ bytes. bytes.items ≡ head_bytes Second cursor number) }
 {
@@ -29,7 +28,6 @@ fn head_of(alloc: Global, cursor: u32, number: u32) -> Result<Vec<u8>, AllocErro
     Ok(bytes)
 }
 
-// The message as a base file has it, with or without its tag and id instead of the text.
 fn bytes_of(alloc: Global, message: &Filed, short: bool) -> Result<Vec<u8>, BaseFault>
     ensures bytes { IfOk result (λ bytes. bytes.items ≡ stored_bytes Second (stored_as short message.now)) }
     ensures fault { IfErr result (IsTooLong (stored_as short message.now)) }
@@ -44,7 +42,6 @@ fn bytes_of(alloc: Global, message: &Filed, short: bool) -> Result<Vec<u8>, Base
     }
 }
 
-// The same at this place.
 fn bytes_at(
     alloc: Global,
     message: &Filed,
@@ -57,7 +54,6 @@ fn bytes_at(
     bytes_of(alloc, message, is_short(message, place, cursor))
 }
 
-// The fault of a message that was not read.
 pub(crate) fn fault_of(error: StoreError, i: usize) -> BaseFault
     ensures { result ≡ file_cause error i }
 {
@@ -68,7 +64,6 @@ pub(crate) fn fault_of(error: StoreError, i: usize) -> BaseFault
     }
 }
 
-// The message of this number as a base file has it there.
 fn stored_at<M: MessageSource>(
     alloc: Global,
     messages: &mut M,
@@ -94,7 +89,6 @@ fn stored_at<M: MessageSource>(
     }
 }
 
-// Sends these bytes.
 fn send_bytes<W: Sink>(file: &mut W, bytes: &[u8]) -> Result<(), Failure>
     ensures bytes { OnOk result (Appends (W.contents file.old) (W.contents file.new) bytes.now) }
     ensures begun { OnErr result (WritesFront bytes.now (W.contents file.old) (W.contents file.new)) }
@@ -104,8 +98,8 @@ fn send_bytes<W: Sink>(file: &mut W, bytes: &[u8]) -> Result<(), Failure>
     send(file, bytes, &mut 0)
 }
 
-/// Sends the base file of the same messages and the same cursor. One message at a time is in memory. At a fault a
-/// beginning of the file was sent, perhaps all of it.
+/// Sends the base file of these messages and this cursor, with one message at a time in memory. At a fault a beginning
+/// of the file was sent, perhaps all of it.
 pub fn send_file<M: MessageSource, W: Sink>(
     alloc: Global,
     messages: &mut M,

@@ -24,7 +24,6 @@ pub struct Distinct<M: MessageSource, S: BuildHasher> {
 }
 
 impl<M: MessageSource, S: BuildHasher> Distinct<M, S> {
-    /// The messages of this source.
     pub fn new(alloc: Global, source: M, hasher: S) -> Distinct<M, S>
         ensures source { result.source ≡ source }
         ensures ready { (M.state source).is_ready → (⟦<Distinct<M, S> as MessageSource>⟧.state result).is_ready }
@@ -68,7 +67,6 @@ impl<M: MessageSource, S: BuildHasher> MessageSource for Distinct<M, S> {
     }
 }
 
-// The key of the message, if there is one.
 fn key_of(alloc: Global, message: Option<&Filed>) -> Result<Option<Key>, AllocError>
     ensures { IfOk result (λ key. key ≡ option_map key_of (option_copied message.entry)) }
 {
@@ -78,7 +76,6 @@ fn key_of(alloc: Global, message: Option<&Filed>) -> Result<Option<Key>, AllocEr
     }
 }
 
-// Whether there is a message, and it has the key.
 fn has_key(alloc: Global, message: Option<&Filed>, key: &Key) -> Result<bool, AllocError>
     ensures { IfOk result (λ has. IsTrue has → option_map key_of (option_copied message.entry) ≡ Some key.now) }
 {
@@ -89,7 +86,6 @@ fn has_key(alloc: Global, message: Option<&Filed>, key: &Key) -> Result<bool, Al
     Ok(own == *key)
 }
 
-// The message of this number, which has the key, is damaged if an earlier one has it. Else it is the current one.
 fn judge_earlier<M: MessageSource>(
     alloc: Global,
     messages: &mut M,

@@ -1,4 +1,3 @@
-//! Messages of a base, fetched one by one for a command.
 ghost use Rattle.std.specs.Prelude.{◌≡◌, ◌≤◌, ◌<◌, slice_get, IfErr, OnOk};
 ghost use Rattle.base_file.specs.Base.{Base};
 ghost use Rattle.base_folder.specs.{Source.LooksAt, Source.ReadsLegibly, Fetching.IsUnread};

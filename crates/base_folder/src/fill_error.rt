@@ -1,4 +1,3 @@
-//! Why a base folder was not filled.
 use crate::open_error::OpenError;
 use base_file::BaseFault;
 use base_store::StoreError;

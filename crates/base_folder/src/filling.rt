@@ -22,7 +22,6 @@ use disk_io::Disk;
 use echo_filed::{Filed, Key};
 use std::alloc::Global;
 
-// Adds the message to the folder, with its digest by the folder's key.
 fn add<D: Disk, H: Digest>(
     alloc: Global,
     disk: &mut D,
@@ -42,7 +41,6 @@ fn add<D: Disk, H: Digest>(
     folder.stage(disk, &bytes, number)
 }
 
-// Reads the message of this number, and adds it.
 fn add_next<D: Disk, H: Digest, M: MessageSource>(
     alloc: Global,
     disk: &mut D,
@@ -74,7 +72,6 @@ fn add_next<D: Disk, H: Digest, M: MessageSource>(
     }
 }
 
-// Adds the messages from one number up to another.
 fn add_from<D: Disk, H: Digest, M: MessageSource>(
     alloc: Global,
     disk: &mut D,
@@ -103,7 +100,6 @@ fn add_from<D: Disk, H: Digest, M: MessageSource>(
     Ok(())
 }
 
-// Adds all messages to a folder without messages; so many of them count as scanned.
 fn add_all<D: Disk, H: Digest, M: MessageSource>(
     alloc: Global,
     disk: &mut D,
@@ -129,7 +125,6 @@ fn add_all<D: Disk, H: Digest, M: MessageSource>(
     add_from::<D, H, M>(alloc, disk, folder, messages, scanned, count)
 }
 
-// Adds the messages to a folder without messages, and commits them; so many of them count as scanned.
 fn fill_opened<D: Disk, H: Digest, M: MessageSource>(
     alloc: Global,
     disk: &mut D,
@@ -156,7 +151,6 @@ fn fill_opened<D: Disk, H: Digest, M: MessageSource>(
     Ok(())
 }
 
-// Gives the key of these two halves to a folder that has none and no message.
 fn give_key(folder: &mut Folder, first: u64, second: u64)
     ensures only { folder.new ≡ with_mark folder.old folder.new.recorded.mark }
     ensures key { 0 < folder.old.keys → SameKey folder.old.recorded.mark folder.new.recorded.mark }
@@ -171,12 +165,10 @@ fn give_key(folder: &mut Folder, first: u64, second: u64)
     });
 }
 
-/// Fills the base folder of this path, which ends in a slash and has no message, with the messages. So many of them
-/// count as scanned. If the folder has no owner it gets the key of these two halves, and still has no owner. `strange`
-/// says that it has foreign files. One message at a time is in memory, with a buffer.
-///
-/// A folder with messages is `Used`, and stays. Another error of the folder is one of `open_base`, or `Wrong` if a
-/// message is too large to be counted in four bytes (F7).
+/// Fills the base folder of this path, which ends in a slash, with the messages and the cursor of a source. One
+/// message at a time is in memory. A folder without owner gets the key of these two halves. `strange`: it has foreign
+/// files. `Used`: the folder has messages, and stays. Else the error is one of `open_base`, or `Wrong` if four bytes
+/// can't count a message (F7).
 pub fn fill<D: Disk, H: Digest, M: MessageSource>(
     alloc: Global,
     disk: &mut D,
@@ -188,18 +180,15 @@ pub fn fill<D: Disk, H: Digest, M: MessageSource>(
     requires alone { Honestly (D.state disk.old) (AreAlone path.now (D.state disk.old)) }
     requires ready { (M.state messages.old).is_ready }
 
-    // The folder's disk was honest, and so was the source of the messages, which may be another disk.
     ensures filled { Honestly (D.state disk.new) ((M.state messages.new).is_honest → (base : Base) → (M.state messages.old).holds base
         → RepresentsBase H.keyed path.now no_messages (D.state disk.old).seen
         → OnOk result (IsKept (D.state disk.new) (RepresentsBase H.keyed path.now base))) }
 
-    // A crash at any time leaves no message or all, whatever the source is, or what a crash might have left before. If a
-    // message is not read, there is none. A folder with messages keeps them.
+    // A crash leaves no message or all, or what a crash might have left before.
     ensures any_moment { Honestly (D.state disk.new) (FillsIfEmpty H.keyed path.now strange (drawn_mark key.0 key.1) (D.state disk.old) (D.state disk.new) (M.state messages.old) (M.state messages.new) result) }
     ensures outside { KeepsOutside path.now (D.state disk.old) (D.state disk.new) }
     ensures wrong { Honestly (D.state disk.new) (IfErr result (IsUnfilled strange path.now (D.state disk.old).seen)) }
 
-    // The faults of the source, and of the folder's disk.
     ensures reads { ReadsFor (M.state messages.old) (M.state messages.new) result }
     ensures cause { HasUnfilledCause (D.failures disk.old) (D.failures disk.new) result }
     ensures many { Honestly (D.state disk.new) ((M.state messages.new).is_honest → (base : Base) → (M.state messages.old).holds base

@@ -43,7 +43,6 @@ pub(crate) fn part_of<D: Disk>(
     read_part(alloc, disk, path, from, end)
 }
 
-// Whether no base folder has a log of this size with this end of its records.
 fn is_no_log(size: usize, end: End) -> bool
     requires { end.records_len ≤ size }
     ensures { result ≡ is_no_log size end }
@@ -55,7 +54,6 @@ fn is_no_log(size: usize, end: End) -> bool
         || size - end.records_len > LEFT_BEHIND
 }
 
-// The same, or whether it has no record and the folder has foreign files.
 fn is_foreign(strange: bool, size: usize, end: End) -> bool
     requires { end.records_len ≤ size }
     ensures { result ≡ is_foreign strange size end }
@@ -63,7 +61,6 @@ fn is_foreign(strange: bool, size: usize, end: End) -> bool
     is_no_log(size, end) || (strange && end.records_len == 0)
 }
 
-// How many messages, from the front, end within the existing bytes, of all that the log counts.
 fn whole_in(keys: &[u8], all: usize, there: usize) -> u64
     ensures { AreWhole keys.now all there result }
 {
@@ -76,7 +73,6 @@ fn whole_in(keys: &[u8], all: usize, there: usize) -> u64
     count as u64
 }
 
-// How many messages are whole, of those that a record counts.
 fn whole_of<D: Disk>(
     alloc: Global,
     disk: &mut D,
@@ -128,7 +124,6 @@ pub(crate) fn judge_by<D: Disk>(
     }
 }
 
-/// The log of a folder that holds a base.
 pub(crate) fn judged<D: Disk>(
     alloc: Global,
     disk: &mut D,

@@ -1,15 +1,6 @@
-//! A base folder for the commands: judged, opened and claimed as they need it, read message by message, and filled with
-//! the messages of another base.
-//!
-//! Promise: a folder is a base or has one fault, which is reported like that of a base file. Reading changes nothing,
-//! and a folder is read again if a second read of the log does not confirm it. Filling adds no message or all of them.
-//!
-//! Begin with `opening` (a folder to be changed) and `looking` (a folder read without a change). `judging` has the
-//! contents of the log and the faults of a folder, `reading` those of its messages, `owning` its owner, and `open_error`
-//! the errors. `source` is the trait of messages that are read one by one; `readers` has the two kinds of base that meet
-//! it, and `distinct` judges their keys. `fetching` has the faults of a command that reads them. `as_file` makes a base
-//! file of them, and `send_error` says why not. `filling` adds the messages of another base. `laws` has what holds of the
-//! definitions.
+//! A base folder for the commands: judged, opened and claimed, read message by message, and filled with the messages
+//! of another base. A folder is a base or has one fault, reported like that of a base file. Reading changes nothing;
+//! all is read again if a second read of the log does not confirm the first. Begin with `opening` and `looking`.
 #![tactic(auto)]
 
 mod as_file;

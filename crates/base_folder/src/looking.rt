@@ -33,11 +33,9 @@ pub struct LookedFolder {
 }
 
 /// Looks at the base folder of this path, which ends in a slash, and changes nothing. It reads each message from the
-/// number `first` on, and keeps none. If others change the folder during that, all is read again. `strange` says that
-/// the folder has foreign files.
-///
-/// The error is `Wrong` if it is no base folder (F1), its log or a file is cut short (F2), or the digest of a message
-/// differs from that of its entry (F3). It is `Raced` if each try met a change.
+/// number `first` on and keeps none. If others change the folder meanwhile, all is read again. `strange`: it has
+/// foreign files. `Wrong`: no base folder (F1), cut short (F2), or a message differs from its digest (F3). `Raced`:
+/// each try met a change.
 pub fn look<D: Disk, H: Digest, P: ReadingProgress>(
     alloc: Global,
     disk: &mut D,
@@ -66,7 +64,6 @@ pub fn look<D: Disk, H: Digest, P: ReadingProgress>(
     Err(OpenError::Raced)
 }
 
-// One try of that; none if others changed it during the try.
 fn look_once<D: Disk, H: Digest, P: ReadingProgress>(
     alloc: Global,
     disk: &mut D,
@@ -100,7 +97,6 @@ fn look_once<D: Disk, H: Digest, P: ReadingProgress>(
     }))
 }
 
-// Whether nothing that was read changed during the try: a fault is known of one log alone.
 fn is_steady(read: &Result<Folder, OpenError>, before: &Log, after: &Log) -> bool
     requires before { IsReadWhole before.now }
     requires after { IsReadWhole after.now }
@@ -114,7 +110,6 @@ fn is_steady(read: &Result<Folder, OpenError>, before: &Log, after: &Log) -> boo
     }
 }
 
-// Whether the log begins with these records.
 fn begins_with(log: &[u8], records: &[u8]) -> bool
     ensures yes { result ≡ true → take (length records.now) log.now ≡ records.now }
     ensures front { (rest : List ℕ) → log.now ≡ records.now ++ rest → result ≡ true }
@@ -122,8 +117,7 @@ fn begins_with(log: &[u8], records: &[u8]) -> bool
     log.starts_with(records)
 }
 
-// Whether the files that held the base then hold it still: the log continues from what it was, and no record since
-// then names other files, as two purges do.
+// No record since then names other files: after two purges the last record names the old number again.
 fn goes_on(before: &Log, after: &Log) -> bool
     requires before { IsReadWhole before.now }
     requires after { IsReadWhole after.now }
@@ -140,7 +134,6 @@ fn goes_on(before: &Log, after: &Log) -> bool
     name_only(&after.bytes[first..last], before.end.recorded.number)
 }
 
-// Whether each of the records names the files of this number.
 fn name_only(records: &[u8], number: u8) -> bool
     ensures none { length records.now ≡ 0 → result ≡ true }
 {
@@ -152,7 +145,6 @@ fn name_only(records: &[u8], number: u8) -> bool
     true
 }
 
-// The folder with this log, of which the messages were read.
 fn folder_by<D: Disk, H: Digest, P: ReadingProgress>(
     alloc: Global,
     disk: &mut D,

@@ -1,4 +1,3 @@
-//! Why a base folder is not read or opened.
 ghost use Rattle.base_folder.specs.OpenError.{IsReportedAs};
 
 use base_file::BaseFault;

@@ -16,10 +16,8 @@ use disk_io::Disk;
 use echo_addr::Address;
 use std::alloc::Global;
 
-/// Opens the base folder of this path, which ends in a slash, like `Folder::open`, if it is one. `strange` says that
-/// the folder has foreign files.
-///
-/// It is `Wrong` if it is no base folder (F1), or its log or a file is cut short (F2), and then nothing is changed.
+/// Opens the base folder of this path, which ends in a slash. `strange`: it has foreign files. `Wrong`: it is no base
+/// folder (F1), or its log or a file is cut short (F2); then nothing is changed.
 pub fn open_base<D: Disk>(
     alloc: Global,
     disk: &mut D,
@@ -42,10 +40,9 @@ pub fn open_base<D: Disk>(
     Ok(folder)
 }
 
-/// Opens the base folder for the system with this address. A folder without owner is claimed, and keeps its owner
-/// from the next commit on. A folder without messages also gets the key of these two halves.
-///
-/// It is `NotOwner` if the folder belongs to another system, and then nothing is changed.
+/// Opens the base folder for the system with this address. A folder without owner is claimed, from the next commit on;
+/// one without messages also gets the key of these two halves. `NotOwner`: it belongs to another system, and then
+/// nothing is changed.
 pub fn open_own<D: Disk>(
     alloc: Global,
     disk: &mut D,
@@ -61,7 +58,6 @@ pub fn open_own<D: Disk>(
     ensures run { OpensOnly path.now (D.state disk.old) (D.state disk.new) }
     ensures sound { Honestly (D.state disk.new) (NeedsSound strange path.now (D.state disk.old) (D.state disk.new) result) }
 
-    // It is another system's exactly if that is the answer; then nothing is changed.
     ensures other { Honestly (D.state disk.new) ((address : Address) → IsOfOther own strange path.now (D.state disk.old).seen address → OnOk result ⊥) }
     ensures refused { Honestly (D.state disk.new) (IfErr result (IsLeftAlone (D.state disk.old) (D.state disk.new))) }
     ensures wrong { Honestly (D.state disk.new) (IfErr result (IsNotOurs own strange path.now (D.state disk.old).seen)) }

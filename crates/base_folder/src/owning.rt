@@ -39,8 +39,7 @@ pub fn judge_owner(mark: FolderIdentity, own: Address) -> Result<(), OpenError>
     Err(OpenError::NotOwner(address_of(owner)))
 }
 
-/// Claims the folder for this system if it has no owner, and keeps that from the next commit on. A folder without
-/// messages also gets the key of these two halves.
+/// A folder without messages also gets the key of these two halves. The next commit keeps both.
 pub(crate) fn claim_for(folder: &mut Folder, own: Address, first: u64, second: u64)
     requires { (folder.old.recorded.mark.owner ≡ 0) ⊎ (folder.old.recorded.mark.owner ≡ number_of own) }
     ensures ours { IsOurs own folder.old folder.new }

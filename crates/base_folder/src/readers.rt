@@ -1,4 +1,3 @@
-//! A base in memory, and a base folder, as sources of messages.
 ghost use Rattle.std.specs.Prelude.{◌≡◌, ◌⊎◌, IfErr, IfOk, Some};
 ghost use Rattle.disk_io.specs.Disk.{Honestly};
 ghost use Rattle.base_file.specs.Base as model;
@@ -79,14 +78,12 @@ pub struct FolderReader<D: Disk, H: Digest> {
     alloc: Global,
     disk: D,
     folder: Folder,
-    // The current message.
     message: Option<Filed>,
     room: MessageRoom,
     digests: PhantomData<H>,
 }
 
 impl<D: Disk, H: Digest> FolderReader<D, H> {
-    // The folder on this disk.
     fn new(alloc: Global, disk: D, folder: Folder) -> FolderReader<D, H>
         requires { IsLookedAt (D.state disk) folder }
         ensures ready { (⟦<FolderReader<D, H> as MessageSource>⟧.state result).is_ready }
@@ -105,7 +102,6 @@ impl<D: Disk, H: Digest> FolderReader<D, H> {
         }
     }
 
-    /// The disk, taken out.
     pub fn into_disk(self) -> D
         ensures { result ≡ self.disk }
     {

@@ -17,7 +17,6 @@ pub trait ReadingProgress {
     fn tell(&self, place: usize, messages: usize);
 }
 
-/// Learns nothing.
 impl ReadingProgress for () {
     fn tell(&self, _place: usize, _messages: usize) {}
 }
@@ -57,7 +56,6 @@ pub(crate) fn judge_messages<D: Disk, H: Digest, P: ReadingProgress>(
     Ok(())
 }
 
-// Reads the message of this number.
 fn judge_message<D: Disk, H: Digest>(
     alloc: Global,
     disk: &mut D,
@@ -81,7 +79,6 @@ fn judge_message<D: Disk, H: Digest>(
     }
 }
 
-// Why the message of this number is not read.
 fn unread_by(error: StoreError, i: usize) -> OpenError
     ensures { result ≡ unread_message error i }
 {

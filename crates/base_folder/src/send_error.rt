@@ -1,4 +1,3 @@
-//! Why a base file was not sent whole.
 use base_file::BaseFault;
 use disk_io::Failure;
 use std::alloc::AllocError;

@@ -1,4 +1,3 @@
-//! Messages and a cursor that are read, wherever they are kept.
 ghost use Rattle.std.specs.Prelude.{◌≡◌, ◌<◌, length, slice_get, option_copied, IsErrOf};
 ghost use Rattle.base_file.specs.Base.{Base, IsBase};
 ghost use Rattle.base_folder_store.specs.Answers.{Answers, HasReadCause};

@@ -4,7 +4,6 @@ use Rattle.std.proofs.lemmas.List.{append-nil, drop-append-le, drop-drop, drop-t
 use Rattle.disk_io.specs.Disk.{DiskState, bytes_in}
 use Rattle.base_folder_store.specs.{Ahead.Covers, Ahead.IsPartOf, declared.read_ahead.ReadAhead.ReadAhead}
 
--- A part of some bytes is a part of them with more at their end.
 pub part_grows : (bytes more : List ℕ) (ahead : ReadAhead) → IsPartOf bytes ahead → IsPartOf (bytes ++ more) ahead
 part_grows bytes more ahead is = record {
   rest = is.rest ++ more;
@@ -12,7 +11,6 @@ part_grows bytes more ahead is = record {
   behind = drop-append-le ahead.from bytes more is.within ∙ ap (λ (l : List ℕ). l ++ more) is.behind ∙ append_assoc ahead.bytes.items is.rest more;
 }
 
--- What was read from the front of a file is a part of it.
 pub part_read : (file more : List ℕ) (ahead : ReadAhead) (first to : ℕ) → ahead.from ≤ to → to ≤ first → first ≤ length file → ahead.bytes.items ≡ drop ahead.from (take to file)
     → IsPartOf (take first file ++ more) ahead
 part_read file more ahead first to order within long is =
@@ -26,7 +24,6 @@ part_read file more ahead first to order within long is =
     } in
     part_grows front more ahead (subst (λ (l : List ℕ). IsPartOf l ahead) (take-append-drop to front) (part_grows (take to front) (drop to front) ahead here))
 
--- The bytes between two places are in the buffer.
 pub part_is : (file : List ℕ) (ahead : ReadAhead) (begins ends : ℕ) → IsPartOf file ahead → Covers ahead begins ends → begins ≤ ends
     → take (ends - ahead.from - (begins - ahead.from)) (drop (begins - ahead.from) ahead.bytes.items) ≡ drop begins (take ends file)
 part_is file ahead begins ends is has order =
@@ -50,7 +47,6 @@ part_is file ahead begins ends is has order =
     ∙ sym (drop-take begins count file)
     ∙ ap (λ (n : ℕ). drop begins (take n file)) all
 
--- An empty buffer is a part of all bytes.
 pub part_empty : (file : List ℕ) (ahead : ReadAhead) → ahead.from ≤ length file → ahead.bytes.items ≡ [] → IsPartOf file ahead
 part_empty file ahead within none = record {
   rest = drop ahead.from file;
@@ -58,12 +54,10 @@ part_empty file ahead within none = record {
   behind = ap (λ (l : List ℕ). l ++ drop ahead.from file) (sym none);
 }
 
--- So it is of the first bytes of a file and of some behind them.
 pub part_lost : (file more : List ℕ) (ahead : ReadAhead) (first : ℕ) → ahead.from ≤ first → first ≤ length file → ahead.bytes.items ≡ [] → IsPartOf (take first file ++ more) ahead
 part_lost file more ahead first order long none =
     part_empty (take first file ++ more) ahead (omega (arith, order, length-take-le first file long, length-append (take first file) more)) none
 
--- A buffer that was a part of the first bytes of a file and of some behind them is so after more is read.
 pub part_kept : (d : DiskState) (path real : List ℕ) (first : ℕ) (behind : List ℕ) (old new : ReadAhead) → path ≡ real
     → ((more : List ℕ) → IsPartOf (take first (bytes_in (d.seen path)) ++ more) old → IsPartOf (take first (bytes_in (d.seen path)) ++ more) new)
     → IsPartOf (take first (bytes_in (d.seen real)) ++ behind) old → IsPartOf (take first (bytes_in (d.seen real)) ++ behind) new

@@ -13,25 +13,20 @@ use Rattle.base_folder_store.specs.{Held.HoldsBase, Held.digest_by, Held.Represe
 use Rattle.base_folder_store.specs.declared.folder.Folder.{Folder}
 use Rattle.base_folder_store.proofs.{Legible.held_quiet, Waits.written_held}
 
--- each message has its entry, and the cursor is within them
 pub recorded_where : (keyed : ℕ → ℕ → List ℕ → ℕ) (bytes : BaseBytes) (base : Base) → HoldsBase keyed bytes base → AreWhereRecorded base.messages bytes.messages bytes.keys
 recorded_where keyed bytes base holds = stand_where_recorded (digest_by keyed bytes.mark) base.messages base.cursor bytes.messages bytes.keys holds.files
 
--- a crash at any moment of opening
 pub opened_run : (keyed : ℕ → ℕ → List ℕ → ℕ) (path : List ℕ) (d e : DiskState) (base : Base) (represented : RepresentsBase keyed path base d.seen)
     → LeavesOnly d e (RepresentsOrWasLeft path d represented.bytes) → LeavesOnly d e (RepresentsBaseOrWasLeft keyed path d base)
 opened_run keyed path d e base represented run = grind (arith, weaker_run)
 
--- a look at the disk leaves the folder open
 pub open_quiet : (d e : DiskState) (folder : Folder) → ChangesNothing d e → IsOpen d folder → IsOpen e folder
 open_quiet d e folder quiet was = grind (arith, staged_quiet)
 
--- each message remains at the place in its entry
 pub recorded_quiet : (d e : DiskState) (folder : Folder) (base : List Filed) → ChangesNothing d e → AreWhereRecorded base (held_by d folder).messages (held_by d folder).keys
     → AreWhereRecorded base (held_by e folder).messages (held_by e folder).keys
 recorded_quiet d e folder base quiet recorded = subst (λ (b : BaseBytes). AreWhereRecorded base b.messages b.keys) (sym (held_quiet d e folder quiet)) recorded
 
--- opening leaves an open folder
 pub opened_is : (d e : DiskState) (path : List ℕ) (end : End) (folder : Folder) → ChangesNothing d e → IsAtRest d path end → path_of folder ≡ path → AreNames folder.names end.recorded.number → folder.end ≡ end → folder.recorded ≡ end.recorded
     → folder.keys ≡ end.recorded.keys → IsWritten folder → IsOpen e folder
 opened_is d e path end folder quiet rest at names same_end same_recorded keys none =
@@ -44,6 +39,5 @@ opened_is d e path end folder quiet rest at names same_end same_recorded keys no
       keys = let recorded = ap (λ (t : CommitRecord). t.keys) same_recorded in let wait = ap (λ (l : List ℕ). length l) none.keys in omega (arith, keys, recorded, wait);
     }
 
--- the opened folder has the bytes that its record counts
 pub opened_bytes : (d e : DiskState) (path : List ℕ) (folder : Folder) (recorded : CommitRecord) (bytes : BaseBytes) → ChangesNothing d e → path_of folder ≡ path → folder.recorded ≡ recorded → base_at d path recorded ≡ bytes → IsWritten folder → held_by e folder ≡ bytes
 opened_bytes d e path folder recorded bytes quiet at same_recorded same none = written_held e folder none ∙ (λ i. base_at e (at i) (same_recorded i)) ∙ base_quiet d e path recorded quiet ∙ same

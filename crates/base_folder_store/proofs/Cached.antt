@@ -8,21 +8,17 @@ use Rattle.base_store.proofs.Found.{index_stays}
 use Rattle.base_folder_store.specs.{Added.with_stored, Ahead.AreParts, Opened.held_by, State.IsCached, declared.folder.Folder.Folder, declared.read_ahead.Buffers.Buffers}
 use Rattle.base_folder_store.proofs.Ahead.{part_grows}
 
--- an index of the folder's bytes is one of equal bytes
 pub indexed_held : (d e : DiskState) (f g : Folder) (i : Index) → held_by e g ≡ held_by d f → IsIndexOf (held_by d f).keys i → IsIndexOf (held_by e g).keys i
 indexed_held d e f g i same is = subst (λ (b : BaseBytes). IsIndexOf b.keys i) (sym same) is
 
--- Parts of the folder's bytes are parts of equal bytes.
 pub parts_held : (d e : DiskState) (f g : Folder) (b : Buffers) → held_by e g ≡ held_by d f → AreParts (held_by d f).messages (held_by d f).keys b
     → AreParts (held_by e g).messages (held_by e g).keys b
 parts_held d e f g b same are = subst (λ (held : BaseBytes). AreParts held.messages held.keys b) (sym same) are
 
--- Parts of a folder's bytes are parts of them with one message more.
 parts_more : (held : BaseBytes) (bytes : List ℕ) (digest : ℕ) (b : Buffers) → AreParts held.messages held.keys b
     → AreParts (with_stored held bytes digest).messages (with_stored held bytes digest).keys b
 parts_more held bytes digest b are = grind (arith, part_grows)
 
--- The index and the buffers still agree with the folder after a message is added.
 pub cached_more : {T : Type 0} (d e : DiskState) (f g : Folder) (i : Index) (b : Buffers) (r : Result T StoreError) (bytes : List ℕ) (digest : ℕ)
     → Honestly e (OnOk r (held_by e g ≡ with_stored (held_by d f) bytes digest)) → (e.is_honest → d.is_honest) → IsCached d f i b → OnOk r (IsCached e g i b)
 cached_more d e f g i b (Ok done) bytes digest staged back cached =
@@ -35,7 +31,6 @@ cached_more d e f g i b (Ok done) bytes digest staged back cached =
     )
 cached_more d e f g i b (Err failed) bytes digest staged back cached = tt
 
--- They also agree with it if nothing is added.
 pub cached_same : {T : Type 0} (d e : DiskState) (f g : Folder) (i : Index) (b : Buffers) (r : Result T StoreError) → Honestly e (OnOk r (held_by e g ≡ held_by d f))
     → (e.is_honest → d.is_honest) → IsCached d f i b → OnOk r (IsCached e g i b)
 cached_same d e f g i b (Ok done) same back cached =

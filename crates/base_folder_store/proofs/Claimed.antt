@@ -1,4 +1,3 @@
--- A base folder that is claimed.
 use Rattle.std.proofs.Common.{◌≡◌, ◌<◌, ◌^◌, ℕ, List, [], ◌∷◌, Bool, true, false, Option, length, refl, sym, ap, subst, ◌∙◌, arith}
 use Rattle.disk_io.specs.Disk.{DiskState}
 use Rattle.base_log.specs.declared.log.FolderIdentity.{FolderIdentity}
@@ -10,7 +9,6 @@ use Rattle.base_folder_store.specs.{Held.HoldsBase, Held.digest_by, Opened.IsOpe
 use Rattle.base_folder_store.specs.declared.{folder.Folder.Folder, read_ahead.Buffers.Buffers}
 use Rattle.base_folder_store.proofs.{Legible.keys_all, Legible.legible_open, Runs.run_none, Stated.stages}
 
--- no keys are those of no messages
 no_entries : (digest : List ℕ → ℕ) (all : List Stored) → length (keys_from digest 0 all) ≡ 0 → all ≡ []
 no_entries digest [] none = refl
 no_entries digest (s ∷ later) none = absurd (omega (arith, none, keys_long digest 0 (s ∷ later)))
@@ -18,7 +16,6 @@ no_entries digest (s ∷ later) none = absurd (omega (arith, none, keys_long dig
 pub claimed_open : (d : DiskState) (f : Folder) (mark : FolderIdentity) → IsOpen d f → IsOpen d (with_mark f mark)
 claimed_open d f mark was = grind (arith, keys_long)
 
--- with no message each key serves
 pub claimed_holds : (keyed : ℕ → ℕ → List ℕ → ℕ) → ((first second : ℕ) (bytes : List ℕ) → keyed first second bytes < 2 ^ 64) → (d : DiskState) (f : Folder) (mark : FolderIdentity) (base : Base) → IsOpen d f → IsUnclaimed f
     → HoldsBase keyed (held_by d f) base → HoldsBase keyed (held_by d (with_mark f mark)) base
 claimed_holds keyed fits d f mark base opened free holds =
@@ -42,12 +39,10 @@ claimed_holds keyed fits d f mark base opened free holds =
       cursor = holds.cursor;
     }
 
--- the answer of a claim about the folder
 pub record IsClaim (f g : Folder) (mark : FolderIdentity) (result : Bool) : Type 0 where
   pub claimed : result ≡ true → IsUnclaimed f × (g ≡ with_mark f mark)
   pub refused : result ≡ false → (IsUnclaimed f → ⊥) × (g ≡ f)
 
--- a fact about the old folder, and about an unclaimed one with the mark, holds after the claim
 pub by_claim : (P : Folder → Type 0) (f g : Folder) (mark : FolderIdentity) (result : Bool) → IsClaim f g mark result → P f → (IsUnclaimed f → P (with_mark f mark)) → P g
 by_claim P f g mark true claim was is = let c = claim.claimed refl in subst P (sym c.1) (is c.0)
 by_claim P f g mark false claim was is = subst P (sym (claim.refused refl).1) was

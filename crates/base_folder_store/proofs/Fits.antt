@@ -14,7 +14,6 @@ use Rattle.base_folder_store.proofs.{Bases.recorded_where, Stubbed.first_many}
 fourth : (k : ℕ) (a b c d e : List ℕ) → length d ≤ length (k ∷ (a ++ (b ++ (c ++ (d ++ e)))))
 fourth k a b c d e = omega (arith, length-append a (b ++ (c ++ (d ++ e))), length-append b (c ++ (d ++ e)), length-append c (d ++ e), length-append d e)
 
--- a stored message has more bytes than its entry
 stored_some : (s : Stored) → IsStored Second s → 16 ≤ length (stored_bytes Second s)
 unfolding stored_bytes
 stored_some s size =
@@ -27,20 +26,16 @@ entries_few : (all : List Stored) → AllByRecursion (IsStored Second) all → 1
 entries_few [] sizes = omega arith
 entries_few (s ∷ all) sizes = omega (arith, stored_some s sizes.0, entries_few all sizes.1, length-append (stored_bytes Second s) (flat_map (stored_bytes Second) all))
 
--- if eight bytes count the messages, they count the entries
 keys_few : (keyed : ℕ → ℕ → List ℕ → ℕ) (bytes : BaseBytes) (base : Base) → HoldsBase keyed bytes base → 16 * length base.messages < 2 ^ 64
 keys_few keyed bytes base holds = grind (arith, length-map, entries_few)
 
--- the bytes of a message reach to the next one
 reaches : (messages keys : List ℕ) (i : ℕ) (s : Stored) → HasBytesOf messages keys i s → place_at keys i + length (stored_bytes Second s) ≡ place_behind messages keys i
 reaches messages keys i s has = grind (arith, length-drop, length-take-le)
 
--- one more purged message has no more bytes than before
 pub shorter_more : (base : List Filed) (was held now : BaseBytes) (place number : ℕ) (bytes : List ℕ) (s : Stored) → AreWhereRecorded base was.messages was.keys → HasBytesOf was.messages was.keys place s
     → length held.messages ≤ place_at was.keys place → length bytes ≤ length (stored_bytes Second s) → now ≡ with_stored held bytes number → place + 1 < length base → length now.messages ≤ place_at was.keys (place + 1)
 shorter_more base was held now place number bytes s recorded has less shorter staged within = grind (arith, cond-true, nat_lt, lt-ltb, reaches, length-append)
 
--- and there is room for it
 pub room_left : (keyed : ℕ → ℕ → List ℕ → ℕ) (base : Base) (was held : BaseBytes) (next : Folder) (place bytes : ℕ) (s : Stored) → HoldsBase keyed was base → HoldsLeft keyed base was place held → place < length base.messages
     → HasBytesOf was.messages was.keys place s → bytes ≤ length (stored_bytes Second s) → length held.messages ≡ next_place next → length held.keys ≡ next.keys → next.keys ≡ next.recorded.keys + length next.waiting.keys.items
     → LacksRoom next bytes → ⊥

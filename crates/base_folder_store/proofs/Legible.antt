@@ -10,7 +10,6 @@ use Rattle.base_folder_store.specs.{Added.next_place, declared.folder.Folder.Fol
 pub legible_open : (d : DiskState) (f : Folder) → IsOpen d f → IsLegible d f
 legible_open d f opened = grind arith
 
--- a folder with unchanged files remains readable
 pub legible_same : (d e : DiskState) (f : Folder) → e.seen (messages_of (path_of f) f.recorded.number) ≡ d.seen (messages_of (path_of f) f.recorded.number)
     → e.seen (keys_of (path_of f) f.recorded.number) ≡ d.seen (keys_of (path_of f) f.recorded.number) → IsLegible d f → IsLegible e f
 legible_same d e f messages keys was = grind arith
@@ -18,18 +17,14 @@ legible_same d e f messages keys was = grind arith
 pub legible_quiet : (d e : DiskState) (f : Folder) → ChangesNothing d e → IsLegible d f → IsLegible e f
 legible_quiet d e f quiet was = legible_same d e f (quiet.seen (messages_of (path_of f) f.recorded.number)) (quiet.seen (keys_of (path_of f) f.recorded.number)) was
 
--- it holds the same after a look
 pub held_quiet : (d e : DiskState) (f : Folder) → ChangesNothing d e → held_by e f ≡ held_by d f
 held_quiet d e f quiet = ap (λ (b : BaseBytes). and_waiting b f.waiting) (base_quiet d e (path_of f) f.recorded quiet)
 
--- the number of counted bytes of the keys
 pub keys_count : (d : DiskState) (path : List ℕ) (end : End) (recorded : CommitRecord) → IsStaged d path end recorded → length (base_at d path recorded).keys ≡ recorded.keys
 keys_count d path end recorded staged = length-take-le recorded.keys (bytes_in (d.seen (keys_of path recorded.number))) staged.keys_long
 
--- the number of bytes of all keys
 pub keys_all : (d : DiskState) (f : Folder) → IsLegible d f → length (held_by d f).keys ≡ f.keys
 keys_all d f legible = grind (arith, length-take-le, length-append)
 
--- the number of bytes of all messages
 pub messages_all : (d : DiskState) (f : Folder) → IsLegible d f → length (held_by d f).messages ≡ next_place f
 messages_all d f legible = grind (arith, length-take-le, length-append)

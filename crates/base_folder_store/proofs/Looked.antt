@@ -7,31 +7,25 @@ use Rattle.base_store.specs.Keys.{digest_at}
 use Rattle.base_file.specs.Alone.{IsStoredAlone}
 use Rattle.base_folder_store.specs.Answers.{HaveDigest, IsStoredOf}
 
--- no element passes
 pub none_passes : {X : Type 0} (test : X → Bool) (xs : List X) → ((i : ℕ) (d : X) → i < length xs → test (get_or xs i d) ≡ false) → list_any test xs ≡ false
 none_passes test [] each = refl
 none_passes test (x ∷ xs) each = or_from (test x) (list_any test xs) (each 0 x (omega arith)) (none_passes test xs (λ i d within. each (suc i) d (omega arith)))
 
--- a message with another digest in its entry does not pass
 pub other_digest : (test : Filed → Bool) (digest : ℕ) (base : List Filed) (keys : List ℕ) → HaveDigest test digest base keys → (j : ℕ) (d : Filed) → j < length base → digest_at keys j ≢ digest
     → test (get_or base j d) ≡ false
 other_digest test digest base keys have j d within other = false_from_ne_true (test (get_or base j d)) (λ passes. other (have j d within passes))
 
--- the bytes of a message of a base are those of the message alone
 pub stored_of : (base : List Filed) (place : ℕ) (bytes file : List ℕ) → IsStoredOf base place bytes → file ≡ bytes → (d : Filed) → IsStoredAlone (get_or base place d) file
 stored_of base place bytes file of same d = record { s = of.s; size = of.size; alone = of.alone; is = sym (of.is d); same = same ∙ of.same }
 
--- a message of a base that has one
 pub some_message : (base : List Filed) (i : ℕ) → i < length base → Filed
 some_message h1 i within = grind arith
 
--- those from one on that was looked at do not pass
 pub passed_on : (test : Filed → Bool) (digest : ℕ) (base : List Filed) (keys : List ℕ) (below place : ℕ) → length keys ≡ 16 * length base → HaveDigest test digest base keys
     → ((j : ℕ) (d : Filed) → below ≤ j → j < length base → test (get_or base j d) ≡ false) → ((j : ℕ) → place < j → j < below → j < length keys / 16 → digest_at keys j ≢ digest)
     → ((d : Filed) → test (get_or base place d) ≡ false) → (j : ℕ) (d : Filed) → place ≤ j → j < length base → test (get_or base j d) ≡ false
 passed_on test digest base keys below place many have behind others fails j d from inside = grind (arith, get_or, other_digest, cases_lt)
 
--- no message passes if all from a number on fail and no earlier one has the digest
 pub none_found : (test : Filed → Bool) (digest : ℕ) (base : List Filed) (keys : List ℕ) (below : ℕ) → length keys ≡ 16 * length base → HaveDigest test digest base keys
     → ((j : ℕ) (d : Filed) → below ≤ j → j < length base → test (get_or base j d) ≡ false) → ((j : ℕ) → j < below → j < length keys / 16 → digest_at keys j ≢ digest) → list_any test base ≡ false
 none_found test digest base keys below many have behind others =

@@ -20,7 +20,6 @@ module _ (file keys : List ℕ) (place begins ends : ℕ) (s : Stored) (recorded
   pub piece_is : drop begins (take ends file) ≡ stored_bytes Second s
   piece_is = (λ i. drop (at i) (take (behind i) file)) ∙ recorded.bytes
 
--- the places in a piece of the keys are those in the keys
 pub piece_place : (keys : List ℕ) (from : ℕ) (piece : List ℕ) (i : ℕ) → IsPieceOf keys from piece → i < length piece / 16 → place_at keys (from + i) ≡ place_at piece i
 piece_place keys from piece i is within =
     let sum : 16 * (from + i) ≡ 16 * from + 16 * i = omega arith in
@@ -66,7 +65,6 @@ module _ (messages keys piece : List ℕ) (place : ℕ) (is : IsPieceOf keys pla
       let none : place + 0 ≡ place = omega arith in
       sym (piece_digest keys place piece 0 is some) ∙ ap (digest_at keys) none
 
--- the bytes read from the keys are a piece of them
 pub piece_long : (keys piece : List ℕ) (from to : ℕ) → 16 * to ≤ length keys → piece ≡ drop (16 * from) (take (16 * to) keys) → length piece ≡ 16 * to - 16 * from
 piece_long keys piece from to within is =
     ap (λ (l : List ℕ). length l) is ∙ length-drop (16 * from) (take (16 * to) keys) ∙ ap (λ (n : ℕ). n - 16 * from) (length-take-le (16 * to) keys within)
@@ -85,7 +83,6 @@ piece_of keys piece from to order within is =
       even = omega (arith, long, order);
     }
 
--- the index's copy of the keys is also such a piece
 pub piece_held : (keys : List ℕ) (index : Index) (items : List ℕ) (from to : ℕ) → IsIndexOf keys index → from ≤ to → 16 * to ≤ length (entries_of index)
     → items ≡ drop (16 * from) (take (16 * to) (entries_of index)) → IsPieceOf keys from items
 piece_held keys index items from to is order within held =

@@ -1,4 +1,3 @@
--- One message more in a base folder.
 use Rattle.std.proofs.Common.{◌≡◌, ℕ, ◌+◌, ◌<◌, ◌^◌, false, List, [], ◌∷◌, ◌++◌, length, sym, ap, ◌∙◌, arith}
 use Rattle.std.proofs.lemmas.{Grind.flat_map-append, List.append-nil, List.map-append}
 use Rattle.echo_filed.specs.{Filed.Filed, Filed.IsFiled, Filed.key_of, Stored.IsStored, Stored.Stored, Stored.message_in, Stored.stored_bytes, declared.stored.Version.TheVariants.Second}

@@ -9,14 +9,12 @@ use Rattle.echo_text.proofs.{KeptLines.msgids_kept, Tags.area_tag_back}
 use Rattle.echo_filed.specs.Stored.{IsStored, Stored, after_length, after_long_length, has_tag, last_bytes, message_in, stored_bytes}
 use Rattle.echo_filed.specs.{Filed.Filed, Filed.has_id, Filed.key_of, Filed.same_key, Written.echo_of, declared.key.Key.TheVariants.ById, declared.stored.Version.TheVariants.Second}
 
--- the AREA line that is written for a tag has that tag
 pub plain_tag : (line tag : List ℕ) → is_tag tag ≡ true → take 5 line ≡ area_word → drop 5 line ≡ tag → area_tag line ≡ tag
 plain_tag line tag right front rest = ap area_tag (sym (take-append-drop 5 line) ∙ (λ i. front i ++ rest i)) ∙ area_tag_back tag right
 
 first_found : (id : List ℕ) (others : List (List ℕ)) → 0 < length id → find (λ found. nat_lt 0 (length found)) (id ∷ others) ≡ Some id
 first_found id others some = cond-true (nat_lt 0 (length id)) (Some id) (find (λ found. nat_lt 0 (length found)) others) (lt-ltb 0 (length id) some)
 
--- a MSGID line in front has the id
 id_in_front : (rest id : List ℕ) (later : List (List ℕ)) → trimmed rest ≡ id → 0 < length id → msgid_of (kept_of ((msgid_word ++ rest) ∷ later)) ≡ Some id
 unfolding msgid_of begins after_word
 id_in_front rest id later is some = grind (arith, nat_lt, msgids_kept, first_found)
@@ -24,7 +22,6 @@ id_in_front rest id later is some = grind (arith, nat_lt, msgids_kept, first_fou
 pub plain_id : (line id : List ℕ) (later : List (List ℕ)) → take 7 line ≡ msgid_word → trimmed (drop 7 line) ≡ id → 0 < length id → msgid_of (kept_of (line ∷ later)) ≡ Some id
 plain_id line id later front rest some = grind (arith, take-append-drop, id_in_front)
 
--- the names of a stored message come after 27 bytes
 pub strings_in : (s : Stored) (bytes : List ℕ) → IsStored Second s → bytes ≡ stored_bytes Second s
     → drop 27 bytes ≡ after_length s.to_name ++ (after_length s.from_name ++ (after_length s.subject ++ last_bytes Second s))
 unfolding stored_bytes
@@ -32,17 +29,14 @@ strings_in s bytes size is =
     ap (λ (l : List ℕ). drop 27 l) is
     ∙ drop_at s.date (after_length s.to_name ++ (after_length s.from_name ++ (after_length s.subject ++ last_bytes Second s))) 20 size.date_len
 
--- its first byte shows that it has its text
 pub whole_in : (s : Stored) (bytes : List ℕ) → bytes ≡ stored_bytes Second s → get_or bytes 0 0 ≤ 1 → has_tag Second s.kind ≡ false
 unfolding stored_bytes
 whole_in s bytes is small = grind (arith, get_or, or_from, ne_eqb)
 
--- the text comes after its length
 pub last_in : (s : Stored) (last : List ℕ) → has_tag Second s.kind ≡ false → last ≡ last_bytes Second s → drop 4 last ≡ s.last
 last_in s last whole is =
     ap (λ (l : List ℕ). drop 4 l) (is ∙ cond-false (has_tag Second s.kind) (after_length s.tag ++ after_long_length s.last) (after_long_length s.last) whole)
 
--- the parsed text of such a message
 echo_is : (s : Stored) (text : List ℕ) → has_tag Second s.kind ≡ false → text ≡ s.last → (message_in Second s).echo ≡ echo_of text
 unfolding message_in
 echo_is s text whole is = cond-false (has_tag Second s.kind) _ (echo_of s.last) whole ∙ ap echo_of (sym is)

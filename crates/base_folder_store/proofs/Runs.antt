@@ -8,15 +8,12 @@ use Rattle.base_store.specs.declared.store_error.StoreError.{StoreError}
 use Rattle.base_folder_store.specs.{Calls.CommitsOnly, Calls.StagesOnly, Calls.StaysOpen, Opened.IsOpen, Opened.committed_by, Opened.path_of, declared.folder.Folder.Folder}
 use Rattle.base_folder_store.proofs.Staged.{nothing_left, outside_same}
 
--- a run without calls
 pub run_none : (d : DiskState) (f : Folder) → Honestly d (IsOpen d f) → StagesOnly (path_of f) (committed_by d f) d d
 run_none d f opened = record { any_moment = λ honest. nothing_left d f (opened honest); outside = outside_same (path_of f) d }
 
--- the disk was only looked at
 pub run_quiet : (d e : DiskState) (f : Folder) → Honestly d (IsOpen d f) → ChangesNothing d e → StagesOnly (path_of f) (committed_by d f) d e
 run_quiet d e f opened quiet = grind (arith, then_nothing, nothing_left, outside_quiet)
 
--- one run that stages after another
 pub run_twice : (path here : List ℕ) (d e f : DiskState) (base now : BaseBytes) → here ≡ path → StagesOnly path base d e → StagesOnly here now e f → Honestly e (now ≡ base) → StagesOnly path base d f
 run_twice path here d e f base now at one there same =
     let two = subst (λ (p : List ℕ). StagesOnly p now e f) at there in
@@ -32,11 +29,9 @@ run_twice path here d e f base now at one there same =
       outside = outside_twice path d e f kept two.outside;
     }
 
--- a run that only stages commits nothing
 pub run_staged : (path : List ℕ) (d e : DiskState) (first next : BaseBytes) → StagesOnly path first d e → CommitsOnly path first next d e
 run_staged path d e first next one = grind (arith, weaker_run)
 
--- a commit after a run that stages
 pub run_to_commit : (path here : List ℕ) (d e f : DiskState) (first next now held : BaseBytes) → here ≡ path → StagesOnly path first d e → CommitsOnly here now held e f → Honestly e (now ≡ first) → Honestly e (held ≡ next)
     → CommitsOnly path first next d f
 run_to_commit path here d e f first next now held at one there same more =
@@ -53,7 +48,6 @@ run_to_commit path here d e f first next now held at one there same more =
       outside = outside_twice path d e f kept two.outside;
     }
 
--- and a run that stages after a commit
 pub run_from_commit : (path here : List ℕ) (d e f : DiskState) (first next now : BaseBytes) → here ≡ path → CommitsOnly path first next d e → StagesOnly here now e f → Honestly e (now ≡ next) → CommitsOnly path first next d f
 run_from_commit path here d e f first next now at one there same =
     let two = subst (λ (p : List ℕ). StagesOnly p now e f) at there in
@@ -69,6 +63,5 @@ run_from_commit path here d e f first next now at one there same =
       outside = outside_twice path d e f kept two.outside;
     }
 
--- an open folder stays open in two calls
 pub stays_twice : {T U : Type 0} {d : DiskState} {e : DiskState} {f g h : Folder} {one : Result T StoreError} (two : Result U StoreError) → StaysOpen f g d one → StaysOpen g h e two → StaysOpen f h e two
 stays_twice two was now = record { named = now.named; opened = now.opened; path = now.path ∙ was.path; mark = now.mark ∙ was.mark }

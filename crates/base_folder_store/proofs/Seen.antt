@@ -14,7 +14,6 @@ use Rattle.base_store.proofs.{Digests.of_key, Recorded.recorded_base_each}
 use Rattle.base_folder_store.specs.{Added.with_stored, Answers.HaveDigest, Held.HoldsBase, Held.digest_by, Opened.IsOpen, Opened.held_by, declared.folder.Folder.Folder}
 use Rattle.base_folder_store.proofs.{Bases.recorded_where, Legible.keys_all, Legible.legible_open, Looked.some_message, OneMore.holds_more}
 
--- messages with this key have its digest
 pub key_digest : (keyed : ℕ → ℕ → List ℕ → ℕ) (bytes : BaseBytes) (base : Base) (key : Key) (number : ℕ) → HoldsBase keyed bytes base → number ≡ digest_by keyed bytes.mark (digested_key key)
     → HaveDigest (λ m. same_key (key_of m) key) number base.messages bytes.keys
 key_digest keyed bytes base key number holds is i d within passes =
@@ -23,12 +22,10 @@ key_digest keyed bytes base key number holds is i d within passes =
     ∙ ap (digest_by keyed bytes.mark) (of_key m ∙ ap digested_key ((same_key_decides (key_of m) key).0 passes))
     ∙ sym is
 
--- the digest of a message with an id covers the id
 id_digested : (m : Filed) (id : List ℕ) (has : Option (List ℕ)) → unwrap_or (option_map (bytes_eq id) has) false ≡ true → digested_with m has ≡ id
 id_digested m id None h = absurd (cc)
 id_digested m id (Some x) h = sym ((bytes_decides id x).0 h)
 
--- and those with this id have the id's
 pub id_digest : (keyed : ℕ → ℕ → List ℕ → ℕ) (bytes : BaseBytes) (base : Base) (id : List ℕ) (number : ℕ) → HoldsBase keyed bytes base → number ≡ digest_by keyed bytes.mark id
     → HaveDigest (has_id id) number base.messages bytes.keys
 id_digest keyed bytes base id number holds is i d within passes =
@@ -37,20 +34,17 @@ id_digest keyed bytes base id number holds is i d within passes =
     ∙ ap (digest_by keyed bytes.mark) (id_digested m id (msgid_of m.echo.kept) passes)
     ∙ sym is
 
--- there are as many messages as entries
 pub many_messages : (keyed : ℕ → ℕ → List ℕ → ℕ) (d : DiskState) (f : Folder) (base : Base) → IsOpen d f → HoldsBase keyed (held_by d f) base → f.keys / 16 ≡ length base.messages
 many_messages keyed d f base opened holds =
     let many = (recorded_where keyed (held_by d f) base holds).many in
     let long = keys_all d f (legible_open d f opened) in
     omega (arith, many, long)
 
--- the message of a number
 pub message_at : (base : List Filed) (place : ℕ) (m : Filed) → place < length base → ((d : Filed) → get_or base place d ≡ m) → slice_get base place ≡ Some m
 message_at base place m within is =
     let d : Filed = some_message base place within in
     slice_get-get_or base place d within ∙ ap (λ (x : Filed). Some x) (is d)
 
--- the folder with its cursor at the end
 abbrev pub at_end : Folder → Folder
 at_end f = record f { recorded = record f.recorded { cursor = f.keys / 16 } }
 
@@ -76,7 +70,6 @@ end_holds keyed d f base opened holds =
       cursor = many_messages keyed d f base opened holds;
     }
 
--- a message that was filed, with its digest
 pub filed_more : (keyed : ℕ → ℕ → List ℕ → ℕ) (now held : BaseBytes) (base : Base) (m : Filed) (key : Key) (bytes : List ℕ) (number : ℕ) → now ≡ with_stored held bytes number → length now.messages < 2 ^ 64
     → HoldsBase keyed held base → IsStoredAlone m bytes → IsFiled m → key ≡ key_of m → is_known base.messages key ≡ false → number ≡ digest_by keyed held.mark (digested_key key) → HoldsBase keyed now (with_message base m)
 filed_more keyed now held base m key bytes number staged fits holds stored filed own new recorded = grind (arith, of_key, holds_more)

@@ -12,7 +12,6 @@ use Rattle.echo_filed.proofs.{Keys.msgid_first, Keys.msgid_is_id, Keys.stub_of_s
 use Rattle.base_file.specs.{Alone.MayStandAlone, Alone.cursor_alone, BaseFile.stored_at}
 use Rattle.base_file.proofs.LoneMessages.{alone_again}
 
--- an id is no longer than its line
 in_line : (line : List ℕ) → length (trimmed (after_word msgid_word line)) ≤ length line
 unfolding trimmed after_word
 in_line line =
@@ -21,7 +20,6 @@ in_line line =
     let front = drop (prefix_len is_blank rest) rest in
     omega (arith, length-drop (prefix_len is_feed line) line, length-drop (length msgid_word) fed, length-drop (prefix_len is_blank rest) rest, length-take (length front - suffix_len is_blank front) front)
 
--- the id has no more bytes than all lines
 in_lines : (p q : List ℕ → Bool) (f : List ℕ → List ℕ) → ((line : List ℕ) → length (f line) ≤ length line) → (kept : List (List ℕ)) (id : List ℕ) → find p (map f (filter q kept)) ≡ Some id
     → length id ≤ length (flat_map ended kept)
 in_lines p q f short [] id found = absurd (cc)
@@ -54,7 +52,6 @@ id_within kept id found = in_lines (λ l. nat_lt 0 (length l)) (begins msgid_wor
 first_two : (a b c : List ℕ) → length a + length b ≤ length (a ++ (b ++ c))
 first_two a b c = omega (arith, length-append a (b ++ c), length-append b c)
 
--- the text has the tag and the kept lines
 text_long : (e : EchoText) → 6 + length e.tag + length (flat_map ended e.kept) ≤ length (text_of e)
 unfolding text_of
 text_long e =
@@ -65,7 +62,6 @@ text_long e =
       length-append area_word e.tag,
     )
 
--- how long a stored message is
 stored_long : (short : Bool) (m : Filed)
     → length (stored_bytes Second (stored_as short m)) ≡ length (front_bytes (stored_as short m)) + (length (strings_bytes m.to_name m.from_name m.subject) + length (last_sent short m))
 stored_long short m = grind (arith, stored_parts, length-append, last_sent)
@@ -75,7 +71,6 @@ record IsLess (short : Bool) (m stub : Filed) : Type 0 where
   less : length (stored_bytes Second (stored_at 1 0 stub)) ≤ length (stored_bytes Second (stored_as short m))
   few : is_short_enough (stored_as short m) ≡ true → is_short_enough (stored_at 1 0 stub) ≡ true
 
--- its last part
 last_less : (short : Bool) (m : Filed) (id : List ℕ) → msgid_of m.echo.kept ≡ Some id → length (after_length m.echo.tag ++ after_long_length id) ≤ length (last_sent short m)
 last_less h1 m id has = grind (arith, length-append, id_within, text_long)
 
@@ -90,7 +85,6 @@ stub_is m id has = ap (stub_with m) has
 front_same : (short : Bool) (m : Filed) (id : List ℕ) → length (front_bytes (stored_as true (stub_with m (Some id)))) ≡ length (front_bytes (stored_as short m))
 front_same short m id = refl
 
--- with an id it is saved in short form
 with_id : (short : Bool) (m : Filed) (id : List ℕ) → msgid_of m.echo.kept ≡ Some id → IsLess short m (stub_with m (Some id))
 unfolding stored_at
 with_id short m id has = grind (arith, msgid_first, msgid_is_id, stub_is, stub_of_stub, and_from, stub_reported, last_sent, stored_long, last_less, front_same, ltb-true, lt-ltb, last_few)
@@ -98,7 +92,6 @@ with_id short m id has = grind (arith, msgid_first, msgid_is_id, stub_is, stub_o
 never : (past stub : Bool) (has : Option (List ℕ)) → has ≡ None → (past && (is_some has && stub)) ≡ false
 never h1 stub has none = grind arith
 
--- without one it stays
 without_id : (cursor : ℕ) (m : Filed) → msgid_of m.echo.kept ≡ None → IsLess (is_short Second cursor 0 m) m m
 unfolding stored_at
 without_id cursor m none = grind (arith, never, nat_lt)
@@ -108,7 +101,6 @@ unfolding stub_of
 less_of cursor m None is = subst (λ (o : Option (List ℕ)). IsLess (is_short Second cursor 0 m) m (stub_with m o)) (sym is) (without_id cursor m is)
 less_of cursor m (Some id) is = subst (λ (o : Option (List ℕ)). IsLess (is_short Second cursor 0 m) m (stub_with m o)) (sym is) (with_id (is_short Second cursor 0 m) m id is)
 
--- the purged form of a single message
 pub record LeavesLess (s : Stored) : Type 0 where
   pub few : is_short_enough (stored_at 1 0 (stub_of (message_in Second s))) ≡ true
   pub less : length (stored_bytes Second (stored_at 1 0 (stub_of (message_in Second s)))) ≤ length (stored_bytes Second s)

@@ -11,19 +11,15 @@ use Rattle.base_folder_store.specs.Opened.{IsNamed, IsOpen, IsWritten, committed
 use Rattle.base_folder_store.specs.{Added.OneMoreWaits, Added.next_place, Added.with_stored, declared.folder.Folder.Folder}
 use Rattle.base_folder_store.proofs.{Legible.keys_count, Waits.written_held}
 
--- without a call, everything outside is unchanged
 pub outside_same : (path : List ℕ) (d : DiskState) → KeepsOutside path d d
 outside_same path d = grind arith
 
--- it has the paths of its files still
 pub names_kept : (f g : Folder) → g.names ≡ f.names → g.recorded ≡ f.recorded → IsNamed f → IsNamed g
 names_kept f g names recorded was = subst (λ (t : CommitRecord). AreNames g.names t.number) (sym recorded) (subst (λ (n : Names). AreNames n f.recorded.number) (sym names) was)
 
--- the number of counted bytes of the messages
 pub messages_count : (d : DiskState) (path : List ℕ) (end : End) (recorded : CommitRecord) → IsStaged d path end recorded → length (base_at d path recorded).messages ≡ recorded.messages
 messages_count d path end recorded staged = length-take-le recorded.messages (bytes_in (d.seen (messages_of path recorded.number))) staged.messages_long
 
--- a committed record is also staged
 pub committed_staged : (d : DiskState) (path : List ℕ) (after : End) (recorded : CommitRecord) → IsAtRest d path after → after.recorded ≡ recorded → IsStaged d path after recorded
 committed_staged d path after recorded rest is = subst (λ (t : CommitRecord). IsStaged d path after t) is (rest_staged d path after after.recorded.cursor after.recorded.mark rest)
 
@@ -70,11 +66,9 @@ module _ (d e : DiskState) (f g : Folder) (bytes one : List ℕ) (was : IsOpen d
         omega (arith, keys, was_keys, wait, had, more, now, before);
   }
 
--- without a call, no commit
 pub nothing_left : (d : DiskState) (f : Folder) → IsOpen d f → LeavesOnly d d (RepresentsAlone (path_of f) d (committed_by d f))
 nothing_left d f was = no_call d (RepresentsAlone (path_of f) d (committed_by d f)) (λ c left. record { outside = λ m out named flushed. d.on_disk m named flushed c left; represented = was.staged.represented c left })
 
--- the committed folder is open, and its base is the one held before
 pub committed_open : (d e : DiskState) (f g : Folder) → IsOpen d f → g.names ≡ f.names → g.recorded ≡ f.recorded → g.keys ≡ f.keys → g.waiting ≡ f.waiting → IsAtRest e (path_of f) g.end → g.end.recorded ≡ f.recorded → IsOpen e g
 committed_open d e f g was names recorded keys wait rest is =
     let path : path_of g ≡ path_of f = ap (λ (n : Names). folder_of n) names in

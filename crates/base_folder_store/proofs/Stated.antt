@@ -16,22 +16,18 @@ use Rattle.base_folder_store.specs.{State.IsUsable, State.state_of, declared.fol
 use Rattle.base_folder_store.proofs.Bases.{open_quiet}
 use Rattle.base_store.proofs.Causes.{same_error}
 
--- a look at the disk is one at the store
 pub looks : (d e : DiskState) (keyed : ℕ → ℕ → List ℕ → ℕ) (f : Folder) (h k : Option Filed) → IsUsable d f → ChangesNothing d e → LooksOn (state_of d keyed f h) (state_of e keyed f k)
 looks d e keyed f h k usable quiet = grind (arith, base_quiet, open_quiet)
 
--- the same folder, by its path
 pub same_folder : (d e : DiskState) (keyed : ℕ → ℕ → List ℕ → ℕ) (f g : Folder) (h k : Option Filed) → path_of g ≡ path_of f → IsSameStore (state_of d keyed f h) (state_of e keyed g k)
 same_folder d e keyed f g h k path = grind arith
 
 pub others : (d e : DiskState) (keyed : ℕ → ℕ → List ℕ → ℕ) (f g : Folder) (h k : Option Filed) → KeepsOutside (path_of f) d e → KeepsOthers (state_of d keyed f h) (state_of e keyed g k)
 others d e keyed f g h k kept = record { seen = kept.seen; named = kept.named; flushed = kept.flushed; alone = kept.alone; honest = kept.honest }
 
--- staging commits nothing
 pub stages : (d e : DiskState) (keyed : ℕ → ℕ → List ℕ → ℕ) (f g : Folder) (h k : Option Filed) → path_of g ≡ path_of f → StagesOnly (path_of f) (committed_by d f) d e → CommitsNothing (state_of d keyed f h) (state_of e keyed g k)
 stages d e keyed f g h k path run = grind (arith, weaker_run, others, same_folder)
 
--- the store allows further calls if the folder is still open and its committed base is unchanged
 pub went_on : {T : Type 0} (d e : DiskState) (keyed : ℕ → ℕ → List ℕ → ℕ) (f g : Folder) (h k : Option Filed) (r : Result T StoreError) → StaysOpen f g e r → Honestly e (OnOk r (committed_by e g ≡ committed_by d f))
     → KeepsOutside (path_of f) d e → OnOk r (GoesOn (state_of d keyed f h) (state_of e keyed g k))
 went_on d e keyed f g h k (Ok done) stays same kept = record {
@@ -41,12 +37,10 @@ went_on d e keyed f g h k (Ok done) stays same kept = record {
 }
 went_on d e keyed f g h k (Err failed) stays same kept = tt
 
--- the store allows calls if the folder is still open
 pub usable_after : {T : Type 0} (e : DiskState) (g : Folder) (r : Result T StoreError) → IsNamed g → Honestly e (OnOk r (IsOpen e g)) → OnOk r (IsUsable e g)
 usable_after e g (Ok done) named opened = record { named = named; opened = opened }
 usable_after e g (Err failed) named opened = tt
 
--- the base held before is committed
 pub committed : {T : Type 0} (d e : DiskState) (keyed : ℕ → ℕ → List ℕ → ℕ) (f g : Folder) (h k : Option Filed) (r : Result T StoreError) → StaysOpen f g e r → IsAcknowledged d e f g r → KeepsOutside (path_of f) d e
     → OnOk r (Commits (state_of d keyed f h) (state_of e keyed g k))
 committed d e keyed f g h k (Ok ok) stays done kept = record {
@@ -57,7 +51,6 @@ committed d e keyed f g h k (Ok ok) stays done kept = record {
 }
 committed d e keyed f g h k (Err failed) stays done kept = tt
 
--- the base from before a commit, or the one that was held
 either_represented : (keyed : ℕ → ℕ → List ℕ → ℕ) (path : List ℕ) (first next : Base) (before now : BaseBytes) (c : Files) → HoldsBase keyed before first → HoldsBase keyed now next
     → Represents path before c ⊎ Represents path now c → RepresentsBase keyed path first c ⊎ RepresentsBase keyed path next c
 either_represented keyed path first next before now c was is h10 = grind arith
@@ -66,7 +59,6 @@ pub may_commit : (d e : DiskState) (keyed : ℕ → ℕ → List ℕ → ℕ) (f
     → MayCommit (state_of d keyed f h) (state_of e keyed g k)
 may_commit d e keyed f g h k path run = grind (arith, weaker_run, others, either_represented, same_folder)
 
--- if the folder holds a base, the answer is not damage
 pub not_damaged : {T : Type 0} (P : T → Type 0) (r : Result T StoreError) → Answers P r → IsErrOf r error.Damaged → ⊥
 not_damaged P (Ok value) was is = absurd (cc)
 not_damaged P (Err error.Damaged) was is = was
@@ -74,7 +66,6 @@ not_damaged P (Err error.Memory) was is = absurd (cc)
 not_damaged P (Err error.Device) was is = absurd (cc)
 not_damaged P (Err error.TooMany) was is = absurd (cc)
 
--- why a read of the store failed
 pub read_cause : {T : Type 0} (s t : StoreState) (P : Base → T → Type 0) (before now : ℕ) (r : Result T StoreError) → HasReadCause before now r
     → Honestly t.disk ((base : Base) → s.keeps base → Answers (P base) r) → HasStoreCause s t before now r
 read_cause s t P before now r cause answers = record {
@@ -83,12 +74,10 @@ read_cause s t P before now r cause answers = record {
   damaged = λ honest is base keeps. not_damaged (P base) r (answers honest base keeps) is;
 }
 
--- the answer, if there is one
 pub answered : {T : Type 0} (P : T → Type 0) (r : Result T StoreError) → Answers P r → IfOk r P
 answered P (Ok value) was = was
 answered P (Err e) was = tt
 
--- why a call failed that passes on the error of a read
 pub handed_cause : {T U : Type 0} (s t : StoreState) (P : Base → T → Type 0) (before now : ℕ) (e : StoreError) → HasReadCause {T = T} before now (Err e)
     → Honestly t.disk ((base : Base) → s.keeps base → Answers (P base) (Err e)) → HasStoreCause {T = U} s t before now (Err e)
 handed_cause {T} {U} s t P before now e cause answers = record {
@@ -97,7 +86,6 @@ handed_cause {T} {U} s t P before now e cause answers = record {
   damaged = λ honest is base keeps. not_damaged (P base) (Err e) (answers honest base keeps) (ap (λ (x : StoreError). Err x) (same_error {T = U} (Err e) e error.Damaged refl is));
 }
 
--- a missing message is damage if the folder holds no base
 pub none_there : {T : Type 0} (s : StoreState) (now place count : ℕ) → Honestly s.disk ((base : Base) → s.keeps base → place < length base.messages)
     → Honestly s.disk ((base : Base) → s.keeps base → count ≡ length base.messages) → count ≤ place → HasStoreCause {T = T} s s now now (Err error.Damaged)
 none_there s now place count within many past = record {

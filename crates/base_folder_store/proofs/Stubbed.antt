@@ -13,7 +13,6 @@ use Rattle.base_store.proofs.{Digests.of_key, Recorded.recorded_base_each}
 use Rattle.base_folder_store.specs.{Added.with_stored, Held.HoldsBase, Held.digest_by, Left.changed_in, Left.first_left, Left.left_if}
 use Rattle.base_folder_store.proofs.OneMore.{holds_more}
 
--- whether a number is below another
 pub record IsBelow (b : Bool) (i n : ℕ) : Type 0 where
   pub yes : b ≡ true → i < n
   pub no : b ≡ false → n ≤ i
@@ -24,7 +23,6 @@ is_below i n = record { yes = λ is. ltb-true i n is; no = λ is. ltb-false i n 
 pub at_most_one : (b : Bool) → (if b then 1 else 0) ≤ 1
 at_most_one h1 = grind arith
 
--- the message of a number, which is left so
 left_at : (n : ℕ) (ms : List Filed) (i : ℕ) (d : Filed) (scanned : Bool) → i < length ms → IsBelow scanned i n → get_or (map stub_of (take n ms) ++ drop n ms) i d ≡ left_if scanned (get_or ms i d)
 left_at n [] i d scanned within below = absurd (omega (arith, within))
 left_at zero (m ∷ ms) i d true within below = absurd (omega (arith, below.yes refl))
@@ -34,20 +32,17 @@ left_at (suc n) (m ∷ ms) zero d false within below = absurd (omega (arith, bel
 left_at (suc n) (m ∷ ms) (suc i) d scanned within below =
     left_at n ms i d scanned (omega arith) (record { yes = λ is. let more = below.yes is in omega arith; no = λ is. let less = below.no is in omega arith })
 
--- each message of a base follows the rules of a filed one
 filed_at : (base : List Filed) (i : ℕ) (d : Filed) → i < length base → AllByRecursion IsFiled base → IsFiled (get_or base i d)
 filed_at [] i d within each = absurd (omega (arith, within))
 filed_at (m ∷ base) zero d within each = each.0
 filed_at (m ∷ base) (suc i) d within each = filed_at base i d (omega arith) each.1
 
--- no earlier message has its key
 pub new_at : (earlier base : List Filed) (i : ℕ) (d : Filed) → i < length base → AreNew earlier base → is_known (earlier ++ take i base) (key_of (get_or base i d)) ≡ false
 new_at earlier [] i d within new = absurd (omega (arith, within))
 new_at earlier (m ∷ base) zero d within new = subst (λ (l : List Filed). is_known l (key_of m) ≡ false) (sym (append-nil earlier)) new.0
 new_at earlier (m ∷ base) (suc i) d within new =
     subst (λ (l : List Filed). is_known l (key_of (get_or base i d)) ≡ false) (append_assoc earlier (m ∷ []) (take i base)) (new_at (earlier ++ m ∷ []) base i d (omega arith) new.1)
 
--- a purge leaves as many messages
 as_many : (base : Base) → length (purged base).messages ≡ length base.messages
 as_many base =
     omega (
@@ -58,19 +53,15 @@ as_many base =
       length-drop base.cursor base.messages,
     )
 
--- the number of the first messages
 pub first_many : (base : Base) (place : ℕ) → place < length base.messages → length (first_left base place).messages ≡ place
 first_many base place within = length-take-le place (purged base).messages (omega (arith, as_many base, within))
 
--- a purged message has the same digest
 same_digested : (scanned : Bool) (m : Filed) → digested (left_if scanned m) ≡ digested m
 same_digested h1 m = grind (arith, of_key, stub_keeps_key)
 
--- without messages nothing changes
 pub left_none : (keyed : ℕ → ℕ → List ℕ → ℕ) (old held : BaseBytes) (base : Base) → HoldsBase keyed old base → held ≡ record { messages = []; keys = []; cursor = 0; mark = old.mark } → HoldsBase keyed held (first_left base 0)
 left_none keyed old held base holds is = grind arith
 
--- one message more is left
 pub left_more : (keyed : ℕ → ℕ → List ℕ → ℕ) (old held now : BaseBytes) (base : Base) (place number : ℕ) (d : Filed) (bytes : List ℕ) (scanned : Bool) → HoldsBase keyed old base → held.mark ≡ old.mark → place < length base.messages
     → HoldsBase keyed held (first_left base place) → IsBelow scanned place base.cursor → IsStoredAlone (left_if scanned (get_or base.messages place d)) bytes → number ≡ digest_at old.keys place → now ≡ with_stored held bytes number
     → length now.messages < 2 ^ 64 → HoldsBase keyed now (first_left base (place + 1))
@@ -92,19 +83,16 @@ left_more keyed old held now base place number d bytes scanned holds mark within
     (subst (λ (l : List Filed). HoldsBase keyed (with_stored held bytes number) (record { messages = l; cursor = 0 })) more
     (holds_more keyed held (first_left base place) m bytes number left stored filed new number_is room))
 
--- all are left, under the cursor
 pub left_whole : (keyed : ℕ → ℕ → List ℕ → ℕ) (old held now : BaseBytes) (base : Base) → HoldsBase keyed old base → HoldsBase keyed held (first_left base (length base.messages))
     → now ≡ record { messages = held.messages; keys = held.keys; cursor = old.cursor; mark = held.mark } → HoldsBase keyed now (purged base)
 left_whole keyed old held now base holds left is = grind (arith, take_all, as_many, stubs_keep)
 
--- how many of some messages change
 abbrev changed : List Filed → ℕ
 changed l = count_by (λ m. not (is_stub m)) l
 
 scanned_more : (front : List Filed) (place : ℕ) (d : Filed) (stub : Bool) → place < length front → is_stub (get_or front place d) ≡ stub → changed (take (place + 1) front) ≡ changed (take place front) + (if not stub then 1 else 0)
 scanned_more front place d h4 inside same = grind (arith, count_by_more_no, count_by_more_yes)
 
--- whether one message more changes
 changed_more : (messages : List Filed) (cursor place : ℕ) (d : Filed) (scanned stub : Bool) → place < length messages → IsBelow scanned place cursor → is_stub (get_or messages place d) ≡ stub
     → changed (take (place + 1) (take cursor messages)) ≡ changed (take place (take cursor messages)) + (if scanned && not stub then 1 else 0)
 changed_more messages cursor place d h5 stub within below is = grind (arith, scanned_more, length-take, get_or-take, take_all)

@@ -7,11 +7,9 @@ use Rattle.echo_filed.specs.declared.stored.Version.TheVariants.{Second}
 use Rattle.base_store.specs.Keys.{HasBytesOf, place_at, place_behind}
 use Rattle.base_folder_store.specs.Vouched.{AreBytesAt}
 
--- a test of two numbers decides equality of their values
 pub same_number : (a b x y : ℕ) → a ≡ x → b ≡ y → IsTrue (nat_eq a b) ↔ (x ≡ y)
 same_number a b x y at behind = (λ h. sym at ∙ eqb-true a b h ∙ behind, λ h. eq-eqb a b (at ∙ h ∙ sym behind))
 
--- the bytes between the places of an entry
 pub bytes_at : (file keys bytes : List ℕ) (i begins ends all : ℕ) → length file ≡ all → begins ≡ place_at keys i → ends ≡ place_behind file keys i → begins ≤ ends → ends ≤ all → bytes ≡ drop begins (take ends file)
     → AreBytesAt file keys i bytes
 bytes_at file keys bytes i begins ends all long at behind order within is = record {
@@ -20,6 +18,5 @@ bytes_at file keys bytes i begins ends all long at behind order within is = reco
   is = (λ j. drop (sym at j) (take (sym behind j) file)) ∙ sym is;
 }
 
--- the bytes of a stored message
 pub bytes_there : (file keys bytes : List ℕ) (i : ℕ) (s : Stored) → AreBytesAt file keys i bytes → bytes ≡ stored_bytes Second s → HasBytesOf file keys i s
 bytes_there file keys bytes i s at is = record { begins = at.begins; ends = at.ends; bytes = at.is ∙ is }

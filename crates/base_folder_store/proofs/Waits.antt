@@ -9,15 +9,12 @@ use Rattle.base_folder_store.specs.{Opened.IsWritten, Opened.held_by, Opened.pat
 nothing_more : (b : BaseBytes) → and_keys (and_messages b []) [] ≡ b
 nothing_more b = λ i. record { messages = append-nil b.messages i; keys = append-nil b.keys i; cursor = b.cursor; mark = b.mark }
 
--- if no bytes wait, the folder has exactly the written bytes
 pub written_held : (d : DiskState) (f : Folder) → IsWritten f → held_by d f ≡ base_at d (path_of f) f.recorded
 written_held d f none = (λ i. and_keys (and_messages (base_at d (path_of f) f.recorded) (none.messages i)) (none.keys i)) ∙ nothing_more (base_at d (path_of f) f.recorded)
 
--- the number of bytes written, then waiting
 pub count_across : (file waiting : List ℕ) (written : ℕ) → written ≤ length file → length (take written file ++ waiting) ≡ written + length waiting
 count_across file waiting written room = grind (arith, length-take-le, length-append)
 
--- a part that extends from the written bytes into the waiting ones
 pub part_across : (xs ys : List ℕ) (n begins ends first last from to : ℕ) → length xs ≡ n → begins ≤ ends → first ≡ min begins n → last ≡ min ends n → from ≡ begins - n → to ≡ ends - n
     → drop first (take last xs) ++ drop from (take to ys) ≡ drop begins (take ends (xs ++ ys))
 part_across xs ys n begins ends first last from to long order is_first is_last is_from is_to =

@@ -5,7 +5,6 @@ use Rattle.base_log.specs.{Moments.SameOutside, Standing.BaseBytes, Standing.Rep
 use Rattle.base_file.specs.Base.{Base}
 use Rattle.base_store.specs.Keys.{FolderRepresents}
 
--- The digest under the key in a mark.
 abbrev pub digest_by : (ℕ → ℕ → List ℕ → ℕ) → FolderIdentity → List ℕ → ℕ
 digest_by keyed mark = keyed mark.first mark.second
 
@@ -20,11 +19,11 @@ pub record RepresentsBase (keyed : ℕ → ℕ → List ℕ → ℕ) (path : Lis
   pub represented : Represents path bytes c
   pub holds : HoldsBase keyed bytes base
 
--- The same, and everything outside the folder is unchanged.
+-- The files of the folder represent this base, and everything outside it is unchanged.
 pub record RepresentsBaseAlone (keyed : ℕ → ℕ → List ℕ → ℕ) (path : List ℕ) (old : DiskState) (base : Base) (c : Files) : Type 0 where
   pub outside : SameOutside path old c
   pub represented : RepresentsBase keyed path base c
 
--- The same, or files that a crash might have left before.
+-- They do so, or a crash might have left them before.
 abbrev pub RepresentsBaseOrWasLeft : (ℕ → ℕ → List ℕ → ℕ) → List ℕ → DiskState → Base → Files → Type 0
 RepresentsBaseOrWasLeft keyed path old base c = RepresentsBaseAlone keyed path old base c ⊎ old.may_leave c

@@ -5,7 +5,6 @@ use Rattle.base_log.specs.Standing.{BaseBytes, Represents, and_keys, and_message
 use Rattle.base_log.specs.{Names.AreNames, Names.folder_of, Names.keys_of, Names.messages_of, AtRest.IsStaged, Reading.IsLogIn, Reading.IsRead, declared.log.Log.Log}
 use Rattle.base_folder_store.specs.declared.{folder.Folder.Folder, waiting.Waiting.Waiting}
 
--- The path of the folder.
 abbrev pub path_of : Folder → List ℕ
 path_of folder = folder_of folder.names
 
@@ -17,7 +16,6 @@ and_waiting base waiting = and_keys (and_messages base waiting.messages.items) w
 abbrev pub held_by : DiskState → Folder → BaseBytes
 held_by disk folder = and_waiting (base_at disk (path_of folder) folder.recorded) folder.waiting
 
--- No bytes wait to be written.
 pub record IsWritten (folder : Folder) : Type 0 where
   pub messages : folder.waiting.messages.items ≡ []
   pub keys : folder.waiting.keys.items ≡ []
@@ -31,7 +29,6 @@ pub record IsLegible (disk : DiskState) (folder : Folder) : Type 0 where
   pub keys_long : folder.recorded.keys ≤ length (bytes_in (disk.seen (keys_of (path_of folder) folder.recorded.number)))
   pub keys : folder.keys ≡ folder.recorded.keys + length folder.waiting.keys.items
 
--- The folder has the paths of its files.
 abbrev pub IsNamed : Folder → Type 0
 IsNamed folder = AreNames folder.names folder.recorded.number
 

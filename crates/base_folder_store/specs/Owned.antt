@@ -12,10 +12,8 @@ pub record IsUnclaimed (folder : Folder) : Type 0 where
   pub owner : folder.recorded.mark.owner ≡ 0
   pub keys : folder.keys ≡ 0
 
--- The folder with this mark, which the next commit records.
 abbrev pub with_mark : Folder → FolderIdentity → Folder
 with_mark folder mark = record folder { recorded = record folder.recorded { mark = mark } }
 
--- The folder with another owner and the same key.
 abbrev pub with_owner : Folder → ℕ → Folder
 with_owner folder owner = with_mark folder (record folder.recorded.mark { owner = owner })

@@ -29,7 +29,6 @@ pub record IsVouched (keyed : ℕ → ℕ → List ℕ → ℕ) (bytes : BaseByt
   pub there : IsThere bytes i s
   pub digest : HasDigest keyed bytes i s
 
--- It is this message.
 pub record IsVouchedAs (keyed : ℕ → ℕ → List ℕ → ℕ) (bytes : BaseBytes) (i : ℕ) (m : Filed) : Type 0 where
   pub vouched : IsVouched keyed bytes i
   pub is : message_in Second vouched.s ≡ m
@@ -40,7 +39,6 @@ pub record AreBytesAt (messages keys : List ℕ) (i : ℕ) (bytes : List ℕ) : 
   pub ends : place_behind messages keys i ≤ length messages
   pub is : drop (place_at keys i) (take (place_behind messages keys i) messages) ≡ bytes
 
--- The bytes and the digest of this number.
 pub record IsReadAt (held : BaseBytes) (i : ℕ) (stored : StoredMessage) : Type 0 where
   pub bytes : AreBytesAt held.messages held.keys i stored.bytes.items
   pub digest : stored.digest ≡ digest_at held.keys i

@@ -17,7 +17,6 @@ const RECORD: usize = 50;
 /// The most bytes of messages that wait, without those of the last message.
 const PIECE: usize = 65_536;
 
-// Writes messages and their keys after the staged ones.
 fn stage_both<D: Disk>(
     disk: &mut D,
     names: &Names,
@@ -41,7 +40,6 @@ fn stage_both<D: Disk>(
 }
 
 impl Folder {
-    // The place of the next message, if eight bytes count all bytes after so many more.
     fn next_place(&self, more: usize) -> Option<usize>
         ensures place { IfSome result (λ place. place ≡ self.now.recorded.messages + length self.now.waiting.messages.items) }
         ensures room { IfSome result (λ place. place + more < 2 ^ 64) }
@@ -57,7 +55,6 @@ impl Folder {
         Some(place)
     }
 
-    // Adds a message, as it is stored, and its entry, to the ones that wait.
     fn add(&mut self, bytes: &[u8], digest: u64) -> Result<(), StoreError>
         ensures names { self.new.names ≡ self.old.names }
         ensures end { self.new.end ≡ self.old.end }
@@ -79,7 +76,6 @@ impl Folder {
         Ok(())
     }
 
-    // Writes the waiting messages.
     fn write_out<D: Disk>(&mut self, disk: &mut D) -> Result<(), StoreError>
         requires { IsUsable (D.state disk.old) self.old }
         ensures stays { StaysOpen self.old self.new (D.state disk.new) result }
@@ -135,7 +131,6 @@ impl Folder {
         self.recorded.cursor = self.count() as u64;
     }
 
-    // Writes the record of its contents, all of which are written.
     fn tell<D: Disk>(&mut self, disk: &mut D) -> Result<(), StoreError>
         requires usable { IsUsable (D.state disk.old) self.old }
         requires written { IsWritten self.old }
@@ -155,7 +150,6 @@ impl Folder {
         Ok(())
     }
 
-    // Writes the waiting messages, and the record of the contents.
     fn acknowledge<D: Disk>(&mut self, disk: &mut D) -> Result<(), StoreError>
         requires { IsUsable (D.state disk.old) self.old }
         ensures stays { StaysOpen self.old self.new (D.state disk.new) result }
@@ -171,7 +165,6 @@ impl Folder {
         self.tell(disk)
     }
 
-    // Removes the files of a number that no longer counts.
     fn remove_former<D: Disk>(&self, disk: &mut D, former: u8) -> Result<(), StoreError>
         requires { Honestly (D.state disk.old) (IsAtRest (D.state disk.old) (path_of self.now) self.now.end) }
         ensures settled { Honestly (D.state disk.new) (OnOk result (IsAtRest (D.state disk.new) (path_of self.now) self.now.end)) }
@@ -198,7 +191,6 @@ impl Folder {
         ensures stays { StaysOpen self.old self.new (D.state disk.new) result }
         ensures done { IsAcknowledged (D.state disk.old) (D.state disk.new) self.old self.new result }
 
-        // The files that held it before are gone, if others hold it now.
         ensures gone { Honestly (D.state disk.new) (OnOk result (self.old.end.recorded.number < 10 → self.old.end.recorded.number ≢ self.new.end.recorded.number
             → AreGone (D.state disk.new) (path_of self.old) self.old.end.recorded.number)) }
         ensures run { CommitsOnly (path_of self.old) (committed_by (D.state disk.old) self.old) (held_by (D.state disk.old) self.old) (D.state disk.old) (D.state disk.new) }

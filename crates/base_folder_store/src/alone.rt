@@ -31,7 +31,6 @@ fn is_filed(message: &Filed)
     let _sender = message.sender;
 }
 
-// The bytes of the message, short or not, which are few enough.
 fn write_whole(alloc: Global, message: &Filed, short: bool) -> Result<Vec<u8>, StoreError>
     ensures bytes { IfOk result (λ bytes. bytes.items ≡ stored_bytes Second (stored_as short message.now)) }
     ensures room { IfOk result (λ _. is_short_enough (stored_as short message.now) ≡ true) }

@@ -16,7 +16,6 @@ use std::alloc::Global;
 const PIECE: usize = 4_096;
 
 impl Folder {
-    // Takes the entries of the messages from one number up to another into the index.
     fn take_in<D: Disk>(
         &self,
         alloc: Global,
@@ -43,7 +42,6 @@ impl Folder {
         Ok(())
     }
 
-    // Goes over the keys that the index lacks for a look-up of the digest, piece by piece.
     fn go_over<D: Disk>(
         &self,
         alloc: Global,
@@ -72,7 +70,6 @@ impl Folder {
         Ok(())
     }
 
-    // Whether a message is the sought one, with an index that covers the folder's keys for the digest.
     fn find_covered<D: Disk, W: Sought>(
         &self,
         alloc: Global,

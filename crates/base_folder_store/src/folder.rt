@@ -1,4 +1,3 @@
-//! An open base folder: the facts known of its files.
 ghost use Rattle.std.specs.Prelude.{◌≡◌, ◌/◌, IfOk};
 ghost use Rattle.disk_io.specs.{Disk.Honestly, Runs.HasCause, Runs.LeavesOnly};
 ghost use Rattle.base_log.specs.{Moments.KeepsOutside, Opening.AreAlone, Opening.RepresentsOrWasLeft, Standing.base_at};
@@ -12,8 +11,7 @@ use std::alloc::Global;
 /// How many bytes of the keys belong to one message.
 pub(crate) const ENTRY: usize = 16;
 
-/// The facts known of the files of a base folder: the end of its log, the record that a commit would write, the size of
-/// the keys, and the messages that wait to be written.
+/// What is known of the files: the log's end, the record of a next commit, the size of the keys, the waiting messages.
 #[derive(Drop)]
 pub struct Folder {
     pub(crate) names: Names,
@@ -40,7 +38,6 @@ impl Folder {
         ensures end { IfOk result (λ folder. folder.end ≡ log.now.end) }
         ensures found { Honestly (D.state disk.new) (IfOk result (λ folder. held_by (D.state disk.new) folder ≡ base_at (D.state disk.old) path.now log.now.end.recorded)) }
 
-        // A crash at any time leaves the same base and all else as it was, or what a crash might have left before.
         ensures any_moment { Honestly (D.state disk.new) (LeavesOnly (D.state disk.old) (D.state disk.new)
             (RepresentsOrWasLeft path.now (D.state disk.old) (base_at (D.state disk.old) path.now log.now.end.recorded))) }
         ensures outside { KeepsOutside path.now (D.state disk.old) (D.state disk.new) }
@@ -58,7 +55,6 @@ impl Folder {
         })
     }
 
-    /// How many messages it has.
     pub fn count(&self) -> usize
         ensures { result ≡ self.now.keys / 16 }
     {

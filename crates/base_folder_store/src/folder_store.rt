@@ -1,4 +1,3 @@
-//! A base folder, as a store.
 ghost use Rattle.std.specs.Prelude.{◌≡◌, true, false};
 ghost use Rattle.disk_io.specs.Disk.{Honestly};
 ghost use Rattle.base_file.specs.Base.{Base};
@@ -17,10 +16,9 @@ use echo_filed::{Filed, Key};
 use std::alloc::Global;
 use std::marker::PhantomData;
 
-/// A base folder on a disk. After a call that failed in the middle of a change, open it again.
-///
-/// Look-ups of expected messages take one pass over its keys, piece by piece. Of the others, the first ones of a run
-/// each take a pass, and the rest use an index in memory. One read serves many messages that are fetched in order.
+/// A base folder on a disk. After a call that failed in the middle of a change, open it again. Expected messages are
+/// looked up in one pass over the keys. Of the others, the first ones take a pass each, and the rest use an index in
+/// memory. One read serves many messages that are fetched in order.
 #[derive(Drop)]
 pub struct FolderStore<D: Disk, H: Digest> {
     alloc: Global,
@@ -29,7 +27,6 @@ pub struct FolderStore<D: Disk, H: Digest> {
     folder: Folder,
     index: Index,
     buffers: Buffers,
-    // The current message.
     message: Option<Filed>,
     digests: PhantomData<H>,
 }
@@ -87,8 +84,8 @@ impl<D: Disk, H: Digest> FolderStore<D, H> {
         self.folder.claim(mark)
     }
 
-    /// The messages with these keys will be looked up. Answers are the same whether they are or not. If memory is
-    /// refused, some are not expected.
+    /// These keys will be looked up. Answers are the same without this call. If memory is refused, some are not
+    /// expected.
     pub fn expect(&mut self, keys: &[Key])
         requires { (⟦<FolderStore<D, H> as Store>⟧.state self.old).is_ready }
         ensures looks { LooksOn (⟦<FolderStore<D, H> as Store>⟧.state self.old) (⟦<FolderStore<D, H> as Store>⟧.state self.new) }
@@ -100,7 +97,6 @@ impl<D: Disk, H: Digest> FolderStore<D, H> {
         }
     }
 
-    // The message with this key is one of them.
     fn expect_one(&mut self, key: &Key)
         requires { (⟦<FolderStore<D, H> as Store>⟧.state self.old).is_ready }
         ensures looks { LooksOn (⟦<FolderStore<D, H> as Store>⟧.state self.old) (⟦<FolderStore<D, H> as Store>⟧.state self.new) }

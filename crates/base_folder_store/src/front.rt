@@ -9,12 +9,10 @@ use echo_text::{is_kept_tag, split_line, trimmed};
 /// How many bytes come before the names.
 const FRONT: usize = 27;
 
-// What an AREA line and a MSGID line begin with.
 const AREA: &[u8] = b"AREA:";
 
 const MSGID: &[u8] = b"\x01MSGID:";
 
-// The bytes after a string. Its length precedes it.
 fn behind_string(bytes: &[u8]) -> Option<&[u8]>
     ensures { (string rest : List ℕ) → bytes.now ≡ after_length string ++ rest → IfSome result (λ found. found.now ≡ rest) }
 {
@@ -28,7 +26,6 @@ fn behind_string(bytes: &[u8]) -> Option<&[u8]>
     Some(&bytes[end..])
 }
 
-// The bytes after the names and the subject.
 fn behind_strings(bytes: &[u8]) -> Option<&[u8]>
     ensures { (to_name from_name subject rest : List ℕ) → bytes.now ≡ after_length to_name ++ (after_length from_name ++ (after_length subject ++ rest))
         → IfSome result (λ found. found.now ≡ rest) }
@@ -52,7 +49,6 @@ pub(crate) fn text_in(bytes: &[u8]) -> Option<&[u8]>
     Some(&last[4..])
 }
 
-// Whether the line is the AREA line that is written for the tag.
 fn is_area_line(line: &[u8], tag: &[u8]) -> bool
     ensures { IsTrue result → area_tag line.now ≡ tag.now }
 {
@@ -62,7 +58,6 @@ fn is_area_line(line: &[u8], tag: &[u8]) -> bool
     &line[..5] == AREA && &line[5..] == tag
 }
 
-// Whether the first of the lines is a MSGID line with this id.
 fn begins_with_id(rest: &[u8], msgid: &[u8]) -> bool
     ensures { IsTrue result → msgid_of (kept_of (lines rest.now)) ≡ Some msgid.now }
 {

@@ -1,4 +1,3 @@
-//! What a purge leaves of one message.
 ghost use Rattle.std.specs.Prelude.{◌≡◌, not, false, true, IfOk, IsErrOf, IsTrue, OnOk};
 ghost use Rattle.echo_filed.specs.{Stored.IsStored, Stored.Stored, Stored.stored_bytes, declared.stored.Version.TheVariants.Second, Stubs.is_stub, Stubs.stub_of};
 ghost use Rattle.echo_filed.specs.Filed.{Filed as TheMessage};
@@ -18,7 +17,6 @@ pub(crate) struct Left {
     pub(crate) changed: bool,
 }
 
-// Makes the message its stub, and returns whether that changed it.
 fn make_stub(alloc: Global, message: &mut Filed) -> Result<bool, AllocError>
     ensures left { OnOk result (message.new ≡ stub_of message.old) }
     ensures changed { IfOk result (λ changed. changed ≡ not (is_stub message.old)) }
@@ -31,7 +29,6 @@ fn make_stub(alloc: Global, message: &mut Filed) -> Result<bool, AllocError>
     Ok(true)
 }
 
-// What a purge leaves of a stored message that was scanned.
 fn stub_in(alloc: Global, bytes: &[u8]) -> Result<Left, StoreError>
     ensures left { (s : Stored) → IsStored Second s → MayStandAlone s → bytes.now ≡ stored_bytes Second s
         → Answers (IsLeftOf true s) result }

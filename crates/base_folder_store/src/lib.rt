@@ -1,13 +1,6 @@
-//! A base folder as a store: a command reads and writes only what it handles.
-//!
-//! Promise: `FolderStore` meets the traits of `base_store`. A message is found exactly if one has the key, whatever the
-//! digests are. A crash leaves the base that was committed before, or the one held.
-//!
-//! Begin with `folder` (it is opened), `reading` (a message is read by its number) and `folder_store` (all of this as a
-//! store). `read_ahead` has buffers, so that one call reads many messages. `alone` reads and makes one message by itself, and `front` its first lines. `sought` and `finding` look
-//! messages up by digests. `waiting` holds messages not written yet, and `adding` adds and commits. `owning` has the
-//! folder's owner. `leaving` and `purging` replace a base by the rest that a purge leaves. `laws` has what holds of the
-//! definitions.
+//! A base folder as a store: a command reads and writes only what it handles. A message is found exactly if one has
+//! the key, whatever the digests are. A crash leaves the base that was committed before, or the one held. Begin with
+//! `folder`, `reading` and `folder_store`.
 #![tactic(auto)]
 
 mod adding;

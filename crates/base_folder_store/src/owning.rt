@@ -10,7 +10,6 @@ use echo_filed::Key;
 use std::alloc::{AllocError, Global};
 
 impl Folder {
-    /// Its owner; none if it has no owner.
     pub fn owner(&self) -> Option<u64>
         ensures { result ≡ owner_of self.now.recorded.mark }
     {
@@ -53,7 +52,6 @@ impl Folder {
         digest_of_key(alloc, &H::keyed(mark.first, mark.second), key)
     }
 
-    /// The digest of these bytes, by the folder's key.
     pub(crate) fn digest<H: Digest>(&self, bytes: &[u8]) -> u64
         ensures { result ≡ digest_by H.keyed self.now.recorded.mark bytes.now }
     {

@@ -17,7 +17,6 @@ use base_store::StoreError;
 use disk_io::Disk;
 use std::alloc::Global;
 
-// The number of the new files, made while those of this number exist.
 fn other_number(number: u8) -> u8
     ensures digit { result < 10 }
     ensures other { result ≢ number }
@@ -25,7 +24,6 @@ fn other_number(number: u8) -> u8
     if number == 0 { 1 } else { 0 }
 }
 
-// One if this holds.
 fn one_if(so: bool) -> u64
     ensures { result ≡ (if so then 1 else 0) }
 {
@@ -40,7 +38,6 @@ fn is_counted(number: usize)
 }
 
 impl Folder {
-    // The folder with no message, in files of another number.
     fn anew<D: Disk>(&self, alloc: Global, disk: &mut D) -> Result<Folder, StoreError>
         requires settled { Honestly (D.state disk.old) (IsAtRest (D.state disk.old) (path_of self.now) self.now.end) }
         requires readable { Honestly (D.state disk.old) (IsReadable (D.state disk.old) self.now) }
@@ -65,7 +62,6 @@ impl Folder {
         })
     }
 
-    // Stages what a purge leaves of the message of this number, and returns whether that changed it.
     fn leave_next<D: Disk>(
         &self,
         alloc: Global,
@@ -114,7 +110,6 @@ impl Folder {
         }
     }
 
-    // Stages what a purge leaves of each message, and returns how many changed.
     fn leave_all<D: Disk>(
         &self,
         alloc: Global,
@@ -139,8 +134,7 @@ impl Folder {
     }
 
     /// Commits its contents, and then purges: a scanned message with an id keeps only the id of its text. Returns how
-    /// many messages changed. The purge itself stays once it is committed. After an error only the effects of a crash
-    /// are known: open the folder again.
+    /// many changed. The next commit keeps the purge. After an error open the folder again.
     pub fn purge<D: Disk>(&mut self, alloc: Global, disk: &mut D) -> Result<u64, StoreError>
         requires { IsUsable (D.state disk.old) self.old }
         ensures stays { StaysOpen self.old self.new (D.state disk.new) result }

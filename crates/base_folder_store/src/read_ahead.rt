@@ -1,4 +1,3 @@
-//! A part of a file in memory: one call reads many messages that follow one another.
 ghost use Rattle.std.specs.Prelude.{◌≡◌, ◌≤◌, ◌-◌, ◌++◌, true, false, ℕ, List, length, take, drop, IfSome, IsSome, OnOk};
 ghost use Rattle.disk_io.specs.{Disk.Honestly, Disk.bytes_in, Runs.ChangesNothing, Runs.HasCause};
 ghost use Rattle.base_folder_store.specs.Ahead.{AreParts, Covers, IsPartOf};
@@ -18,7 +17,6 @@ pub struct ReadAhead {
 }
 
 impl ReadAhead {
-    /// No bytes.
     pub fn new(alloc: Global) -> ReadAhead
         ensures { (file : List ℕ) → IsPartOf file result }
     {
@@ -28,7 +26,6 @@ impl ReadAhead {
         }
     }
 
-    // Whether it has the bytes between two places.
     fn has(&self, begins: usize, ends: usize) -> bool
         requires { begins ≤ ends }
         ensures yes { result ≡ true → Covers self.now begins ends }
@@ -96,7 +93,6 @@ pub struct Buffers {
 }
 
 impl Buffers {
-    /// No bytes.
     pub(crate) fn new(alloc: Global) -> Buffers
         ensures { (messages keys : List ℕ) → AreParts messages keys result }
     {

@@ -15,7 +15,6 @@ use disk_io::{Disk, DiskError, read_part};
 use echo_filed::Filed;
 use std::alloc::Global;
 
-// The bytes between two places of a file, of which the last ones wait to be written.
 fn read_across<D: Disk>(
     alloc: Global,
     disk: &mut D,
@@ -67,7 +66,6 @@ pub fn bounds_of(entries: &[u8], place: usize, all: usize) -> Option<Bounds>
     Some(Bounds { begins, ends })
 }
 
-// The bytes of the message with this entry, before the next one's entry. Some messages wait to be written.
 fn stored_at<D: Disk>(
     alloc: Global,
     disk: &mut D,
@@ -96,7 +94,6 @@ fn stored_at<D: Disk>(
     Ok(bytes)
 }
 
-/// A message as it is stored, and the digest in its entry.
 #[derive(Drop)]
 pub(crate) struct StoredMessage {
     pub(crate) bytes: Vec<u8>,
@@ -104,7 +101,6 @@ pub(crate) struct StoredMessage {
 }
 
 impl Folder {
-    // The entries of the messages from one number up to another.
     pub(crate) fn read_keys<D: Disk>(
         &self,
         alloc: Global,
@@ -137,7 +133,6 @@ impl Folder {
         Ok(piece)
     }
 
-    // The number behind the message of this number and the next one, if there is one.
     fn behind_two(&self, place: usize) -> usize
         requires { place < self.now.keys / 16 }
         ensures { result ≡ place + min 2 (self.now.keys / 16 - place) }
@@ -145,8 +140,7 @@ impl Folder {
         place + (self.count() - place).min(2)
     }
 
-    // The entry of the message of this number, and the next one if there is one. They are read only if the index lacks
-    // them.
+    // The entry of this message, and the next one if there is one. They are read only if the index lacks them.
     pub(crate) fn entry_at<D: Disk>(
         &self,
         alloc: Global,
@@ -175,7 +169,6 @@ impl Folder {
         }
     }
 
-    // The bytes of the message with this entry.
     pub(crate) fn stored_by<D: Disk>(
         &self,
         alloc: Global,
@@ -203,7 +196,6 @@ impl Folder {
         )
     }
 
-    // The bytes of the message of this number, counted from 0, and its digest. Its entry may come from an index.
     pub(crate) fn stored<D: Disk>(
         &self,
         alloc: Global,
@@ -229,7 +221,6 @@ impl Folder {
         Ok(StoredMessage { bytes, digest })
     }
 
-    // The message with this entry. It is read ahead unless it waits to be written.
     fn read_by<D: Disk>(
         &self,
         alloc: Global,

@@ -1,4 +1,3 @@
-//! Which message of a base folder is sought.
 ghost use Rattle.std.specs.Prelude.{◌≡◌, Bool, true, IfOk, IsErrOf, IsTrue};
 ghost use Rattle.echo_filed.specs.Filed.{Filed, has_id, key_of, same_key};
 ghost use Rattle.base_file.specs.Alone.{IsStoredAlone};

@@ -65,7 +65,6 @@ impl Folder {
         }
     }
 
-    // Whether the message has this digest.
     fn has_digest<H: Digest>(
         &self,
         alloc: Global,

@@ -1,4 +1,3 @@
-//! Messages that are staged and not written yet.
 ghost use Rattle.std.specs.Prelude.{◌≡◌, ◌++◌, [], OnOk};
 
 use std::alloc::{AllocError, Global};
@@ -11,7 +10,6 @@ pub struct Waiting {
 }
 
 impl Waiting {
-    /// Nothing.
     pub(crate) fn new(alloc: Global) -> Waiting
         ensures messages { result.messages.items ≡ [] }
         ensures keys { result.keys.items ≡ [] }
@@ -22,7 +20,6 @@ impl Waiting {
         }
     }
 
-    /// A message more, and its entry.
     pub(crate) fn add(&mut self, bytes: &[u8], entry: &[u8]) -> Result<(), AllocError>
         ensures messages { OnOk result (self.new.messages.items ≡ self.old.messages.items ++ bytes.now) }
         ensures keys { OnOk result (self.new.keys.items ≡ self.old.keys.items ++ entry.now) }
@@ -32,7 +29,6 @@ impl Waiting {
         Ok(())
     }
 
-    /// Nothing waits any more.
     pub(crate) fn clear(&mut self)
         ensures messages { self.new.messages.items ≡ [] }
         ensures keys { self.new.keys.items ≡ [] }

@@ -31,7 +31,6 @@ represented_quiet d0 d1 path base quiet represented = grind arith
 pub was_left : (d0 d1 : DiskState) (path : List ℕ) (base : BaseBytes) → ChangesNothing d0 d1 → LeavesOnly d0 d1 (RepresentsOrWasLeft path d0 base)
 was_left d0 d1 path base quiet = weaker_run d0 d1 d0.may_leave (RepresentsOrWasLeft path d0 base) quiet.run (λ c left. inr left)
 
--- a base with unchanged surroundings, seen from a later state, is one from the first state
 pub alone_since : (d0 d1 : DiskState) (path : List ℕ) (base : BaseBytes) (c : Files) → KeepsOutside path d0 d1 → RepresentsAlone path d1 base c → RepresentsAlone path d0 base c
 alone_since d0 d1 path base c kept alone = grind arith
 
@@ -40,7 +39,6 @@ pub chained_alone : (d0 d1 d2 : DiskState) (path : List ℕ) (base : BaseBytes) 
 chained_alone d0 d1 d2 path base first kept second =
     then_run d0 d1 d2 (RepresentsOrWasLeft path d0 base) (RepresentsAlone path d1 base) first second (λ c alone. inl (alone_since d0 d1 path base c kept alone))
 
--- a quiet call, then a run
 pub chained_quiet : (d0 d1 d2 : DiskState) (path : List ℕ) (base : BaseBytes) → ChangesNothing d0 d1 → KeepsOutside path d0 d1
     → LeavesOnly d1 d2 (RepresentsOrWasLeft path d1 base) → LeavesOnly d0 d2 (RepresentsOrWasLeft path d0 base)
 chained_quiet d0 d1 d2 path base quiet kept second = grind (arith, then_run, was_left, ⊎_elim, alone_since)
@@ -51,7 +49,6 @@ making_short : (before after : Option (List ℕ)) → TornMaking before after �
 making_short before after h1 h2 = grind arith
 
 module _ (d0 d1 : DiskState) (path : List ℕ) (base : BaseBytes) (quiet : ChangesNothing d0 d1) (named : AreNamed path d0) (new : IsNew path d0.seen) (represented : Represents path base d0.seen) (all : AreFlushed path d1) where
-  -- the folder is new, and nothing outside it has changed
   record NewAlone (c : Files) : Type 0 where
     outside : SameOutside path d0 c
     is : IsNew path c
@@ -62,7 +59,6 @@ module _ (d0 d1 : DiskState) (path : List ℕ) (base : BaseBytes) (quiet : Chang
   new_first : LeavesOnly d1 d1 NewAlone
   new_first = grind (arith, no_call, as_seen, log_in, messages_in, keys_in)
 
-  -- the log changes, and still has at most one byte
   new_changed : (a c : Files) → NewAlone a → ((m : List ℕ) → m ≢ log_of path → c m ≡ a m) → length (bytes_in (c (log_of path))) ≤ 1 → NewAlone c
   new_changed a c was same short = record {
     outside = λ m out is flushed. same m (outside_log path m out) ∙ was.outside m out is flushed;
@@ -95,7 +91,6 @@ module _ (d0 d1 : DiskState) (path : List ℕ) (base : BaseBytes) (quiet : Chang
     pub named_run : (d3 : DiskState) → ChangesNothing d2 d3 → LeavesOnly d0 d3 (RepresentsOrWasLeft path d0 base)
     named_run d3 quiet3 = then_nothing d0 d2 d3 (RepresentsOrWasLeft path d0 base) made_run quiet3
 
-    -- the first gate is written, which may be torn
     pub gate_run : (d3 d4 : DiskState) → ChangesNothing d2 d3 → d3.is_named (log_of path) → LeavesOnly d3 d4 (OneStepOn (ChangesFile d3 (log_of path) (TornWrite 0 1)) d3) → LeavesOnly d0 d4 (RepresentsOrWasLeft path d0 base)
     gate_run d3 d4 quiet3 is_named more =
         let run = then_nothing d1 d2 d3 NewAlone made quiet3 in
@@ -109,7 +104,6 @@ module _ (d0 d1 : DiskState) (path : List ℕ) (base : BaseBytes) (quiet : Chang
 -- ---- the two files of a folder with an empty log
 
 module _ (d0 : DiskState) (path : List ℕ) (on : IsOnDisk d0 (log_of path)) where
-  -- the log is unchanged, and so is everything outside the folder
   pub record LogAlone (c : Files) : Type 0 where
     pub log : c (log_of path) ≡ d0.seen (log_of path)
     pub outside : SameOutside path d0 c

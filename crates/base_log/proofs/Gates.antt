@@ -16,11 +16,9 @@ use Rattle.base_log.proofs.Same.{AreThere-both, RecordsBase-seen, log_changed}
 pub recorded_by-body_of : (recorded : CommitRecord) → FitsRecord recorded → recorded_by (body_of recorded) ≡ recorded
 recorded_by-body_of recorded fits = grind (arith, from_le_bytes-to_le_bytes_8)
 
--- a path outside the folder is not the path of its log
 pub outside_log : (path m : List ℕ) → (IsIn path m → ⊥) → m ≢ log_of path
 outside_log path m out is = out (subst (λ (l : List ℕ). IsIn path l) (sym is) (log_in path))
 
--- an open record with a closed gate behind it is one record more
 record_behind : (bodies : List (List ℕ)) (body left : List ℕ) → opened bodies ++ 1 ∷ ((body ++ 0 ∷ []) ++ left) ≡ opened (bodies ++ body ∷ []) ++ 0 ∷ left
 record_behind bodies body left = ap (λ (l : List ℕ). opened bodies ++ 1 ∷ l) (append_assoc body (0 ∷ []) left) ∙ sym (opened-snoc bodies body (0 ∷ left))
 
@@ -40,7 +38,6 @@ module _ (d0 : DiskState) (path : List ℕ) (end : End) (recorded : CommitRecord
   abbrev pub P : Files → Type 0
   P = IsBeforeOrAfter path d0 first next
 
-  -- the base before, while the log still has its closed gate
   before_log : (a c : Files) (gate : ℕ) (rest : List ℕ) → Represents path first a → ((m : List ℕ) → m ≢ log_of path → c m ≡ a m) → (old : List ℕ) → bytes_in (a (log_of path)) ≡ opened bodies ++ closed ∷ old
       → gate ≢ 1 → bytes_in (c (log_of path)) ≡ opened bodies ++ gate ∷ rest → Represents path first c
   before_log a c gate rest represented same old was shut now =
@@ -66,7 +63,6 @@ module _ (d0 : DiskState) (path : List ℕ) (end : End) (recorded : CommitRecord
     pub messages_same : d.seen (messages_of path recorded.number) ≡ d0.seen (messages_of path recorded.number)
     pub keys_same : d.seen (keys_of path recorded.number) ≡ d0.seen (keys_of path recorded.number)
 
-  -- after the two syncs
   pub ready : (d1 d2 : DiskState) → ChangesNothing d0 d1 → ChangesNothing d1 d2 → d1.is_flushed (messages_of path recorded.number) → d2.is_flushed (keys_of path recorded.number) → Ready d2 staged.log.rest
   ready d1 d2 quiet1 quiet2 m_flushed k_flushed =
       let quiet = nothing_twice d0 d1 d2 quiet1 quiet2 in

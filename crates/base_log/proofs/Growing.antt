@@ -15,7 +15,6 @@ use Rattle.base_log.proofs.{Keeping.log_moved, Keeping.on_disk_kept, Calls.Wrote
 
 -- ---- bytes
 
--- a torn write behind the front leaves it
 front_torn : (front : List ℕ) (at n : ℕ) (old new : Option (List ℕ)) → length front ≤ at → IsFrontOf front (bytes_in old) → TornWrite at n old new → IsFrontOf front (bytes_in new)
 front_torn front at n old new le is torn =
     let k = min at (length (bytes_in old)) in
@@ -68,7 +67,6 @@ file_behind : (d : DiskState) (path : List ℕ) (end : End) (recorded : CommitRe
 file_behind d path end recorded file.Messages staged = staged.messages_behind
 file_behind d path end recorded file.Keys staged = staged.keys_behind
 
--- the bytes of a base in the file
 abbrev part : BaseBytes → GrowingFile → List ℕ
 part base file.Messages = base.messages
 part base file.Keys = base.keys
@@ -86,7 +84,6 @@ AreThere-kept : (path : List ℕ) (bodies : List (List ℕ)) (a c : Files) → (
 AreThere-kept path [] a c kept was = tt
 AreThere-kept path (body ∷ bodies) a c kept was = (kept file.Messages was.0, kept file.Keys was.1)
 
--- a file of a number is the other one of another number, or its path differs
 by_file : (P : ℕ → GrowingFile → Type 0) (path : List ℕ) (k n : ℕ) (g f : GrowingFile) → (k ≡ n → P n f) → (file_of path k g ≢ file_of path n f → P k g) → P k g
 by_file P path k n file.Messages file.Messages same other = elim (cases_eq k n) [
   | inl is ↦ subst (λ (j : ℕ). P j file.Messages) (sym is) (same is)
@@ -99,7 +96,6 @@ by_file P path k n file.Keys file.Keys same other = elim (cases_eq k n) [
   | inr ne ↦ other (λ e. ne (keys_of-injective path k n e))
 ]
 
--- the record counts more bytes of the file, and as many of the other one
 by_count : (P : GrowingFile → ℕ → Type 0) (path : List ℕ) (recorded : CommitRecord) (f : GrowingFile) (n : ℕ) (g : GrowingFile) → P f (counted recorded f + n)
     → (file_of path recorded.number g ≢ file_of path recorded.number f → P g (counted recorded g)) → P g (counted (with_more recorded f n) g)
 by_count P path recorded f n g h1 h2 = grind (arith, keys_not_messages, messages_not_keys)
@@ -118,7 +114,6 @@ more_bytes d0 d path recorded file.Keys bytes same grown =
     let other = same (messages_of path recorded.number) (messages_not_keys path recorded.number recorded.number) in
     λ i. record { messages = take recorded.messages (bytes_in (other i)); keys = grown i; cursor = recorded.cursor; mark = recorded.mark }
 
--- a change of another file of the folder keeps the log
 log_kept : (d e : DiskState) (path file : List ℕ) (end : End) → log_of path ≢ file → KeepsOthers d e file → IsLogAt d path end → IsLogAt e path end
 log_kept d e path file end ne kept was =
     log_moved d e path end was (kept.seen (log_of path) ne) (on_disk_kept d e (log_of path) file kept ne was.on_disk) (λ m inside. kept.named m (was.named m inside))
@@ -132,7 +127,6 @@ module _ (d0 d : DiskState) (path : List ℕ) (end : End) (recorded : CommitReco
   abbrev at : List ℕ
   at = file_of path recorded.number f
 
-  -- files that differ only in this one, which has the same front
   stand : (a c : Files) → Represents path now a → a (log_of path) ≡ d0.seen (log_of path) → ((m : List ℕ) → m ≢ at → c m ≡ a m) → (IsSome (a at) → IsSome (c at))
       → (length (part now f) ≤ counted recorded f → IsFrontOf (part now f) (bytes_in (a at)) → IsFrontOf (part now f) (bytes_in (c at))) → Represents path now c
   stand a c was a_is same there front =

@@ -4,7 +4,6 @@ use Rattle.std.specs.Prelude.{IsSome}
 use Rattle.disk_io.specs.{Disk.DiskState, Disk.IsIn, Runs.ChangesNothing, Synced.IsOnDisk, Synced.KeepsOthers}
 use Rattle.base_log.specs.{Names.log_of, AtRest.IsLogAt, Moments.KeepsOutside, Opening.AreNamed, Opening.KeepsButOne, declared.log.End.End}
 
--- a call without a change keeps all other files
 pub but_one_quiet : (d e : DiskState) (file : List ℕ) → ChangesNothing d e → KeepsButOne d e file
 but_one_quiet d e file quiet = grind arith
 
@@ -14,7 +13,6 @@ but_one_twice d e f file one two = grind arith
 but_one_others : (d e : DiskState) (file : List ℕ) → KeepsOthers d e file → KeepsButOne d e file
 but_one_others d e file kept = record { seen = kept.seen; named = λ m ne. kept.named m; flushed = kept.flushed; alone = λ m ne. kept.alone m; honest = kept.honest }
 
--- a change of one file of the folder leaves everything outside unchanged
 pub outside_but_one : (path : List ℕ) (d e : DiskState) (file : List ℕ) → IsIn path file → KeepsButOne d e file → KeepsOutside path d e
 outside_but_one path d e file inside kept = grind arith
 
@@ -27,7 +25,6 @@ outside_quiet path d e quiet = grind arith
 pub outside_twice : (path : List ℕ) (d e f : DiskState) → KeepsOutside path d e → KeepsOutside path e f → KeepsOutside path d f
 outside_twice path d e f one two = grind arith
 
--- a file with its bytes on the disk, and its path
 pub settled_on : (d e : DiskState) (file : List ℕ) → ChangesNothing d e → IsSome (d.seen file) → d.is_named file → d.is_alone file → e.is_flushed file → IsOnDisk e file
 settled_on d e file quiet there named alone flushed = grind arith
 
@@ -40,6 +37,5 @@ on_disk_but_one d e file other kept ne on = grind arith
 pub on_disk_kept : (d e : DiskState) (file other : List ℕ) → KeepsOthers d e other → file ≢ other → IsOnDisk d file → IsOnDisk e file
 on_disk_kept d e file other kept ne on = on_disk_but_one d e file other (but_one_others d e other kept) ne on
 
--- the log is as it was, after other files were made
 pub log_moved : (d e : DiskState) (path : List ℕ) (end : End) → IsLogAt d path end → e.seen (log_of path) ≡ d.seen (log_of path) → IsOnDisk e (log_of path) → AreNamed path e → IsLogAt e path end
 log_moved d e path end was same on named = grind arith

@@ -11,7 +11,6 @@ left_start path d = no_call d (OneStepOn (SameNamedOutside path d) d) (λ c left
 pub left_quiet : (path : List ℕ) (d e : DiskState) → ChangesNothing d e → LeavesOutside path d e
 left_quiet path d e quiet = weaker_run d e d.may_leave (OneStepOn (SameNamedOutside path d) d) quiet.run (λ c left. (c, left, λ m out named. refl))
 
--- a file of the folder changes
 module _ (path file : List ℕ) (d e : DiskState) (step : Option (List ℕ) → Option (List ℕ) → Type 0) (inside : IsIn path file) where
   other : (m : List ℕ) → (IsIn path m → ⊥) → m ≢ file
   other m out is = out (subst (λ (l : List ℕ). IsIn path l) (sym is) inside)
@@ -24,13 +23,11 @@ module _ (path file : List ℕ) (d e : DiskState) (step : Option (List ℕ) → 
   pub left_call : {changed unnamed shared : List ℕ → Type 0} → ChangesAt changed unnamed shared (ChangesFile d file step) d e → LeavesOutside path d e
   left_call call = one_call d e (SameNamedOutside path d) (λ c m out named. refl) call (λ a c left changed m out named. changed.others m (other m out) (inr named))
 
--- one run after another
 pub left_twice : (path : List ℕ) (d e f : DiskState) → ((m : List ℕ) → (IsIn path m → ⊥) → d.is_named m → e.is_named m) → LeavesOutside path d e → LeavesOutside path e f → LeavesOutside path d f
 left_twice path d e f named one two =
     then_run d e f (OneStepOn (SameNamedOutside path d) d) (OneStepOn (SameNamedOutside path e) e) one two
     (λ c from. let at = left_now d e (OneStepOn (SameNamedOutside path d) d) one from.0 from.1 in (at.0, at.1, λ m out is. from.2 m out (named m out is) ∙ at.2 m out is))
 
--- everything outside the folder is unchanged, also after a crash
 pub record KeepsAround (path : List ℕ) (old new : DiskState) : Type 0 where
   pub outside : KeepsOutside path old new
   pub leaves : LeavesOutside path old new

@@ -48,11 +48,9 @@ one_log xs ys bytes a b = same_bodies xs ys a.rest b.rest a.sizes b.sizes a.ends
 
 -- ---- the writes of a commit: in front are the records
 
--- a write within the file keeps the bytes before it
 pub kept_before : (at count : ℕ) (old new : Option (List ℕ)) → TornWrite at count old new → at ≤ length (bytes_in old) → take at (bytes_in new) ≡ take at (bytes_in old)
 kept_before at count old new torn within = grind arith
 
--- the bytes after a place, and those after a longer front
 just_behind : (front : List ℕ) (gate : ℕ) (rest : List ℕ) → drop (length front + 1) (front ++ gate ∷ rest) ≡ rest
 just_behind front gate rest =
     ap (λ (l : List ℕ). drop (length front + 1) l) (sym (append_assoc front (gate ∷ []) rest)) ∙ drop_at (front ++ gate ∷ []) rest (length front + 1) (omega (arith, length-append front (gate ∷ [])))
@@ -65,7 +63,6 @@ up_to front gate rest =
     ap (λ (l : List ℕ). take (length front + 1) l) (sym (append_assoc front (gate ∷ []) rest))
     ∙ take_at (front ++ gate ∷ []) rest (length front + 1) (omega (arith, length-append front (gate ∷ [])))
 
--- a torn record after the closed gate keeps the gate
 pub torn_record : (front : List ℕ) (gate : ℕ) (tail : List ℕ) (count : ℕ) (old new : Option (List ℕ)) → TornWrite (length front + 1) count old new → bytes_in old ≡ front ++ gate ∷ tail
     → bytes_in new ≡ front ++ gate ∷ drop (length front + 1) (bytes_in new)
 torn_record front gate tail count old new torn is =
@@ -78,7 +75,6 @@ torn_record front gate tail count old new torn is =
 pub whole_record : (front : List ℕ) (gate : ℕ) (tail bytes new : List ℕ) → IsWrittenAt (front ++ gate ∷ tail) (length front + 1) bytes new → new ≡ front ++ gate ∷ (bytes ++ drop (length bytes) tail)
 whole_record front gate tail bytes new is = grind (arith, up_to, behind, append_assoc)
 
--- the record stays whole, whatever its gate is
 pub torn_gate : (front : List ℕ) (gate : ℕ) (tail : List ℕ) (old new : Option (List ℕ)) → TornWrite (length front) 1 old new → bytes_in old ≡ front ++ gate ∷ tail
     → bytes_in new ≡ front ++ get_or (bytes_in new) (length front) 0 ∷ tail
 torn_gate front gate tail old new torn is = grind (arith, length-append, just_behind, kept_before, take_at, get_or, drop_more, take-append-drop)

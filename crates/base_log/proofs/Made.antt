@@ -1,4 +1,3 @@
--- A file of a base folder is made.
 use Rattle.std.proofs.Common.{◌≢◌, ℕ, List, arith}
 use Rattle.disk_io.specs.{Disk.DiskState, Runs.LeavesOnly, Steps.TornMaking, Synced.IsOnDisk}
 use Rattle.base_log.specs.{Names.keys_of, Names.log_of, Names.messages_of, AtRest.IsAtRest, Moments.KeepsOutside, Opening.AreNamed, declared.log.End.End}
@@ -6,7 +5,6 @@ use Rattle.base_log.proofs.Paths.{keys_others, keys_in, keys_not_messages, log_n
 use Rattle.base_log.proofs.{Keeping.outside_but_one, Keeping.outside_twice, Calls.Made, Calls.but_one_call, Empty.LogAlone, Empty.log_alone_first, Empty.log_alone_made}
 use Rattle.base_log.proofs.Renewed.{FilesAlone, alone_changed, alone_first}
 
--- the two files of a number are made
 pub outside_both : (path : List ℕ) (number : ℕ) (d0 d1 d2 : DiskState) → Made d0 d1 (messages_of path number) → Made d1 d2 (keys_of path number) → KeepsOutside path d0 d2
 outside_both path number d0 d1 d2 one two = grind (arith, outside_twice, outside_but_one, messages_in, but_one_call, keys_in)
 
@@ -22,7 +20,6 @@ module _ (d0 : DiskState) (path : List ℕ) (end : End) (rest : IsAtRest d0 path
       let named = one.named (keys_of path number) (keys_not_messages path number number) (rest.log.named (keys_of path number) (keys_in path number)) in
       alone_changed d0 path end rest TornMaking d1 d2 (keys_of path number) (keys_others path end.recorded.number number other) named messages_run two
 
--- the same if only the log counts
 module _ (d0 : DiskState) (path : List ℕ) (on : IsOnDisk d0 (log_of path)) (named : AreNamed path d0) (number : ℕ) (d1 : DiskState) (one : Made d0 d1 (messages_of path number)) where
   pub log_first : LeavesOnly d0 d1 (LogAlone d0 path on)
   log_first =

@@ -19,7 +19,6 @@ some_bodies : (bodies : List (List ℕ)) (path : List ℕ) (files : Files) → l
 some_bodies [] path files some there = absurd (some refl)
 some_bodies (body ∷ bodies) path files some there = there
 
--- a closed gate is the first byte behind the records
 record Behind (front rest : List ℕ) : Type 0 where
   pub closed : ℕ
   pub more : List ℕ
@@ -36,24 +35,19 @@ pub some_there : (f : Option (List ℕ)) → 0 < length (bytes_in f) → IsSome 
 some_there None some = absurd (omega (arith, some))
 some_there (Some bytes) some = refl
 
--- a log with its gate at the front has no record
 pub none_at : (d : DiskState) (path : List ℕ) (end : End) → IsLogAt d path end → end.records_len ≡ 0 → IsLog [] (bytes_in (d.seen (log_of path))) × IsShutAt 0 (bytes_in (d.seen (log_of path)))
 none_at d path end at none = grind (arith, no_bodies, shut_log, shut_at)
 
--- the two files of a folder without a record
 pub first_files : (path : List ℕ) (files : Files) (recorded : CommitRecord) → recorded ≡ nothing_recorded → IsSome (files (messages_of path 0)) → IsSome (files (keys_of path 0)) → HasFiles path files recorded
 first_files path files recorded none m k = grind arith
 
--- the two files are put on the disk
 pub files_settled : (d e : DiskState) (path : List ℕ) (end : End) → IsLogAt d path end → ChangesNothing d e → end.recorded.number < 10 → HasFiles path d.seen end.recorded
     → d.is_alone (messages_of path end.recorded.number) → d.is_alone (keys_of path end.recorded.number) → e.is_flushed (messages_of path end.recorded.number) → e.is_flushed (keys_of path end.recorded.number) → IsAtRest e path end
 files_settled d e path end log quiet digit has m_alone k_alone m_flushed k_flushed = grind (arith, log_quiet, settled_on, messages_in, keys_in)
 
--- files that differ only in the log
 pub files_others : (d e : DiskState) (path : List ℕ) (recorded : CommitRecord) → KeepsButOne d e (log_of path) → HasFiles path d.seen recorded → HasFiles path e.seen recorded
 files_others d e path recorded kept has = grind (arith, messages_not_log, keys_not_log)
 
--- lost files represent no base
 pub lost_none : (path : List ℕ) (files : Files) (base : BaseBytes) → IsLost path files → Represents path base files → ⊥
 lost_none path files base lost represented =
     ⊎_elim (λ shut. absurd (omega (arith, shut.0, ap length lost.log))) (λ new. lost.some new.empty) represented.ended
@@ -74,7 +68,6 @@ module _ (bytes : List ℕ) (end : End) (reads : ReadsAll bytes end) where
   pub nothing_read : end.records_len < 50 → end.recorded ≡ nothing_recorded
   nothing_read few = sym reads.reads.recorded ∙ ap last_recorded (none_read few)
 
-  -- the log of a folder, which is on the disk
   pub shut_read : (d : DiskState) (path : List ℕ) → bytes ≡ bytes_in (d.seen (log_of path)) → IsShutAt end.records_len bytes → IsOnDisk d (log_of path) → AreNamed path d → IsLogAt d path end
   shut_read d path is shut on named =
       let behind = shut_behind (opened bodies) reads.rest bytes reads.reads.parts (subst (λ (n : ℕ). IsShutAt n bytes) reads.reads.records_len shut) in
@@ -91,11 +84,9 @@ module _ (bytes : List ℕ) (end : End) (reads : ReadsAll bytes end) where
         named = named;
       }
 
-  -- that of a new folder, which is made
   pub made_read : (d : DiskState) (path : List ℕ) → end.records_len < 50 → bytes_in (d.seen (log_of path)) ≡ 0 ∷ [] → IsOnDisk d (log_of path) → AreNamed path d → IsLogAt d path end
   made_read d path few is on named = grind (arith, none_read)
 
-  -- files with this log, and the base that they represent
   module _ (path : List ℕ) (files : Files) (is : bytes ≡ bytes_in (files (log_of path))) where
     log_in_files : IsLog bodies (bytes_in (files (log_of path)))
     log_in_files = subst (λ (l : List ℕ). IsLog bodies l) is read_log
@@ -126,7 +117,6 @@ module _ (bytes : List ℕ) (end : End) (reads : ReadsAll bytes end) where
             keys_long = omega (arith, end_recorded_base.keys_long, front_long base.keys (bytes_in (files (keys_of path end.recorded.number))) end_recorded_base.keys);
           }
 
-      -- the shown files have this base if they begin as these files do
       pub base_found : (d : DiskState) → d.seen (messages_of path end.recorded.number) ≡ files (messages_of path end.recorded.number) → d.seen (keys_of path end.recorded.number) ≡ files (keys_of path end.recorded.number)
           → base_at d path end.recorded ≡ base
       base_found d m k = grind (arith, end_recorded_base)
@@ -134,11 +124,9 @@ module _ (bytes : List ℕ) (end : End) (reads : ReadsAll bytes end) where
     pub none_log : end.records_len < 50 → IsLog [] (bytes_in (files (log_of path)))
     none_log few = subst (λ b. IsLog b (bytes_in (files (log_of path)))) (none_read few) log_in_files
 
-    -- new files are those of no record
     pub new_few : IsNew path files → end.records_len < 50
     new_few new = omega (arith, new.log, ap length is, within)
 
-    -- why they represent no base
     broken_by : length bytes ≢ 0 → ((base : BaseBytes) → Represents path base files → ⊥) → IsBroken path files
     broken_by some none = record { logged = λ lost. some (ap length is ∙ ap length lost.log); none = none }
 
@@ -151,7 +139,6 @@ module _ (bytes : List ℕ) (end : End) (reads : ReadsAll bytes end) where
     pub not_new : length bytes ≢ 0 → (IsShutAt end.records_len bytes → ⊥) → (IsNew path files → ⊥) → IsBroken path files
     not_new some ajar old = broken_by some (λ base represented. ⊎_elim ajar old (end_shut base represented))
 
-  -- the shown files, and the base that they represent
   module _ (d : DiskState) (path : List ℕ) (is : bytes ≡ bytes_in (d.seen (log_of path))) where
     abbrev pub seen : BaseBytes
     seen = base_at d path end.recorded

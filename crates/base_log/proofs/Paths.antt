@@ -23,14 +23,12 @@ keys_not_log path n is = log_not_keys path n (sym is)
 pub keys_not_messages : (path : List ℕ) (n m : ℕ) → keys_of path n ≢ messages_of path m
 keys_not_messages path n m is = messages_not_keys path m n (sym is)
 
--- the digit separates the files of two numbers
 pub messages_of-injective : (path : List ℕ) (n m : ℕ) → messages_of path n ≡ messages_of path m → n ≡ m
 messages_of-injective path n m is = omega (arith, ap (λ (l : List ℕ). get_or l 9 0) (append_cancel_left path (MESSAGES.now ++ (48 + n) ∷ []) (MESSAGES.now ++ (48 + m) ∷ []) is))
 
 pub keys_of-injective : (path : List ℕ) (n m : ℕ) → keys_of path n ≡ keys_of path m → n ≡ m
 keys_of-injective path n m is = omega (arith, ap (λ (l : List ℕ). get_or l 5 0) (append_cancel_left path (KEYS.now ++ (48 + n) ∷ []) (KEYS.now ++ (48 + m) ∷ []) is))
 
--- names without a slash
 no_slash : (xs : List ℕ) → list_all (λ b. not (b == 47)) xs ≡ true → All (λ b. b ≢ 47) xs
 no_slash xs h = All-weaker (λ b. not (b == 47) ≡ true) (λ b. b ≢ 47) (λ b is. eqb-false b 47 (not-true (b == 47) is)) xs (AllPass-from_list_all (λ b. not (b == 47)) xs h)
 
@@ -46,7 +44,6 @@ messages_in path n = record { name = MESSAGES.now ++ (48 + n) ∷ []; parts = re
 pub keys_in : (path : List ℕ) (n : ℕ) → IsIn path (keys_of path n)
 keys_in path n = record { name = KEYS.now ++ (48 + n) ∷ []; parts = refl; plain = no_slash (KEYS.now ++ (48 + n) ∷ []) (digit n) }
 
--- the files of another number do not count
 pub messages_others : (path : List ℕ) (n number : ℕ) → number ≢ n → IsOtherNumber path n (messages_of path number)
 messages_others path n number other = grind (arith, messages_in, log_not_messages, messages_of-injective, keys_not_messages)
 

@@ -7,19 +7,16 @@ use Rattle.base_log.proofs.Logs.{opened-snoc, AreBodies-snoc, last_recorded-snoc
 
 -- ---- fields
 
--- eight bytes in the middle of some bytes
 eight_within : (bytes : List ℕ) (at k m : ℕ) → 8 ≤ m → take 8 (drop k (take (k + m) (drop at bytes))) ≡ take 8 (drop (at + k) bytes)
 eight_within bytes at k m le =
     ap (λ (l : List ℕ). take 8 l) (drop-take k m (drop at bytes)) ∙ take-take 8 m (drop k (drop at bytes)) le ∙ ap (λ (l : List ℕ). take 8 l) (drop-drop k at bytes)
 
--- the number that they are
 number_within : (bytes : List ℕ) (at k m n : ℕ) → 8 ≤ m → n ≡ from_le_bytes w64 (take 8 (drop (at + k) bytes)) → n ≡ from_le_bytes w64 (take 8 (drop k (take (k + m) (drop at bytes))))
 number_within bytes at k m n le is = is ∙ ap (λ (l : List ℕ). from_le_bytes w64 l) (sym (eight_within bytes at k m le))
 
 number_first : (bytes : List ℕ) (at m n : ℕ) → 8 ≤ m → n ≡ from_le_bytes w64 (take 8 (drop at bytes)) → n ≡ from_le_bytes w64 (take 8 (take m (drop at bytes)))
 number_first bytes at m n le is = is ∙ ap (λ (l : List ℕ). from_le_bytes w64 l) (sym (take-take 8 m (drop at bytes) le))
 
--- the three numbers of a mark
 pub mark_fields : (bytes : List ℕ) (at o f s : ℕ) → o ≡ from_le_bytes w64 (take 8 (drop at bytes)) → f ≡ from_le_bytes w64 (take 8 (drop (at + 8) bytes))
     → s ≡ from_le_bytes w64 (take 8 (drop (at + 16) bytes)) → record { owner = o; first = f; second = s } ≡ mark_by (take 24 (drop at bytes))
 mark_fields bytes at o f s o_is f_is s_is =
@@ -28,7 +25,6 @@ mark_fields bytes at o f s o_is f_is s_is =
     let s_recorded = number_within bytes at 16 8 s (omega arith) s_is in
     λ i. record { owner = o_recorded i; first = f_recorded i; second = s_recorded i }
 
--- the four numbers that a record's bytes tell, and the mark
 pub recorded_fields : (bytes : List ℕ) (at m k c : ℕ) (mark : FolderIdentity) → m ≡ from_le_bytes w64 (take 8 (drop at bytes)) → k ≡ from_le_bytes w64 (take 8 (drop (at + 8) bytes))
     → c ≡ from_le_bytes w64 (take 8 (drop (at + 16) bytes)) → mark ≡ mark_by (take 24 (drop (at + 25) bytes))
     → record { messages = m; keys = k; cursor = c; number = get_or bytes (at + 24) 0; mark = mark } ≡ recorded_by (take 49 (drop at bytes))
@@ -44,14 +40,12 @@ recorded_fields bytes at m k c mark m_is k_is c_is mark_is =
 
 -- ---- records
 
--- a record at the front of longer bytes
 record_in_front : (rest : List ℕ) → 50 ≤ length rest → get_or rest 0 0 ≡ 1 → rest ≡ 1 ∷ take 49 (drop 1 rest) ++ drop 50 rest
 record_in_front rest long is =
     drop_more rest 0 0 (omega arith)
     ∙ ap (λ (g : ℕ). g ∷ drop 1 rest) is
     ∙ ap (λ (l : List ℕ). 1 ∷ l) (sym (take-append-drop 49 (drop 1 rest)) ∙ ap (λ (l : List ℕ). take 49 (drop 1 rest) ++ l) (drop-drop 49 1 rest))
 
--- one record more
 pub reads_more : (bytes : List ℕ) (end : End) (recorded : CommitRecord) → ReadsTo bytes end (drop end.records_len bytes) → 50 ≤ length (drop end.records_len bytes) → get_or bytes end.records_len 0 ≡ 1
     → recorded ≡ recorded_by (take 49 (drop (end.records_len + 1) bytes)) → ReadsTo bytes (record { records_len = end.records_len + 50; recorded = recorded }) (drop (end.records_len + 50) bytes)
 reads_more bytes end recorded reads long is recorded_is =

@@ -7,16 +7,13 @@ use Rattle.disk_io.proofs.Moments.{then_nothing}
 use Rattle.base_log.proofs.Renewed.{FilesAlone, alone_changed, alone_first, alone_run, same_base}
 use Rattle.base_log.proofs.Keeping.{log_moved, on_disk_but_one}
 
--- no file, or there would be some
 pub not_there : (f : Option (List ℕ)) → (IsSome f → ⊥) → f ≡ None
 not_there None none = refl
 not_there (Some bytes) none = absurd (none refl)
 
--- the folder is at rest once its paths are on the disk
 pub rest_others : (d e : DiskState) (path : List ℕ) (end : End) (file : List ℕ) → IsOtherNumber path end.recorded.number file → IsAtRest d path end → KeepsButOne d e file → ((m : List ℕ) → IsIn path m → e.is_named m) → IsAtRest e path end
 rest_others d e path end file others rest kept named = grind (arith, log_moved, on_disk_but_one)
 
--- the base of the files that count is the same
 pub base_others : (d e : DiskState) (path : List ℕ) (end : End) (file : List ℕ) → IsOtherNumber path end.recorded.number file → ((m : List ℕ) → m ≢ file → e.seen m ≡ d.seen m) → base_at e path end.recorded ≡ base_at d path end.recorded
 base_others d e path end file others same =
     same_base d e path end (same (messages_of path end.recorded.number) others.not_messages) (same (keys_of path end.recorded.number) others.not_keys)

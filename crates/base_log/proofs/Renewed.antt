@@ -6,7 +6,6 @@ use Rattle.base_log.specs.{Names.IsOtherNumber, Names.log_of, Names.messages_of,
 use Rattle.base_log.proofs.Rested.{rest_same}
 
 module _ (d0 : DiskState) (path : List ℕ) (end : End) (rest : IsAtRest d0 path end) where
-  -- the files that count are unchanged, and so is everything outside the folder
   pub record FilesAlone (c : Files) : Type 0 where
     pub log : c (log_of path) ≡ d0.seen (log_of path)
     pub messages : c (messages_of path end.recorded.number) ≡ d0.seen (messages_of path end.recorded.number)
@@ -16,7 +15,6 @@ module _ (d0 : DiskState) (path : List ℕ) (end : End) (rest : IsAtRest d0 path
   pub alone_first : LeavesOnly d0 d0 FilesAlone
   alone_first = grind (arith, no_call)
 
-  -- another file changes
   pub alone_changed : {changed unnamed shared : List ℕ → Type 0} (step : Option (List ℕ) → Option (List ℕ) → Type 0) (d e : DiskState) (file : List ℕ) → IsOtherNumber path end.recorded.number file → d.is_named file
       → LeavesOnly d0 d FilesAlone → ChangesAt changed unnamed shared (ChangesFile d file step) d e → LeavesOnly d0 e FilesAlone
   alone_changed step d e file others named run call =

@@ -5,7 +5,6 @@ use Rattle.base_log.specs.{Names.log_of, Names.messages_of, Names.keys_of, Stand
 use Rattle.base_log.specs.declared.log.End.{End}
 use Rattle.base_log.proofs.{Logs.shut_log, Logs.shut_at, Same.AreThere-both, Same.RecordsBase-seen}
 
--- files that are as they are seen in the folder
 pub rest_same : (d : DiskState) (path : List ℕ) (end : End) → IsAtRest d path end → (c : Files) → c (log_of path) ≡ d.seen (log_of path)
     → c (messages_of path end.recorded.number) ≡ d.seen (messages_of path end.recorded.number) → c (keys_of path end.recorded.number) ≡ d.seen (keys_of path end.recorded.number) → Represents path (base_at d path end.recorded) c
 rest_same d path end rest c same_log same_m same_k = grind (arith, shut_log, shut_at, AreThere-both, RecordsBase-seen end.recorded path d c rest.digit rest.messages_long rest.keys_long same_m same_k)

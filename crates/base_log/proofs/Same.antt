@@ -25,21 +25,17 @@ front_taken n bytes le = grind (arith, length-take)
 pub front_long : (front bytes : List ℕ) → IsFrontOf front bytes → length front ≤ length bytes
 front_long front bytes is = omega (arith, ap length is, length-take (length front) bytes)
 
--- the shown base, if the files are as shown
 pub RecordsBase-seen : (recorded : CommitRecord) (path : List ℕ) (d : DiskState) (c : Files) → recorded.number < 10 → recorded.messages ≤ length (bytes_in (d.seen (messages_of path recorded.number)))
     → recorded.keys ≤ length (bytes_in (d.seen (keys_of path recorded.number))) → c (messages_of path recorded.number) ≡ d.seen (messages_of path recorded.number)
     → c (keys_of path recorded.number) ≡ d.seen (keys_of path recorded.number) → RecordsBase recorded path (base_at d path recorded) c
 RecordsBase-seen recorded path d c digit m_long k_long m k = grind (arith, length-take, front_taken)
 
--- the facts about a base by these records, which are those of its log
 pub recorded_base_by : (path : List ℕ) (base : BaseBytes) (c : Files) (bodies : List (List ℕ)) → Represents path base c → IsLog bodies (bytes_in (c (log_of path))) → AreThere path bodies c × RecordsBase (last_recorded bodies) path base c
 recorded_base_by path base c bodies represented log = grind (arith, one_log represented.bodies bodies (bytes_in (c (log_of path))) represented.log log)
 
--- and how they end
 pub ended_by : (path : List ℕ) (base : BaseBytes) (c : Files) (bodies : List (List ℕ)) → Represents path base c → IsLog bodies (bytes_in (c (log_of path))) → IsEnded path bodies c
 ended_by path base c bodies represented log = subst (λ b. IsEnded path b c) (one_log represented.bodies bodies (bytes_in (c (log_of path))) represented.log log) represented.ended
 
--- a change of the log alone, after which it has the same records and a closed gate behind them
 pub log_changed : (path : List ℕ) (base : BaseBytes) (a c : Files) (bodies : List (List ℕ)) → Represents path base a → IsLog bodies (bytes_in (a (log_of path)))
     → ((m : List ℕ) → m ≢ log_of path → c m ≡ a m) → IsLog bodies (bytes_in (c (log_of path))) → IsShutAt (length (opened bodies)) (bytes_in (c (log_of path))) → Represents path base c
 log_changed path base a c bodies represented log same now shut =

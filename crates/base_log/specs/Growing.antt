@@ -4,27 +4,22 @@ use Rattle.base_log.specs.{Names.keys_of, Names.messages_of, Standing.BaseBytes,
 use Rattle.base_log.specs.declared.staging.GrowingFile.{GrowingFile}
 use Rattle.base_log.specs.declared.staging.GrowingFile.TheVariants as file
 
--- The path of the file among the names.
 abbrev pub path_in : Names → GrowingFile → List ℕ
 path_in names file.Messages = names.messages.items
 path_in names file.Keys = names.keys.items
 
--- The path of the file in a folder.
 abbrev pub file_of : List ℕ → ℕ → GrowingFile → List ℕ
 file_of path number file.Messages = messages_of path number
 file_of path number file.Keys = keys_of path number
 
--- The number of bytes of the file that a record counts.
 abbrev pub counted : CommitRecord → GrowingFile → ℕ
 counted recorded file.Messages = recorded.messages
 counted recorded file.Keys = recorded.keys
 
--- The record, with more bytes of the file counted.
 abbrev pub with_more : CommitRecord → GrowingFile → ℕ → CommitRecord
 with_more recorded file.Messages more = record recorded { messages = recorded.messages + more }
 with_more recorded file.Keys more = record recorded { keys = recorded.keys + more }
 
--- The base, with more bytes at the end of the file.
 abbrev pub and_bytes : BaseBytes → GrowingFile → List ℕ → BaseBytes
 and_bytes base file.Messages bytes = and_messages base bytes
 and_bytes base file.Keys bytes = and_keys base bytes

@@ -35,7 +35,6 @@ mark_by body = record {
   second = from_le_bytes w64 (take 8 (drop 16 body));
 }
 
--- The mark of a folder without an owner.
 abbrev pub no_mark : FolderIdentity
 no_mark = record { owner = 0; first = 0; second = 0 }
 
@@ -54,7 +53,6 @@ abbrev pub body_of : CommitRecord → List ℕ
 body_of recorded = to_le_bytes w64 recorded.messages ++ to_le_bytes w64 recorded.keys ++ to_le_bytes w64 recorded.cursor ++ recorded.number ∷ []
     ++ to_le_bytes w64 recorded.mark.owner ++ to_le_bytes w64 recorded.mark.first ++ to_le_bytes w64 recorded.mark.second
 
--- Each of its numbers has eight bytes.
 pub record FitsRecord (recorded : CommitRecord) : Type 0 where
   pub messages : recorded.messages < 2 ^ 64
   pub keys : recorded.keys < 2 ^ 64

@@ -16,7 +16,6 @@ keys_of path number = path ++ (KEYS.now ++ (48 + number) ∷ [])
 abbrev pub folder_of : Names → List ℕ
 folder_of names = names.folder.items
 
--- The paths of the files of that number in the folder.
 pub record AreNames (names : Names) (number : ℕ) : Type 0 where
   pub log : names.log.items ≡ log_of (folder_of names)
   pub messages : names.messages.items ≡ messages_of (folder_of names) number

@@ -6,7 +6,6 @@ use Rattle.base_log.specs.{declared.log.CommitRecord.CommitRecord, declared.fold
 use Rattle.base_log.specs.{Standing.BaseBytes, Standing.IsNew, Moments.RepresentsAlone}
 use Rattle.base_log.specs.declared.folder_error.FolderError.TheVariants as folder
 
--- A fault of the disk as a fault of a folder.
 abbrev pub folder_cause : DiskError → FolderError
 folder_cause disk.Memory = folder.Memory
 folder_cause disk.Device = folder.Device
@@ -53,7 +52,6 @@ pub record AreFlushed (path : List ℕ) (disk : DiskState) : Type 0 where
 abbrev pub StayGone : List ℕ → DiskState → Type 0
 StayGone path disk = (m : List ℕ) → IsIn path m → disk.seen m ≡ None → disk.is_flushed m
 
--- Both files of a number are gone.
 pub record AreGone (disk : DiskState) (path : List ℕ) (number : ℕ) : Type 0 where
   pub messages : disk.seen (messages_of path number) ≡ None
   pub keys : disk.seen (keys_of path number) ≡ None

@@ -21,7 +21,6 @@ pub record ReadsAll (bytes : List ℕ) (end : End) : Type 0 where
 abbrev pub IsRead : Log → Type 0
 IsRead log = ReadsAll log.bytes.items log.end
 
--- The bytes are those of the folder's log.
 abbrev pub IsLogIn : List ℕ → Files → Log → Type 0
 IsLogIn path files log = log.bytes.items ≡ bytes_in (files (log_of path))
 

@@ -11,11 +11,9 @@ pub record BaseBytes : Type 0 where
   pub cursor : ℕ
   pub mark : FolderIdentity
 
--- The base with more messages at its end.
 abbrev pub and_messages : BaseBytes → List ℕ → BaseBytes
 and_messages base bytes = record { messages = base.messages ++ bytes; keys = base.keys; cursor = base.cursor; mark = base.mark }
 
--- The base with more keys at its end.
 abbrev pub and_keys : BaseBytes → List ℕ → BaseBytes
 and_keys base bytes = record { messages = base.messages; keys = base.keys ++ bytes; cursor = base.cursor; mark = base.mark }
 

@@ -8,7 +8,6 @@ use crate::log::{CommitRecord, End};
 use crate::names::Names;
 use disk_io::{Disk, DiskError, write_synced};
 
-// The bytes of a record, and the closed gate after it.
 fn record_of(recorded: CommitRecord) -> [u8; 50]
     ensures bytes { result ≡ body_of recorded ++ 0 ∷ [] }
     ensures fits { FitsRecord recorded }
@@ -24,8 +23,8 @@ fn record_of(recorded: CommitRecord) -> [u8; 50]
     record
 }
 
-/// Makes the staged bytes the base. At `Ok` it is acknowledged: from then on each crash leaves files that hold it. At
-/// `Err`, open the folder again.
+/// Makes the staged bytes the base. At `Ok` each later crash leaves files that hold it. At `Err`, open the folder
+/// again.
 pub fn commit<D: Disk>(
     disk: &mut D,
     names: &Names,
@@ -39,7 +38,6 @@ pub fn commit<D: Disk>(
     ensures recorded { IfOk result (λ after. after.recorded ≡ recorded) }
     ensures acknowledged { Honestly (D.state disk.new) (IfOk result (λ after. base_at (D.state disk.new) (folder_of names.now) after.recorded ≡ base_at (D.state disk.old) (folder_of names.now) recorded)) }
 
-    // A crash at any time of the call leaves the base from before it or the one after it, and all else as it was.
     ensures any_moment { Honestly (D.state disk.new) (LeavesOnly (D.state disk.old) (D.state disk.new)
         (IsBeforeOrAfter (folder_of names.now) (D.state disk.old) (base_at (D.state disk.old) (folder_of names.now) end.recorded) (base_at (D.state disk.old) (folder_of names.now) recorded))) }
     ensures outside { KeepsOutside (folder_of names.now) (D.state disk.old) (D.state disk.new) }

@@ -1,4 +1,3 @@
-//! Why the files of a folder hold no base.
 use disk_io::DiskError;
 use std::alloc::{AllocError, AllocFailed};
 use thiserror::Error;

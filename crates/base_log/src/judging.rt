@@ -13,7 +13,6 @@ use std::alloc::Global;
 /// How many numbers the files have.
 const NUMBERS: u8 = 10;
 
-// The bytes of the log; none if it does not exist.
 fn log_bytes<D: Disk>(alloc: Global, disk: &mut D, log: &[u8]) -> Result<Vec<u8>, DiskError>
     ensures bytes { Honestly (D.state disk.new) (IfOk result (λ bytes. bytes.items ≡ bytes_in ((D.state disk.old).seen log.now))) }
     ensures quiet { ChangesNothing (D.state disk.old) (D.state disk.new) }
@@ -52,7 +51,6 @@ pub fn len_of<D: Disk>(disk: &mut D, path: &[u8]) -> Result<usize, DiskError>
     }
 }
 
-// Whether neither file of this number has bytes.
 fn is_bare<D: Disk>(disk: &mut D, names: &Names) -> Result<bool, DiskError>
     ensures bare { Honestly (D.state disk.new) (IfOk result (λ bare. IsTrue bare
         ↔ ((length (bytes_in ((D.state disk.old).seen names.now.messages.items)) ≡ 0)
@@ -65,7 +63,6 @@ fn is_bare<D: Disk>(disk: &mut D, names: &Names) -> Result<bool, DiskError>
     Ok(messages == 0 && keys == 0)
 }
 
-// Whether no file of messages or of keys has bytes.
 fn has_no_bytes<D: Disk>(alloc: Global, disk: &mut D, folder: &[u8]) -> Result<bool, DiskError>
     ensures none { Honestly (D.state disk.new) (IfOk result (λ none. IsTrue none ↔ HasNoBytes folder.now (D.state disk.old).seen)) }
     ensures quiet { ChangesNothing (D.state disk.old) (D.state disk.new) }
@@ -80,7 +77,6 @@ fn has_no_bytes<D: Disk>(alloc: Global, disk: &mut D, folder: &[u8]) -> Result<b
     Ok(true)
 }
 
-// Whether the file exists and has so many bytes.
 fn has_bytes<D: Disk>(disk: &mut D, path: &[u8], count: usize) -> Result<bool, DiskError>
     ensures has { Honestly (D.state disk.new) (IfOk result (λ has. IsTrue has
         ↔ (IsSome ((D.state disk.old).seen path.now) × (count ≤ length (bytes_in ((D.state disk.old).seen path.now)))))) }
@@ -93,7 +89,6 @@ fn has_bytes<D: Disk>(disk: &mut D, path: &[u8], count: usize) -> Result<bool, D
     Ok(disk.len(path)? >= count)
 }
 
-// Whether both files exist and are as long as the record says.
 fn has_files<D: Disk>(
     disk: &mut D,
     names: &Names,
@@ -110,7 +105,7 @@ fn has_files<D: Disk>(
     has_bytes(disk, &names.keys, recorded.keys)
 }
 
-// The same if the log has no closed gate after its records: the folder has to be new.
+// Without a closed gate after its records the folder has to be new.
 fn judge_new<D: Disk>(
     alloc: Global,
     disk: &mut D,

@@ -1,13 +1,7 @@
-//! The files of a base folder: messages and keys that only grow, and a log of commits.
-//!
-//! The contract for the layers above: whatever a crash leaves at any time, the folder holds the bytes from before a
-//! commit or from after it. A commit counts once its record's gate is open (1). A closed gate (any other byte) follows
-//! the last record. It is synced before anything is written after it.
-//!
-//! Begin with `log` (records, and the last of them), `committing` (a record, and its gate) and `opening`. `names` has
-//! the paths of the files. `staging` writes bytes after those that count, `anew` makes files of another number, and
-//! `removing` removes files that no longer count. `judging` finds out whether files hold a base, `making` makes the
-//! files of a folder that has none, and `folder_error` has the errors.
+//! The files of a base folder: messages and keys that only grow, and a log of commits. Whatever a crash leaves, the
+//! folder holds the bytes from before a commit or from after it. A commit counts once its record's gate is open (1). A
+//! closed gate (any other byte) follows the last record, and is synced before more is written. Begin with `log`,
+//! `committing` and `opening`.
 #![tactic(auto)]
 
 mod anew;

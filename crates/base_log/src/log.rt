@@ -3,8 +3,7 @@ ghost use Rattle.std.specs.Prelude.{◌≡◌, ◌≤◌, ◌+◌, ◌↔◌, le
 ghost use Rattle.std.specs.Int.{w64, from_le_bytes};
 ghost use Rattle.base_log.specs.{Log.EndsHere, Log.IsShutAt, Log.mark_by, Log.recorded_by, Reading.ReadsAll};
 
-/// The owner of a base folder, and the two halves of the key of its digests: numbers that the folder keeps and does
-/// not judge. All are 0 before the first commit.
+/// The owner of a base folder, and the halves of its digests' key, not judged. All are 0 before the first commit.
 #[derive(Clone, Copy, Debug, PartialEq, Eq)]
 pub struct FolderIdentity {
     pub owner: u64,
@@ -46,7 +45,6 @@ impl Log {
     }
 }
 
-// Whether a record with an open gate is here.
 fn has_record(bytes: &[u8], at: usize) -> bool
     requires { at ≤ length bytes.now }
     ensures { MatchBool result ((50 ≤ length (drop at bytes.now)) × (slice_index bytes.now at ≡ 1)) (EndsHere (drop at bytes.now)) }
@@ -54,7 +52,6 @@ fn has_record(bytes: &[u8], at: usize) -> bool
     bytes.len() - at >= 50 && bytes[at] == 1
 }
 
-// Eight bytes from there on, low byte first.
 fn number_at(bytes: &[u8], at: usize) -> u64
     requires { at + 8 ≤ length bytes.now }
     ensures { result ≡ from_le_bytes w64 (take 8 (drop at bytes.now)) }
@@ -71,7 +68,6 @@ fn number_at(bytes: &[u8], at: usize) -> u64
     ])
 }
 
-// The mark that begins there.
 fn mark_at(bytes: &[u8], at: usize) -> FolderIdentity
     requires { at + 24 ≤ length bytes.now }
     ensures { result ≡ mark_by (take 24 (drop at bytes.now)) }
@@ -83,7 +79,6 @@ fn mark_at(bytes: &[u8], at: usize) -> FolderIdentity
     }
 }
 
-// The contents of the record that begins there.
 fn recorded_at(bytes: &[u8], at: usize) -> CommitRecord
     requires { at + 49 ≤ length bytes.now }
     ensures { result ≡ recorded_by (take 49 (drop at bytes.now)) }

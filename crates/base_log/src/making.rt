@@ -9,7 +9,6 @@ use crate::names::Names;
 use disk_io::{Disk, DiskError, sync_folder_of, write_synced};
 use std::alloc::Global;
 
-// Syncs a file as it is, if it exists.
 fn settle_file<D: Disk>(disk: &mut D, path: &[u8]) -> Result<(), DiskError>
     requires { Honestly (D.state disk.old) ((D.state disk.old).seen path.now ≡ None → (D.state disk.old).is_flushed path.now) }
     ensures flushed { Honestly (D.state disk.new) (OnOk result ((D.state disk.new).is_flushed path.now)) }
@@ -22,7 +21,6 @@ fn settle_file<D: Disk>(disk: &mut D, path: &[u8]) -> Result<(), DiskError>
     disk.sync(path)
 }
 
-// Syncs the two files of a number as they are.
 fn settle_number<D: Disk>(disk: &mut D, names: &Names, _number: u8) -> Result<(), DiskError>
     requires names { AreNames names.now _number }
     requires gone { Honestly (D.state disk.old) (StayGone (folder_of names.now) (D.state disk.old)) }
@@ -35,7 +33,6 @@ fn settle_number<D: Disk>(disk: &mut D, names: &Names, _number: u8) -> Result<()
     settle_file(disk, &names.keys)
 }
 
-// Syncs the log and the files of each number as they are.
 fn settle_all<D: Disk>(alloc: Global, disk: &mut D, names: &Names) -> Result<(), DiskError>
     requires log { names.now.log.items ≡ log_of (folder_of names.now) }
     requires gone { Honestly (D.state disk.old) (StayGone (folder_of names.now) (D.state disk.old)) }
@@ -50,8 +47,7 @@ fn settle_all<D: Disk>(alloc: Global, disk: &mut D, names: &Names) -> Result<(),
     settle_file(disk, &names.log)
 }
 
-// Makes the log of a new folder, which is a closed gate. Before it is made, the other files have no bytes on the
-// disk.
+// Before it is made, the other files have no bytes on the disk.
 pub(crate) fn make_log<D: Disk>(alloc: Global, disk: &mut D, names: &Names) -> Result<(), DiskError>
     requires log { names.now.log.items ≡ log_of (folder_of names.now) }
     requires new { Honestly (D.state disk.old) (IsNewFolder (folder_of names.now) (D.state disk.old)) }
@@ -70,7 +66,6 @@ pub(crate) fn make_log<D: Disk>(alloc: Global, disk: &mut D, names: &Names) -> R
     write_synced(disk, &names.log, 0, &[0])
 }
 
-// Makes the two files of a folder that has no record in its log.
 pub(crate) fn make_files<D: Disk>(disk: &mut D, names: &Names) -> Result<(), DiskError>
     requires names { AreNames names.now 0 }
     requires bare { Honestly (D.state disk.old) (HasBareLog (folder_of names.now) (D.state disk.old)) }

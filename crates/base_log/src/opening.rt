@@ -10,8 +10,7 @@ use crate::names::Names;
 use disk_io::{Disk, DiskError, sync_folder_of};
 use std::alloc::Global;
 
-// Syncs the log as it is: the bytes of a killed program are seen and may not be synced yet. The log of a new folder
-// is made.
+// The bytes of a killed program are seen and may not be synced yet. The log of a new folder is made.
 fn settle_log<D: Disk>(
     alloc: Global,
     disk: &mut D,
@@ -37,7 +36,6 @@ fn settle_log<D: Disk>(
     Ok(())
 }
 
-// Syncs the two files as they are.
 fn settle_files<D: Disk>(disk: &mut D, names: &Names) -> Result<(), DiskError>
     requires messages { Honestly (D.state disk.old) (IsSome ((D.state disk.old).seen names.now.messages.items)) }
     requires keys { Honestly (D.state disk.old) (IsSome ((D.state disk.old).seen names.now.keys.items)) }
@@ -50,8 +48,7 @@ fn settle_files<D: Disk>(disk: &mut D, names: &Names) -> Result<(), DiskError>
     disk.sync(&names.keys)
 }
 
-/// Opens a base folder that holds a base, with its log as it was read. Missing files are made; others are only synced.
-/// It may crash too, at any time.
+/// Opens a base folder, with its log as it was read. Missing files are made, others only synced. It may crash too.
 pub fn open<D: Disk>(alloc: Global, disk: &mut D, names: &Names, log: &Log) -> Result<(), DiskError>
     requires names { AreNames names.now log.now.end.recorded.number }
     requires alone { Honestly (D.state disk.old) (AreAlone (folder_of names.now) (D.state disk.old)) }
@@ -62,7 +59,6 @@ pub fn open<D: Disk>(alloc: Global, disk: &mut D, names: &Names, log: &Log) -> R
     ensures same { Honestly (D.state disk.new) (OnOk result (base_at (D.state disk.new) (folder_of names.now) log.now.end.recorded
         ≡ base_at (D.state disk.old) (folder_of names.now) log.now.end.recorded)) }
 
-    // A crash at any time leaves the same base and all else as it was, or what a crash might have left before.
     ensures any_moment { Honestly (D.state disk.new) (LeavesOnly (D.state disk.old) (D.state disk.new)
         (RepresentsOrWasLeft (folder_of names.now) (D.state disk.old) (base_at (D.state disk.old) (folder_of names.now) log.now.end.recorded))) }
     ensures outside { KeepsOutside (folder_of names.now) (D.state disk.old) (D.state disk.new) }

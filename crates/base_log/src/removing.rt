@@ -1,4 +1,3 @@
-//! Files that no longer count, removed.
 ghost use Rattle.std.specs.Prelude.{◌≡◌, ◌≢◌, ℕ, List, None, OnOk};
 ghost use Rattle.disk_io.specs.{Disk.Honestly, Runs.HasCause};
 ghost use Rattle.base_log.specs.{Names.AreNames, Names.IsOtherNumber, Names.folder_of, Standing.base_at, AtRest.IsAtRest, Opening.AreGone, Moments.LeavesOutside, Moments.StagesOnly};
@@ -7,7 +6,6 @@ use crate::log::End;
 use crate::names::Names;
 use disk_io::{Disk, DiskError, sync_folder_of};
 
-// Removes a file that does not count, if it exists.
 pub(crate) fn remove_one<D: Disk>(
     disk: &mut D,
     folder: &[u8],
@@ -30,8 +28,7 @@ pub(crate) fn remove_one<D: Disk>(
     sync_folder_of(disk, folder)
 }
 
-/// Removes the two files of a number that no longer counts, if they exist. A crash during that leaves the base as it
-/// is, and some of them.
+/// Removes the files of a number that no longer counts. A crash meanwhile leaves the base, and some of them.
 pub fn remove_files<D: Disk>(
     disk: &mut D,
     names: &Names,

@@ -36,7 +36,6 @@ pub enum GrowingFile {
     Keys,
 }
 
-// The path of the file.
 fn path_of(names: &Names, file: GrowingFile) -> &[u8]
     ensures { result.now ≡ path_in names.now file }
 {
@@ -46,7 +45,6 @@ fn path_of(names: &Names, file: GrowingFile) -> &[u8]
     }
 }
 
-// How many bytes of the file the record counts.
 fn counted(recorded: CommitRecord, file: GrowingFile) -> usize
     ensures { result ≡ counted recorded file }
 {
@@ -56,7 +54,6 @@ fn counted(recorded: CommitRecord, file: GrowingFile) -> usize
     }
 }
 
-// The record that counts so many bytes more of the file.
 fn with_more(recorded: CommitRecord, file: GrowingFile, more: usize) -> CommitRecord
     requires { counted recorded file + more < 2 ^ 64 }
     ensures { result ≡ with_more recorded file more }

@@ -8,7 +8,6 @@ use Rattle.base_store.specs.{Chains.AreChains, Index.IsIndexOf, Keys.IsPieceOf, 
 use Rattle.base_store.specs.declared.index.Index.{Index}
 use Rattle.base_store.proofs.Indexed.{chains_stay, entry_stays}
 
--- the entries of a piece are those of the keys
 pub piece_digest : (keys : List ℕ) (from : ℕ) (piece : List ℕ) (i : ℕ) → IsPieceOf keys from piece → i < length piece / 16 → digest_at keys (from + i) ≡ digest_at piece i
 piece_digest keys from piece i is within =
     let sum : 16 * (from + i) + 8 ≡ 16 * from + (16 * i + 8) = omega arith in
@@ -27,7 +26,6 @@ piece_within keys from piece is =
     let long : length (drop (16 * from) keys) ≡ length piece + length is.rest = ap (λ (l : List ℕ). length l) is.behind ∙ length-append piece is.rest in
     omega (arith, within, even, behind, long)
 
--- more keys at the end change nothing
 found_stays : (keys more : List ℕ) (expected : Expected) → AreFound keys expected → AreFound (keys ++ more) expected
 found_stays keys more expected are =
     let within = are.within in
@@ -50,7 +48,6 @@ index_stays keys more index is = record {
   found = found_stays keys more index.expected is.found;
 }
 
--- a pass over a piece adds the expected messages of the piece
 pub found_more : (keys piece : List ℕ) (from : ℕ) (old new : Expected) → old.passed ≡ from → new.passed ≡ from + length piece / 16 → ((d : ℕ) → is_expected new d ≡ is_expected old d) → IsPieceOf keys from piece → AreFound keys old
     → ((p : Place) → Contains old.places.items p → Contains new.places.items p)
     → ((i : ℕ) → i < length piece / 16 → is_expected old (digest_at piece i) ≡ true → Contains new.places.items (place_in piece from i))
@@ -81,7 +78,6 @@ found_more keys piece from old new at passed same is was kept found only =
           (only p there);
     }
 
--- the messages that it found before an early end
 pub found_some : (keys piece : List ℕ) (from : ℕ) (old new : Expected) → new.passed ≡ old.passed → ((d : ℕ) → is_expected new d ≡ is_expected old d) → IsPieceOf keys from piece → AreFound keys old
     → ((p : Place) → Contains old.places.items p → Contains new.places.items p)
     → ((p : Place) → Contains new.places.items p → Contains old.places.items p ⊎ IsPlaceIn piece from p) → AreFound keys new
@@ -103,25 +99,21 @@ found_some keys piece from old new passed same is was kept only =
           (only p there);
     }
 
--- the expected messages of the piece before number `end` are in the list
 abbrev pub HasAllSet : List Bool → List Bool → List ℕ → ℕ → ℕ → List Place → Type 0
 HasAllSet low high piece from end places = (i : ℕ) → i < end → are_set low high (digest_at piece i) ≡ true → Contains places (place_in piece from i)
 
--- one more that is not
 pub passed_one : (low high : List Bool) (piece : List ℕ) (from i : ℕ) (places : List Place) → are_set low high (digest_at piece i) ≡ false → HasAllSet low high piece from i places → HasAllSet low high piece from (i + 1) places
 passed_one low high piece from i places not_set all j under set =
     ⊎_elim (λ (h : j < i). all j h set)
     (λ (h : i ≤ j). let same : j ≡ i = omega (arith, h, under) in let is : are_set low high (digest_at piece i) ≡ true = subst (λ (n : ℕ). are_set low high (digest_at piece n) ≡ true) same set in absurd (cc))
     (cases_lt j i)
 
--- and one more that is
 pub added_one : (low high : List Bool) (piece : List ℕ) (from i : ℕ) (places : List Place) → HasAllSet low high piece from i places → HasAllSet low high piece from (i + 1) (places ++ (place_in piece from i ∷ []))
 added_one low high piece from i places all j under set =
     ⊎_elim (λ (h : j < i). Contains-append_left places (place_in piece from i ∷ []) (place_in piece from j) (all j h set))
     (λ (h : i ≤ j). let same : i ≡ j = omega (arith, h, under) in subst (λ (n : ℕ). Contains (places ++ (place_in piece from i ∷ [])) (place_in piece from n)) same (Contains-push places (place_in piece from i)))
     (cases_lt j i)
 
--- each place is one from before, or of the first messages of the piece
 abbrev pub AreOnly : List ℕ → ℕ → List Place → List Place → Type 0
 AreOnly piece from old places = (p : Place) → Contains places p → Contains old p ⊎ IsPlaceIn piece from p
 
@@ -129,7 +121,6 @@ pub only_more : (piece : List ℕ) (from i : ℕ) (old places : List Place) → 
 only_more piece from i old places within only p there =
     ⊎_elim (λ (h : Contains places p). only p h) (λ (h : place_in piece from i ≡ p). inr (record { i = i; within = within; is = sym h })) (Contains-push_cases places (place_in piece from i) p there)
 
--- the next place is greater
 pub seen_more : (places : List Place) (digest below i last : ℕ) (place : Place) → i < length places → place ≡ get_or places i place → place.digest ≡ digest → last ≤ place.number → place.number < below
     → IsLastSeen places digest below i last → IsLastSeen places digest below (i + 1) (place.number + 1)
 seen_more places digest below i last place inside at is from low was = record {
@@ -148,24 +139,20 @@ seen_more places digest below i last place inside at is from low was = record {
       (cases_lt k i);
 }
 
--- an empty list of found messages is correct
 pub found_none : (keys : List ℕ) (expected : Expected) → expected.passed ≡ 0 → expected.places.items ≡ [] → AreFound keys expected
 found_none keys expected passed none = grind arith
 
--- the keys begin with these, and chains are made of them
 pub record IsFrontOf (keys own : List ℕ) (made : Chains) : Type 0 where
   pub rest : List ℕ
   pub front : keys ≡ own ++ rest
   pub even : 16 * (length own / 16) ≡ length own
   pub chains : AreChains own made
 
--- an index that took a piece into its keys, or failed to
 pub kept_more : {T E : Type 0} (r : Result T E) (keys piece more : List ℕ) (from : ℕ) (index : Index) → more ≡ (if is_ok r then index.keys.items ++ piece else index.keys.items) → length index.keys.items / 16 ≡ from → IsPieceOf keys from piece
     → IsIndexOf keys index → IsFrontOf keys more index.chains
 kept_more (Ok done) keys piece more from index items at is was = grind (arith, drop_at, length-append, append_assoc, chains_stay)
 kept_more (Err failed) keys piece more from index items at is was = grind arith
 
--- a digest in its own keys is that of all keys
 pub own_digest : (keys own : List ℕ) (index : Index) (i : ℕ) → IsIndexOf keys index → own ≡ index.keys.items → i < length own / 16 → digest_at keys i ≡ digest_at own i
 own_digest keys own index i is same within = grind (arith, entry_stays)
 
@@ -177,7 +164,6 @@ pub none_map : {A P Q : Type 0} (r : Option A) → (P → Q) → IfNone r P → 
 none_map (Some x) gives was = tt
 none_map None gives was = gives was
 
--- the number of keys after that
 pub taken_size : {T E : Type 0} (r : Result T E) (own piece more : List ℕ) (from : ℕ) {count : ℕ} → count ≡ length more / 16 → more ≡ (if is_ok r then own ++ piece else own) → length own / 16 ≡ from → 16 * (length own / 16) ≡ length own
     → OnOk r (count ≡ from + length piece / 16)
 taken_size (Ok done) own piece more from counts items at even = let long = ap (λ (l : List ℕ). length l) items ∙ length-append own piece in omega (arith, counts, long, at, even)

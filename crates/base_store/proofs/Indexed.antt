@@ -4,7 +4,6 @@ use Rattle.std.proofs.lemmas.{Bool.cases_lt, List.drop-append-le, List.take-appe
 use Rattle.std.specs.Int.{w64, from_le_bytes}
 use Rattle.base_store.specs.{Chains.AreChains, Chains.IsLastUnder, Chains.count_of, Chains.head_of, Keys.digest_at, declared.chains.Chains.Chains}
 
--- more keys behind them change no entry
 pub entry_stays : (keys more : List ℕ) (i : ℕ) → 16 * i + 16 ≤ length keys → digest_at (keys ++ more) i ≡ digest_at keys i
 entry_stays keys more i within =
     let at = 16 * i + 8 in
@@ -12,7 +11,6 @@ entry_stays keys more i within =
     let long = length-drop at keys in
     ap (λ (l : List ℕ). from_le_bytes w64 l) (ap (λ (l : List ℕ). take 8 l) front ∙ take-append-le 8 (drop at keys) more (omega (arith, long, within)))
 
--- the last one is that of the same keys with more behind them
 last_stays : (keys more : List ℕ) (heads head n last : ℕ) → 16 * n ≤ length keys → IsLastUnder keys heads head n last → IsLastUnder (keys ++ more) heads head n last
 last_stays keys more heads head n last within is = grind (arith, entry_stays)
 
@@ -25,7 +23,6 @@ pub record IsReached (keys : List ℕ) (chains : Chains) (digest below next : �
   pub has : (i : ℕ) → next ≡ i + 1 → head_of (length chains.heads.items) (digest_at keys i) ≡ head_of (length chains.heads.items) digest
   pub passed : (j : ℕ) → next ≤ j → j < count_of chains → j < below → digest_at keys j ≢ digest
 
--- if this message has another digest, the search goes to the one before it in the chain
 reached_before : (keys : List ℕ) (chains : Chains) (digest below next place : ℕ) → next ≡ place + 1 → ((place < below) × (digest_at keys place ≡ digest) → ⊥) → AreChains keys chains
     → IsReached keys chains digest below next → IsReached keys chains digest below (get_or chains.before.items place 0)
 reached_before keys chains digest below next place at other are was = grind (arith, ⊎_elim, cases_lt)

@@ -7,11 +7,9 @@ use Rattle.echo_filed.specs.{Filed.Filed, Stored.Stored, Stored.IsStored, Stored
 use Rattle.base_file.specs.Alone.{MayStandAlone}
 use Rattle.base_store.specs.Keys.{FolderRepresents, HasBytesOf, RepresentsSeat, AreWhereRecorded, digested, entry, keys_from, place_at, place_behind}
 
--- the bytes of the messages in order
 abbrev pub bytes_of : List Stored → List ℕ
 bytes_of all = flat_map (stored_bytes Second) all
 
--- the messages before and after one message
 record Parts (all : List Stored) (i : ℕ) : Type 0 where
   before : List Stored
   s : Stored
@@ -29,7 +27,6 @@ parts_at (x ∷ more) (suc i) within sizes sound =
     let r = parts_at more i (omega arith) sizes.1 sound.1 in
     record { before = x ∷ r.before; s = r.s; later = r.later; parts = ap (λ (l : List Stored). x ∷ l) r.parts; count = ap suc r.count; size = r.size; alone = r.alone }
 
--- a message in the middle of a list
 middle : (before : List Stored) (s : Stored) (later : List Stored) (d : Filed) → get_or (map (message_in Second) (before ++ (s ∷ later))) (length before) d ≡ message_in Second s
 middle [] s later d = refl
 middle (x ∷ before) s later d = middle before s later d
@@ -51,11 +48,9 @@ keys_append digest place (s ∷ a) b =
     ap (λ (l : List ℕ). one ++ l) (keys_append digest next a b ∙ ap (λ (n : ℕ). keys_from digest next a ++ keys_from digest n b) sum)
     ∙ sym (append_assoc one (keys_from digest next a) (keys_from digest (place + length (stored_bytes Second s ++ bytes_of a)) b))
 
--- the place in an entry
 entry_place : (place number : ℕ) (rest : List ℕ) → place < 2 ^ 64 → from_le_bytes w64 (take 8 (entry place number ++ rest)) ≡ place
 entry_place place number rest fits = grind (arith, append_assoc, take_at, from_le_bytes-to_le_bytes_8)
 
--- the entry behind the first ones
 place_recorded : (digest : List ℕ → ℕ) (before : List Stored) (s : Stored) (later : List Stored) → length (bytes_of before) < 2 ^ 64
     → place_at (keys_from digest 0 (before ++ (s ∷ later))) (length before) ≡ length (bytes_of before)
 place_recorded digest before s later fits =
@@ -72,15 +67,12 @@ place_recorded digest before s later fits =
     ∙ entry_place p number rest here
     ∙ zero_more
 
--- the bytes between
 cut_out : (front here rest : List ℕ) → drop (length front) (take (length front + length here) (front ++ (here ++ rest))) ≡ here
 cut_out front here rest = grind (arith, take-append-add, take-append_seam, drop-append_seam)
 
--- the number of bytes up to a message, and through it
 bytes_through : (before : List Stored) (s : Stored) → length (bytes_of (before ++ (s ∷ []))) ≡ length (bytes_of before) + length (stored_bytes Second s)
 bytes_through before s = grind (arith, flat_map-append, append-nil, length-append)
 
--- the place behind a message
 behind_recorded : (digest : List ℕ → ℕ) (before : List Stored) (s : Stored) (later : List Stored) → length (bytes_of (before ++ (s ∷ []))) < 2 ^ 64
     → place_behind (bytes_of (before ++ (s ∷ later))) (keys_from digest 0 (before ++ (s ∷ later))) (length before) ≡ length (bytes_of (before ++ (s ∷ [])))
 behind_recorded digest before s [] fits =
@@ -101,12 +93,10 @@ behind_recorded digest before s (x ∷ more) fits =
     ∙ ap (λ (l : List Stored). place_at (keys_from digest 0 l) (length (before ++ (s ∷ [])))) (sym joined)
     ∙ place_recorded digest (before ++ (s ∷ [])) x more fits
 
--- the bytes of a message in the middle
 has_bytes : (digest : List ℕ → ℕ) (before : List Stored) (s : Stored) (later : List Stored) → length (bytes_of (before ++ (s ∷ later))) < 2 ^ 64
     → HasBytesOf (bytes_of (before ++ (s ∷ later))) (keys_from digest 0 (before ++ (s ∷ later))) (length before) s
 has_bytes digest before s later fits = grind (arith, flat_map-append, length-append, bytes_through, place_recorded, behind_recorded, cut_out)
 
--- the message of a number
 represented_at : (digest : List ℕ → ℕ) (all : List Stored) (i : ℕ) → length (bytes_of all) < 2 ^ 64 → Parts all i
     → RepresentsSeat (map (message_in Second) all) (bytes_of all) (keys_from digest 0 all) i
 represented_at digest all i fits p =

@@ -1,15 +1,12 @@
--- The entry of each message is found at its number.
 use Rattle.std.proofs.Common.{◌≡◌, ◌<◌, ◌+◌, ◌*◌, ◌^◌, ℕ, zero, suc, List, [], ◌∷◌, ◌++◌, length, map, take, drop, get_or, refl, sym, ◌∙◌, ap, arith, append_assoc}
 use Rattle.std.proofs.lemmas.{List.take_at, List.drop_at, List.drop-drop, Nat.from_le_bytes-to_le_bytes_8}
 use Rattle.std.specs.Int.{w64, from_le_bytes}
 use Rattle.echo_filed.specs.{Filed.Filed, Stored.Stored, Stored.message_in, Stored.stored_bytes, declared.stored.Version.TheVariants.Second}
 use Rattle.base_store.specs.Keys.{digested, entry, keys_from, digest_at, FolderRepresents, RecordsEach}
 
--- the first entry
 at_first : (place number : ℕ) (rest : List ℕ) → number < 2 ^ 64 → from_le_bytes w64 (take 8 (drop 8 (entry place number ++ rest))) ≡ number
 at_first place number rest fits = grind (arith, append_assoc, drop_at, take_at, from_le_bytes-to_le_bytes_8)
 
--- those behind it
 at_next : (place number : ℕ) (rest : List ℕ) (i : ℕ) → digest_at (entry place number ++ rest) (suc i) ≡ digest_at rest i
 at_next place number rest i =
     let sum : 16 * suc i + 8 ≡ 16 + (16 * i + 8) = omega arith in

@@ -11,7 +11,6 @@ same_store s = record { represented = λ base c. (λ h. h, λ h. h); own = λ m.
 pub same_twice : (old mid new : StoreState) → IsSameStore old mid → IsSameStore mid new → IsSameStore old new
 same_twice old mid new first second = grind arith
 
--- no call, no change
 pub quiet_disk : (d : DiskState) → ChangesNothing d d
 quiet_disk d = grind (arith, no_call)
 
@@ -27,7 +26,6 @@ looks_go_on old new looks = record { ready = looks.ready; committed = λ honest.
 pub goes_on_twice : (old mid new : StoreState) → GoesOn old mid → GoesOn mid new → GoesOn old new
 goes_on_twice old mid new first second = grind arith
 
--- a look commits nothing
 pub looks_commit : (old new : StoreState) → old.is_ready → LooksOn old new → CommitsNothing old new
 looks_commit old new ready looks = grind (arith, weaker_run)
 
@@ -38,7 +36,6 @@ others_twice old mid new same first second = grind arith
 stood_before : (old mid : StoreState) (base : Base) (c : Files) → IsSameStore old mid → KeepsOthers old mid → LeavesCommitted mid base c → LeavesCommitted old base c
 stood_before old mid base c same kept stood = grind arith
 
--- calls that commit nothing, one sequence after another
 pub commits_none : (old mid new : StoreState) → CommitsNothing old mid → GoesOn old mid → CommitsNothing mid new → CommitsNothing old new
 commits_none old mid new first on second = grind (arith, then_run, stood_before, others_twice, same_twice)
 

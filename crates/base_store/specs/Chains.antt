@@ -12,7 +12,6 @@ pub record IsLastUnder (keys : List ℕ) (heads head n last : ℕ) : Type 0 wher
   pub has : (i : ℕ) → last ≡ i + 1 → head_of heads (digest_at keys i) ≡ head
   pub none : (j : ℕ) → last ≤ j → j < n → head_of heads (digest_at keys j) ≢ head
 
--- The number of messages in the chains.
 abbrev pub count_of : Chains → ℕ
 count_of chains = length chains.before.items
 

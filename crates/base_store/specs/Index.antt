@@ -2,7 +2,6 @@
 use Rattle.std.specs.Prelude.{◌≡◌, ℕ, ◌*◌, ◌/◌, List, ◌++◌, length, if◌then◌else◌}
 use Rattle.base_store.specs.{Chains.AreChains, Expected.AreFound, Expected.is_expected, declared.index.Index.Index}
 
--- The entries in the index.
 abbrev pub entries_of : Index → List ℕ
 entries_of index = index.keys.items
 

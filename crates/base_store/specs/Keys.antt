@@ -14,7 +14,7 @@ digested_with m None = m.echo.tag ++ (m.date ++ (m.to_name ++ (m.from_name ++ (m
 abbrev pub digested : Filed → List ℕ
 digested m = digested_with m (msgid_of m.echo.kept)
 
--- The same for a key.
+-- The bytes that the digest of a key covers.
 abbrev pub digested_key : Key → List ℕ
 digested_key (ById tag id) = id
 digested_key (ByContent tag date to_name from_name subject kept) = tag ++ (date ++ (to_name ++ (from_name ++ (subject ++ flat_map ended kept))))
@@ -40,11 +40,9 @@ pub record FolderRepresents (digest : List ℕ → ℕ) (base : List Filed) (cur
   pub digests : (bytes : List ℕ) → digest bytes < 2 ^ 64
   pub holds : IsBase base cursor
 
--- The place of the message of this number.
 abbrev pub place_at : List ℕ → ℕ → ℕ
 place_at keys i = from_le_bytes w64 (take 8 (drop (16 * i) keys))
 
--- The digest of the message of this number.
 abbrev pub digest_at : List ℕ → ℕ → ℕ
 digest_at keys i = from_le_bytes w64 (take 8 (drop (16 * i + 8) keys))
 
@@ -55,7 +53,6 @@ pub record IsPieceOf (keys : List ℕ) (from : ℕ) (piece : List ℕ) : Type 0 
   pub behind : drop (16 * from) keys ≡ piece ++ rest
   pub even : 16 * (length piece / 16) ≡ length piece
 
--- Each message has its digest in its entry.
 abbrev pub RecordsEach : (List ℕ → ℕ) → List Filed → List ℕ → Type 0
 RecordsEach digest base keys = (i : ℕ) (d : Filed) → i < length base → digest_at keys i ≡ digest (digested (slice_index_or base i d))
 

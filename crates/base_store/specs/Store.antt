@@ -7,7 +7,6 @@ use Rattle.base_store.specs.declared.store_error.StoreError.{StoreError}
 use Rattle.base_store.specs.declared.store_error.StoreError.TheVariants as error
 use Rattle.disk_io.specs.declared.disk_error.DiskError.TheVariants as disk_error
 
--- The fault of a disk as a fault of a store.
 abbrev pub store_cause : DiskError → StoreError
 store_cause disk_error.Memory = error.Memory
 store_cause disk_error.Device = error.Device
@@ -39,11 +38,9 @@ pub record StoreState : Type 1 where
   -- Reads also show this base.
   pub shown : Honestly disk (is_ready → (base : Base) → committed base → represented base disk.seen)
 
--- The base with one message more at its end.
 abbrev pub with_message : Base → Filed → Base
 with_message base message = record { messages = base.messages ++ message ∷ []; cursor = base.cursor }
 
--- The base with the cursor at its end.
 abbrev pub all_scanned : Base → Base
 all_scanned base = record { messages = base.messages; cursor = length base.messages }
 

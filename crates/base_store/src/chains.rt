@@ -8,9 +8,8 @@ use std::alloc::{AllocError, Global};
 /// How many messages are chained at most: each, counted from 1, is a number of four bytes.
 const MOST: usize = 4_294_967_294;
 
-/// For the low bits of digests the last message with them, and for each message the previous one
-/// with the same bits: counted from 1, and 0 for none. They take 6 to 8 bytes a message, and on
-/// average one or two messages share their low bits. The caller holds the keys, and passes to each
+/// Chains by the low bits of digests: to the last message with these bits, and from each message to the previous one,
+/// counted from 1, and 0 for none. They take 6 to 8 bytes a message. The caller holds the keys, and passes to each
 /// call the same ones, or the same and more behind them.
 #[derive(Drop)]
 pub struct Chains {
@@ -27,7 +26,6 @@ fn head_of(heads: usize, digest: u64) -> usize
 }
 
 impl Chains {
-    /// Those of no message.
     pub fn new(alloc: Global) -> Chains
         ensures { (keys : List ℕ) → AreChains keys result }
     {
@@ -37,7 +35,6 @@ impl Chains {
         }
     }
 
-    // Makes more heads and chains no message, if there are too few heads for this many messages.
     fn make_room(&mut self, alloc: Global, all: usize) -> Result<(), AllocError>
         ensures chains { (keys : List ℕ) → AreChains keys self.old → AreChains keys self.new }
         ensures room { OnOk result (0 < length self.new.heads.items) }
@@ -50,7 +47,6 @@ impl Chains {
         Ok(())
     }
 
-    // Chains the message of this number, the next one. If memory is refused, nothing has changed.
     fn chain_next(&mut self, keys: &[u8], number: usize) -> Result<(), AllocError>
         requires within { number < length keys.now / 16 }
         requires few { number < 4294967294 }
@@ -67,8 +63,7 @@ impl Chains {
         Ok(())
     }
 
-    /// Chains the messages of the keys that are not yet, up to the number that chains may have. If
-    /// memory is refused, these are chains still: look-ups pass over the keys that are not chained.
+    /// Chains the messages that are not chained yet. If memory is refused, look-ups pass over the keys of the others.
     pub fn follow(&mut self, alloc: Global, keys: &[u8]) -> Result<(), AllocError>
         ensures chains { AreChains keys.now self.old → AreChains keys.now self.new }
         ensures all { OnOk result (min (length keys.now / 16) 4294967294 ≤ count_of self.new) }
@@ -81,7 +76,6 @@ impl Chains {
         Ok(())
     }
 
-    // The message of this number, counted from 1, and the previous one under the same head.
     fn link(&self, next: usize) -> Option<(usize, usize)>
         ensures link { IfSome result (λ link. (next ≡ link.0 + 1) × (link.0 < count_of self.now) × (link.1 ≡ min (slice_index self.now.before.items link.0) link.0)) }
         ensures none { IfNone result ((next ≡ 0) ⊎ (count_of self.now < next)) }
@@ -93,7 +87,6 @@ impl Chains {
         Some((place, (self.before[place] as usize).min(place)))
     }
 
-    // The last chained message below that number with the digest.
     fn find_chained(&self, keys: &[u8], digest: u64, below: usize) -> Option<usize>
         requires { below ≤ length keys.now / 16 }
         ensures found { IfSome result (λ i. (i < below) × (digest_at keys.now i ≡ digest)) }

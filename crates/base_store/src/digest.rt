@@ -9,23 +9,19 @@ use std::alloc::{AllocError, Global};
 pub trait Digest: Drop {
     ghost digest: { Self → List ℕ → ℕ };
 
-    // The digest by the key of these two halves.
     ghost keyed: { ℕ → ℕ → List ℕ → ℕ };
 
     /// The digest by the key of these two halves.
     fn keyed(first: u64, second: u64) -> Self
         ensures { digest result ≡ keyed first second };
 
-    /// The digest of the bytes.
     fn of(&self, bytes: &[u8]) -> u64
         ensures { result ≡ digest self.now bytes.now };
 
-    // Eight bytes have room for it.
     ghost fits: { (first second : ℕ) (bytes : List ℕ) → keyed first second bytes < 2 ^ 64 };
 }
 
-/// The digest of a message with this key: of its id, whatever the area, or else of the parts of the
-/// whole key.
+/// The digest of a message with this key: of its id, whatever the area, or else of all parts of the key.
 pub fn digest_of_key<H: Digest>(alloc: Global, digest: &H, key: &Key) -> Result<u64, AllocError>
     ensures { IfOk result (λ found. found ≡ H.digest digest.now (digested_key key.now)) }
 {

@@ -6,7 +6,6 @@ ghost use Rattle.base_store.specs.Keys.{digest_at, entry, place_at, place_behind
 /// How many bytes an entry has.
 pub(crate) const ENTRY: usize = 16;
 
-// Eight bytes from there on, low byte first.
 fn number_at(keys: &[u8], at: usize) -> u64
     requires { at + 8 ≤ length keys.now }
     ensures { result ≡ from_le_bytes w64 (take 8 (drop at keys.now)) }
@@ -39,8 +38,7 @@ pub fn digest_of(keys: &[u8], number: usize) -> u64
     number_at(keys, ENTRY * number + 8)
 }
 
-/// The place where the message of this number ends: where the next one begins, or where all
-/// messages end.
+/// Where the message of this number ends: where the next one begins, or where all messages end.
 pub fn end_of(keys: &[u8], number: usize, all: u64) -> u64
     requires { number < length keys.now / 16 }
     ensures { (messages : List ℕ) → length messages ≡ all → result ≡ place_behind messages keys.now number }
@@ -64,7 +62,6 @@ pub fn entry(place: u64, digest: u64) -> [u8; 16]
     ]
 }
 
-/// Whether the message of this number is below the other and has the digest.
 pub(crate) fn has_digest(keys: &[u8], digest: u64, place: usize, below: usize) -> bool
     requires { below ≤ length keys.now / 16 }
     ensures { IsTrue result ↔ ((place < below) × (digest_at keys.now place ≡ digest)) }
@@ -72,7 +69,6 @@ pub(crate) fn has_digest(keys: &[u8], digest: u64, place: usize, below: usize) -
     place < below && digest_of(keys, place) == digest
 }
 
-// The last message from number `from` on and below `below` with the digest.
 pub(crate) fn last_from(keys: &[u8], digest: u64, from: usize, below: usize) -> Option<usize>
     requires { below ≤ length keys.now / 16 }
     ensures found { IfSome result (λ i. (from ≤ i) × (i < below) × (digest_at keys.now i ≡ digest)) }

@@ -12,15 +12,13 @@ const FLAGS: usize = 65_536;
 /// The most digests that are expected. With more of them the flags distinguish too little.
 const MOST: usize = 2_048;
 
-/// Flags for expected digests, and the messages that have such digests, among the first ones of the
-/// keys. A digest with the bits of an expected one counts as expected: that costs time and never a
-/// wrong answer.
+/// Flags for expected digests, and the messages with such digests among the first keys. Another digest with the bits
+/// of an expected one counts too: that costs time and never a wrong answer.
 #[derive(Drop)]
 pub struct Expected {
     // A flag for the low sixteen bits of a digest, and one for the sixteen above them.
     low: Vec<bool>,
     high: Vec<bool>,
-    // The number of expected digests.
     digests: usize,
     places: Vec<Place>,
     // The number of messages that a pass has covered.
@@ -49,8 +47,6 @@ fn are_set(low: &[bool], high: &[bool], digest: u64) -> bool
     is_set(low, (digest % 65_536) as usize) && is_set(high, (digest / 65_536 % 65_536) as usize)
 }
 
-// Adds the places of the messages in the piece with digests that have their flags set. The first
-// of them has that number.
 fn find_all(
     low: &[bool],
     high: &[bool],
@@ -94,7 +90,6 @@ impl Expected {
         are_set(&self.low, &self.high, digest)
     }
 
-    /// The number of first messages that a pass has covered.
     pub(crate) fn passed(&self) -> usize
         ensures { result ≡ self.now.passed }
     {
@@ -131,8 +126,7 @@ impl Expected {
         Ok(())
     }
 
-    /// Goes over the next messages of the keys, of which the first has that number. If memory is
-    /// refused, the next call repeats it.
+    /// Goes over the next keys, of which the first has that number. If memory is refused, the next call repeats it.
     pub(crate) fn go_over(&mut self, from: usize, piece: &[u8]) -> Result<(), AllocError>
         requires { from + length piece.now / 16 < 2 ^ 64 }
         ensures found { (keys : List ℕ) → self.old.passed ≡ from → IsPieceOf keys from piece.now → AreFound keys self.old → AreFound keys self.new }
@@ -144,8 +138,6 @@ impl Expected {
         Ok(())
     }
 
-    // One step of `find_below`: of the places through number `i`, the greatest below the bound with
-    // the digest, counted from 1. `last` is that of the places before it.
     fn seen_next(&self, digest: u64, below: usize, i: usize, last: usize) -> usize
         requires { i < length self.now.places.items }
         ensures { IsLastSeen self.now.places.items digest below i last → IsLastSeen self.now.places.items digest below (i + 1) result }
@@ -157,8 +149,7 @@ impl Expected {
         last
     }
 
-    /// The last message below that number with the digest, of those gone over. It looks at all
-    /// places: they are few.
+    /// The last message below that number with the digest. It looks at all places: they are few.
     pub(crate) fn find_below(&self, digest: u64, below: usize) -> Option<usize>
         ensures found { IfSome result (λ i. i < below) }
         ensures digest { (keys : List ℕ) → AreFound keys self.now → IfSome result (λ i. digest_at keys i ≡ digest) }

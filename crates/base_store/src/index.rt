@@ -10,13 +10,10 @@ use std::alloc::{AllocError, Global};
 /// How many look-ups pass over the keys before chains are made of them: a posting has no more.
 const PASSES: u8 = 2;
 
-/// Chains, and the keys that they are made of: some 22 to 24 bytes a message.
-///
-/// Expected digests need no chains: one pass finds the messages that have them, and the keys that
-/// were gone over are not kept. The first look-ups of other digests are made so too.
+/// Chains, and the keys that they are made of: some 22 to 24 bytes a message. Expected digests need no chains: one
+/// pass finds their messages, and keeps no keys. The first look-ups of other digests are made so too.
 #[derive(Drop)]
 pub struct Index {
-    // The first keys, once there are chains.
     keys: Vec<u8>,
     chains: Chains,
     expected: Expected,
@@ -25,7 +22,6 @@ pub struct Index {
 }
 
 impl Index {
-    /// One that has no message yet.
     pub fn new(alloc: Global) -> Index
         ensures { (keys : List ℕ) → IsIndexOf keys result }
     {
@@ -104,8 +100,7 @@ impl Index {
         Some(&self.keys[ENTRY * from..ENTRY * to])
     }
 
-    /// The last message below that number with the digest, of those covered. Its key may differ:
-    /// compare whole keys.
+    /// The last covered message below that number with the digest. Its key may differ: compare whole keys.
     pub fn find_below(&self, digest: u64, below: usize) -> Option<usize>
         ensures found { IfSome result (λ i. i < below) }
         ensures digest { (keys : List ℕ) → IsIndexOf keys self.now → IfSome result (λ i. digest_at keys i ≡ digest) }

@@ -15,8 +15,7 @@ pub fn equal_keys_have_one_digest()
     ensures { (m : Filed) → digested m ≡ digested_key (key_of m) }
 {}
 
-/// In a base folder each message begins at the place in its entry, and ends where the next one
-/// begins.
+/// In a base folder each message is where its entry says, and ends where the next one begins.
 pub fn each_message_is_where_recorded()
     ensures { (digest : List ℕ → ℕ) (base : List Filed) (cursor : ℕ) (messages keys : List ℕ)
         → FolderRepresents digest base cursor messages keys → AreWhereRecorded base messages keys }

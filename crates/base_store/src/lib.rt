@@ -1,14 +1,6 @@
-//! The trait `Store`: messages and a cursor, as posting, tossing, scanning and purging use them, wherever they are
-//! kept. It also has the keys of a base folder: for each message its place, and a digest that finds it by its key.
-//!
-//! Promise: the traits state what a store holds, and what a crash leaves of it. A look-up finds the messages with a
-//! digest, in one pass or by an index. The caller compares whole keys, so two messages with one digest cost time and
-//! never a wrong answer.
-//!
-//! Begin with `store` (the traits). `memory_store` is a base in memory, `store_error` says why a call failed.
-//! For keys, begin with `entries` (the entry of a message, and look-ups by digest). `chains` is for many look-ups,
-//! `expected` for digests that are known in advance, `index` has both. `digest` says which bytes are digested, `sip`
-//! is SipHash as a digest, `laws` states the promise about keys.
+//! The trait `Store`: messages and a cursor, wherever they are kept. It also has the keys of a base folder: for each
+//! message its place, and a digest that finds it by its key. The caller compares whole keys, so two messages with one
+//! digest cost time and never a wrong answer. Begin with `store` (the traits), and with `entries` for keys.
 #![tactic(auto)]
 
 mod chains;

@@ -1,4 +1,3 @@
-//! A base in memory, as a store.
 ghost use Rattle.std.specs.Prelude.{◌≡◌, slice_get};
 ghost use Rattle.base_store.specs.Store.{no_disk};
 
@@ -8,24 +7,20 @@ use base_file::Base;
 use echo_filed::{Filed, Key};
 use std::hash::BuildHasher;
 
-/// A base in memory. It is on no disk, so any files represent any base: its owner saves it as a
-/// file.
+/// A base in memory. It is on no disk, so any files represent any base: its owner saves it as a file.
 #[derive(Drop)]
 pub struct MemoryStore<S: BuildHasher> {
     base: Base<S>,
-    // The number of the current message.
     place: usize,
 }
 
 impl<S: BuildHasher> MemoryStore<S> {
-    /// The base as a store.
     pub fn new(base: Base<S>) -> MemoryStore<S>
         ensures { (⟦<MemoryStore<S> as Store>⟧.state result).keeps base }
     {
         MemoryStore { base, place: 0 }
     }
 
-    /// The base.
     pub fn base(&self) -> &Base<S>
         ensures { (⟦<MemoryStore<S> as Store>⟧.state self.now).keeps result.now }
     {

@@ -1,4 +1,3 @@
-//! Digests by SipHash.
 ghost use Rattle.std.proofs.Common.{arith};
 ghost use Rattle.base_store.specs.Sip.{sip_digest};
 

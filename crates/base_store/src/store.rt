@@ -1,4 +1,3 @@
-//! Messages and a cursor, wherever they are kept.
 ghost use Rattle.std.specs.Prelude.{◌≡◌, ◌<◌, ℕ, not, false, length, take, count_by, slice_get, option_copied, IfOk, IsErrOf, OnOk, OnErr};
 ghost use Rattle.std.specs.List.{list_any};
 ghost use Rattle.disk_io.specs.{Disk.Honestly, Runs.ChangesNothing};
@@ -9,15 +8,12 @@ ghost use Rattle.base_store.specs.Store.{StoreState, LooksOn, CommitsNothing, Ma
 use crate::store_error::StoreError;
 use echo_filed::{Filed, Key};
 
-/// The messages of a system in order of filing, no key twice, and the cursor: the messages before it were scanned.
+/// The messages of a system in order of filing, no key twice; those before the cursor were scanned. A commit makes
+/// changes permanent; until then a crash leaves the base that was committed before. After a call that failed in the
+/// middle of a change, open the store again, unless it undoes failed changes.
 ///
-/// Changes are permanent after a commit; until then a crash leaves the base that was committed
-/// before. After a call that failed in the middle of a change only what a crash may leave is known.
-/// Open the store again then, unless it undoes failed changes.
-///
-/// Files that others change too may answer anything. So an answer says something about the messages
-/// only if the disk was honest until then. The preconditions about messages assume an honest disk,
-/// too.
+/// Answers and preconditions about messages hold only if the disk was honest until then: files that others change may
+/// answer anything.
 pub trait Store {
     // The messages that it holds, and what a crash may leave.
     ghost state: { Self → StoreState };
@@ -25,7 +21,6 @@ pub trait Store {
     // How often the device failed: a count that stays at 2^64 - 1.
     ghost failures: { Self → ℕ };
 
-    /// How many messages there are.
     fn len(&self) -> usize
         requires { (state self.now).is_ready }
         ensures count { Honestly (state self.now).disk ((base : Base) → (state self.now).keeps base → result ≡ length base.messages) }
@@ -36,7 +31,6 @@ pub trait Store {
         requires { (state self.now).is_ready }
         ensures { Honestly (state self.now).disk ((base : Base) → (state self.now).keeps base → result ≡ base.cursor) };
 
-    /// Whether a message has the key.
     fn knows(&mut self, key: &Key) -> Result<bool, StoreError>
         requires { (state self.old).is_ready }
         ensures found { Honestly (state self.new).disk ((base : Base) → (state self.old).keeps base → IfOk result (λ found. found ≡ is_known base.messages key.now)) }

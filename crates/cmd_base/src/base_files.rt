@@ -14,7 +14,6 @@ use std::{fs, io};
 /// The end of a staging path.
 const BESIDE: &str = "~.new";
 
-/// The files of the system.
 #[derive(Drop)]
 pub struct BaseFiles<'r> {
     rt: &'r HostRuntime,
@@ -24,7 +23,6 @@ pub struct BaseFiles<'r> {
     placed: Cell<Option<Made>>,
 }
 
-/// A file that was made, which stays open.
 #[derive(Drop)]
 struct Made {
     path: String,
@@ -47,8 +45,7 @@ impl<'r> BaseFiles<'r> {
         }
     }
 
-    // The mode and owner of the file that will be replaced, if there is one. A symbolic link is not replaced: if it
-    // leads to a file, that file's path is returned.
+    // A symbolic link is not replaced: if it leads to a file, that file's path is returned.
     fn access_at(&self, target: &str) -> io::Result<Option<Access>> {
         if is_link(self.rt, target) {
             return Err(ErrorKind::Other.into());
@@ -56,8 +53,7 @@ impl<'r> BaseFiles<'r> {
         access_of(self.rt, target).map_err(system_error)
     }
 
-    // Makes the staging file with the mode of another, and with its owner if that is allowed. No other run has this
-    // new file, so it is locked at once, where files have locks.
+    // No other run has this new file, so it is locked at once, where files have locks.
     fn make(&self, path: &str, target: &str) -> io::Result<File> {
         let access = self.access_at(target)?;
         let made = self.new_file(path)?;
@@ -75,7 +71,6 @@ impl<'r> BaseFiles<'r> {
         }
     }
 
-    // The new file with this path, open at its beginning until it is written.
     fn made_at(&self, path: &str) -> Option<io::Result<File>> {
         let made = self.made.take()?;
         let file = made.opened_at(path);
@@ -92,7 +87,6 @@ impl<'r> BaseFiles<'r> {
 }
 
 impl Made {
-    // The file, open once more with this mode and owner.
     fn opened_with(&self, access: Option<Access>) -> io::Result<File> {
         if let Some(access) = access {
             give_access(&self.file, access)?;
@@ -100,7 +94,6 @@ impl Made {
         self.file.try_clone()
     }
 
-    // The file, open once more, if it has this path.
     fn opened_at(&self, path: &str) -> Option<io::Result<File>> {
         if self.path.as_str() == path {
             Some(self.file.try_clone())
@@ -110,7 +103,6 @@ impl Made {
     }
 }
 
-// Whether a symbolic link has the path.
 fn is_link(rt: &HostRuntime, path: &str) -> bool {
     match fs::symlink_metadata(rt, path) {
         Ok(found) => found.is_symlink(),

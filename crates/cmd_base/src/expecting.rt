@@ -47,7 +47,6 @@ fn bytes_in(rt: &HostRuntime, names: &[PathName]) -> u64 {
     bytes
 }
 
-// The size of the file with this name.
 fn size_of(rt: &HostRuntime, name: &PathName) -> u64 {
     let Ok(path) = name.path() else {
         return 0;
@@ -58,7 +57,6 @@ fn size_of(rt: &HostRuntime, name: &PathName) -> u64 {
     }
 }
 
-// Adds the keys of the messages in packet files.
 fn push_files(
     rt: &HostRuntime,
     names: &[PathName],
@@ -80,7 +78,6 @@ fn open_packet(rt: &HostRuntime, name: &PathName) -> Option<File> {
     }
 }
 
-// Adds the keys of the messages in a packet file.
 fn push_file(
     rt: &HostRuntime,
     file: File,
@@ -91,7 +88,6 @@ fn push_file(
     push_packet(rt, reader, limits, keys)
 }
 
-// Adds the keys of the messages in a packet, up to its first fault.
 fn push_packet<R: Source + Drop>(
     rt: &HostRuntime,
     reader: R,
@@ -118,7 +114,6 @@ fn push_messages<R: Source>(
     Ok(())
 }
 
-// Adds the key of a message, if it is echomail.
 fn push_key(rt: &HostRuntime, message: &Packed, keys: &mut Vec<Key>) -> Result<(), AllocError> {
     let Ok(front) = view_front(rt.alloc(), message.text()) else {
         return Ok(());
@@ -126,7 +121,6 @@ fn push_key(rt: &HostRuntime, message: &Packed, keys: &mut Vec<Key>) -> Result<(
     push_front(rt, message, &front, keys)
 }
 
-// Adds the key of a message with this front of its text.
 fn push_front(
     rt: &HostRuntime,
     message: &Packed,

@@ -37,7 +37,6 @@ pub fn break_hard_links<'a>(
     }
 }
 
-// Whether a file of the folder has a second path.
 fn has_hard_links<'a>(rt: &HostRuntime, base: &'a str) -> Result<bool, Fault<'a>> {
     let entries = fs::read_dir(rt, base).map_err(|error| folder_fault(&error, base))?;
     for entry in entries {
@@ -67,7 +66,6 @@ fn has_second_path(found: &Metadata) -> bool {
     found.is_file() && found.nlink() > 1
 }
 
-// A number of files that do not count in this folder, if it is a base.
 fn spare_in(rt: &HostRuntime, path: &str, strange: bool) -> Option<u8>
     ensures { IfSome result (λ spare. spare < 10) }
 {
@@ -78,7 +76,6 @@ fn spare_in(rt: &HostRuntime, path: &str, strange: bool) -> Option<u8>
     }
 }
 
-// A number of files that do not count.
 fn spare_number(used: u8) -> u8
     ensures digit { result < 10 }
     ensures other { result ≢ used }
@@ -105,7 +102,6 @@ fn copy_over(rt: &HostRuntime, path: &str, log: &str, staging: &str) -> Result<(
     copied
 }
 
-// Removes a file that a stopped run may have left.
 fn remove_left(rt: &HostRuntime, staging: &str) -> io::Result<()> {
     match fs::remove_file(rt, staging) {
         Err(error) if error.kind() != ErrorKind::NotFound => Err(error),
@@ -113,7 +109,6 @@ fn remove_left(rt: &HostRuntime, staging: &str) -> io::Result<()> {
     }
 }
 
-// Copies the log and the files of each number.
 fn copy_each(rt: &HostRuntime, path: &str, log: &str, staging: &str) -> Result<(), OutputFault> {
     copy_if_linked(rt, log, staging)?;
     'numbers: for number in 0..NUMBERS {
@@ -122,7 +117,6 @@ fn copy_each(rt: &HostRuntime, path: &str, log: &str, staging: &str) -> Result<(
     Ok(())
 }
 
-// Copies the files of a number.
 fn copy_number(rt: &HostRuntime, path: &str, number: u8, staging: &str) -> Result<(), OutputFault>
     requires { number < 10 }
 {
@@ -135,7 +129,6 @@ fn copy_both(rt: &HostRuntime, names: &Names, staging: &str) -> Result<(), Outpu
     copy_if_linked(rt, text_path(&names.keys), staging)
 }
 
-// Puts a copy in the place of the file with this path, if that has a second one.
 fn copy_if_linked(rt: &HostRuntime, path: &str, staging: &str) -> Result<(), OutputFault> {
     if !is_linked(rt, path)? {
         return Ok(());
@@ -145,7 +138,6 @@ fn copy_if_linked(rt: &HostRuntime, path: &str, staging: &str) -> Result<(), Out
     Ok(())
 }
 
-// Copies a file. The copy has its mode and owner.
 fn copy_to(rt: &HostRuntime, path: &str, staging: &str) -> Result<(), OutputFault> {
     let access = access_of(rt, path)?;
     make_new(rt, staging)?;
@@ -155,7 +147,6 @@ fn copy_to(rt: &HostRuntime, path: &str, staging: &str) -> Result<(), OutputFaul
     Ok(())
 }
 
-// Syncs a file with this mode and owner.
 fn sync_with(file: &File, access: Option<Access>) -> io::Result<()> {
     if let Some(access) = access {
         give_access(file, access)?;
@@ -163,7 +154,6 @@ fn sync_with(file: &File, access: Option<Access>) -> io::Result<()> {
     file.sync_all()
 }
 
-// Whether a file with this path is there and has a second one.
 fn is_linked(rt: &HostRuntime, path: &str) -> io::Result<bool> {
     match fs::symlink_metadata(rt, path) {
         Ok(found) => Ok(has_second_path(&found)),

@@ -32,7 +32,6 @@ impl<'r> LeftFiles<'r> {
         }
     }
 
-    // Notes the report.
     fn remember(
         &mut self,
         alloc: Global,
@@ -61,7 +60,6 @@ fn copy_of(alloc: Global, left: &StagedPacket) -> Result<StagedPacket, AllocErro
     })
 }
 
-// A copy of each packet.
 fn copies_of(alloc: Global, found: &[StagedPacket]) -> Result<Vec<StagedPacket>, AllocError>
     ensures { IfOk result (λ copies. copies.items ≡ found.now) }
 {
@@ -73,7 +71,6 @@ fn copies_of(alloc: Global, found: &[StagedPacket]) -> Result<Vec<StagedPacket>,
     Ok(copies)
 }
 
-// The report is true if these files are as it says.
 impl ListStaged for LeftFiles<'_> {
     ghost is_true = { λ listing files. AreListed listing.folder listing.own files listing.reported };
 
@@ -99,7 +96,6 @@ impl ListStaged for LeftFiles<'_> {
     }
 }
 
-// The packets of the system of this own name in staging files of the folder, as their names say.
 fn packets_staging(
     rt: &HostRuntime,
     folder: &[u8],
@@ -111,7 +107,6 @@ fn packets_staging(
     }
 }
 
-/// The packets of the system of this own name in staging files of the folder.
 pub(crate) fn packets_in(
     rt: &HostRuntime,
     folder: &str,
@@ -135,7 +130,6 @@ fn push_packets(
     }
 }
 
-// Adds the packets in a folder.
 fn push_listing(
     rt: &HostRuntime,
     listing: ReadDir,
@@ -156,7 +150,6 @@ fn unless_missing(error: &io::Error) -> Result<(), DiskError> {
     }
 }
 
-// Adds the packet at an entry of the folder, if it is one.
 fn push_entry(
     rt: &HostRuntime,
     entry: io::Result<DirEntry>,
@@ -193,7 +186,6 @@ fn unlisted(error: &io::Error) -> DiskError {
     }
 }
 
-// The part before `.pkt` in the name of a staged packet, and the number at its end.
 fn packet_staging<'n>(name: &'n str, ending: &str) -> Option<(&'n str, u64)> {
     let front = name.strip_suffix(ending)?;
     let (_, number) = front.rsplit_once('.')?;

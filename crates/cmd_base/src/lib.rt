@@ -1,10 +1,6 @@
-//! The base of a station, a file or a folder, for the commands that change it. Promise: the listed packets of earlier scans
-//! are noted unchanged (`remember`, `copies_of`). All else is proved to be safe and to end, and no more. Begin with
+//! The base of a station, a file or a folder, for the commands that change it. The listed packets of earlier scans are
+//! noted unchanged (`remember`, `copies_of`); all else is proved to be safe and to end, and no more. Begin with
 //! `base_files`, the files of the system on which a base file is replaced.
-//!
-//! `scan_files` adds the packets of a scan, `left_files` lists those of earlier scans. For a base folder, `hard_links`
-//! keeps snapshots unchanged, `expecting` has the keys of the messages that `toss` will read, and `outbound_note` the
-//! folder of packets.
 #![tactic(auto)]
 
 mod base_files;

@@ -18,13 +18,9 @@ const NOTE: &str = "outbound";
 /// The most bytes of a path.
 const MOST_PATH: usize = 4_096;
 
-/// Notes in the base folder that this system writes packets into the folder `outbound`. The system is the owner of the
-/// base folder. Only an existing folder is noted.
-///
-/// # Errors
-///
-/// `outbound` cannot be used if another folder is noted that has staging files of the system, or that cannot be read.
-/// The base folder cannot be used if the note cannot be written.
+/// Notes in the base folder that this system, its owner, writes packets into the existing folder `outbound`. That
+/// folder can't be used if another one is noted that has staging files of the system, or that can't be read. The base
+/// folder can't be used if the note can't be written.
 pub fn note_outbound<'a>(
     rt: &HostRuntime,
     base: &'a str,
@@ -90,7 +86,6 @@ fn write_note(rt: &HostRuntime, base: &str, note: &str, path: &str) -> Result<()
     flush_folder(rt, base)
 }
 
-// Writes a new file, and flushes it to the disk.
 fn fill(file: File, bytes: &[u8]) -> io::Result<()> {
     let mut device = Watched::new(file);
     let mut sent = 0;

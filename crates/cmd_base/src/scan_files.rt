@@ -23,7 +23,6 @@ pub struct ScanFiles<'p, 'r> {
     base: &'p str,
     folder: &'p str,
     progress: &'p Progress<'r>,
-    // How many packets there are, and how many of them are begun.
     packets: Cell<usize>,
     written: Cell<usize>,
     // The staging files of packets, until the base will be replaced.
@@ -38,7 +37,6 @@ pub struct ScanFiles<'p, 'r> {
 enum Role<'q> {
     /// The path at which the folder is tried for a second path. It is no staging path.
     Trial,
-    /// The path of this packet, or of its staging file.
     Packet(&'q str),
     Other,
 }
@@ -85,7 +83,6 @@ impl<'p, 'r> ScanFiles<'p, 'r> {
         self.taken.take()
     }
 
-    // What the path is to the scan.
     fn role_of<'q>(&self, path: &'q str) -> Role<'q> {
         let target = target_staging(path);
         if target == Some(self.folder) {
@@ -106,7 +103,6 @@ impl<'p, 'r> ScanFiles<'p, 'r> {
         }
     }
 
-    // Keeps the first path, if memory suffices.
     fn keep(&self, cell: &Cell<Option<String>>, path: &str) {
         let kept = match cell.take() {
             Some(kept) => Some(kept),
@@ -131,7 +127,6 @@ impl<'p, 'r> ScanFiles<'p, 'r> {
         }
     }
 
-    // Notes where the first call failed.
     fn note<T: Drop>(&self, path: &str, answer: io::Result<T>) -> io::Result<T> {
         if answer.is_err() {
             self.keep(&self.failed, path);
@@ -146,7 +141,6 @@ impl<'p, 'r> ScanFiles<'p, 'r> {
             .set(taken.filter(|taken| taken.as_str() != packet));
     }
 
-    // The path is looked at; if nothing has it, that is no failure.
     fn note_found<T: Drop>(&self, path: &str, answer: io::Result<T>) -> io::Result<T> {
         match answer {
             Err(error) if error.kind() == ErrorKind::NotFound => Err(error),
@@ -154,7 +148,6 @@ impl<'p, 'r> ScanFiles<'p, 'r> {
         }
     }
 
-    // One more packet is begun.
     fn tell(&self) {
         let written = self.written.get().saturating_add(1);
         self.written.set(written);
@@ -203,13 +196,11 @@ impl<'p, 'r> ScanFiles<'p, 'r> {
     }
 }
 
-// Removes the second path of a packet, which a stopped run may have left too.
 fn remove_left(rt: &HostRuntime, path: &str) -> io::Result<()> {
     check_left(rt.alloc(), rt, path, b"").map_err(system_error)?;
     rt.remove_file(path)
 }
 
-// The number after the last dot.
 fn last_number(name: &str) -> Option<u16> {
     let (_, number) = name.rsplit_once('.')?;
     number.parse::<u16>().ok()

@@ -1,5 +1,3 @@
-//! The commands that print what a base holds.
-
 use crate::files::reported_bytes;
 use crate::listing::{export_folder, list_folder};
 use base_file::BaseFault;
@@ -40,7 +38,6 @@ pub(crate) fn run_list<'a, W: Sink>(
     list(rt.alloc(), &list_query(words, first), &bytes, hasher, out)
 }
 
-// `list --ids` of a base file.
 fn list_file_ids<'a, W: Sink>(
     rt: &HostRuntime,
     words: &ListWords<'a>,
@@ -67,7 +64,6 @@ pub(crate) fn asked_area<'a>(words: &ListWords<'a>) -> &'a [u8] {
     }
 }
 
-/// The messages that the words ask for, from this number on, and their form.
 pub(crate) fn list_query<'a>(words: &ListWords<'a>, first: u64) -> ListQuery<'a> {
     ListQuery {
         form: if words.short {
@@ -102,7 +98,6 @@ fn export_given<'a, W: Sink>(
     export_file(rt, words.base, &asked, out)
 }
 
-// The form that the words ask for.
 fn export_form(words: &ExportWords<'_>) -> Form {
     if words.json {
         Form::Json
@@ -111,7 +106,6 @@ fn export_form(words: &ExportWords<'_>) -> Form {
     }
 }
 
-// The same of a base file. No seed for the hasher counts as a failed read.
 fn export_file<'a, W: Sink>(
     rt: &HostRuntime,
     base: &'a str,

@@ -1,5 +1,3 @@
-//! Runs a command that reads a base and changes none, by its words.
-
 use crate::bases::{run_export, run_list};
 use crate::converting::run_convert;
 use crate::resending::run_resend;

@@ -38,7 +38,6 @@ pub(crate) fn run_convert<'a, W: Sink>(
     convert_messages(rt, from, &mut messages, to, out)
 }
 
-// Makes a base of these messages.
 fn convert_messages<'a, M: MessageSource, W: Sink>(
     rt: &HostRuntime,
     from: &'a str,
@@ -56,7 +55,6 @@ fn convert_messages<'a, M: MessageSource, W: Sink>(
     print_converted(rt, messages.count(), messages.cursor(), out)
 }
 
-// Before a folder TO is filled, reads the messages to the end.
 fn judge_for<'a, M: MessageSource>(
     rt: &HostRuntime,
     from: &'a str,
@@ -73,7 +71,6 @@ fn judge_for<'a, M: MessageSource>(
     }
 }
 
-// Reads the messages to the end, and reports the first fault.
 fn judge_messages<'a, M: MessageSource>(
     rt: &HostRuntime,
     from: &'a str,

@@ -1,5 +1,3 @@
-//! A base file that is read while a terminal shows how far that is.
-
 use cmd_input::{Messages, Progress, folder_fault, input_fault};
 use cmd_status::Fault;
 use disk_io::{Buffered, Watched};
@@ -11,7 +9,6 @@ use std::{fs, io};
 /// How many bytes are read at once.
 const BUFFER: usize = 65_536;
 
-/// The bytes of the base file with this path.
 pub(crate) fn reported_bytes<'a>(
     rt: &HostRuntime,
     base: &'a str,
@@ -21,7 +18,6 @@ pub(crate) fn reported_bytes<'a>(
     read_reported(rt, base, file, size, progress)
 }
 
-// The file, and how many bytes it has.
 fn opened(rt: &HostRuntime, base: &str) -> io::Result<(File, usize)> {
     let file = fs::open(rt, base)?;
     let size = file.metadata()?.len() as usize;

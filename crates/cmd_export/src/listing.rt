@@ -8,7 +8,6 @@ use cmd_status::{Fault, Status};
 use cmd_words::ListWords;
 use disk_io::Sink;
 
-/// `list` of the base folder that the words name, from this number on.
 pub(crate) fn list_folder<'a, W: Sink>(
     rt: &HostRuntime,
     words: &ListWords<'a>,
@@ -28,7 +27,6 @@ pub(crate) fn list_folder<'a, W: Sink>(
     list_messages(rt.alloc(), &asked, words.base, &mut messages, out)
 }
 
-/// `export` of this base folder.
 pub(crate) fn export_folder<'a, W: Sink>(
     rt: &HostRuntime,
     base: &'a str,

@@ -23,7 +23,6 @@ use std::fs::File;
 use std::io::ErrorKind;
 use std::{fs, io, str};
 
-/// What is asked for, and the ids that the receiver has.
 #[derive(Clone, Copy)]
 struct Repair<'r, 'l> {
     asked: Resend<'r>,
@@ -46,7 +45,6 @@ pub(crate) fn run_repair<W: Sink, E: Sink>(
     }
 }
 
-// The bytes of the list of ids, if one is given.
 fn given_list<'a>(rt: &HostRuntime, list: Option<&'a str>) -> Result<Option<Vec<u8>>, Fault<'a>> {
     match list {
         Some(path) => Ok(Some(read_given(rt, path, MAX_INPUT)?)),
@@ -54,7 +52,6 @@ fn given_list<'a>(rt: &HostRuntime, list: Option<&'a str>) -> Result<Option<Vec<
     }
 }
 
-// The same with the bytes of the list.
 fn repair_by<W: Sink, E: Sink>(
     rt: &HostRuntime,
     words: &ResendWords<'_>,
@@ -72,7 +69,6 @@ fn repair_by<W: Sink, E: Sink>(
     }
 }
 
-// The ids that the list names.
 fn known_ids<'l, 'a>(
     rt: &HostRuntime,
     area: &[u8],
@@ -82,7 +78,6 @@ fn known_ids<'l, 'a>(
     read_ids(rt.alloc(), &area, list)
 }
 
-// Sends the packet, under the lock of the link file.
 fn send_repair<W: Sink, E: Sink>(
     rt: &HostRuntime,
     words: &ResendWords<'_>,
@@ -115,7 +110,6 @@ fn links_judged<'a, D: Disk, L: FileLock>(
     Ok(links)
 }
 
-// Sends the packet of the base.
 fn send_base<W: Sink, E: Sink>(
     rt: &HostRuntime,
     words: &ResendWords<'_>,
@@ -189,7 +183,6 @@ fn sending_fault<'a>(why: SendFault<'a>, folder: &'a str) -> Fault<'a> {
     }
 }
 
-// Prints the line of a packet, or that there is nothing to send.
 fn print_counted<'a, W: Sink>(
     rt: &HostRuntime,
     counted: CountedPacket,
@@ -204,7 +197,6 @@ fn print_counted<'a, W: Sink>(
     print_rest(&mut line, out)
 }
 
-// Writes the packet to a staging file in the folder.
 fn stage_packet<M: MessageSource, W: Sink, E: Sink>(
     rt: &HostRuntime,
     words: &ResendWords<'_>,
@@ -291,7 +283,6 @@ fn staged_at(
     begin_file(rt.alloc(), rt, path, name.as_str(), &start)
 }
 
-// The first path in the folder that is not in use.
 fn free_path(rt: &HostRuntime, folder: &str, asked: Resend<'_>) -> io::Result<String> {
     'numbers: for number in 1..u32::MAX {
         let path = path_of(rt, folder, asked, number)?;
@@ -311,7 +302,6 @@ fn is_free(rt: &HostRuntime, path: &str) -> io::Result<bool> {
     }
 }
 
-// The path of the packet with this number in the folder.
 fn path_of(
     rt: &HostRuntime,
     folder: &str,

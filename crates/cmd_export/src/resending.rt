@@ -1,4 +1,4 @@
-//! `resend`: a packet that was lost is made again; `repairing` makes that of all messages. The lock of the link file is held until the packet has its name.
+//! `resend`: a lost packet is made again. The lock of the link file is held until the packet has its name.
 ghost use Rattle.std.specs.Prelude.{◌≡◌, None};
 
 use crate::repairing::run_repair;
@@ -51,7 +51,6 @@ pub(crate) fn run_resend<W: Sink, E: Sink>(
     }
 }
 
-// The packet that is asked for.
 fn asked_of<'a>(rt: &HostRuntime, words: &ResendWords<'a>) -> Result<Resend<'a>, Fault<'a>> {
     let to = parse_address(words.to)?;
     let first = match words.from {
@@ -108,7 +107,6 @@ pub(crate) fn check_owner<'a, D: Disk>(
     }
 }
 
-// Prints the line of a packet and writes it, where it has a message.
 fn send_packet<W: Sink, E: Sink>(
     rt: &HostRuntime,
     folder: &str,
@@ -160,7 +158,6 @@ fn put_packet<E: Sink>(
     }
 }
 
-// The path of the packet in the folder.
 fn path_of(rt: &HostRuntime, folder: &str, asked: Resend<'_>) -> Result<String, AllocError> {
     let mut path = folder_path(rt, folder)?;
     let name = resent_name(rt.alloc(), asked.to, asked.first)?;

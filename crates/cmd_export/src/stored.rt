@@ -28,7 +28,6 @@ const OWN: &str = "msg";
 /// How many bytes show that a file is the message that is to be written: its sender's name.
 const MESSAGE_KNOWN_BY: usize = 36;
 
-// The stored message of the greatest number in a folder, and its path.
 #[derive(Drop)]
 struct Last {
     number: u32,
@@ -83,7 +82,6 @@ impl<E: Sink> FolderFiles<'_, '_, E> {
         }
     }
 
-    // Reports why a file was not made.
     fn refuse(&mut self, fault: OutputFault, path: &str) -> Status
         ensures { result ≢ Status.Good }
     {
@@ -115,7 +113,6 @@ pub(crate) fn run_export_stored<W: Sink, E: Sink>(
     }
 }
 
-// Makes the files, and returns the folder under its lock.
 fn export_into<'a, E: Sink>(
     rt: &HostRuntime,
     words: &ExportStoredWords<'a>,
@@ -140,7 +137,6 @@ fn export_into<'a, E: Sink>(
     Ok((locked, exported))
 }
 
-// Makes the files of these messages.
 fn export_messages<'a, M: MessageSource, E: Sink>(
     words: &ExportStoredWords<'a>,
     first: u64,
@@ -204,7 +200,6 @@ fn last_name<'a>(rt: &HostRuntime, folder: &'a str) -> Result<Option<Last>, Faul
     Ok(last)
 }
 
-// The path of a file of the folder.
 fn file_path(rt: &HostRuntime, folder: &str, name: &str) -> Result<String, AllocError> {
     let mut path = folder_path(rt, folder)?;
     path.push_str(name)?;

@@ -5,7 +5,6 @@ use Rattle.jiff_core.specs.{declared.civil.date.Date.Date, Calendar.IsEpochDay, 
 use Rattle.jiff_core.proofs.DateLemmas.{epoch_day_injective, epoch_day_range}
 use Rattle.cmd_input.specs.Moment.{IsMomentAt}
 
--- the date of a stamp.
 abbrev pub date_of : (seconds : ℕ) (s : Stamp) → IsMomentAt seconds s → Date
 date_of seconds s at = record {
   year = pos s.year;
@@ -16,7 +15,6 @@ date_of seconds s at = record {
   day_in = at.date.2;
 }
 
--- the library has the day of a second with a stamp
 pub day_fits : (seconds : ℕ) (s : Stamp) → IsMomentAt seconds s → IsEpochDay (pos (seconds / 86400))
 day_fits seconds s at = subst IsEpochDay at.days (epoch_day_range (date_of seconds s at))
 
@@ -24,7 +22,6 @@ pub same_date : (seconds : ℕ) (s : Stamp) → IsMomentAt seconds s → (d : Da
     → (d.year ≡ pos s.year) × (d.month ≡ s.month) × (d.day ≡ s.day)
 same_date seconds s at d is = epoch_day_injective d (date_of seconds s at) (is ∙ sym at.days)
 
--- the time of this second is that of the stamp.
 pub same_time : (seconds : ℕ) (s : Stamp) → IsMomentAt seconds s
     → (seconds % 86400 / 3600 ≡ s.hour) × (seconds % 86400 / 60 % 60 ≡ s.minute) × (seconds % 86400 % 60 ≡ s.second)
 same_time seconds s at =

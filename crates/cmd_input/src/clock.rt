@@ -6,14 +6,11 @@ use cmd_status::{Fault, serial_of, stamp_of};
 use model_steps::Stamp;
 use std::time::{SystemTime, UNIX_EPOCH};
 
-/// How a fault names the clock.
 const CLOCK: &str = "clock";
 
-/// The number of serials.
 const SERIALS: u64 = 1 << 32;
 
-/// The stamp that the word names. For `now` it is that of the clock (UTC), for `local` that of the clock in the
-/// system's time zone.
+/// The stamp that the word names: for `now` the clock's in UTC, for `local` the clock's in the system's time zone.
 pub fn moment_of<'a>(rt: &HostRuntime, word: &str) -> Result<Stamp, Fault<'a>> {
     let stamp = match word {
         "now" => stamp_at(seconds(rt)?),
@@ -29,8 +26,7 @@ pub fn moment_of<'a>(rt: &HostRuntime, word: &str) -> Result<Stamp, Fault<'a>> {
     }
 }
 
-/// The serial that the word names, and whether the first free serial from it on is meant. `auto` means the latter,
-/// from the seconds since 1970 on.
+/// The serial that the word names, and whether a later free one will do, as with `auto` (the seconds since 1970).
 pub fn serial_from<'a>(rt: &HostRuntime, word: &str) -> Result<(u32, bool), Fault<'a>> {
     if word != "auto" {
         return Ok((serial_of(word)?, false));
@@ -44,7 +40,6 @@ pub fn created_now<'a>(rt: &HostRuntime) -> Result<u32, Fault<'a>> {
     Ok((seconds(rt)? % SERIALS) as u32)
 }
 
-// The seconds since 1970 by the clock.
 fn seconds<'a>(rt: &HostRuntime) -> Result<u64, Fault<'a>> {
     let now = SystemTime::now(rt).map_err(|_| Fault::CannotUse(CLOCK))?;
     match now.duration_since(UNIX_EPOCH) {

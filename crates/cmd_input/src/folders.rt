@@ -12,7 +12,6 @@ use std::fs::DirEntry;
 use std::hash::{BuildHasher, Hasher};
 use std::{fs, io};
 
-/// Whether the path is that of a folder.
 pub fn is_folder(rt: &HostRuntime, path: &str) -> bool {
     match fs::metadata(rt, path) {
         Ok(found) => found.is_dir(),
@@ -32,8 +31,7 @@ pub fn flush_name<'a>(rt: &HostRuntime, base: &'a str, messages: usize) -> Resul
 /// A base folder of the system that was looked at, as a source of messages.
 pub type FolderMessages<'r> = FolderReader<RealDisk<&'r HostRuntime, Unknown>, SipDigest>;
 
-/// Looks at the base folder with this path, and reads each message from this number on. It changes nothing. The progress
-/// line shows how far that is.
+/// Looks at the base folder with this path, and reads each message from this number on. It changes nothing.
 pub fn look_into<'r, 'a>(
     rt: &'r HostRuntime,
     base: &'a str,
@@ -47,7 +45,6 @@ pub fn look_into<'r, 'a>(
     look_at(rt, base, path.as_str(), strange, first, progress)
 }
 
-// The files have `path` before their names.
 fn look_at<'r, 'a>(
     rt: &'r HostRuntime,
     base: &'a str,
@@ -73,8 +70,7 @@ fn look_at<'r, 'a>(
     }
 }
 
-/// The base file with this path, as a source of messages. If the system gives no seed for the hasher, that is a failed
-/// read.
+/// The base file with this path, as a source of messages. A hasher without a seed counts as a failed read.
 pub fn load_base<'a>(
     rt: &HostRuntime,
     base: &'a str,
@@ -94,7 +90,6 @@ pub fn check_base<'a>(rt: &HostRuntime, base: &'a str) -> Result<(), Fault<'a>> 
     Ok(())
 }
 
-/// Why the messages of the base with this path were not read as a base file.
 pub fn messages_fault(fault: BaseFault, base: &str) -> Fault<'_> {
     match fault {
         BaseFault::Read => Fault::CannotUse(base),
@@ -120,7 +115,6 @@ pub fn drawn_key<'a>(rt: &HostRuntime) -> Result<(u64, u64), Fault<'a>> {
     Ok((half_of(&state, 1), half_of(&state, 2)))
 }
 
-// A half of a key.
 fn half_of(state: &RandomState, number: u8) -> u64 {
     let mut hasher = state.build_hasher();
     hasher.write(&[number]);
@@ -147,7 +141,6 @@ fn is_strange_entry<'a>(entry: io::Result<DirEntry>, base: &'a str) -> Result<bo
     }
 }
 
-// Whether a file of a base folder can have the name.
 fn is_own(name: &str) -> bool {
     match name.rsplit_once('.') {
         Some(("messages" | "keys", digit)) => digit.len() == 1

@@ -1,11 +1,6 @@
-//! The input of commands: files, standard input, the clock, locks and bases. The progress line is here too.
-//!
-//! Promise: the stamp of a second is the one that the calendar gives it (`stamp_at`, `shown_at`). There is none exactly
-//! if its year has more than four digits. All else is proved to be safe and to end, and no more.
-//!
-//! Begin with `paths`, the names of files. `inputs` reads files, `packets` the packet files of `toss`. `moment` turns
-//! seconds into a stamp, `local` finds the time zone, `clock` reads the clock. `locks` has the locks of a station,
-//! `progress` the progress line. `folders` reads base folders.
+//! The input of commands: files, standard input, the clock, locks and bases; and the progress line. The stamp of a
+//! second is the one that the calendar gives it (`stamp_at`, `shown_at`). All else is proved to be safe and to end,
+//! and no more. Begin with `paths`, the names of files.
 #![tactic(auto)]
 
 mod clock;

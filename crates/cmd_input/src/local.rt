@@ -6,7 +6,6 @@ use jiff_tz::{SystemTimeZone, TimeZoneDatabase, Tzif};
 use std::env;
 use std::io::ErrorKind;
 
-/// How a fault names the time zone.
 const ZONE: &str = "time zone";
 
 /// The folder with the files of time zones.
@@ -24,7 +23,6 @@ pub(crate) fn seconds_ahead<'a>(rt: &HostRuntime, seconds: u64) -> Result<i32, F
     }
 }
 
-// The offset of the system's time zone.
 fn offset_at<'a>(rt: &HostRuntime, at: Timestamp) -> Result<Offset, Fault<'a>> {
     match SystemTimeZone::read(rt) {
         Ok(zone) => offset_in(rt, &zone, at),
@@ -68,7 +66,6 @@ fn offset_by_name<'a>(
     }
 }
 
-// The offset of the time zone with this name.
 fn offset_named<'a>(rt: &HostRuntime, name: &str, at: Timestamp) -> Result<Offset, Fault<'a>> {
     let path = format!(in rt.alloc(); "{ZONES}/{name}")?;
     match disk_system::read_file(rt.alloc(), rt, path.as_str(), MAX_ZONE) {
@@ -77,7 +74,6 @@ fn offset_named<'a>(rt: &HostRuntime, name: &str, at: Timestamp) -> Result<Offse
     }
 }
 
-// The offset by the file of a time zone with these bytes.
 fn offset_of_table<'a>(rt: &HostRuntime, bytes: &[u8], at: Timestamp) -> Result<Offset, Fault<'a>> {
     match Tzif::parse(rt.alloc(), None, bytes) {
         Ok(table) => Ok(table.to_offset(at)),

@@ -70,11 +70,10 @@ impl FileLock for LinkLock<'_> {
     }
 }
 
-/// The lock of the base of a station. It is held until this value is dropped. If there is no base yet, it is the lock
-/// of the folder in which a base file is made. If nothing there can be locked, or the base is the link file, the lock of
-/// the link file serves for both.
-///
-/// Runs cannot wait for each other: each takes the lock of a link file first, then this one, and none after it.
+/// The lock of the base of a station, held until this value is dropped. Without a base it is the lock of the folder in
+/// which a base file is made. If nothing there can be locked, or the base is the link file, that file's lock serves
+/// for both. Each run takes the lock of a link file first, then this one, and none after it: so runs cannot wait for
+/// each other.
 #[derive(Drop)]
 pub struct BaseLock<'r> {
     rt: &'r HostRuntime,
@@ -117,7 +116,6 @@ impl FileLock for BaseLock<'_> {
     }
 }
 
-// The error for a disk. A failure of the device is counted.
 fn counted(failures: &mut u64, error: &io::Error) -> DiskError
     ensures later { failures.old ≤ failures.new }
     ensures failed { result ≡ Device → Failed failures.old failures.new }
@@ -148,7 +146,6 @@ fn lock_at_path(rt: &HostRuntime, file: &File, path: &str) -> io::Result<bool> {
     has_path(rt, file, path)
 }
 
-// The file, if it has this path.
 fn if_at(rt: &HostRuntime, file: Option<File>, path: &str) -> Option<File> {
     let file = file?;
     match has_path(rt, &file, path) {
@@ -157,7 +154,6 @@ fn if_at(rt: &HostRuntime, file: Option<File>, path: &str) -> Option<File> {
     }
 }
 
-// Whether the path leads to this open file.
 fn has_path(rt: &HostRuntime, file: &File, path: &str) -> io::Result<bool> {
     Ok(are_same(&file.metadata()?, &fs::metadata(rt, path)?))
 }
@@ -174,7 +170,6 @@ pub fn lead_to_one(rt: &HostRuntime, one: &str, other: &str) -> bool {
     }
 }
 
-// Whether the path leads to this file or folder.
 fn leads_to(rt: &HostRuntime, path: &str, found: &Metadata) -> bool {
     match fs::metadata(rt, path) {
         Ok(other) => are_same(found, &other),
@@ -198,7 +193,6 @@ fn locked_base(rt: &HostRuntime, links: &str, path: &str) -> io::Result<Option<F
     Err(ErrorKind::Other.into())
 }
 
-// A file, if it exists.
 fn unless_missing(found: io::Result<File>) -> io::Result<Option<File>> {
     match found {
         Ok(file) => Ok(Some(file)),
@@ -207,8 +201,7 @@ fn unless_missing(found: io::Result<File>) -> io::Result<Option<File>> {
     }
 }
 
-// The open and locked base, if it exists and has its own lock. A pipe is not opened, since that would wait for
-// its writer.
+// A pipe is not opened, since that would wait for its writer.
 fn locked_if_own(rt: &HostRuntime, links: &str, path: &str) -> io::Result<Option<File>> {
     let found = fs::metadata(rt, path)?;
     if has_own_lock(rt, links, &found) {
@@ -223,8 +216,7 @@ fn has_own_lock(rt: &HostRuntime, links: &str, base: &Metadata) -> bool {
     (base.is_file() || base.is_dir()) && !leads_to(rt, links, base)
 }
 
-/// Takes the lock of an open file with this path, once no other run holds it. A wait is reported on standard error, if
-/// that is a terminal.
+/// Takes the lock of an open file, once no other run holds it. A wait is reported on standard error, if a terminal.
 pub fn lock_file(rt: &HostRuntime, file: &File, path: &str) -> io::Result<()> {
     match file.try_lock() {
         Ok(()) => Ok(()),
@@ -243,7 +235,6 @@ pub fn locked_folder<'a>(rt: &HostRuntime, folder: &'a str) -> Result<File, Faul
     Ok(file)
 }
 
-/// Why the folder cannot be read.
 pub fn folder_fault<'a>(error: &io::Error, folder: &'a str) -> Fault<'a> {
     match error.kind() {
         io::ErrorKind::OutOfMemory => Fault::OutOfMemory,
@@ -251,7 +242,6 @@ pub fn folder_fault<'a>(error: &io::Error, folder: &'a str) -> Fault<'a> {
     }
 }
 
-// Reports that this run waits for the lock, if standard error is a terminal.
 fn tell_waiting(rt: &HostRuntime, path: &str) {
     let errors = rt.stderr();
     if errors.is_terminal() {

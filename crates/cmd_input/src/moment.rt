@@ -1,4 +1,3 @@
-//! Seconds since 1970 began, as a date and a time of day.
 ghost use Rattle.std.specs.Prelude.{◌≡◌, ℕ, Some, IfSome, MatchOption, pos};
 ghost use Rattle.jiff_core.specs.{Calendar.IsEpochDay, Date.epoch_day};
 ghost use Rattle.model_steps.specs.declared.stamp.Stamp as model;
@@ -7,11 +6,9 @@ ghost use Rattle.cmd_input.specs.Moment.{IsMomentAt, IsShownAt};
 use jiff_core::civil::Date;
 use model_steps::Stamp;
 
-/// The seconds of a day.
 const A_DAY: u64 = 86_400;
 
-/// The stamp of the second this many seconds after 1970 began, in UTC without leap seconds. There is none if its year
-/// has more than four digits.
+/// The stamp this many seconds after 1970 began, in UTC without leap seconds. None if its year has over four digits.
 pub fn stamp_at(seconds: u64) -> Option<Stamp>
     ensures moment { IfSome result (IsMomentAt seconds) }
     ensures only { (stamp : model.Stamp) → IsMomentAt seconds stamp → result ≡ Some stamp }
@@ -47,7 +44,6 @@ fn date_at(day: u64) -> Option<Date>
     Date::from_unix_epoch_day(day).ok()
 }
 
-// The year, if it is not before the year 0.
 fn year_of(date: Date) -> Option<u16>
     ensures is { IfSome result (λ year. date.year ≡ pos year) }
     ensures only { (year : ℕ) → date.year ≡ pos year → result ≡ Some year }

@@ -14,7 +14,6 @@ use std::io::Read;
 /// The most bytes of a packet file that are read at once, if it is not read whole.
 const BUFFER: usize = 65_536;
 
-/// The percentage of a packet that was read whole.
 const WHOLE: u128 = 100;
 
 /// How packets are tossed: the names of their files, their limits, and whether each message that is not filed is
@@ -95,7 +94,6 @@ impl Read for PacketInput<'_> {
 }
 
 impl PacketInput<'_> {
-    // The percentage of the file that was read.
     fn share(&self) -> u128 {
         match self.file.metadata() {
             Ok(found) => share_of(self.read, found.len()),

@@ -19,12 +19,10 @@ pub struct PathName {
 }
 
 impl PathName {
-    /// The path as it is printed.
     pub fn shown(&self) -> &str {
         self.shown.as_str()
     }
 
-    /// The path to open.
     pub fn path(&self) -> Result<&str, Fault<'_>> {
         PacketName::path(self)
     }
@@ -52,7 +50,6 @@ pub struct PathNames<'a> {
     pub stopped: Option<Fault<'a>>,
 }
 
-/// The files that are named by words or by a list.
 pub fn names_of<'a>(rt: &HostRuntime, paths: &Paths<'a>) -> PathNames<'a> {
     let found = match paths.from {
         Some(list) => listed_names(rt, list),
@@ -70,7 +67,6 @@ pub fn names_of<'a>(rt: &HostRuntime, paths: &Paths<'a>) -> PathNames<'a> {
     }
 }
 
-// The names that are words of the command line.
 fn given_names<'a>(rt: &HostRuntime, words: &[&'a str]) -> Result<Vec<PathName>, Fault<'a>> {
     let mut names = Vec::new(rt.alloc());
     push_given(rt, words, &mut names)?;
@@ -124,7 +120,6 @@ fn text_name(rt: &HostRuntime, text: &str) -> Result<PathName, AllocError> {
     })
 }
 
-// The name of a path that is no UTF-8.
 fn escaped_name(rt: &HostRuntime, path: &[u8]) -> Result<PathName, AllocError> {
     let mut bytes = Vec::new(rt.alloc());
     push_word(&mut bytes, path)?;

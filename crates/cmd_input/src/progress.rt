@@ -60,7 +60,6 @@ impl<'r> Progress<'r> {
         is_terminal
     }
 
-    // How long the command has run.
     fn milliseconds(&self) -> Option<u128> {
         match self.begun?.elapsed(self.rt) {
             Ok(since) => Some(since.as_millis()),
@@ -90,7 +89,6 @@ impl<'r> Progress<'r> {
         self.tell_line(format!(in self.rt.alloc(); "echonet: event {happened} of {events}"));
     }
 
-    // Prints a line, if there was memory for it.
     fn tell_line(&self, line: Result<String, AllocError>) {
         if let Ok(line) = line {
             self.write_over(line.as_str());
@@ -114,7 +112,6 @@ impl<'r> Progress<'r> {
     }
 }
 
-// Adds a line with spaces up to the end of the previous one, which had this many bytes.
 fn push_over(bytes: &mut Vec<u8>, line: &str, shown: usize) -> Result<(), AllocError> {
     bytes.push(b'\r')?;
     bytes.extend_from_slice(line.as_bytes())?;

@@ -1,11 +1,8 @@
-//! The texts and the index of a JAM base, open, and what the index says.
-
 use crate::named::{bytes_of, jam_fault, open_file};
 use cmd_status::Fault;
 use echo_jam::{Standing, standing_in};
 use std::fs::File;
 
-/// The files with the texts and the index.
 #[derive(Drop)]
 pub(crate) struct OtherFiles {
     pub(crate) texts: File,
@@ -21,7 +18,6 @@ pub(crate) struct Contents {
 }
 
 impl OtherFiles {
-    /// Opens the files of the base with this path, which have to exist.
     pub(crate) fn open<'a>(rt: &HostRuntime, path: &'a str) -> Result<OtherFiles, Fault<'a>> {
         let texts = open_file(rt, path, ".jdt").map_err(|error| jam_fault(&error, path))?;
         let index = open_file(rt, path, ".jdx").map_err(|error| jam_fault(&error, path))?;

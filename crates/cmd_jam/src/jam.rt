@@ -1,13 +1,10 @@
 //! `export --jam`: messages of a base added to the four files of a JAM base. The file of headers is locked from the
 //! first read until the last write, so that two runs at once add each message once.
 //!
-//! The new bytes are written in this order, each flushed before the next: texts, headers and index. Each text goes to
-//! its file before the next message is read. Headers and index are in memory. Then come the counts, and the replies that
-//! earlier headers name. After a fault before the first entry of the index, the new texts and headers are removed.
-//!
-//! A reader sees only the messages of the index. So a run stopped at any point leaves a base with the first of its
-//! messages, and no reader sees bytes after these. Until the next run the number of active messages may be too small, and
-//! earlier headers may not name the last replies.
+//! Written in this order, each flushed before the next: texts, headers, index; then the counts, and the replies that
+//! earlier headers name. A reader sees only messages of the index, so a stopped run leaves a base with the first of
+//! its messages. Until the next run the number of active messages may be too small, and earlier headers may not name
+//! the last replies. After a fault before the first entry the new texts and headers are removed.
 
 use crate::contents::{Contents, OtherFiles};
 use crate::locked::{begun_again, locked_headers};
@@ -32,7 +29,6 @@ const COUNTS_AT: u64 = 8;
 /// Where a header names the first reply of its message, and the next one to the same message.
 const REPLIES_AT: usize = 28;
 
-// The files of a JAM base, the one with headers under its lock, and their contents.
 #[derive(Drop)]
 struct JamFiles {
     headers: File,
@@ -79,7 +75,6 @@ pub fn run_export_jam<W: Sink, E: Sink>(
     }
 }
 
-// The JAM base, the additions to it, and whether their texts are in its file.
 fn jam_given<'a>(
     rt: &HostRuntime,
     words: &ExportJamWords<'a>,
@@ -102,7 +97,6 @@ fn jam_given<'a>(
     Ok((files, exported, sent))
 }
 
-// The additions of these messages, and whether their texts are in the file.
 fn jam_under<'a, M: MessageSource>(
     rt: &HostRuntime,
     words: &ExportJamWords<'a>,
@@ -148,7 +142,6 @@ fn jam_under<'a, M: MessageSource>(
     Err(fault)
 }
 
-// Removes the bytes of a file after this place, if there are any.
 fn cut_back(file: &File, end: u32) {
     let end = u64::from(end);
     if let Ok(found) = file.metadata() {
@@ -158,7 +151,6 @@ fn cut_back(file: &File, end: u32) {
     }
 }
 
-// The files of the JAM base, and their contents.
 fn jam_files<'a>(rt: &HostRuntime, path: &'a str, headers: File) -> Result<JamFiles, Fault<'a>> {
     let found = bytes_of(rt, path, &headers)?;
     let found = begun_again(rt, path, &headers, found)?;
@@ -184,7 +176,6 @@ fn jam_files<'a>(rt: &HostRuntime, path: &'a str, headers: File) -> Result<JamFi
     })
 }
 
-// Where the next message goes, and the text of the last one.
 fn end_of<'a>(
     rt: &HostRuntime,
     path: &'a str,
@@ -210,7 +201,6 @@ fn end_of<'a>(
     }
 }
 
-// The text of the last message, where it has one.
 fn last_text(
     rt: &HostRuntime,
     texts: &File,
@@ -228,7 +218,6 @@ fn last_text(
 }
 
 impl JamFiles {
-    // The place after the entries of the index.
     fn index_end(&self) -> u64 {
         u64::from(self.standing.entries) * 8
     }
@@ -296,7 +285,6 @@ fn write_replies(files: &JamFiles, linked: &[u8]) -> io::Result<()> {
     Ok(())
 }
 
-// The place of the header of an entry of the index.
 fn place_in(entry: &[u8]) -> u32 {
     match entry {
         [_, _, _, _, a, b, c, d] => u32::from_le_bytes([*a, *b, *c, *d]),

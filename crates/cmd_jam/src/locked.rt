@@ -18,8 +18,7 @@ const HEADERS_KNOWN_BY: usize = 4;
 /// How long the fixed header is.
 const FIXED: usize = 1024;
 
-/// The headers of the JAM base with this path, open and locked. A missing one is made, if the base with the messages
-/// can be read.
+/// The headers of this JAM base, open and locked. A missing one is made, if the base with the messages can be read.
 pub(crate) fn locked_headers<'a>(
     rt: &HostRuntime,
     path: &'a str,
@@ -45,7 +44,6 @@ pub(crate) fn locked_again<'a>(rt: &HostRuntime, path: &'a str) -> Result<File, 
     Ok(headers)
 }
 
-// Whether something has the path of one of the files.
 fn is_there<'a>(rt: &HostRuntime, path: &'a str, file: &str) -> Result<bool, Fault<'a>> {
     fs::exists(rt, file).map_err(|error| jam_fault(&error, path))
 }
@@ -121,7 +119,6 @@ pub(crate) fn begun_again<'a>(
     Ok(found)
 }
 
-// Whether the index and the texts exist.
 fn has_others<'a>(rt: &HostRuntime, path: &'a str) -> Result<bool, Fault<'a>> {
     let (index, texts) = (with_end(rt, path, ".jdx")?, with_end(rt, path, ".jdt")?);
     Ok(is_there(rt, path, index.as_str())? && is_there(rt, path, texts.as_str())?)

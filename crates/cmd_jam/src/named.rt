@@ -9,7 +9,6 @@ use std::fs::{File, OpenOptions};
 use std::os::unix::fs::{FileExt, MetadataExt};
 use std::{fs, io};
 
-/// Why a file of the JAM base with this path was not used.
 pub(crate) fn jam_fault<'a>(error: &io::Error, path: &'a str) -> Fault<'a> {
     match error.kind() {
         io::ErrorKind::OutOfMemory => Fault::OutOfMemory,
@@ -45,7 +44,6 @@ pub(crate) fn open_or_make(rt: &HostRuntime, path: &str, end: &str) -> io::Resul
     }
 }
 
-// Opens the regular file with this path, if it is no link.
 fn open_named(rt: &HostRuntime, path: &str) -> io::Result<File> {
     if !fs::symlink_metadata(rt, path)?.is_file() {
         return Err(io::ErrorKind::Unsupported.into());

@@ -37,7 +37,6 @@ pub struct OutboxMessage {
 }
 
 impl OutboxMessage {
-    /// Its number in the JAM base.
     pub fn number(&self) -> u64 {
         self.number
     }
@@ -60,7 +59,6 @@ impl<'a> Outbox<'a> {
         })
     }
 
-    /// How many entries the index has.
     pub fn entries(&self) -> usize {
         self.contents.standing.entries as usize
     }
@@ -115,7 +113,6 @@ impl<'a> Outbox<'a> {
         )?)
     }
 
-    /// Marks the message as sent.
     pub fn mark(&mut self, unsent: &OutboxMessage) -> Result<(), Fault<'a>> {
         let at = u64::from(unsent.place) + ATTRIBUTE_AT as u64;
         match sent_attribute(self.found.as_slice(), unsent.place) {
@@ -134,7 +131,6 @@ impl<'a> Outbox<'a> {
         counted
     }
 
-    // Writes the counts.
     fn count(&self, rt: &HostRuntime) -> Result<(), Fault<'a>> {
         if !self.marked {
             return Ok(());

@@ -1,5 +1,3 @@
-//! The texts that are added to a JAM base, on their way to its file.
-
 use std::fs::File;
 use std::io;
 use std::io::Write;

@@ -1,5 +1,3 @@
-//! Runs a command that reads no base, by its words.
-
 use crate::linking::run_links;
 use crate::nets::{run_check, run_picture, run_replay, run_why};
 use crate::printing::{run_nodelist, run_show};

@@ -1,9 +1,6 @@
-//! The commands that read no base: `show`, `nodelist`, `links`, `check`, `why`, `picture` and `replay`, each on the files
-//! that its words name. They are proved to be safe and to end, and no more. The crates that they call promise what they
-//! print.
-//!
-//! Begin with `commands`, which picks the command. `printing` has `show` and `nodelist`. `linking` has `links`, which goes on
-//! if a file cannot be used, and `nets` has `check`, `why`, `picture` and `replay`.
+//! The commands that read no base: `show`, `nodelist`, `links`, `check`, `why`, `picture` and `replay`, each on the
+//! files that its words name. They are proved to be safe and to end, and no more. The crates that they call promise
+//! what they print. Begin with `commands`.
 #![tactic(auto)]
 
 mod commands;

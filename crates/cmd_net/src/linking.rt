@@ -6,7 +6,6 @@ use cmd_status::{Fault, Status};
 use disk_io::Sink;
 use echo_addr::Items;
 
-// The link files that were read, and why the others were not.
 #[derive(Drop)]
 struct Files<'a> {
     read: Vec<NamedFile>,
@@ -44,7 +43,6 @@ fn worse(one: Status, other: Status) -> Status {
     }
 }
 
-// Reads each file.
 fn read_each<'a>(rt: &HostRuntime, paths: &'a PathNames<'a>) -> Result<Files<'a>, Fault<'a>> {
     let mut read = Vec::new(rt.alloc());
     let mut faults = Vec::new(rt.alloc());

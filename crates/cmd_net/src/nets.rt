@@ -1,5 +1,3 @@
-//! The commands that judge the areas of a net, or show a run of it.
-
 use cmd_check::{
     Besides, Judged, Supposed, SupposedHere, assume, check, check_all, check_assuming,
     check_supposing, picture, picture_why, picture_without, print_assumed, print_supposed, replay,
@@ -32,7 +30,7 @@ pub(crate) fn run_check<W: Sink, E: Sink>(
     }
 }
 
-// The status. An unknown address is reported.
+// An unknown address is reported.
 fn status_of<E: Sink>(judged: Judged, errors: &mut E) -> Status {
     match judged {
         Judged::Ended(status) => status,
@@ -60,7 +58,6 @@ fn checked<'a, W: Sink>(
     check_files(rt, besides, words.tag, links, supposed, out)
 }
 
-// The systems that are judged without a file, and those that are left out.
 fn supposed<'s>(named: &'s [Address], missing: bool, without: &'s [Address]) -> Supposed<'s> {
     Supposed {
         named,
@@ -69,7 +66,6 @@ fn supposed<'s>(named: &'s [Address], missing: bool, without: &'s [Address]) -> 
     }
 }
 
-// The answer on the files of these paths.
 fn check_files<'a, W: Sink>(
     rt: &HostRuntime,
     besides: Besides<'_>,
@@ -112,12 +108,10 @@ fn supposes(supposed: Supposed<'_>) -> bool {
     supposed.missing || !supposed.named.is_empty() || !supposed.without.is_empty()
 }
 
-// Whether this is only one system that is judged without its file.
 fn assumes_one(supposed: Supposed<'_>) -> bool {
     !supposed.missing && supposed.named.len() == 1 && supposed.without.is_empty()
 }
 
-// The addresses that the words are.
 fn addresses_in<'a>(rt: &HostRuntime, words: &[&str]) -> Result<Vec<Address>, Fault<'a>> {
     let mut addresses = Vec::new(rt.alloc());
     for word in words {
@@ -163,7 +157,6 @@ fn read_net<'a>(
     })
 }
 
-// Adds the link files of the assumed systems.
 fn add_supposed<'a>(
     rt: &HostRuntime,
     tag: &str,
@@ -180,7 +173,6 @@ fn add_supposed<'a>(
     suppose(rt.alloc(), tag.as_bytes(), files, supposed)
 }
 
-// These assumed systems, one at most.
 fn assumed_systems(rt: &HostRuntime, systems: &[Address]) -> Result<SupposedHere, AllocError> {
     Ok(SupposedHere {
         systems: Vec::from_slice(rt.alloc(), systems)?,
@@ -188,7 +180,6 @@ fn assumed_systems(rt: &HostRuntime, systems: &[Address]) -> Result<SupposedHere
     })
 }
 
-// The status, once the assumed systems are printed as notes that begin so.
 fn noted<'a, W: Sink>(
     rt: &HostRuntime,
     begin: &[u8],
@@ -204,7 +195,6 @@ fn noted<'a, W: Sink>(
     Ok(status)
 }
 
-// The paths of the link files as they were given.
 fn paths_of(rt: &HostRuntime, links: &PathNames<'_>) -> Result<Vec<Items<u8>>, AllocError> {
     let mut paths = Vec::new(rt.alloc());
     for name in &links.names {
@@ -294,7 +284,6 @@ fn pictured<'a, W: Sink>(
     Ok(Judged::Ended(status))
 }
 
-// The same without some systems.
 fn pictured_without<'a, W: Sink>(
     rt: &HostRuntime,
     tag: &'a str,
@@ -327,7 +316,6 @@ fn replay_input<'a>(
     Ok((bytes, hasher))
 }
 
-// A terminal shows how many events happened.
 #[derive(Drop)]
 struct Events<'p, 'r> {
     progress: &'p Progress<'r>,

@@ -1,5 +1,3 @@
-//! The commands that print what a packet or a nodelist holds.
-
 use cmd_input::{MAX_INPUT, read_file, read_given};
 use cmd_show::{nodelist, show};
 use cmd_status::{Fault, Status, parse_address};

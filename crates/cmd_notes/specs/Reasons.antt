@@ -17,7 +17,6 @@ use Rattle.cmd_notes.specs.declared.reasons.State.TheVariants as state
 use Rattle.cmd_notes.specs.declared.reasons.WordForm.TheVariants as form
 use Rattle.cmd_show.specs.LinksShown.{fault_number}
 
--- The fault of a word in a line of a link file.
 abbrev pub complaint : LinkFault → List ℕ
 complaint (fault.UnknownWord number) = codes "unknown word"
 complaint (fault.BadAddress number) = codes "bad address"
@@ -45,12 +44,10 @@ expectation fault.Memory = codes "more is needed"
 abbrev pub word_reason : LinkFault → List ℕ → List ℕ
 word_reason fault word = complaint fault ++ (codes " '" ++ (printed_word word ++ (codes "', " ++ expectation fault)))
 
--- A line of a link file: path, number, and the wrong word.
 abbrev pub line_reason : WrongLine → List ℕ
 line_reason line =
     printed_word line.path.now ++ (codes ":" ++ (decimal (fault_number line.fault) ++ (codes ": " ++ word_reason line.fault line.word.now)))
 
--- The state of a path.
 abbrev pub state_words : State → List ℕ
 state_words state.NoFile = codes "no such file"
 state_words state.NoFolder = codes "no such folder"
@@ -70,12 +67,10 @@ abbrev pub packet_words : PacketPlace → List ℕ
 packet_words place =
     codes "packet " ++ (decimal place.number ++ (codes " of " ++ (decimal place.packets ++ (codes ", " ++ (printed_word place.path.now ++ codes ": it ")))))
 
--- A packet for another system.
 abbrev pub misdelivered_reason : Misdelivered → List ℕ
 misdelivered_reason wrong =
     packet_words wrong.packet ++ (codes "is for " ++ (address_text wrong.to ++ (codes ", this is " ++ address_text wrong.own)))
 
--- The fault of a packet.
 abbrev pub packet_complaint : PacketFault → List ℕ
 packet_complaint (packet.Truncated at) = codes "is cut off"
 packet_complaint (packet.NotType2 at) = codes "is not of type 2"
@@ -99,7 +94,6 @@ field_name field.FromName = codes "from"
 field_name field.Subject = codes "subject"
 field_name field.Text = codes "text"
 
--- A field with too many bytes.
 abbrev pub long_reason : LongField → List ℕ
 long_reason long =
     field_name long.field ++ (codes " is " ++ (decimal long.length ++ (codes " bytes long, " ++ (decimal long.most ++ codes " are allowed"))))
@@ -119,11 +113,9 @@ form_expectation form.Number = codes "', expected decimal digits"
 form_expectation form.Limit = codes "', expected a number up to 16777216"
 form_expectation form.NodeAddress = codes "', expected zone:net/node"
 
--- A word of another form, in quotes.
 abbrev pub form_reason : WrongWord → List ℕ
 form_reason wrong = form_complaint wrong.form ++ (printed_word wrong.word.now ++ form_expectation wrong.form)
 
--- A fault of an area, and what it costs.
 abbrev pub cost_words : Cost → List ℕ
 cost_words cost.NoSuchArea = codes "V1 NoSuchArea: the file is wrong"
 cost_words cost.TwoFiles = codes "V2 TwoFiles: the file is wrong"
@@ -134,13 +126,11 @@ cost_words cost.SameNetNode = codes "V6 SameNetNode: mail may be lost"
 cost_words cost.Apart = codes "V7 Apart: mail is lost"
 cost_words cost.Loop = codes "V8 Loop: mail is sent twice"
 
--- What the given files do not show of an area.
 abbrev pub not_seen_words : NotSeen → List ℕ
 not_seen_words unseen.AfterYes = codes "unseen: a loop outside the given files may still bring mail twice"
 not_seen_words unseen.AfterApart = codes "unseen: a way outside the given files may join the parts, so V7 is often a false alarm"
 not_seen_words unseen.BehindOne = codes "assumed: what the assumed system exchanges with others was not seen"
 
--- A reason in words.
 abbrev pub reason_text : Reason → List ℕ
 reason_text (reason.Line line) = line_reason line
 reason_text (reason.Path found) = path_reason found
@@ -154,6 +144,5 @@ reason_text (reason.NoneOfArea tag base) = codes "no message of area " ++ (print
 reason_text (reason.Cost which) = cost_words which
 reason_text (reason.NotSeen what) = not_seen_words what
 
--- The line of a note.
 abbrev pub reason_line : Reason → List ℕ
 reason_line why = codes "echonet: note: " ++ (reason_text why ++ codes "\n")

@@ -5,7 +5,6 @@ use crate::reasons::{Cost, NotSeen, Reason};
 use disk_io::Sink;
 use memchr::memmem;
 
-/// The faults in the order of their numbers.
 const COSTS: [Cost; 8] = [
     Cost::NoSuchArea,
     Cost::TwoFiles,
@@ -36,7 +35,6 @@ pub(crate) fn tell_costs<E: Sink>(rt: &HostRuntime, answer: &[u8], errors: &mut 
     }
 }
 
-// Whether a line has this fault.
 fn has_fault(answer: &[u8], cost: Cost) -> bool {
     for line in answer.split(|byte| *byte == b'\n') {
         if names(line, cost) {
@@ -46,7 +44,6 @@ fn has_fault(answer: &[u8], cost: Cost) -> bool {
     false
 }
 
-// Whether the line has this fault.
 fn names(line: &[u8], cost: Cost) -> bool {
     if line.starts_with(b"no ") {
         return memmem::find(line, number_of(cost)).is_some();
@@ -54,7 +51,6 @@ fn names(line: &[u8], cost: Cost) -> bool {
     line.starts_with(b"also ") && line[4..].starts_with(number_of(cost))
 }
 
-// The number of the fault as a word.
 fn number_of(cost: Cost) -> &'static [u8] {
     match cost {
         Cost::NoSuchArea => b" V1 ",
@@ -79,7 +75,6 @@ struct Unseen {
     is_assumed: bool,
 }
 
-// What was not seen in the areas of these lines.
 fn unseen_in(answer: &[u8]) -> Unseen {
     let mut unseen = Unseen {
         after_yes: false,
@@ -95,7 +90,6 @@ fn unseen_in(answer: &[u8]) -> Unseen {
     with_area(unseen, false)
 }
 
-// The same with one more line.
 fn with_line(unseen: Unseen, line: &[u8]) -> Unseen {
     if line.starts_with(b"yes ") {
         return with_area(unseen, true);
@@ -120,7 +114,6 @@ fn with_line(unseen: Unseen, line: &[u8]) -> Unseen {
     next
 }
 
-// The same with a further area.
 fn with_area(unseen: Unseen, is_yes: bool) -> Unseen {
     Unseen {
         after_yes: unseen.after_yes,

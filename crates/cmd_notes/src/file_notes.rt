@@ -1,5 +1,3 @@
-//! Notes on files that cannot be used, and on link files.
-
 use crate::notes::{FaultLine, tell};
 use crate::reasons::{PathState, Reason, State, WrongLine};
 use crate::states::{Usage, state_at};
@@ -14,7 +12,6 @@ use std::{fs, str};
 /// The most bytes of a path.
 const MAX_PATH: usize = 4_096;
 
-/// A path that cannot be used.
 pub(crate) fn explain_path<E: Sink>(met: FaultLine<'_>, path: &str, usage: Usage, errors: &mut E) {
     if met.is(Fault::CannotUse(path)) {
         if let Some(found) = state_at(met.rt, path, usage) {
@@ -23,7 +20,6 @@ pub(crate) fn explain_path<E: Sink>(met: FaultLine<'_>, path: &str, usage: Usage
     }
 }
 
-/// The link file and the base of a system.
 pub(crate) fn explain_files<E: Sink>(met: FaultLine<'_>, place: Place<'_>, errors: &mut E) {
     let _ = explain_links(met, place.links, errors);
     explain_path(met, place.base, Usage::Changed, errors);
@@ -49,7 +45,6 @@ pub(crate) fn explain_links<E: Sink>(met: FaultLine<'_>, path: &str, errors: &mu
     }
 }
 
-// The first faulty line of a link file.
 fn explain_line<E: Sink>(met: FaultLine<'_>, path: &str, line: &FaultyLine, errors: &mut E) {
     if !met.is(Fault::Link(line.fault)) {
         return;
@@ -68,7 +63,6 @@ fn explain_line<E: Sink>(met: FaultLine<'_>, path: &str, line: &FaultyLine, erro
     tell(met.rt, why, errors);
 }
 
-/// Files that are used one by one.
 pub(crate) fn explain_paths<E: Sink>(met: FaultLine<'_>, paths: &Paths<'_>, errors: &mut E) {
     let found = names_of(met.rt, paths);
     for name in &found.names {
@@ -138,7 +132,6 @@ fn explain_noted<E: Sink>(met: FaultLine<'_>, base: &str, folder: &str, errors: 
     }
 }
 
-// Whether the folder has staging files.
 fn has_staging(rt: &HostRuntime, folder: &str) -> bool {
     let Ok(entries) = fs::read_dir(rt, folder) else {
         return false;
@@ -153,7 +146,6 @@ fn has_staging(rt: &HostRuntime, folder: &str) -> bool {
     false
 }
 
-// A file in the folder of packets.
 fn explain_entry<E: Sink>(met: FaultLine<'_>, slashed: &str, name: &str, errors: &mut E) {
     if !name.ends_with(".pkt") {
         return;

@@ -1,5 +1,3 @@
-//! A writer that also collects the written bytes.
-
 use std::alloc::Global;
 use std::io;
 use std::io::Write;

@@ -38,7 +38,6 @@ pub(crate) struct FaultLine<'a> {
 }
 
 impl FaultLine<'_> {
-    /// Whether it is the line of this fault.
     pub(crate) fn is(&self, fault: Fault<'_>) -> bool {
         match format!(in self.rt.alloc(); "echonet: {fault}") {
             Ok(line) => line.as_bytes() == self.line,
@@ -46,18 +45,15 @@ impl FaultLine<'_> {
         }
     }
 
-    /// Whether it is that of a fault of a link file.
     pub(crate) fn is_of_links(&self) -> bool {
         self.line.starts_with(b"echonet: L")
     }
 
-    // Whether it is that of a fault of a packet.
     fn is_of_packet(&self) -> bool {
         self.line.starts_with(b"echonet: P") || self.line.starts_with(b"echonet: C1 ")
     }
 }
 
-/// Prints a note.
 pub(crate) fn tell<E: Sink>(rt: &HostRuntime, why: Reason<'_>, errors: &mut E) {
     let mut line = Vec::new(rt.alloc());
     if push_note(&mut line, why).is_ok() {
@@ -70,8 +66,7 @@ fn tell_state<E: Sink>(rt: &HostRuntime, path: &str, state: State, errors: &mut 
 }
 
 impl<'a> ExplainedCommand<'a> {
-    /// The command of these words, before it runs. None if notes are off: `--explain` is missing, and standard error is
-    /// no terminal.
+    /// The command of these words, before it runs. None if notes are off: no `--explain`, and no terminal.
     pub fn of(rt: &'a HostRuntime, asked: &'a ParsedLine<'a>) -> Option<ExplainedCommand<'a>> {
         if !asked.explain && !rt.stderr().is_terminal() {
             return None;
@@ -123,7 +118,6 @@ impl<'a> ExplainedCommand<'a> {
     }
 }
 
-/// Whether something has the path.
 pub(crate) fn is_there(rt: &HostRuntime, path: &str) -> bool {
     matches!(fs::exists(rt, path), Ok(true))
 }
@@ -144,7 +138,6 @@ fn tell_none_of_area<E: Sink>(rt: &HostRuntime, words: &Words<'_>, errors: &mut 
     }
 }
 
-// The path, if nothing is there.
 fn missing<'a>(rt: &HostRuntime, path: Option<&'a str>) -> Option<&'a str> {
     match path {
         Some(path) if !is_there(rt, path) => Some(path),
@@ -161,7 +154,6 @@ fn explain<E: Sink>(met: FaultLine<'_>, words: &Words<'_>, errors: &mut E) {
     }
 }
 
-// The same of a command that reads no base.
 fn explain_net_words<E: Sink>(met: FaultLine<'_>, words: &NetWords<'_>, errors: &mut E) {
     match words {
         NetWords::Show { packet, .. } => explain_path(met, *packet, Usage::File, errors),
@@ -180,7 +172,6 @@ fn explain_net_words<E: Sink>(met: FaultLine<'_>, words: &NetWords<'_>, errors: 
     }
 }
 
-// The same of a command that reads a base.
 fn explain_base_words<E: Sink>(met: FaultLine<'_>, words: &BaseWords<'_>, errors: &mut E) {
     match words {
         BaseWords::List(words) => explain_read(met, words.from, words.base, errors),
@@ -197,7 +188,6 @@ fn explain_base_words<E: Sink>(met: FaultLine<'_>, words: &BaseWords<'_>, errors
     }
 }
 
-// The same of a command that changes a base.
 fn explain_station_words<E: Sink>(met: FaultLine<'_>, words: &StationWords<'_>, errors: &mut E) {
     match words {
         StationWords::Post(words) => explain_post(met, words, errors),

@@ -1,5 +1,3 @@
-//! Which packet of a toss is refused, and why.
-
 use crate::notes::{FaultLine, tell};
 use crate::reasons::{FaultyPacket, Misdelivered, PacketPlace, Reason};
 use cmd_input::{MAX_TEXT_FILE, PathName, read_file};
@@ -17,7 +15,6 @@ const BUFFER: usize = 65_536;
 /// How many messages of a packet are read at most.
 const MOST: u32 = u32::MAX;
 
-// The fault of a packet.
 #[derive(Clone, Copy)]
 enum PacketFailure {
     NotForUs(Address),
@@ -63,7 +60,6 @@ fn limits_of(text_limit: Option<&str>) -> Limits {
     }
 }
 
-// Explains the fault of a packet. The answer is whether it has one.
 fn explain_packet<E: Sink>(
     met: FaultLine<'_>,
     own: Address,
@@ -90,7 +86,6 @@ fn explain_packet<E: Sink>(
     true
 }
 
-// The fault of the packet at this path, if it can be read.
 fn wrong_in(rt: &HostRuntime, own: Address, limits: Limits, path: &str) -> Option<PacketFailure> {
     let file = open_regular(rt, path).ok()?;
     let source = Buffered::new(rt.alloc(), Watched::new(file), BUFFER).ok()?;

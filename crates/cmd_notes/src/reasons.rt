@@ -1,4 +1,3 @@
-//! Notes: why a command stopped, or what it made, in words.
 ghost use Rattle.std.specs.Prelude.{◌≡◌, ◌++◌, codes, decimal, OnOk};
 ghost use Rattle.echo_addr.specs.Address.{address_text};
 ghost use Rattle.echo_charset.specs.Words.{printed_word};
@@ -15,17 +14,11 @@ use std::io::Write;
 /// Why a command stopped, or what it made.
 #[derive(Clone, Copy)]
 pub enum Reason<'a> {
-    /// A line of a link file is wrong.
     Line(WrongLine<'a>),
-    /// The state of a path.
     Path(PathState<'a>),
-    /// A packet is for another system.
     NotForUs(Misdelivered<'a>),
-    /// A packet is faulty.
     Packet(FaultyPacket<'a>),
-    /// A field of a message has too many bytes.
     TooLong(LongField),
-    /// A word of the command line has another form.
     Word(WrongWord<'a>),
     /// The area of this tag is missing in the link file with this path.
     NoArea(&'a str, &'a str),
@@ -33,9 +26,7 @@ pub enum Reason<'a> {
     NoMessage(u64, u64),
     /// No message of the base has the area of this tag. The path of the base comes second.
     NoneOfArea(&'a str, &'a str),
-    /// What a fault of an area costs.
     Cost(Cost),
-    /// What was not seen of an area.
     NotSeen(NotSeen),
 }
 
@@ -57,7 +48,7 @@ pub enum Cost {
 pub enum NotSeen {
     /// What lies behind two assumed systems, after a yes.
     AfterYes,
-    /// The same after a V7.
+    /// What lies behind two assumed systems, after a V7.
     AfterApart,
     /// What lies behind one assumed system.
     BehindOne,
@@ -71,14 +62,12 @@ pub struct WrongLine<'a> {
     pub word: &'a [u8],
 }
 
-/// A path and its state.
 #[derive(Clone, Copy)]
 pub struct PathState<'a> {
     pub path: &'a str,
     pub state: State,
 }
 
-/// The state of a path.
 #[derive(Clone, Copy, Debug, PartialEq, Eq)]
 pub enum State {
     NoFile,
@@ -103,7 +92,6 @@ pub struct PacketPlace<'a> {
     pub path: &'a str,
 }
 
-/// A packet for another system than this one.
 #[derive(Clone, Copy)]
 pub struct Misdelivered<'a> {
     pub packet: PacketPlace<'a>,
@@ -111,7 +99,6 @@ pub struct Misdelivered<'a> {
     pub own: Address,
 }
 
-/// A packet with a fault.
 #[derive(Clone, Copy)]
 pub struct FaultyPacket<'a> {
     pub packet: PacketPlace<'a>,
@@ -137,7 +124,6 @@ pub enum WordForm {
     NodeAddress,
 }
 
-/// A word that is not of this form.
 #[derive(Clone, Copy)]
 pub struct WrongWord<'a> {
     pub form: WordForm,
@@ -154,7 +140,6 @@ pub fn push_note(lines: &mut Vec<u8>, why: Reason<'_>) -> Result<(), AllocError>
     Ok(())
 }
 
-// Adds a reason in words.
 fn push_reason(lines: &mut Vec<u8>, why: Reason<'_>) -> Result<(), AllocError>
     ensures { OnOk result (lines.new.items ≡ lines.old.items ++ reason_text why.entry) }
 {
@@ -181,7 +166,6 @@ fn push_line(lines: &mut Vec<u8>, line: WrongLine<'_>) -> Result<(), AllocError>
     push_complaint(lines, line.fault, line.word)
 }
 
-// Adds the fault of this word.
 fn push_complaint(lines: &mut Vec<u8>, fault: LinkFault, word: &[u8]) -> Result<(), AllocError>
     ensures { OnOk result (lines.new.items ≡ lines.old.items ++ word_reason fault word.now) }
 {
@@ -192,7 +176,6 @@ fn push_complaint(lines: &mut Vec<u8>, fault: LinkFault, word: &[u8]) -> Result<
     lines.extend_from_slice(expectation(fault))
 }
 
-// The fault of a word in a line of a link file.
 fn complaint(fault: LinkFault) -> &'static [u8]
     ensures { result.now ≡ complaint fault }
 {
@@ -209,7 +192,6 @@ fn complaint(fault: LinkFault) -> &'static [u8]
     }
 }
 
-// What a line may have there.
 fn expectation(fault: LinkFault) -> &'static [u8]
     ensures { result.now ≡ expectation fault }
 {
@@ -250,7 +232,6 @@ fn state_words(state: State) -> &'static [u8]
     }
 }
 
-// Adds which packet of a toss it is.
 fn push_packet(lines: &mut Vec<u8>, place: PacketPlace<'_>) -> Result<(), AllocError>
     ensures { OnOk result (lines.new.items ≡ lines.old.items ++ packet_words place.entry) }
 {
@@ -316,7 +297,6 @@ fn push_lengths(lines: &mut Vec<u8>, length: usize, most: usize) -> Result<(), A
     written(write!(lines, " is {length} bytes long, {most} are allowed"))
 }
 
-// The option that gives a field.
 fn field_name(field: Field) -> &'static [u8]
     ensures { result.now ≡ field_name field }
 {
@@ -365,7 +345,6 @@ fn push_no_area(lines: &mut Vec<u8>, tag: &str, links: &str) -> Result<(), Alloc
     push_area_in(lines, b"no area ", tag, links)
 }
 
-// These words, an area, and where it was looked for.
 fn push_area_in(lines: &mut Vec<u8>, words: &[u8], tag: &str, place: &str) -> Result<(), AllocError>
     ensures { OnOk result (lines.new.items ≡ lines.old.items ++ (words.now ++ (printed_word tag.now ++ (codes " in " ++ printed_word place.now)))) }
 {
@@ -387,7 +366,6 @@ fn push_none_of_area(lines: &mut Vec<u8>, tag: &str, base: &str) -> Result<(), A
     push_area_in(lines, b"no message of area ", tag, base)
 }
 
-// A fault, and what it costs.
 fn cost_words(cost: Cost) -> &'static [u8]
     ensures { result.now ≡ cost_words cost }
 {

@@ -1,5 +1,3 @@
-//! The state of a path that a command could not use.
-
 use crate::reasons::{PathState, State};
 use disk_system::folder_of;
 use std::fs::Metadata;
@@ -9,15 +7,12 @@ use std::{fs, io};
 /// How a command uses a path.
 #[derive(Clone, Copy, PartialEq, Eq)]
 pub(crate) enum Usage {
-    /// It reads a file.
     File,
     /// It reads a base, which is a file or a folder.
     Base,
     /// It changes a base, and makes a file where there is none.
     Changed,
-    /// It makes files in a folder.
     Folder,
-    /// It makes a file.
     New,
 }
 
@@ -32,7 +27,6 @@ pub(crate) fn state_at<'a>(rt: &HostRuntime, path: &'a str, usage: Usage) -> Opt
     }
 }
 
-// The same after this error.
 fn missing_at<'a>(
     rt: &HostRuntime,
     error: &io::Error,
@@ -51,7 +45,6 @@ fn missing_at<'a>(
     Some(PathState { path, state })
 }
 
-// The state of a folder that is missing, or of another file at its path.
 fn no_folder<'a>(rt: &HostRuntime, folder: &'a str) -> Option<PathState<'a>> {
     let state = match fs::metadata(rt, folder) {
         Ok(found) if found.is_dir() => return None,
@@ -64,7 +57,6 @@ fn no_folder<'a>(rt: &HostRuntime, folder: &'a str) -> Option<PathState<'a>> {
     })
 }
 
-// The fault of the entry at the path.
 fn state_of(rt: &HostRuntime, path: &str, found: &Metadata, usage: Usage) -> Option<State> {
     match usage {
         Usage::File if found.is_dir() => Some(State::IsFolder),
@@ -76,7 +68,7 @@ fn state_of(rt: &HostRuntime, path: &str, found: &Metadata, usage: Usage) -> Opt
     }
 }
 
-// Whether this user may not read it. To open a pipe would wait for a writer.
+// To open a pipe would wait for a writer.
 fn is_denied(rt: &HostRuntime, path: &str, found: &Metadata) -> bool {
     if found.is_dir() {
         match fs::read_dir(rt, path) {

@@ -14,7 +14,6 @@ use model_steps::PostFault;
 use std::alloc::{AllocError, Global};
 use std::collections::hash_map::RandomState;
 
-/// A word of another form.
 pub(crate) fn explain_word<E: Sink>(
     met: FaultLine<'_>,
     fault: Fault<'_>,
@@ -29,7 +28,6 @@ pub(crate) fn explain_word<E: Sink>(
     }
 }
 
-/// The words for the stamp and for the serial.
 pub(crate) fn explain_moment<E: Sink>(
     met: FaultLine<'_>,
     at: &str,
@@ -40,7 +38,6 @@ pub(crate) fn explain_moment<E: Sink>(
     explain_word(met, Fault::BadSerial, WordForm::Serial, serial, errors);
 }
 
-/// An area that the link file lacks.
 pub(crate) fn explain_area<E: Sink>(met: FaultLine<'_>, tag: &str, links: &str, errors: &mut E) {
     if met.is(Fault::Post(PostFault::NoArea)) {
         tell(met.rt, Reason::NoArea(tag, links), errors);
@@ -75,7 +72,6 @@ pub(crate) fn explain_fields<E: Sink>(
     tell(met.rt, Reason::TooLong(long), errors);
 }
 
-/// The number of a message that is answered.
 pub(crate) fn explain_index<E: Sink>(met: FaultLine<'_>, words: &ReplyWords<'_>, errors: &mut E) {
     if !met.is(Fault::BadNumber) {
         return;
@@ -93,7 +89,6 @@ pub(crate) fn explain_index<E: Sink>(met: FaultLine<'_>, words: &ReplyWords<'_>,
     }
 }
 
-// How many messages a base has.
 fn count_of(rt: &HostRuntime, path: &str) -> Option<u64> {
     if !is_there(rt, path) {
         return Some(0);
@@ -111,7 +106,7 @@ pub(crate) fn has_none_of(rt: &HostRuntime, path: &str, tag: &str) -> bool {
     matches!(none_of(rt, path, tag), Some(true))
 }
 
-// The same. A message of a folder is in memory alone.
+// A message of a folder is in memory alone.
 fn none_of(rt: &HostRuntime, path: &str, tag: &str) -> Option<bool> {
     let tag = tag.as_bytes().to_ascii_uppercase(rt.alloc()).ok()?;
     if is_folder(rt, path) {
@@ -121,7 +116,7 @@ fn none_of(rt: &HostRuntime, path: &str, tag: &str) -> Option<bool> {
     none_in_file(rt, path, &tag)
 }
 
-// The same of a base file. Most often the bytes have a line of the area, and the base is not read whole.
+// Most often the bytes have a line of the area, and the base is not read whole.
 fn none_in_file(rt: &HostRuntime, path: &str, tag: &[u8]) -> Option<bool> {
     let bytes = read_file(rt, path, usize::MAX).ok()?;
     let line = area_line(rt.alloc(), tag).ok()?;
@@ -133,7 +128,6 @@ fn none_in_file(rt: &HostRuntime, path: &str, tag: &[u8]) -> Option<bool> {
     lacks_area(&mut messages, path, tag)
 }
 
-// The line of a message that names its area.
 fn area_line(alloc: Global, tag: &[u8]) -> Result<Vec<u8>, AllocError> {
     let mut line = Vec::from_slice(alloc, b"AREA:")?;
     line.extend_from_slice(tag)?;
@@ -141,7 +135,7 @@ fn area_line(alloc: Global, tag: &[u8]) -> Result<Vec<u8>, AllocError> {
     Ok(line)
 }
 
-// Whether no message has the tag. None where one is not read.
+// None where a message is not read.
 fn lacks_area<M: MessageSource>(messages: &mut M, path: &str, tag: &[u8]) -> Option<bool>
     requires { (M.state messages.old).is_ready }
 {
@@ -155,7 +149,6 @@ fn lacks_area<M: MessageSource>(messages: &mut M, path: &str, tag: &[u8]) -> Opt
     Some(true)
 }
 
-// Whether there is a message, and it has the tag.
 fn is_of_area(message: Option<&Filed>, tag: &[u8]) -> bool {
     match message {
         Some(message) => message.echo.tag.as_slice() == tag,

@@ -10,20 +10,16 @@ use Rattle.cmd_status.proofs.Lines.{begun_after}
 use Rattle.cmd_numbered.specs.JamAdded.{Added, IsUnadded, IsUnsent, added_at, added_of, is_added, with_message}
 use Rattle.cmd_numbered.specs.declared.{adding.JamEnd.JamEnd, jam_export_error.JamExportError.JamExportError}
 
--- one message was not added, and the sink did not fail before
 pub unadded_here : (path : List ℕ) (first now old before after : ℕ) (why : JamExportError) → before ≡ old → IsUnadded before after why → IsUnsent path first now old after why
 unadded_here path first now old before after h7 same is = grind arith
 
--- what holds anyway holds at an error
 pub at_error : {T E P : Type 0} (r : Result T E) → P → OnErr r P
 at_error (Ok x) p = tt
 at_error (Err e) p = p
 
--- the texts of some messages and a front of those of one more
 pub begun_since : (a b c : Option (List ℕ)) (went more : List ℕ) → Appends a b went → WritesFront more b c → WritesFront (went ++ more) a c
 begun_since a b c went more out begun = begun_after a b c (went ++ more) more (record { went = went; whole = refl; written = out }) begun
 
--- The texts of the first messages are a front of those of more.
 by_choice : (chosen : Bool) (a b : Added) (more : List ℕ) → a.texts ≡ b.texts ++ more → (rest : List ℕ) × ((if chosen then a else b).texts ≡ b.texts ++ rest)
 by_choice true a b more is = (more, is)
 by_choice false a b more is = ([], sym (append-nil b.texts))
@@ -41,7 +37,6 @@ texts_more area headers index first cursor i (suc k) end base =
     let last = one_text area headers index first cursor (k + i) end (slice_get base (k + i)) (added_of area first cursor headers index end base (k + i)) in
     rw suc-add (mid.0 ++ last.0, last.1 ∙ ap (λ (l : List ℕ). l ++ last.0) mid.1 ∙ append_assoc before mid.0 last.0)
 
--- A front of the texts of some messages is a front of all.
 pub front_of_all : (area headers index : List ℕ) (first i : ℕ) (end : JamEnd) (base : Base) (went rest : List ℕ) → i ≤ length base.messages → (added_of area first base.cursor headers index end base.messages i).texts ≡ went ++ rest
     → (more : List ℕ) × ((added_of area first base.cursor headers index end base.messages (length base.messages)).texts ≡ went ++ more)
 front_of_all area headers index first i end base went rest within is =
@@ -51,7 +46,6 @@ front_of_all area headers index first i end base went rest within is =
     let whole = subst (λ (n : ℕ). (added_of area first base.cursor headers index end base.messages n).texts ≡ (added_of area first base.cursor headers index end base.messages i).texts ++ all.0) sum all.1 in
     (rest ++ all.0, whole ∙ ap (λ (l : List ℕ). l ++ all.0) is ∙ append_assoc went rest all.0)
 
--- the additions with one message more
 pub one_added : (area headers index : List ℕ) (first i cursor : ℕ) (end : JamEnd) (base : Base) (m : Option Filed) (a : Added) → cursor ≡ base.cursor → m ≡ slice_get base.messages i
     → a ≡ added_of area first base.cursor headers index end base.messages i → added_at area first cursor headers index end i m a ≡ added_of area first base.cursor headers index end base.messages (i + 1)
 one_added area headers index first i cursor end base m a at here so_far = rw add-one (λ k. added_at area first (at k) headers index end i (here k) (so_far k))

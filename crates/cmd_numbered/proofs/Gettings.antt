@@ -8,17 +8,14 @@ use Rattle.cmd_status.specs.declared.status.Status.{Status}
 use Rattle.cmd_numbered.specs.Numbered.{EndsAt, IsMadeFrom, IsUnexported, IsUnmade, file_at, file_of, is_exported}
 use Rattle.cmd_numbered.specs.declared.{folder.MessageFile.MessageFile, numbering.Exported.Exported, numbering.ExportError.ExportError}
 
--- the one file of a message that is exported
 pub one_file : (area : List ℕ) (first cursor number i : ℕ) (m : Filed) (found : Option Filed) (is : Bool) → Some m ≡ found → is ≡ is_exported area first cursor i m → is ≡ true
     → file_at area first cursor number i found ≡ file_of cursor number i m ∷ []
 one_file area first cursor number i m found is here exported so =
     ap (file_at area first cursor number i) (sym here) ∙ ap (λ (b : Bool). if b then file_of cursor number i m ∷ [] else []) (sym exported ∙ so)
 
--- that file was not made
 pub unmade : (files : List MessageFile) (file : MessageFile) (Refused : Status → Type 0) (path : List ℕ) (before now : ℕ) (result : Result ℕ ExportError) → files ≡ file ∷ [] → IfErr result (IsUnmade Refused) → IfErr result (IsUnexported files Refused path before now)
 unmade files file Refused path before now h7 are why = grind arith
 
--- reads that failed later in a call
 ends_since : (area : List ℕ) (from number : ℕ) (base : Base) (Refused : Status → Type 0) (path : List ℕ) (first before now seen next : ℕ) (stop : Option ExportError) → first ≤ before
     → EndsAt area from number base Refused path before now seen next stop → EndsAt area from number base Refused path first now seen next stop
 ends_since area from number base Refused path first before now seen next h12 less ends = grind (arith, unread_since)

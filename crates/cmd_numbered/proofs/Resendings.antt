@@ -1,4 +1,3 @@
--- A packet made again, as an answer.
 use Rattle.std.proofs.Common.{◌≡◌, ◌≤◌, ◌+◌, ⊎_elim, ℕ, zero, suc, ◌<◌, ◌++◌, List, [], ◌∷◌, Option, Some, Result, ◌∙◌, refl, subst, arith, slice_get, length}
 use Rattle.std.proofs.lemmas.Bool.{cases_lt}
 use Rattle.base_file.specs.Base.{Base}
@@ -13,7 +12,6 @@ use Rattle.cmd_status.specs.{declared.fault.Fault.Fault, Inputs.IsBaseGiven}
 use Rattle.echo_toss.specs.Exports.{IsResentAt}
 use Rattle.cmd_numbered.specs.Resending.{AreLegibleFrom, IsMadeOf, ResendAnswers, ResendsReading, copies_at}
 
--- the messages were those of a base file, where no read fails
 pub of_base_file : (file : LinkFile) (stamp : Stamp) (area : List ℕ) (to : Address) (first : ℕ) (path bytes : List ℕ) (base : Base) (result : Result Packet Fault)
     → IsBaseGiven (Some bytes) base.messages base.cursor → ResendsReading stamp (IsMadeOf file stamp area to first base) path 0 0 result → ResendAnswers file stamp area to first bytes result
 of_base_file file stamp area to first path bytes base h9 given h11 = grind (arith, never_read)
@@ -23,14 +21,12 @@ found_at [] i within = absurd (omega (arith, within))
 found_at (x ∷ xs) zero within = (x, refl)
 found_at (x ∷ xs) (suc i) within = found_at xs i (omega (arith, within))
 
--- the copy of the fetched message is added
 pub added_at : (file : LinkFile) (area : List ℕ) (to : Address) (messages : List Filed) (i : ℕ) (hand : Option Filed) (old new : List Message)
     → i < length messages → hand ≡ slice_get messages i → new ≡ old ++ copies_at file area to hand → IsResentAt file area to messages i old new
 added_at file area to messages i hand old new within here grown =
     let found = found_at messages i within in
     (found.0, found.1, subst (λ (o : Option Filed). new ≡ old ++ copies_at file area to o) (here ∙ found.1) grown)
 
--- one message more was read
 pub read_from : (a b c : SourceState) (first i : ℕ) → ((j : ℕ) → b.legible j → a.legible j) → (c.is_honest → b.is_honest) → (b.is_honest → AreLegibleFrom a first i) → (c.is_honest → b.legible i) → c.is_honest → AreLegibleFrom a first (i + 1)
 read_from a b c first i since honest before now is j from less =
     ⊎_elim (λ (e : j < i). before (honest is) j from e)

@@ -10,7 +10,6 @@ use Rattle.echo_text.specs.Echo.{first_after, msgid_of}
 use Rattle.cmd_status.specs.declared.fault.Fault.{Fault}
 use Rattle.cmd_numbered.specs.{declared.finding.Answered.Answered, declared.finding.PostedWords.PostedWords, Reading.AnswersFile}
 
--- Whether a message has the id.
 abbrev pub is_id_of : List ℕ → Option (List ℕ) → Bool
 is_id_of id None = false
 is_id_of id (Some own) = bytes_eq own id
@@ -43,15 +42,12 @@ charset_named (Some label) = named (label_name label)
 abbrev pub charset_of : Filed → Option Charset
 charset_of m = charset_named (first_after charset_word m.echo.kept)
 
--- The parts that a mail takes from the message that it answers.
 abbrev pub answered_as : Filed → Answered
 answered_as m = record { tag = m.echo.tag; charset = charset_of m }
 
--- These are the parts from the last message of a base with the id, if there is one.
 abbrev pub IsAnswered : List ℕ → Base → Option Answered → Type 0
 IsAnswered id base found = found ≡ option_map answered_as (last_with id base.messages (length base.messages))
 
--- The right answer of the search for this message in a base file.
 abbrev pub AnsweredAnswers : List ℕ → List ℕ → Result (Option Answered) Fault → Type 0
 AnsweredAnswers id file answer = AnswersFile (IsAnswered id) file answer
 
@@ -69,6 +65,5 @@ is_found_as tag words (Some m) = has_words tag words m
 abbrev pub IsPostedAs : PostedWords → Base → Bool → Type 0
 IsPostedAs words base posted = posted ≡ is_found_as (upper words.tag.now) words (last_with words.id.now base.messages (length base.messages))
 
--- The right answer of this question for a base file.
 abbrev pub PostedAnswers : PostedWords → List ℕ → Result Bool Fault → Type 0
 PostedAnswers words file answer = AnswersFile (IsPostedAs words) file answer

@@ -68,7 +68,7 @@ added_at area first cursor headers index end i None a = a
 added_at area first cursor headers index end i (Some m) a =
     if is_added area first cursor headers index i m then with_message (nat_lt i cursor) end i m a else a
 
--- The first `n` messages.
+-- The additions of the first `n` messages.
 abbrev pub added_of : List ℕ → ℕ → ℕ → List ℕ → List ℕ → JamEnd → List Filed → ℕ → Added
 added_of area first cursor headers index end base zero = nothing_added
 added_of area first cursor headers index end base (suc n) =
@@ -96,7 +96,6 @@ pub record IsJamExport (area : List ℕ) (first : ℕ) (headers index : List ℕ
   pub added : HasAdded exported.adding old new (added_of (upper area) from base.cursor headers index end base.messages (length base.messages))
   pub end_is : exported.end ≡ max from (length base.messages)
 
--- The texts of these additions.
 abbrev pub jam_texts : List ℕ → ℕ → List ℕ → List ℕ → Option ℕ → List ℕ → JamEnd → Base → List ℕ
 jam_texts area first headers index last text end base =
     (added_of (upper area) (resumed_jam (upper area) first base.cursor headers last text base.messages (length base.messages)) base.cursor headers index end base.messages (length base.messages)).texts

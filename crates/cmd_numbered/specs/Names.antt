@@ -3,11 +3,9 @@ use Rattle.std.specs.Prelude.{ℕ, ◌-◌, ◌&&◌, List, ◌++◌, length, ta
 use Rattle.echo_addr.specs.Digits.{number_within}
 use Rattle.echo_links.specs.Links.{upper}
 
--- A name without its last four bytes.
 abbrev pub front_of_name : List ℕ → List ℕ
 front_of_name name = take (length name - 4) name
 
--- Whether it ends in `.msg`.
 abbrev pub ends_in_msg : List ℕ → Bool
 ends_in_msg name = bytes_eq (upper (drop (length name - 4) name)) (codes ".MSG")
 
@@ -15,7 +13,6 @@ ends_in_msg name = bytes_eq (upper (drop (length name - 4) name)) (codes ".MSG")
 abbrev pub number_of_name : List ℕ → Option ℕ
 number_of_name name = if ends_in_msg name then number_within 99999999 (front_of_name name) else None
 
--- The name of the message of this number.
 abbrev pub name_of : ℕ → List ℕ
 name_of number = decimal number ++ codes ".msg"
 

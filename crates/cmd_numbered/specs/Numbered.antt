@@ -44,7 +44,6 @@ resumed area first cursor last base (suc n) = if is_last area first cursor last 
 abbrev pub file_of : ℕ → ℕ → ℕ → Filed → MessageFile
 file_of cursor number i m = record { name = name_of number; message = i; bytes = stored_bytes (nat_lt i cursor) m }
 
--- The file of the message of this number, if it is exported.
 abbrev pub file_at : List ℕ → ℕ → ℕ → ℕ → ℕ → Option Filed → List MessageFile
 file_at area first cursor number i None = []
 file_at area first cursor number i (Some m) = if is_exported area first cursor i m then file_of cursor number i m ∷ [] else []
@@ -60,7 +59,6 @@ files_of area first cursor number base (suc n) =
 abbrev pub first_number : ℕ → ℕ
 first_number greatest = max greatest 1 + 1
 
--- These files were made, and this is their number.
 pub record IsMade (files : List MessageFile) (old new : Option (List MessageFile)) (count : ℕ) : Type 0 where
   pub many : count ≡ length files
   pub got : Gets old new files

@@ -15,7 +15,6 @@ pub record IsOfFile {A : Type 0} (IsRight : Base → A → Type 0) (file : List 
   pub given : IsBaseGiven (Some file) base.messages base.cursor
   pub right : IsRight base answer
 
--- Such an answer, or the base file has the fault.
 abbrev pub AnswersFile : {A : Type 0} → (Base → A → Type 0) → List ℕ → Result A Fault → Type 0
 AnswersFile IsRight file (Ok answer) = IsOfFile IsRight file answer
 AnswersFile IsRight file (Err fault) = IsOutOfMemory fault ⊎ IsBaseFault (Some file) fault

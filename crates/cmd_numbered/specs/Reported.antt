@@ -2,11 +2,9 @@
 use Rattle.std.specs.Prelude.{ℕ, ◌==◌, List, [], ◌++◌, codes, decimal, if◌then◌else◌, slice_get, unwrap_or}
 use Rattle.cmd_numbered.specs.declared.{adding.JamExport.JamExport, numbering.Exported.Exported}
 
--- The line with the number of exported messages and the next number.
 abbrev pub reported_line : ℕ → ℕ → List ℕ
 reported_line made next = codes "exported " ++ (decimal made ++ (codes " messages, next " ++ (decimal next ++ codes "\n")))
 
--- That line, for files of a folder.
 abbrev pub exported_line : Exported → List ℕ
 exported_line exported = reported_line exported.made exported.next
 

@@ -29,12 +29,10 @@ abbrev pub ResendsReading : Stamp → (Packet → Type 0) → List ℕ → ℕ �
 ResendsReading stamp IsRight path before now (Ok packet) = IsRight packet
 ResendsReading stamp IsRight path before now (Err fault) = IsUnread path before now fault ⊎ ((fault ≡ Scan BadStamp) × (is_stamp stamp ≡ false))
 
--- The copy of a message, if it exists and is sent again.
 abbrev pub copies_at : LinkFile → List ℕ → Address → Option Filed → List Message
 copies_at file area to None = []
 copies_at file area to (Some m) = map (copy_to file to) (filter (is_resent file area to) (m ∷ []))
 
--- The right answer if a packet is to be made again.
 abbrev pub ResendAnswers : LinkFile → Stamp → List ℕ → Address → ℕ → List ℕ → Result Packet Fault → Type 0
 ResendAnswers file stamp area to first base (Ok packet) = IsMadeAgain file stamp area to first base packet
 ResendAnswers file stamp area to first base (Err fault) =

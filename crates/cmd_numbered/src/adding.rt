@@ -43,7 +43,7 @@ pub struct Adding {
     pub messages: Vec<usize>,
 }
 
-/// The same, and the number of the message behind all that were looked at.
+/// `adding`, and the number of the message behind all that were looked at.
 #[derive(Debug, Drop)]
 pub struct JamExport {
     pub adding: Adding,
@@ -81,7 +81,6 @@ pub fn export_jam<'a, M: MessageSource, W: Sink>(
     Ok(JamExport { adding, end })
 }
 
-// The number behind the last message that the last one of the JAM base is, else `first`.
 fn resumed_jam<'a, M: MessageSource>(
     alloc: Global,
     area: &[u8],
@@ -111,7 +110,6 @@ fn resumed_jam<'a, M: MessageSource>(
     Ok(from)
 }
 
-// Whether the last message of the JAM base is the one of this number.
 fn is_last_jam(
     alloc: Global,
     area: &[u8],
@@ -135,8 +133,6 @@ fn is_last_jam(
     is_same(alloc, jam.headers, place, jam.text, message)
 }
 
-// Which messages are added: those of the area from the number `first` on, to this JAM base. Those before the cursor were
-// scanned.
 #[derive(Clone, Copy)]
 struct Selection<'a> {
     area: &'a [u8],
@@ -145,7 +141,6 @@ struct Selection<'a> {
     jam: JamBase<'a>,
 }
 
-// What the messages add. Their texts are sent.
 fn added_of<'a, M: MessageSource, W: Sink>(
     alloc: Global,
     area: &[u8],
@@ -199,7 +194,6 @@ fn nothing_added(alloc: Global) -> Adding
     }
 }
 
-// Adds the message with this number, if it exists and is selected, and sends its text.
 fn add_if_wanted<'a, W: Sink>(
     alloc: Global,
     adding: &mut Adding,
@@ -232,7 +226,6 @@ fn is_wanted(wanted: Selection<'_>, i: usize, message: &Filed) -> bool
         && !is_written_there(wanted.jam, message)
 }
 
-// Whether the JAM base has the message from an editor.
 fn is_written_there(jam: JamBase<'_>, message: &Filed) -> bool
     ensures { result ≡ is_written_there jam.entry.headers.now jam.entry.index.now message.now }
 {
@@ -242,7 +235,6 @@ fn is_written_there(jam: JamBase<'_>, message: &Filed) -> bool
     }
 }
 
-// Adds a message, which was scanned or waits, and sends its text.
 fn add_message<'a, W: Sink>(
     alloc: Global,
     adding: &mut Adding,
@@ -264,7 +256,6 @@ fn add_message<'a, W: Sink>(
     Ok(())
 }
 
-// Adds a message, whose text is the only one in memory, and counts its bytes as sent.
 fn push_message(
     alloc: Global,
     adding: &mut Adding,
@@ -289,14 +280,12 @@ fn push_message(
     Ok(())
 }
 
-// The number behind so many messages. More than four bytes count is refused as out of memory.
 fn number_behind(first: u32, count: usize) -> Result<u32, AllocError>
     ensures { IfOk result (λ number. number ≡ first + count) }
 {
     place_behind(first, count as u64)
 }
 
-// The place after so many bytes. One that four bytes do not count is refused as out of memory.
 fn place_behind(begin: u32, count: u64) -> Result<u32, AllocError>
     ensures { IfOk result (λ place. place ≡ begin + count) }
 {

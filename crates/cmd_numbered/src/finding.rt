@@ -40,7 +40,7 @@ pub fn find_answered<'a, S: BuildHasher + Drop>(
     find_answered_of(alloc, id, "", &mut messages)
 }
 
-/// The same of messages that are read one by one, of the base with this path.
+/// Searches messages that are read one by one, of the base with this path.
 pub fn find_answered_of<'a, M: MessageSource>(
     alloc: Global,
     id: &[u8],
@@ -61,7 +61,6 @@ pub fn find_answered_of<'a, M: MessageSource>(
     Ok(found)
 }
 
-// What the message gives replaces what an earlier one gave, if it has the id.
 fn note_answered(
     alloc: Global,
     id: &[u8],
@@ -107,7 +106,6 @@ fn charset_of(message: &Filed) -> Option<Charset>
     }
 }
 
-// The name at the front of a label.
 fn name_in(label: &[u8]) -> &[u8]
     ensures { result.now ≡ label_name label.now }
 {
@@ -144,7 +142,7 @@ pub fn is_posted<'a, S: BuildHasher + Drop>(
     is_posted_of(alloc, words, "", &mut messages)
 }
 
-/// The same of messages that are read one by one, of the base with this path.
+/// Judges messages that are read one by one, of the base with this path.
 pub fn is_posted_of<'a, M: MessageSource>(
     alloc: Global,
     words: PostedWords<'_>,
@@ -166,7 +164,6 @@ pub fn is_posted_of<'a, M: MessageSource>(
     Ok(posted)
 }
 
-// The answer for the message, if it has the id, else that for the ones before.
 fn is_posted_now(tag: &[u8], words: PostedWords<'_>, before: bool, message: Option<&Filed>) -> bool
     ensures { (last : Option Filed) → before ≡ is_found_as tag.now words.entry last
         → result ≡ is_found_as tag.now words.entry (last_at words.entry.id.now (option_copied message.entry) last) }
@@ -181,7 +178,6 @@ fn is_posted_now(tag: &[u8], words: PostedWords<'_>, before: bool, message: Opti
     }
 }
 
-// Whether it was posted here in this area, with these names and this subject.
 fn has_words(message: &Filed, tag: &[u8], words: PostedWords<'_>) -> bool
     ensures { result ≡ has_words tag.now words.entry message.now }
 {

@@ -1,4 +1,3 @@
-//! A folder that gets a file for each message.
 ghost use Rattle.std.specs.Prelude.{List, Option, [], ◌∷◌, IfErr, OnErr, OnOk};
 ghost use Rattle.cmd_status.specs.declared.status.Status.{Status as TheStatus};
 ghost use Rattle.cmd_numbered.specs.{Folders.Gets, declared.folder.MessageFile.MessageFile as TheFile};

@@ -1,10 +1,8 @@
-//! Why messages were not added to a JAM base.
 use cmd_status::Fault;
 use disk_io::Failure;
 use std::alloc::AllocError;
 
-/// Why messages were not added to a JAM base: a message was not read, there was no memory, or the device that takes the
-/// texts failed.
+/// Why messages were not added to a JAM base. `Device`: the device that takes the texts failed.
 #[derive(Debug, Drop)]
 pub enum JamExportError<'a> {
     Messages(Fault<'a>),

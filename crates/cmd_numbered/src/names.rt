@@ -25,7 +25,6 @@ pub fn number_in(name: &[u8]) -> Option<u32>
     }
 }
 
-// The number that digits write, if a name may have it.
 fn small_number(digits: &[u8]) -> Option<u32>
     ensures { result ≡ number_within 99999999 digits.now }
 {
@@ -35,14 +34,12 @@ fn small_number(digits: &[u8]) -> Option<u32>
     }
 }
 
-// Whether the name ends in `.msg`, in letters of either case.
 fn ends_in_msg(name: &[u8]) -> bool
     ensures { result ≡ ends_in_msg name.now }
 {
     name[name.len().saturating_sub(4)..].eq_ignore_ascii_case(b".MSG")
 }
 
-// The part before that.
 fn front_of_name(name: &[u8]) -> &[u8]
     ensures { result.now ≡ front_of_name name.now }
 {
@@ -57,7 +54,6 @@ pub fn is_left(name: &[u8]) -> bool
     &name[front..] == BESIDE && number_in(&name[..front]).is_some()
 }
 
-/// The name of the stored message of this number.
 pub(crate) fn file_name(alloc: Global, number: u128) -> Result<Vec<u8>, AllocError>
     ensures { IfOk result (λ name. name.items ≡ name_of number) }
 {

@@ -22,8 +22,7 @@ pub enum ExportError<'a> {
     File(Status),
 }
 
-/// How many files were made, and the number of the message from which the next export begins. If that one has no file,
-/// `stop` says why.
+/// How many files were made, and where the next export begins. If that message has no file, `stop` says why.
 #[derive(Debug, Drop)]
 pub struct Exported<'a> {
     pub made: usize,
@@ -60,14 +59,12 @@ pub fn export_files<'a, M: MessageSource, F: MessageFolder>(
     Ok(make_files(alloc, wanted, path, messages, folder))
 }
 
-// The number of the first file.
 fn first_number(greatest: u32) -> u64
     ensures { result ≡ first_number greatest }
 {
     u64::from(greatest.max(1)) + 1
 }
 
-// The number behind the last message that the last file of the folder is, else `first`.
 fn resumed<'a, M: MessageSource>(
     alloc: Global,
     area: &[u8],
@@ -97,7 +94,6 @@ fn resumed<'a, M: MessageSource>(
     Ok(from)
 }
 
-// Whether the last file of the folder is the message of this number.
 fn is_last(
     alloc: Global,
     area: &[u8],
@@ -122,7 +118,6 @@ fn is_last(
     Ok(is_same_stored(last, &stored))
 }
 
-/// Whether the message of this number is asked for.
 pub(crate) fn is_exported(area: &[u8], first: u64, cursor: usize, i: usize, message: &Filed) -> bool
     ensures { result ≡ is_exported area.now first cursor i message.now }
 {
@@ -130,14 +125,12 @@ pub(crate) fn is_exported(area: &[u8], first: u64, cursor: usize, i: usize, mess
     first <= i as u64 && tag == area && (cursor <= i || !is_purged(message))
 }
 
-// Whether a purge took the text.
 fn is_purged(message: &Filed) -> bool
     ensures { result ≡ is_purged message.now }
 {
     message.echo.msgid().is_some() && is_stub(message)
 }
 
-// The bytes of the message, which was scanned or waits, as a stored one.
 fn stored_file(alloc: Global, message: &Filed, scanned: bool) -> Result<Vec<u8>, AllocError>
     ensures { IfOk result (λ bytes. bytes.items ≡ stored_bytes scanned message.now) }
 {
@@ -146,7 +139,6 @@ fn stored_file(alloc: Global, message: &Filed, scanned: bool) -> Result<Vec<u8>,
     Ok(stored)
 }
 
-// Whether two stored messages differ at most in their numbers.
 fn is_same_stored(one: &[u8], other: &[u8]) -> bool
     ensures { result ≡ is_same_stored one.now other.now }
 {
@@ -173,8 +165,6 @@ fn behind_numbers(bytes: &[u8]) -> &[u8]
     }
 }
 
-// Which messages become files: those of the area from the number `first` on. Those before the cursor were scanned. The
-// first file has this number.
 #[derive(Clone, Copy)]
 struct Wanted<'a> {
     area: &'a [u8],
@@ -183,7 +173,6 @@ struct Wanted<'a> {
     number: u64,
 }
 
-// Makes the files of the messages, up to the first that cannot be made.
 fn make_files<'a, M: MessageSource, F: MessageFolder>(
     alloc: Global,
     wanted: Wanted<'_>,
@@ -217,7 +206,6 @@ fn make_files<'a, M: MessageSource, F: MessageFolder>(
     }
 }
 
-// Reads the message of this number, and makes its file after so many, if it is exported. Returns how many were made.
 fn make_next<'a, M: MessageSource, F: MessageFolder>(
     alloc: Global,
     wanted: Wanted<'_>,
@@ -251,14 +239,12 @@ fn make_next<'a, M: MessageSource, F: MessageFolder>(
     }
 }
 
-// Whether the message of this number is exported.
 fn is_wanted(wanted: Wanted<'_>, i: usize, message: &Filed) -> bool
     ensures { result ≡ is_exported wanted.entry.area.now wanted.entry.first wanted.entry.cursor i message.now }
 {
     is_exported(wanted.area, wanted.first, wanted.cursor, i, message)
 }
 
-// Makes the file of a message.
 fn export_one<'a, F: MessageFolder>(
     alloc: Global,
     wanted: Wanted<'_>,
@@ -282,7 +268,6 @@ fn export_one<'a, F: MessageFolder>(
     }
 }
 
-// The file with this number.
 fn file_of(
     alloc: Global,
     cursor: usize,

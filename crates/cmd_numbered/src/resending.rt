@@ -1,4 +1,3 @@
-//! A packet that is made again.
 ghost use Rattle.std.specs.Prelude.{◌≡◌, ◌++◌, IfErr, IfOk, OnOk, option_copied};
 ghost use Rattle.base_file.specs.Base.{Base};
 ghost use Rattle.base_folder.specs.Fetching.{IsUnread};
@@ -31,7 +30,7 @@ pub fn resend<'a, S: BuildHasher + Drop>(
     resend_of(alloc, asked, &links, "", &mut messages)
 }
 
-/// The same of messages that are read one by one, of the base with this path.
+/// Takes messages that are read one by one, of the base with this path.
 pub fn resend_of<'a, M: MessageSource>(
     alloc: Global,
     asked: Resend<'_>,
@@ -62,7 +61,6 @@ pub fn resend_of<'a, M: MessageSource>(
     })
 }
 
-// The copies of the scanned messages that are sent again, in order.
 fn copies_of<'a, M: MessageSource>(
     alloc: Global,
     asked: Resend<'_>,
@@ -89,7 +87,6 @@ fn copies_of<'a, M: MessageSource>(
     Ok(all)
 }
 
-// Adds the copy of the message, if there is one and it is sent again.
 fn push_at(
     alloc: Global,
     links: &LinkFile,

@@ -29,7 +29,7 @@ pub fn tell_exported<'a, W: Sink>(
     print_rest(&mut line, out)
 }
 
-/// The same, where so many of the messages were added to a JAM base.
+/// Prints that line for a JAM base, to which so many of the messages were added.
 pub fn tell_added<'a, W: Sink>(
     alloc: Global,
     exported: &JamExport,
@@ -47,7 +47,6 @@ pub fn tell_added<'a, W: Sink>(
     print_rest(&mut line, out)
 }
 
-// The number of the first message that was not added, or that behind all.
 fn next_added(exported: &JamExport, made: usize) -> u64
     ensures { result ≡ unwrap_or (slice_get exported.now.adding.messages.items made) exported.now.end }
 {
@@ -57,7 +56,6 @@ fn next_added(exported: &JamExport, made: usize) -> u64
     }
 }
 
-// Adds the line.
 fn push_line(line: &mut Vec<u8>, made: usize, next: u64) -> Result<(), AllocError>
     ensures { OnOk result (line.new.items ≡ line.old.items ++ reported_line made next) }
 {
@@ -77,7 +75,6 @@ pub fn tell_refused<'a, W: Sink>(alloc: Global, number: u64, out: &mut W) -> Res
     print_rest(&mut line, out)
 }
 
-// Adds the line.
 fn push_left(line: &mut Vec<u8>, number: u64) -> Result<(), AllocError>
     ensures { OnOk result (line.new.items ≡ line.old.items ++ left_line number) }
 {
@@ -94,7 +91,6 @@ pub fn tell_cuts<E: Sink>(alloc: Global, count: u64, errors: &mut E)
     }
 }
 
-// Adds the line that says so.
 fn push_cuts(line: &mut Vec<u8>, count: u64) -> Result<(), AllocError>
     ensures { OnOk result (line.new.items ≡ line.old.items ++ cuts_line count) }
 {
@@ -116,7 +112,6 @@ pub fn refuse_message<E: Sink>(alloc: Global, errors: &mut E) -> Status
     Status::Refused
 }
 
-// Adds the line that says so.
 fn push_refused(line: &mut Vec<u8>) -> Result<(), AllocError>
     ensures { OnOk result (line.new.items ≡ line.old.items ++ refused_line) }
 {

@@ -1,4 +1,3 @@
--- A number printed with leading zeros.
 use Rattle.std.proofs.{Common.◌≡◌, Common.ℕ, Common.◌-◌, Common.◌^◌, Common.[], Common.decimal, Math.Nat.sub-zero, lemmas.List.append-nil}
 use Rattle.std.specs.{Fmt.padded_integral, Fmt.format_spec, Fmt.char_count, Prelude.false}
 use Rattle.cmd_print.specs.Shown.{zero_padded}

@@ -23,12 +23,10 @@ mark_text true short = codes " waiting\n"
 mark_text false true = codes " purged\n"
 mark_text false false = codes "\n"
 
--- The first line of the message of this number.
 abbrev pub head_text : ℕ → ℕ → Filed → List ℕ
 head_text cursor i m =
     codes "message " ++ (decimal i ++ (codes " area " ++ (m.echo.tag ++ (origin_text m.sender ++ mark_text (nat_le cursor i) (is_purged m)))))
 
--- The lines of its DateTime, names and subject.
 abbrev pub fields_text : Filed → List ℕ
 fields_text m =
     escaped_line (codes "date") m.date
@@ -40,7 +38,6 @@ echo_text e =
     flat_map (λ line. escaped_line (codes "line") line) e.kept
     ++ (codes "seen " ++ (decimal (length e.seen) ++ (codes " path " ++ (decimal (length e.path) ++ codes "\n"))))
 
--- The lines of the message of this number.
 abbrev pub message_text : ℕ → ℕ → Filed → List ℕ
 message_text cursor i m = head_text cursor i m ++ (fields_text m ++ echo_text m.echo)
 
@@ -58,15 +55,12 @@ short_mark true short = codes " | waiting"
 short_mark false true = codes " | purged"
 short_mark false false = []
 
--- The parts of the line after the number.
 abbrev pub short_parts : ℕ → ℕ → Filed → List ℕ
 short_parts cursor i m = short_fields m ++ (m.echo.tag ++ short_mark (nat_le cursor i) (is_purged m))
 
--- The one line of the message of this number.
 abbrev pub short_text : ℕ → ℕ → Filed → List ℕ
 short_text cursor i m = escaped_line (decimal i) (short_parts cursor i m)
 
--- The message of this number in a form.
 abbrev pub listed_text : ListForm → ℕ → ℕ → Filed → List ℕ
 listed_text Whole cursor i m = message_text cursor i m
 listed_text Short cursor i m = short_text cursor i m
@@ -80,7 +74,6 @@ is_of_area (Some area) tag = bytes_eq tag area
 abbrev pub is_asked : Option (List ℕ) → ℕ → ℕ → Filed → Bool
 is_asked area first i m = nat_le first i && is_of_area area m.echo.tag
 
--- The printed text of the message of this number, if there is one.
 abbrev pub asked_text : ListForm → Option (List ℕ) → ℕ → ℕ → ℕ → Option Filed → List ℕ
 asked_text form area first cursor i None = []
 asked_text form area first cursor i (Some m) = if is_asked area first i m then listed_text form cursor i m else []
@@ -94,7 +87,6 @@ messages_text form area first base cursor count =
 abbrev pub total_text : ℕ → ℕ → List ℕ
 total_text messages waiting = codes "end " ++ (decimal messages ++ (codes " messages, " ++ (decimal waiting ++ codes " waiting\n")))
 
--- All lines of a base.
 abbrev pub base_text : ListForm → Option (List ℕ) → ℕ → List Filed → ℕ → List ℕ
 base_text form area first base cursor =
     messages_text form area first base cursor (length base) ++ total_text (length base) (length base - cursor)

@@ -14,21 +14,17 @@ abbrev pub yes_text : List ℕ → ℕ → ℕ → List ℕ
 yes_text tag systems links =
     codes "yes " ++ (printed_word tag ++ (codes " " ++ (decimal systems ++ (codes " systems " ++ (decimal links ++ codes " links")))))
 
--- The text of a verdict.
 abbrev pub verdict_text : List ℕ → Verdict → List ℕ
 verdict_text tag (Yes systems links) = yes_text tag systems links
 verdict_text tag (No fault) = codes "no " ++ (printed_word tag ++ (codes " " ++ fault_text fault))
 
--- The line of a verdict.
 abbrev pub verdict_line : List ℕ → Verdict → List ℕ
 verdict_line tag verdict = verdict_text tag verdict ++ codes "\n"
 
--- The word for why a nodelist does not hold a system.
 abbrev pub absence_word : Absence → List ℕ
 absence_word Missing = codes "unlisted "
 absence_word Down = codes "down "
 
--- The line of a system that a nodelist does not hold.
 abbrev pub absence_line : Address × Absence → List ℕ
 absence_line (a, why) = absence_word why ++ (address_text a ++ codes "\n")
 

@@ -6,23 +6,19 @@ use Rattle.echo_nodelist.specs.{declared.stated.CrcLine.CrcLine, declared.stated
 use Rattle.echo_charset.specs.Escaped.{escaped_line}
 use Rattle.cmd_print.specs.Shown.{zero_padded}
 
--- The line on a checksum that differs.
 abbrev pub mismatch_line : ℕ → ℕ → List ℕ
 mismatch_line stated computed =
     codes "crc mismatch stated " ++ (zero_padded 5 stated ++ (codes " computed " ++ (zero_padded 5 computed ++ codes "\n")))
 
--- The line on the checksum.
 abbrev pub crc_text : CrcLine → List ℕ
 crc_text Absent = codes "crc absent\n"
 crc_text (Match number) = codes "crc match " ++ (zero_padded 5 number ++ codes "\n")
 crc_text (Mismatch stated computed) = mismatch_line stated computed
 
--- The printed form of a keyword.
 abbrev pub keyword_word : Keyword → List ℕ
 keyword_word Node = codes "Node"
 keyword_word k = keyword_text k
 
--- The first field after the number.
 abbrev pub first_field : List (List ℕ) → List ℕ
 first_field [] = []
 first_field (name ∷ fields) = name
@@ -53,7 +49,6 @@ is_entry (Entry k n fields) = true
 abbrev pub total_line : List Line → List ℕ
 total_line lines = codes "entries " ++ (decimal (count_by is_entry lines) ++ codes "\n")
 
--- A line's number.
 abbrev pub line_number : ℕ → List ℕ
 line_number number = codes "line " ++ (decimal number ++ codes " ")
 
@@ -67,7 +62,6 @@ abbrev pub RestListed : Option Address → List Line → List ℕ → Type 0
 RestListed None lines text = text ≡ listed_entries lines (length lines) ++ total_line lines
 RestListed (Some a) lines text = (found : Option ℕ) × Finds lines a found × (text ≡ found_text lines a found)
 
--- All lines of a nodelist with this checksum line.
 pub record Listed (find : Option Address) (lines : List Line) (stated : CrcLine) (text : List ℕ) : Type 0 where
   pub rest : List ℕ
   pub listed : RestListed find lines rest

@@ -11,7 +11,6 @@ use Rattle.cmd_print.specs.Checked.{verdict_text}
 abbrev pub quoted_byte : ℕ → List ℕ
 quoted_byte b = if b == 34 || b == 92 then 92 ∷ b ∷ [] else b ∷ []
 
--- Bytes in double quotes.
 abbrev pub quoted : List ℕ → List ℕ
 quoted bytes = codes "\"" ++ (flat_map quoted_byte bytes ++ codes "\"")
 
@@ -26,7 +25,6 @@ system_marks Plain = []
 system_marks Named = codes " [color=red]"
 system_marks OnLoop = codes " [color=red, penwidth=3]"
 
--- The line of a system.
 abbrev pub system_line : DrawnSystem → List ℕ
 system_line s =
     codes "\"" ++ (address_text s.system ++ (codes "\"" ++ (carrier_marks s.carries ++ (system_marks s.mark ++ codes ";\n"))))
@@ -42,7 +40,6 @@ abbrev pub loop_marks : Bool → List ℕ
 loop_marks true = codes " [color=red, penwidth=3]"
 loop_marks false = []
 
--- The two ends of a link.
 abbrev pub ends_text : DrawnLink → List ℕ
 ends_text l = codes "\"" ++ (address_text l.one ++ (codes "\" -- \"" ++ (address_text l.other ++ codes "\"")))
 
@@ -54,16 +51,13 @@ is_at l c = (same_address c.from l.one && same_address c.to l.other) || (same_ad
 abbrev pub steps_at : DrawnLink → List Crossing → List ℕ
 steps_at l crossings = map (λ c. c.step) (filter (is_at l) crossings)
 
--- A step after another.
 abbrev pub later_step : ℕ → List ℕ
 later_step n = codes "," ++ decimal n
 
--- The steps are the label.
 abbrev pub steps_label : List ℕ → List ℕ
 steps_label [] = []
 steps_label (n ∷ later) = codes " [label=\"" ++ (decimal n ++ (flat_map later_step later ++ codes "\"]"))
 
--- The line of a link.
 abbrev pub link_line : List Crossing → DrawnLink → List ℕ
 link_line crossings l =
     ends_text l ++ (side_marks l.sides ++ (loop_marks l.on_loop ++ (steps_label (steps_at l crossings) ++ codes ";\n")))
@@ -72,7 +66,6 @@ link_line crossings l =
 abbrev pub head_lines : List ℕ → Verdict → List ℕ
 head_lines tag verdict = codes "graph " ++ (quoted (printed_word tag) ++ (codes " {\nlabel=" ++ (quoted (verdict_text tag verdict) ++ codes ";\n")))
 
--- All lines of a drawing, with the messages that cross its links.
 abbrev pub picture_lines : List ℕ → Verdict → Drawing → List Crossing → List ℕ
 picture_lines tag verdict drawing crossings =
     head_lines tag verdict ++ (flat_map system_line drawing.systems ++ (flat_map (link_line crossings) drawing.links ++ codes "}\n"))

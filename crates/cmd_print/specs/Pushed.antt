@@ -1,4 +1,3 @@
--- Lines that are added to a text.
 use Rattle.std.specs.Prelude.{◌≡◌, ℕ, List, ◌++◌}
 
 -- Lines of this kind are added.

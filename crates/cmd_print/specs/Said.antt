@@ -23,7 +23,6 @@ found_lines kept =
     found_line (codes "msgid") (msgid_of kept) ++ (found_line (codes "reply") (reply_of kept)
     ++ (found_line (codes "tear") (tear_of kept) ++ found_line (codes "origin") (origin_of kept)))
 
--- The lines of the parts of an echomail text.
 abbrev pub echo_lines : EchoText → ℕ → List ℕ
 echo_lines e dropped = area_line e.tag ++ (found_lines e.kept ++ counts_line (length e.seen) (length e.path) dropped)
 

@@ -16,11 +16,9 @@ zero_padded digits n = replicate (digits - length (decimal n)) 48 ++ decimal n
 abbrev pub date : Header → List ℕ
 date h = zero_padded 4 h.year ++ (codes "-" ++ (zero_padded 2 (h.month + 1) ++ (codes "-" ++ zero_padded 2 h.day)))
 
--- The time of day of the header.
 abbrev pub time : Header → List ℕ
 time h = zero_padded 2 h.hour ++ (codes ":" ++ (zero_padded 2 h.minute ++ (codes ":" ++ zero_padded 2 h.second)))
 
--- The end of the first line: the product and the serial number of its release.
 abbrev pub product : Header → List ℕ
 product h = codes " product " ++ (decimal h.prod_code ++ (codes " serial " ++ (decimal h.serial_no ++ codes "\n")))
 
@@ -31,11 +29,9 @@ named_sender h = record { zone = h.orig_zone; net = h.orig_net; node = h.orig_no
 abbrev pub named_receiver : Header → Address
 named_receiver h = record { zone = h.dest_zone; net = h.dest_net; node = h.dest_node }
 
--- The two systems: from, to.
 abbrev pub named_systems : Header → List ℕ
 named_systems h = codes "packet " ++ (address_text (named_sender h) ++ (codes " to " ++ address_text (named_receiver h)))
 
--- The line of the two systems, the moment and the product.
 abbrev pub packet_line : Header → List ℕ
 packet_line h = named_systems h ++ (codes " at " ++ (date h ++ (codes " " ++ (time h ++ product h))))
 
@@ -44,19 +40,15 @@ abbrev pub header_lines : Header → List ℕ
 header_lines h =
     packet_line h ++ (codes "password " ++ (encode_lower h.password ++ (codes "\nfill " ++ (encode_lower h.fill ++ codes "\n"))))
 
--- Net/node.
 abbrev pub net_node : ℕ → ℕ → List ℕ
 net_node net node = decimal net ++ (codes "/" ++ decimal node)
 
--- The sending and the receiving system of a message.
 abbrev pub route : Message → List ℕ
 route m = net_node m.orig_net m.orig_node ++ (codes " to " ++ net_node m.dest_net m.dest_node)
 
--- The number of a message and the place where it begins.
 abbrev pub message_number : ℕ → ℕ → List ℕ
 message_number number place = codes "message " ++ (decimal number ++ (codes " at " ++ (decimal place ++ codes ": ")))
 
--- A message's attribute word and its cost.
 abbrev pub costing : Message → List ℕ
 costing m = codes " attribute " ++ (decimal m.attribute ++ (codes " cost " ++ (decimal m.cost ++ codes "\n")))
 
@@ -64,7 +56,6 @@ costing m = codes " attribute " ++ (decimal m.attribute ++ (codes " cost " ++ (d
 abbrev pub message_line : ℕ → ℕ → Message → List ℕ
 message_line number place m = message_number number place ++ (route m ++ costing m)
 
--- The line of the length of a text.
 abbrev pub text_line : ℕ → List ℕ
 text_line n = codes "text " ++ (decimal n ++ codes " bytes\n")
 
@@ -91,7 +82,6 @@ MessagesShown full number place (m ∷ ms) lines =
     (first : List ℕ) × (later : List ℕ) × MessageShown full number place m first
     × MessagesShown full (number + 1) (place + length (message_bytes m)) ms later × (lines ≡ first ++ later)
 
--- The line after the last message.
 abbrev pub end_line : ℕ → ℕ → List ℕ
 end_line messages bytes = codes "end " ++ (decimal messages ++ (codes " messages, " ++ (decimal bytes ++ codes " bytes\n")))
 

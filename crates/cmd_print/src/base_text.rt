@@ -11,8 +11,7 @@ use echo_text::{Echo, Lines, split_line};
 use std::alloc::AllocError;
 use std::io::Write;
 
-/// Adds the lines of the message with this index in its base: its head, DateTime, names and subject, its kept lines,
-/// and how many entries SEEN-BY and PATH have. The head says that the message waits if the index is not below `cursor`.
+/// The message waits if its index is not below `cursor`.
 pub(crate) fn push_message(
     lines: &mut Vec<u8>,
     cursor: usize,
@@ -37,7 +36,6 @@ pub fn push_base_total(
     written(writeln!(lines, "end {messages} messages, {waiting} waiting"))
 }
 
-// Adds the first line.
 fn push_head(
     lines: &mut Vec<u8>,
     cursor: usize,
@@ -53,14 +51,12 @@ fn push_head(
     lines.extend_from_slice(mark(i >= cursor, is_purged(message)))
 }
 
-// Adds the number of a message.
 fn push_number(lines: &mut Vec<u8>, i: usize) -> Result<(), AllocError>
     ensures { OnOk result (lines.new.items ≡ lines.old.items ++ (codes "message " ++ (decimal i ++ codes " area "))) }
 {
     written(write!(lines, "message {i} area "))
 }
 
-// Adds where a message came from.
 fn push_origin(lines: &mut Vec<u8>, sender: Option<Address>) -> Result<(), AllocError>
     ensures { OnOk result (lines.new.items ≡ lines.old.items ++ origin_text sender) }
 {
@@ -70,7 +66,6 @@ fn push_origin(lines: &mut Vec<u8>, sender: Option<Address>) -> Result<(), Alloc
     }
 }
 
-// How the first line ends.
 fn mark(waits: bool, short: bool) -> &'static [u8]
     ensures { result.now ≡ mark_text waits short }
 {
@@ -89,7 +84,6 @@ pub(crate) fn is_purged(message: &Filed) -> bool
     message.echo.msgid().is_some() && is_stub(message)
 }
 
-// Adds DateTime, names and subject.
 fn push_fields(lines: &mut Vec<u8>, message: &Filed) -> Result<(), AllocError>
     ensures { OnOk result (lines.new.items ≡ lines.old.items ++ fields_text message.now) }
 {
@@ -99,7 +93,6 @@ fn push_fields(lines: &mut Vec<u8>, message: &Filed) -> Result<(), AllocError>
     push_escaped(lines, b"subject", message.subject.as_slice())
 }
 
-// Adds the kept lines, and how many entries SEEN-BY and PATH have.
 fn push_echo(lines: &mut Vec<u8>, echo: &Echo) -> Result<(), AllocError>
     ensures { OnOk result (lines.new.items ≡ lines.old.items ++ echo_text echo.now) }
 {
@@ -109,14 +102,12 @@ fn push_echo(lines: &mut Vec<u8>, echo: &Echo) -> Result<(), AllocError>
     written(writeln!(lines, "seen {seen} path {path}"))
 }
 
-// Adds a line for each kept line.
 fn push_kept(lines: &mut Vec<u8>, kept: &Lines) -> Result<(), AllocError>
     ensures { OnOk result (lines.new.items ≡ lines.old.items ++ flat_map (λ line. escaped_line (codes "line") line) kept.now) }
 {
     push_lines(lines, kept.as_text())
 }
 
-/// Adds a line for each line of a text.
 pub(crate) fn push_lines(lines: &mut Vec<u8>, text: &[u8]) -> Result<(), AllocError>
     ensures { OnOk result (lines.new.items ≡ lines.old.items ++ flat_map (λ line. escaped_line (codes "line") line) (text_lines.lines text.now)) }
 {

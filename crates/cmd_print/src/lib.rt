@@ -1,13 +1,6 @@
-//! What the commands of `echonet` print, as lines that are added to a text.
-//!
-//! The contract for the layers above: a call that ends well added just the lines that the definitions in specs/ give
-//! for the value, at the end of the text. A call that lacked memory may have added a part of them. Nothing is written
-//! here, and no function knows of faults or of a status: the commands do that.
-//!
-//! Begin with `show_text` and `said` (a packet, and the parts of a text). `nodelist_text` prints a nodelist, and
-//! `verdict_text` a verdict, and the systems that a nodelist lacks. `picture_text` prints an area as a graph, and
-//! `base_text` and `list_form` the messages of a base. The crates of the commands that change a base, of `replay` and
-//! of `why` have their lines.
+//! What the commands of `echonet` print, as lines that are added to a text. A call that ends well added just the lines
+//! that the definitions in specs/ give, at the end; one that lacked memory may have added a part. Begin with
+//! `show_text` (a packet) and `said` (the parts of a text).
 #![tactic(auto)]
 
 mod base_text;

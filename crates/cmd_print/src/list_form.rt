@@ -1,4 +1,3 @@
-//! The forms in which a message of a base is listed.
 ghost use Rattle.std.specs.Prelude.{◌≡◌, ◌++◌, decimal, IfOk, OnOk};
 ghost use Rattle.cmd_print.specs.BaseListed.{listed_text, short_fields, short_mark, short_part, short_parts, short_text};
 
@@ -32,7 +31,6 @@ pub fn push_listed(
     }
 }
 
-// Adds the one line of a message.
 fn push_short(
     lines: &mut Vec<u8>,
     cursor: usize,
@@ -56,7 +54,6 @@ fn number_word(alloc: Global, i: usize) -> Result<Vec<u8>, AllocError>
     Ok(word)
 }
 
-// Adds the parts of that line behind the number.
 fn push_parts(
     parts: &mut Vec<u8>,
     cursor: usize,
@@ -71,7 +68,6 @@ fn push_parts(
     parts.extend_from_slice(short_mark(i >= cursor, is_purged(message)))
 }
 
-// Adds DateTime, names and subject.
 fn push_short_fields(parts: &mut Vec<u8>, message: &Filed) -> Result<(), AllocError>
     ensures { OnOk result (parts.new.items ≡ parts.old.items ++ short_fields message.now) }
 {
@@ -81,7 +77,6 @@ fn push_short_fields(parts: &mut Vec<u8>, message: &Filed) -> Result<(), AllocEr
     push_part(parts, message.subject.as_slice())
 }
 
-// Adds a part and the bar behind it.
 fn push_part(parts: &mut Vec<u8>, part: &[u8]) -> Result<(), AllocError>
     ensures { OnOk result (parts.new.items ≡ parts.old.items ++ short_part part.now) }
 {

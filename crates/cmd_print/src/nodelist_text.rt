@@ -1,4 +1,3 @@
-//! The lines of a nodelist.
 ghost use Rattle.std.specs.{Prelude.◌≡◌, Prelude.◌++◌, Prelude.◌<◌, Prelude.codes, Prelude.length, Prelude.OnOk, Prelude.Some, List.count_by};
 ghost use Rattle.echo_addr.specs.Address.{address_text};
 ghost use Rattle.cmd_print.specs.{Listed.RestListed, Listed.crc_text, Listed.listed_entry, Listed.found_text, Listed.is_entry, Listed.keyword_word, Listed.line_number, Listed.mismatch_line, Listed.first_field, Listed.total_line, Pushed.Pushes};
@@ -20,7 +19,6 @@ pub fn push_crc(lines: &mut Vec<u8>, line: CrcLine) -> Result<(), AllocError>
     }
 }
 
-// Adds the line on a checksum that differs.
 fn push_mismatch(lines: &mut Vec<u8>, stated: u32, computed: u32) -> Result<(), AllocError>
     ensures { OnOk result (lines.new.items ≡ lines.old.items ++ mismatch_line stated computed) }
 {
@@ -50,8 +48,7 @@ fn count_entries(lines: &[Line]) -> usize
     entries
 }
 
-/// Adds the line of the first entry with the address, the number of its line from 1 in front, or that none
-/// has it.
+/// Adds the line of the first entry with the address, after its line number, or that none has it.
 pub fn push_found(lines: &mut Vec<u8>, list: &Nodelist, wanted: Address) -> Result<(), AllocError>
     ensures { OnOk result (Pushes (RestListed (Some wanted) list.now) lines.old.items lines.new.items) }
 {
@@ -61,7 +58,6 @@ pub fn push_found(lines: &mut Vec<u8>, list: &Nodelist, wanted: Address) -> Resu
     }
 }
 
-// Adds the line of the entry at the index, its number from 1 in front.
 fn push_line(
     lines: &mut Vec<u8>,
     address: Address,
@@ -75,7 +71,6 @@ fn push_line(
     push_entry(lines, address, &listed[i])
 }
 
-// Adds the number of a line.
 fn push_index(lines: &mut Vec<u8>, number: u64) -> Result<(), AllocError>
     ensures { OnOk result (lines.new.items ≡ lines.old.items ++ line_number number) }
 {
@@ -105,14 +100,12 @@ pub fn push_entry(lines: &mut Vec<u8>, address: Address, line: &Line) -> Result<
     }
 }
 
-// Adds an address and a blank.
 fn push_address(lines: &mut Vec<u8>, address: Address) -> Result<(), AllocError>
     ensures { OnOk result (lines.new.items ≡ lines.old.items ++ (address_text address ++ codes " ")) }
 {
     written(write!(lines, "{address} "))
 }
 
-// The name of a system, the first of its fields.
 fn name_of(fields: &[Items<u8>]) -> &[u8]
     ensures { result.now ≡ first_field fields.now }
 {
@@ -122,7 +115,6 @@ fn name_of(fields: &[Items<u8>]) -> &[u8]
     }
 }
 
-// The keyword as it is printed.
 fn word_of(keyword: Keyword) -> &'static [u8]
     ensures { result.now ≡ keyword_word keyword }
 {

@@ -1,4 +1,3 @@
-//! The lines of an area as a graph, in the language DOT of Graphviz.
 ghost use Rattle.std.specs.{Prelude.◌≡◌, Prelude.◌++◌, Prelude.IfOk, Prelude.OnOk, List.flat_map};
 ghost use Rattle.cmd_print.specs.Pictured.{carrier_marks, ends_text, head_lines, is_at, later_step, link_line, loop_marks, picture_lines, quoted, quoted_byte, side_marks, steps_at, steps_label, system_line, system_marks};
 
@@ -26,7 +25,6 @@ pub fn push_picture(
     lines.extend_from_slice(b"}\n")
 }
 
-// Adds the lines before the systems.
 fn push_head(
     alloc: Global,
     lines: &mut Vec<u8>,
@@ -46,7 +44,6 @@ fn push_head(
     lines.extend_from_slice(b";\n")
 }
 
-// Adds the bytes in double quotes.
 fn push_quoted(lines: &mut Vec<u8>, bytes: &[u8]) -> Result<(), AllocError>
     ensures { OnOk result (lines.new.items ≡ lines.old.items ++ quoted bytes.now) }
 {
@@ -65,7 +62,6 @@ fn push_quoted_bytes(lines: &mut Vec<u8>, bytes: &[u8]) -> Result<(), AllocError
     Ok(())
 }
 
-// Adds a byte between double quotes, these and the backslash after a backslash.
 fn push_quoted_byte(lines: &mut Vec<u8>, byte: u8) -> Result<(), AllocError>
     ensures { OnOk result (lines.new.items ≡ lines.old.items ++ quoted_byte byte) }
 {
@@ -76,7 +72,6 @@ fn push_quoted_byte(lines: &mut Vec<u8>, byte: u8) -> Result<(), AllocError>
     Ok(())
 }
 
-// Adds the line of each of these systems.
 fn push_systems(lines: &mut Vec<u8>, systems: &[DrawnSystem]) -> Result<(), AllocError>
     ensures { OnOk result (lines.new.items ≡ lines.old.items ++ flat_map system_line systems.now) }
 {
@@ -112,7 +107,6 @@ fn system_marks(mark: Mark) -> &'static [u8]
     }
 }
 
-// Adds the line of each of these links.
 fn push_links(
     alloc: Global,
     lines: &mut Vec<u8>,
@@ -143,7 +137,6 @@ fn push_link(
     lines.extend_from_slice(b";\n")
 }
 
-// Adds the two ends of a link.
 fn push_ends(lines: &mut Vec<u8>, link: DrawnLink) -> Result<(), AllocError>
     ensures { OnOk result (lines.new.items ≡ lines.old.items ++ ends_text link) }
 {
@@ -196,7 +189,6 @@ fn is_at(link: DrawnLink, crossing: Crossing) -> bool
     forth || back
 }
 
-// Adds these steps as a label, if there are any.
 fn push_label(lines: &mut Vec<u8>, steps: &[usize]) -> Result<(), AllocError>
     ensures { OnOk result (lines.new.items ≡ lines.old.items ++ steps_label steps.now) }
 {
@@ -210,7 +202,6 @@ fn push_label(lines: &mut Vec<u8>, steps: &[usize]) -> Result<(), AllocError>
     }
 }
 
-// Adds each of these steps after a comma.
 fn push_later(lines: &mut Vec<u8>, steps: &[usize]) -> Result<(), AllocError>
     ensures { OnOk result (lines.new.items ≡ lines.old.items ++ flat_map later_step steps.now) }
 {

@@ -1,4 +1,3 @@
-//! What a text says as echomail, as it is printed.
 ghost use Rattle.std.specs.Prelude.{◌≡◌, ◌++◌, option_copied, OnOk};
 ghost use Rattle.cmd_print.specs.Said.{area_line, counts_line, echo_lines, found_line, found_lines};
 
@@ -7,8 +6,7 @@ use echo_text::EchoView;
 use std::alloc::AllocError;
 use std::io::Write;
 
-/// Adds the lines of an echomail text: its tag, ids, tear and origin line, and the numbers of entries. So many tokens
-/// of its SEEN-BY and PATH lines are no entries.
+/// Adds the lines of an echomail text. `dropped` tokens of its SEEN-BY and PATH lines are no entries.
 pub fn push_echo(lines: &mut Vec<u8>, echo: &EchoView, dropped: usize) -> Result<(), AllocError>
     ensures { OnOk result (lines.new.items ≡ lines.old.items ++ echo_lines echo.now dropped) }
 {
@@ -17,7 +15,6 @@ pub fn push_echo(lines: &mut Vec<u8>, echo: &EchoView, dropped: usize) -> Result
     push_counts(lines, echo.seen.len(), echo.path.len(), dropped)
 }
 
-// Adds the line of the tag.
 fn push_area(lines: &mut Vec<u8>, tag: &[u8]) -> Result<(), AllocError>
     ensures { OnOk result (lines.new.items ≡ lines.old.items ++ area_line tag.now) }
 {
@@ -27,7 +24,6 @@ fn push_area(lines: &mut Vec<u8>, tag: &[u8]) -> Result<(), AllocError>
     Ok(())
 }
 
-// Adds the lines of the ids, the tear and the origin line.
 fn push_found_lines(lines: &mut Vec<u8>, echo: &EchoView) -> Result<(), AllocError>
     ensures { OnOk result (lines.new.items ≡ lines.old.items ++ found_lines echo.now.kept) }
 {
@@ -38,7 +34,6 @@ fn push_found_lines(lines: &mut Vec<u8>, echo: &EchoView) -> Result<(), AllocErr
     Ok(())
 }
 
-// Adds the line of a part that was found, if it was.
 fn push_found(lines: &mut Vec<u8>, word: &[u8], found: Option<&[u8]>) -> Result<(), AllocError>
     ensures { OnOk result (lines.new.items ≡ lines.old.items ++ found_line word.now (option_copied found.entry)) }
 {
@@ -48,7 +43,6 @@ fn push_found(lines: &mut Vec<u8>, word: &[u8], found: Option<&[u8]>) -> Result<
     }
 }
 
-// Adds the line of how many entries there are.
 fn push_counts(
     lines: &mut Vec<u8>,
     seen: usize,

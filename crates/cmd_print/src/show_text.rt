@@ -9,7 +9,6 @@ use echo_packet::{Header, Packed};
 use std::alloc::{AllocError, Global};
 use std::io::Write;
 
-// Adds from which system to which.
 fn push_systems(lines: &mut Vec<u8>, h: &Header) -> Result<(), AllocError>
     ensures { OnOk result (lines.new.items ≡ lines.old.items ++ named_systems h.now) }
 {
@@ -26,7 +25,6 @@ fn push_systems(lines: &mut Vec<u8>, h: &Header) -> Result<(), AllocError>
     written(write!(lines, "packet {from} to {to}"))
 }
 
-// Adds the day, its month counted from 1.
 fn push_date(lines: &mut Vec<u8>, h: &Header) -> Result<(), AllocError>
     ensures { OnOk result (lines.new.items ≡ lines.old.items ++ date h.now) }
 {
@@ -36,7 +34,6 @@ fn push_date(lines: &mut Vec<u8>, h: &Header) -> Result<(), AllocError>
     written(write!(lines, "{year:04}-{month:02}-{day:02}"))
 }
 
-// Adds the time of day.
 fn push_time(lines: &mut Vec<u8>, h: &Header) -> Result<(), AllocError>
     ensures { OnOk result (lines.new.items ≡ lines.old.items ++ time h.now) }
 {
@@ -46,7 +43,6 @@ fn push_time(lines: &mut Vec<u8>, h: &Header) -> Result<(), AllocError>
     written(write!(lines, "{hour:02}:{minute:02}:{second:02}"))
 }
 
-// Adds the product's number and the serial number of its release.
 fn push_product(lines: &mut Vec<u8>, h: &Header) -> Result<(), AllocError>
     ensures { OnOk result (lines.new.items ≡ lines.old.items ++ product h.now) }
 {
@@ -55,7 +51,6 @@ fn push_product(lines: &mut Vec<u8>, h: &Header) -> Result<(), AllocError>
     written(writeln!(lines, " product {product} serial {serial}"))
 }
 
-// Adds the first line of a header.
 fn push_packet(lines: &mut Vec<u8>, h: &Header) -> Result<(), AllocError>
     ensures { OnOk result (lines.new.items ≡ lines.old.items ++ packet_line h.now) }
 {
@@ -77,7 +72,6 @@ pub fn push_header(alloc: Global, lines: &mut Vec<u8>, h: &Header) -> Result<(),
     written(write!(lines, "password {password}\nfill {fill}\n"))
 }
 
-// Adds from which system to which a message goes.
 fn push_route(lines: &mut Vec<u8>, m: &Packed) -> Result<(), AllocError>
     ensures { OnOk result (lines.new.items ≡ lines.old.items ++ route m.now) }
 {
@@ -88,14 +82,12 @@ fn push_route(lines: &mut Vec<u8>, m: &Packed) -> Result<(), AllocError>
     written(write!(lines, "{from_net}/{from_node} to {to_net}/{to_node}"))
 }
 
-// Adds a message's number and its place.
 fn push_number(lines: &mut Vec<u8>, number: u64, place: u64) -> Result<(), AllocError>
     ensures { OnOk result (lines.new.items ≡ lines.old.items ++ message_number number place) }
 {
     written(write!(lines, "message {number} at {place}: "))
 }
 
-// Adds a message's attribute word and its cost.
 fn push_cost(lines: &mut Vec<u8>, m: &Packed) -> Result<(), AllocError>
     ensures { OnOk result (lines.new.items ≡ lines.old.items ++ costing m.now) }
 {
@@ -104,7 +96,6 @@ fn push_cost(lines: &mut Vec<u8>, m: &Packed) -> Result<(), AllocError>
     written(writeln!(lines, " attribute {attribute} cost {cost}"))
 }
 
-// Adds the first line of a message.
 fn push_first(lines: &mut Vec<u8>, number: u64, place: u64, m: &Packed) -> Result<(), AllocError>
     ensures { OnOk result (lines.new.items ≡ lines.old.items ++ message_line number place m.now) }
 {
@@ -113,8 +104,7 @@ fn push_first(lines: &mut Vec<u8>, number: u64, place: u64, m: &Packed) -> Resul
     push_cost(lines, m)
 }
 
-/// Adds the six lines of a message, its number counted from 1, its place in bytes from the start of the
-/// packet.
+/// Adds the six lines of a message. Its number counts from 1, its place in bytes from the start of the packet.
 pub fn push_fields(
     lines: &mut Vec<u8>,
     number: u64,
@@ -131,7 +121,6 @@ pub fn push_fields(
     push_size(lines, m.text().len())
 }
 
-// Adds the line of a text of so many bytes.
 fn push_size(lines: &mut Vec<u8>, bytes: usize) -> Result<(), AllocError>
     ensures { OnOk result (lines.new.items ≡ lines.old.items ++ text_line bytes) }
 {

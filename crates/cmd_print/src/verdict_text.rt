@@ -1,4 +1,3 @@
-//! The lines of a verdict, and of the systems that a nodelist does not hold.
 ghost use Rattle.std.specs.{Prelude.◌≡◌, Prelude.◌++◌, Prelude.OnOk, Prelude.option_copied, List.flat_map};
 ghost use Rattle.cmd_print.specs.{Checked.AbsencesShown, Checked.absence_line, Checked.absence_word, Checked.verdict_line, Checked.verdict_text, Checked.yes_text, Pushed.Pushes};
 
@@ -19,7 +18,6 @@ pub fn push_verdict(lines: &mut Vec<u8>, tag: &[u8], verdict: &Verdict) -> Resul
     Ok(())
 }
 
-/// Adds the verdict on the area with this tag, without the end of its line.
 pub(crate) fn push_verdict_text(
     lines: &mut Vec<u8>,
     tag: &[u8],
@@ -37,7 +35,6 @@ pub(crate) fn push_verdict_text(
     }
 }
 
-// Adds that the area is in order.
 fn push_yes(lines: &mut Vec<u8>, tag: &[u8], systems: usize, links: u128) -> Result<(), AllocError>
     ensures { OnOk result (lines.new.items ≡ lines.old.items ++ yes_text tag.now systems links) }
 {
@@ -62,7 +59,6 @@ pub fn push_absences(
     }
 }
 
-// Adds the line of each of these systems.
 fn push_each(lines: &mut Vec<u8>, absent: &[(Address, Absence)]) -> Result<(), AllocError>
     ensures { OnOk result (lines.new.items ≡ lines.old.items ++ flat_map absence_line absent.now) }
 {
@@ -72,7 +68,6 @@ fn push_each(lines: &mut Vec<u8>, absent: &[(Address, Absence)]) -> Result<(), A
     Ok(())
 }
 
-// Adds the line of a system.
 fn push_absence(lines: &mut Vec<u8>, system: Address, why: Absence) -> Result<(), AllocError>
     ensures { OnOk result (lines.new.items ≡ lines.old.items ++ absence_line (system, why)) }
 {
@@ -80,7 +75,6 @@ fn push_absence(lines: &mut Vec<u8>, system: Address, why: Absence) -> Result<()
     written(writeln!(lines, "{system}"))
 }
 
-// The word for why a nodelist does not hold a system.
 fn word_of(why: Absence) -> &'static [u8]
     ensures { result.now ≡ absence_word why }
 {

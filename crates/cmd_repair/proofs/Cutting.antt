@@ -3,14 +3,12 @@ use Rattle.std.proofs.Common.{◌≡◌, ◌≤◌, ℕ, ◌+◌, ◌<◌, List,
 use Rattle.std.proofs.lemmas.List.{drop_all, drop_more}
 use Rattle.std.specs.{List.flat_map, Prelude.min}
 
--- The first ids were cut off: `rest` has the bytes of the others.
 pub record IsCut (ids done : List (List ℕ)) (rest lengths : List ℕ) (at : ℕ) : Type 0 where
   pub later : List (List ℕ)
   pub whole : done ++ later ≡ ids
   pub rest_is : rest ≡ flat_map (λ id. id) later
   pub lengths_are : drop at lengths ≡ map length later
 
--- the first bytes are those of the first list
 take_front : (xs ys : List ℕ) → take (length xs) (xs ++ ys) ≡ xs
 take_front [] ys = grind arith
 take_front (x ∷ xs) ys = grind (arith, take_front xs ys)
@@ -19,7 +17,6 @@ drop_front : (xs ys : List ℕ) → drop (length xs) (xs ++ ys) ≡ ys
 drop_front [] ys = grind arith
 drop_front (x ∷ xs) ys = grind (arith, drop_front xs ys)
 
--- one id more is cut off
 pub cut_more : (ids done next : List (List ℕ)) (rest front behind items lengths : List ℕ) (at mid : ℕ) → IsCut ids done rest lengths at → items ≡ lengths → at < length items
     → mid ≡ min (get_or items at 0) (length rest) → front ≡ take mid rest → behind ≡ drop mid rest → next ≡ done ++ front ∷ [] → IsCut ids next behind lengths (at + 1)
 cut_more ids done next rest front behind items lengths at mid cut same within middle first others grown = by cut.later cut.whole cut.rest_is (ap (drop at) same ∙ cut.lengths_are)
@@ -39,7 +36,6 @@ cut_more ids done next rest front behind items lengths at mid cut same within mi
           lengths_are = ap (drop (at + 1)) (sym same) ∙ ap (drop 1) both;
         }
 
--- all of them were cut off
 pub cut_all : (ids done : List (List ℕ)) (rest items lengths : List ℕ) (at : ℕ) → IsCut ids done rest lengths at → items ≡ lengths → length items ≤ at → done ≡ ids
 cut_all ids done rest items lengths at cut same past = by cut.later cut.whole (ap (drop at) same ∙ cut.lengths_are)
   where

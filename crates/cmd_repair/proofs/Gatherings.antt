@@ -1,4 +1,3 @@
--- One message more of an area, and its id.
 use Rattle.std.proofs.Common.{◌≡◌, ℕ, ◌+◌, ◌<◌, List, [], ◌∷◌, ◌++◌, length, take, Option, Some, inl, inr, sym, ap, subst, ◌∙◌, arith, length-append}
 use Rattle.std.proofs.lemmas.{List.Elements.filter-append, List.Elements.filter_map-append, List.take_more, Option.slice_get_cases}
 use Rattle.std.specs.Prelude.{filter_map, slice_get}
@@ -6,7 +5,6 @@ use Rattle.echo_filed.specs.Filed.{Filed}
 use Rattle.echo_text.specs.Echo.{msgid_of}
 use Rattle.cmd_repair.specs.IdsListed.{Gathers, area_ids, area_messages, ids_at, is_in, messages_at}
 
--- the first messages, and one more
 pub one_next : (base : List Filed) (i : ℕ) (m : Option Filed) → m ≡ slice_get base i → i < length base → (x : Filed) × (m ≡ Some x) × (take (i + 1) base ≡ take i base ++ x ∷ [])
 one_next base i m here within = elim (slice_get_cases base i).1 [
   | inl (x, below, got, read) ↦ (x, here ∙ got, take_more base i x within ∙ ap (λ y. take i base ++ y ∷ []) read)

@@ -13,7 +13,6 @@ use Rattle.cmd_repair.specs.Words.{at_byte, at_escape, at_first_digit, at_second
 pub both : (a b : Bool) → (a && b) ≡ true → (a ≡ true) × (b ≡ true)
 both a b h = grind arith
 
--- a test of all numbers below another
 abbrev every : (ℕ → Bool) → ℕ → Bool
 every p zero = true
 every p (suc n) = p n && every p n
@@ -51,7 +50,6 @@ pick-state true true true = inr (inr (inr refl))
 step-state : (s b : ℕ) → IsState (step s b)
 step-state s b = pick-state (nat_lt s 3 && is_text_byte b) (is_blank b) (s == 0)
 
--- a word of another form stays one
 stuck : (word : List ℕ) → fold read_on 255 word ≡ 255
 stuck [] = refl
 stuck (b ∷ word) = stuck word
@@ -88,7 +86,6 @@ byte-read s b small state =
 small_byte : (b : ℕ) → is_text_byte b ≡ true → b < 256
 small_byte b h = grind arith
 
--- and so is an id
 id-read : (s : ℕ) (id : List ℕ) → list_all is_text_byte id ≡ true → IsState s → fold read_on s (escaped id) ≡ fold step s id
 id-read s [] all state = refl
 id-read s (b ∷ id) all state =
@@ -99,7 +96,6 @@ id-read s (b ∷ id) all state =
 
 -- ---- where an id ends
 
--- the last byte decides
 abbrev end_state : List ℕ → ℕ
 end_state id = if is_blank (slice_index id (length id - 1)) then 2 else 1
 
@@ -145,7 +141,6 @@ not_blank false h = refl
 some_byte : (b : ℕ) (id : List ℕ) → nat_lt 0 (length (b ∷ id)) ≡ true
 some_byte b id = grind arith
 
--- the printed form of an id is taken
 pub taken : (id : List ℕ) → IsId id → is_id_word (escaped id) ≡ true
 taken [] is = absurd (let bad : false ≡ true = is.some in cc)
 taken (b ∷ id) is =
@@ -154,7 +149,6 @@ taken (b ∷ id) is =
     ∙ ap (λ (x : Bool). if x then 2 else 1) (no_blank (is_blank (slice_index (b ∷ id) (length (b ∷ id) - 1))) is.back) in
     ap (λ (n : ℕ). n == 1) read
 
--- bytes that are read to the end of an id are one
 ids_are : (id : List ℕ) → list_all is_text_byte id ≡ true → fold step 0 id ≡ 1 → IsId id
 ids_are [] all read = absurd (omega (arith, read))
 ids_are (b ∷ id) all read = elim (cases_Bool (is_blank b)) [
@@ -187,11 +181,9 @@ parsed-more s b front rest word text is whole_is p = record {
   read = p.read;
 }
 
--- no word of another form is read to its end
 lost : (word : List ℕ) → fold read_on 255 word ≡ 1 → ⊥
 lost word h = let bad : 255 ≡ 1 = sym (stuck word) ∙ h in omega (arith, bad)
 
--- the digits of a byte
 abbrev has_digit : Option ℕ → ℕ → Bool
 has_digit None d = true
 has_digit (Some v) d = nat_lt v 16 && (slice_index digit_glyphs v == d)
@@ -211,14 +203,12 @@ digit_is d v h =
     let parts = both (nat_lt v 16) (slice_index digit_glyphs v == d) (sym (ap (λ (o : Option ℕ). has_digit o d) h) ∙ right) in
     (let less : v < 16 = grind arith in less, eqb-true _ _ parts.1)
 
--- the byte of two digits
 abbrev byte_of : ℕ → ℕ → ℕ
 byte_of v w = v * 16 + w
 
 abbrev printed_pair : ℕ → ℕ → List ℕ
 printed_pair v w = 92 ∷ 120 ∷ slice_index digit_glyphs v ∷ slice_index digit_glyphs w ∷ []
 
--- a byte that is hidden is printed by its two digits, and no other byte
 abbrev is_pair_right : ℕ → ℕ → Bool
 is_pair_right v w =
     if is_hidden (byte_of v w)
@@ -233,7 +223,6 @@ all_pairs = refl
 pair_right : (v w : ℕ) → v < 16 → w < 16 → is_pair_right v w ≡ true
 pair_right v w small_v small_w = every-each (is_pair_right v) 16 (every-each (λ (v : ℕ). every (is_pair_right v) 16) 16 all_pairs v small_v) w small_w
 
--- how escaped bytes are read behind a state
 record Slash (s e f k : ℕ) : Type 0 where
   slash : (b : ℕ) → (b == 92) ≡ true → read_on s b ≡ e
   again : (c : ℕ) → read_on e c ≡ (if c == 92 then 1 else if c == 120 then f else 255)
@@ -248,7 +237,6 @@ record Slash (s e f k : ℕ) : Type 0 where
   open_slash : e ≡ 1 → ⊥
   open_x : f ≡ 1 → ⊥
 
--- the parts of what the pairs are tested for
 hidden_parts : (a b c d e : Bool) → ((a && b) && (c && (d && e))) ≡ true → (a ≡ true) × (b ≡ true) × (c ≡ true) × (d ≡ true) × (e ≡ true)
 hidden_parts a b c d e h =
     let one = both (a && b) (c && (d && e)) h in
@@ -285,7 +273,6 @@ pair_other v w small_v small_w is =
     && ((behind_second (32 + v) (Some w) == step 1 (byte_of v w)) && (behind_second (32 + v) (Some w) == step 2 (byte_of v w))))) _ is) ∙ pair_right v w small_v small_w) in
     (eqb-true _ _ p.0, eqb-true _ _ p.1)
 
--- a state behind the first digit
 wide : (s d : ℕ) → 7 ≤ s → s < 48 → read_on s d ≡ at_second_digit s d
 wide s d low high =
     cond-false (nat_lt s 3) (at_byte s d) _ (let h : nat_lt s 3 ≡ false = grind arith in h)
@@ -380,7 +367,6 @@ module _ (s e f k n : ℕ) (at : Slash s e f k) (rec : (t : ℕ) (word : List �
   goes_nowhere : (t b : ℕ) (word : List ℕ) → Goes t b word
   goes_nowhere t b word bad h = lost word (sym (ap (λ (m : ℕ). fold read_on m word) bad) ∙ h)
 
-  -- behind two digits
   two_digits : (d v c w : ℕ) (rest : List ℕ) → length rest ≤ n → hex_digit d ≡ Some v → hex_digit c ≡ Some w → fold read_on (behind_second (k + v) (Some w)) rest ≡ 1
       → (hidden : Bool) → is_hidden (byte_of v w) ≡ hidden → Parsed s (92 ∷ 120 ∷ d ∷ c ∷ rest)
   two_digits d v c w rest short is_d is_c h false other =
@@ -450,7 +436,6 @@ parse (suc n) s (b ∷ word) short state h = elim state [
       ]
     ]
 
--- a word that is taken is the printed form of an id
 pub given : (word : List ℕ) → is_id_word word ≡ true → IsWordOfId word
 given word h =
     let p = parse (length word) 0 word (omega arith) (inl refl) (eqb-true (fold read_on 0 word) 1 h) in

@@ -1,4 +1,3 @@
--- The lines of ids as an answer, from those of its parts.
 use Rattle.std.proofs.Common.{◌≡◌, ℕ, ◌-◌, List, [], ◌++◌, Bor, Err, inl, inr, length, map, refl, sym, ap, subst, ◌∙◌, append_assoc}
 use Rattle.std.proofs.lemmas.{List.Folds.flat_map-map, List.Sorted.IsPermutation-map, List.length-map}
 use Rattle.std.specs.{Cmp.Lexicographic.slice_cmp, Io.KnownBytes.Appends, List.Sorted.IsPermutation, List.Sorted.IsSortedBy, List.flat_map, Ordering.is_lt, Ordering.nat_cmp, Prelude.codes}
@@ -45,7 +44,6 @@ module _ (area : List ℕ) (base : Base) (unsorted sorted : List (Bor (List ℕ)
       ∙ ap (λ (n : ℕ). last_line (length (area_messages area base.messages)) (length (area_messages area base.messages) - n)) (sym (length-map sorted (λ (id : Bor (List ℕ)). id.now)))
 
   module _ (none first : List ℕ) (nothing : none ≡ []) (pushed : first ≡ none ++ first_line area) where
-    -- the lines in three parts
     parts : first ++ (flat_map printed_id sorted ++ last_line messages without) ≡ text
     parts =
         ap (λ (f : List ℕ). f ++ (flat_map printed_id sorted ++ last_line messages without)) (alone none first (first_line area) nothing pushed)
@@ -53,7 +51,6 @@ module _ (area : List ℕ) (base : Base) (unsorted sorted : List (Bor (List ℕ)
         ∙ ap (λ (l : List ℕ). first_line area ++ (l ++ last_line (length (area_messages area base.messages)) (length (area_messages area base.messages) - length ids)))
         (sym (flat_map-map (escaped_line (codes "id")) (λ (id : Bor (List ℕ)). id.now) sorted))
 
--- the lines of the ids of an area, behind the first line that was pushed
 pub record Ready (area : List ℕ) (base : Base) (shown : List (Bor (List ℕ))) (messages without : ℕ) (first : List ℕ) : Type 0 where
   lines : List ℕ
   right : AreIdsListed area base lines Good
@@ -113,6 +110,5 @@ module _ (area : List ℕ) (base : Base) (shown : List (Bor (List ℕ))) (messag
       begun = begun_after old.contents mid.contents new.contents at.lines lines ready_passed begun;
     }
 
--- memory ran out before a line was printed
 pub memory_answer : {A : Type 0} (P : List ℕ → A → Type 0) (refused : Fault → Type 0) (old : Output) (fault : Fault) → IsOutOfMemory fault → AnswersInPieces P refused old old (Err fault)
 memory_answer P refused old fault memory = inr (inl memory, refl)

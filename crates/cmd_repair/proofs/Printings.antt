@@ -5,7 +5,6 @@ use Rattle.std.specs.{List.flat_map, Result.OnErr}
 use Rattle.cmd_status.specs.Lines.{PassesOn, WritesFront}
 use Rattle.cmd_status.proofs.Lines.{begun_more, front_more, passed_more}
 
--- at an error
 pub at_error : {T E P : Type 0} (r : Result T E) → P → OnErr r P
 at_error (Ok x) p = tt
 at_error (Err e) p = p

@@ -51,7 +51,6 @@ numeral (suc n) small =
 
 -- ---- the last line
 
--- what is behind the digits begins with no digit
 front_of : (ds more : List ℕ) → prefix_len is_digit ds ≡ length ds → prefix_len is_digit more ≡ 0 → front_digits (ds ++ more) ≡ ds
 front_of ds more all none =
     ap (λ (n : ℕ). take n (ds ++ more)) (prefix_len-append is_digit ds more ∙ (let same : (prefix_len is_digit ds == length ds) ≡ true = eq-eqb _ _ all in cond-true (prefix_len is_digit ds == length ds) _ _ same) ∙ (let h : length ds + prefix_len is_digit more ≡ length ds = omega (arith, none) in h))
@@ -113,7 +112,6 @@ module _ (area : List ℕ) where
   ids_before : (k : ℕ) → k + 2 - 2 ≡ k
   ids_before k = omega arith
 
-  -- what follows after a line
   abbrev follows : ℕ → List (List ℕ) → Stage → ℕ → Option ℕ
   follows k later next number = if is_wrong next then Some (k + 2) else wrong_line area number next later
 
@@ -185,7 +183,6 @@ module _ (area : List ℕ) where
   abbrev follows_first : Stage → List (List ℕ) → Option ℕ
   follows_first next later = if is_wrong next then Some 1 else wrong_line area 2 next later
 
-  -- a list without a wrong line is one that is printed
   pub right_given : (lines : List (List ℕ)) → wrong_line area 1 Start lines ≡ None → IsPrintedList area lines
   right_given [] h = absurd (let bad : Some 1 ≡ None = h in cc)
   right_given (line ∷ later) h = elim (cases_Bool (bytes_eq line (area_words area))) [
@@ -202,7 +199,6 @@ module _ (area : List ℕ) where
     | inr other ↦ absurd (let bad : Some 1 ≡ None = sym (ap (λ (b : Bool). follows_first (if b then Ids else Wrong) later) other) ∙ h in cc)
   ]
 
-  -- and back
   pub printed_right : (lines : List (List ℕ)) → IsPrintedList area lines → wrong_line area 1 Start lines ≡ None
   printed_right lines is =
       let later = map id_line is.ids ++ end_words (length is.ids + is.without) is.without ∷ [] in

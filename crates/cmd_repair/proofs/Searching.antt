@@ -14,17 +14,14 @@ one_passes p [] k d within h = absurd (omega arith)
 one_passes p (x ∷ xs) zero d within h = or_left (p x) (list_any p xs) h
 one_passes p (x ∷ xs) (suc k) d within h = or_right (p x) (list_any p xs) (one_passes p xs k d (omega arith) h)
 
--- equal bytes are those that the order ties
 named : (word one : List ℕ) → bytes_eq word one ≡ is_eq (slice_cmp nat_cmp one word)
 named word one = nat_list_eq_equiv.symm word one ∙ sym (is_eq-slice_cmp one word)
 
 module _ {X : Type 0} (bytes : X → List ℕ) where
-  -- a test of the words is one of their bytes
   any_mapped : (p : List ℕ → Bool) (xs : List X) → list_any p (map bytes xs) ≡ list_any (λ x. p (bytes x)) xs
   any_mapped p [] = refl
   any_mapped p (x ∷ xs) = grind (arith, any_mapped p xs)
 
-  -- the result of a search in sorted words
   pub searched : (all : List X) (word : List ℕ) (r : Result ℕ ℕ) → IsSortedBy (λ x y. is_lt (slice_cmp nat_cmp (bytes x) (bytes y))) all
       → IsSearchInRange r (length all) → IsBinarySearchResult (λ y. slice_cmp nat_cmp (bytes y) word) all r → is_ok r ≡ list_any (bytes_eq word) (map bytes all)
   searched [] word (Ok at) sorted within found = absurd (omega (arith, within))
@@ -39,7 +36,6 @@ module _ {X : Type 0} (bytes : X → List ℕ) where
         | inr behind ↦ named word (bytes (get_or all k d)) ∙ ap is_eq (parts.1 k d (ltb-false k at behind) inside)
       ]))
 
-  -- what sorts the words sorts their bytes, and back
   pub sorted_bytes : (xs : List X) → IsSortedBy (λ x y. is_lt (slice_cmp nat_cmp (bytes x) (bytes y))) xs → IsSorted (slice_cmp nat_cmp) (map bytes xs)
   sorted_bytes [] sorted = λ k d low high. absurd (omega (arith, high))
   sorted_bytes (x ∷ xs) sorted = λ k d low high.

@@ -21,7 +21,6 @@ use Rattle.cmd_repair.proofs.Gatherings.{one_next}
 use Rattle.cmd_repair.specs.declared.send_fault.SendFault.{SendFault, TheVariants.Device, TheVariants.Messages}
 use Rattle.cmd_repair.specs.Repair.{AreLegibleFrom, IsStopped, IsUndone, IsUnsent, SendsPacket, copies_at, counted_packet, counted_with_copies, is_sent, nothing_counted, repair_packet, sent_copies}
 
--- the packet that has these messages so far, and those of more
 pub counted_more : (one other : List Message) (p q r : CountedPacket) → q ≡ counted_with_copies one p → r ≡ counted_with_copies other q → r ≡ counted_with_copies (one ++ other) p
 counted_more one other p q r so_far more = more ∙ ap (counted_with_copies other) so_far ∙ grind (arith, length-append, messages_append)
 
@@ -35,11 +34,9 @@ module _ (file : LinkFile) (area : List ℕ) (to : Address) (held : Option (List
       ∙ map-append (copy_to file to) (filter (is_sent held area) xs) (filter (is_sent held area) ys)
 
   module _ (first : ℕ) (base : List Filed) where
-    -- the copies of the messages before this number
     abbrev pub sent_before : ℕ → List Message
     sent_before i = sent_copies file area to held (drop first (take i base))
 
-    -- none so far
     none_before : (begin : ℕ) → begin ≤ first → sent_before begin ≡ []
     none_before begin within =
         let size = length-take begin base in
@@ -51,7 +48,6 @@ module _ (file : LinkFile) (area : List ℕ) (to : Address) (held : Option (List
     pub none_counted : (p : CountedPacket) (begin : ℕ) → begin ≤ first → p ≡ counted_with_copies (sent_before begin) p
     none_counted p begin within = counted_none p (sent_before begin) (none_before begin within)
 
-    -- one message more
     pub sent_next : (i : ℕ) (m : Option Filed) → m ≡ slice_get base i → i < length base → first ≤ i → sent_before (i + 1) ≡ sent_before i ++ copies_at file area to held m
     sent_next i m here within from =
         let next = one_next base i m here within in
@@ -61,7 +57,6 @@ module _ (file : LinkFile) (area : List ℕ) (to : Address) (held : Option (List
         ∙ copies_append (drop first (take i base)) (next.0 ∷ [])
         ∙ ap (λ o. sent_before i ++ copies_at file area to held o) (sym next.1)
 
-    -- the copies so far are passed on, and those of one message more
     pub passed_next : (a b c : Option (List ℕ)) (kept mid left : List ℕ) (i : ℕ) (m : Option Filed) → m ≡ slice_get base i → i < length base → first ≤ i
         → PassesOn (kept ++ messages_bytes (sent_before i)) mid a b → PassesOn (mid ++ messages_bytes (copies_at file area to held m)) left b c
         → PassesOn (kept ++ messages_bytes (sent_before (i + 1))) left a c
@@ -75,7 +70,6 @@ module _ (file : LinkFile) (area : List ℕ) (to : Address) (held : Option (List
         counted_more (sent_before i) (copies_at file area to held m) p q r so_far more
         ∙ ap (λ l. counted_with_copies l p) (sym (sent_next i m here within from))
 
--- the next message was read
 pub read_from : (a b c : SourceState) (first i : ℕ) → ((j : ℕ) → b.legible j → a.legible j) → (c.is_honest → b.is_honest) → (b.is_honest → AreLegibleFrom a first i) → (c.is_honest → b.legible i)
     → c.is_honest → AreLegibleFrom a first (i + 1)
 read_from a b c first i since honest before now is j from less =
@@ -103,13 +97,11 @@ unsent_device stamp path before now old mid new same failed = inl (subst (λ (n 
 
 -- ---- the whole packet
 
--- the packet of these messages, counted
 whole_counted : (file : LinkFile) (stamp : Stamp) (area : List ℕ) (to : Address) (first : ℕ) (held : Option (List (List ℕ))) (base : List Filed)
     → counted_with_copies (sent_copies file area to held (drop first base)) (nothing_counted to) ≡ counted_packet to (repair_packet file stamp area to first held base)
 unfolding header_to
 whole_counted file stamp area to first held base = grind (arith, packet_size, header_size)
 
--- the whole packet was sent
 pub packet_sent : (file : LinkFile) (stamp : Stamp) (area : List ℕ) (to : Address) (first : ℕ) (held : Option (List (List ℕ))) (base : Base) (a b c d : Option (List ℕ)) (piece rest : List ℕ) (counted : CountedPacket)
     → is_stamp stamp ≡ true → piece ≡ header_bytes (header_to file stamp to) → PassesOn (piece ++ messages_bytes (sent_copies file area to held (drop first base.messages))) rest a b
     → counted ≡ counted_with_copies (sent_copies file area to held (drop first base.messages)) (nothing_counted to) → Appends b c rest → Appends c d (word 0)
@@ -124,7 +116,6 @@ packet_sent file stamp area to first held base a b c d piece rest counted moment
       counted_is = so_many ∙ whole_counted file stamp area to first held base.messages;
     }
 
--- the same of the area as it was asked for
 pub asked_sent : (file : LinkFile) (stamp : Stamp) (asked area : List ℕ) (to : Address) (first : ℕ) (held : Option (List (List ℕ))) (base : Base) (a b c d : Option (List ℕ)) (piece rest sent : List ℕ) (counted : CountedPacket)
     → is_stamp stamp ≡ true → piece ≡ header_bytes (header_to file stamp to) → PassesOn (piece ++ messages_bytes (sent_copies file area to held (drop first base.messages))) rest a b
     → counted ≡ counted_with_copies (sent_copies file area to held (drop first base.messages)) (nothing_counted to) → Appends b c sent → Appends c d (word 0) → sent ≡ rest → area ≡ upper asked

@@ -31,11 +31,9 @@ wrong_line area number stage (line ∷ later) =
     if is_wrong (stage_after area (number - 2) stage line) then Some number
     else wrong_line area (number + 1) (stage_after area (number - 2) stage line) later
 
--- The words of the ids in these lines.
 abbrev pub id_words : List (List ℕ) → List (List ℕ)
 id_words lines = map id_word (filter is_id_line lines)
 
--- The line of an id.
 abbrev pub id_line : List ℕ → List ℕ
 id_line id = codes "id " ++ escaped id
 
@@ -53,7 +51,6 @@ pub record IsIdList (area bytes : List ℕ) (words : List (List ℕ)) : Type 0 w
   pub right : IsPrintedList area (file_lines bytes)
   pub members : (word : List ℕ) → list_any (bytes_eq word) words ≡ list_any (bytes_eq word) (id_words (file_lines bytes))
 
--- The right answer if a list of ids is read.
 abbrev pub ReadsIds : List ℕ → List ℕ → Result (List (List ℕ)) Fault → Type 0
 ReadsIds area bytes (Ok words) = IsIdList area bytes words
 ReadsIds area bytes (Err fault) =

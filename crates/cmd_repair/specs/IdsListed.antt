@@ -8,7 +8,6 @@ use Rattle.echo_text.specs.Echo.{msgid_of}
 use Rattle.cmd_status.specs.declared.status.Status.{Status, TheVariants.Good}
 use Rattle.cmd_repair.specs.Words.{area_words, end_words}
 
--- Whether the message belongs to the area.
 abbrev pub is_in : List ℕ → Filed → Bool
 is_in area m = bytes_eq m.echo.tag area
 

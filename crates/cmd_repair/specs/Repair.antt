@@ -38,7 +38,7 @@ sent_copies file area to held messages = map (copy_to file to) (filter (is_sent 
 abbrev pub repair_packet : LinkFile → Stamp → List ℕ → Address → ℕ → Option (List (List ℕ)) → List Filed → Packet
 repair_packet file stamp area to first held base = record { header = header_to file stamp to; messages = sent_copies file area to held (drop first base) }
 
--- The same, counted.
+-- That packet, counted.
 abbrev pub counted_packet : Address → Packet → CountedPacket
 counted_packet to p = record { to = to; messages = length p.messages; bytes = length (packet_bytes p.header p.messages) }
 
@@ -57,17 +57,16 @@ abbrev pub IsUndone : List ℕ → ℕ → ℕ → ℕ → ℕ → SendFault →
 IsUndone path before now old new (Messages fault) = IsUnread path before now fault × (new ≡ old)
 IsUndone path before now old new Device = Failed old new
 
--- The same for one message, which was read.
+-- Why sending stopped at one message, which was read.
 abbrev pub IsStopped : ℕ → ℕ → SendFault → Type 0
 IsStopped old new (Messages fault) = IsOutOfMemory fault × (new ≡ old)
 IsStopped old new Device = Failed old new
 
--- The same for a packet, or its stamp is none.
+-- Why a packet is not sent, a bad stamp included.
 abbrev pub IsUnsent : Stamp → List ℕ → ℕ → ℕ → ℕ → ℕ → SendFault → Type 0
 IsUnsent stamp path before now old new fault =
     IsUndone path before now old new fault ⊎ ((fault ≡ Messages (Scan BadStamp)) × (is_stamp stamp ≡ false))
 
--- The copy of a message, if it exists and is sent.
 abbrev pub copies_at : LinkFile → List ℕ → Address → Option (List (List ℕ)) → Option Filed → List Message
 copies_at file area to held None = []
 copies_at file area to held (Some m) = sent_copies file area to held (m ∷ [])
@@ -79,6 +78,5 @@ nothing_counted to = record { to = to; messages = 0; bytes = 60 }
 abbrev pub counted_with_copies : List Message → CountedPacket → CountedPacket
 counted_with_copies copies p = record { to = p.to; messages = p.messages + length copies; bytes = p.bytes + length (messages_bytes copies) }
 
--- The line for an address to which there is nothing to send.
 abbrev pub nothing_line : Address → List ℕ
 nothing_line to = codes "nothing for " ++ (address_text to ++ codes "\n")

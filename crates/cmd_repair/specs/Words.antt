@@ -69,7 +69,6 @@ read_on s b =
 abbrev pub is_id_word : List ℕ → Bool
 is_id_word word = fold read_on 0 word == 1
 
--- The line of an id, and its word.
 abbrev pub id_word : List ℕ → List ℕ
 id_word line = drop 3 line
 
@@ -93,7 +92,6 @@ front_digits line = take (prefix_len is_digit line) line
 abbrev pub messages_in : List ℕ → ℕ
 messages_in line = digits_number (front_digits (drop 4 line))
 
--- The most messages of a base.
 abbrev pub most_messages : ℕ
 most_messages = 4294967295
 

@@ -11,8 +11,7 @@ use cmd_status::Fault;
 use echo_filed::Filed;
 use std::alloc::{AllocError, Global};
 
-/// The ids of an area in order of filing, one behind the other, and how many bytes each has. And how many messages the
-/// area has.
+/// The ids of an area one behind the other, how many bytes each has, and how many messages the area has.
 #[derive(Drop)]
 pub(crate) struct GatheredIds {
     pub(crate) bytes: Vec<u8>,
@@ -20,7 +19,6 @@ pub(crate) struct GatheredIds {
     pub(crate) messages: u64,
 }
 
-/// The ids of the messages of the area, whose tag is in upper case.
 pub(crate) fn gather_ids<'a, M: MessageSource>(
     alloc: Global,
     area: &[u8],
@@ -47,7 +45,6 @@ pub(crate) fn gather_ids<'a, M: MessageSource>(
     Ok(gathered)
 }
 
-// Counts the message, if it exists and is in the area, and adds its id.
 fn gather_id(
     gathered: &mut GatheredIds,
     area: &[u8],
@@ -78,7 +75,6 @@ fn add_id(gathered: &mut GatheredIds, id: &[u8]) -> Result<(), AllocError>
     Ok(())
 }
 
-/// The ids, one by one.
 pub(crate) fn ids_of<'g>(
     alloc: Global,
     gathered: &'g GatheredIds,

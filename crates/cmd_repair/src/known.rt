@@ -1,4 +1,3 @@
-//! The ids that a list names.
 ghost use Rattle.std.specs.Prelude.{◌≡◌, List, ℕ, bytes_eq, map};
 ghost use Rattle.std.specs.List.{list_any};
 
@@ -22,7 +21,6 @@ impl<'a> Model for KnownIds<'a> {
 }
 
 impl<'a> KnownIds<'a> {
-    /// Those of these words, in any order.
     pub(crate) fn of(words: Vec<&'a [u8]>) -> KnownIds<'a>
         ensures { (word : List ℕ) → list_any (bytes_eq word) result ≡ list_any (bytes_eq word) (map (λ one. one.now) words.entry.items) }
     {
@@ -31,7 +29,6 @@ impl<'a> KnownIds<'a> {
         KnownIds { sorted }
     }
 
-    /// Whether the word is one of them.
     pub fn has(&self, word: &[u8]) -> bool
         ensures { result ≡ list_any (bytes_eq word.now) self.now }
     {

@@ -1,11 +1,6 @@
-//! Repair: a packet of all messages of an area for one link, and lists of the ids that a base has.
-//!
-//! Promise: a packet has exactly the asked messages, in order, as exact copies, whoever sent them and whatever their
-//! SEEN-BY lists. A message is left out only if the given list names its id. `list --ids` prints the id of each message
-//! of the area once, ascending. A list is refused exactly at its first wrong line.
-//!
-//! Begin with `sending` (the packet). `linking` judges its address, `reading` a list of ids, and `known` is that list
-//! once it is read. `words` judges the lines of a list, `listing` prints one, and `gathering` collects its ids.
+//! Repair: a packet of all messages of an area for one link, and lists of the ids that a base has. The packet has
+//! exact copies, whoever sent them and whatever their SEEN-BY lists, but for those that the given list names. A list
+//! is refused exactly at its first wrong line. Begin with `sending` (the packet).
 #![tactic(auto)]
 
 mod gathering;

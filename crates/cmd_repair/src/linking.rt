@@ -1,4 +1,3 @@
-//! The address of a packet, judged by the link file.
 ghost use Rattle.std.specs.Prelude.{◌≡◌, true, false, MatchResult};
 ghost use Rattle.echo_links.specs.Links.{is_link};
 ghost use Rattle.cmd_status.specs.declared.fault.Fault.TheVariants.{NotLinked};

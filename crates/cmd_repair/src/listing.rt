@@ -1,4 +1,3 @@
-//! `list --ids`: the ids of an area.
 ghost use Rattle.std.specs.Prelude.{◌≡◌, ◌++◌, OnErr, OnOk, IfErr, codes, length, map};
 ghost use Rattle.std.specs.List.{flat_map};
 ghost use Rattle.base_file.specs.Base as model;
@@ -17,9 +16,8 @@ use disk_io::Sink;
 use echo_charset::push_escaped;
 use std::alloc::{AllocError, Global};
 
-/// `list --ids --area TAG BASE`: prints the ids of the area's messages, ascending by their bytes, each as the word that
-/// escapes it. Letters of the area may be of either case. All messages are read first: of a faulty base nothing is
-/// printed.
+/// `list --ids --area TAG BASE`: prints the ids of the area's messages, ascending by their bytes, each as the word
+/// that escapes it. All messages are read first: of a faulty base nothing is printed.
 pub fn list_ids<'a, M: MessageSource, W: Sink>(
     alloc: Global,
     area: &[u8],
@@ -46,7 +44,6 @@ pub fn list_ids<'a, M: MessageSource, W: Sink>(
     Ok(Status::Good)
 }
 
-// Adds the first line.
 fn push_first(lines: &mut Vec<u8>, area: &[u8]) -> Result<(), AllocError>
     ensures { OnOk result (lines.new.items ≡ lines.old.items ++ (words.area_words area.now ++ codes "\n")) }
 {
@@ -55,7 +52,6 @@ fn push_first(lines: &mut Vec<u8>, area: &[u8]) -> Result<(), AllocError>
     Ok(())
 }
 
-// Adds the last line.
 fn push_last(lines: &mut Vec<u8>, messages: u64, without: u64) -> Result<(), AllocError>
     ensures { OnOk result (lines.new.items ≡ lines.old.items ++ (words.end_words messages without ++ codes "\n")) }
 {
@@ -64,7 +60,6 @@ fn push_last(lines: &mut Vec<u8>, messages: u64, without: u64) -> Result<(), All
     Ok(())
 }
 
-// Prints the lines of ids; the last ones stay in `lines`.
 fn print_ids<'a, W: Sink>(ids: &[&[u8]], lines: &mut Vec<u8>, out: &mut W) -> Result<(), Fault<'a>>
     ensures lines { OnOk result (PassesOn (lines.old.items ++ flat_map (λ id. escaped_line (codes "id") id.now) ids.now) lines.new.items (W.contents out.old) (W.contents out.new)) }
     ensures begun { OnErr result (WritesFront (lines.old.items ++ flat_map (λ id. escaped_line (codes "id") id.now) ids.now) (W.contents out.old) (W.contents out.new)) }

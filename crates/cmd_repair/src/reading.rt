@@ -49,7 +49,6 @@ pub fn read_ids<'a, 'b>(
     }
 }
 
-// Adds the word of the line, if it is that of an id.
 fn take_word<'a>(words: &mut Vec<&'a [u8]>, line: &'a [u8]) -> Result<(), AllocError>
     ensures { OnOk result (map (λ word. word.now) words.new.items ≡ map (λ word. word.now) words.old.items ++ id_words (line.now ∷ [])) }
 {
@@ -68,7 +67,6 @@ fn is_wrong(stage: Stage) -> bool
     }
 }
 
-// The stage after a line. `first` has the words of the first line.
 fn stage_after(
     alloc: Global,
     first: &[u8],

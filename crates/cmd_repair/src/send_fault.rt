@@ -1,4 +1,3 @@
-//! Why a packet was not sent.
 use cmd_status::Fault;
 use disk_io::Failure;
 use std::alloc::AllocError;

@@ -23,7 +23,6 @@ use model_steps::{ScanFault, is_stamp};
 use std::alloc::{AllocError, Global};
 use std::io::Write;
 
-/// What is sent to whom, and which messages the receiver has.
 #[derive(Clone, Copy)]
 struct Repair<'r, 'l> {
     area: &'r [u8],
@@ -69,7 +68,6 @@ pub fn send_all<'a, M: MessageSource, W: Sink>(
     Ok(counted)
 }
 
-// The bytes of the header.
 fn header_of(alloc: Global, asked: Resend<'_>, links: &LinkFile) -> Result<Vec<u8>, AllocError>
     ensures { IfOk result (λ bytes. bytes.items ≡ header_bytes (header_to links.now asked.entry.stamp asked.entry.to)) }
 {
@@ -81,7 +79,6 @@ fn header_of(alloc: Global, asked: Resend<'_>, links: &LinkFile) -> Result<Vec<u
     }
 }
 
-// Sends the copies of the messages from this number on, behind the bytes of `piece`; the last ones stay in `piece`.
 fn send_messages<'a, M: MessageSource, W: Sink>(
     alloc: Global,
     repair: Repair<'_, '_>,
@@ -110,7 +107,6 @@ fn send_messages<'a, M: MessageSource, W: Sink>(
     Ok(counted)
 }
 
-// Sends the copy of the message, if it exists and is sent, behind the bytes of `piece`, and counts it.
 fn send_at<'a, W: Sink>(
     alloc: Global,
     repair: Repair<'_, '_>,
@@ -137,7 +133,7 @@ fn send_at<'a, W: Sink>(
     }
 }
 
-// Adds the bytes of the copy, and counts it. There is no memory for more than `usize::MAX` bytes.
+// A packet of more than `usize::MAX` bytes counts as out of memory.
 fn add_copy(
     alloc: Global,
     repair: Repair<'_, '_>,
@@ -158,7 +154,6 @@ fn add_copy(
     })
 }
 
-// Whether the message is sent.
 fn is_sent(alloc: Global, repair: Repair<'_, '_>, message: &Filed) -> Result<bool, AllocError>
     ensures { IfOk result (λ is. is ≡ is_sent (option_copied repair.entry.held) repair.entry.area.now message.now) }
 {
@@ -171,7 +166,6 @@ fn is_sent(alloc: Global, repair: Repair<'_, '_>, message: &Filed) -> Result<boo
     }
 }
 
-// Whether the list names the id.
 fn is_named(alloc: Global, held: &KnownIds<'_>, id: Option<&[u8]>) -> Result<bool, AllocError>
     ensures { IfOk result (λ is. is ≡ is_named held.now (option_copied id.entry)) }
 {
@@ -181,7 +175,6 @@ fn is_named(alloc: Global, held: &KnownIds<'_>, id: Option<&[u8]>) -> Result<boo
     }
 }
 
-// The word of an id, between a blank and the end of a line.
 fn word_line(alloc: Global, id: &[u8]) -> Result<Vec<u8>, AllocError>
     ensures { IfOk result (λ line. line.items ≡ escaped_line [] id.now) }
 {
@@ -190,7 +183,6 @@ fn word_line(alloc: Global, id: &[u8]) -> Result<Vec<u8>, AllocError>
     Ok(line)
 }
 
-// The word in such a line.
 fn word_in(line: &[u8]) -> &[u8]
     ensures { (id : List ℕ) → line.now ≡ escaped_line [] id → result.now ≡ escaped id }
 {

@@ -12,7 +12,6 @@ const MOST_MESSAGES: u64 = 4_294_967_295;
 /// A word of another form.
 const REFUSED: u8 = 255;
 
-/// Adds the words of the first line of a list.
 pub(crate) fn push_area(line: &mut Vec<u8>, area: &[u8]) -> Result<(), AllocError>
     ensures { OnOk result (line.new.items ≡ line.old.items ++ words.area_words area.now) }
 {
@@ -20,14 +19,12 @@ pub(crate) fn push_area(line: &mut Vec<u8>, area: &[u8]) -> Result<(), AllocErro
     push_word(line, area)
 }
 
-/// Adds the words of the last line.
 pub(crate) fn push_end(line: &mut Vec<u8>, messages: u64, without: u64) -> Result<(), AllocError>
     ensures { OnOk result (line.new.items ≡ line.old.items ++ words.end_words messages without) }
 {
     written(write!(line, "end {messages} messages, {without} without id"))
 }
 
-/// Whether the line is the last one after so many ids.
 pub(crate) fn is_end_line(alloc: Global, ids: u64, line: &[u8]) -> Result<bool, AllocError>
     ensures { IfOk result (λ is. is ≡ words.is_end_line ids line.now) }
 {
@@ -40,21 +37,18 @@ pub(crate) fn is_end_line(alloc: Global, ids: u64, line: &[u8]) -> Result<bool, 
     Ok(end.as_slice() == line)
 }
 
-// The number behind `end `.
 fn messages_in(line: &[u8]) -> u64
     ensures { result ≡ words.messages_in line.now }
 {
     digits_number(front_digits(&line[line.len().min(4)..]))
 }
 
-// The digits at the front.
 fn front_digits(line: &[u8]) -> &[u8]
     ensures { result.now ≡ words.front_digits line.now }
 {
     &line[..digits_len(line)]
 }
 
-// How many digits are at the front.
 fn digits_len(line: &[u8]) -> usize
     ensures exact { result ≡ length (take_while words.is_digit line.now) }
     ensures within { result ≤ length line.now }
@@ -68,7 +62,6 @@ fn is_digit(byte: u8) -> bool
     matches!(byte, b'0'..=b'9')
 }
 
-// The number that digits write.
 fn digits_number(digits: &[u8]) -> u64
     ensures { result ≡ words.digits_number digits.now }
 {
@@ -85,28 +78,24 @@ fn with_digit(number: u64, digit: u8) -> u64
         .saturating_add(u64::from(digit.saturating_sub(b'0')))
 }
 
-/// Whether the line is that of an id.
 pub(crate) fn is_id_line(line: &[u8]) -> bool
     ensures { result ≡ words.is_id_line line.now }
 {
     line.starts_with(b"id ") && is_id_word(id_word(line))
 }
 
-/// The word of an id behind `id `.
 pub(crate) fn id_word(line: &[u8]) -> &[u8]
     ensures { result.now ≡ words.id_word line.now }
 {
     &line[line.len().min(3)..]
 }
 
-// Whether it is the escaped form of an id.
 fn is_id_word(word: &[u8]) -> bool
     ensures { result ≡ words.is_id_word word.now }
 {
     word.iter().fold(0, |state, byte| read_on(state, *byte)) == 1
 }
 
-// One byte of the word more was read.
 fn read_on(state: u8, byte: u8) -> u8
     ensures { result ≡ words.read_on state byte }
 {
@@ -162,7 +151,6 @@ fn at_second_digit(state: u8, byte: u8) -> u8
     }
 }
 
-// The byte of this value was read.
 fn at_value(state: u8, value: u8) -> u8
     ensures { result ≡ words.at_value state value }
 {
@@ -174,7 +162,6 @@ fn at_value(state: u8, value: u8) -> u8
     }
 }
 
-// The value of a digit, 0 to 9 or a to f.
 fn hex_value(byte: u8) -> Option<u8>
     ensures { result ≡ words.hex_digit byte }
 {

@@ -11,11 +11,9 @@ use Rattle.cmd_status.specs.{declared.fault.Fault.Fault, declared.status.Status.
 use Rattle.cmd_show.specs.AreasListed.{AreListed, AreWithin, Ascend, HaveCounts, area_counts, area_line, areas_text, counted_more, counts_of, counts_text, is_in, no_counts}
 use Rattle.cmd_show.specs.{declared.area_counts.AreaCounts.AreaCounts, Exporting.state_by, Exporting.state_of}
 
--- 1 for yes
 abbrev one : Bool → ℕ
 one b = cond b 1 0
 
--- the number if a message waits, or if it was scanned
 abbrev where_waits : Bool → ℕ → ℕ
 where_waits b n = cond b n 0
 
@@ -33,7 +31,6 @@ scanned_last : (p : Filed → Bool) (xs : List Filed) (m : Filed) (cursor : ℕ)
     → count_by p (take cursor (xs ++ m ∷ [])) ≡ count_by p (take cursor xs) + where_scanned (nat_le cursor (length xs)) (one (p m))
 scanned_last p xs m cursor = grind (arith, cases_lt, length-append, take_all, counted_last, lt-leb, take-append-le, le-leb)
 
--- counts of these numbers
 abbrev made : ℕ → ℕ → ℕ → AreaCounts
 made messages waiting purged = record { messages = messages; waiting = waiting; purged = purged }
 
@@ -70,11 +67,9 @@ one_next base i m got inside =
     take_more base i m inside ∙ ap (λ x. take i base ++ x ∷ []) (same _ _ (sym (slice_get-get_or base i m inside) ∙ got))
 
 module _ {K : Type 0} (bytes : K → List ℕ) where
-  -- whether a key is the tag
   abbrev is_key : List ℕ → K → Bool
   is_key tag k = is_eq (slice_cmp nat_cmp tag (bytes k))
 
-  -- keys in the order of their tags
   abbrev pub key_order : K → K → Ordering
   key_order x y = slice_cmp nat_cmp (bytes x) (bytes y)
 
@@ -82,13 +77,11 @@ module _ {K : Type 0} (bytes : K → List ℕ) where
       → counts_of bytes (insert_entry key_order es k v) tag ≡ cond (is_key tag k) v (counts_of bytes es tag)
   counts_inserted tag es k v = ap (λ o. unwrap_or o no_counts) (lookup_inserted bytes tag es k v) ∙ unwrapped (is_key tag k) v (lookup (is_key tag) es)
 
-  -- no count grows by more than one
   pub within_inserted : (i : ℕ) (es : List (K × AreaCounts)) (k : K) (tag : List ℕ) (state : State) (v : AreaCounts)
       → v ≡ counted_more (counts_of bytes es tag) state → ((t : List ℕ) → AreWithin i (counts_of bytes es t))
       → (t : List ℕ) → AreWithin (i + 1) (counts_of bytes (insert_entry key_order es k v) t)
   within_inserted i es k tag state v is within t = grind (arith, counts_inserted, within_more, within_next)
 
-  -- one message more
   pub counted_on : (es : List (K × AreaCounts)) (k : K) (xs : List Filed) (m : Filed) (cursor : ℕ) (v : AreaCounts)
       → bytes k ≡ m.echo.tag → v ≡ counted_more (counts_of bytes es m.echo.tag) (state_of cursor (length xs) m)
       → HaveCounts bytes es xs cursor → HaveCounts bytes (insert_entry key_order es k v) (xs ++ m ∷ []) cursor
@@ -147,7 +140,6 @@ module _ {K : Type 0} (bytes : K → List ℕ) where
     found_behind e es es ascend.0 (own_found es ascend.1),
   )
 
-  -- the lines of the found entries
   lines_found : (f : List ℕ → AreaCounts) (es all : List (K × AreaCounts)) → ((tag : List ℕ) → counts_of bytes all tag ≡ f tag)
       → AllByRecursion (λ x. lookup (is_key (bytes x.0)) all ≡ Some x.1) es → flat_map (λ e. area_line (bytes e.0) e.1) es ≡ flat_map (λ tag. area_line tag (f tag)) (map bytes (keys_of es))
   lines_found f [] all is found = refl
@@ -155,7 +147,6 @@ module _ {K : Type 0} (bytes : K → List ℕ) where
       let own : e.1 ≡ f (bytes e.0) = ap (λ o. unwrap_or o no_counts) (sym found.0) ∙ is (bytes e.0) in
       ap (λ c. area_line (bytes e.0) c ++ flat_map (λ x. area_line (bytes x.0) x.1) es) own ∙ ap (λ t. area_line (bytes e.0) (f (bytes e.0)) ++ t) (lines_found f es all is found.1)
 
-  -- the lines of the map are those of the areas of the messages
   areas_right : (es : List (K × AreaCounts)) (base : Base) (messages waiting : ℕ) (lines : List ℕ) (status : Status)
       → HaveCounts bytes es base.messages base.cursor → Ascend bytes es → messages ≡ length base.messages → waiting ≡ length base.messages - base.cursor
       → lines ≡ counts_text bytes es messages waiting → status ≡ Good → AreListed base lines status

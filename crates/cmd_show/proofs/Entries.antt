@@ -22,17 +22,14 @@ range_more n =
 entries_more : (lines : List Line) (n : ℕ) → listed_entries lines (n + 1) ≡ listed_entries lines n ++ addressed_text (address_at lines n) (line_at lines n)
 entries_more lines n = grind (arith, range_more, flat_map-append, append-nil)
 
--- the line on the checksum, and then the others
 pub listed_lines : (find : Option Address) (lines : List Line) (stated : CrcLine) (old mid new : List ℕ) (a b : Option (List ℕ)) → mid ≡ old ++ crc_text stated
     → AddsLines (RestListed find lines) mid new a b → AddsLines (Listed find lines stated) old new a b
 listed_lines find lines stated old mid new a b is rest = grind (arith, append_assoc)
 
--- a beginning of these
 pub listed_begun : (find : Option Address) (lines : List Line) (stated : CrcLine) (old mid : List ℕ) (a b : Option (List ℕ)) → mid ≡ old ++ crc_text stated
     → BeginsMore (RestListed find lines) mid a b → BeginsMore (Listed find lines stated) old a b
 listed_begun find lines stated old mid a b is rest = grind (arith, append_assoc)
 
--- the entries were not printed whole
 pub list_stops : {T : Type 0} (r : Result T Fault) (lines : List Line) (stated : CrcLine) (kept mid : List ℕ) (old new : Output) → mid ≡ kept ++ crc_text stated
     → IfErr r (Stops old.failures new.failures) → OnErr r (BeginsMore (RestListed None lines) mid old.contents new.contents)
     → IfErr r (λ fault. (IsOutOfMemory fault × (new ≡ old)) ⊎ (Stops old.failures new.failures fault × BeginsMore (Listed None lines stated) kept old.contents new.contents))
@@ -48,7 +45,6 @@ right_list : (find : Option Address) (input text : List ℕ) (lines : List Line)
     → Listed find lines stated text → IsListed find input text (crc_status (crc_line_of input))
 right_list find input text lines stated is agreed listed = grind arith
 
--- all lines of a nodelist were written
 pub list_printed : (find : Option Address) (input none rest : List ℕ) (lines : List Line) (stated : CrcLine) (status : Status) (old mid new : Output)
     → NodelistOf input lines → stated ≡ crc_line_of input → none ≡ [] → AddsLines (Listed find lines stated) none rest old.contents mid.contents
     → Appends mid.contents new.contents rest → status ≡ crc_status stated → mid.failures ≡ old.failures → PassesAll mid new → NodelistAnswers find input old new (Ok status)
@@ -61,7 +57,6 @@ list_printed find input none rest lines stated status old mid new is agreed noth
       flushed = (flushed.0 ∙ once, flushed.1);
     }
 
--- standard output failed at the end
 pub list_unprinted : (find : Option Address) (input none rest : List ℕ) (lines : List Line) (stated : CrcLine) (old mid new : Output) (fault : Fault)
     → NodelistOf input lines → stated ≡ crc_line_of input → none ≡ [] → AddsLines (Listed find lines stated) none rest old.contents mid.contents
     → WritesFront rest mid.contents new.contents → mid.failures ≡ old.failures → CannotPrint mid.failures new.failures fault → NodelistAnswers find input old new (Err fault)
@@ -77,7 +72,6 @@ list_unprinted find input none rest lines stated old mid new fault is agreed not
       },
     )
 
--- the lines of a nodelist were not completed
 pub list_stopped : (find : Option Address) (input none : List ℕ) (lines : List Line) (stated : CrcLine) (old new : Output) (fault : Fault)
     → NodelistOf input lines → stated ≡ crc_line_of input → none ≡ []
     → (IsOutOfMemory fault × (new ≡ old)) ⊎ (Stops old.failures new.failures fault × BeginsMore (Listed find lines stated) none old.contents new.contents)
@@ -88,7 +82,6 @@ entry_more : (lines items : List Line) (i : ℕ) (a : Option Address) (line : Li
     → listed_entries lines (i + 1) ≡ listed_entries lines i ++ addressed_text a line
 entry_more lines items i a line same within here is = grind (arith, get_or, get_or_default, entries_more)
 
--- one entry more is passed on
 pub printed_more : (a b c : Option (List ℕ)) (kept mid left : List ℕ) (lines items : List Line) (i : ℕ) (x : Option Address) (line : Line) → items ≡ lines → i < length items → x ≡ address_at lines i → line ≡ get_or items i line
     → PassesOn (kept ++ listed_entries lines i) mid a b → PassesOn (mid ++ addressed_text x line) left b c → PassesOn (kept ++ listed_entries lines (i + 1)) left a c
 printed_more a b c kept mid left lines items i x line same within here is before more =
@@ -99,7 +92,6 @@ pub rest_begun : (a b : Option (List ℕ)) (kept : List ℕ) (lines : List Line)
     → BeginsMore (RestListed None lines) kept a b
 rest_begun a b kept lines begun = grind (arith, append_assoc, front_more)
 
--- the line of an entry was not printed whole
 pub entry_begun : (a b c : Option (List ℕ)) (kept mid : List ℕ) (lines items : List Line) (i : ℕ) (x : Option Address) (line : Line) → items ≡ lines → i < length items → x ≡ address_at lines i → line ≡ get_or items i line
     → PassesOn (kept ++ listed_entries lines i) mid a b → WritesFront (mid ++ addressed_text x line) b c → BeginsMore (RestListed None lines) kept a c
 entry_begun a b c kept mid lines items i x line same within here is before more =

@@ -56,7 +56,6 @@ module _ (form : Form) (area : Option (List ℕ)) (first : ℕ) (purged : Bool) 
   printed_none a kept cursor base n before = subst (λ (l : List ℕ). PassesOn (kept ++ l) kept a a) (sym (none_sought cursor base n before)) (none_added a kept)
 
   module _ (base : Base) where
-    -- the printed lines before a message that could not be read
     pub begun_before : (a b : Option (List ℕ)) (kept mid : List ℕ) (i n : ℕ) → i ≤ n
         → PassesOn (kept ++ sought_texts form area first purged base.cursor base.messages i) mid a b → WritesFront (kept ++ sought_texts form area first purged base.cursor base.messages n) a b
     begun_before a b kept mid i n within before =
@@ -64,12 +63,10 @@ module _ (form : Form) (area : Option (List ℕ)) (first : ℕ) (purged : Bool) 
         (λ k. (sought_text form area first purged base.cursor k (slice_get base.messages k), texts_more form area first purged base.cursor base.messages k)) a b kept i n within
         (record { rest = mid; passed = before })
 
-    -- the message with a number, as it was read
     module _ (cursor i : ℕ) (message : Option Filed) (at : cursor ≡ base.cursor) (is : message ≡ slice_get base.messages i) where
       same_text : sought_text form area first purged cursor i message ≡ sought_text form area first purged base.cursor i (slice_get base.messages i)
       same_text = λ k. sought_text form area first purged (at k) i (is k)
 
-      -- one message more is printed
       pub sought_printed : (a b c : Option (List ℕ)) (kept mid left : List ℕ) → PassesOn (kept ++ sought_texts form area first purged base.cursor base.messages i) mid a b
           → PassesOn (mid ++ sought_text form area first purged cursor i message) left b c
           → PassesOn (kept ++ sought_texts form area first purged base.cursor base.messages (i + 1)) left a c
@@ -77,7 +74,6 @@ module _ (form : Form) (area : Option (List ℕ)) (first : ℕ) (purged : Bool) 
           one_printed (sought_texts form area first purged base.cursor base.messages) (λ (n : ℕ). sought_text form area first purged base.cursor n (slice_get base.messages n))
           (texts_more form area first purged base.cursor base.messages) a b c kept mid left (sought_text form area first purged cursor i message) i same_text before later
 
-      -- a beginning of it is printed
       pub sought_begun : (a b c : Option (List ℕ)) (kept mid : List ℕ) (n : ℕ) → i + 1 ≤ n → PassesOn (kept ++ sought_texts form area first purged base.cursor base.messages i) mid a b
           → WritesFront (mid ++ sought_text form area first purged cursor i message) b c
           → WritesFront (kept ++ sought_texts form area first purged base.cursor base.messages n) a c
@@ -85,7 +81,6 @@ module _ (form : Form) (area : Option (List ℕ)) (first : ℕ) (purged : Bool) 
           one_begun (sought_texts form area first purged base.cursor base.messages) (λ (n : ℕ). sought_text form area first purged base.cursor n (slice_get base.messages n))
           (texts_more form area first purged base.cursor base.messages) a b c kept mid (sought_text form area first purged cursor i message) i n same_text within before later
 
-      -- the U+FFFD in it are counted
       pub sought_counted : (lost more : ℕ) → more ≡ sought_count form area first purged cursor i message → lost ≡ sought_lost form area first purged base.cursor base.messages i
           → lost + more ≡ sought_lost form area first purged base.cursor base.messages (i + 1)
       sought_counted lost more counted before =
@@ -113,7 +108,6 @@ module _ (form : Form) (area : Option (List ℕ)) (first : ℕ) (purged : Bool) 
       passed : PassesOn all kept old.contents mid.contents
       passed = subst (λ t. PassesOn t kept old.contents mid.contents) whole printed
 
-      -- all of them were written
       pub exported : (count : ℕ) → count ≡ sought_lost form asked first purged base.cursor base.messages (length base.messages) → Appends mid.contents new.contents kept → PassesAll mid new
           → IsDone (IsExported form area first purged base) old new count
       exported count counted went flushed = record {
@@ -123,7 +117,6 @@ module _ (form : Form) (area : Option (List ℕ)) (first : ℕ) (purged : Bool) 
         flushed = (flushed.0 ∙ once, flushed.1);
       }
 
-      -- standard output failed at the end
       pub unexported : (path : List ℕ) (before after : ℕ) (fault : Fault) → WritesFront kept mid.contents new.contents → CannotPrint mid.failures new.failures fault
           → PrintsReading (IsExported form area first purged base) path before after old new (Err fault)
       unexported path before after fault begun failed = (

@@ -44,7 +44,6 @@ module _ (earlier : List (List ℕ)) (number : ℕ) (line : List ℕ) (b : SaidB
   unfolding line_fault
   skipped_judged h = grind (arith, cond-true, one_more, keeps_system, skipped_word, keeps_name, keeps_tags)
 
-  -- a line with an unknown first word, or with a control byte
   pub unknown_judged : (word : List ℕ) → line_fault earlier number line ≡ Some (fault.UnknownWord number) → word ≡ unknown_word line
       → (line_fault earlier number line ≡ Some (fault.UnknownWord number)) × (word ≡ wrong_word (fault.UnknownWord number) line) × IsBefore earlier b
   unknown_judged word refused is = (refused, is, before)
@@ -71,7 +70,6 @@ of_links number P bad again before (w ∷ ws) f h =
         subst P e again
     by later false false g = later g
 
--- a fault of its links is that of an AREA line with a new tag
 pub links_refused : (tags : List (List ℕ)) (number : ℕ) (all : List (List ℕ)) (word : List ℕ) (more : List (List ℕ)) (tag wrong : List ℕ) (f : LinkFault)
     → all ≡ word ∷ more → is_tag (upper word) ≡ true → tag ≡ upper word → list_any (bytes_eq tag) tags ≡ false
     → links_fault number [] more ≡ Some f → wrong ≡ links_say more f → (area_refused tags number all ≡ Some f) × (wrong ≡ area_says all f)
@@ -103,7 +101,6 @@ module _ (earlier : List (List ℕ)) (number : ℕ) (line word rest : List ℕ) 
   unfolding line_fault
   of_kind = cond-false (is_skipped line) None _ cut.read ∙ cond-false (list_any is_control_byte line) _ _ cut.plain
 
-  -- a line has the refusal of its parts
   as_parts : {Good Bad : Type 0} (refusal : Option LinkFault) (say : LinkFault → List ℕ) (found : Option FaultyWord) → line_fault earlier number line ≡ refusal
       → ((f : LinkFault) → refusal ≡ Some f → wrong_word f line ≡ say f) → (Good → IsBefore (line ∷ earlier) new) → (Bad → IsBefore earlier new)
       → Tells refusal say Good Bad found → JudgesLine earlier number line new found
@@ -112,7 +109,6 @@ module _ (earlier : List (List ℕ)) (number : ℕ) (line word rest : List ℕ) 
   stays : new ≡ old → IsBefore earlier new
   stays same = subst (IsBefore earlier) (sym same) before
 
-  -- a SYSTEM line
   module _ (is : bytes_eq word (codes "SYSTEM") ≡ true) where
     system_says_so : (b c : Bool) (f : LinkFault)
         → cond b (Some (fault.RepeatedSystem number)) (cond c None (Some (fault.BadAddress number))) ≡ Some f
@@ -134,7 +130,6 @@ module _ (earlier : List (List ℕ)) (number : ℕ) (line word rest : List ℕ) 
         (keeps_tags earlier line old new before (kind_is (codes "AREA") false (other_word word (codes "SYSTEM") (codes "AREA") refl is)) (ap (λ (b : SaidBefore). b.tags) good)))
         stays reported
 
-  -- a NAME line
   module _ (is : bytes_eq word (codes "NAME") ≡ true) where
     no_system : is_system_line line ≡ false
     no_system = kind_is (codes "SYSTEM") false (other_word word (codes "NAME") (codes "SYSTEM") refl is)
@@ -163,7 +158,6 @@ module _ (earlier : List (List ℕ)) (number : ℕ) (line word rest : List ℕ) 
         (keeps_tags earlier line old new before (kind_is (codes "AREA") false (other_word word (codes "NAME") (codes "AREA") refl is)) (ap (λ (b : SaidBefore). b.tags) good)))
         stays reported
 
-  -- an AREA line
   module _ (is : bytes_eq word (codes "AREA") ≡ true) where
     no_own : is_system_line line ≡ false
     no_own = kind_is (codes "SYSTEM") false (other_word word (codes "AREA") (codes "SYSTEM") refl is)

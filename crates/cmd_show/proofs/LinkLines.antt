@@ -20,7 +20,6 @@ sum_more f xs k n old inside is so = elim (slice_get_cases xs k).1 [
   | inr past ↦ absurd (let less = past.0 in omega (arith, less, inside))
 ]
 
--- the links of an area, found by its tag
 module _ (file : LinkFile) (k : ℕ) (tag : List ℕ) (reported : Some tag ≡ option_map (λ (a : Area). a.tag) (slice_get file.areas k)) where
   found_of : (area : Area) → slice_get file.areas k ≡ Some area → tag ≡ area.tag
   found_of area is = grind arith

@@ -11,7 +11,6 @@ use Rattle.cmd_print.specs.{BaseListed.asked_text, BaseListed.base_text, BaseLis
 use Rattle.cmd_show.specs.{Fetching.PrintsReading, Listing.IsListed}
 use Rattle.cmd_show.proofs.{Entries.range_more, Pushed.added, Pushed.begun_within}
 
--- one message more
 pub messages_more : (form : ListForm) (area : Option (List ℕ)) (first : ℕ) (base : List Filed) (cursor n : ℕ)
     → messages_text form area first base cursor (n + 1) ≡ messages_text form area first base cursor n ++ asked_text form area first cursor n (slice_get base n)
 messages_more form area first base cursor n = grind (arith, range_more, flat_map-append, append-nil)
@@ -21,7 +20,6 @@ message_more : (form : ListForm) (area : Option (List ℕ)) (first : ℕ) (base 
 message_more form area first base cursor i message kept is =
     ap (λ t. kept ++ t) (sym (messages_more form area first base cursor i ∙ ap (λ m. messages_text form area first base cursor i ++ asked_text form area first cursor i m) (sym is)))
 
--- one message more is passed on
 pub message_printed : (a b c : Option (List ℕ)) (kept mid left : List ℕ) (form : ListForm) (area : Option (List ℕ)) (first : ℕ) (base : List Filed) (cursor i : ℕ) (message : Option Filed)
     → message ≡ slice_get base i → PassesOn (kept ++ messages_text form area first base cursor i) mid a b → PassesOn (mid ++ asked_text form area first cursor i message) left b c
     → PassesOn (kept ++ messages_text form area first base cursor (i + 1)) left a c
@@ -29,7 +27,6 @@ message_printed a b c kept mid left form area first base cursor i message is bef
     subst (λ t. PassesOn t left a c) (message_more form area first base cursor i message kept is)
     (passed_more a b c kept (messages_text form area first base cursor i) mid (asked_text form area first cursor i message) left before more)
 
--- the lines of a message were not printed whole
 pub message_begun : (a b c : Option (List ℕ)) (kept mid : List ℕ) (form : ListForm) (area : Option (List ℕ)) (first : ℕ) (base : List Filed) (cursor i n : ℕ) (message : Option Filed)
     → message ≡ slice_get base i → i + 1 ≤ n → PassesOn (kept ++ messages_text form area first base cursor i) mid a b
     → WritesFront (mid ++ asked_text form area first cursor i message) b c → WritesFront (kept ++ messages_text form area first base cursor n) a c
@@ -54,7 +51,6 @@ none_asked form area first base cursor (suc n) before =
 pub printed_none : (a : Option (List ℕ)) (kept : List ℕ) (form : ListForm) (area : Option (List ℕ)) (first : ℕ) (base : List Filed) (cursor n : ℕ) → n ≤ first → PassesOn (kept ++ messages_text form area first base cursor n) kept a a
 printed_none a kept form area first base cursor n before = subst (λ (l : List ℕ). PassesOn (kept ++ l) kept a a) (sym (none_asked form area first base cursor n before)) (none_added a kept)
 
--- the printed lines before a message that could not be read
 pub begun_before : (a b : Option (List ℕ)) (kept mid : List ℕ) (form : ListForm) (area : Option (List ℕ)) (first : ℕ) (base : List Filed) (cursor i n : ℕ) → i ≤ n
     → PassesOn (kept ++ messages_text form area first base cursor i) mid a b → WritesFront (kept ++ messages_text form area first base cursor n) a b
 begun_before a b kept mid form area first base cursor i n within before =
@@ -63,12 +59,10 @@ begun_before a b kept mid form area first base cursor i n within before =
 right_listing : (form : ListForm) (area : Option (List ℕ)) (first : ℕ) (base : Base) → IsListed form area first base (base_text form (option_map upper area) first base.messages base.cursor) Good
 right_listing form area first base = record { printed = refl; status_is = refl }
 
--- some of them were printed
 pub listing_begun : (form : ListForm) (area asked : Option (List ℕ)) (first : ℕ) (base : Base) (none : List ℕ) (old new : Output) → asked ≡ option_map upper area → none ≡ []
     → WritesFront (none ++ messages_text form asked first base.messages base.cursor (length base.messages)) old.contents new.contents → IsBegun (IsListed form area first base) old new
 listing_begun form area asked first base none old new same nothing begun = grind (arith, option_map, right_listing, front_more)
 
--- all of them were added
 base_passed : (form : ListForm) (area asked : Option (List ℕ)) (first : ℕ) (messages : List Filed) (cursor all again scanned : ℕ) (none kept lines : List ℕ)
     (a b : Option (List ℕ)) → asked ≡ option_map upper area → none ≡ []
     → PassesOn (none ++ messages_text form asked first messages cursor (length messages)) kept a b → all ≡ length messages → again ≡ length messages
@@ -97,7 +91,6 @@ module _ (form : ListForm) (area asked : Option (List ℕ)) (first : ℕ) (base 
     flushed = (flushed.0 ∙ once, flushed.1);
   }
 
-  -- standard output failed at the end
   pub base_unlisted : (path : List ℕ) (before after : ℕ) (fault : Fault) → WritesFront lines mid.contents new.contents → CannotPrint mid.failures new.failures fault
       → PrintsReading (IsListed form area first base) path before after old new (Err fault)
   base_unlisted path before after fault begun failed = (

@@ -1,4 +1,3 @@
--- A packet has one printing.
 use Rattle.std.specs.{Prelude.IsErr, Io.KnownBytes.Appends}
 use Rattle.std.proofs.Common.{◌≡◌, ℕ, ◌+◌, Bool, true, false, List, [], ◌∷◌, ◌++◌, length, Option, Some, None, Result, Ok, Err, refl, sym, ap, subst, ◌∙◌, inl, inr, arith}
 use Rattle.echo_packet.specs.{declared.header.Header.Header, Message.Message, Message.message_bytes, Answer.Answer, Answer.Describes, Answer.Found}
@@ -60,17 +59,14 @@ one_input full hex input old new other h k =
     let same = one_standing hex input h.0 k.0 h.1 k.1 in
     one_written full k.0 old new other (subst (λ (bytes : List ℕ). WritesLines (AllShown full bytes) (Some old) new) same h.2) k.2
 
--- the answer for bytes with this outcome
 abbrev answer_of : Answer → Result Status Fault
 answer_of (Ok found) = Ok Good
 answer_of (Err f) = Err (Packet f)
 
--- the answer for digits with this decoding
 abbrev answer_of_digits : Result (List ℕ) FromHexError → Result Status Fault
 answer_of_digits (Ok bytes) = answer_of (outcome show_limits bytes)
 answer_of_digits (Err e) = Err BadHex
 
--- the answer for an input
 abbrev answer_to : Bool → List ℕ → Result Status Fault
 answer_to false input = answer_of (outcome show_limits input)
 answer_to true input = answer_of_digits (decode_of (hex_text input))

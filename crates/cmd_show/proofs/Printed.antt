@@ -1,4 +1,3 @@
--- The lines printed for a packet.
 use Rattle.std.proofs.Common.{◌≡◌, ℕ, ◌+◌, ◌^◌, ◌<◌, ◌⊎◌, inl, inr, Bool, List, [], ◌∷◌, ◌++◌, Option, Result, Ok, Err, OnOk, OnErr, length, refl, sym, ap, ◌∙◌, subst, arith, append_assoc, append-nil, add-zero}
 use Rattle.std.proofs.lemmas.List.{length-append}
 use Rattle.std.specs.Prelude.{IfErr}
@@ -11,7 +10,6 @@ use Rattle.cmd_status.proofs.Lines.{none_added, none_passed, passed_more}
 use Rattle.cmd_show.specs.{Showing.AllShown, Showing.FrontShown, Showing.MessagePasses, Showing.PacketPasses, Written.AddsLines}
 use Rattle.cmd_print.specs.Shown.{MessageShown, MessagesShown, header_lines, end_line}
 
--- the lines of the header and of the given messages are on their way; the next message begins at this place
 pub record HasPrinted (full : Bool) (bytes rest : List ℕ) (header : Header) (own : Limits) (given at : ℕ) (next : Stage) (kept behind : List ℕ) (old new : Option (List ℕ)) (count place : ℕ) : Type 0 where
   pub messages : List Message
   pub so_far : HasGiven show_limits bytes messages rest header own given at next
@@ -24,7 +22,6 @@ pub record HasPrinted (full : Bool) (bytes rest : List ℕ) (header : Header) (o
 front_fault : (bytes : List ℕ) (f : PacketFault) → FrontFault bytes f → (((at : ℕ) → f ≡ fault.Read at → ⊥)) → FaultOf bytes show_limits [] f
 front_fault bytes f h1 h2 = grind arith
 
--- the lines of the header were added
 pub header_printed : (full : Bool) (bytes rest : List ℕ) (h : Header) (own : Limits) (given at : ℕ) (next : Stage) (kept behind : List ℕ) (old : Option (List ℕ)) (place : ℕ)
     → HasGiven show_limits bytes [] rest h own given at next → place ≡ at → behind ≡ kept ++ header_lines h → HasPrinted full bytes rest h own given at next kept behind old old 0 place
 header_printed full bytes rest h own given at next kept behind old place so here added = grind (arith, append-nil, none_passed)
@@ -32,7 +29,6 @@ header_printed full bytes rest h own given at next kept behind old place so here
 moved : (full : Bool) (k l p q : ℕ) (m : Message) (own : List ℕ) → k ≡ l → p ≡ q → MessageShown full k p m own → MessageShown full l q m own
 moved full k l p q m own number place h = subst (λ n. MessageShown full n q m own) number (subst (λ n. MessageShown full k n m own) place h)
 
--- the lines of one message more
 pub one_more : (full : Bool) (k p : ℕ) (ms : List Message) (m : Message) (lines own : List ℕ) → MessagesShown full k p ms lines
     → MessageShown full (k + length ms) (p + length (messages_bytes ms)) m own → MessagesShown full k p (ms ++ m ∷ []) (lines ++ own)
 one_more full k p [] m lines own none h =
@@ -47,7 +43,6 @@ exact_place : (limits : Limits) (bytes : List ℕ) (h : Header) (ms : List Messa
     → at ≡ 58 + length (messages_bytes ms)
 exact_place limits bytes h ms rest given at so small = grind (arith, length-append, length-header_bytes)
 
--- the lines of the next message are passed on
 pub message_printed : (full : Bool) (bytes rest after : List ℕ) (h new_h : Header) (own new_own : Limits) (given new_given at new_at : ℕ) (next new_next : Stage) (kept behind left : List ℕ) (old mid new : Option (List ℕ)) (count new_count place new_place : ℕ) (m : Message) (line : List ℕ)
     → (before : HasPrinted full bytes rest h own given at next kept behind old mid count place)
     → HasGiven show_limits bytes (before.messages ++ m ∷ []) after new_h new_own new_given new_at new_next
@@ -70,7 +65,6 @@ message_printed full bytes rest after h new_h own new_own given new_given at new
       printed = subst (λ t. PassesOn (kept ++ t) left old new) all (passed_more old mid new kept (header_lines h ++ before.lines) behind line left before.printed passed);
     }
 
--- the line after the last message was added
 pub end_printed : (full : Bool) (bytes rest : List ℕ) (h new_h : Header) (own : Limits) (given at : ℕ) (next : Stage) (kept behind left : List ℕ) (old new : Option (List ℕ)) (count place size : ℕ)
     → (before : HasPrinted full bytes rest h own given at next kept behind old new count place) → new_h ≡ h
     → Describes show_limits bytes (Ok (new_h, before.messages, size)) → left ≡ behind ++ end_line count size → AddsLines (AllShown full bytes) kept left old new
@@ -95,12 +89,10 @@ end_printed full bytes rest h new_h own given at next kept behind left old new c
       passed = passed_more old new new kept (header_lines h ++ before.lines) behind (end_line count size) left before.printed line;
     }
 
--- the lines of the header and of the given messages
 front_shown : (full : Bool) (bytes rest : List ℕ) (h : Header) (own : Limits) (given at : ℕ) (next : Stage) (kept behind : List ℕ) (old new : Option (List ℕ)) (count place : ℕ)
     → (before : HasPrinted full bytes rest h own given at next kept behind old new count place) → FrontShown full bytes before.messages (header_lines h ++ before.lines)
 front_shown full bytes rest h own given at next kept behind old new count place before = grind arith
 
--- memory ran out for further lines
 pub no_memory : (full : Bool) (bytes rest : List ℕ) (h : Header) (own : Limits) (given at : ℕ) (next : Stage) (kept behind left : List ℕ) (old new : Output) (count place : ℕ) (fault : Fault)
     → HasPrinted full bytes rest h own given at next kept behind old.contents new.contents count place → left ≡ behind → IsOutOfMemory fault → new.failures ≡ old.failures
     → PacketPasses full bytes kept left old new (Err fault)
@@ -109,7 +101,6 @@ no_memory full bytes rest h own given at next kept behind left old new count pla
 pub no_header : (full : Bool) (bytes kept left : List ℕ) (old : Output) (fault : Fault) → left ≡ kept → IsOutOfMemory fault → PacketPasses full bytes kept left old old (Err fault)
 no_header full bytes kept left old fault same none = grind (arith, none_added)
 
--- standard output failed after a beginning of the lines of the header and of messages
 pub not_printed : (full : Bool) (bytes rest : List ℕ) (h : Header) (own : Limits) (given at : ℕ) (next : Stage) (kept behind left : List ℕ) (old new : Output) (count place : ℕ) (fault : Fault)
     → HasPrinted full bytes rest h own given at next kept behind old.contents new.contents count place → CannotPrint old.failures new.failures fault → left ≡ []
     → PacketPasses full bytes kept left old new (Err fault)
@@ -124,14 +115,12 @@ not_printed full bytes rest h own given at next kept behind left old new count p
       },
     )
 
--- the finished lines of a message were passed on, or could not be
 pub message_passed : {A : Type 0} (full : Bool) (number place : ℕ) (m : Message) (kept made rest line : List ℕ) (old new : Output) (answer : Result A Fault)
     → MessageShown full number place m line → made ≡ kept ++ line → OnOk answer (PassesOn made rest old.contents new.contents)
     → OnErr answer (WritesFront made old.contents new.contents) → OnErr answer (rest ≡ []) → OnOk answer (new.failures ≡ old.failures)
     → IfErr answer (CannotPrint old.failures new.failures) → MessagePasses full number place m kept rest old new answer
 message_passed full number place m kept made rest line old new answer h1 h2 h3 h4 h5 h6 h7 = grind arith
 
--- the next message was not printed whole
 pub message_stops : (full : Bool) (bytes rest after : List ℕ) (h new_h : Header) (own new_own : Limits) (given new_given at new_at : ℕ) (next new_next : Stage) (kept behind left : List ℕ) (old mid new : Output) (count new_count place : ℕ) (m : Message) (fault : Fault)
     → (before : HasPrinted full bytes rest h own given at next kept behind old.contents mid.contents count place)
     → HasGiven show_limits bytes (before.messages ++ m ∷ []) after new_h new_own new_given new_at new_next
@@ -146,7 +135,6 @@ message_stops full bytes rest after h new_h own new_own given new_given at new_a
     not_printed full bytes after new_h new_own new_given new_at new_next kept more.begun.rest left old new new_count new_at fault printed
     (subst (λ (n : ℕ). CannotPrint n new.failures fault) unfailed failed) dropped
 
--- a fault of the header: nothing is printed
 pub front_refused : (full : Bool) (bytes kept : List ℕ) (f : PacketFault) (old : Output) → FrontFault bytes f → (((at : ℕ) → f ≡ fault.Read at → ⊥))
     → PacketPasses full bytes kept kept old old (Err (Packet f))
 front_refused full bytes kept f old wrong alive = grind (arith, front_fault, none_added)
@@ -158,7 +146,6 @@ never_read R remaining source f dropped at is = grind (arith, Failed-never)
 call_judged : (f : PacketFault) (P : Type 0) → P ⊎ IsOfCall f → CountsFailures {A = Option Message} (Err f) 0 0 → P ⊎ (f ≡ fault.Memory)
 call_judged f P h1 h2 = grind (arith, Failed-never)
 
--- a fault after the header: its lines and those of the messages before it are on their way
 pub message_refused : (full : Bool) (bytes rest : List ℕ) (h : Header) (own : Limits) (given at : ℕ) (next : Stage) (kept behind : List ℕ) (old new : Output) (count place : ℕ) (f : PacketFault)
     → HasPrinted full bytes rest h own given at next kept behind old.contents new.contents count place → NextFault own given at rest f → CountsFailures {A = Option Message} (Err f) 0 0
     → new.failures ≡ old.failures → PacketPasses full bytes kept behind old new (Err (Packet f))

@@ -19,7 +19,6 @@ pub none_reported : (bytes : List ℕ) (b : SaidBefore) (found : List FaultyLine
 unfolding faulty_lines
 none_reported bytes b found begun none = grind arith
 
--- the faulty lines among a line and those after it
 line_first : (earlier : List (List ℕ)) (number : ℕ) (line : List ℕ) (later : List (List ℕ)) (new : SaidBefore) (wrong : Option FaultyWord) → JudgesLine earlier number line new wrong
     → (good : List (List ℕ)) × IsBefore good new × (faulty_among earlier number (line ∷ later) ≡ line_reported wrong ++ faulty_among good (number + 1) later)
 line_first earlier number line later new wrong h1 = grind arith
@@ -73,7 +72,6 @@ module _ (bytes : List ℕ) where
   unfolding faults_of
   reported_with_fault why reported is so = so ∙ ap (reported_lines bytes) (sym is)
 
--- a file was judged, unless memory ran out in its reading
 pub judged_faulty : (bytes : List ℕ) (why : LinkFault) (reported : List FaultyLine) (read : Result LinkFile LinkFault) → read ≡ Err why
     → (read ≡ Err fault.Memory) ⊎ LinksOf bytes read → is_memory why ≡ false → reported ≡ reported_lines bytes (Some why) → IsJudged bytes (Faulty reported)
 judged_faulty bytes why reported read is judged other so = grind (arith, true≢false, reported_with_fault)

@@ -11,7 +11,6 @@ text_has_no_zero most m text is fits = subst HasNoZero (sym is) fits.text.no_zer
 pub echo_shown : (text lines : List ℕ) (e : EchoText) (dropped : ℕ) → EchoOf text e dropped → lines ≡ echo_lines e dropped → TextShown text lines
 echo_shown text lines e dropped said whole = grind (arith, not_refused)
 
--- the lines of a message and those of its text's parts
 pub message_shown : (full : Bool) (number place : ℕ) (m : Message) (text old fields mid new : List ℕ) → text ≡ m.text
     → fields ≡ old ++ message_lines number place m → mid ≡ fields ++ whole_text full text → Pushes (TextShown text) mid new → Pushes (MessageShown full number place m) old new
 message_shown full number place m text old fields mid new is first pieces said = grind (arith, append_assoc)

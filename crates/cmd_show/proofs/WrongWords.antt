@@ -36,7 +36,6 @@ module _ (number : ℕ) (all : List (List ℕ)) (word : List ℕ) (more later : 
   unfolding stands
   judged fine = seen.faults ∙ ap (links_fault number seen.before) next ∙ cond-false (is_err (outcome word)) (Some (fault.BadAddress number)) _ fine
 
-  -- one more link
   pub link_seen : (a : Address) (keys : List Address) → IsWordOf word (Some a) → list_any (λ k. is_eq (address_order a k)) sorted ≡ false
       → ((b : Address) → list_any (λ k. is_eq (address_order b k)) keys ≡ cond (is_eq (address_order a b)) true (list_any (λ k. is_eq (address_order b k)) sorted))
       → LinksSeen number all more keys

@@ -8,7 +8,6 @@ use Rattle.cmd_print.specs.BaseListed.{is_purged, total_text}
 use Rattle.cmd_show.specs.declared.area_counts.AreaCounts.{AreaCounts}
 use Rattle.cmd_status.specs.{declared.fault.Fault.Fault, declared.status.Status.Status, declared.status.Status.TheVariants.Good, Devices.Output, Ended.Answers, Inputs.IsBaseFault, Inputs.IsBaseGiven}
 
--- Whether a message belongs to the area.
 abbrev pub is_in : List ℕ → Filed → Bool
 is_in tag m = bytes_eq tag m.echo.tag
 
@@ -24,7 +23,6 @@ area_counts base cursor tag = record {
   purged = count_by (is_purged_in tag) (take cursor base);
 }
 
--- The line of an area.
 abbrev pub area_line : List ℕ → AreaCounts → List ℕ
 area_line tag c =
     codes "area " ++ (tag ++ (codes " messages " ++ (decimal c.messages
@@ -35,7 +33,6 @@ pub record AreTagsOf (base : List Filed) (tags : List (List ℕ)) : Type 0 where
   pub ascending : IsStrictlySortedBy (slice_cmp nat_cmp) tags
   pub members : (tag : List ℕ) → list_any (bytes_eq tag) tags ≡ list_any (is_in tag) base
 
--- The lines of these areas.
 abbrev pub areas_text : List Filed → ℕ → List (List ℕ) → List ℕ
 areas_text base cursor tags = flat_map (λ tag. area_line tag (area_counts base cursor tag)) tags
 
@@ -52,21 +49,17 @@ pub record AreAreasListed (file : List ℕ) (lines : List ℕ) (status : Status)
   pub given : IsBaseGiven (Some file) base.messages base.cursor
   pub listed : AreListed base lines status
 
--- The right result if the areas of a base file are to be listed.
 abbrev pub ListAreasAnswers : List ℕ → Output → Output → Result Status Fault → Type 0
 ListAreasAnswers file old new answer = Answers (AreAreasListed file) (IsBaseFault (Some file)) old new answer
 
--- No message was counted.
 abbrev pub no_counts : AreaCounts
 no_counts = record { messages = 0; waiting = 0; purged = 0 }
 
--- One message more was counted.
 abbrev pub counted_more : AreaCounts → State → AreaCounts
 counted_more c Scanned = record { messages = c.messages + 1; waiting = c.waiting; purged = c.purged }
 counted_more c Waiting = record { messages = c.messages + 1; waiting = c.waiting + 1; purged = c.purged }
 counted_more c Purged = record { messages = c.messages + 1; waiting = c.waiting; purged = c.purged + 1 }
 
--- No count is above this number.
 pub record AreWithin (most : ℕ) (c : AreaCounts) : Type 0 where
   pub messages : c.messages ≤ most
   pub waiting : c.waiting ≤ most
@@ -85,7 +78,6 @@ module _ {K : Type 0} (bytes : K → List ℕ) where
     pub counts : (tag : List ℕ) → counts_of entries tag ≡ area_counts base cursor tag
     pub there : (tag : List ℕ) → is_some (found_counts entries tag) ≡ list_any (is_in tag) base
 
-  -- Its keys ascend.
   abbrev pub Ascend : List (K × AreaCounts) → Type 0
   Ascend entries = IsStrictlySortedBy (λ x y. slice_cmp nat_cmp (bytes x) (bytes y)) (keys_of entries)
 

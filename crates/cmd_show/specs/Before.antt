@@ -19,7 +19,6 @@ pub record IsBefore (earlier : List (List ℕ)) (b : SaidBefore) : Type 0 where
   pub name : list_any is_name_line earlier ≡ b.name
   pub tags : (tag : List ℕ) → list_any (bytes_eq tag) (map tag_in (filter is_area_line earlier)) ≡ list_any (bytes_eq tag) b.tags
 
--- The tag joins these tags.
 abbrev pub HasTagAdded : List (List ℕ) → List ℕ → List (List ℕ) → Type 0
 HasTagAdded old tag new = (t : List ℕ) → list_any (bytes_eq t) new ≡ (bytes_eq t tag || list_any (bytes_eq t) old)
 
@@ -40,7 +39,6 @@ abbrev pub name_says : List ℕ → List ℕ → LinkFault → List ℕ
 name_says word name (fault.NameTooLong number) = name
 name_says word name _ = word
 
--- The faulty word among these links.
 abbrev pub links_say : List (List ℕ) → LinkFault → List ℕ
 links_say words (fault.BadAddress number) = no_address words
 links_say words (fault.RepeatedLink number) = link_again [] words
@@ -62,7 +60,6 @@ abbrev pub JudgesLine : List (List ℕ) → ℕ → List ℕ → SaidBefore → 
 JudgesLine earlier number line new found =
     Tells (line_fault earlier number line) (λ fault. wrong_word fault line) (IsBefore (line ∷ earlier) new) (IsBefore earlier new) found
 
--- The faulty line that was found, if any.
 abbrev pub line_reported : Option FaultyWord → List FaultyLine
 line_reported None = []
 line_reported (Some wrong) = record { fault = wrong.fault; word = wrong.word.now } ∷ []

@@ -13,7 +13,6 @@ state_by true short = Waiting
 state_by false true = Purged
 state_by false false = Scanned
 
--- The state of the message of this number.
 abbrev pub state_of : ℕ → ℕ → Filed → State
 state_of cursor i m = state_by (nat_le cursor i) (is_purged m)
 
@@ -33,7 +32,6 @@ sought_text form area first purged cursor i None = []
 sought_text form area first purged cursor i (Some m) =
     if is_sought area first purged cursor i m then message_text form i (state_of cursor i m) m else []
 
--- The number of U+FFFD in this text.
 abbrev pub sought_count : Form → Option (List ℕ) → ℕ → Bool → ℕ → ℕ → Option Filed → ℕ
 sought_count form area first purged cursor i None = 0
 sought_count form area first purged cursor i (Some m) =
@@ -45,7 +43,6 @@ sought_texts form area first purged cursor base zero = []
 sought_texts form area first purged cursor base (suc n) =
     sought_texts form area first purged cursor base n ++ sought_text form area first purged cursor n (slice_get base n)
 
--- The number of U+FFFD, message by message.
 abbrev pub sought_lost : Form → Option (List ℕ) → ℕ → Bool → ℕ → List Filed → ℕ → ℕ
 sought_lost form area first purged cursor base zero = 0
 sought_lost form area first purged cursor base (suc n) =
@@ -63,7 +60,6 @@ pub record IsBaseExported (form : Form) (area : Option (List ℕ)) (first : ℕ)
   pub given : IsBaseGiven (Some file) base.messages base.cursor
   pub exported : IsExported form area first purged base lines count
 
--- The right result if a base file is to be exported.
 abbrev pub ExportAnswers : Form → Option (List ℕ) → ℕ → Bool → List ℕ → Output → Output → Result ℕ Fault → Type 0
 ExportAnswers form area first purged file old new answer =
     AnswersInPieces (IsBaseExported form area first purged file) (IsBaseFault (Some file)) old new answer

@@ -21,22 +21,18 @@ abbrev pub not_one_address : List (List ℕ) → List ℕ
 not_one_address [] = []
 not_one_address (word ∷ more) = if is_err (outcome word) then word else first_of more
 
--- The first word that is no address.
 abbrev pub no_address : List (List ℕ) → List ℕ
 no_address [] = []
 no_address (word ∷ more) = if is_err (outcome word) then word else no_address more
 
--- The first address that repeats an earlier one.
 abbrev pub link_again : List (List ℕ) → List (List ℕ) → List ℕ
 link_again before [] = []
 link_again before (word ∷ more) =
     if list_any (same_address (address_in word)) (map address_in before) then word else link_again (word ∷ before) more
 
--- The wrong address in a line.
 abbrev pub wrong_address : List ℕ → List ℕ
 wrong_address line = if is_system_line line then not_one_address (after_first_of (words line)) else no_address (links_in line)
 
--- The wrong word in a line with this fault.
 abbrev pub wrong_word : LinkFault → List ℕ → List ℕ
 wrong_word (fault.UnknownWord number) line = unknown_word line
 wrong_word (fault.BadAddress number) line = wrong_address line
@@ -48,7 +44,6 @@ wrong_word (fault.BadTag number) line = first_of (after_first_of (words line))
 wrong_word (fault.NameTooLong number) line = name_in line
 wrong_word fault.Memory line = []
 
--- A line with this fault.
 abbrev pub faulty_line : LinkFault → List ℕ → FaultyLine
 faulty_line fault line = record { fault = fault; word = wrong_word fault line }
 
@@ -69,7 +64,6 @@ faulty_among earlier number [] = []
 faulty_among earlier number (line ∷ later) =
     reported_with (line_fault earlier number line) line (faulty_among (good_with (line_fault earlier number line) line earlier) (number + 1) later)
 
--- The faulty lines of a link file.
 unfoldable pub faulty_lines : List ℕ → List FaultyLine
 faulty_lines bytes = faulty_among [] 1 (file_lines bytes)
 

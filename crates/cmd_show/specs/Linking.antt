@@ -4,7 +4,6 @@ use Rattle.echo_links.specs.LinkLines.{file_fault}
 use Rattle.cmd_status.specs.{Devices.Output, declared.fault.Fault.Fault, declared.status.Status.Status, declared.status.Status.TheVariants.Good, declared.status.Status.TheVariants.Refused, Ended.Answers}
 use Rattle.cmd_show.specs.{declared.linking.NamedFile.NamedFile, LinksShown.files_text}
 
--- Whether a link file has no fault.
 abbrev pub is_good_file : NamedFile → Bool
 is_good_file file = is_none (file_fault file.bytes)
 

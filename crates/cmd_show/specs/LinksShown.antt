@@ -7,11 +7,9 @@ use Rattle.echo_links.specs.{declared.fault.LinkFault.LinkFault, Links.Area, Lin
 use Rattle.echo_links.specs.declared.fault.LinkFault.TheVariants as fault
 use Rattle.cmd_show.specs.{declared.faulty.FaultyLine.FaultyLine, FaultyLines.faults_of, declared.linking.NamedFile.NamedFile}
 
--- The number of links of an area.
 abbrev pub area_links : LinkFile → Area → ℕ
 area_links file area = length (links_of file area.tag)
 
--- The number of links of all areas together.
 abbrev pub all_links : LinkFile → ℕ
 all_links file = sum (map (area_links file) file.areas)
 
@@ -21,16 +19,13 @@ good_line path file =
     printed_word path
     ++ (codes ": " ++ (address_text file.system ++ (codes " " ++ (decimal (length file.areas) ++ (codes " areas " ++ (decimal (all_links file) ++ codes " links\n"))))))
 
--- The line of an area of the file.
 abbrev pub area_line : List ℕ → LinkFile → Area → List ℕ
 area_line path file area =
     printed_word path ++ (codes ": area " ++ (area.tag ++ (codes " " ++ (decimal (area_links file area) ++ codes " links\n"))))
 
--- The lines of all areas, if they are requested.
 abbrev pub areas_text : Bool → List ℕ → LinkFile → List ℕ
 areas_text areas path file = if areas then flat_map (area_line path file) file.areas else []
 
--- The code and the name of a fault.
 abbrev pub fault_code : LinkFault → List ℕ
 fault_code (fault.UnknownWord number) = codes "L1 UnknownWord"
 fault_code (fault.BadAddress number) = codes "L2 BadAddress"
@@ -42,7 +37,6 @@ fault_code (fault.BadTag number) = codes "L7 BadTag"
 fault_code (fault.NameTooLong number) = codes "L8 NameTooLong"
 fault_code fault.Memory = codes "L9 Memory"
 
--- The number of the faulty line.
 abbrev pub fault_number : LinkFault → ℕ
 fault_number (fault.UnknownWord number) = number
 fault_number (fault.BadAddress number) = number
@@ -54,7 +48,6 @@ fault_number (fault.BadTag number) = number
 fault_number (fault.NameTooLong number) = number
 fault_number fault.Memory = 0
 
--- A word between single quotes.
 abbrev pub in_quotes : List ℕ → List ℕ
 in_quotes word = codes "'" ++ (word ++ codes "'")
 
@@ -63,7 +56,6 @@ abbrev pub faulty_text : List ℕ → FaultyLine → List ℕ
 faulty_text path line =
     printed_word path ++ (codes ":" ++ (decimal (fault_number line.fault) ++ (codes ": " ++ escaped_line (fault_code line.fault) (in_quotes line.word))))
 
--- The lines of a file with this path and these bytes.
 abbrev pub judged_text : Bool → List ℕ → List ℕ → Option LinkFault → List ℕ
 judged_text areas path bytes None = good_line path (file_of bytes) ++ areas_text areas path (file_of bytes)
 judged_text areas path bytes (Some why) = flat_map (faulty_text path) (faults_of bytes)
@@ -71,6 +63,5 @@ judged_text areas path bytes (Some why) = flat_map (faulty_text path) (faults_of
 abbrev pub file_text : Bool → NamedFile → List ℕ
 file_text areas file = judged_text areas file.path file.bytes (file_fault file.bytes)
 
--- The lines of all files.
 abbrev pub files_text : Bool → List NamedFile → List ℕ
 files_text areas files = flat_map (file_text areas) files

@@ -16,6 +16,5 @@ pub record IsBaseListed (form : ListForm) (area : Option (List ℕ)) (first : �
   pub given : IsBaseGiven (Some file) base.messages base.cursor
   pub listed : IsListed form area first base lines status
 
--- The right result if a base file is to be listed.
 abbrev pub ListAnswers : ListForm → Option (List ℕ) → ℕ → List ℕ → Output → Output → Result Status Fault → Type 0
 ListAnswers form area first file old new answer = AnswersInPieces (IsBaseListed form area first file) (IsBaseFault (Some file)) old new answer

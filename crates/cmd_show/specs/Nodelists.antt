@@ -23,6 +23,5 @@ pub record IsFaulty (input : List ℕ) (fault : Fault) : Type 0 where
   pub is : fault ≡ Nodelist why
   pub of_lines : NodelistFaultOf input why
 
--- The right result if a nodelist is to be printed.
 abbrev pub NodelistAnswers : Option Address → List ℕ → Output → Output → Result Status Fault → Type 0
 NodelistAnswers find input old new answer = AnswersInPieces (IsListed find input) (IsFaulty input) old new answer

@@ -11,7 +11,6 @@ use Rattle.cmd_show.specs.Written.{AddsLines, BeginsLines, BeginsMore, WritesLin
 abbrev pub is_layout : ℕ → Bool
 is_layout b = b == 32 || b == 9 || b == 10 || b == 13
 
--- The digits of hexadecimal text.
 abbrev pub hex_text : List ℕ → List ℕ
 hex_text input = filter (λ b. not (is_layout b)) input
 
@@ -90,17 +89,14 @@ PacketStops full bytes old new fault =
     (CannotPrint old.failures new.failures fault × BeginsLines (SomeShown full bytes) old.contents new.contents)
     ⊎ (WritesLines (λ lines. IsCutShort full bytes lines fault) old.contents new.contents × PassesAll old new)
 
--- The right result if the bytes of a packet are to be printed.
 abbrev pub PacketAnswers : Bool → List ℕ → Output → Output → Result Status Fault → Type 0
 PacketAnswers full bytes old new (Ok status) = (status ≡ Good) × WritesLines (AllShown full bytes) old.contents new.contents × PassesAll old new
 PacketAnswers full bytes old new (Err fault) = PacketStops full bytes old new fault
 
--- The right result if hexadecimal text is to be decoded.
 abbrev pub DecodeAnswers : List ℕ → Result (Vec ℕ Global) Fault → Type 0
 DecodeAnswers input (Ok bytes) = decode_of (hex_text input) ≡ Ok bytes.items
 DecodeAnswers input (Err fault) = (fault ≡ OutOfMemory) ⊎ ((fault ≡ BadHex) × IsErr (decode_of (hex_text input)))
 
--- The digits are refused.
 pub record IsBadHex (hex : Bool) (input : List ℕ) (fault : Fault) : Type 0 where
   pub is : fault ≡ BadHex
   pub asked : hex ≡ true

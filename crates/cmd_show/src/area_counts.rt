@@ -28,9 +28,8 @@ pub struct AreaCounts {
     pub purged: u64,
 }
 
-/// `list --areas BASE`: prints for each area with messages how many it has, how many of them wait and how many are
-/// purged, ascending by tag. Then it prints what `list` prints last. It goes once through the messages. Of a faulty
-/// base nothing is printed.
+/// `list --areas BASE`: prints each area with messages, ascending by tag: how many it has, how many wait, how many are
+/// purged. Then it prints what `list` prints last. Of a faulty base nothing is printed.
 pub fn list_areas<'a, S: BuildHasher + Drop, W: Sink>(
     alloc: Global,
     base: &[u8],
@@ -83,7 +82,6 @@ fn count_areas<'a, M: MessageSource>(
     Ok(counts)
 }
 
-// Counts the message of this number, if there is one.
 fn note_message(
     alloc: Global,
     counts: &mut BTreeMap<Vec<u8>, AreaCounts>,
@@ -116,7 +114,6 @@ fn tag_of(message: &Filed) -> &[u8]
     message.echo.tag.as_slice()
 }
 
-// The counts of an area so far.
 fn counts_of(counts: &BTreeMap<Vec<u8>, AreaCounts>, tag: &[u8]) -> AreaCounts
     ensures { result ≡ counts_of (λ key. key.items) counts.now.entries tag.now }
 {
@@ -156,7 +153,6 @@ fn counted_more(counts: AreaCounts, state: State) -> AreaCounts
     }
 }
 
-// Prints a line for each entry, and the last line of a base of so many messages, of which so many wait.
 fn print_areas<'a, W: Sink>(
     alloc: Global,
     counts: BTreeMap<Vec<u8>, AreaCounts>,
@@ -172,7 +168,6 @@ fn print_areas<'a, W: Sink>(
     Ok(Status::Good)
 }
 
-// Adds the lines.
 fn push_areas(
     lines: &mut Vec<u8>,
     counts: BTreeMap<Vec<u8>, AreaCounts>,
@@ -185,7 +180,6 @@ fn push_areas(
     push_base_total(lines, messages, waiting)
 }
 
-// Adds a line for each entry.
 fn push_counts(lines: &mut Vec<u8>, counts: BTreeMap<Vec<u8>, AreaCounts>) -> Result<(), AllocError>
     ensures { OnOk result (lines.new.items ≡ lines.old.items ++ flat_map (λ e. area_line e.0.items e.1) counts.entries) }
 {
@@ -196,7 +190,6 @@ fn push_counts(lines: &mut Vec<u8>, counts: BTreeMap<Vec<u8>, AreaCounts>) -> Re
     Ok(())
 }
 
-// Adds the line of an area.
 fn push_area(lines: &mut Vec<u8>, tag: &[u8], counted: AreaCounts) -> Result<(), AllocError>
     ensures { OnOk result (lines.new.items ≡ lines.old.items ++ area_line tag.now counted) }
 {

@@ -14,7 +14,6 @@ use echo_text::{is_tag, trimmed};
 use std::alloc::{AllocError, Global};
 use std::marker::Model;
 
-/// The first words of lines.
 const SYSTEM: &[u8] = b"SYSTEM";
 
 const NAME: &[u8] = b"NAME";
@@ -41,7 +40,6 @@ impl Model for Before {
 }
 
 impl Before {
-    // Judges the line of this number, and keeps its parts if it is good.
     fn take<'a>(
         &mut self,
         alloc: Global,
@@ -72,7 +70,6 @@ impl Before {
         }
     }
 
-    // Judges a SYSTEM line; `rest` comes after that word.
     fn take_system<'a>(
         &mut self,
         number: u64,
@@ -93,7 +90,6 @@ impl Before {
         None
     }
 
-    // Judges a NAME line; `rest` comes after that word.
     fn take_name<'a>(
         &mut self,
         number: u64,
@@ -115,7 +111,6 @@ impl Before {
         None
     }
 
-    // Judges an AREA line; `rest` comes after that word.
     fn take_area<'a>(
         &mut self,
         alloc: Global,
@@ -167,7 +162,6 @@ pub(crate) fn faulty_lines(alloc: Global, bytes: &[u8]) -> Result<Vec<FaultyLine
     Ok(found)
 }
 
-// Adds the faulty line that was found, where one was.
 fn tell(
     alloc: Global,
     found: &mut Vec<FaultyLine>,

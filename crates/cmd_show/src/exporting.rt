@@ -1,4 +1,3 @@
-//! The command `export`: the messages of a base for other programs.
 ghost use Rattle.std.specs.Prelude.{◌≡◌, ◌<◌, ◌^◌, ◌++◌, IfErr, IfOk, OnOk, OnErr, length, option_copied};
 ghost use Rattle.base_file.specs.Base as model;
 ghost use Rattle.cmd_status.specs.{Devices.output_of, Ended.Stops, Lines.PassesOn, Lines.WritesFront};
@@ -35,9 +34,8 @@ struct ExportFilter {
     purged: bool,
 }
 
-/// `export [--area TAG] [--from I] [--purged] [--mbox | --json] BASE`: prints the messages that are asked for in a form.
-/// It returns how many U+FFFD were printed for characters that the charset of a message lacks. Of a faulty base it
-/// prints nothing.
+/// `export [--area TAG] [--from I] [--purged] [--mbox | --json] BASE`: prints the messages asked for, none of a faulty
+/// base. Returns how many U+FFFD were printed for characters that the charset of a message lacks.
 pub fn export<'a, S: BuildHasher + Drop, W: Sink>(
     alloc: Global,
     asked: &ExportQuery<'_>,
@@ -51,8 +49,7 @@ pub fn export<'a, S: BuildHasher + Drop, W: Sink>(
     export_messages(alloc, asked, "", &mut messages, out)
 }
 
-/// Exports messages that are read one by one, of the base with this path. A fault of a message ends it where it
-/// comes: `look` of a base folder finds it before.
+/// Exports messages that are read one by one. A fault of a message ends it there; `look` of a folder finds it before.
 pub fn export_messages<'a, M: MessageSource, W: Sink>(
     alloc: Global,
     asked: &ExportQuery<'_>,
@@ -88,7 +85,6 @@ pub fn tell_lost<E: Sink>(alloc: Global, count: u128, errors: &mut E)
     }
 }
 
-// Adds the line that reports it.
 fn push_lost(line: &mut Vec<u8>, count: u128) -> Result<(), AllocError>
     ensures { OnOk result (line.new.items ≡ line.old.items ++ lost_line count) }
 {
@@ -98,8 +94,6 @@ fn push_lost(line: &mut Vec<u8>, count: u128) -> Result<(), AllocError>
     written(writeln!(line, "echonet: {count} characters replaced by U+FFFD"))
 }
 
-// Prints the messages that are asked for, and counts the U+FFFD in them; the last ones stay in
-// `lines`.
 fn print_sought<'a, M: MessageSource, W: Sink>(
     alloc: Global,
     sought: &ExportFilter,
@@ -130,7 +124,6 @@ fn print_sought<'a, M: MessageSource, W: Sink>(
     Ok(lost)
 }
 
-// Prints the message of this number, if it is asked for, and counts the U+FFFD in it.
 fn print_one<'a, W: Sink>(
     alloc: Global,
     sought: &ExportFilter,

@@ -1,4 +1,3 @@
-//! A link file judged as a whole.
 ghost use Rattle.std.specs.Prelude.{◌≡◌, false, IfOk, Some};
 ghost use Rattle.cmd_show.specs.{FaultyLines.is_homeless, FaultyLines.reported_lines, Judging.IsJudged, Judging.is_memory};
 
@@ -11,14 +10,12 @@ use std::alloc::{AllocError, Global};
 /// A link file, or its faults.
 #[derive(Debug, Drop)]
 pub enum Judged {
-    /// The parts of the file.
     Good(LinkFile),
     /// Its faulty lines in order. If each line is good but no line has the own address, that alone.
     Faulty(Items<FaultyLine>),
 }
 
-/// Judges the bytes: a link file, or all of its faults. Each line is judged by the good lines before it. Fails
-/// only when out of memory.
+/// A link file, or all of its faults; each line is judged by the good lines before it. Fails only when out of memory.
 pub fn judge(alloc: Global, bytes: &[u8]) -> Result<Judged, AllocError>
     ensures { IfOk result (IsJudged bytes.now) }
 {

@@ -6,9 +6,8 @@ ghost use Rattle.echo_packet.specs.{declared.header.Header.Header, Message.Messa
 ghost use Rattle.cmd_show.specs.Showing.{ShowAnswers, IsShown};
 ghost use Rattle.cmd_print.specs.Shown.{Shown};
 
-/// A packet has one printing, and an input has one: where `show` ends well, what it wrote is known from
-/// its input alone. So has it one answer, the status of a fault among them, unless standard output
-/// failed or there was no memory.
+/// A packet has one printing: after a good end of `show`, its output follows from its input alone. So does its answer,
+/// unless standard output failed or memory ran out.
 pub fn one_printing()
     ensures lines { (full : Bool) (h : Header) (ms : List Message) (n : ℕ) (a b : List ℕ) → Shown full h ms n a → Shown full h ms n b → a ≡ b }
     ensures input { (full hex : Bool) (input old : List ℕ) (new other : Option (List ℕ)) → IsShown full hex input (Some old) new → IsShown full hex input (Some old) other → new ≡ other }

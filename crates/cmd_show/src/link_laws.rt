@@ -3,8 +3,7 @@ ghost use Rattle.std.specs.Prelude.{◌≡◌, ℕ, List, option_map, slice_get}
 ghost use Rattle.echo_links.specs.LinkLines.{file_fault};
 ghost use Rattle.cmd_show.specs.FaultyLines.{faults_of};
 
-/// The first reported fault of a link file is the one that a reader of link files names. A file
-/// without fault has no report.
+/// The first reported fault of a link file is the one that its reader names. Without fault nothing is reported.
 pub fn first_fault_is_reported_first()
     ensures { (bytes : List ℕ) → option_map (λ line. line.fault) (slice_get (faults_of bytes) 0) ≡ file_fault bytes }
 {}

@@ -17,9 +17,8 @@ pub struct NamedFile {
     pub bytes: Items<u8>,
 }
 
-/// `links [--areas] LINKS...`: prints of each link file its system and how many areas and links it has. With `areas` it
-/// prints how many links each of its areas has. Of a faulty file it prints each faulty line. The status is that of
-/// refused input if a file has a fault.
+/// `links [--areas] LINKS...`: prints each file's system and its counts of areas and links, with `areas` the links of
+/// each area too; or each faulty line. The status is that of refused input if a file has a fault.
 pub fn links<'a, W: Sink>(
     alloc: Global,
     areas: bool,
@@ -34,7 +33,6 @@ pub fn links<'a, W: Sink>(
     Ok(status_of_files(good))
 }
 
-// Adds the lines of the files, and answers whether each is good.
 fn push_files(
     alloc: Global,
     lines: &mut Vec<u8>,
@@ -52,7 +50,6 @@ fn push_files(
     Ok(good)
 }
 
-// Adds the lines of a file, and answers whether it is good.
 fn push_file(
     alloc: Global,
     lines: &mut Vec<u8>,
@@ -75,7 +72,6 @@ fn push_file(
     }
 }
 
-// The status, by whether each file is good.
 fn status_of_files(good: bool) -> Status
     ensures { result ≡ links_status good }
 {

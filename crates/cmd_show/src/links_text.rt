@@ -11,8 +11,6 @@ use echo_links::{LinkFault, LinkFile};
 use std::alloc::{AllocError, Global};
 use std::io::Write;
 
-/// Adds the lines of a link file without fault: its path, its system, and how many areas and links it has;
-/// and, where they are asked for, a line for each of its areas.
 pub(crate) fn push_good(
     lines: &mut Vec<u8>,
     areas: bool,
@@ -30,7 +28,6 @@ pub(crate) fn push_good(
     }
 }
 
-// Adds the system, and how many areas and links there are.
 fn push_counts(
     lines: &mut Vec<u8>,
     system: Address,
@@ -42,7 +39,6 @@ fn push_counts(
     written(writeln!(lines, ": {system} {areas} areas {links} links"))
 }
 
-// How many links the areas have together.
 fn count_links(file: &LinkFile) -> u128
     ensures { result ≡ all_links file.now }
 {
@@ -53,7 +49,6 @@ fn count_links(file: &LinkFile) -> u128
     total
 }
 
-// How many links the area of this number has.
 fn count_area(file: &LinkFile, k: usize) -> u64
     ensures { (area : Area) → slice_get file.now.areas k ≡ Some area → result ≡ area_links file.now area }
 {
@@ -66,7 +61,6 @@ fn count_area(file: &LinkFile, k: usize) -> u64
     }
 }
 
-// Adds the line of each area.
 fn push_areas(lines: &mut Vec<u8>, path: &[u8], file: &LinkFile) -> Result<(), AllocError>
     ensures { OnOk result (lines.new.items ≡ lines.old.items ++ flat_map (area_line path.now file.now) file.now.areas) }
 {
@@ -76,7 +70,6 @@ fn push_areas(lines: &mut Vec<u8>, path: &[u8], file: &LinkFile) -> Result<(), A
     Ok(())
 }
 
-// Adds the line of the area of this number.
 fn push_area(lines: &mut Vec<u8>, path: &[u8], file: &LinkFile, k: usize) -> Result<(), AllocError>
     ensures { OnOk result ((area : Area) → slice_get file.now.areas k ≡ Some area → lines.new.items ≡ lines.old.items ++ area_line path.now file.now area) }
 {
@@ -90,7 +83,6 @@ fn push_area(lines: &mut Vec<u8>, path: &[u8], file: &LinkFile, k: usize) -> Res
     written(writeln!(lines, " {links} links"))
 }
 
-/// Adds a line for each faulty line of a link file.
 pub(crate) fn push_faults(
     alloc: Global,
     lines: &mut Vec<u8>,
@@ -105,7 +97,6 @@ pub(crate) fn push_faults(
     Ok(())
 }
 
-// Adds the line of a faulty line.
 fn push_fault(
     alloc: Global,
     lines: &mut Vec<u8>,
@@ -120,7 +111,6 @@ fn push_fault(
     push_escaped(lines, fault_code(line.fault), &word)
 }
 
-/// Adds the number of a line.
 pub fn push_number(lines: &mut Vec<u8>, number: u64) -> Result<(), AllocError>
     ensures { OnOk result (lines.new.items ≡ lines.old.items ++ (codes ":" ++ (decimal number ++ codes ": "))) }
 {
@@ -153,7 +143,6 @@ fn fault_code(fault: LinkFault) -> &'static [u8]
     }
 }
 
-/// The number of the faulty line.
 pub fn fault_number(fault: LinkFault) -> u64
     ensures { result ≡ fault_number fault }
 {

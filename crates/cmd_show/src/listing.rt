@@ -1,4 +1,3 @@
-//! The command `list`: the messages of a base.
 ghost use Rattle.std.specs.Prelude.{◌≡◌, ◌++◌, IfErr, IfOk, OnOk, OnErr, length, option_copied, option_map};
 ghost use Rattle.base_file.specs.Base as model;
 ghost use Rattle.cmd_status.specs.{Devices.output_of, Ended.Stops, Lines.PassesOn, Lines.WritesFront};
@@ -30,9 +29,8 @@ struct ListFilter {
     first: u64,
 }
 
-/// `list [--short] [--area TAG] [--from I] BASE`: prints the messages of a base in a form, from the number `first` on.
-/// With an area it prints those of the area. Then it prints how many the base has and how many of them wait. Of a
-/// faulty base nothing is printed.
+/// `list [--short] [--area TAG] [--from I] BASE`: prints the messages from the number `first` on, of the area if one
+/// is given. Then it prints how many the base has, and how many wait. Of a faulty base nothing is printed.
 pub fn list<'a, S: BuildHasher + Drop, W: Sink>(
     alloc: Global,
     asked: &ListQuery<'_>,
@@ -46,8 +44,8 @@ pub fn list<'a, S: BuildHasher + Drop, W: Sink>(
     list_messages(alloc, asked, "", &mut messages, out)
 }
 
-/// Lists messages that are read one by one, of the base with this path. A fault of a message ends it where it
-/// comes: `look` of a base folder finds it before.
+/// Lists messages that are read one by one. A fault of a message ends it there; `look` of a base folder finds it
+/// before.
 pub fn list_messages<'a, M: MessageSource, W: Sink>(
     alloc: Global,
     asked: &ListQuery<'_>,
@@ -75,7 +73,6 @@ pub fn list_messages<'a, M: MessageSource, W: Sink>(
     Ok(Status::Good)
 }
 
-/// The tag in capital letters, if one is given.
 pub(crate) fn upper_tag(alloc: Global, area: Option<&[u8]>) -> Result<Option<Items<u8>>, AllocError>
     ensures { IfOk result (λ upper_tag. upper_tag ≡ option_map upper (option_copied area.entry)) }
 {
@@ -85,7 +82,6 @@ pub(crate) fn upper_tag(alloc: Global, area: Option<&[u8]>) -> Result<Option<Ite
     }
 }
 
-// Prints the lines of the messages that are asked for; the last ones stay in `lines`.
 fn print_messages<'a, M: MessageSource, W: Sink>(
     asked: &ListFilter,
     path: &'a str,
@@ -111,7 +107,6 @@ fn print_messages<'a, M: MessageSource, W: Sink>(
     Ok(())
 }
 
-// Prints the lines of the message of this number, if it is asked for, behind those that were kept back.
 fn print_message<'a, W: Sink>(
     asked: &ListFilter,
     cursor: usize,

@@ -28,7 +28,6 @@ pub fn nodelist<'a, W: Sink>(
     Ok(status_of(stated))
 }
 
-// The status that the checksum asks for.
 fn status_of(line: CrcLine) -> Status
     ensures { result ≡ crc_status line }
 {
@@ -38,7 +37,6 @@ fn status_of(line: CrcLine) -> Status
     }
 }
 
-// Prints the lines, of which the last ones stay in `lines`.
 fn print_list<'a, W: Sink>(
     find: Option<Address>,
     list: &Nodelist,
@@ -57,7 +55,7 @@ fn print_list<'a, W: Sink>(
     }
 }
 
-// Prints the line of an entry. A Note has no address.
+// A Note has no address.
 fn print_entry<'a, W: Sink>(
     address: Option<Address>,
     line: &Line,
@@ -76,7 +74,6 @@ fn print_entry<'a, W: Sink>(
     pass_on(lines, out)
 }
 
-// Prints a line for each entry, and how many there are.
 fn print_entries<'a, W: Sink>(
     list: &Nodelist,
     lines: &mut Vec<u8>,

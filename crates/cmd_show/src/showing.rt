@@ -13,9 +13,8 @@ use echo_text::{TextFault, view_text};
 use hex::FromHexError;
 use std::alloc::{AllocError, Global};
 
-/// `show [--hex] [--text] PACKET`: prints the packet at the front of the input, which with `hex` is written in
-/// hexadecimal digits, blanks and line ends left out; with `full` the lines of each text, too. The lines of the header
-/// and of each message before a fault are printed, also out of memory, and then the fault is answered.
+/// `show [--hex] [--text] PACKET`: prints the packet at the front of the input, with `full` the lines of each text
+/// too. With `hex` the input is hexadecimal text. The lines before a fault are printed, also out of memory.
 pub fn show<'a, W: Sink>(
     alloc: Global,
     hex: bool,
@@ -33,7 +32,6 @@ pub fn show<'a, W: Sink>(
     }
 }
 
-// The bytes that hexadecimal text encodes.
 fn decode<'a>(alloc: Global, input: &[u8]) -> Result<Vec<u8>, Fault<'a>>
     ensures { DecodeAnswers input.now result }
 {
@@ -49,7 +47,6 @@ fn decode<'a>(alloc: Global, input: &[u8]) -> Result<Vec<u8>, Fault<'a>>
     }
 }
 
-// Prints the lines of the packet; those before a fault too.
 fn show_bytes<'a, W: Sink>(
     alloc: Global,
     full: bool,
@@ -64,7 +61,6 @@ fn show_bytes<'a, W: Sink>(
     answer
 }
 
-// Prints the lines of the packet, of which the last ones stay in `lines`.
 fn show_packet<'a, W: Sink>(
     alloc: Global,
     full: bool,
@@ -102,7 +98,7 @@ fn show_opened<'a, W: Sink>(
     Ok(Status::Good)
 }
 
-// Adds the lines of the header. They are made by themselves first, so that out of memory adds no line.
+// They are made by themselves first, so that out of memory adds no line.
 fn add_header(alloc: Global, lines: &mut Vec<u8>, header: &Header) -> Result<(), AllocError>
     ensures lines { OnOk result (lines.new.items ≡ lines.old.items ++ header_lines header.now) }
     ensures kept { OnErr result (lines.new.items ≡ lines.old.items) }
@@ -113,7 +109,6 @@ fn add_header(alloc: Global, lines: &mut Vec<u8>, header: &Header) -> Result<(),
     Ok(())
 }
 
-// Adds the line of the end, or nothing.
 fn add_end(alloc: Global, lines: &mut Vec<u8>, messages: u64, bytes: u64) -> Result<(), AllocError>
     ensures lines { OnOk result (lines.new.items ≡ lines.old.items ++ end_line messages bytes) }
     ensures kept { OnErr result (lines.new.items ≡ lines.old.items) }
@@ -124,7 +119,6 @@ fn add_end(alloc: Global, lines: &mut Vec<u8>, messages: u64, bytes: u64) -> Res
     Ok(())
 }
 
-// Prints the lines of a message; the last ones stay in `lines`. Out of memory adds no line.
 fn pass_message<'a, W: Sink>(
     alloc: Global,
     full: bool,
@@ -142,7 +136,6 @@ fn pass_message<'a, W: Sink>(
     pass_on(lines, out)
 }
 
-// Adds the lines of a message, with what its text says.
 fn push_message<'a>(
     alloc: Global,
     full: bool,
@@ -160,7 +153,6 @@ fn push_message<'a>(
     push_said(alloc, lines, text)
 }
 
-// Adds what the text says as echomail, or why it is none.
 fn push_said<'a>(alloc: Global, lines: &mut Vec<u8>, text: &[u8]) -> Result<(), Fault<'a>>
     requires { HasNoZero text.now }
     ensures lines { OnOk result (Pushes (TextShown text.now) lines.old.items lines.new.items) }

@@ -1,4 +1,3 @@
-//! The tags of the areas before a line.
 ghost use Rattle.std.specs.{Prelude.◌≡◌, Prelude.[], Prelude.OnOk, Prelude.bytes_eq, List.list_any};
 ghost use Rattle.cmd_show.specs.Before.{HasTagAdded};
 

@@ -1,4 +1,3 @@
-//! The word that is wrong in a line.
 ghost use Rattle.std.specs.Prelude.{◌≡◌, [], true, false, IfOk, MatchOption};
 ghost use Rattle.echo_addr.specs.Entries.{tokens};
 ghost use Rattle.echo_links.specs.{LinkLines.is_one_address, LinkLines.links_fault, LinkReading.IsWordOf};
@@ -50,8 +49,7 @@ pub(crate) fn wrong_system_word(rest: &[u8]) -> Option<&[u8]>
     Some(second)
 }
 
-/// The first fault of the links of an AREA line, read from the bytes after its tag. `number` is the
-/// line's.
+/// The first fault of an AREA line's links, read from the bytes after its tag.
 pub(crate) fn wrong_link<'a>(
     alloc: Global,
     number: u64,

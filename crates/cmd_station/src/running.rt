@@ -8,11 +8,12 @@ use crate::opened::Opened;
 use crate::place::Station;
 use base_file::BaseFault;
 use base_store::{SipDigest, StoreError};
-use cmd_input::{Messages, Progress, Tossing, look_into};
+use cmd_input::{MAX_TEXT_FILE, Messages, Progress, Tossing, look_into, read_file};
 use cmd_status::{Fault, FileLock};
 use cmd_store::{CommandError, StoreCommand};
 use disk_io::{Disk, Sink};
 use disk_system::{RealDisk, Unknown};
+use echo_links::LinkFile;
 use station::{BeforeCommand, Locks, Nothing, OpenStation, Unread, run_command};
 use station_bases::{FileStation, FolderPlace, FolderProbe, FolderStation};
 use std::collections::hash_map::RandomState;
@@ -212,8 +213,26 @@ pub(crate) fn fault_of<'a>(at: Station<'a>, stop: CommandError<'a>) -> Fault<'a>
             at.rt,
             at.place.base,
         ),
-        other => by_name(at, other.fault(at.place.base)),
+        other => first_of(at, by_name(at, other.fault(at.place.base))),
     }
+}
+
+// The fault of the link file, if there is one, in place of that of a base that cannot be used: it is locked before the
+// link file is read.
+fn first_of<'a>(at: Station<'a>, fault: Fault<'a>) -> Fault<'a> {
+    match fault {
+        Fault::CannotUse(path) if path == at.place.base => match judge_links(at) {
+            Ok(()) => fault,
+            Err(first) => first,
+        },
+        other => other,
+    }
+}
+
+fn judge_links<'a>(at: Station<'a>) -> Result<(), Fault<'a>> {
+    let bytes = read_file(at.rt, at.place.links, MAX_TEXT_FILE)?;
+    let _links = LinkFile::read(at.rt.alloc(), &bytes)?;
+    Ok(())
 }
 
 /// A fault of a station, with the base file as the operator named it.

@@ -12,7 +12,6 @@ one_more [] (f ∷ fs) bytes file are is = absurd are
 one_more (b ∷ bs) [] bytes file are is = absurd are
 one_more (b ∷ bs) (f ∷ fs) bytes file are is = (are.0, one_more bs fs bytes file are.1 is)
 
--- the next input is a link file too
 pub read_more : (inputs : List (List ℕ)) (i : ℕ) (bytes : List ℕ) (files : List LinkFile) (file : LinkFile) → i < length inputs → bytes ≡ get_or inputs i bytes
     → AreLinkFiles (take i inputs) files → (let read : Result LinkFile LinkFault = Ok file in read ≡ Err link.Memory) ⊎ LinksOf bytes (Ok file)
     → AreLinkFiles (take (i + 1) inputs) (files ++ file ∷ [])
@@ -27,7 +26,6 @@ cut_at inputs i bytes inside is =
     sym (take-append-drop i inputs)
     ∙ ap (λ t. take i inputs ++ t) (rw add-one (drop-cons inputs i bytes inside ∙ ap (λ b. b ∷ drop (suc i) inputs) (sym is)))
 
--- the next input is refused
 pub link_refused : (inputs : List (List ℕ)) (i : ℕ) (bytes : List ℕ) (files : List LinkFile) (why : LinkFault) → i < length inputs → bytes ≡ get_or inputs i bytes
     → AreLinkFiles (take i inputs) files → (let read : Result LinkFile LinkFault = Err why in read ≡ Err link.Memory) ⊎ LinksOf bytes (Err why)
     → IsOutOfMemory (Link why) ⊎ IsLinkFault inputs (Link why)

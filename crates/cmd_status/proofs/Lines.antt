@@ -1,4 +1,3 @@
--- Lines on their way to standard output.
 use Rattle.std.proofs.Common.{◌≡◌, ℕ, ◌+◌, ◌<◌, List, [], ◌∷◌, ◌++◌, Option, Some, length, take, drop, refl, sym, ap, subst, ◌∙◌, arith, append_assoc, append-nil, inl, inr}
 use Rattle.std.proofs.{lemmas.Grind.flat_map-append, lemmas.List.take-append-drop, lemmas.List.take_more, lemmas.Option.slice_get_cases, KnownBytes.Appends-nil, KnownBytes.Appends-trans}
 use Rattle.std.specs.{List.flat_map, Prelude.slice_get, Io.KnownBytes.Appends}
@@ -79,7 +78,6 @@ no_front (x ∷ went) rest is = absurd cc
 pub nothing_begun : (a b : Option (List ℕ)) → WritesFront [] a b → Appends a b []
 nothing_begun a b begun = subst (Appends a b) (no_front begun.passed.went begun.rest begun.passed.whole) begun.passed.written
 
--- the lines of one more item
 pub flat_more : {X : Type 0} (f : X → List ℕ) (xs : List X) (k : ℕ) (first old new : List ℕ) → k < length xs → ((x : X) → slice_get xs k ≡ Some x → new ≡ old ++ f x)
     → old ≡ first ++ flat_map f (take k xs) → new ≡ first ++ flat_map f (take (k + 1) xs)
 flat_more f xs k first old new inside added so = elim (slice_get_cases xs k).1 [

@@ -6,7 +6,6 @@ pub record Device : Type 0 where
   pub contents : Option (List ℕ)
   pub failures : ℕ
 
--- The state of this reader.
 abbrev pub device_of : {D : Type 0} → (D → Option (List ℕ)) → (D → ℕ) → D → Device
 device_of contents failures d = record { contents = contents d; failures = failures d }
 
@@ -16,6 +15,5 @@ pub record Output : Type 0 where
   pub failures : ℕ
   pub holds : Bool
 
--- The state of this writer.
 abbrev pub output_of : {D : Type 0} → (D → Option (List ℕ)) → (D → ℕ) → (D → Bool) → D → Output
 output_of contents failures holds d = record { contents = contents d; failures = failures d; holds = holds d }

@@ -12,7 +12,6 @@ use Rattle.echo_text.specs.declared.fault.TextFault.TheVariants as text
 use Rattle.cmd_status.specs.declared.fault.Fault.TheVariants.{Base, CannotUse, Link, Nodelist, OutOfMemory, Packet, Post, Scan, Text, TossMemory}
 use Rattle.cmd_status.specs.{declared.fault.Fault.Fault, declared.status.Status.Status, Devices.Output, Lines.WritesFront, Status.status_of}
 
--- The status of an answer.
 abbrev pub status_at : Result Status Fault → Status
 status_at (Ok status) = status
 status_at (Err fault) = status_of fault
@@ -30,7 +29,6 @@ IsOutOfMemory TossMemory = Unit {0}
 IsOutOfMemory (Scan scan.Memory) = Unit {0}
 IsOutOfMemory _ = ⊥
 
--- The file with this path cannot be used.
 abbrev pub IsCannotUse : List ℕ → Fault → Type 0
 IsCannotUse path (CannotUse other) = other.now ≡ path
 IsCannotUse path _ = ⊥

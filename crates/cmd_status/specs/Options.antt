@@ -5,7 +5,6 @@ use Rattle.echo_addr.specs.Digits.{is_number}
 use Rattle.model_steps.specs.declared.stamp.Stamp.{Stamp}
 use Rattle.echo_text.specs.Ids.{is_hex_digit}
 
--- The number in the bytes from one index to another.
 abbrev pub number_between : List ℕ → ℕ → ℕ → ℕ
 number_between word from to = digits_value 10 (slice_range word from to)
 
@@ -13,7 +12,6 @@ number_between word from to = digits_value 10 (slice_range word from to)
 abbrev pub is_serial : List ℕ → Bool
 is_serial word = (length word == 8) && list_all is_hex_digit word
 
--- The number of the serial.
 abbrev pub serial_of_word : List ℕ → ℕ
 serial_of_word word = digits_value 16 word
 

@@ -64,7 +64,6 @@ abbrev pub scan_status : ScanFault → Status
 scan_status scan.Memory = Device
 scan_status _ = Refused
 
--- The status of a fault.
 abbrev pub status_of : Fault → Status
 status_of (fault.Packet f) = packet_status f
 status_of (fault.Text f) = text_status f

@@ -177,8 +177,7 @@ impl Fault<'_> {
         }
     }
 
-    /// Writes the fault's line, and answers the status. Where the line can't be written, the status
-    /// is still that of the fault.
+    /// Writes the fault's line and returns its status, which also holds if the line can't be written.
     pub fn report<E: Sink>(&self, errors: &mut E) -> Status
         ensures { result ≡ status_of self.now }
     {

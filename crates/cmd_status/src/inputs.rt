@@ -1,4 +1,3 @@
-//! The input files of a command.
 ghost use Rattle.std.specs.Prelude.{◌⊎◌, IfErr, IfOk, option_copied};
 ghost use Rattle.cmd_status.specs.{Ended.IsOutOfMemory, Inputs.AreLinkFiles, Inputs.IsLinkFault, Inputs.IsNodelistFault, Inputs.IsNodelistGiven};
 

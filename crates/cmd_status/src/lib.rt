@@ -1,13 +1,6 @@
-//! How a command of `echonet` ends: faults, statuses and printed lines. It also has the words of the command
-//! line, and reads link files and nodelists.
-//!
-//! Promise: a fault has one status. Exactly the printed lines are written, and none is held back. The answer
-//! says if standard output failed; then a beginning of the lines was written. A word or a file is refused
-//! exactly if it has the fault.
-//!
-//! Begin with `fault`, `status` and `shown` (a path in a fault). `printing` writes lines to standard output,
-//! `options` parses addresses, stamps, serials and numbers, `inputs` reads link files and a nodelist. `limits`
-//! bounds packets. What a program gives a command: `locked` (locks), `packet_names` (packet files) and `progress`.
+//! How a command of `echonet` ends: faults, statuses and printed lines. It also has the words of the command line, and
+//! reads link files and nodelists. A fault has one status. If standard output failed, the answer says so, and a
+//! beginning of the lines was written. Begin with `fault`, `status` and `printing`.
 #![tactic(auto)]
 
 mod fault;

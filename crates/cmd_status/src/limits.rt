@@ -1,4 +1,3 @@
-//! The limits of packets for commands.
 ghost use Rattle.std.specs.Prelude.{◌≡◌};
 ghost use Rattle.cmd_status.specs.Limits.{limits_for};
 

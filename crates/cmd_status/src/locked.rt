@@ -1,4 +1,3 @@
-//! The lock under which files are used.
 ghost use Rattle.std.specs.Prelude.{◌≡◌, ℕ, List, Option, Some, None, OnErr, OnOk};
 ghost use Rattle.disk_io.specs.Runs.{HasCause};
 

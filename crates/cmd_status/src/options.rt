@@ -103,7 +103,6 @@ fn stamp_in(word: &[u8]) -> Stamp
     }
 }
 
-// The number of a part of a stamp.
 #[tactic(auto, using(crate::proofs::Numerals::short_number))]
 fn part(digits: &[u8]) -> u16
     requires number { is_number digits.now ≡ true }
@@ -113,7 +112,6 @@ fn part(digits: &[u8]) -> u16
     number(10_000, digits).unwrap() as u16
 }
 
-// The number that at most eight digits to the base 16 write.
 fn serial_in(digits: &[u8]) -> Option<u32>
     requires { length digits.now ≤ 8 }
     ensures { MatchOption result (list_all is_hex_digit digits.now ≡ false) (λ n. (list_all is_hex_digit digits.now ≡ true) × (n ≡ serial_of_word digits.now)) }

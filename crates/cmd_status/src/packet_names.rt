@@ -1,4 +1,3 @@
-//! Packet files of `toss`, as the program opens them.
 ghost use Rattle.std.specs.Prelude.{◌≡◌, ℕ, Bool, true, false, List, IfErr, IfOk};
 ghost use Rattle.cmd_status.specs.Ended.{IsCannotUse};
 

@@ -8,7 +8,6 @@ use disk_io::{Sink, send};
 /// How many bytes are kept back at most before they are passed on.
 const PIECE: usize = 65_536;
 
-// Writes the lines and drops them.
 fn send_lines<'a, W: Sink>(lines: &mut Vec<u8>, out: &mut W) -> Result<(), Fault<'a>>
     ensures bytes { OnOk result (Appends (W.contents out.old) (W.contents out.new) lines.old.items) }
     ensures begun { OnErr result (WritesFront lines.old.items (W.contents out.old) (W.contents out.new)) }

@@ -1,5 +1,3 @@
-//! The progress of a command, for a terminal.
-
 /// Watches the progress of a command.
 pub trait MessageProgress {
     /// The command is at the message of this number, counted from 0, of so many.

@@ -1,5 +1,3 @@
-//! Paths in a fault line.
-
 use echo_charset::{are_shown, is_shown};
 use std::fmt;
 
@@ -25,7 +23,6 @@ impl fmt::Display for Shown<'_> {
     }
 }
 
-// Writes a character unchanged, the backslash twice.
 fn write_doubled<W: fmt::Write>(f: &mut fmt::Formatter<W>, character: char) -> fmt::Result {
     if character == '\\' {
         f.write_char('\\')?;
@@ -33,7 +30,6 @@ fn write_doubled<W: fmt::Write>(f: &mut fmt::Formatter<W>, character: char) -> f
     f.write_char(character)
 }
 
-// Writes the bytes of a character, each as `\x` and two digits.
 fn write_bytes<W: fmt::Write>(f: &mut fmt::Formatter<W>, character: char) -> fmt::Result {
     let mut bytes = [0; 4];
     'bytes: for byte in character.encode_utf8(&mut bytes).as_bytes() {

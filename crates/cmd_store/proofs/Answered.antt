@@ -11,7 +11,6 @@ use Rattle.echo_mail.specs.{Exported.exported_id, Exported.id_back, Exported.wri
 use Rattle.echo_mail.proofs.TurnedBack.{turned_back}
 use Rattle.cmd_store.specs.Letter.{answered_id, true_id}
 
--- the line without its end
 abbrev line_of : List ℕ → List ℕ
 line_of id = codes "Message-ID: " ++ written_id id
 

@@ -19,7 +19,6 @@ pub post_many : (P : Type 0) (A B : Type 0) (why : PostStepError) → (IsErrOf (
 post_many P A B (post.Refused refusal) gives is = gives is
 post_many P A B (post.Store cause) gives is = gives is
 
--- the uncommitted changes are too much for a commit
 pub full_after : {T : Type 0} (state : T → StoreState) (Adds : Base → Filed → Type 0) (old new : StoreState) (mid : T) → CommitsNothing old (state mid) → GoesOn old (state mid) → IsUncommitted (state mid) new → IsStoppedFull state Adds old new
 full_after state Adds old new mid commits on not = grind (arith, past_after, full_now, commits_none)
 

@@ -30,7 +30,6 @@ pub makes_then : (Makes : Base → Base → Type 0) (old mid new : StoreState) �
     → Honestly mid.disk ((base : Base) → old.keeps base → (next : Base) × Makes base next × mid.keeps next) → MayCommit mid new → MayMake Makes old new
 makes_then Makes old mid new none on made may = grind (arith, then_run, weaker_run, stood_made, kept_twice, same_twice)
 
--- a base that was made is committed
 pub committed_where : {A : Type 0} (IsMade : Base → Type 0) (mid new : StoreState) (next : Base) (result : Result A CommandError) → new.disk.is_honest → OnOk result (Commits mid new) → IsMade next → mid.keeps next
     → OnOk result (HasCommitted IsMade new)
 committed_where IsMade mid new next (Ok value) honest done made kept = record { next = next; made = made; keeps = done.keeps honest next kept; committed = done.committed honest next kept }
@@ -65,7 +64,6 @@ pub may_after : {A : Type 0} (old mid new : StoreState) (result : Result A Comma
     → IfErr result (LooksWhereMet mid new) → IfErr result (MayCommitWhereMet old new)
 may_after old mid new result h1 h2 h3 h4 = grind (arith, may_then_none, either_then)
 
--- why a later call failed
 pub caused_after : {T : Type 0} (old mid new : StoreState) (before between now : ℕ) (r : Result T StoreError) → before ≤ between
     → Honestly new.disk ((base : Base) → old.keeps base → (next : Base) × mid.keeps next) → HasStoreCause mid new between now r → HasStoreCause old new before now r
 caused_after old mid new before between now (Ok value) le holds cause = let passed = cause.later in no_cause old new before now value (omega (arith))

@@ -40,7 +40,6 @@ one_more_looked file old mid new first now then start serial steps tag draft sta
       (taken_where_known file base.messages tag draft start steps serial stamp fault.KnownSerial so.place (known honest base (so.looks.keeps base h)) refl);
 }
 
--- a message that is filed with the serial that was not taken
 pub filed_first : (file : LinkFile) (old mid new : StoreState) (first now serial steps : ℕ) (words : NewMessage) (draft : Draft) (base : Base) → HasLooked file old mid first now words.serial serial steps
     → mid.disk.is_honest → old.keeps base → post_refusal file base.messages words.tag.now draft serial words.stamp ≡ None → new.keeps (with_message base (posted file words.tag.now draft serial words.stamp))
     → FiledAs true file base words draft serial new
@@ -50,7 +49,6 @@ never_memory : (file : LinkFile) (base : List Filed) (tag : List ℕ) (draft : D
 never_memory file base tag draft serial stamp fault.Memory is memory = (refusal_first file base tag draft serial stamp fault.Memory).0 is
 never_memory file base tag draft serial stamp other is memory = absurd (cc)
 
--- a message that is refused whatever its serial
 pub refused_on : (file : LinkFile) (new : StoreState) (words : NewMessage) (draft : Draft) (serial : ℕ) (base : Base) (why : PostStepError)
     → IsPostStop file base.messages words.tag.now draft serial words.stamp why → (why ≡ post.Refused fault.KnownSerial → ⊥) → FilesAs true file base words draft (Err why) new
 refused_on file new words draft serial base (post.Refused why) is unless =
@@ -68,7 +66,6 @@ pub refused_known : (file : LinkFile) (base : List Filed) (tag : List ℕ) (draf
     → IsPostStop file base tag draft serial stamp why → post_refusal file base tag draft serial stamp ≡ Some fault.KnownSerial
 refused_known file base tag draft serial stamp why h1 h2 = grind arith
 
--- words with the serial that they are posted with, as the words are to be posted
 posts_as_on : {A : Type 0} (free : Bool) (words : NewMessage) (system : SystemState) (body : List ℕ) (old new : Output) (result : Result A CommandError) (serial : ℕ) → IsSerial free system.file system.base words.serial serial
     → PostsOn (with_serial words serial) system body old new result → PostsAsOn free words system body old new result
 posts_as_on true words system body old new result serial is posted = record { serial = serial; first = is; posted = posted }
@@ -88,7 +85,6 @@ as_memory free words system body old =
     let found = serial_of free system.file system.base words.serial in
     posts_as_on free words system body old old (Err (Met OutOfMemory)) found.0 found.1 (inr (inl tt, refl))
 
--- a posting that stopped
 pub as_stopped : (free : Bool) (words : NewMessage) (file : LinkFile) (base : Base) (new : StoreState) (body : List ℕ) (old : Output) (draft : Draft) (why : PostStepError) → draft ≡ draft_given words body
     → FilesAs free file base words draft (Err why) new → PostsAsOn {A = Unit {0}} free words (state_in file base) body old old (Err (post_stop why))
 as_stopped free words file base new body old draft (post.Refused why) drafted (serial, is, refused) =
@@ -98,13 +94,11 @@ as_stopped free words file base new body old draft (post.Store cause) drafted is
     let found = serial_of free file base.messages words.serial in
     posts_as_on free words (state_in file base) body old old (Err (post_stop (post.Store cause))) found.0 found.1 (inl refl)
 
--- the line of a posting is printed
 pub as_printed : {A : Type 0} (free : Bool) (words : NewMessage) (file : LinkFile) (base : Base) (new : StoreState) (body : List ℕ) (serial : ℕ) (before after : Output) (draft : Draft) (result : Result A CommandError) → draft ≡ draft_given words body
     → FiledAs free file base words draft serial new → PrintsAll (posted_line words.tag.now (id_of file.system serial)) before after result
     → PostsAsOn free words (state_in file base) body before after result
 as_printed free words file base new body serial before after draft result drafted filed out = grind (arith, posts_as_on, post_printed)
 
--- the base that the posting makes
 pub as_posts : (free : Bool) (file : LinkFile) (words : NewMessage) (body : List ℕ) (base : Base) (new : StoreState) (serial : ℕ) (draft : Draft) → draft ≡ draft_given words body
     → FiledAs free file base words draft serial new → PostsAs free file words body base (with_message base (posted file words.tag.now draft serial words.stamp))
 as_posts free file words body base new serial draft drafted filed =

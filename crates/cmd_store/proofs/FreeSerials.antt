@@ -8,7 +8,6 @@ use Rattle.model_steps.specs.declared.fault.PostFault.TheVariants as post
 use Rattle.model_steps.proofs.{FirstRefusals.refusal_first, Posted.allowed}
 use Rattle.cmd_store.specs.Serials.{IsFirstFree, is_taken, serial_after}
 
--- the serials of the first steps are in use
 abbrev pub AreTaken : LinkFile → List Filed → ℕ → ℕ → Type 0
 AreTaken file base start steps = (k : ℕ) → k < steps → is_taken file base (serial_after start k) ≡ true
 
@@ -56,7 +55,6 @@ any_serial file base tag draft serial other stamp post.BadStamp is unless =
 any_serial file base tag draft serial other stamp post.BadReply is unless =
     inr ((refusal_first file base tag draft other stamp post.BadReply).1 ((refusal_first file base tag draft serial stamp post.BadReply).0 is))
 
--- a refused posting, at the first serial that is free
 pub refused_first : (file : LinkFile) (base : List Filed) (tag : List ℕ) (draft : Draft) (start serial : ℕ) (stamp : Stamp) (why : PostFault)
     → IsPostFault file base tag draft serial stamp why → (why ≡ post.KnownSerial → ⊥)
     → (why ≡ post.Memory) ⊎ ((free : ℕ) × IsFirstFree file base start free × (post_refusal file base tag draft free stamp ≡ Some why))
@@ -73,7 +71,6 @@ free_where_allowed file base tag draft serial stamp may =
     let all = allowed file base tag draft serial stamp may in
     all.new
 
--- a serial that a refusal reports as known is in use
 pub taken_where_known : (file : LinkFile) (base : List Filed) (tag : List ℕ) (draft : Draft) (start steps serial : ℕ) (stamp : Stamp) (why : PostFault)
     → serial ≡ serial_after start steps → IsPostFault file base tag draft serial stamp why → why ≡ post.KnownSerial → is_taken file base (serial_after start steps) ≡ true
 taken_where_known file base tag draft start steps serial stamp why at is known =

@@ -17,7 +17,6 @@ pub said_area : (text : List ℕ) (e : EchoText) (dropped : ℕ) → EchoOf text
 said_area text e dropped h =
     sym (ap (λ r. said_unless r (echo_of text)) (says_accepted text e dropped h) ∙ ap area_said (says_one text e dropped h))
 
--- the notes on one message more
 pub notes_of-push : (file : LinkFile) (base : List FiledMessage) (sender : Address) (number start : ℕ) (ms : List Message) (m : Message)
     → notes_of file base sender number start (ms ++ m ∷ [])
     ≡ notes_of file base sender number start ms
@@ -41,7 +40,6 @@ notes_of-push file base sender number start (x ∷ ms) m =
     ∙ ap (λ n. (first ++ later) ++ last n (start + length (message_bytes x) + length (messages_bytes ms))) count
     ∙ ap (λ s. (first ++ later) ++ last (number + length (x ∷ ms)) s) size
 
--- messages were tossed and noted, no read failed, and there is room
 pub record HasNoted (limits : Limits) (sender : Address) (old : SystemState) (before left : Option (List ℕ)) (given at : ℕ) (tally : Tally) (new : SystemState) (text noted : List ℕ) (failed still : ℕ) (room : Type 0) : Type 0 where
   pub messages : List Message
   pub taken : HasTaken limits sender old before left messages given at tally new
@@ -49,7 +47,6 @@ pub record HasNoted (limits : Limits) (sender : Address) (old : SystemState) (be
   pub device : still ≡ failed
   pub free : room
 
--- the note on the next message
 pub one_more_noted : (limits : Limits) (sender : Address) (old mid : SystemState) (before left : Option (List ℕ)) (ms : List Message) (m : Message) (given at : ℕ) (tally : Tally) (answer : Outcome) (text noted more : List ℕ)
     → HasTaken limits sender old before left ms given at tally mid → noted ≡ text ++ notes_of old.file old.base sender 1 58 ms
     → answer ≡ toss_outcome mid.file mid.base sender m → more ≡ noted ++ note_of (given + 1) at answer m
@@ -69,7 +66,6 @@ one_more_noted limits sender old mid before left ms m given at tally answer text
     ∙ ap (λ o. text ++ (before_it ++ last (1 + length ms) here o)) outcome
     ∙ ap (λ l. text ++ l) (sym (notes_of-push old.file old.base sender 1 58 ms m))
 
--- the notes on a packet's messages
 pub noted_some : (limits : Limits) (sender : Address) (old new : SystemState) (before mid : Option (List ℕ)) (tally : Tally) (text noted : List ℕ)
     → IsOpened old.file before mid sender → NotesTaken limits sender old mid tally new text noted → NotesSome limits old before tally new text noted
 noted_some limits sender old new before mid tally text noted o t = record {
@@ -77,7 +73,6 @@ noted_some limits sender old new before mid tally text noted o t = record {
   notes = t.notes ∙ ap (λ s. text ++ notes_of old.file old.base s 1 58 t.messages) o.origin;
 }
 
--- before the first message
 pub none_noted : (limits : Limits) (sender : Address) (old : SystemState) (before : Option (List ℕ)) (tally : Tally) (text : List ℕ) (failed : ℕ) (room : Type 0)
     → tally ≡ tally_of [] → room → HasNoted limits sender old before before 0 58 tally old text text failed failed room
 none_noted limits sender old before tally text failed room none free = record {

@@ -10,7 +10,6 @@ use Rattle.base_store.proofs.Runs.{looks_commit, looks_go_on, no_look}
 use Rattle.echo_toss.specs.{declared.tally.Tally.Tally, PacketsIn.state_in, Tallies.all_counted, Tallies.tally_of}
 use Rattle.cmd_store.proofs.Noted.{HasNoted, none_noted}
 
--- the store took the messages with their notes and goes on, no read failed, and there is room
 pub record HasNotedIn (limits : Limits) (sender : Address) (file : LinkFile) (old mid : StoreState) (first now : ℕ) (before left : Option (List ℕ)) (given at : ℕ) (tally : Tally) (text noted : List ℕ) (failed still : ℕ) (room : Type 0) : Type 0 where
   pub each : Honestly mid.disk ((base : Base) → old.keeps base
       → (next : Base) × HasNoted limits sender (state_in file base) before left given at tally (state_in file next) text noted failed still room × mid.keeps next)
@@ -22,7 +21,6 @@ pub record HasNotedIn (limits : Limits) (sender : Address) (file : LinkFile) (ol
   pub later : first ≤ now
   pub free : room
 
--- before the first message
 pub begun_noted : (limits : Limits) (sender : Address) (file : LinkFile) (old : StoreState) (first : ℕ) (before : Option (List ℕ)) (tally : Tally) (text : List ℕ) (failed : ℕ) (room : Type 0) → old.is_ready → tally ≡ tally_of [] → room
     → HasNotedIn limits sender file old old first first before before 0 58 tally text text failed failed room
 begun_noted limits sender file old first before tally text failed room ready none free = record {

@@ -1,4 +1,3 @@
--- Postings into a store.
 use Rattle.std.proofs.Common.{◌≡◌, ℕ, List, None, Result, Err, arith}
 use Rattle.base_file.specs.Base.{Base}
 use Rattle.echo_links.specs.Links.{LinkFile}
@@ -11,24 +10,20 @@ use Rattle.echo_toss.specs.declared.step_error.PostStepError.TheVariants as post
 use Rattle.cmd_store.specs.{declared.drafting.NewMessage.NewMessage, Lines.posted_line, Drafts.draft_given, declared.command_error.CommandError.CommandError, Answered.PrintsAll, Posted.Posts, Posted.PostsOn, Stops.post_stop, Stops.store_answer}
 use Rattle.cmd_store.proofs.Printed.{answered}
 
--- a posting that stopped
 pub post_stopped : (words : NewMessage) (system : SystemState) (body : List ℕ) (old : Output) (draft : Draft) (why : PostStepError) → draft ≡ draft_given words body
     → IsPostStop system.file system.base words.tag.now draft words.serial words.stamp why → PostsOn {A = Unit {0}} words system body old old (Err (post_stop why))
 post_stopped words system body old draft why h1 h2 = grind arith
 
--- why the store failed in a posting
 pub post_caused : (A B : Type 0) (old new : StoreState) (before now : ℕ) (why : PostStepError) → HasStoreCause old new before now (post_answer {T = A} (Err why))
     → HasStoreCause old new before now (store_answer {A = B} (Err (post_stop why)))
 post_caused A B old new before now (post.Refused refusal) cause = cause
 post_caused A B old new before now (post.Store why) cause = cause
 
--- a posting without a refusal
 pub posts : (file : LinkFile) (words : NewMessage) (body : List ℕ) (base : Base) (draft : Draft) → draft ≡ draft_given words body
     → post_refusal file base.messages words.tag.now draft words.serial words.stamp ≡ None
     → Posts file words body base (with_message base (posted file words.tag.now draft words.serial words.stamp))
 posts file words body base draft drafted allowed = grind arith
 
--- a posting without a refusal prints its line
 pub post_printed : {A : Type 0} (words : NewMessage) (system : SystemState) (body : List ℕ) (old new : Output) (draft : Draft) (result : Result A CommandError) → draft ≡ draft_given words body
     → post_refusal system.file system.base words.tag.now draft words.serial words.stamp ≡ None
     → PrintsAll (posted_line words.tag.now (id_of system.file.system words.serial)) old new result → PostsOn words system body old new result

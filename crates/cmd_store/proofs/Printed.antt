@@ -8,7 +8,6 @@ pub done_with : {A : Type 0} (IsRight : List ℕ → A → Type 0) (lines : List
     → IsDone IsRight old new value
 done_with IsRight lines old new value right out = grind arith
 
--- printing correct lines is an answer
 pub answered : {A : Type 0} (IsRight : List ℕ → A → Type 0) (IsRefused : Fault → Type 0) (lines : List ℕ) (old new : Output) (result : Result A CommandError) → ((v : A) → IsRight lines v)
     → PrintsAll lines old new result → AnswersAndCommits IsRight IsRefused old new result
 answered IsRight IsRefused lines old new result h1 h2 = grind (arith, done_with)

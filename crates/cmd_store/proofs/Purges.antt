@@ -1,4 +1,3 @@
--- Purges of a store.
 use Rattle.std.proofs.Common.{◌≡◌, ◌⊎◌, ◌++◌, ℕ, List, [], inl, inr, ⊎_elim, Result, refl, ap, ◌∙◌, arith}
 use Rattle.std.specs.Prelude.{count_by, not, take}
 use Rattle.base_file.specs.Base.{Base}
@@ -34,7 +33,6 @@ purge_then old mid new first kept done may = record {
   same = same_twice old mid new first.same may.same;
 }
 
--- the line of a purge is printed
 pub purge_printed : {A : Type 0} (base : Base) (count : ℕ) (none lines : List ℕ) (old new : Output) (result : Result A CommandError) → count ≡ count_by (λ m. not (is_stub m)) (take base.cursor base.messages)
     → none ≡ [] → lines ≡ none ++ purged_line count → PrintsAll lines old new result → PurgesOn base old new result
 unfolding changed

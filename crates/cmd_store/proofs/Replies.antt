@@ -1,4 +1,3 @@
--- Answers to messages of a store.
 use Rattle.std.proofs.Common.{◌≡◌, ℕ, List, inl, ⊎_elim, Option, Some, None, Result, Ok, Err, refl, arith}
 use Rattle.std.specs.Prelude.{IfErr, slice_get}
 use Rattle.base_file.specs.Base.{Base}
@@ -19,7 +18,6 @@ found_message (Some m) found is = (m, refl, is)
 pub reply_stopped : (o : Option Filed) (answer : Answer) (system : SystemState) (body : List ℕ) (old : Output) (why : CommandError) → FindsOn o (Err why) → RepliesOn {A = Unit {0}} o answer system body old old (Err why)
 reply_stopped o answer system body old why h1 = grind arith
 
--- posting the words makes the same base as the answer
 pub replies : (file : LinkFile) (index : ℕ) (answer : Answer) (body : List ℕ) (base next : Base) (m : Filed) (words : NewMessage) → slice_get base.messages index ≡ Some m → IsReply m answer words
     → PostsAs answer.free file words body base next → Replies file index answer body base next
 replies file index answer body base next m words found of_message made = record { message = m; found = found; words = words; of_message = of_message; made = made }
@@ -45,7 +43,6 @@ makes_looked Makes Other old mid new ready looks gives may =
       same = same_twice old mid new none.same may.same;
     }
 
--- the files that a crash leaves during an answer
 pub reply_crash : (file : LinkFile) (index : ℕ) (answer : Answer) (body : List ℕ) (old mid new : StoreState) (words : NewMessage) (found : ReplyFields) → old.is_ready → LooksOn old mid
     → Honestly mid.disk ((base : Base) → old.keeps base → FindsOn (slice_get base.messages index) (Ok found)) → MayMake (PostsAs answer.free file words body) mid new
     → ((m : Filed) → IsFound m found → IsReply m answer words) → MayMake (Replies file index answer body) old new

@@ -8,12 +8,10 @@ use Rattle.cmd_status.specs.{declared.fault.Fault.Fault, Devices.Device, Devices
 use Rattle.base_store.specs.{Store.StoreState, declared.store_error.StoreError.StoreError}
 use Rattle.cmd_store.specs.{Coming.Coming, declared.command_error.CommandError.CommandError, Answered.HasCommitted, Tossed.Tosses, Tossed.TossesFiles, Tossed.TossesOn, Tossed.TossesTo}
 
--- no line was there before the first packet
 pub none_before : {R : Type 0} (honest : Type 0) (noting : Bool) (limits : Limits) (device : R → Device) (file : LinkFile) (base : Base) (files left : List Coming) (none more : List ℕ) (result : Result (Option Fault) StoreError) (new : StoreState) → none ≡ []
     → TossesFiles honest noting limits device file base files left none more result new → TossesFiles honest noting limits device file base files left [] more result new
 none_before honest noting limits device file base files left none more result new is t = subst (λ (l : List ℕ). TossesFiles honest noting limits device file base files left l more result new) is t
 
--- the base that the packets make
 pub tosses : {R : Type 0} (honest : Type 0) (noting : Bool) (limits : Limits) (device : R → Device) (file : LinkFile) (base : Base) (files left : List Coming) (more : List ℕ) (stopped : Option Fault) (mid : StoreState)
     → TossesFiles honest noting limits device file base files left [] more (Ok stopped) mid → (next : Base) × Tosses honest noting limits device file files base next × mid.keeps next
 tosses honest noting limits device file base files left more stopped mid t =

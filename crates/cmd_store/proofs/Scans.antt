@@ -1,4 +1,3 @@
--- Scans of a store.
 use Rattle.std.proofs.Common.{◌≡◌, ◌++◌, ℕ, true, List, [], ◌∷◌, map, Result, refl, ap, arith}
 use Rattle.std.specs.List.{flat_map}
 use Rattle.cmd_status.specs.Devices.{Output}

@@ -19,7 +19,6 @@ GoesTo {P} honest noting limits device file base next files left lines more at =
     → TossesEachBy (honest last) (TossesPacketBy noting) device left (run_at limits file next more) stopped rest new
     → TossesEachBy (honest last) (TossesPacketBy noting) device files (run_at limits file base lines) stopped rest new
 
--- the store took some of the files and goes on
 pub record HasTossedFiles {P R : Type 0} (honest : P → Type 0) (noting : Bool) (limits : Limits) (device : R → Device) (file : LinkFile) (old mid : StoreState) (first now : ℕ) (files left : List Coming) (lines more : List ℕ) (at : P) : Type 0 where
   pub each : Honestly mid.disk ((base : Base) → old.keeps base → (next : Base) × mid.keeps next × GoesTo honest noting limits device file base next files left lines more at)
   pub on : GoesOn old mid
@@ -33,7 +32,6 @@ begun_files honest noting limits device file old first files lines at ready = gr
 run_is : (limits : Limits) (file : LinkFile) (next : Base) (lines : List ℕ) (run : TossRun) → run.limits ≡ limits → run.system ≡ state_in file next → run.lines ≡ lines → run ≡ run_at limits file next lines
 run_is limits file next lines run one two three = grind arith
 
--- the packet of one file more was tossed whole
 pub more_files : {P R : Type 0} (honest : P → Type 0) (noting : Bool) (limits : Limits) (device : R → Device) (file : LinkFile) (old mid new : StoreState) (first now then : ℕ) (files left later : List Coming) (lines more all : List ℕ) (at opens : P) (reader behind : R)
     → HasTossedFiles honest noting limits device file old mid first now files left lines more at → (honest opens → honest at)
     → OpensNext (honest opens) (λ r. (device r).contents) left later (Some (Ok reader))
@@ -55,7 +53,6 @@ more_files {P} honest noting limits device file old mid new first now then files
   later = let earlier = so.later in omega (arith, earlier, le);
 }
 
--- the packet of the next file stopped the run
 pub stopped_files : {P R : Type 0} (honest : P → Type 0) (noting : Bool) (limits : Limits) (device : R → Device) (file : LinkFile) (old mid new : StoreState) (first now : ℕ) (files left later : List Coming) (lines more all : List ℕ) (at opens : P) (reader behind : R)
     (fault : Fault) (result : Result (Option Fault) StoreError) (base : Base) → HasTossedFiles honest noting limits device file old mid first now files left lines more at → (honest opens → honest at)
     → OpensNext (honest opens) (λ r. (device r).contents) left later (Some (Ok reader))
@@ -63,7 +60,6 @@ pub stopped_files : {P R : Type 0} (honest : P → Type 0) (noting : Bool) (limi
     → mid.disk.is_honest → old.keeps base → TossesFiles (honest opens) noting limits device file base files later lines all result new
 stopped_files honest noting limits device file old mid new first now files left later lines more all at opens reader behind fault result base so was opened tossed is is_honest kept = grind (arith, each_stopped)
 
--- the next file cannot be used
 pub refused_files : {P R : Type 0} (honest : P → Type 0) (noting : Bool) (limits : Limits) (device : R → Device) (file : LinkFile) (old mid : StoreState) (first now : ℕ) (files left later : List Coming) (lines more : List ℕ) (at opens : P) (fault : Fault) (base : Base)
     → HasTossedFiles honest noting limits device file old mid first now files left lines more at → (honest opens → honest at)
     → OpensNext (honest opens) (λ (r : R). (device r).contents) left later (Some (Err fault))
@@ -82,7 +78,6 @@ refused_files honest noting limits device file old mid first now files left late
       keeps = kept_so.1;
     }
 
--- no file is left
 pub ended_files : {P R : Type 0} (honest : P → Type 0) (noting : Bool) (limits : Limits) (device : R → Device) (file : LinkFile) (old mid : StoreState) (first now : ℕ) (files left later : List Coming) (lines more : List ℕ) (at opens : P) (base : Base)
     → HasTossedFiles honest noting limits device file old mid first now files left lines more at → (honest opens → honest at)
     → OpensNext (honest opens) (λ (r : R). (device r).contents) left later None

@@ -19,13 +19,11 @@ pub no_line : (noting : Bool) (run : TossRun) (d : Device) → TossesPacketBy no
 no_line true run d = inl (refl, refl, refl, refl)
 no_line false run d = inl (refl, refl, refl, refl)
 
--- a packet was tossed
 pub packet_by : (noting : Bool) (old new : TossRun) (reader left : Device) (stopped : Option Fault) (answer : Result Tally TossFault) (noted : List ℕ) → new.limits ≡ old.limits
     → PacketStep old.limits old.system reader.contents left.contents answer new.system → CountsToss answer reader.failures left.failures
     → NotesIf noting old.limits old.system reader.contents answer new.system old.lines noted → ReportsPacket noted new.lines answer stopped → TossesPacketBy noting old reader left stopped new
 packet_by noting old new reader left stopped answer noted h1 h2 h3 h4 h5 = grind arith
 
--- a packet that stopped
 next_stopped : (noting : Bool) (limits : Limits) (file : LinkFile) (base next : Base) (reader left : Device) (lines noted more : List ℕ) (old new : StoreState) (tally : Tally) (why : TossStepError) (result : Result (Option Fault) StoreError)
     → PacketStep limits (state_in file base) reader.contents left.contents (Err (record { tally = tally; cause = cause_in why })) (state_in file next)
     → NotesIf noting limits (state_in file base) reader.contents (Err (record { tally = tally; cause = cause_in why })) (state_in file next) lines noted
@@ -53,7 +51,6 @@ next_stopped noting limits file base next reader left lines noted more old new t
       keeps = tt;
     })
 
--- a packet was tossed into the store, and its line added
 pub next_tossed : (noting : Bool) (limits : Limits) (file : LinkFile) (base next : Base) (reader left : Device) (lines noted more : List ℕ) (old new : StoreState) (answer : Result Tally StoppedToss) (result : Result (Option Fault) StoreError)
     → PacketStep limits (state_in file base) reader.contents left.contents (packet_answer answer) (state_in file next)
     → NotesIf noting limits (state_in file base) reader.contents (packet_answer answer) (state_in file next) lines noted
@@ -72,7 +69,6 @@ next_tossed noting limits file base next reader left lines noted more old new (O
 next_tossed noting limits file base next reader left lines noted more old new (Err stopped) result step notes holds device reports =
     next_stopped noting limits file base next reader left lines noted more old new stopped.tally stopped.stop result step notes holds device reports
 
--- there was no memory for its line
 pub next_unread : (noting : Bool) (limits : Limits) (file : LinkFile) (base : Base) (d : Device) (lines more : List ℕ) (new : StoreState) → more ≡ lines → new.keeps base
     → TossesNext noting limits file base d d lines more (Ok (Some OutOfMemory)) new
 next_unread noting limits file base d lines more new same kept = record {

@@ -3,13 +3,11 @@ use Rattle.std.proofs.Common.{List, [], ◌∷◌, Option, Some, None, Ok, Err, 
 use Rattle.cmd_status.specs.{Devices.Device, declared.fault.Fault.Fault}
 use Rattle.cmd_store.specs.{Coming.Coming, Coming.OpensNext, TossRuns.TossesEachBy, TossedPacket.TossRun}
 
--- no file is left
 pub each_ended : {R : Type 0} (honest now : Type 0) (Tosses : TossRun → Device → Device → Option Fault → TossRun → Type 0) (device : R → Device) (files left : List Coming) (run : TossRun) → OpensNext now (λ r. (device r).contents) files left None
     → TossesEachBy honest Tosses device files run None left run
 each_ended honest now Tosses device [] left run none = (refl, none, refl)
 each_ended honest now Tosses device (file ∷ later) left run none = absurd none
 
--- the packet of the next file is tossed whole, and then the others
 pub each_more : {R : Type 0} (honest now : Type 0) (Tosses : TossRun → Device → Device → Option Fault → TossRun → Type 0) (device : R → Device) (files later : List Coming) (reader behind : R) (old run : TossRun) (stopped : Option Fault)
     (left : List Coming) (new : TossRun) → (honest → now) → OpensNext now (λ r. (device r).contents) files later (Some (Ok reader))
     → Tosses old (device reader) (device behind) None run → TossesEachBy honest Tosses device later run stopped left new
@@ -27,7 +25,6 @@ each_more honest now Tosses device (file ∷ files) later reader behind old run 
       subst (λ (l : List Coming). TossesEachBy honest Tosses device l run stopped left new) opened.0 rest,
     )
 
--- the packet of the next file stops the run
 pub each_stopped : {R : Type 0} (honest now : Type 0) (Tosses : TossRun → Device → Device → Option Fault → TossRun → Type 0) (device : R → Device) (files later : List Coming) (reader behind : R) (old new : TossRun) (fault : Fault)
     → (honest → now) → OpensNext now (λ r. (device r).contents) files later (Some (Ok reader)) → Tosses old (device reader) (device behind) (Some fault) new
     → TossesEachBy honest Tosses device files old (Some fault) later new
@@ -45,7 +42,6 @@ each_stopped honest now Tosses device (file ∷ files) later reader behind old n
       }),
     )
 
--- the next file cannot be used
 pub each_refused : {R : Type 0} (honest now : Type 0) (Tosses : TossRun → Device → Device → Option Fault → TossRun → Type 0) (device : R → Device) (files later : List Coming) (run : TossRun) (fault : Fault)
     → (honest → now) → OpensNext now (λ (r : R). (device r).contents) files later (Some (Err fault))
     → TossesEachBy honest Tosses device files run (Some fault) later run

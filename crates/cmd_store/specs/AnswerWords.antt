@@ -34,8 +34,7 @@ pub record IsFound (m : Filed) (found : ReplyFields) : Type 0 where
   pub subject : found.subject ≡ answered m.subject
   pub reply : found.reply ≡ named_id (msgid_of m.echo.kept)
 
--- The words of the answer to a message: the message's area, its author as receiver, its subject and its id. All others
--- are as given.
+-- The words of the answer: the message's area, author, subject and id; all others as given.
 pub record IsReply (m : Filed) (answer : Answer) (words : NewMessage) : Type 0 where
   pub tag : words.tag.now ≡ m.echo.tag
   pub to_name : words.to_name.now ≡ m.from_name

@@ -18,11 +18,9 @@ AnswersAndCommits IsRight IsRefused old new (Ok right) = Answers IsRight IsRefus
 AnswersAndCommits IsRight IsRefused old new (Err (Met fault)) = Answers IsRight IsRefused old new (Err fault)
 AnswersAndCommits {A} IsRight IsRefused old new (Err (Store cause)) = (new ≡ old) ⊎ ((right : A) × IsDone IsRight old new right)
 
--- Exactly these lines.
 abbrev pub AreLines : {A : Type 0} → List ℕ → List ℕ → A → Type 0
 AreLines whole lines done = lines ≡ whole
 
--- No fault is a refusal.
 abbrev pub RefusesNone : Fault → Type 0
 RefusesNone fault = ⊥
 
@@ -56,7 +54,6 @@ abbrev pub MayCommitWhereMet : StoreState → StoreState → CommandError → Ty
 MayCommitWhereMet old new (Met fault) = MayCommit old new × GoesOnFromEither old new
 MayCommitWhereMet old new (Store cause) = Unit {0}
 
--- One of these, depending on whether the command may commit the base held before.
 abbrev pub StaysWhereMet : Bool → StoreState → StoreState → CommandError → Type 0
 StaysWhereMet false old new why = CommitsNoneWhereMet old new why
 StaysWhereMet true old new why = MayCommitWhereMet old new why

@@ -32,12 +32,10 @@ pub record IsStoppedHeld {T : Type 0} (state : T → StoreState) (May : Base →
   pub past : IsFullOnceHeld state May old
   pub commits : MayCommit old new
 
--- Why the store held too much, depending on whether the command may commit the base held before.
 abbrev pub IsPast : {T : Type 0} → Bool → (T → StoreState) → (Base → Filed → Type 0) → (Base → Base → Type 0) → StoreState → Type 0
 IsPast false state Adds May old = IsPastBound state Adds old
 IsPast true state Adds May old = IsFullOnceHeld state May old
 
--- With the base that the command may have committed.
 abbrev pub StaysTooMany : {T : Type 0} → Bool → (T → StoreState) → (Base → Filed → Type 0) → (Base → Base → Type 0) → StoreState → StoreState → Type 0
 StaysTooMany false state Adds May old new = IsStoppedFull state Adds old new
 StaysTooMany true state Adds May old new = IsStoppedHeld state May old new
@@ -46,7 +44,6 @@ StaysTooMany true state Adds May old new = IsStoppedHeld state May old new
 abbrev pub AddsDraft : LinkFile → NewMessage → Draft → Base → Filed → Type 0
 AddsDraft file words draft base m = (serial : ℕ) × (m ≡ posted file words.tag.now draft serial words.stamp)
 
--- The message of these words and this body.
 abbrev pub AddsPosted : LinkFile → NewMessage → List ℕ → Base → Filed → Type 0
 AddsPosted file words body base m = AddsDraft file words (draft_given words body) base m
 
@@ -54,6 +51,5 @@ AddsPosted file words body base m = AddsDraft file words (draft_given words body
 abbrev pub AddsReply : LinkFile → Answer → List ℕ → Base → Filed → Type 0
 AddsReply file answer body base m = (words : NewMessage) × (words.from_name.now ≡ answer.from_name.now) × (words.stamp ≡ answer.stamp) × AddsPosted file words body base m
 
--- The message of a letter.
 abbrev pub AddsMailed : LinkFile → Letter → MailWords → Base → Filed → Type 0
 AddsMailed file letter asked base m = (words : NewMessage) × IsPosting letter asked words × AddsPosted file words letter.body base m

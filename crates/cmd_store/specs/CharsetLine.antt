@@ -15,7 +15,6 @@ level Koi8R = 50
 level Latin1 = 50
 level Utf8 = 52
 
--- The line of a charset.
 abbrev pub charset_line : Charset → List ℕ
 charset_line charset = (1 ∷ codes "CHRS: ") ++ (charset_name charset ++ (32 ∷ level charset ∷ 13 ∷ []))
 

@@ -15,7 +15,6 @@ draft_after before (byte ∷ later) = draft_byte before byte ++ draft_after byte
 abbrev pub draft_body : List ℕ → List ℕ
 draft_body body = draft_after 0 body
 
--- The draft from the words and the body.
 abbrev pub draft_given : NewMessage → List ℕ → Draft
 draft_given words body = record {
   to_name = words.to_name.now;

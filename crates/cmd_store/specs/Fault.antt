@@ -4,7 +4,6 @@ use Rattle.echo_mail.specs.declared.fault.MailFault.TheVariants as mail
 use Rattle.cmd_store.specs.declared.fault.LetterFault.{LetterFault, TheVariants.Mail, TheVariants.Memory}
 use Rattle.cmd_status.specs.declared.status.Status.{Status, TheVariants.Device, TheVariants.Refused}
 
--- The fault of a mail that cannot be read.
 abbrev pub letter_fault : MailFault → LetterFault
 letter_fault mail.Memory = Memory
 letter_fault why = Mail why

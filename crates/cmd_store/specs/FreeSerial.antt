@@ -40,12 +40,10 @@ pub record PostsFree (file : LinkFile) (words : NewMessage) (body : List ℕ) (b
   pub first : IsFirstFree file base.messages words.serial serial
   pub made : Posts file (with_serial words serial) body base next
 
--- The words are posted at a system with their own serial, or with the first free one from there on.
 abbrev pub PostsAsOn : {A : Type 0} → Bool → NewMessage → SystemState → List ℕ → Output → Output → Result A CommandError → Type 0
 PostsAsOn false words system body old new result = PostsOn words system body old new result
 PostsAsOn true words system body old new result = PostsFreeOn words system body old new result
 
--- The posting makes the base `next` of another.
 abbrev pub PostsAs : Bool → LinkFile → NewMessage → List ℕ → Base → Base → Type 0
 PostsAs false file words body base next = Posts file words body base next
 PostsAs true file words body base next = PostsFree file words body base next

@@ -7,7 +7,6 @@ use Rattle.model_steps.specs.ReplyIds.{is_reply_id}
 use Rattle.cmd_store.specs.declared.fault.LetterFault.TheVariants.{Memory, NoArea, NoFrom, NoSubject, NoTo}
 use Rattle.cmd_store.specs.{Written.IsRefused, Written.IsSaid, Written.IsWritten, Written.name_or, Written.words_or, declared.fault.LetterFault.LetterFault, declared.letter.Letter.Letter, declared.letter.MailDefaults.MailDefaults, CharsetLine.is_wide, CharsetLine.with_line, Fault.letter_fault}
 
--- The value of a field of a mail.
 abbrev pub field : Mail → List ℕ → Option (List ℕ)
 field mail name = value_in mail.fields name
 
@@ -25,7 +24,6 @@ from_said mail spare = name_or (field mail (codes "From")) (option_copied spare.
 abbrev pub subject_said : Mail → MailDefaults → Option (List ℕ)
 subject_said mail spare = words_or (field mail (codes "Subject")) (option_copied spare.subject)
 
--- The id, if it is valid.
 abbrev pub true_id : Option (List ℕ) → Option (List ℕ)
 true_id None = None
 true_id (Some id) = if is_reply_id id then Some id else None
@@ -39,18 +37,15 @@ answered_id (Some value) = true_id (exported_id value)
 abbrev pub reply_said : Mail → MailDefaults → List ℕ
 reply_said mail spare = unwrap_or (option_or (answered_id (field mail (codes "In-Reply-To"))) (option_copied spare.reply)) []
 
--- An existing text in the bytes of a charset, or its fault.
 abbrev pub IsBody : Charset → Result (List ℕ) MailFault → Result (List ℕ) LetterFault → Type 0
 IsBody charset (Ok text) answer = IsSaid charset text answer
 IsBody charset (Err why) answer = IsRefused (letter_fault why) answer
 
--- The area, or the fault of a missing one.
 abbrev pub IsArea : Option (List ℕ) → Result (List ℕ) LetterFault → Type 0
 IsArea None answer = IsRefused NoArea answer
 IsArea (Some tag) (Ok found) = found ≡ tag
 IsArea (Some tag) (Err fault) = fault ≡ Memory
 
--- The names, the subject or the text have a byte above 7F.
 abbrev pub are_wide : List ℕ → List ℕ → List ℕ → List ℕ → Bool
 are_wide to from subject said = is_wide to || (is_wide from || (is_wide subject || is_wide said))
 
@@ -65,7 +60,6 @@ pub record IsLetter (charset : Charset) (spare : MailDefaults) (mail : Mail) (le
   pub text : IsBody charset (text_of mail) (Ok said)
   pub body : letter.body ≡ with_line charset (are_wide letter.to_name letter.from_name letter.subject said) said
 
--- The fault of one of these.
 abbrev pub IsLetterFault : Charset → MailDefaults → Mail → LetterFault → Type 0
 IsLetterFault charset spare mail fault =
     (fault ≡ Memory)
@@ -75,12 +69,10 @@ IsLetterFault charset spare mail fault =
     ⊎ (IsWritten charset (subject_said mail spare) NoSubject (Err fault)
     ⊎ IsBody charset (text_of mail) (Err fault)))))
 
--- The correct result for a mail.
 abbrev pub LetterOf : Charset → MailDefaults → Mail → Result Letter LetterFault → Type 0
 LetterOf charset spare mail (Ok letter) = IsLetter charset spare mail letter
 LetterOf charset spare mail (Err fault) = IsLetterFault charset spare mail fault
 
--- For bytes to read as a mail, or their fault.
 abbrev pub LetterAnswers : Charset → MailDefaults → Result Mail MailFault → Result Letter LetterFault → Type 0
 LetterAnswers charset spare (Ok mail) answer = LetterOf charset spare mail answer
 LetterAnswers charset spare (Err why) answer = IsRefused (letter_fault why) answer

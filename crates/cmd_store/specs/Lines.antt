@@ -20,16 +20,13 @@ abbrev pub sent_line : Address → ℕ → ℕ → List ℕ
 sent_line to messages bytes =
     codes "packet " ++ (address_text to ++ (codes " " ++ (decimal messages ++ (codes " messages " ++ (decimal bytes ++ codes " bytes\n")))))
 
--- The line with the number of messages changed.
 abbrev pub purged_line : ℕ → List ℕ
 purged_line count = codes "purged " ++ (decimal count ++ codes "\n")
 
--- The line with the outcomes of the messages of a packet.
 abbrev pub tally_line : Tally → List ℕ
 tally_line t =
     codes "filed " ++ (decimal t.filed ++ (codes " known " ++ (decimal t.known ++ (codes " notecho " ++ (decimal t.not_echo
     ++ (codes " badtag " ++ (decimal t.bad_tag ++ (codes " noarea " ++ (decimal t.no_area ++ (codes " notlinked " ++ (decimal t.not_linked ++ codes "\n")))))))))))
 
--- The text has room for the line of a packet's outcomes.
 abbrev pub HasTallyRoom : Vec ℕ Global → Type 0
 HasTallyRoom text = vec_len text + MOST_TALLY ≤ vec_capacity text

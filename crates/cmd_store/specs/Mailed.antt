@@ -2,7 +2,6 @@
 use Rattle.std.specs.Prelude.{◌≡◌}
 use Rattle.cmd_store.specs.declared.{drafting.NewMessage.NewMessage, letter.Letter.Letter, mailed.MailWords.MailWords}
 
--- The words that post a letter.
 pub record IsPosting (letter : Letter) (asked : MailWords) (words : NewMessage) : Type 0 where
   pub tag : words.tag.now ≡ letter.tag
   pub to_name : words.to_name.now ≡ letter.to_name

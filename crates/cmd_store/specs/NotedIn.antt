@@ -16,7 +16,6 @@ pub record NotesPacketIn (limits : Limits) (file : LinkFile) (base : Base) (befo
   pub notes : NotesPacket limits (state_in file base) before (packet_answer result) (state_in file next) text noted
   pub holds : HoldsUnlessFailed old (stop_in result) new next
 
--- The notes on the messages after a header.
 pub record NotesMessagesIn {A : Type 0} (limits : Limits) (sender : Address) (file : LinkFile) (base : Base) (before after : Option (List ℕ)) (tally : Tally) (text noted : List ℕ) (old : StoreState) (result : Result A TossStepError) (new : StoreState) : Type 0 where
   pub next : Base
   pub step : TossesMessages limits sender (state_in file base) before after tally (messages_answer result) (state_in file next)

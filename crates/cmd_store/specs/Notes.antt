@@ -9,7 +9,6 @@ use Rattle.echo_filed.specs.{Filed.Filed as FiledMessage, Written.echo_of}
 use Rattle.model_steps.specs.declared.outcome.Outcome.TheVariants.{BadTag, Filed, Known, NoArea, NotEcho, NotLinked}
 use Rattle.model_steps.specs.{declared.outcome.Outcome.Outcome, Tossing.toss_outcome, Tossing.tossing}
 
--- The word of an outcome.
 abbrev pub outcome_word : Outcome → List ℕ
 outcome_word NotEcho = codes "notecho"
 outcome_word BadTag = codes "badtag"
@@ -18,16 +17,13 @@ outcome_word NotLinked = codes "notlinked"
 outcome_word Known = codes "known"
 outcome_word Filed = codes "filed"
 
--- The end of a line with the id, or without one.
 abbrev pub id_said : Option (List ℕ) → List ℕ
 id_said (Some id) = escaped_line (codes " msgid") id
 id_said None = codes "\n"
 
--- The area, and the end of the line.
 abbrev pub area_said : EchoText → List ℕ
 area_said e = codes " area " ++ (e.tag ++ id_said (msgid_of e.kept))
 
--- For a text, if it is echomail.
 abbrev pub said_unless : Option TextFault → EchoText → List ℕ
 said_unless None e = area_said e
 said_unless (Some refused) e = codes "\n"

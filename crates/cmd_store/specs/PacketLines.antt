@@ -22,13 +22,11 @@ repair_name to first number =
     if number == 1 then resent_name to first
     else decimal to.zone ++ (codes "." ++ (decimal to.net ++ (codes "." ++ (decimal to.node ++ (codes ".r" ++ (decimal first ++ (codes "-" ++ (decimal number ++ codes ".pkt"))))))))
 
--- The file of a packet.
 abbrev pub file_sent : ℕ → Packet → PacketFile
 file_sent before p = record { name = packet_name (named_receiver p.header) before; bytes = packet_bytes p.header p.messages }
 
 abbrev pub line_sent : Packet → List ℕ
 line_sent p = sent_line (named_receiver p.header) (length p.messages) (length (packet_bytes p.header p.messages))
 
--- The line of a counted packet.
 abbrev pub counted_line : CountedPacket → List ℕ
 counted_line p = sent_line p.to p.messages p.bytes

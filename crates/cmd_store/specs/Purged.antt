@@ -14,7 +14,6 @@ IsPurgedAt base lines done = lines ≡ purged_line (changed base.messages base.c
 abbrev pub PurgesOn : {A : Type 0} → Base → Output → Output → Result A CommandError → Type 0
 PurgesOn base old new result = AnswersAndCommits (IsPurgedAt base) RefusesNone old new result
 
--- The purge makes the base `next` of another.
 abbrev pub Purges : Base → Base → Type 0
 Purges base next = next ≡ purged base
 

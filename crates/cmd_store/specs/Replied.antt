@@ -23,12 +23,10 @@ pub record PostsReplyOn {A : Type 0} (m : Filed) (answer : Answer) (system : Sys
   pub of_message : IsReply m answer words
   pub posted : PostsAsOn answer.free words system body old new result
 
--- There is no such message, and the command prints no line.
 abbrev pub HasNoneOn : {A : Type 0} → Output → Output → Result A CommandError → Type 0
 HasNoneOn old new (Err (Met fault)) = (fault ≡ BadNumber) × (new ≡ old)
 HasNoneOn old new other = ⊥
 
--- The result of answering the message, or of finding no message.
 abbrev pub RepliesOn : {A : Type 0} → Option Filed → Answer → SystemState → List ℕ → Output → Output → Result A CommandError → Type 0
 RepliesOn None answer system body old new result = HasNoneOn old new result
 RepliesOn (Some m) answer system body old new result = StopsFirst old new result ⊎ PostsReplyOn m answer system body old new result

@@ -11,7 +11,6 @@ pub record IsScannedAt (stamp : Stamp) (system : SystemState) (lines : List ℕ)
   pub printed : lines ≡ flat_map line_sent (scanned system.file system.base system.cursor stamp)
   pub packets : files ≡ map (file_sent system.cursor) (scanned system.file system.base system.cursor stamp)
 
--- The files of a scan whose lines were printed.
 abbrev pub files_scanned : Stamp → SystemState → Result (Unit {0}) CommandError → Result (List PacketFile) CommandError
 files_scanned stamp system (Ok done) = Ok (map (file_sent system.cursor) (scanned system.file system.base system.cursor stamp))
 files_scanned stamp system (Err why) = Err why
@@ -20,6 +19,5 @@ files_scanned stamp system (Err why) = Err why
 abbrev pub IsUnscannedAt : Stamp → Fault → Type 0
 IsUnscannedAt stamp fault = (fault ≡ Scan BadStamp) × (is_stamp stamp ≡ false)
 
--- The correct result of scanning a system.
 abbrev pub ScansOn : Stamp → SystemState → Output → Output → Result (List PacketFile) CommandError → Type 0
 ScansOn stamp system old new result = AnswersOn (IsScannedAt stamp system) (IsUnscannedAt stamp) old new result

@@ -21,7 +21,6 @@ pub record IsFirstFree (file : LinkFile) (base : List Filed) (start serial : ℕ
   pub before : (k : ℕ) → k < steps → is_taken file base (serial_after start k) ≡ true
   pub ends : (is_taken file base serial ≡ false) ⊎ (steps ≡ 2 ^ 32 - 1)
 
--- The words with this serial.
 abbrev pub with_serial : NewMessage → ℕ → NewMessage
 with_serial words serial = record {
   tag = words.tag;

@@ -9,18 +9,15 @@ use Rattle.echo_toss.specs.declared.step_error.PostStepError.TheVariants as post
 use Rattle.cmd_store.specs.declared.command_error.CommandError.{CommandError}
 use Rattle.cmd_store.specs.declared.command_error.CommandError.TheVariants as stop
 
--- Why a posting stopped a command.
 abbrev pub post_stop : PostStepError → CommandError
 post_stop (post.Refused why) = stop.Met (Post why)
 post_stop (post.Store cause) = stop.Store cause
 
--- The answer of the store.
 abbrev pub store_answer : {A : Type 0} → Result A CommandError → Result (Unit {0}) StoreError
 store_answer (Ok done) = Ok tt
 store_answer (Err (stop.Met fault)) = Ok tt
 store_answer (Err (stop.Store cause)) = Err cause
 
--- The store failed.
 abbrev pub IsOfStore : CommandError → Type 0
 IsOfStore (stop.Met fault) = ⊥
 IsOfStore (stop.Store cause) = Unit {0}

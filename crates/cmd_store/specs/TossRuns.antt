@@ -21,7 +21,6 @@ pub record LeavesUnopened {R : Type 0} (honest : Type 0) (device : R → Device)
   pub cannot : honest → Opens (λ (r : R). (device r).contents) file (Err fault)
   pub same : new ≡ old
 
--- The run tosses one packet file, or stops there.
 abbrev pub TossesFileBy : {R : Type 0} → Type 0 → (TossRun → Device → Device → Option Fault → TossRun → Type 0) → (R → Device) → Coming → TossRun → Option Fault → TossRun → Type 0
 TossesFileBy honest Tosses device file old stopped new =
     TossesOpened honest Tosses device file old stopped new ⊎ LeavesUnopened honest device file old stopped new
@@ -40,6 +39,5 @@ IsRunPrinted run old new =
     (Appends old.contents new.contents run.lines × PassesAll old new)
     ⊎ (Failed old.failures new.failures × WritesFront run.lines old.contents new.contents)
 
--- The run before the first packet.
 abbrev pub run_begun : Limits → SystemState → TossRun
 run_begun limits system = record { limits = limits; system = system; lines = [] }

@@ -33,7 +33,6 @@ EndsOn run stopped old new (Err (Met fault)) =
     (stopped ≡ None) × CannotPrint old.failures new.failures fault × WritesFront run.lines old.contents new.contents
 EndsOn run stopped old new (Err (Store cause)) = ((stopped ≡ Some TossMemory) × (new ≡ old)) ⊎ AreOut run stopped old new
 
--- The result of printing the lines of a run.
 abbrev pub PrintsRun : TossRun → Option Fault → Output → Output → Result (Unit {0}) Fault → Type 0
 PrintsRun run stopped old new (Ok done) = AreOut run stopped old new
 PrintsRun run stopped old new (Err fault) =
@@ -53,7 +52,6 @@ abbrev pub ReportsIn : List ℕ → List ℕ → Result Tally StoppedToss → Re
 ReportsIn old new (Ok tally) result = (result ≡ Ok None) × (new ≡ old ++ tally_line tally)
 ReportsIn old new (Err stopped) result = ReportsStop old new stopped.tally stopped.stop result
 
--- A run at a system with this base.
 abbrev pub run_at : Limits → LinkFile → Base → List ℕ → TossRun
 run_at limits file base lines = record { limits = limits; system = state_in file base; lines = lines }
 
@@ -67,7 +65,6 @@ pub record TossesNext (noting : Bool) (limits : Limits) (file : LinkFile) (base 
   pub added : OnOk result (run.lines ≡ more)
   pub keeps : OnOk result (new.keeps next)
 
--- Packet files, up to the first fault.
 pub record TossesFiles {R : Type 0} (honest : Type 0) (noting : Bool) (limits : Limits) (device : R → Device) (file : LinkFile) (base : Base) (files left : List Coming) (lines more : List ℕ) (result : Result (Option Fault) StoreError) (new : StoreState) : Type 0 where
   pub next : Base
   pub run : TossRun
@@ -76,7 +73,6 @@ pub record TossesFiles {R : Type 0} (honest : Type 0) (noting : Bool) (limits : 
   pub added : OnOk result (run.lines ≡ more)
   pub keeps : OnOk result (new.keeps next)
 
--- The store holds this base, and it is committed.
 abbrev pub HoldsCommitted : StoreState → Base → Type 0
 HoldsCommitted s base = s.keeps base × s.committed base
 

@@ -38,7 +38,6 @@ abbrev pub HasNoLine : TossRun → Device → Device → Option Fault → TossRu
 HasNoLine old reader left stopped new =
     (stopped ≡ Some OutOfMemory) × (new ≡ old) × (left.contents ≡ reader.contents) × (left.failures ≡ reader.failures)
 
--- The result for the packet at the front of a reader's bytes.
 abbrev pub TossesPacket : TossRun → Device → Device → Option Fault → TossRun → Type 0
 TossesPacket old reader left stopped new =
     HasNoLine old reader left stopped new ⊎ HasTossedPacket old reader left stopped new
@@ -53,7 +52,6 @@ pub record HasNotedPacket (old : TossRun) (reader left : Device) (stopped : Opti
   pub notes : NotesPacket old.limits old.system reader.contents answer new.system old.lines noted
   pub line : ReportsPacket noted new.lines answer stopped
 
--- The result for a packet with notes on its messages.
 abbrev pub NotesPacketAt : TossRun → Device → Device → Option Fault → TossRun → Type 0
 NotesPacketAt old reader left stopped new =
     HasNoLine old reader left stopped new ⊎ HasNotedPacket old reader left stopped new

@@ -10,8 +10,7 @@ use std::alloc::{AllocError, Global};
 /// How many bytes of a subject have room behind `Re: `.
 const ROOM_BEHIND: usize = 67;
 
-/// The words of `reply` that no message gives: from whom, the serial, whether that or the first from it on that
-/// is free, and the moment.
+/// What `reply` states itself: the sender, the serial, whether a later free serial will do, and the timestamp.
 #[derive(Clone, Copy, Debug)]
 pub struct Answer<'a> {
     pub from_name: &'a [u8],
@@ -53,7 +52,6 @@ fn answered(alloc: Global, subject: &[u8]) -> Result<Vec<u8>, AllocError>
     Ok(bytes)
 }
 
-// What there is room for behind `Re: `.
 fn front(subject: &[u8]) -> &[u8]
     ensures { result.now ≡ take room_behind subject.now }
 {

@@ -21,7 +21,6 @@ pub(crate) fn with_line(
     Ok(bytes)
 }
 
-// Adds the line of the charset.
 fn push_line(bytes: &mut Vec<u8>, charset: Charset) -> Result<(), AllocError>
     ensures { OnOk result (bytes.new.items ≡ bytes.old.items ++ charset_line charset) }
 {

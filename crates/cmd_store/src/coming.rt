@@ -1,14 +1,11 @@
-//! Packet files that are opened one after the other.
 ghost use Rattle.std.specs.Prelude.{List, map};
 ghost use Rattle.cmd_store.specs.Coming.{Coming, Holds, OpensNext};
 
 use cmd_status::Fault;
 use disk_io::Source;
 
-/// Packet files in order, of which the next is opened only when it is asked for.
-///
-/// Files that others change may answer anything, and a device may fail. So an answer says something about a file only if
-/// the files were honest until then. Files in memory always are.
+/// Packet files in order; each is opened when asked for. Results describe a file only while the files are honest: no
+/// program changed one, and no device failed. Files in memory always are.
 pub trait PacketFiles<'a> {
     /// What reads a file that was opened.
     type Reader: Source + Drop;
@@ -19,14 +16,12 @@ pub trait PacketFiles<'a> {
     // Every answer so far fitted the files, and no device failed.
     ghost is_honest: { Self → Type 0 };
 
-    /// Opens the next file: none where no more is to come, and a fault where it cannot be used. It
-    /// counts as opened then, too.
+    /// Opens the next file: `None` after the last, a fault if it can't be used. It counts as opened then too.
     fn open_next(&mut self) -> Option<Result<Self::Reader, Fault<'a>>>
         ensures next { OpensNext (is_honest self.new) Self.Reader.remaining (coming self.old) (coming self.new) result }
         ensures honest { is_honest self.new → is_honest self.old };
 }
 
-/// Packets that are in memory.
 impl<'a, 'b> PacketFiles<'a> for &[&'b [u8]] {
     type Reader = &'b [u8];
 

@@ -20,8 +20,7 @@ pub trait StoreCommand<'a> {
     /// Its answer if it ends well.
     type Answer;
 
-    // What it prints and answers where the store holds this base. Each pair is from before and after: the command, and
-    // standard output.
+    // What it prints and answers where the store holds this base. Each pair is from before and after.
     ghost answers: { Self → Self → TheLinks → Base → Output → Output → Result Self.Answer TheStop → Type 0 };
 
     // Which base it makes of this one, where it prints and answers this.

@@ -1,4 +1,3 @@
-//! Why a command on a store stopped.
 ghost use Rattle.std.specs.Prelude.{◌≡◌};
 ghost use Rattle.cmd_status.specs.declared.fault.Fault.TheVariants.{OutOfMemory};
 ghost use Rattle.cmd_store.specs.declared.command_error.CommandError.TheVariants as stop;
@@ -66,8 +65,7 @@ impl From<PostStepError> for CommandError<'_> {
 }
 
 impl<'a> CommandError<'a> {
-    /// The report, for the store at this path. A damaged message is not identified: the report is that the store
-    /// cannot be used.
+    /// The fault for the store at this path. A damaged message means that the store can't be used.
     pub fn fault(self, base: &'a str) -> Fault<'a>
         ensures { IsReportedAs base.now self.entry result }
     {

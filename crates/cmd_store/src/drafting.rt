@@ -6,8 +6,7 @@ use echo_addr::Items;
 use model_steps::{Draft, Stamp};
 use std::alloc::{AllocError, Global};
 
-/// The words of `post`: the area, the names, the subject, the id of the message that is replied to or
-/// no bytes, the serial and the moment.
+/// The words of `post`. `reply` is the id of the answered message, or empty.
 #[derive(Clone, Copy, Debug)]
 pub struct NewMessage<'a> {
     pub tag: &'a [u8],
@@ -32,7 +31,6 @@ pub fn draft_of(alloc: Global, words: NewMessage<'_>, body: &[u8]) -> Result<Dra
     })
 }
 
-// The body of the draft: lines that end in 0A or 0D 0A end in 0D.
 fn draft_body(alloc: Global, body: &[u8]) -> Result<Vec<u8>, AllocError>
     ensures { IfOk result (λ bytes. bytes.items ≡ draft_body body.now) }
 {
@@ -45,7 +43,6 @@ fn draft_body(alloc: Global, body: &[u8]) -> Result<Vec<u8>, AllocError>
     Ok(lines)
 }
 
-// Adds what the byte becomes in the draft.
 fn push_byte(lines: &mut Vec<u8>, before: u8, byte: u8) -> Result<(), AllocError>
     ensures { OnOk result (lines.new.items ≡ lines.old.items ++ draft_byte before byte) }
 {

@@ -1,4 +1,3 @@
-//! Why a mail is not posted.
 ghost use Rattle.std.specs.Prelude.{◌≡◌};
 ghost use Rattle.cmd_store.specs.{declared.fault.LetterFault.TheVariants.Memory, Fault.letter_fault, Fault.letter_status};
 
@@ -66,8 +65,7 @@ impl<T: Drop> From<AllocFailed<T>> for LetterFault {
 }
 
 impl LetterFault {
-    /// Writes the fault's line, and answers the status. Where the line can't be written, the status is still
-    /// that of the fault.
+    /// Writes the fault's line and returns its status, which also holds if the line can't be written.
     pub fn report<E: Sink>(self, errors: &mut E) -> Status
         ensures { result ≡ letter_status self }
     {

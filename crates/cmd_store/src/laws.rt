@@ -6,8 +6,7 @@ ghost use Rattle.echo_export.specs.HeaderText.{id_line};
 ghost use Rattle.echo_mail.specs.Head.{field_of};
 ghost use Rattle.cmd_store.specs.Letter.{answered_id};
 
-/// The id of an exported message comes back. Let the line `Message-ID` be the one that `export` writes of an id, and
-/// let an answer have its value as `In-Reply-To`. Then the answer names that id, byte for byte.
+/// An answer whose `In-Reply-To` is the exported `Message-ID` of a message names its id, byte for byte.
 pub fn exported_ids_are_answered()
     ensures { (line id : List ℕ) → IsBytes id → is_reply_id id ≡ true → id_line (codes "Message-ID") (Some id) ≡ line ++ codes "\n" → answered_id (Some (field_of line).value) ≡ Some id }
 {}

@@ -22,7 +22,6 @@ pub fn commit_on<'a, T: Store>(store: &mut T) -> Result<(), CommandError<'a>>
     Ok(())
 }
 
-// Prints the lines, and commits what the store holds. Where they cannot be printed it is left as it is.
 pub(crate) fn leave<'a, T: Store, W: Sink>(
     lines: &mut Vec<u8>,
     store: &mut T,

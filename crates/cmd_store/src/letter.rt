@@ -85,7 +85,6 @@ fn are_wide(to: &Items<u8>, from: &Items<u8>, subject: &Items<u8>, said: &Items<
         || is_wide(said.as_slice())
 }
 
-// The value of the field that says to whom a mail is.
 fn addressee_in(fields: &[Field]) -> Option<&[u8]>
     ensures { option_copied result ≡ option_or (value_in fields.now (codes "To")) (value_in fields.now (codes "X-Comment-To")) }
 {
@@ -95,7 +94,6 @@ fn addressee_in(fields: &[Field]) -> Option<&[u8]>
     }
 }
 
-// The area.
 fn tag_in(alloc: Global, mail: &Mail, word: Option<&str>) -> Result<Items<u8>, LetterFault>
     ensures { IsArea (option_or (area_in mail.now.fields) (option_copied word.entry)) result }
 {
@@ -106,7 +104,6 @@ fn tag_in(alloc: Global, mail: &Mail, word: Option<&str>) -> Result<Items<u8>, L
     }
 }
 
-// The text of the body.
 fn body_in(alloc: Global, mail: &Mail, charset: Charset) -> Result<Items<u8>, LetterFault>
     ensures { IsBody charset (text_of mail.now) result }
 {
@@ -114,7 +111,6 @@ fn body_in(alloc: Global, mail: &Mail, charset: Charset) -> Result<Items<u8>, Le
     bytes_in(alloc, charset, text.as_str())
 }
 
-// The id of the message that is answered.
 fn reply_in(alloc: Global, mail: &Mail, word: Option<&str>) -> Result<Items<u8>, AllocError>
     ensures { IfOk result (λ id. id ≡ unwrap_or (option_or (answered_id (field mail.now (codes "In-Reply-To"))) (option_copied word.entry)) []) }
 {
@@ -124,7 +120,6 @@ fn reply_in(alloc: Global, mail: &Mail, word: Option<&str>) -> Result<Items<u8>,
     }
 }
 
-// The bytes of a word, or none.
 fn word_bytes(word: Option<&str>) -> &[u8]
     ensures { result.now ≡ unwrap_or (option_copied word.entry) [] }
 {

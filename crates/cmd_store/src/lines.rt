@@ -67,7 +67,6 @@ pub fn push_tally(lines: &mut Vec<u8>, tally: Tally)
     lines.extend_from_slice(b"\n").unwrap();
 }
 
-// Adds a word and a number of at most 20 digits.
 fn push_count(lines: &mut Vec<u8>, word: &[u8], count: u64)
     requires { vec_len lines.old + (length word.now + 20) ≤ vec_capacity lines.old }
     ensures added { lines.new.items ≡ lines.old.items ++ (word.now ++ decimal count) }

@@ -1,4 +1,3 @@
-//! `post --mail` as a command on a store.
 ghost use Rattle.std.specs.Prelude.{false};
 ghost use Rattle.echo_toss.specs.PacketsIn.{state_in};
 ghost use Rattle.cmd_store.specs.{Bounded.AddsMailed, MailPosted.Mails, MailPosted.MailsOn, MailPosted.ReadsMail};

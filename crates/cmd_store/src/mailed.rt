@@ -6,8 +6,7 @@ use crate::letter::{Letter, MailDefaults};
 use echo_charset::Charset;
 use model_steps::Stamp;
 
-/// The words of `post --mail`: those for what the mail lacks, the charset of the posting, the serial, whether a later
-/// free one will do, and the timestamp.
+/// The words of `post --mail`. `spare` has those for what the mail lacks. With `free`, a later free serial will do.
 #[derive(Clone, Copy, Debug)]
 pub struct MailWords<'a> {
     pub spare: MailDefaults<'a>,
@@ -17,7 +16,6 @@ pub struct MailWords<'a> {
     pub stamp: Stamp,
 }
 
-/// The words with which a letter is posted.
 pub(crate) fn words_of<'w>(letter: &'w Letter, asked: MailWords<'_>) -> NewMessage<'w>
     ensures { IsPosting letter.now asked.entry result }
 {

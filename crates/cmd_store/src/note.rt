@@ -39,7 +39,6 @@ fn outcome_word(outcome: Outcome) -> &'static [u8]
     }
 }
 
-// Adds the area and the id of the text, if it is echomail, and the end of the line.
 fn push_said(alloc: Global, line: &mut Vec<u8>, text: &[u8]) -> Result<(), AllocError>
     requires { HasNoZero text.now }
     ensures { OnOk result (line.new.items ≡ line.old.items ++ text_said text.now) }

@@ -1,4 +1,3 @@
-//! Why a packet was not tossed whole, as a fault.
 ghost use Rattle.std.specs.Prelude.{◌≡◌};
 ghost use Rattle.cmd_store.specs.TossedPacket.{fault_of};
 

@@ -19,7 +19,6 @@ pub fn push_counted(lines: &mut Vec<u8>, packets: &[CountedPacket]) -> Result<()
     Ok(())
 }
 
-// The address of a packet.
 fn destination(header: &Header) -> Address
     ensures { result ≡ named_receiver header.now }
 {
@@ -52,8 +51,7 @@ pub fn resent_name(alloc: Global, to: Address, first: usize) -> Result<Vec<u8>, 
     Ok(name.into_bytes())
 }
 
-/// The name of the file of a packet of all messages from this number on: for the number 1 that of a packet made again,
-/// else one with this number.
+/// The name of a packet of all messages from this number on: `resent_name` for the number 1, else with the number.
 pub fn repair_name(
     alloc: Global,
     to: Address,

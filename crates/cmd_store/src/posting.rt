@@ -1,4 +1,3 @@
-//! The command `post` on a store.
 ghost use Rattle.std.specs.Prelude.{false, IfErr, IsErrOf, OnOk};
 ghost use Rattle.disk_io.specs.Disk.{Honestly};
 ghost use Rattle.base_file.specs.Base.{Base};
@@ -52,8 +51,6 @@ impl<'a> StoreCommand<'a> for Post<'_> {
     }
 }
 
-/// Files a message with this body in the store, prints its tag and its id, and commits. The lines of the body end in 0A or
-/// 0D 0A.
 pub(crate) fn post_as<'a, T: Store, W: Sink>(
     alloc: Global,
     free: bool,
@@ -79,7 +76,6 @@ pub(crate) fn post_as<'a, T: Store, W: Sink>(
     leave_posted(alloc, words.tag, serial, links, store, out)
 }
 
-// Prints the line of a message that was posted with this serial, and commits what the store holds.
 fn leave_posted<'a, T: Store, W: Sink>(
     alloc: Global,
     tag: &[u8],

@@ -16,7 +16,7 @@ use disk_io::Sink;
 use echo_links::LinkFile;
 use std::alloc::Global;
 
-/// `purge`.
+/// `purge`: reduces each scanned message with an id to that id.
 #[derive(Clone, Copy, Debug)]
 pub struct Purge;
 
@@ -44,8 +44,6 @@ impl<'a> StoreCommand<'a> for Purge {
     }
 }
 
-// `purge`: leaves of each scanned message with an id nothing of its text but the id, prints how many messages changed, and
-// commits.
 fn purge_on<'a, T: PurgedStore, W: Sink>(
     alloc: Global,
     store: &mut T,

@@ -1,4 +1,3 @@
-//! The command `reply` on a store.
 ghost use Rattle.std.specs.Prelude.{false, IfErr, IsErrOf, OnOk, slice_get};
 ghost use Rattle.disk_io.specs.Disk.{Honestly};
 ghost use Rattle.base_file.specs.Base.{Base};
@@ -18,7 +17,7 @@ use disk_io::Sink;
 use echo_links::LinkFile;
 use std::alloc::Global;
 
-/// `reply`: an answer to the message of this number, with this body.
+/// `reply`: an answer with this body to the message of this number, in its area and to its author.
 #[derive(Clone, Copy, Debug)]
 pub struct Reply<'w> {
     pub index: u64,
@@ -50,8 +49,6 @@ impl<'a> StoreCommand<'a> for Reply<'_> {
     }
 }
 
-// `reply`: posts an answer to the message of this number, with this body: in its area, to its author, with its subject and
-// its id. A number that no message has is a fault.
 fn reply_on<'a, T: Store, W: Sink>(
     alloc: Global,
     index: u64,
@@ -85,7 +82,6 @@ fn reply_on<'a, T: Store, W: Sink>(
     post_as(alloc, answer.free, words, links, store, body, out)
 }
 
-// The words that the message of this number gives.
 fn found_on<'a, T: Store>(
     alloc: Global,
     index: u64,

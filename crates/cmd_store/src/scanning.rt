@@ -1,4 +1,3 @@
-//! The lines of the packets of a scan are printed.
 ghost use Rattle.std.specs.{Prelude.◌≡◌, Prelude.Ok, List.flat_map};
 ghost use Rattle.cmd_status.specs.Devices.{output_of};
 ghost use Rattle.cmd_store.specs.{PacketLines.counted_line, Answered.AnswersOn, Answered.AreLines, Answered.RefusesNone, Stops.store_answer};

@@ -14,8 +14,7 @@ use echo_toss::{PostStepError, post_step};
 use model_steps::{Draft, PostFault};
 use std::alloc::Global;
 
-/// Files a message with the serial of its words. With `free`, it is filed with the first, from that on, that no message of
-/// this system in the store has. After the greatest serial comes 0.
+/// Files with the serial of the words or, with `free`, the first free one from there. After the greatest comes 0.
 pub(crate) fn file_as<T: Store>(
     alloc: Global,
     free: bool,
@@ -41,7 +40,6 @@ pub(crate) fn file_as<T: Store>(
     Ok(serial)
 }
 
-// Files a message with the first serial from that of its words on that is free. Looks once for each that is taken.
 fn file_free<T: Store>(
     alloc: Global,
     words: NewMessage<'_>,
@@ -71,7 +69,6 @@ fn file_free<T: Store>(
     Ok(serial)
 }
 
-// Whether the serial is known.
 fn is_of_serial(stop: PostStepError) -> bool
     ensures { IsTrue result ↔ (stop ≡ Refused KnownSerial) }
 {

@@ -21,11 +21,8 @@ use echo_toss::{
 };
 use std::alloc::{AllocError, Global};
 
-/// Tosses the packet at the front of the reader into the store, as `toss_packet_in` does. It appends to the
-/// text a line for each of its messages that was not filed, and keeps room for the packet's own line. Nothing is
-/// committed.
-///
-/// A message without memory for its line is not counted either.
+/// Tosses as `toss_packet_in` does, and appends a line for each message not filed. It keeps room for the packet's own
+/// line. A message without memory for its line is not counted. Nothing is committed.
 pub fn toss_noting_in<T: Store, R: Source>(
     alloc: Global,
     links: &LinkFile,
@@ -60,14 +57,12 @@ pub fn toss_noting_in<T: Store, R: Source>(
     }
 }
 
-// Who sent a packet, and how much of it is read.
 #[derive(Clone, Copy)]
 struct Incoming {
     sender: Address,
     limits: Limits,
 }
 
-// Tosses the messages up to the terminator, and notes those that were not filed.
 fn note_messages_in<T: Store, R: Source>(
     alloc: Global,
     links: &LinkFile,
@@ -106,7 +101,6 @@ fn note_messages_in<T: Store, R: Source>(
     }
 }
 
-// Where there is no memory, the packet is stopped.
 fn note_in(
     alloc: Global,
     text: &mut Vec<u8>,
@@ -128,7 +122,6 @@ fn note_in(
     }
 }
 
-// Adds the line of a message that was not filed. Leaves room for the line of the packet.
 fn note_outcome(
     alloc: Global,
     text: &mut Vec<u8>,

@@ -1,4 +1,3 @@
-//! The command `toss` on a store: packet files one after the other, of which one is open at a time.
 ghost use Rattle.std.specs.Prelude.{◌≡◌, false, IfErr, IsErrOf, OnOk};
 ghost use Rattle.disk_io.specs.Disk.{Honestly};
 ghost use Rattle.base_file.specs.Base.{Base};
@@ -33,7 +32,6 @@ pub struct Toss<'a, P> {
 }
 
 impl<'a, P: PacketFiles<'a>> Toss<'a, P> {
-    /// Of these files.
     pub fn new(limits: Limits, noting: bool, packets: P) -> Toss<'a, P>
         ensures limits { result.limits ≡ limits }
         ensures noting { result.noting ≡ noting }
@@ -80,10 +78,8 @@ impl<'a, P: PacketFiles<'a>> StoreCommand<'a> for Toss<'a, P> {
     }
 }
 
-// `toss`: tosses the packet at the front of each file into the store, in order, prints a line for each, and commits.
-// The run ends at the fault of a packet or of its file. The fault is returned, and the messages tossed before are
-// committed; later files are not opened. With `noting`, the line of a packet comes after a line for each of its
-// messages that was not filed (`toss --each`).
+// Tosses the packet at the front of each file in order. At a fault it stops, commits what was tossed before, and opens
+// no later file.
 fn toss_on<'a, T: Store, P: PacketFiles<'a>, W: Sink>(
     alloc: Global,
     limits: Limits,
@@ -110,7 +106,7 @@ fn toss_on<'a, T: Store, P: PacketFiles<'a>, W: Sink>(
     Ok(stopped)
 }
 
-// Prints the lines of a run; of one that was stopped it is not reported that they could not be printed.
+// If a fault stopped the run, a failed print is not reported.
 fn print_run<'a, W: Sink>(
     lines: &mut Vec<u8>,
     stopped: Option<Fault<'a>>,
@@ -125,7 +121,6 @@ fn print_run<'a, W: Sink>(
     }
 }
 
-// Tosses the packets of the files, up to the first fault, which is answered.
 fn toss_files<'a, T: Store, P: PacketFiles<'a>>(
     alloc: Global,
     limits: Limits,
@@ -157,8 +152,7 @@ fn toss_files<'a, T: Store, P: PacketFiles<'a>>(
     Ok(None)
 }
 
-// Tosses the packet at the front of the reader's bytes, adds its lines, and returns why it was not tossed whole. If
-// there is no memory for the line of a packet, it is not read.
+// Without memory for the line of a packet, the packet is not read.
 fn toss_next<'a, T: Store, R: Source>(
     alloc: Global,
     limits: Limits,
@@ -188,7 +182,6 @@ fn toss_next<'a, T: Store, R: Source>(
     }
 }
 
-// Adds the line of a packet, and answers why it was not tossed whole. There is to be room for the line.
 fn push_answer<'a>(
     lines: &mut Vec<u8>,
     answer: Result<Tally, StoppedToss>,

@@ -24,7 +24,6 @@ pub(crate) fn name_in(
     }
 }
 
-/// The words of the value of a field, in the same way.
 pub(crate) fn words_in(
     alloc: Global,
     charset: Charset,
@@ -40,7 +39,6 @@ pub(crate) fn words_in(
     }
 }
 
-// The word, if there is one.
 fn word_in(
     alloc: Global,
     charset: Charset,
@@ -55,7 +53,6 @@ fn word_in(
     }
 }
 
-/// The bytes that say a text.
 pub(crate) fn bytes_in(
     alloc: Global,
     charset: Charset,

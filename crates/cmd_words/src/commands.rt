@@ -83,7 +83,6 @@ const TAG: Word = Word("TAG", Form::One, AREA);
 
 const NET: &str = "The link file of each system of the net";
 
-/// The link files of a net, by words or by a list.
 const ALL_LINKS: Word = Word("LINKS", Form::ManyUnless("links-from"), NET);
 
 const LINKS_FROM: Word = Word(

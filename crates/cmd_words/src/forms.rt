@@ -8,7 +8,6 @@ use std::alloc::{AllocError, Global};
 const CHECK_USAGE: &str =
     "echonet check [OPTIONS] <TAG> <LINKS>...\n       echonet check [OPTIONS] --all <LINKS>...";
 
-// The parser's form of a word.
 fn argument<'a>(alloc: Global, word: Word) -> Result<Arg<'a>, AllocError> {
     let Word(name, form, help) = word;
     let arg = Arg::new(alloc, name).help(help);
@@ -64,7 +63,6 @@ fn rest_unless<'a>(
     rest.required_unless_present(option)?.conflicts_with(list)
 }
 
-/// The parser's form of a command.
 pub(crate) fn subcommand<'a>(alloc: Global, entry: Entry) -> Result<Command<'a>, AllocError> {
     let Entry(name, about, ending, words) = entry;
     let mut command = described(alloc, name, about, ending);
@@ -74,7 +72,6 @@ pub(crate) fn subcommand<'a>(alloc: Global, entry: Entry) -> Result<Command<'a>,
     Ok(command)
 }
 
-// The same without its words.
 fn described<'a>(
     alloc: Global,
     name: &'static str,

@@ -1,8 +1,5 @@
-//! The command line. It promises to be safe and to end, and no more; scripts/manual.sh compares its help with the manual
-//! page. Begin with `commands`, the table of commands with their words and help.
-//!
-//! `forms` and `program` make the parser from the table. `words` has the parsed words of each command, and `parsing` finds
-//! them. `refusing` reports why a command line was refused.
+//! The command line. It promises to be safe and to end, and no more; scripts/manual.sh compares its help with the
+//! manual page. Begin with `commands`, the table of commands with their words and help.
 #![tactic(auto)]
 
 mod commands;

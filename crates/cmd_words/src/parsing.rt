@@ -23,12 +23,10 @@ fn paths_in<'a>(
     })
 }
 
-// The link files of a net.
 fn links<'a>(alloc: Global, matches: &ArgMatches<'a>) -> Result<Paths<'a>, AllocError> {
     paths_in(alloc, matches, "LINKS", "links-from")
 }
 
-// The values of an argument.
 fn values<'a>(
     alloc: Global,
     matches: &ArgMatches<'a>,
@@ -121,7 +119,6 @@ fn post_words<'a>(matches: &ArgMatches<'a>) -> Option<Words<'a>> {
     })))
 }
 
-// The words for the fields of a message.
 #[derive(Clone, Copy)]
 struct Texts<'a> {
     area: &'a str,
@@ -139,7 +136,6 @@ fn texts_in<'a>(matches: &ArgMatches<'a>) -> Option<Texts<'a>> {
     })
 }
 
-// The words that state when and where a message is posted.
 #[derive(Clone, Copy)]
 struct Stated<'a> {
     serial: &'a str,
@@ -155,7 +151,6 @@ fn stated_in<'a>(matches: &ArgMatches<'a>) -> Option<Stated<'a>> {
     })
 }
 
-// The paths of a station.
 fn place_in<'a>(matches: &ArgMatches<'a>) -> Option<Place<'a>> {
     Some(Place {
         links: matches.get_str("LINKS")?,
@@ -318,7 +313,6 @@ fn links_words<'a>(
     })))
 }
 
-// The words of a posting.
 fn posting_words<'a>(given: &ArgMatches<'a>) -> Option<Words<'a>> {
     if given.get_flag("mail") {
         post_mail_words(given)
@@ -331,7 +325,6 @@ fn posting_words<'a>(given: &ArgMatches<'a>) -> Option<Words<'a>> {
     }
 }
 
-// The words of an export.
 fn exporting_words<'a>(given: &ArgMatches<'a>) -> Option<Words<'a>> {
     if given.get_str("msg").is_some() {
         export_stored_words(given)
@@ -342,7 +335,6 @@ fn exporting_words<'a>(given: &ArgMatches<'a>) -> Option<Words<'a>> {
     }
 }
 
-// The words of a command.
 fn words_of<'a>(
     alloc: Global,
     command: &str,
@@ -360,7 +352,6 @@ fn words_of<'a>(
     }
 }
 
-// The same for a command on a base.
 fn base_words<'a>(
     alloc: Global,
     command: &str,
@@ -387,7 +378,6 @@ pub fn parse<'a>(alloc: Global, words: &'a [String]) -> Result<Option<ParsedLine
     parse_by(alloc, &mut program, words)
 }
 
-// The same with this parser.
 fn parse_by<'a>(
     alloc: Global,
     program: &mut Command<'a>,
@@ -403,7 +393,6 @@ fn parse_by<'a>(
     }
 }
 
-// The words of the command in the parser's answer.
 fn matched<'a>(
     alloc: Global,
     program: &mut Command<'a>,

@@ -8,7 +8,6 @@ use std::alloc::{AllocError, Global};
 /// The version that `--version` prints after the name.
 const VERSION: &str = "0.1.0";
 
-// The program with the commands of a table.
 fn with_commands<'a>(
     alloc: Global,
     program: Command<'a>,
@@ -33,7 +32,6 @@ fn with_reading<'a>(alloc: Global, program: Command<'a>) -> Result<Command<'a>, 
     with_commands(alloc, program, READING)
 }
 
-// The word that each command takes.
 fn explain_word<'a>(alloc: Global) -> Arg<'a> {
     Arg::new(alloc, "explain")
         .long("explain")
@@ -42,7 +40,6 @@ fn explain_word<'a>(alloc: Global) -> Arg<'a> {
         .help("Also prints in words why a command stopped, as on a terminal")
 }
 
-/// The parser of the command line.
 pub(crate) fn command<'a>(alloc: Global) -> Result<Command<'a>, AllocError> {
     let program = Command::new(alloc, "echonet")
         .about("An echomail tosser and topology checker for FidoNet")

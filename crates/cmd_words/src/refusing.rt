@@ -1,5 +1,3 @@
-//! Reports why a command line was refused.
-
 use clap::Error;
 use clap::error::ErrorKind;
 

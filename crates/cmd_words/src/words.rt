@@ -1,5 +1,3 @@
-//! The parsed words of a command line.
-
 /// The command and its words. A path can be `-`.
 #[derive(Drop)]
 pub enum Words<'a> {
@@ -84,7 +82,6 @@ pub struct CheckWords<'a> {
     pub links: Paths<'a>,
 }
 
-/// The words of `picture`.
 #[derive(Drop)]
 pub struct PictureWords<'a> {
     pub why: bool,
@@ -95,7 +92,6 @@ pub struct PictureWords<'a> {
     pub links: Paths<'a>,
 }
 
-/// The words of `why`.
 #[derive(Drop)]
 pub struct WhyWords<'a> {
     pub assume: Vec<&'a str>,
@@ -104,7 +100,6 @@ pub struct WhyWords<'a> {
     pub links: Paths<'a>,
 }
 
-/// The words of `post`.
 #[derive(Drop)]
 pub struct PostWords<'a> {
     pub area: &'a str,
@@ -117,7 +112,6 @@ pub struct PostWords<'a> {
     pub place: Place<'a>,
 }
 
-/// The words of `post --mail`.
 #[derive(Drop)]
 pub struct PostMailWords<'a> {
     pub charset: Option<&'a str>,
@@ -131,7 +125,6 @@ pub struct PostMailWords<'a> {
     pub place: Place<'a>,
 }
 
-/// The words of `post --msg`.
 #[derive(Drop)]
 pub struct PostStoredWords<'a> {
     pub area: &'a str,
@@ -141,7 +134,6 @@ pub struct PostStoredWords<'a> {
     pub place: Place<'a>,
 }
 
-/// The words of `post --jam`.
 #[derive(Drop)]
 pub struct PostJamWords<'a> {
     pub area: &'a str,
@@ -151,7 +143,6 @@ pub struct PostJamWords<'a> {
     pub place: Place<'a>,
 }
 
-/// The words of `reply`.
 #[derive(Drop)]
 pub struct ReplyWords<'a> {
     pub from: &'a str,
@@ -161,7 +152,6 @@ pub struct ReplyWords<'a> {
     pub place: Place<'a>,
 }
 
-/// The words of `list`.
 #[derive(Drop)]
 pub struct ListWords<'a> {
     pub short: bool,
@@ -172,7 +162,6 @@ pub struct ListWords<'a> {
     pub base: &'a str,
 }
 
-/// The words of `export`.
 #[derive(Drop)]
 pub struct ExportWords<'a> {
     pub json: bool,
@@ -182,7 +171,6 @@ pub struct ExportWords<'a> {
     pub base: &'a str,
 }
 
-/// The words of `export --msg`.
 #[derive(Drop)]
 pub struct ExportStoredWords<'a> {
     pub folder: &'a str,
@@ -191,7 +179,6 @@ pub struct ExportStoredWords<'a> {
     pub base: &'a str,
 }
 
-/// The words of `export --jam`.
 #[derive(Drop)]
 pub struct ExportJamWords<'a> {
     pub jam: &'a str,
@@ -209,7 +196,6 @@ pub struct TossWords<'a> {
     pub packets: Paths<'a>,
 }
 
-/// The words of `scan`.
 #[derive(Clone, Copy)]
 pub struct ScanWords<'a> {
     pub at: &'a str,

@@ -6,11 +6,9 @@ use Rattle.disk_atomic.specs.Naming.{HasItsPath, HasMoved, KeepsPath, Names, IsW
 use Rattle.disk_atomic.specs.{Changes.ChangesOnly, Changes.HasOnDisk, Outgoing.AreApart, Outgoing.IsStaged, declared.outgoing.Outgoing.Outgoing}
 use Rattle.disk_atomic.proofs.{Changes.left_there, Changes.stays_on_disk, Packets.AtBoth}
 
--- after any crash, the packet is whole at one of its two paths
 abbrev pub IsAnchored : (Outgoing → List ℕ) → DiskState → Outgoing → Type 0
 IsAnchored content disk p = HasOnDisk disk p.path.now (content p) ⊎ HasOnDisk disk p.staging.now (content p)
 
--- its path leads to the same file as before
 abbrev pub IsSameAt : DiskState → DiskState → Outgoing → Type 0
 IsSameAt old new p = new.seen p.path.now ≡ old.seen p.path.now
 
@@ -39,7 +37,6 @@ module _ (content : Outgoing → List ℕ) (x y : Outgoing) (apart : AreApart x 
     pub path_stays : (d0 : DiskState) → KeepsPath d0 d y → KeepsPath d0 e y
     path_stays d0 was some = run.seen y.path.now not_path ∙ was some
 
-  -- the packet after a crash
   pub whole_stays : (d : DiskState) (b c : Files) → d.may_leave b → Names x.path.now x.staging.now b c → IsAnchored content d y → IsWholeAtEither content c y
   whole_stays d b c left names on = grind (arith, ⊎_elim, not_path, left_there, not_staging)
 

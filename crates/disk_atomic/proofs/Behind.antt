@@ -14,7 +14,6 @@ module _ (packets : List Outgoing) (pairs : AllPairs AreApart packets) (i : ℕ)
   same_other : (k : ℕ) (p : Outgoing) → k ≢ i → k < length packets → e.seen (get_or packets k p).staging.now ≡ d.seen (get_or packets k p).staging.now
   same_other k p differs within = run.seen (get_or packets k p).staging.now (other k p differs within)
 
-  -- the current element
   one_at : (k : ℕ) (p : Outgoing) → k ≡ i → get_or packets k p ≡ x
   one_at k p same = ap (λ (n : ℕ). get_or packets n p) same ∙ get_or_default packets i p x lt ∙ sym is
 
@@ -27,7 +26,6 @@ module _ (packets : List Outgoing) (pairs : AllPairs AreApart packets) (i : ℕ)
       (λ o. ⊎_elim (λ (low : k < i). grow_other k p (omega arith) within (all k p within)) (λ (high : i < k). grow_other k p (omega arith) within (all k p within)) o)
       (cases_order k i)
 
-  -- those up to here got longer, the others are as they were first
   module _ (d0 : DiskState) (more : Address → List ℕ) (same : (k : ℕ) (p : Outgoing) → i ≤ k → k < length packets → d.seen (get_or packets k p).staging.now ≡ d0.seen (get_or packets k p).staging.now) where
     pub still_same : (k : ℕ) (p : Outgoing) → i + 1 ≤ k → k < length packets → e.seen (get_or packets k p).staging.now ≡ d0.seen (get_or packets k p).staging.now
     still_same k p later within = same_other k p (omega arith) within ∙ same k p (omega arith) within

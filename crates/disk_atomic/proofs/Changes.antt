@@ -25,11 +25,9 @@ module _ (paths : List ℕ → Type 0) where
   pub only_nothing : (old new : DiskState) → ChangesNothing old new → ChangesOnly paths old new
   only_nothing old new quiet = grind (arith, weaker_run)
 
-  -- a run of no call
   pub only_start : (disk : DiskState) → ChangesOnly paths disk disk
   only_start disk = grind (arith, no_call)
 
-  -- a call at one path, which is on the disk
   pub only_call : {unnamed shared : List ℕ → Type 0} (old new : DiskState) (x : List ℕ) (step : Option (List ℕ) → Option (List ℕ) → Type 0) → paths x → old.is_named x
       → ((m : List ℕ) → unnamed m → paths m) → ((m : List ℕ) → shared m → paths m) → ChangesAt (ThisPath x) unnamed shared (ChangesFile old x step) old new → ChangesOnly paths old new
   only_call old new x step is on unnamed shared call =
@@ -43,12 +41,10 @@ module _ (paths : List ℕ → Type 0) where
         any_moment = one_call old new (DifferAt paths) (λ c m other. refl) call (λ a c left changed m other. changed.others m (not m other) (inl on));
       }
 
-  -- it makes a file there, or removes it
   pub only_path : (old new : DiskState) (x : List ℕ) (step : Option (List ℕ) → Option (List ℕ) → Type 0) → paths x → old.is_named x
       → ChangesAt (ThisPath x) (ThisPath x) (ThisPath x) (ChangesFile old x step) old new → ChangesOnly paths old new
   only_path old new x step is on = only_call old new x step is on (λ m e. subst paths (sym e) is) (λ m e. subst paths (sym e) is)
 
-  -- it writes to the file there
   pub only_bytes : (old new : DiskState) (x : List ℕ) (step : Option (List ℕ) → Option (List ℕ) → Type 0) → paths x → old.is_named x
       → ChangesAt (ThisPath x) NoPath NoPath (ChangesFile old x step) old new → ChangesOnly paths old new
   only_bytes old new x step is on = only_call old new x step is on (λ m none. absurd none) (λ m none. absurd none)
@@ -65,14 +61,11 @@ module _ (paths : List ℕ → Type 0) where
         any_moment = then_steps d0 d1 d2 differ differ differ first.any_moment second.any_moment (λ a b r. r) (λ a b c at left r q m other. q m other ∙ r m other);
       }
 
-  -- a file at another path remains on the disk
   pub stays_on_disk : (old new : DiskState) (m bytes : List ℕ) → ChangesOnly paths old new → (paths m → ⊥) → HasOnDisk old m bytes → HasOnDisk new m bytes
   stays_on_disk old new m bytes run other was = grind arith
 
--- more paths
 pub wider : (few many : List ℕ → Type 0) (old new : DiskState) → ((m : List ℕ) → few m → many m) → ChangesOnly few old new → ChangesOnly many old new
 wider few many old new more run = grind (arith, weaker_steps)
 
--- a crash leaves a file that is on the disk
 pub left_there : (disk : DiskState) (path bytes : List ℕ) → HasOnDisk disk path bytes → (c : Files) → disk.may_leave c → c path ≡ Some bytes
 left_there disk path bytes on c left = disk.on_disk path on.named on.flushed c left ∙ on.seen

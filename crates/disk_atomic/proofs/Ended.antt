@@ -1,4 +1,3 @@
--- Finishing packets in order.
 use Rattle.std.proofs.Common.{◌≡◌, ◌≢◌, ◌⊎◌, inl, inr, ⊎_elim, ◌∙◌, ◌+◌, ◌<◌, ◌≤◌, ℕ, List, [], arith, get_or, length, refl, subst, sym}
 use Rattle.std.proofs.lemmas.{Bool.cases_lt, List.Elements.AllWithin-none}
 use Rattle.std.specs.{Prelude.AllPairs, Prelude.IsSome, List.AllWithin}
@@ -16,11 +15,9 @@ away_back l k a = grind arith
 abbrev pub nothing_left : Left
 nothing_left = record { path = record { ref_ptr = (0, 0); now = [] }; staging = record { ref_ptr = (0, 0); now = [] }; before = 0 }
 
--- both paths of one
 abbrev pub AtLeft : Left → List ℕ → Type 0
 AtLeft l m = (m ≡ l.staging.now) ⊎ (m ≡ l.path.now)
 
--- a step that changes nothing, for a packet not yet reached
 pub ends_same : (cursor : ℕ) (a b : Files) (l : Left) → b l.staging.now ≡ a l.staging.now → b l.path.now ≡ a l.path.now → EndsAs cursor a b l
 ends_same cursor a b l staging path = record { committed = λ lt. inr staging; untouched = λ le. path; either = inl path }
 
@@ -28,11 +25,9 @@ ends_same cursor a b l staging path = record { committed = λ lt. inr staging; u
 pub named_finishes : (cursor : ℕ) (l : Left) → l.before < cursor → (a c : Files) → Names l.path.now l.staging.now a c → Finishes cursor l a c
 named_finishes cursor l lt a c n = record { others = n.others; ends = record { committed = λ is. n.stands; untouched = λ le. absurd (omega arith); either = n.either } }
 
--- quiet calls, then a run
 pub quiet_then : (d0 d1 d2 : DiskState) (Q P : Files → Files → Type 0) → ChangesNothing d0 d1 → ((c : Files) → P c c) → LeavesOnly d1 d2 (OneStepOn Q d1) → ((a c : Files) → Q a c → P a c) → LeavesOnly d0 d2 (OneStepOn P d0)
 quiet_then d0 d1 d2 Q P quiet none run gives = grind (arith, then_run, weaker_run)
 
--- both paths show the same files as before
 pub record IsSameLeft (old new : DiskState) (l : Left) : Type 0 where
   pub path : new.seen l.path.now ≡ old.seen l.path.now
   pub staging : new.seen l.staging.now ≡ old.seen l.staging.now
@@ -58,11 +53,9 @@ module _ (x y : Left) (away : AreAway x y) where
       pub still_over : (cursor : ℕ) → IsOver cursor d0 d y → IsOver cursor d0 e y
       still_over cursor was = grind (arith, left_not_path, left_not_staging)
 
-  -- the packet after a crash
   pub still_ends : (cursor : ℕ) (a b c : Files) → DifferAt (AtLeft x) b c → EndsAs cursor a b y → EndsAs cursor a c y
   still_ends cursor a b c r was = grind (arith, left_not_path, left_not_staging, ⊎_elim)
 
--- the current packet, which was unchanged until now
 module _ (cursor : ℕ) (x : Left) where
   pub ends_now : (a b c : Files) → b x.staging.now ≡ a x.staging.now → b x.path.now ≡ a x.path.now → EndsAs cursor b c x → EndsAs cursor a c x
   ends_now a b c staging path ends = grind (arith, ⊎_elim)
@@ -74,13 +67,11 @@ module _ (cursor : ℕ) (x : Left) where
     pub keeps_now : KeepsFile d e x → KeepsFile d0 e x
     keeps_now keeps some = keeps (subst (λ f. IsSome f) (sym same.path) some) ∙ same.path
 
--- the first i packets are finished
 pub record FinishesSome (cursor : ℕ) (found : List Left) (i : ℕ) (before after : Files) : Type 0 where
   pub others : DifferAt (IsOfLeft found) before after
   pub ends : AllWithin (EndsAs cursor before after) found 0 i
   pub same : AllWithin (λ l. (after l.path.now ≡ before l.path.now) × (after l.staging.now ≡ before l.staging.now)) found i (length found)
 
--- and the others are as they were
 pub some_finishes : (cursor : ℕ) (found : List Left) (i : ℕ) (a b : Files) → FinishesSome cursor found i a b → FinishesEach cursor found a b
 some_finishes cursor found i a b r = grind (arith, ⊎_elim, ends_same, get_or, cases_lt)
 
@@ -91,7 +82,6 @@ module _ (cursor : ℕ) (found : List Left) (away : AllPairs AreAway found) (i :
   pub one_of_left : (d e : DiskState) → ChangesOnly (AtLeft x) d e → ChangesOnly (IsOfLeft found) d e
   one_of_left d e run = wider (AtLeft x) (IsOfLeft found) d e (λ m at. (x, among found i nothing_left lt, at)) run
 
-  -- one packet more
   pub then_finishes : (a b c : Files) → FinishesSome cursor found i a b → Finishes cursor x b c → FinishesSome cursor found (i + 1) a c
   then_finishes a b c r q =
       let at = here (λ (l : Left). (b l.path.now ≡ a l.path.now) × (b l.staging.now ≡ a l.staging.now)) found i nothing_left lt r.same in
@@ -107,7 +97,6 @@ module _ (cursor : ℕ) (found : List Left) (away : AllPairs AreAway found) (i :
       then_steps d0 d e (FinishesSome cursor found i) (Finishes cursor x) (FinishesSome cursor found (i + 1)) run one
       (λ a b r. then_finishes a b b r (record { others = λ m out. refl; ends = ends_same cursor b b x refl refl })) (λ a b c at left r q. then_finishes a b c r q)
 
--- before the first of them
 pub none_finished : (cursor : ℕ) (found : List Left) (d0 d1 : DiskState) → ChangesNothing d0 d1 → LeavesOnly d0 d1 (OneStepOn (FinishesSome cursor found 0) d0)
 none_finished cursor found d0 d1 quiet = grind (arith, weaker_run, AllWithin-none)
 

@@ -10,7 +10,6 @@ abbrev Links : List ℕ → List ℕ → DiskState → DiskState → Type 0
 Links path staging old new = ChangesAt (ThisPath path) (ThisPath path) (EitherPath staging path) (ChangesFile old path (TornNaming (old.seen staging))) old new
 
 module _ (path staging : List ℕ) (other : staging ≢ path) where
-  -- the second path
   pub linked_run : (old new : DiskState) → old.is_named staging → old.is_flushed staging → old.is_named path → Links path staging old new → LeavesOnly old new (OneStepOn (Names path staging) old)
   linked_run old new named flushed free call =
       one_call old new (Names path staging) (λ c. record { others = λ m out. refl; stands = inr refl; either = inl refl }) call
@@ -22,7 +21,6 @@ module _ (path staging : List ℕ) (other : staging ≢ path) where
         either = ⊎_elim (λ same. inl same) (λ new. inr (new ∙ sym there)) (links.within free);
       })
 
-  -- the new path is on the disk, and the first one goes
   pub moved_run : (d0 d1 d2 : DiskState) → LeavesOnly d0 d1 (OneStepOn (Names path staging) d0) → d0.is_named staging → d0.is_flushed staging → d1.is_named staging
       → d1.is_named path → d1.is_flushed path → d1.seen path ≡ d0.seen staging → ChangesAt (ThisPath staging) (ThisPath staging) (ThisPath staging) (ChangesFile d1 staging TornRemoval) d1 d2
       → LeavesOnly d0 d2 (OneStepOn (Names path staging) d0)
@@ -34,7 +32,6 @@ module _ (path staging : List ℕ) (other : staging ≢ path) where
       let same : c path ≡ a staging = q.others path (λ e. other (sym e)) (inl still) ∙ d1.on_disk path path_named path_flushed b left ∙ is ∙ sym (d0.on_disk staging named flushed a at) in
       record { others = λ m out. q.others m (λ e. out (inl e)) (inl still) ∙ r.others m out; stands = inl same; either = inr same })
 
--- a link is such a call
 pub link_gives : (path staging : List ℕ) → staging ≢ path → (old new : DiskState) → old.is_named staging → old.is_flushed staging → old.is_named path → Links path staging old new → Gives old new path staging
 link_gives path staging other old new named flushed free call = record {
   any_moment = linked_run path staging other old new named flushed free call;
@@ -42,7 +39,6 @@ link_gives path staging other old new named flushed free call = record {
   stays = record { seen = call.others staging other; named = call.named staging other; flushed = call.flushed staging other };
 }
 
--- the same with quiet calls after it
 pub gives_quiet : (d0 d1 d2 : DiskState) (path staging : List ℕ) → Gives d0 d1 path staging → ChangesNothing d1 d2 → Gives d0 d2 path staging
 gives_quiet d0 d1 d2 path staging run quiet =
     let both = λ (m : List ℕ). (m ≡ staging) ⊎ (m ≡ path) in

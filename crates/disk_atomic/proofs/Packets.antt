@@ -15,15 +15,12 @@ apart_back p q a = record {
   staging_not_path = λ e. a.path_not_staging (sym e);
 }
 
--- the value that a loop reads past the end
 abbrev pub nobody : Outgoing
 nobody = record { path = record { ref_ptr = (0, 0); now = [] }; staging = record { ref_ptr = (0, 0); now = [] }; to = record { zone = 0; net = 0; node = 0 } }
 
--- the staging path of a packet
 abbrev pub At : Outgoing → List ℕ → Type 0
 At p m = m ≡ p.staging.now
 
--- both paths of one of them
 abbrev pub AtBoth : Outgoing → List ℕ → Type 0
 AtBoth p m = (m ≡ p.staging.now) ⊎ (m ≡ p.path.now)
 
@@ -34,7 +31,6 @@ module _ (packets : List Outgoing) (x : Outgoing) (is : Contains packets x) (d e
   pub of_one : ChangesOnly (AtBoth x) d e → ChangesOnly (IsOfOne packets) d e
   of_one run = wider (AtBoth x) (IsOfOne packets) d e (λ m at. (x, is, at)) run
 
--- a run at the staging path of x
 module _ (d e : DiskState) (x : Outgoing) (run : ChangesOnly (At x) d e) (y : Outgoing) (apart : AreApart x y) where
   pub made_stays : IsMade d y → IsMade e y
   made_stays was = grind arith
@@ -45,11 +41,9 @@ module _ (d e : DiskState) (x : Outgoing) (run : ChangesOnly (At x) d e) (y : Ou
   pub gone_stays : IsStagingGone d y → IsStagingGone e y
   gone_stays was = run.seen y.staging.now (λ at. apart.stagings (sym at)) ∙ was
 
--- a run that changes nothing
 pub made_through : (d e : DiskState) → ChangesNothing d e → (packets : List Outgoing) → All (IsMade d) packets → All (IsMade e) packets
 made_through d e quiet packets all k z lt = grind (arith, get_or)
 
--- no packet's path is a staging path of another
 pub path_not_staging : (folder : List ℕ) (packets : List Outgoing) → ArePlaced folder packets → (k : ℕ) (z : Outgoing) → k < length packets → IsStagingOne packets (get_or packets k z).path.now → ⊥
 path_not_staging folder packets placed k z lt (p, (j, within, is), at) =
     let here : get_or packets j z ≡ p = at_read packets (λ (q : Outgoing). q ≡ p) j p within (sym is) refl z in

@@ -10,16 +10,13 @@ module _ (path staging bytes : List ℕ) where
   Renames old new = ChangesAt (EitherPath staging path) (EitherPath staging path) (EitherPath staging path) (RenamesFile old staging path) old new
 
   module _ (other : staging ≢ path) where
-    -- files that differ only at the staging path
     pub not_yet : (a c : Files) → DifferAt (λ m. m ≡ staging) a c → Replaces path staging bytes a c
     not_yet a c r = record { others = λ m out. r m (λ e. out (inl e)); either = inl (r path (λ e. other (sym e))) }
 
-    -- and then the path was given the new file, or was not
     pub then_replaced : (a b c : Files) → DifferAt (λ m. m ≡ staging) a b → Replaces path staging bytes b c → Replaces path staging bytes a c
     then_replaced a b c r q = grind (arith, ⊎_elim)
 
   module _ (old new : DiskState) (is : HasOnDisk old staging bytes) (named : old.is_named path) (call : Renames old new) where
-    -- the renaming
     pub renamed_run : LeavesOnly old new (OneStepOn (Replaces path staging bytes) old)
     renamed_run = one_call old new (Replaces path staging bytes) (λ c. record { others = λ m out. refl; either = inl refl }) call (λ a c left renames. record {
       others = λ m out. renames.others m (λ e. out (inl e)) (λ e. out (inr e)) (inl (is.named, named));
@@ -29,7 +26,6 @@ module _ (path staging bytes : List ℕ) where
     pub renamed_only : ChangesOnly (EitherPath staging path) old new
     renamed_only = grind (arith, weaker_steps, renamed_run)
 
-  -- the run up to the renaming, and that
   pub replaced_run : (d0 d1 d2 : DiskState) → staging ≢ path → ChangesOnly (λ m. m ≡ staging) d0 d1 → HasOnDisk d1 staging bytes → d1.is_named path → Renames d1 d2
       → LeavesOnly d0 d2 (OneStepOn (Replaces path staging bytes) d0)
   replaced_run d0 d1 d2 other run is named call =

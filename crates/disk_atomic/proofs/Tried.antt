@@ -14,7 +14,6 @@ tries_then trial from d0 d1 d2 one two = record {
   stays = record { seen = two.stays.seen ∙ one.stays.seen; named = λ is. two.stays.named (one.stays.named is); flushed = λ is. two.stays.flushed (one.stays.flushed is) };
 }
 
--- up to the link, and up to the flush after it
 module _ (trial from : List ℕ) (other : from ≢ trial) (d0 d1 d2 : DiskState) (clear : ChangesOnly (λ m. m ≡ trial) d0 d1) (gives : Gives d1 d2 trial from) where
   pub tries_linked : Tries d0 d2 trial from
   tries_linked = tries_then trial from d0 d1 d2 (tries_only trial from other d0 d1 clear) (record { changes = gives.changes; stays = gives.stays })

@@ -14,26 +14,21 @@ pub record AreAway (one other : Left) : Type 0 where
   pub path_not_staging : one.path.now ≢ other.staging.now
   pub staging_not_path : one.staging.now ≢ other.path.now
 
--- The two paths of a packet are in this folder.
 pub record IsLeftIn (folder : List ℕ) (l : Left) : Type 0 where
   pub path_in : IsIn folder l.path.now
   pub staging_in : IsIn folder l.staging.now
   pub other : l.staging.now ≢ l.path.now
 
--- Packets of this folder that share no path.
 pub record AreLeftIn (folder : List ℕ) (found : List Left) : Type 0 where
   pub each : All (IsLeftIn folder) found
   pub away : AllPairs AreAway found
 
--- Its staging file exists.
 abbrev pub IsThere : DiskState → Left → Type 0
 IsThere disk l = IsSome (disk.seen l.staging.now)
 
--- No file has its path.
 abbrev pub IsFreeOf : DiskState → Left → Type 0
 IsFreeOf disk l = disk.seen l.path.now ≡ None
 
--- The current entries of its two paths are on the disk.
 pub record AreNamed (disk : DiskState) (l : Left) : Type 0 where
   pub path : disk.is_named l.path.now
   pub staging : disk.is_named l.staging.now
@@ -44,7 +39,6 @@ pub record IsOver (cursor : ℕ) (old new : DiskState) (l : Left) : Type 0 where
   pub gone : cursor ≤ l.before → new.seen l.staging.now ≡ None
   pub untouched : cursor ≤ l.before → new.seen l.path.now ≡ old.seen l.path.now
 
--- A file at its path is still there.
 abbrev pub KeepsFile : DiskState → DiskState → Left → Type 0
 KeepsFile old new l = IsSome (old.seen l.path.now) → new.seen l.path.now ≡ old.seen l.path.now
 

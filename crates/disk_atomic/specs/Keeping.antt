@@ -3,7 +3,6 @@ use Rattle.std.specs.Prelude.{◌≤◌, ◌++◌, List, ℕ, IsSome, drop, leng
 use Rattle.disk_io.specs.Disk.{DiskState, Honestly, bytes_in}
 use Rattle.disk_atomic.specs.{Changes.HasOnDisk, declared.keeping.Kept.Kept}
 
--- The head, the kept bytes, and the tail.
 abbrev pub kept_bytes : List ℕ → Kept → List ℕ
 kept_bytes old kept = kept.head.now ++ (drop kept.from (take kept.to old) ++ kept.tail.now)
 

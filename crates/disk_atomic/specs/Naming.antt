@@ -15,7 +15,6 @@ pub record StaysThere (old new : DiskState) (path : List ℕ) : Type 0 where
   pub named : old.is_named path → new.is_named path
   pub flushed : old.is_flushed path → new.is_flushed path
 
--- The two paths are in this folder.
 pub record AreBothIn (folder staging path : List ℕ) : Type 0 where
   pub path_in : IsIn folder path
   pub staging_in : IsIn folder staging
@@ -55,7 +54,6 @@ pub record NamesEach (content : Outgoing → List ℕ) (packets : List Outgoing)
   pub others : DifferAt (IsOfOne packets) before after
   pub whole : All (IsWholeAtEither content after) packets
 
--- A file at its path is still there.
 abbrev pub KeepsPath : DiskState → DiskState → Outgoing → Type 0
 KeepsPath old new p = IsSome (old.seen p.path.now) → new.seen p.path.now ≡ old.seen p.path.now
 

@@ -12,7 +12,6 @@ IsStagingOne packets m = (p : Outgoing) × Contains packets p × (m ≡ p.stagin
 abbrev pub IsOfOne : List Outgoing → List ℕ → Type 0
 IsOfOne packets m = (p : Outgoing) × Contains packets p × ((m ≡ p.staging.now) ⊎ (m ≡ p.path.now))
 
--- The staging path of one of them, or the trial path.
 abbrev pub IsAtStaging : List Outgoing → List ℕ → List ℕ → Type 0
 IsAtStaging packets trial m = IsStagingOne packets m ⊎ (m ≡ trial)
 
@@ -23,13 +22,11 @@ pub record AreApart (one other : Outgoing) : Type 0 where
   pub path_not_staging : one.path.now ≢ other.staging.now
   pub staging_not_path : one.staging.now ≢ other.path.now
 
--- The two paths of a packet are in this folder.
 pub record IsPlaced (folder : List ℕ) (p : Outgoing) : Type 0 where
   pub path_in : IsIn folder p.path.now
   pub staging_in : IsIn folder p.staging.now
   pub other : p.staging.now ≢ p.path.now
 
--- Packets of this folder that share no path.
 pub record ArePlaced (folder : List ℕ) (packets : List Outgoing) : Type 0 where
   pub each : All (IsPlaced folder) packets
   pub apart : AllPairs AreApart packets
@@ -42,44 +39,34 @@ SendsBytes content p = AreBytes (content p)
 abbrev pub staged_in : Files → Outgoing → List ℕ
 staged_in seen p = bytes_in (seen p.staging.now)
 
--- No file has the packet's path.
 abbrev pub IsFree : DiskState → Outgoing → Type 0
 IsFree disk p = disk.seen p.path.now ≡ None
 
--- The disk has the current entry of its staging path.
 abbrev pub IsStagingNamed : DiskState → Outgoing → Type 0
 IsStagingNamed disk p = disk.is_named p.staging.now
 
--- Its staging file is gone.
 abbrev pub IsStagingGone : DiskState → Outgoing → Type 0
 IsStagingGone disk p = disk.seen p.staging.now ≡ None
 
--- Its staging file exists and is empty.
 pub record IsMade (disk : DiskState) (p : Outgoing) : Type 0 where
   pub empty : disk.seen p.staging.now ≡ Some []
   pub alone : disk.is_alone p.staging.now
 
--- Its staging file can grow.
 abbrev pub CanGrowStaging : DiskState → Outgoing → Type 0
 CanGrowStaging disk p = CanGrow disk p.staging.now
 
--- Its staging file has grown by the bytes for its address.
 abbrev pub IsLonger : (Address → List ℕ) → DiskState → DiskState → Outgoing → Type 0
 IsLonger more old new p = staged_in new.seen p ≡ staged_in old.seen p ++ more p.to
 
--- Its staging file exists.
 abbrev pub HasStaging : DiskState → Outgoing → Type 0
 HasStaging disk p = IsSome (disk.seen p.staging.now)
 
--- Its staging file has all its bytes on the disk.
 abbrev pub IsStagingFlushed : DiskState → Outgoing → Type 0
 IsStagingFlushed disk p = disk.is_flushed p.staging.now
 
--- The packet is in its staging file, on the disk.
 abbrev pub IsFilled : (Outgoing → List ℕ) → DiskState → Outgoing → Type 0
 IsFilled content disk p = HasOnDisk disk p.staging.now (content p)
 
--- The packet is in its staging file on the disk, and the current entry of its path is on the disk too.
 pub record IsStaged (content : Outgoing → List ℕ) (disk : DiskState) (p : Outgoing) : Type 0 where
   pub file : HasOnDisk disk p.staging.now (content p)
   pub named : disk.is_named p.path.now

@@ -10,7 +10,6 @@ pub record IsApartFrom (paths : List ℕ → Type 0) (p : Outgoing) : Type 0 whe
   pub path : paths p.path.now → ⊥
   pub staging : paths p.staging.now → ⊥
 
--- An error of the disk as an error of placing.
 abbrev pub placing_cause : DiskError → PlacingError
 placing_cause disk_error.Memory = error.Memory
 placing_cause disk_error.Device = error.Device

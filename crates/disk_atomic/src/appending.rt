@@ -12,7 +12,6 @@ use std::alloc::{AllocError, Global};
 
 /// The next piece of each of some packets.
 pub trait Pieces {
-    // The bytes that come next in the packet for this address.
     ghost bytes: { Self → Address → List ℕ };
 
     /// The bytes that come next in the packet for this address.

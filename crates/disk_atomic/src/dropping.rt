@@ -1,4 +1,3 @@
-//! Staging files of packets are removed.
 ghost use Rattle.std.specs.Prelude.{◌≡◌, All, AllPairs, None, OnOk};
 ghost use Rattle.disk_io.specs.{Disk.Honestly, Disk.IsIn, Runs.HasCause};
 ghost use Rattle.disk_atomic.specs.Outgoing.{AreApart, ArePlaced, IsAtStaging, IsStagingOne, IsStagingGone, IsStagingNamed, IsOfOne};
@@ -7,7 +6,6 @@ ghost use Rattle.disk_atomic.specs.Changes.{ChangesOnly};
 use crate::outgoing::Outgoing;
 use disk_io::{Disk, DiskError, sync_folder_of};
 
-// Removes the file with this path, if there is one.
 fn drop_one<D: Disk>(disk: &mut D, path: &[u8]) -> Result<(), DiskError>
     requires { (D.state disk.old).is_named path.now }
     ensures gone { Honestly (D.state disk.new) (OnOk result ((D.state disk.new).seen path.now ≡ None)) }
@@ -20,7 +18,6 @@ fn drop_one<D: Disk>(disk: &mut D, path: &[u8]) -> Result<(), DiskError>
     disk.remove(path)
 }
 
-// Removes the staging files of the packets. Each of them is synced, or is not.
 fn drop_each<D: Disk>(disk: &mut D, packets: &[Outgoing<'_>]) -> Result<(), DiskError>
     requires apart { AllPairs AreApart packets.now }
     requires named { All (IsStagingNamed (D.state disk.old)) packets.now }

@@ -5,7 +5,6 @@ ghost use Rattle.disk_atomic.specs.Changes.{ChangesOnly, IsGrowing};
 
 use disk_io::{Disk, DiskError, are_bytes};
 
-/// Writes the bytes at the end of the file, and answers where it ends then.
 pub(crate) fn append<D: Disk>(
     disk: &mut D,
     path: &[u8],

@@ -16,7 +16,6 @@ pub struct Left<'a> {
     pub before: u32,
 }
 
-// Names or removes one packet.
 fn finish_one<D: Disk>(
     alloc: Global,
     disk: &mut D,
@@ -42,9 +41,8 @@ fn finish_one<D: Disk>(
     name_packet(alloc, disk, folder, left.staging, left.path)
 }
 
-/// Names or removes packets in staging files. If the cursor is past the number that was scanned before a packet, its
-/// scan was committed, and the packet gets its path. Otherwise the packet is removed. Returns whether all of them ended
-/// like that. If another file has the path of a packet, that packet keeps its staging file.
+/// Names packets whose scan was committed (the cursor is past `before`), and removes the others. Returns whether all
+/// ended so: if another file has a packet's path, that packet keeps its staging file.
 pub fn finish_stopped<D: Disk>(
     alloc: Global,
     disk: &mut D,
@@ -59,8 +57,7 @@ pub fn finish_stopped<D: Disk>(
     ensures taken { Honestly (D.state disk.new) (IfOk result (λ all. all ≡ false → All (IsFreeOf (D.state disk.old)) found.now → ⊥)) }
     ensures named { OnOk result ((m : List ℕ) → IsIn folder.now m → (D.state disk.new).is_named m) }
 
-    // A crash at any time leaves each packet of a committed scan at one of its two paths at least. It leaves no other
-    // packet at its path.
+    // A crash leaves each packet of a committed scan at one of its paths at least, and no other at its path.
     ensures any_moment { Honestly (D.state disk.new) (LeavesOnly (D.state disk.old) (D.state disk.new) (OneStepOn (FinishesEach cursor found.now) (D.state disk.old))) }
     ensures changes { ChangesOnly (IsOfLeft found.now) (D.state disk.old) (D.state disk.new) }
     ensures cause { HasCause (D.failures disk.old) (D.failures disk.new) result }

@@ -10,8 +10,7 @@ use std::alloc::Global;
 /// How many bytes are copied at once.
 const PIECE: usize = 65_536;
 
-/// What stays of a file: its bytes from one place up to another. It gets this head before them and this tail behind
-/// them.
+/// What stays of a file: its bytes from one place up to another, between this head and this tail.
 #[derive(Clone, Copy, Debug)]
 pub struct Kept<'a> {
     pub head: &'a [u8],
@@ -20,7 +19,6 @@ pub struct Kept<'a> {
     pub tail: &'a [u8],
 }
 
-// Copies some bytes of one file to the end of another, and answers where that ends then.
 fn copy_piece<D: Disk>(
     alloc: Global,
     disk: &mut D,
@@ -42,7 +40,6 @@ fn copy_piece<D: Disk>(
     append(disk, path, at, piece.as_slice())
 }
 
-// The same in pieces.
 fn copy_part<D: Disk>(
     alloc: Global,
     disk: &mut D,
@@ -71,7 +68,6 @@ fn copy_part<D: Disk>(
     Ok(end)
 }
 
-// Writes them into a file of no bytes.
 fn write_kept<D: Disk>(
     alloc: Global,
     disk: &mut D,
@@ -94,7 +90,6 @@ fn write_kept<D: Disk>(
     Ok(())
 }
 
-// Writes them into a file that was just made, and syncs it.
 fn fill_kept<D: Disk>(
     alloc: Global,
     disk: &mut D,
@@ -115,7 +110,6 @@ fn fill_kept<D: Disk>(
     disk.sync(path)
 }
 
-// Makes a file of them at the staging path, and syncs it with all paths of its folder.
 fn stage_kept<D: Disk>(
     alloc: Global,
     disk: &mut D,
@@ -139,8 +133,8 @@ fn stage_kept<D: Disk>(
     fill_kept(alloc, disk, path, staging, kept)
 }
 
-/// Replaces the bytes of a file by a head, some of its old bytes, and a tail. They are written at a staging path first.
-/// At `Ok` they are synced.
+/// Replaces a file by a head, some of its old bytes and a tail, written at a staging path first. At `Ok` they are
+/// synced.
 pub fn replace_around<D: Disk>(
     alloc: Global,
     disk: &mut D,
@@ -155,8 +149,7 @@ pub fn replace_around<D: Disk>(
     requires part { HasPart (D.state disk.old) path.now kept.from kept.to }
     ensures replaced { Honestly (D.state disk.new) (OnOk result (HasOnDisk (D.state disk.new) path.now (kept_bytes (bytes_in ((D.state disk.old).seen path.now)) kept.entry))) }
 
-    // A crash at any time leaves the old file or these bytes at the path. Except at these two paths, it leaves a state
-    // that a crash before could have left.
+    // A crash leaves the old file or these bytes at the path, and changes files only at these two paths.
     ensures any_moment { Honestly (D.state disk.new) (LeavesOnly (D.state disk.old) (D.state disk.new)
         (OneStepOn (Replaces path.now staging.now (kept_bytes (bytes_in ((D.state disk.old).seen path.now)) kept.entry)) (D.state disk.old))) }
     ensures changes { ChangesOnly (λ m. (m ≡ staging.now) ⊎ (m ≡ path.now)) (D.state disk.old) (D.state disk.new) }

@@ -1,10 +1,5 @@
-//! Files that are written whole: a crash leaves the old file or the new one, and packets together with a commit.
-//!
-//! Begin with `replacing` (a file is replaced whole), then `outgoing`, `staged` and `appending` (staging files of packets
-//! are made, and grow piece by piece) and `naming` (packets get their paths). `keeping` replaces a file of which a part
-//! stays, with `filling`. `staging` writes and syncs one file. `trying` finds out whether a packet can get a second path.
-//! `dropping` removes staging files of packets, and `finishing` ends what a stopped scan left, as `listing` found it.
-//! `paths` has the path of a staging file.
+//! Files that are written whole: a crash leaves the old file or the new one, and packets together with a commit. Begin
+//! with `replacing` (a file), then `outgoing`, `staged`, `appending` and `naming` (packets).
 #![tactic(auto)]
 
 mod appending;

@@ -1,4 +1,3 @@
-//! Lists the packets that earlier scans left.
 ghost use Rattle.std.specs.Prelude.{ℕ, IfOk};
 ghost use Rattle.disk_io.specs.{Disk.Files, Runs.HasCause};
 ghost use Rattle.disk_atomic.specs.ListStaged.{AreListed};

@@ -9,7 +9,6 @@ use crate::outgoing::Outgoing;
 use disk_io::{Disk, DiskError, read_file, sync_folder_of};
 use std::alloc::Global;
 
-// Whether two files have the same bytes.
 fn are_same<D: Disk>(
     alloc: Global,
     disk: &mut D,
@@ -27,7 +26,6 @@ fn are_same<D: Disk>(
     Ok(first.as_slice() == second.as_slice())
 }
 
-// Whether the file at a staging path also has the packet's path. Then its bytes are synced at both.
 fn has_both<D: Disk>(
     alloc: Global,
     disk: &mut D,
@@ -48,7 +46,6 @@ fn has_both<D: Disk>(
     Ok(true)
 }
 
-/// Gives the file at a staging path the packet's path too. Returns `false` if a file has that path.
 pub(crate) fn link_path<D: Disk>(
     disk: &mut D,
     staging: &[u8],
@@ -65,7 +62,6 @@ pub(crate) fn link_path<D: Disk>(
     disk.link(staging, path)
 }
 
-// Gives the file at a staging path the packet's path too, unless another file has it. The file may have it already.
 fn give_path<D: Disk>(
     alloc: Global,
     disk: &mut D,
@@ -86,8 +82,7 @@ fn give_path<D: Disk>(
     has_both(alloc, disk, staging, path)
 }
 
-/// Gives the file at a staging path the packet's path, and removes the staging path. If another file has the path it
-/// returns `false`, and both stay.
+/// Moves a file from its staging path to the packet's path. If another file has that path, `false`; both files stay.
 pub fn name_packet<D: Disk>(
     alloc: Global,
     disk: &mut D,
@@ -102,7 +97,6 @@ pub fn name_packet<D: Disk>(
     ensures taken { Honestly (D.state disk.new) (IfOk result (λ named. named ≡ false → IsTaken (D.state disk.old) path.now staging.now)) }
     ensures stays { IfOk result (λ named. named ≡ false → StaysThere (D.state disk.old) (D.state disk.new) staging.now) }
 
-    // A crash at any time leaves the file at one of the two paths at least.
     ensures any_moment { Honestly (D.state disk.new) (LeavesOnly (D.state disk.old) (D.state disk.new) (OneStepOn (Names path.now staging.now) (D.state disk.old))) }
     ensures changes { ChangesOnly (λ m. (m ≡ staging.now) ⊎ (m ≡ path.now)) (D.state disk.old) (D.state disk.new) }
     ensures cause { HasCause (D.failures disk.old) (D.failures disk.new) result }
@@ -131,7 +125,6 @@ pub fn name_packets<D: Disk>(
     ensures kept { Honestly (D.state disk.new) (OnOk result (All (KeepsPath (D.state disk.old) (D.state disk.new)) packets.now)) }
     ensures settled { OnOk result ((m : List ℕ) → IsIn folder.now m → (D.state disk.new).is_named m) }
 
-    // A crash at any time leaves each packet whole at one of its two paths at least.
     ensures any_moment { Honestly (D.state disk.new) (LeavesOnly (D.state disk.old) (D.state disk.new) (OneStepOn (NamesEach (staged_in (D.state disk.old).seen) packets.now) (D.state disk.old))) }
     ensures changes { ChangesOnly (IsOfOne packets.now) (D.state disk.old) (D.state disk.new) }
     ensures cause { HasCause (D.failures disk.old) (D.failures disk.new) result }

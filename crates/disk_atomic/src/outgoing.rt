@@ -1,4 +1,3 @@
-//! A packet that will be sent.
 use echo_addr::Address;
 
 /// A packet that will be sent: its path, its staging path until a commit, and the address that it is for. Its bytes are

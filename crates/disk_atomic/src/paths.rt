@@ -1,4 +1,3 @@
-//! Staging paths of files.
 ghost use Rattle.std.specs.Prelude.{◌≡◌, IfOk};
 ghost use Rattle.disk_atomic.specs.StagingPaths.{staging_path};
 

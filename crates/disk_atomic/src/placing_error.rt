@@ -1,4 +1,3 @@
-//! Why files were not written.
 use disk_io::DiskError;
 use std::alloc::AllocError;
 use thiserror::Error;

@@ -1,4 +1,3 @@
-//! A file is replaced by another, written at a staging path.
 ghost use Rattle.std.specs.Prelude.{◌≡◌, ◌≢◌, ◌⊎◌, None, OnOk};
 ghost use Rattle.disk_io.specs.{Disk.IsIn, Runs.HasCause, Runs.LeavesOnly, Runs.OneStepOn};
 ghost use Rattle.disk_atomic.specs.{Changes.ChangesOnly, Changes.HasOnDisk, Replacing.Replaces};
@@ -6,8 +5,7 @@ ghost use Rattle.disk_atomic.specs.{Changes.ChangesOnly, Changes.HasOnDisk, Repl
 use crate::staging::stage_file;
 use disk_io::{Disk, DiskError, sync_folder_of};
 
-/// Replaces the bytes of a file by these, or makes the file. The bytes are written at a staging path first. At `Ok`
-/// they are synced.
+/// Replaces the bytes of a file, or makes it. They are written at a staging path first. At `Ok` they are synced.
 pub fn replace_file<D: Disk>(
     disk: &mut D,
     folder: &[u8],
@@ -21,8 +19,7 @@ pub fn replace_file<D: Disk>(
     ensures replaced { OnOk result (HasOnDisk (D.state disk.new) path.now bytes.now) }
     ensures moved { OnOk result ((D.state disk.new).seen staging.now ≡ None) }
 
-    // A crash at any time leaves the old file or these bytes at the path. Except at these two paths, it leaves a state
-    // that a crash before could have left.
+    // A crash leaves the old file or these bytes at the path, and changes files only at these two paths.
     ensures any_moment { LeavesOnly (D.state disk.old) (D.state disk.new) (OneStepOn (Replaces path.now staging.now bytes.now) (D.state disk.old)) }
     ensures changes { ChangesOnly (λ m. (m ≡ staging.now) ⊎ (m ≡ path.now)) (D.state disk.old) (D.state disk.new) }
     ensures cause { HasCause (D.failures disk.old) (D.failures disk.new) result }

@@ -1,4 +1,3 @@
-//! Staging files are made for packets.
 ghost use Rattle.std.specs.Prelude.{◌≡◌, ℕ, List, true, false, All, AllPairs, IfOk, OnOk};
 ghost use Rattle.disk_io.specs.{Disk.Honestly, Disk.IsIn, Runs.ChangesNothing, Runs.HasCause};
 ghost use Rattle.disk_atomic.specs.Outgoing.{AreApart, ArePlaced, IsStagingOne, IsFree, IsMade, IsStagingNamed};
@@ -7,7 +6,6 @@ ghost use Rattle.disk_atomic.specs.Changes.{ChangesOnly};
 use crate::outgoing::Outgoing;
 use disk_io::{Disk, DiskError, sync_folder_of};
 
-// Whether no packet's path is in use.
 fn are_free<D: Disk>(disk: &mut D, packets: &[Outgoing<'_>]) -> Result<bool, DiskError>
     ensures free { Honestly (D.state disk.new) (IfOk result (λ free. free ≡ true → All (IsFree (D.state disk.old)) packets.now)) }
     ensures taken { Honestly (D.state disk.new) (IfOk result (λ free. free ≡ false → All (IsFree (D.state disk.old)) packets.now → ⊥)) }
@@ -22,7 +20,6 @@ fn are_free<D: Disk>(disk: &mut D, packets: &[Outgoing<'_>]) -> Result<bool, Dis
     Ok(true)
 }
 
-// Makes an empty staging file for each packet.
 fn make_files<D: Disk>(disk: &mut D, packets: &[Outgoing<'_>]) -> Result<(), DiskError>
     requires apart { AllPairs AreApart packets.now }
     requires named { All (IsStagingNamed (D.state disk.old)) packets.now }
@@ -36,8 +33,7 @@ fn make_files<D: Disk>(disk: &mut D, packets: &[Outgoing<'_>]) -> Result<(), Dis
     Ok(())
 }
 
-/// Makes an empty staging file for each packet, and syncs the folder. If a packet's path is in use it returns `false`,
-/// and makes no file.
+/// Makes an empty staging file for each packet, and syncs the folder. If a packet's path is in use: `false`, no file.
 pub fn make_packets<D: Disk>(
     disk: &mut D,
     folder: &[u8],

@@ -6,7 +6,6 @@ ghost use Rattle.disk_atomic.specs.{Changes.ChangesOnly, Naming.CanLink, Trying.
 use crate::naming::link_path;
 use disk_io::{Disk, DiskError, sync_folder_of};
 
-// Removes what a stopped run left at this path of the folder.
 fn clear_path<D: Disk>(disk: &mut D, folder: &[u8], path: &[u8]) -> Result<(), DiskError>
     requires inside { IsIn folder.now path.now }
     requires named { (D.state disk.old).is_named path.now }

@@ -10,11 +10,9 @@ slice_range-later xs start end n within =
     ∙ sym (drop-take n (end - (start + n)) (drop start xs))
     ∙ ap (λ k. drop n (take k (drop start xs))) whole
 
--- no byte moved though there was room: the buffer is empty
 empty_where_none : (held : List ℕ) (room n : ℕ) → n ≡ min (length held) room → n ≡ 0 → 0 < room → held ≡ []
 empty_where_none held room n count none some = nil_from_length held (omega arith)
 
--- a call takes all bytes that the buffer has and that fit; the buffer is empty only at the end of the input
 pub taken_from_front : (a b : Option (List ℕ)) (held buf : List ℕ) (n room : ℕ) → Keeps a (prepend_known held b)
     → (held ≡ [] → IsAtEnd (prepend_known held b)) → n ≡ min (length held) room → take n buf ≡ take n held
     → Consumes a (prepend_known (drop n held) b) (take n buf) × (n ≡ 0 → 0 < room → IsAtEnd (prepend_known (drop n held) b))

@@ -26,7 +26,6 @@ then_run old mid new P Q first second gives =
 pub then_nothing : (old mid new : DiskState) (P : Files → Type 0) → LeavesOnly old mid P → ChangesNothing mid new → LeavesOnly old new P
 then_nothing old mid new P run quiet = then_run old mid new P mid.may_leave run quiet.run (left_now old mid P run)
 
--- one call that changes something
 pub then_call : {changed unnamed shared : List ℕ → Type 0} (old mid new : DiskState) (P : Files → Type 0) (step : Files → Files → Type 0) → LeavesOnly old mid P
     → ChangesAt changed unnamed shared step mid new → ((a c : Files) → P a → step a c → P c) → LeavesOnly old new P
 then_call old mid new P step run call keeps =

@@ -4,13 +4,11 @@ use Rattle.std.proofs.{Math.Seq.take-add, KnownBytes.Appends-trans, KnownBytes.C
 use Rattle.std.specs.Io.KnownBytes.{Appends, Consumes}
 use Rattle.disk_io.specs.Device.{counted}
 
--- the source gave the first n bytes of buf and did not fail
 pub record HasFilled (before after : Option (List ℕ)) (buf : List ℕ) (n failures_before failures_after : ℕ) : Type 0 where
   pub within : n ≤ length buf
   pub took : Consumes before after (take n buf)
   pub failed : failures_after ≡ failures_before
 
--- the sink took the first n bytes and did not fail; the count includes them
 pub record HasSent (before after : Option (List ℕ)) (bytes : List ℕ) (n count_before count_after failures_before failures_after : ℕ) : Type 0 where
   pub within : n ≤ length bytes
   pub gave : Appends before after (take n bytes)

@@ -2,11 +2,9 @@
 use Rattle.std.specs.{Prelude.ℕ, Prelude.List, Prelude.Option, Io.KnownBytes.prepend_known}
 use Rattle.disk_io.specs.declared.buffered.Buffered.{Buffered}
 
--- The source behind the buffer.
 abbrev pub buffered_source : {S : Type 0} → Buffered S → S
 buffered_source b = b.source
 
--- The bytes that it has read ahead.
 abbrev pub buffered_held : {S : Type 0} → Buffered S → List ℕ
 buffered_held b = b.ahead
 

@@ -29,7 +29,6 @@ pub record Elapses (old new : DiskState) : Type 0 where
   pub keeps : (t : ℕ) (c : Files) → t ≤ old.moment → old.left_since t c → new.left_since t c
   pub honest : new.is_honest → old.is_honest
 
--- No path, this path, or one of these two.
 abbrev pub NoPath : List ℕ → Type 0
 NoPath m = ⊥
 

@@ -26,7 +26,6 @@ TornRemoval old new = (new ≡ old) ⊎ (new ≡ None)
 abbrev pub TornNaming : Option (List ℕ) → Option (List ℕ) → Option (List ℕ) → Type 0
 TornNaming file old new = (new ≡ old) ⊎ (new ≡ file)
 
--- The other paths lead to the same files.
 abbrev pub SameOthers : List ℕ → Files → Files → Type 0
 SameOthers path old new = (m : List ℕ) → m ≢ path → new m ≡ old m
 

@@ -2,7 +2,6 @@
 use Rattle.std.specs.Prelude.{◌≡◌, ℕ, ◌+◌, ◌<◌, ◌≤◌, Result, MatchResult}
 use Rattle.disk_io.specs.declared.trial.Trial.{Trial}
 
--- The reader or the writer.
 abbrev pub trial_device : {D : Type 0} → Trial D → D
 trial_device t = t.device
 
@@ -18,11 +17,9 @@ trial_again t = t.again
 abbrev pub trial_interrupted : {D : Type 0} → Trial D → ℕ
 trial_interrupted t = t.interrupted
 
--- The number of bytes that it moves before it fails.
 abbrev pub trial_left : {D : Type 0} → Trial D → ℕ
 trial_left t = t.left
 
--- Only the device, the remaining bytes and the interruptions change.
 abbrev pub KeepsRules : {D : Type 0} → Trial D → Trial D → Type 0
 KeepsRules old new = (trial_piece new ≡ trial_piece old) × (trial_again new ≡ trial_again old)
 

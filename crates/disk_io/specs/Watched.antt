@@ -2,11 +2,9 @@
 use Rattle.std.specs.Prelude.{ℕ, Bool}
 use Rattle.disk_io.specs.declared.watched.Watched.{Watched}
 
--- The reader or the writer.
 abbrev pub watched_device : {D : Type 0} → Watched D → D
 watched_device w = w.device
 
--- How often it failed.
 abbrev pub watched_failures : {D : Type 0} → Watched D → ℕ
 watched_failures w = w.failures
 

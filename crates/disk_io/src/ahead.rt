@@ -25,7 +25,6 @@ impl Model for Ahead {
 }
 
 impl Ahead {
-    // A buffer of that many bytes, or of one.
     pub(crate) fn new(alloc: Global, capacity: usize) -> Result<Ahead, AllocError>
         ensures { IfOk result (λ ahead. ahead ≡ []) }
     {
@@ -52,7 +51,6 @@ impl Ahead {
         self.start == self.end
     }
 
-    // Drops the first `count` bytes.
     pub(crate) fn skip(&mut self, count: usize)
         requires { count ≤ length self.old }
         ensures { self.new ≡ drop count self.old }
@@ -60,7 +58,6 @@ impl Ahead {
         self.start += count;
     }
 
-    // Moves as many bytes as there are, and room for, to the front of `buf`.
     pub(crate) fn give(&mut self, buf: &mut [u8]) -> usize
         ensures count { result ≡ min (length self.old) (length buf.old) }
         ensures given { take result buf.new ≡ take result self.old }
@@ -73,7 +70,6 @@ impl Ahead {
         count
     }
 
-    // Reads once where there are no bytes.
     pub(crate) fn refill<S: Source>(&mut self, source: &mut S) -> Result<(), Failure>
         requires { self.old ≡ [] }
         ensures bytes { Keeps (S.remaining source.old) (prepend_known self.new (S.remaining source.new)) }

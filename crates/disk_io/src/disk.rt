@@ -1,18 +1,14 @@
-//! The promise of a disk to its users.
 ghost use Rattle.std.specs.Prelude.{◌≡◌, ◌≢◌, ◌≤◌, ◌<◌, ◌↔◌, ℕ, List, [], length, take, drop, true, false, IsTrue, IfOk, OnOk, IsSome, Some, None};
 ghost use Rattle.disk_io.specs.{Disk.DiskState, Disk.Honestly, Disk.bytes_in, Disk.IsFolder, Disk.IsIn, Runs.NoPath, Runs.ThisPath, Runs.EitherPath, Runs.ChangesAt, Runs.ChangesNothing, Runs.HasCause, Steps.IsWrittenAt, Steps.TornWrite, Steps.TornMaking, Steps.TornRemoval, Steps.TornNaming, Steps.ChangesFile, Steps.RenamesFile};
 
 use crate::disk_error::DiskError;
 
-/// Files by their paths, which a crash may cut short.
+/// Files by their paths, which a crash may cut short. A path begins with its folder's path, which ends in a slash or
+/// is empty. A fault of the device is answered only where `failures` rose. After a failed call only what a crash may
+/// leave is known.
 ///
-/// A path begins with its folder's path, which ends in a slash or is empty. A fault of the device
-/// is answered only where `failures` rose. After a failed call only what a crash may leave is
-/// known.
-///
-/// Files that others change too may answer anything. So an answer says something about the files
-/// only if the disk was honest until then. The preconditions about files assume an honest disk,
-/// too.
+/// Answers and preconditions about files hold only if the disk was honest until then: files that others change may
+/// answer anything.
 pub trait Disk {
     // The files that the disk shows, and those that a crash may leave.
     ghost state: { Self → DiskState };
@@ -20,13 +16,11 @@ pub trait Disk {
     // How often the device failed: a count that stays at 2^64 - 1.
     ghost failures: { Self → ℕ };
 
-    /// Whether the file exists.
     fn exists(&mut self, path: &[u8]) -> Result<bool, DiskError>
         ensures found { Honestly (state self.new) (IfOk result (λ found. IsTrue found ↔ IsSome ((state self.old).seen path.now))) }
         ensures quiet { ChangesNothing (state self.old) (state self.new) }
         ensures cause { HasCause (failures self.old) (failures self.new) result };
 
-    /// How many bytes the file has.
     fn len(&mut self, path: &[u8]) -> Result<usize, DiskError>
         requires { Honestly (state self.old) (IsSome ((state self.old).seen path.now)) }
         ensures len { Honestly (state self.new) (IfOk result (λ len. len ≡ length (bytes_in ((state self.old).seen path.now)))) }
@@ -84,7 +78,6 @@ pub trait Disk {
         ensures changes { ChangesAt (ThisPath to.now) (ThisPath to.now) (EitherPath from.now to.now) (ChangesFile (state self.old) to.now (TornNaming ((state self.old).seen from.now))) (state self.old) (state self.new) }
         ensures cause { HasCause (failures self.old) (failures self.new) result };
 
-    /// Removes a file.
     fn remove(&mut self, path: &[u8]) -> Result<(), DiskError>
         requires { Honestly (state self.old) (IsSome ((state self.old).seen path.now)) }
         ensures gone { OnOk result ((state self.new).seen path.now ≡ None) }

@@ -1,4 +1,3 @@
-//! Why a call of a disk failed.
 use std::alloc::{AllocError, AllocFailed};
 use thiserror::Error;
 

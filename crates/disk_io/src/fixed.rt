@@ -11,9 +11,7 @@ use std::alloc::{AllocError, AllocFailed};
 pub enum Broken {
     /// The input ends inside it.
     Cut,
-    /// The device failed.
     Device,
-    /// A growth was refused.
     Memory,
 }
 
@@ -55,8 +53,8 @@ pub fn are_bytes(bytes: &[u8])
     ensures { AreBytes bytes.now }
 {}
 
-/// Fills the field. `Cut`: fewer bytes are left than it has. `Device`: the device failed. Either
-/// way the bytes that came are consumed.
+/// Fills the field. `Cut`: fewer bytes are left. `Device`: the device failed. Either way the bytes that came are
+/// consumed.
 pub fn read_fixed<R: Source>(reader: &mut R, field: &mut [u8]) -> Result<(), Broken>
     ensures bytes { AreBytes field.new }
     ensures taken { OnOk result (Consumes (R.remaining reader.old) (R.remaining reader.new) field.new) }

@@ -1,4 +1,3 @@
-//! The folder of a path.
 ghost use Rattle.std.specs.Prelude.{◌≡◌, ℕ, List, None, OnOk};
 ghost use Rattle.disk_io.specs.{Disk.IsFolder, Disk.IsIn, Runs.ChangesNothing, Runs.HasCause};
 
@@ -17,8 +16,7 @@ pub fn folder_of(path: &[u8]) -> &[u8]
     &path[..end]
 }
 
-/// Syncs the folder of a path. That path, and each other one in the folder, then leads on the disk
-/// to its present file.
+/// Syncs the folder of a path. Each path in it then leads on the disk to its present file, or to none.
 pub fn sync_folder_of<D: Disk>(disk: &mut D, path: &[u8]) -> Result<(), DiskError>
     ensures durable { OnOk result ((m : List ℕ) → IsIn path.now m → (D.state disk.new).is_named m) }
     ensures gone { OnOk result ((m : List ℕ) → IsIn path.now m → (D.state disk.new).seen m ≡ None → (D.state disk.new).is_flushed m) }

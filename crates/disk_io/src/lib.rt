@@ -1,15 +1,6 @@
 //! Bytes in and out: devices that count their failures, and the trait `Disk` of files that a crash may cut short.
-//!
-//! Promise: contracts know the bytes of a `Source` or a `Sink`, how often it failed, and what `fill`, `read_fixed` and
-//! `send` moved. The trait `Disk` states what reads return, what a crash may leave at any time, and what a sync makes
-//! permanent. Bytes that are not synced may be torn anywhere; a path that is not synced may be lost.
-//!
-//! Begin with `source` and `sink`, the traits of devices; `failure` is their error. `watched` makes one of any reader or
-//! writer, `ahead` and `buffered` put a buffer in front of a source. `fixed` fills fields of a fixed size, `trial` is a
-//! device for tests.
-//!
-//! For files, begin with `disk` (the trait); `disk_error` is its error. `synced` changes one file and syncs it,
-//! `folder` gives the folder of a path. `part` reads bytes from the middle of a file, `whole` reads a whole file.
+//! Bytes that are not synced may be torn anywhere; a path that is not synced may be lost. Begin with `source` and
+//! `sink` for devices, with `disk` for files.
 #![tactic(auto)]
 
 mod ahead;

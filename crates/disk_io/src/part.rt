@@ -6,7 +6,6 @@ use crate::disk::Disk;
 use crate::disk_error::DiskError;
 use std::alloc::Global;
 
-// One read after the first bytes of the part, which were read before; answers their new number.
 fn read_more<D: Disk>(
     disk: &mut D,
     path: &[u8],
@@ -27,7 +26,6 @@ fn read_more<D: Disk>(
     Ok(done + count)
 }
 
-// Fills the part with the bytes of the file from a place on.
 fn fill_part<D: Disk>(
     disk: &mut D,
     path: &[u8],

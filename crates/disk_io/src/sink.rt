@@ -1,4 +1,3 @@
-//! Writers that count their failures.
 ghost use Rattle.std.specs.Prelude.{◌≡◌, ℕ, ◌<◌, Bool, false, length, IfOk, OnOk, OnErr};
 ghost use Rattle.std.specs.Io.{WritesAtMost, KnownBytes.Keeps, KnownBytes.WriteAppends};
 ghost use Rattle.disk_io.specs.Device.{Failed, Sends};
@@ -6,9 +5,7 @@ ghost use Rattle.disk_io.specs.Device.{Failed, Sends};
 use crate::failure::Failure;
 use std::io::Write;
 
-/// A writer that counts its failures.
-///
-/// A fault of a writer is answered only where `failures` rose. The bytes that went out are
+/// A writer that counts its failures. A fault is answered only where `failures` rose. The bytes that went out are
 /// `contents` of `Write`, where they are known.
 pub trait Sink: Write {
     // How often the device failed: a count that stays at 2^64 - 1.

@@ -1,4 +1,3 @@
-//! Readers that count their failures.
 ghost use Rattle.std.specs.Prelude.{◌≡◌, ℕ, ◌+◌, ◌<◌, ◌≤◌, List, length, take, drop, IfSome, IfOk, OnOk, OnErr};
 ghost use Rattle.std.specs.Io.{ReadsAtMost, StartsWith, KnownBytes.Consumes, KnownBytes.ReadConsumes};
 ghost use Rattle.disk_io.specs.Device.{Failed, Fills};
@@ -6,10 +5,8 @@ ghost use Rattle.disk_io.specs.Device.{Failed, Fills};
 use crate::failure::Failure;
 use std::io::Read;
 
-/// A reader that counts its failures and shows the bytes that it already has.
-///
-/// A fault of a reader is answered only where `failures` rose. The bytes that are left are
-/// `remaining` of `Read`, where they are known.
+/// A reader that counts its failures and shows the bytes that it already has. A fault is answered only where
+/// `failures` rose. The bytes that are left are `remaining` of `Read`, where they are known.
 pub trait Source: Read {
     // How often the device failed: a count that stays at 2^64 - 1.
     ghost failures: { Self → ℕ };
@@ -24,8 +21,7 @@ pub trait Source: Read {
         ensures ok { OnOk result (failures self.new ≡ failures self.old) }
         ensures err { OnErr result (Failed (failures self.old) (failures self.new)) };
 
-    /// The bytes that need no read: all of a slice, the buffer of a buffered source, and no bytes
-    /// of any other.
+    /// The bytes that need no read: all of a slice, the buffer of a buffered source, none of any other.
     fn held(&self) -> &[u8]
         ensures held { result.now ≡ held self.now }
         ensures front { IfSome (Self.remaining self.now) (λ bytes. StartsWith bytes (held self.now)) };

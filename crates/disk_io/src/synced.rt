@@ -1,4 +1,3 @@
-//! Changes of one file, each followed by a sync.
 ghost use Rattle.std.specs.Prelude.{◌≤◌, length, OnOk};
 ghost use Rattle.disk_io.specs.{Disk.Honestly, Disk.bytes_in, Steps.IsWrittenAt, Steps.TornWrite, Steps.ChangesFile, Runs.OneStepOn, Runs.LeavesOnly, Runs.HasCause, Synced.IsOnDisk, Synced.KeepsOthers};
 

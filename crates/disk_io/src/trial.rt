@@ -1,15 +1,11 @@
-//! A reader or a writer for tests.
 ghost use Rattle.std.specs.{Prelude.◌≡◌, Prelude.◌<◌, Prelude.◌≤◌, Prelude.IfOk, Prelude.IsErr, Io.ReadsAtMost, Io.WritesAtMost, Io.KnownBytes.Keeps, Io.KnownBytes.ReadConsumes, Io.KnownBytes.WriteAppends};
 ghost use Rattle.disk_io.specs.Trial.{trial_device, trial_piece, trial_again, trial_interrupted, trial_left, KeepsRules, MovesPiece};
 
 use std::io;
 use std::io::{ErrorKind, Read, Write};
 
-/// A reader or a writer that works badly, for tests of those that use it.
-///
-/// A call moves at most `piece` bytes. Before each call that moves some it is interrupted `again`
-/// times, and after `left` bytes each call fails. With pieces of 0 bytes a writer takes nothing,
-/// and a reader answers an error.
+/// A reader or a writer that works badly, for tests. A call moves at most `piece` bytes, after `again` interruptions.
+/// After `left` bytes each call fails. With pieces of 0 bytes a writer takes nothing, and a reader answers an error.
 #[derive(Drop)]
 pub struct Trial<D> {
     device: D,
@@ -37,14 +33,12 @@ impl<D> Trial<D> {
         }
     }
 
-    /// The device.
     pub fn into_inner(self) -> D
         ensures { result ≡ trial_device self }
     {
         self.device
     }
 
-    // How many of `room` bytes this call moves, or why it moves none.
     fn next_piece(&mut self, room: usize) -> io::Result<usize>
         ensures device { trial_device self.new ≡ trial_device self.old }
         ensures left { trial_left self.new ≡ trial_left self.old }

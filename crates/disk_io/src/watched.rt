@@ -1,4 +1,3 @@
-//! A source or a sink of any reader or writer.
 ghost use Rattle.std.specs.Prelude.{◌≡◌, ◌≢◌, ◌↔◌, ◌+◌, ◌<◌, [], false, length, IsTrue, IfOk, OnOk, IfErr, OnErr};
 ghost use Rattle.std.specs.{Io.ReadsAtMost, Io.WritesAtMost, Io.KnownBytes.Keeps, Io.KnownBytes.ReadConsumes, Io.KnownBytes.WriteAppends, IoError.error_kind};
 ghost use Rattle.disk_io.specs.{Device.Failed, Device.counted, Watched.watched_device, Watched.watched_failures, Watched.watched_holds};
@@ -12,10 +11,8 @@ use std::io::{ErrorKind, Read, Write};
 /// How many interruptions in a row are a failure.
 const TRIES: u32 = 16;
 
-/// A reader or writer that counts its failures.
-///
-/// It retries after an interruption. A failure is any other error, sixteen interruptions in a row,
-/// or a write of some bytes that takes none. The count stops at the greatest `u64`.
+/// A reader or writer that counts its failures, up to the greatest `u64`. It retries after an interruption. A failure
+/// is any other error, sixteen interruptions in a row, or a write of some bytes that takes none.
 #[derive(Drop)]
 pub struct Watched<D> {
     device: D,
@@ -38,14 +35,12 @@ impl<D> Watched<D> {
         }
     }
 
-    /// The device.
     pub fn into_inner(self) -> D
         ensures { result ≡ watched_device self }
     {
         self.device
     }
 
-    /// How often the device failed.
     pub fn failures(&self) -> u64
         ensures { result ≡ watched_failures self.now }
     {
@@ -53,7 +48,6 @@ impl<D> Watched<D> {
     }
 }
 
-// Counts one failure where there is an error.
 fn count_error<T>(failures: &mut u64, answer: &io::Result<T>)
     ensures ok { OnOk answer.now (failures.new ≡ failures.old) }
     ensures once { OnErr answer.now (failures.new ≡ counted (failures.old + 1)) }
@@ -64,7 +58,6 @@ fn count_error<T>(failures: &mut u64, answer: &io::Result<T>)
     }
 }
 
-// The error for sixteen interruptions in a row.
 fn interrupted_too_often() -> io::Error
     ensures { error_kind result ≡ ErrorKind.TimedOut }
 {
@@ -77,7 +70,6 @@ fn is_interrupted(error: &io::Error) -> bool
     error.kind() == ErrorKind::Interrupted
 }
 
-// One read that is not interrupted, or an error.
 fn read_retrying<D: Read>(device: &mut D, buf: &mut [u8]) -> io::Result<usize>
     ensures bound { ReadsAtMost result buf.new }
     ensures bytes { ReadConsumes (D.remaining device.old) (D.remaining device.new) result buf.new }
@@ -96,7 +88,6 @@ fn read_retrying<D: Read>(device: &mut D, buf: &mut [u8]) -> io::Result<usize>
     Err(interrupted_too_often())
 }
 
-// One write that is not interrupted and takes some of some bytes, or an error.
 fn write_retrying<D: Write>(device: &mut D, buf: &[u8]) -> io::Result<usize>
     ensures bound { WritesAtMost result buf.now }
     ensures bytes { WriteAppends (D.contents device.old) (D.contents device.new) result buf.now }
@@ -117,7 +108,6 @@ fn write_retrying<D: Write>(device: &mut D, buf: &[u8]) -> io::Result<usize>
     Err(interrupted_too_often())
 }
 
-// One flush that is not interrupted, or an error.
 fn flush_retrying<D: Write>(device: &mut D) -> io::Result<()>
     ensures bytes { Keeps (D.contents device.old) (D.contents device.new) }
     ensures kind { IfErr result (λ error. error_kind error ≢ ErrorKind.Interrupted) }

@@ -1,10 +1,8 @@
--- The bytes that a call read from an input.
 use Rattle.std.proofs.Common.{◌≡◌, ℕ, ◌+◌, ◌-◌, ◌≤◌, List, ◌++◌, length, take, drop, replicate, take_all, Option, ap, ◌∙◌, arith, length-append, length-drop}
 use Rattle.std.proofs.{lemmas.List.length-replicate, lemmas.List.length-take, Math.Seq.take-add, Math.Seq.take-append_seam}
 use Rattle.disk_io.specs.Device.{FillsTo}
 use Rattle.disk_system.specs.Input.{ReadsOn}
 
--- a piece of zeros after the bytes
 pub made_room : (size count : ℕ) (old new : List ℕ) → count ≡ length old → size ≡ count + 65536 → new ≡ take size old ++ replicate (size - count) 0
     → new ≡ old ++ replicate 65536 0
 made_room size count old new whole grown is =
@@ -12,7 +10,6 @@ made_room size count old new whole grown is =
     let room : size - count ≡ 65536 = omega (arith, grown) in
     is ∙ ap (λ t. t ++ replicate (size - count) 0) (take_all size old above) ∙ ap (λ k. old ++ replicate k 0) room
 
--- the read bytes follow the old ones
 pub piece_read : (a b : Option (List ℕ)) (old room after new : List ℕ) (start n : ℕ) → start ≡ length old → room ≡ old ++ replicate 65536 0
     → take start after ≡ take start room → length after ≡ length room → start + n ≤ length after → FillsTo a b (drop start after) n
     → new ≡ take (start + n) after → ReadsOn a b old new n 65536

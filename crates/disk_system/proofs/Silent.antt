@@ -7,7 +7,6 @@ use types.Kit.{Goal, Item, ‵, Step}
 use denote.Shadow.{pure_i}
 use Rattle.disk_system.specs.{declared.trace.Trace.Trace, contracts.trace.Trace.the_row}
 
--- the value of each trace at run time
 abbrev pub silence : Val
 silence = vstruct vnil
 

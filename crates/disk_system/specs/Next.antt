@@ -4,7 +4,6 @@ use Rattle.std.proofs.Common.{inl, inr, ◌∙◌, sym, ap, subst}
 use Rattle.std.proofs.{Math.Nat.lt_irrefl, lemmas.Bool.false_from_ne_true, lemmas.Slice.Eq.bytes_eq-Decides}
 use Rattle.disk_io.specs.{Disk.DiskState, Disk.Files, Disk.IsIn, Steps.ChangesFile, Steps.RenamesFile, Runs.OneStepOn}
 
--- These files, with another one at this path.
 abbrev pub with_file : List ℕ → Option (List ℕ) → Files → Files
 with_file path file files m = cond (bytes_eq m path) file (files m)
 
@@ -33,11 +32,9 @@ next old seen leaves named flushed alone on_disk = record {
   is_honest = old.is_honest;
 }
 
--- Paths with a property, except this one.
 abbrev pub OtherThan : List ℕ → (List ℕ → Type 0) → List ℕ → Type 0
 OtherThan path P m = P m × (m ≢ path)
 
--- Paths with a property, and this one.
 abbrev pub OrIs : List ℕ → (List ℕ → Type 0) → List ℕ → Type 0
 OrIs path P m = P m ⊎ (m ≡ path)
 
@@ -56,14 +53,13 @@ changed old path file step alone =
     next old (with_file path file old.seen) (OneStepOn (ChangesFile old path step) old) old.is_named (OtherThan path old.is_flushed) alone
     (λ m named flushed. others_stay old path file step m flushed.1 named flushed.0)
 
--- The same, but the new entry of the path is not yet on the disk.
+-- One file has other bytes, but the new entry of its path is not yet on the disk.
 abbrev pub named_anew : (old : DiskState) (path : List ℕ) (file : Option (List ℕ)) (step : Option (List ℕ) → Option (List ℕ) → Type 0) (flushed alone : List ℕ → Type 0)
     → ((m : List ℕ) → m ≢ path → flushed m → old.is_flushed m) → DiskState
 named_anew old path file step flushed alone was =
     next old (with_file path file old.seen) (OneStepOn (ChangesFile old path step) old) (OtherThan path old.is_named) flushed alone
     (λ m named is. others_stay old path file step m named.1 named.0 (was m named.1 is))
 
--- Neither of two paths, but with the property.
 abbrev pub Neither : List ℕ → List ℕ → (List ℕ → Type 0) → List ℕ → Type 0
 Neither from to P m = P m × ((m ≢ from) × (m ≢ to))
 

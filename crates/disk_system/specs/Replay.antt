@@ -28,7 +28,6 @@ abbrev pub after_read : ℕ → ℕ → ℕ → List ℕ → List ℕ → DiskSt
 after_read zero at asked path bytes old = old
 after_read (suc n) at asked path bytes old = answered (CameFrom (bytes_in (old.seen path)) at asked bytes) old
 
--- The bytes of the file after a write.
 abbrev pub overwritten : List ℕ → ℕ → List ℕ → List ℕ
 overwritten old at bytes = take at old ++ bytes ++ drop (at + length bytes) old
 

@@ -10,7 +10,6 @@ use std::alloc::{AllocError, Global};
 pub enum InputFault {
     /// It has more bytes than allowed.
     TooLarge,
-    /// The reader failed.
     Device,
     Memory,
 }
@@ -34,7 +33,6 @@ impl From<Failure> for InputFault {
 /// The size of one read.
 const PIECE: usize = 65_536;
 
-// Makes room for a piece after the present bytes.
 fn make_room(whole: &mut Vec<u8>) -> Result<(), InputFault>
     ensures ok { OnOk result (whole.new.items ≡ whole.old.items ++ replicate 65536 0) }
     ensures err { IfErr result (λ fault. fault ≡ Memory) }
@@ -44,7 +42,6 @@ fn make_room(whole: &mut Vec<u8>) -> Result<(), InputFault>
     Ok(())
 }
 
-// Appends a piece to `whole`, a short one only if nothing is left.
 fn read_piece<R: Source>(reader: &mut R, whole: &mut Vec<u8>) -> Result<usize, InputFault>
     ensures bytes { IfOk result (λ count. ReadsOn (R.remaining reader.old) (R.remaining reader.new) whole.old.items whole.new.items count 65536) }
     ensures device { IsErrOf result Device → Failed (R.failures reader.old) (R.failures reader.new) }

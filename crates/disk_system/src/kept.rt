@@ -4,14 +4,12 @@ use std::mem;
 /// A longer path is opened at each call.
 const LONGEST: usize = 250;
 
-/// A file that is open, and the place in it at which the next read or write begins.
 #[derive(Drop)]
 pub(crate) struct Placed<F: Drop> {
     pub(crate) file: F,
     pub(crate) at: u64,
 }
 
-/// An open file with its path.
 #[derive(Drop)]
 struct Kept<F: Drop> {
     path: [u8; LONGEST],
@@ -28,7 +26,6 @@ pub(crate) struct KeptFiles<F: Drop> {
     written_before: Option<Kept<F>>,
 }
 
-// The file at the path, if it is the open one; it is removed from here.
 fn take<F: Drop>(kept: &mut Option<Kept<F>>, path: &[u8]) -> Option<Placed<F>> {
     let found = kept.take()?;
     if found.path.get(..found.len) == Some(path) {
@@ -38,7 +35,6 @@ fn take<F: Drop>(kept: &mut Option<Kept<F>>, path: &[u8]) -> Option<Placed<F>> {
     None
 }
 
-// An open file with its path, if that is short enough.
 fn with_path<F: Drop>(path: &[u8], placed: Placed<F>) -> Option<Kept<F>> {
     if path.len() > LONGEST {
         return None;
@@ -62,7 +58,6 @@ impl<F: Drop> KeptFiles<F> {
         }
     }
 
-    /// The file at the path that is open to be read.
     pub(crate) fn take_read(&mut self, path: &[u8]) -> Option<Placed<F>> {
         let last = take(&mut self.read, path);
         if last.is_some() {
@@ -78,7 +73,6 @@ impl<F: Drop> KeptFiles<F> {
         }
     }
 
-    /// The file at the path that is open to be written.
     pub(crate) fn take_written(&mut self, path: &[u8]) -> Option<Placed<F>> {
         let last = take(&mut self.written, path);
         if last.is_some() {

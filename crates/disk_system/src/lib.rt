@@ -1,14 +1,6 @@
-//! The files of the system: as a `Disk` that a crash may cut short, and read and written whole. Standard input is
-//! here too.
-//!
-//! Promise: that of `Disk`, without an assumption. Its state follows from its calls and their answers, and it is honest
-//! while each answer agrees with that state. So a theorem over it reads: if the answers are those of such a disk. That
-//! each noted call is the one that was made has to be read, in `system`. Of a file that is read whole, all bytes are
-//! read if the reader knows them, and never more than the limit. A stop leaves a new file whole or absent.
-//!
-//! Begin with `real_disk`. `system` makes the calls, `trace` notes them for clauses, `start` names the files before
-//! the first call, `kept` holds open files. For whole files, begin with `reading` (files) and `input` (any reader).
-//! `writing` makes new files by way of `staging`, the temporary file. `owned` gives a file an owner.
+//! The files of the system: as a `Disk` that a crash may cut short, and read and written whole. Its state follows from
+//! its calls and their answers; it is honest while each answer agrees with that state. That each noted call is the one
+//! that was made has to be read, in `system`. Begin with `real_disk`; for whole files, with `reading` and `input`.
 #![tactic(auto)]
 
 mod input;

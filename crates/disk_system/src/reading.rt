@@ -1,4 +1,3 @@
-//! Reads whole files.
 ghost use Rattle.std.specs.Prelude.{◌≡◌, ◌≤◌, ◌↔◌, length, IfOk, IfSome, IsTrue};
 ghost use Rattle.std.specs.IoError.{error_kind};
 
@@ -33,7 +32,6 @@ pub fn open_regular<R: Files>(files: &R, path: &str) -> Result<R::File, InputFau
     }
 }
 
-// The bytes of an open file. It keeps no more room than they take.
 fn read_open<F: Read + Drop>(alloc: Global, file: F, most: usize) -> Result<Vec<u8>, InputFault>
     ensures bounded { IfOk result (λ bytes. length bytes.items ≤ most) }
     ensures all { IfOk result (λ bytes. IfSome (F.remaining file) (λ all. bytes.items ≡ all)) }
@@ -43,7 +41,6 @@ fn read_open<F: Read + Drop>(alloc: Global, file: F, most: usize) -> Result<Vec<
     Ok(bytes)
 }
 
-/// Does the error say that no file has the path?
 pub(crate) fn is_missing(error: &io::Error) -> bool
     ensures { IsTrue result ↔ (error_kind error.now ≡ ErrorKind.NotFound) }
 {

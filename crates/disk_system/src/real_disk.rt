@@ -30,10 +30,9 @@ const SYNC: u64 = 8;
 
 const SYNC_FOLDER: u64 = 9;
 
-/// The files of the system; `S` says what they were before the first call.
-///
-/// Its state follows from its calls and their answers. It is not honest after an answer that differs from that
-/// state, as when another program changes the files. After a failed sync each call fails.
+/// The files of the system; `S` says what they were before the first call. Its state follows from its calls and their
+/// answers. It is not honest after an answer that differs from that state, as when another program changes the files.
+/// After a failed sync each call fails.
 #[derive(Drop)]
 pub struct RealDisk<R: Files + Drop, S: Start> {
     calls: Calls<R>,
@@ -57,7 +56,6 @@ impl<R: Files + Drop, S: Start> RealDisk<R, S> {
     }
 }
 
-// Counts a failure of the device.
 fn counted<T>(failures: &mut u64, answer: Result<T, DiskError>) -> Result<T, DiskError>
     ensures same { result ≡ answer }
     ensures cause { HasCause failures.old failures.new result }
@@ -73,14 +71,12 @@ fn counted<T>(failures: &mut u64, answer: Result<T, DiskError>) -> Result<T, Dis
     }
 }
 
-// The answer of a call that answers nothing else.
 fn done(answer: &Result<(), DiskError>) -> u64
     ensures { result ≡ (if is_ok answer.now then 1 else 0) }
 {
     u64::from(answer.is_ok())
 }
 
-// A call that has a path alone.
 fn path_call(what: u64, path: &[u8], answer: u64) -> Call<'_>
     ensures { note_of result ≡ (what ∷ 0 ∷ 0 ∷ answer ∷ [], (path.now, ([], []))) }
 {

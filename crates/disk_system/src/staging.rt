@@ -25,13 +25,11 @@ pub struct Access {
     pub group: u32,
 }
 
-/// The temporary name for this path, for a system with this address.
 pub(crate) fn staging_name(alloc: Global, path: &str, own: &str) -> Result<String, AllocError> {
     format!(in alloc; "{path}.~{own}~.new")
 }
 
-/// Makes a new temporary file of this mode. It removes the one of a stopped run. Any other file with the name stays, and
-/// is a fault.
+/// Removes the temporary file of a stopped run. Any other file with the name stays, and is a fault.
 pub(crate) fn make_staging<R: Files>(
     alloc: Global,
     files: &R,
@@ -54,7 +52,6 @@ pub fn make_new<R: Files>(files: &R, path: &str) -> io::Result<R::File> {
     make_with(files, path, OWNER_ALONE)
 }
 
-// The same with this mode.
 fn make_with<R: Files>(files: &R, path: &str, mode: u32) -> io::Result<R::File> {
     OpenOptions::new()
         .write(true)
@@ -99,7 +96,6 @@ pub fn remove_left<R: Files>(files: &R, path: &str) {
     }
 }
 
-// Whether this user owns it, if the system shows that.
 fn is_of_this_user<R: Files>(files: &R, owner: u32) -> bool {
     match fs::metadata(files, "/proc/self") {
         Ok(this_run) => this_run.uid() == owner,
@@ -107,8 +103,7 @@ fn is_of_this_user<R: Files>(files: &R, owner: u32) -> bool {
     }
 }
 
-/// The access of the file that is to be replaced, if there is one. It has to be a regular file that may be
-/// written.
+/// The access of the file to be replaced, if there is one. It has to be a regular file that may be written.
 pub fn access_of<R: Files>(files: &R, path: &str) -> Result<Option<Access>, OutputFault> {
     match fs::metadata(files, path) {
         Ok(found) if found.is_file() && !found.permissions().readonly() => {

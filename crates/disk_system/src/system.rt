@@ -1,7 +1,6 @@
-//! The calls of the system. Contracts do not know what they do: read this module.
-//!
-//! After a failed sync each call fails. An open file is still at its path: only the calls of a disk give paths to other
-//! files, and those close all open files first.
+//! The calls of the system. Contracts do not know what they do: read this module. After a failed sync each call fails.
+//! An open file is still at its path: only the calls of a disk give paths to other files, and those close all open
+//! files first.
 ghost use Rattle.std.specs.Prelude.{◌≡◌, ◌≤◌, length, IfOk, IsSome, None, OnErr, OnOk};
 
 use crate::kept::{KeptFiles, Placed};
@@ -140,7 +139,6 @@ impl<R: Files + Drop> Calls<R> {
         self.sync(folder)
     }
 
-    // No call is made any more.
     fn stop(&mut self)
         ensures { self.new.files ≡ None }
     {
@@ -156,7 +154,6 @@ fn fault(error: io::Error) -> DiskError {
     }
 }
 
-// The files, as long as calls are made.
 fn usable<R: Files>(files: &Option<R>) -> io::Result<&R>
     ensures { OnOk result (IsSome files.now) }
 {
@@ -166,7 +163,6 @@ fn usable<R: Files>(files: &Option<R>) -> io::Result<&R>
     }
 }
 
-// A path as text.
 fn name(path: &[u8]) -> io::Result<&str> {
     match str::from_utf8(path) {
         Ok(name) => Ok(name),
@@ -193,7 +189,6 @@ fn measure<R: Files>(files: &Option<R>, path: &[u8]) -> io::Result<usize>
     Ok(fs::metadata(files, name(path)?)?.len() as usize)
 }
 
-// Moves to the place, unless the file is there.
 fn go_to<F: Seek + Drop>(placed: &mut Placed<F>, at: u64) -> io::Result<()> {
     if placed.at != at {
         placed.at = placed.file.seek(SeekFrom::Start(at))?;

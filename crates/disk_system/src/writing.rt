@@ -65,8 +65,8 @@ pub struct StagedFile<F> {
     staging: String,
 }
 
-/// Begins a new file for this path, for its owner alone. Files of its kind begin with `start`. The temporary name has
-/// `own`, as in `NewFile`.
+/// Begins a new file for this path, for its owner alone. Files of its kind begin with `start`. `own` is as in
+/// `NewFile`.
 pub fn begin_file<R: Files>(
     alloc: Global,
     files: &R,
@@ -77,7 +77,6 @@ pub fn begin_file<R: Files>(
     begin_with(alloc, files, path, own, start, OWNER_ALONE)
 }
 
-// The same with this mode.
 fn begin_with<R: Files>(
     alloc: Global,
     files: &R,
@@ -144,14 +143,12 @@ pub fn flush_path<R: Files>(alloc: Global, files: &R, path: &str) -> Result<(), 
     flush_folder(files, folder_of(target.as_str()))
 }
 
-// The bytes by which a file of its kind is known.
 fn start_of(bytes: &[u8], known_by: usize) -> &[u8]
     ensures { result.now ≡ take known_by bytes.now }
 {
     &bytes[..known_by.min(bytes.len())]
 }
 
-/// The folder of the file with this path.
 pub fn folder_of(path: &str) -> &str {
     match path.rsplit_once('/') {
         Some(("", _)) => "/",
@@ -160,14 +157,12 @@ pub fn folder_of(path: &str) -> &str {
     }
 }
 
-// Gives the temporary file a new name.
 fn give_new_name<R: Files>(files: &R, staging: &str, path: &str) -> Result<(), OutputFault> {
     fs::hard_link(files, staging, path)?;
     fs::remove_file(files, staging)?;
     Ok(())
 }
 
-// Writes all the bytes.
 fn put_bytes<W: Sink>(device: &mut W, bytes: &[u8]) -> Result<(), OutputFault>
     ensures bytes { OnOk result (Appends (W.contents device.old) (W.contents device.new) bytes.now) }
     ensures err { IfErr result (λ fault. (fault ≡ Device) × Failed (W.failures device.old) (W.failures device.new)) }
@@ -177,7 +172,6 @@ fn put_bytes<W: Sink>(device: &mut W, bytes: &[u8]) -> Result<(), OutputFault>
     Ok(())
 }
 
-// Removes the temporary file, unless it got the name.
 fn tidied<R: Files>(
     files: &R,
     staging: &str,

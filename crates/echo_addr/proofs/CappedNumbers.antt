@@ -6,7 +6,6 @@ use Rattle.std.specs.{Char.is_ascii_digit, Str.all_ascii_digits, Str.Parse.digit
 use Rattle.echo_addr.specs.Digits.{is_number}
 use Rattle.echo_addr.proofs.Decimals.{IsDigit}
 
--- the first i bytes are digits, and this is their value
 pub record Digested (cap : ℕ) (ds : List ℕ) (i value : ℕ) : Type 0 where
   pub each : (k : ℕ) → k < i → is_ascii_digit (get_or ds k 0) ≡ true
   pub value_is : value ≡ min (digits_value 10 (take i ds)) cap
@@ -18,7 +17,6 @@ pub Digested-more : (cap : ℕ) (ds : List ℕ) (i value : ℕ) → i < length d
     → Digested cap ds (i + 1) (min (value * 10 + (get_or ds i 0 - 48)) cap)
 Digested-more cap ds i value lt digit d = grind (arith, below_more, get_or, digit_range, digit_value_digit, digits_value_more)
 
--- all bytes are digits
 pub Digested-all : (cap : ℕ) (ds : List ℕ) (i value : ℕ) → 0 < length ds → length ds ≡ i → Digested cap ds i value
     → (is_number ds ≡ true) × (value ≡ min (digits_value 10 ds) cap)
 Digested-all cap ds i value some all d = (
@@ -27,7 +25,6 @@ Digested-all cap ds i value some all d = (
   d.value_is ∙ ap (λ t. min (digits_value 10 t) cap) (take_all i ds (omega arith)),
 )
 
--- a byte is no digit
 pub no_number : (ds : List ℕ) (i : ℕ) → i < length ds → is_ascii_digit (get_or ds i 0) ≡ false → is_number ds ≡ false
 no_number ds i lt other =
     and_right (nat_lt 0 (length ds)) (all_ascii_digits ds) (and_fails_at all_ascii_digits is_ascii_digit refl (λ c cs. refl) ds i 0 lt other)

@@ -5,14 +5,12 @@ use Rattle.std.specs.{Option.is_none, List.filter_map, List.count_by}
 use Rattle.echo_addr.specs.Entries.{tokens, nearest_net, judged, entries, dropped}
 use Rattle.echo_addr.specs.declared.address.NetNode.{NetNode}
 
--- the base, the entries found already and those of the remaining tokens make the whole list
 pub record Read (base : List NetNode) (s : List ℕ) (left : List (List ℕ)) (net : Option ℕ) (found : List NetNode) (lost : ℕ) : Type 0 where
   pub earlier : List (List ℕ)
   pub nearest : nearest_net earlier ≡ net
   pub list : found ++ filter_map (λ e. e) (judged earlier left) ≡ base ++ entries s
   pub count : lost + count_by is_none (judged earlier left) ≡ dropped s
 
--- the base remains the front of the list
 pub kept_behind : (base found more : List NetNode) → take (length base) found ≡ base → take (length base) (found ++ more) ≡ base
 kept_behind base found more kept = grind (arith, length-take, take-append-le)
 

@@ -5,14 +5,12 @@ use Rattle.std.proofs.lemmas.{Fmt.decimal_is_IsNumeral, Fmt.decimal_digit, Fmt.d
 use Rattle.std.specs.{Int.IsInRange, Fmt.decimal, List.AllByRecursion, Str.all_ascii_digits, Str.Parse.AllDigits, Str.Parse.digits_value, Str.Parse.IsNumeral}
 use Rattle.echo_addr.specs.{Digits.Writes, Digits.is_number, Digits.number_within, Entries.part_of}
 
--- a decimal digit
 abbrev pub IsDigit : ℕ → Type 0
 IsDigit b = IsInRange 48 57 b
 
 pub own : IsNumeralModel (λ ds. all_ascii_digits ds ≡ true) (digits_value 10)
 own = numerals_by_value (λ ds. all_ascii_digits ds ≡ true) tells_all_ascii_digits
 
--- digits one by one
 pub each_digit : (ds : List ℕ) → AllDigits 10 ds → AllByRecursion IsDigit ds
 each_digit [] h = tt
 each_digit (d ∷ ds) h = (digit_from_value d h.0, each_digit ds h.1)
@@ -20,7 +18,6 @@ each_digit (d ∷ ds) h = (digit_from_value d h.0, each_digit ds h.1)
 pub digits_of_decimal : (n : ℕ) → n < 2 ^ 64 → AllByRecursion IsDigit (decimal n)
 digits_of_decimal n small = each_digit (decimal n) (decimal_is_IsNumeral n small).0.1
 
--- digits are a number
 pub is_number-writes : (ds : List ℕ) → IsNumeral 10 ds → is_number ds ≡ true
 is_number-writes ds h = and_from _ _ (lt-ltb 0 (length ds) h.0) (own.from ds h.1)
 
@@ -33,7 +30,6 @@ writes_decimal n small = record { numeral = (decimal_is_IsNumeral n small).0; va
 pub part_of-decimal : (n : ℕ) → n < 2 ^ 16 → part_of (decimal n) ≡ Some n
 part_of-decimal n small = number_within-writes 65535 (decimal n) n (writes_decimal n (omega arith)) (omega arith)
 
--- the digits of a number are those of its tenth, and its last one
 digits_more : (n : ℕ) (front : List ℕ) → 10 ≤ n → n < 2 ^ 16 → decimal (n / 10) ≡ front → decimal n ≡ front ++ (48 + n % 10) ∷ []
 digits_more n front low small e = decimal_step n low (omega arith) ∙ ap (λ f. f ++ (48 + n % 10) ∷ []) e
 

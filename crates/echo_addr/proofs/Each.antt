@@ -1,8 +1,6 @@
--- Facts about each element of a list.
 use Rattle.std.proofs.Common.{ℕ, List, [], ◌∷◌, ◌++◌}
 use Rattle.std.specs.List.{AllByRecursion}
 
--- a weaker fact about each element
 pub weaker : (P Q : ℕ → Type 0) → ((b : ℕ) → P b → Q b) → (bs : List ℕ) → AllByRecursion P bs → AllByRecursion Q bs
 weaker P Q f [] h = tt
 weaker P Q f (b ∷ bs) h = (f b h.0, weaker P Q f bs h.1)

@@ -2,17 +2,14 @@
 use Rattle.std.proofs.Common.{◌≡◌, ℕ, ◌+◌, ◌-◌, ◌<◌, ◌≤◌, List, ◌∷◌, ◌++◌, length, set, take, drop, sym, ap, ◌∙◌, arith}
 use Rattle.std.proofs.lemmas.List.{append_assoc, drop-set, length-append, length-take-le, take-append-drop, take_at, take-set, take-take}
 
--- A text was written into a line between two places. The bytes before and after it stay.
 pub record WritesBefore (text : List ℕ) (start end : ℕ) (old new : List ℕ) : Type 0 where
   pub ends : start + length text ≡ end
   pub written : drop start new ≡ text ++ drop end old
   pub front : take start new ≡ take start old
 
--- bytes before a place that is before another
 shorter_front : (old new : List ℕ) (at start : ℕ) → at ≤ start → take start new ≡ take start old → take at new ≡ take at old
 shorter_front old new at start le same = sym (take-take at start new le) ∙ ap (take at) same ∙ take-take at start old le
 
--- a byte in front of a text
 pub byte_before : (text : List ℕ) (b start end : ℕ) (old new : List ℕ) → 0 < start → start ≤ length new → WritesBefore text start end old new
     → WritesBefore (b ∷ text) (start - 1) end old (set new (start - 1) b)
 byte_before text b start end old new some within w =
@@ -23,7 +20,6 @@ byte_before text b start end old new some within w =
       front = take-set new (start - 1) b ∙ shorter_front old new (start - 1) start (omega arith) w.front;
     }
 
--- a text in front of a text
 pub text_before : (text more : List ℕ) (at start end : ℕ) (old mid new : List ℕ) → WritesBefore text start end old mid → WritesBefore more at start mid new
     → WritesBefore (more ++ text) at end old new
 text_before text more at start end old mid new w v = record {
@@ -32,7 +28,6 @@ text_before text more at start end old mid new w v = record {
   front = v.front ∙ shorter_front old mid at start (omega (arith, v.ends)) w.front;
 }
 
--- the line up to the end of the text
 pub line_with : (text : List ℕ) (start end : ℕ) (old new : List ℕ) → end ≤ length old → WritesBefore text start end old new
     → take end new ≡ take (end - length text) old ++ text
 line_with text start end old new within w =

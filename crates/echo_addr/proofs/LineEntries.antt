@@ -10,7 +10,6 @@ pub record Behind (xs : List NetNode) (i : ℕ) (before : Option ℕ) : Type 0 w
 pub Behind-none : (xs : List NetNode) → Behind xs 0 None
 Behind-none xs = record { further = λ k. ap (λ n. entries_text None (take n xs)) (let same : 0 + k ≡ k = omega arith in same) }
 
--- the text of one entry more
 pub Behind-next : (xs : List NetNode) (i : ℕ) (before : Option ℕ) (d : NetNode) → i < length xs → Behind xs i before
     → entries_text None (take (i + 1) xs) ≡ entries_text None (take i xs) ++ entry_text before (get_or xs i d)
 Behind-next xs i before d lt b =
@@ -32,7 +31,6 @@ Behind-more xs i before d lt b =
           ∙ ap (λ t. t ++ rest) (sym (Behind-next xs i before d lt b));
     }
 
--- the first i entries stand behind the beginning of a line
 pub record Written (xs : List NetNode) (i : ℕ) (before : Option ℕ) (begun : ℕ) (front : List ℕ) (at : ℕ) (line : List ℕ) : Type 0 where
   pub behind : Behind xs i before
   pub end : at ≡ begun + length (entries_text None (take i xs))
@@ -56,7 +54,6 @@ Written-more xs i before begun front at end line more d lt is now w =
           ∙ append_assoc front (entries_text None (take i xs)) (entry_text before x) ∙ ap (λ t. front ++ t) (sym next);
     }
 
--- the width with one entry more
 pub Written-next : (xs : List NetNode) (i : ℕ) (before : Option ℕ) (begun : ℕ) (front : List ℕ) (at : ℕ) (line : List ℕ) (d : NetNode) → i < length xs
     → Written xs i before begun front at line
     → begun + length (entries_text None (take (i + 1) xs)) ≡ at + length (entry_text before (get_or xs i d))
@@ -68,13 +65,11 @@ Written-next xs i before begun front at line d lt w =
       w.end,
     )
 
--- the front of a line stays as bytes are written behind it
 pub front_stays : (old new text : List ℕ) (begun end : ℕ) → begun ≤ end → begun ≤ length old → take end new ≡ take begun old ++ text
     → take begun new ≡ take begun old
 front_stays old new text begun end low within is =
     sym (take-take begun end new low) ∙ ap (take begun) is ∙ take_at (take begun old) text begun (length-take-le begun old within)
 
--- a line with its front and its 0D
 pub line_ended : (line front prefix text : List ℕ) (end : ℕ) → take end line ≡ front ++ text → front ≡ prefix → take end line ++ 13 ∷ [] ≡ line_of prefix text
 line_ended line front prefix text end is same =
     ap (λ t. t ++ 13 ∷ []) (is ∙ ap (λ f. f ++ text) same) ∙ append_assoc prefix text (13 ∷ [])

@@ -1,4 +1,3 @@
--- Cutting bytes into tokens from the left.
 use Rattle.std.proofs.Common.{◌≡◌, ℕ, suc, ◌+◌, ◌-◌, ◌<◌, nat_le, nat_lt, not, cond, Bool, true, false, List, [], ◌∷◌, ◌++◌, length, get_or, take, drop, refl, sym, ap, ◌∙◌, arith, Option, Some, None, inl, inr}
 use Rattle.std.proofs.lemmas.List.{take-append-drop, drop_more, drop_all, take_all, take_rest, get_or-take, length-take, length-take-le}
 use Rattle.std.proofs.lemmas.Bool.{and_parts, cases_Bool, cases_lt, cond-false, not-true}
@@ -10,11 +9,9 @@ use Rattle.echo_addr.proofs.Tokens.{IsInk, tokens_blank, tokens_one, tokens_more
 use Rattle.echo_addr.proofs.{Decimals.IsDigit, Decimals.each_digit, Decimals.own, Each.weaker, ReadBack.digit_is_no_slash, ReadBack.entry_from_none, ReadBack.pair_of-hidden}
 use Rattle.echo_addr.proofs.Positions.{position_or_len-le, position_some, position_none, unwrap_or-position}
 
--- no blank
 abbrev pub is_other : ℕ → Bool
 is_other b = not (is_blank b)
 
--- blanks in front make no token
 pub tokens_skip : (s : List ℕ) → tokens s ≡ tokens (drop (position_or_len is_other s) s)
 tokens_skip [] = refl
 tokens_skip (b ∷ s) = elim (cases_Bool (is_blank b)) [
@@ -27,7 +24,6 @@ tokens_skip (b ∷ s) = elim (cases_Bool (is_blank b)) [
       ap (λ n. tokens (drop n (b ∷ s))) (sym stay)
 ]
 
--- bytes that do not begin with a blank: a token, then the tokens after it
 pub tokens_front : (s : List ℕ) → 0 < position_or_len is_blank s
     → tokens s ≡ take (position_or_len is_blank s) s ∷ tokens (drop (position_or_len is_blank s) s)
 tokens_front s some =
@@ -50,12 +46,10 @@ tokens_front s some =
           ap tokens (sym whole) ∙ tokens_one t long ink ∙ ap (λ r. t ∷ r) tokens_nil ∙ ap (λ r. t ∷ tokens r) (sym (drop_all m s le))
     ]
 
--- a token without a slash is no pair
 pub pair_none : (t : List ℕ) → position is_slash t ≡ None → pair_of t ≡ None
 unfolding pair_of
 pair_none t none = grind (arith, drop_all, position_none, entry_from_none)
 
--- a token is cut at its first slash
 pair_cut : (t : List ℕ) (i : ℕ) → position is_slash t ≡ Some i
     → pair_of t ≡ entry_from (part_of (take i t)) (part_of (drop (i + 1) t))
 unfolding pair_of
@@ -79,7 +73,6 @@ pair_both t i net node some net-is node-is =
     ∙ ap (λ o. entry_from o (part_of (take (length t - (i + 1)) (drop (i + 1) t)))) net-is
     ∙ ap (entry_from (Some net)) node-is
 
--- a token that is a number is no pair
 digits_of_number : (most : ℕ) (t : List ℕ) (n : ℕ) → number_within most t ≡ Some n → all_ascii_digits t ≡ true
 digits_of_number most t n some = grind (arith, cases_Bool, nat_le, and_parts, nat_lt, cond-false)
 
@@ -99,11 +92,9 @@ pub entry_pair : (net : Option ℕ) (t : List ℕ) → part_of t ≡ None → pa
 entry_pair net t none =
     sym (ap (λ o. option_or (pair_of t) (entry_from net o)) none ∙ ap (option_or (pair_of t)) (entry_from_none net) ∙ or_none (pair_of t))
 
--- only blanks
 pub next_none : (s : List ℕ) → position is_other s ≡ None → tokens s ≡ []
 next_none s none = grind (arith, drop_all, position_none, tokens_skip, tokens_nil)
 
--- the first token, and the bytes after it
 pub next_some : (s begun front rest : List ℕ) (blank : Option ℕ) (start end : ℕ) → position is_other s ≡ Some start
     → begun ≡ take (length s - start) (drop start s) → blank ≡ position is_blank begun → end ≡ unwrap_or blank (length begun)
     → front ≡ take end begun → rest ≡ drop end begun → tokens s ≡ front ∷ tokens rest
@@ -121,7 +112,6 @@ next_some s begun front rest blank start end some begun-is blank-is end-is front
     ∙ ap (λ n. take n begun ∷ tokens (drop n begun)) (sym size)
     ∙ ap (λ f. f ∷ tokens (drop end begun)) (sym front-is) ∙ ap (λ r. front ∷ tokens r) (sym rest-is)
 
--- the offset of the bytes after the first token
 pub next_after : (s begun front rest : List ℕ) (blank : Option ℕ) (start end : ℕ) → position is_other s ≡ Some start
     → begun ≡ take (length s - start) (drop start s) → blank ≡ position is_blank begun → end ≡ unwrap_or blank (length begun)
     → front ≡ take end begun → rest ≡ drop end begun → rest ≡ drop (length front) (drop (position_or_len is_other s) s)

@@ -1,4 +1,3 @@
--- The address that bytes spell, or the refusal that applies.
 use Rattle.std.proofs.Common.{◌≡◌, ◌≢◌, ℕ, ◌==◌, ◌&&◌, not, nat_le, min, cond, Bool, true, false, List, ◌∷◌, ◌++◌, length, refl, sym, ap, ◌∙◌, arith, Option, Some, None, Ok, Err, subst}
 use Rattle.std.proofs.lemmas.Bool.{and_from, and_parts, cases_Bool, cases_eq, cases_lt, and_right, lt-leb, cond-true, cond-false, eq-eqb, ne_eqb, le-leb, leb-true, ltb-true, not_from_true, not_from_false}
 use Rattle.std.proofs.lemmas.List.{length-append}
@@ -10,7 +9,6 @@ use Rattle.echo_addr.specs.Digits.{is_number}
 use Rattle.echo_addr.proofs.Shapes.{Spelled, spelled_shape, spelled_zone, spelled_net, spelled_node, shape_parts}
 use Rattle.echo_addr.proofs.Decimals.{own, is_number-writes, writes_decimal}
 
--- each refusal, if no earlier one applies
 pub refusal_empty : (b : List ℕ) → length b ≡ 0 → refusal b ≡ Some Empty
 unfolding refusal
 refusal_empty b empty = cond-true (length b == 0) (Some Empty) _ (eq-eqb (length b) 0 empty)
@@ -37,7 +35,6 @@ pub refusal_none : (b : List ℕ) → length b ≢ 0 → has_shape b ≡ true �
 refusal_none b some shape digits fits =
     refusal_last b some shape digits ∙ cond-false (not (is_in_bounds b)) (Some OutOfRange) None (not_from_true _ fits)
 
--- a number in its range
 in_test : (low high n : ℕ) → IsInRange low high n → is_in_range low high n ≡ true
 in_test low high n h = and_from _ _ (le-leb low n h.0) (le-leb n high h.1)
 
@@ -50,21 +47,18 @@ numeral_from ds h = let parts = and_parts _ _ h in (ltb-true 0 (length ds) parts
 spelled : (b : List ℕ) (a : Address) → (w : AddressOf b a) → Spelled b w.zone_digits w.net_digits w.node_digits
 spelled b a w = record { zone = w.zone.numeral; net = w.net.numeral; node = w.node.numeral; bytes = w.bytes }
 
--- an address of three numbers
 abbrev address : ℕ → ℕ → ℕ → Address
 address zone net node = record { zone = zone; net = net; node = node }
 
 same_address : (x y z u v w : ℕ) → x ≡ u → y ≡ v → z ≡ w → address x y z ≡ address u v w
 same_address x y z u v w ex ey ez = ap (λ t. address t y z) ex ∙ ap (λ t. address u t z) ey ∙ ap (address u v) ez
 
--- bytes that write an address have it in their parts
 pub address_in-written : (b : List ℕ) (a : Address) → AddressOf b a → address_in b ≡ a
 address_in-written b a w =
     let h = spelled b a w in
     same_address _ _ _ a.zone a.net a.node (ap (digits_value 10) (spelled_zone b _ _ _ h) ∙ w.zone.value)
     (ap (digits_value 10) (spelled_net b _ _ _ h) ∙ w.net.value) (ap (digits_value 10) (spelled_node b _ _ _ h) ∙ w.node.value)
 
--- and no refusal applies
 pub refusal-written : (b : List ℕ) (a : Address) → AddressOf b a → refusal b ≡ None
 refusal-written b a w =
     let h = spelled b a w in
@@ -101,7 +95,6 @@ written b shape digits fits =
       };
     }
 
--- without a refusal, the parts spell their address
 pub AddressOf-from_refusal : (b : List ℕ) → refusal b ≡ None → AddressOf b (address_in b)
 AddressOf-from_refusal b none = grind (arith, cases_eq, refusal_empty, cases_Bool, refusal_shape, refusal_digits, refusal_range, written)
 
@@ -109,14 +102,12 @@ by_refusal : (b : List ℕ) (a : Address) (o : Option AddrFault) → refusal b �
 by_refusal b a None none e = let same : address_in b ≡ a = cc in subst (AddressOf b) same (AddressOf-from_refusal b none)
 by_refusal b a (Some f) some e = absurd cc
 
--- the answer is Ok of just the address that the bytes write
 pub outcome_ok : (b : List ℕ) (a : Address) → outcome b ≡ Ok a → AddressOf b a
 outcome_ok b a e = by_refusal b a (refusal b) refl e
 
 pub outcome-written : (b : List ℕ) (a : Address) → AddressOf b a → outcome b ≡ Ok a
 outcome-written b a w = ap (λ o. answer_of o (address_in b)) (refusal-written b a w) ∙ ap Ok (address_in-written b a w)
 
--- a written address in range reads back as itself
 pub AddressOf-address_text : (a : Address) → IsAddress a → AddressOf (address_text a) a
 AddressOf-address_text a h = record {
   zone_digits = decimal a.zone;
@@ -129,18 +120,15 @@ AddressOf-address_text a h = record {
   in_range = h;
 }
 
--- the answer if a refusal applies
 pub outcome_refused : (b : List ℕ) (f : AddrFault) → refusal b ≡ Some f → Err f ≡ outcome b
 outcome_refused b f some = sym (ap (λ o. answer_of o (address_in b)) some)
 
--- a value that was cut off is out of range, as the whole one is
 capped_range : (low v c : ℕ) → c ≡ min v 32768 → is_in_range low 32767 c ≡ is_in_range low 32767 v
 capped_range low v c is = grind (arith, cases_lt, and_right, nat_le, lt-leb)
 
 capped_value : (low v c : ℕ) → c ≡ min v 32768 → is_in_range low 32767 c ≡ true → c ≡ v
 capped_value low v c is fits = omega (arith, (in_fact low 32767 c fits).1)
 
--- the numbers of the three parts
 pub record Capped (b : List ℕ) (zone net node : ℕ) : Type 0 where
   pub zone_is : zone ≡ min (digits_value 10 (zone_part b)) 32768
   pub net_is : net ≡ min (digits_value 10 (net_part b)) 32768
@@ -149,12 +137,10 @@ pub record Capped (b : List ℕ) (zone net node : ℕ) : Type 0 where
 same_tests : (x y z u v w : Bool) → x ≡ u → y ≡ v → z ≡ w → (x && y && z) ≡ (u && v && w)
 same_tests x y z u v w ex ey ez = ap (λ t. t && y && z) ex ∙ ap (λ t. u && t && z) ey ∙ ap (λ t. u && v && t) ez
 
--- the answer if the three parts are digits
 pub outcome_numbers : (b : List ℕ) (zone net node : ℕ) → length b ≢ 0 → has_shape b ≡ true → has_digits b ≡ true → Capped b zone net node
     → address_within zone net node ≡ outcome b
 outcome_numbers b zone net node some shape digits c = grind (arith, same_tests, capped_range, cases_Bool, and_parts, same_address, capped_value, cond-true, refusal_none, cond-false, outcome_refused, refusal_range)
 
--- the tests of the three parts
 pub parts_test : (b z n d : List ℕ) → z ≡ zone_part b → n ≡ net_part b → d ≡ node_part b
     → (is_number z && is_number n && is_number d) ≡ has_digits b
 parts_test b z n d ez en ed = same_tests _ _ _ _ _ _ (ap is_number ez) (ap is_number en) (ap is_number ed)

@@ -1,10 +1,8 @@
--- Pieces of bytes, without an empty last piece.
 use Rattle.std.proofs.Common.{◌≡◌, ℕ, ◌<◌, ◌==◌, Bool, List, [], ◌∷◌, length, refl, sym, ap, ◌∙◌, arith, inl, inr}
 use Rattle.std.proofs.lemmas.{List.Splits.slice_split-cons_no, List.Splits.slice_split-cons_yes, Bool.cases_Bool, Bool.cond-false, Bool.ne_eqb}
 use Rattle.std.specs.List.{onto_first, slice_split}
 use Rattle.echo_addr.specs.Pieces.{without_empty_last}
 
--- a split has a first piece
 pub record HasFirst (pieces : List (List ℕ)) : Type 0 where
   pub first : List ℕ
   pub more : List (List ℕ)
@@ -27,18 +25,15 @@ kept_piece : (piece : List ℕ) (pieces : List (List ℕ)) → HasFirst pieces �
 kept_piece piece pieces h =
     ap (λ ps. without_empty_last (piece ∷ ps)) h.is ∙ ap (λ ps. piece ∷ without_empty_last ps) (sym h.is)
 
--- a piece before a byte that ends one
 pub ended_piece : (p : ℕ → Bool) (piece rest : List ℕ) → without_empty_last (piece ∷ slice_split p rest) ≡ piece ∷ without_empty_last (slice_split p rest)
 ended_piece p piece rest = kept_piece piece (slice_split p rest) (first_of_split p rest)
 
--- a last piece without a final separator
 pub last_piece : (piece : List ℕ) → 0 < length piece → without_empty_last (piece ∷ []) ≡ piece ∷ []
 last_piece piece some = cond-false (length piece == 0) [] (piece ∷ []) (ne_eqb (length piece) 0 (λ e. omega arith))
 
 grown_pieces : (b : ℕ) (pieces : List (List ℕ)) → 0 < length (without_empty_last (onto_first b pieces))
 grown_pieces b pieces = grind (arith, last_piece)
 
--- some bytes have a piece
 pub some_pieces : (p : ℕ → Bool) (text : List ℕ) → 0 < length text → 0 < length (without_empty_last (slice_split p text))
 some_pieces p [] some = absurd (omega arith)
 some_pieces p (b ∷ text) some = elim (cases_Bool (p b)) [

@@ -1,4 +1,3 @@
--- The first offset of a byte.
 use Rattle.std.proofs.Common.{◌≡◌, ℕ, ◌+◌, ◌<◌, ◌≤◌, not, nat_lt, cond, Bool, List, [], ◌∷◌, length, refl, ap, ◌∙◌, arith, Some, None, inl, inr}
 use Rattle.std.proofs.lemmas.Bool.{cases_Bool, cond-true, cond-false, ltb-true, ltb-false}
 use Rattle.std.proofs.lemmas.List.Sums.{prefix_len-le-length, sum_by-cons}
@@ -7,15 +6,12 @@ use Rattle.std.specs.{Option.unwrap_or, List.position, List.position_or_len, Lis
 pub position_or_len-le : (p : ℕ → Bool) (xs : List ℕ) → position_or_len p xs ≤ length xs
 position_or_len-le p xs = prefix_len-le-length (λ x. not (p x)) xs
 
--- a place that was found
 pub position_some : (p : ℕ → Bool) (xs : List ℕ) (i : ℕ) → position p xs ≡ Some i → (i ≡ position_or_len p xs) × (i < length xs)
 position_some p xs i e = grind (arith, cases_Bool, nat_lt, cond-true, ltb-true, cond-false)
 
--- no element passes
 pub position_none : (p : ℕ → Bool) (xs : List ℕ) → position p xs ≡ None → position_or_len p xs ≡ length xs
 position_none p xs e = grind (arith, cases_Bool, nat_lt, cond-true, position_or_len-le, ltb-false)
 
--- if no element passes, the count is 0
 pub count_none : (p : ℕ → Bool) (xs : List ℕ) → position_or_len p xs ≡ length xs → count_by p xs ≡ 0
 count_none p [] e = refl
 count_none p (x ∷ xs) e = elim (cases_Bool (p x)) [
@@ -26,6 +22,5 @@ count_none p (x ∷ xs) e = elim (cases_Bool (p x)) [
       sum_by-cons (λ b. cond (p b) 1 0) x xs ∙ ap (λ t. cond t 1 0 + count_by p xs) n ∙ ap (λ m. 0 + m) (count_none p xs rest)
 ]
 
--- the place that was found, or else the length
 pub unwrap_or-position : (p : ℕ → Bool) (xs : List ℕ) → unwrap_or (position p xs) (length xs) ≡ position_or_len p xs
 unwrap_or-position p xs = grind (arith, cases_Bool, nat_lt, cond-true, position_or_len-le, ltb-false, cond-false)

@@ -20,14 +20,12 @@ plain_is_ink b h =
 no_slash_in : (n : ℕ) → n < 2 ^ 16 → AllByRecursion (λ b. is_slash b ≡ false) (decimal n)
 no_slash_in n small = weaker IsDigit (λ b. is_slash b ≡ false) digit_is_no_slash (decimal n) (digits_of_decimal n (omega arith))
 
--- slashes and digits
 abbrev IsPlain : ℕ → Type 0
 IsPlain b = (47 ≤ b) × (b ≤ 57)
 
 plain_decimal : (n : ℕ) → n < 2 ^ 16 → AllByRecursion IsPlain (decimal n)
 plain_decimal n small = weaker IsDigit IsPlain (λ b h. (omega (arith, h.0), h.1)) (decimal n) (digits_of_decimal n (omega arith))
 
--- the two ways to write an entry
 pub shown : (before : Option ℕ) (e : NetNode) → shows_net before e.net ≡ true → entry_token before e ≡ decimal e.net ++ 47 ∷ decimal e.node
 shown before e is = cond-true (shows_net before e.net) _ _ is
 
@@ -40,7 +38,6 @@ plain_token before e h = grind (arith, cases_Bool, shown, joined, plain_decimal,
 some_token : (before : Option ℕ) (e : NetNode) → IsNetNode e → 0 < length (entry_token before e)
 some_token before e h = grind (arith, decimal_nonempty, cases_Bool, shown, length-append, hidden)
 
--- a token with its net is that entry
 pub pair_of-shown : (e : NetNode) → IsNetNode e → pair_of (decimal e.net ++ 47 ∷ decimal e.node) ≡ Some e
 unfolding pair_of
 pair_of-shown e h = grind (arith, before_slash, no_slash_in, after_slash, part_of-decimal)
@@ -49,18 +46,15 @@ pub entry_from_none : (net : Option ℕ) → entry_from net None ≡ None
 entry_from_none None = refl
 entry_from_none (Some net) = refl
 
--- a token without a slash is no pair
 pub pair_of-hidden : (s : List ℕ) → AllByRecursion (λ b. is_slash b ≡ false) s → pair_of s ≡ None
 unfolding pair_of
 pair_of-hidden s none =
     ap (λ r. entry_from (part_of (before_first is_slash s)) (part_of r)) (after_no_slash s none) ∙ entry_from_none _
 
--- the nearest net is that of the entry before, if there is one
 Carries : Option ℕ → List (List ℕ) → Type 0
 Carries None earlier = Unit {0}
 Carries (Some net) earlier = nearest_net earlier ≡ Some net
 
--- a written entry read behind the tokens in front
 record Reads (earlier : List (List ℕ)) (token : List ℕ) (e : NetNode) : Type 0 where
   entry : entry_of earlier token ≡ Some e
   net : nearest_net (token ∷ earlier) ≡ Some e.net
@@ -72,7 +66,6 @@ reads_node : (earlier : List (List ℕ)) (token : List ℕ) (e : NetNode) → pa
     → part_of token ≡ Some e.node → Reads earlier token e
 reads_node earlier token e pair net node = grind arith
 
--- an entry without its net has the net of the entry before
 left_out : (before : Option ℕ) (earlier : List (List ℕ)) (net : ℕ) → shows_net before net ≡ false → Carries before earlier
     → nearest_net earlier ≡ Some net
 unfolding Carries
@@ -91,7 +84,6 @@ ends : (before : Option ℕ) (es : List NetNode) → IsEnded (entries_text befor
 ends before [] = tt
 ends before (e ∷ es) = refl
 
--- each written entry is read as itself
 judged_written : (before : Option ℕ) (earlier : List (List ℕ)) (es : List NetNode) → AllByRecursion IsNetNode es → Carries before earlier
     → judged earlier (tokens (entries_text before es)) ≡ map Some es
 judged_written before earlier [] h carries = ap (judged earlier) (sym tokens_nil)
@@ -116,7 +108,6 @@ carries_none : Carries None []
 unfolding Carries
 carries_none = tt
 
--- the entries of one line read back, and no token is dropped
 pub entries-entries_text : (es : List NetNode) → AllByRecursion IsNetNode es → entries (entries_text None es) ≡ es
 unfolding entries
 entries-entries_text es h = ap (filter_map (λ e. e)) (judged_written None [] es h carries_none) ∙ kept_all es
@@ -125,7 +116,6 @@ pub dropped-entries_text : (es : List NetNode) → AllByRecursion IsNetNode es �
 unfolding dropped
 dropped-entries_text es h = ap (count_by is_none) (judged_written None [] es h carries_none) ∙ none_lost es
 
--- a line has blanks, slashes and digits only
 pub entry_bytes : (before : Option ℕ) (es : List NetNode) → AllByRecursion IsNetNode es → AllByRecursion IsEntryByte (entries_text before es)
 entry_bytes before [] h = tt
 entry_bytes before (e ∷ es) h = (
@@ -135,7 +125,6 @@ entry_bytes before (e ∷ es) h = (
       (entry_bytes (Some e.net) es h.1),
 )
 
--- the bytes of each line after its prefix
 rests_of : List (List NetNode) → List (List ℕ)
 rests_of runs = map (λ run. entries_text None run) runs
 
@@ -145,7 +134,6 @@ unfolding rests_of
 lines_of_rests prefix [] = refl
 lines_of_rests prefix (run ∷ runs) = ap (λ t. line_of prefix (entries_text None run) ++ t) (lines_of_rests prefix runs)
 
--- each run of a list of entries
 each_run : (runs : List (List NetNode)) → AllByRecursion IsNetNode (flat_map (λ r. r) runs) → AllByRecursion (AllByRecursion IsNetNode) runs
 each_run [] h = tt
 each_run (run ∷ runs) h =
@@ -170,6 +158,5 @@ unfolding rests_of
 rests_dropped [] h = tt
 rests_dropped (run ∷ runs) h = (dropped-entries_text run h.0, rests_dropped runs h.1)
 
--- the lines of a list, read one by one, give the list back
 pub read_back : (prefix : List ℕ) (list : List NetNode) (b : List ℕ) → All IsNetNode list → ShortLines prefix list b → ReadBack prefix list b
 read_back prefix list b all lines = grind (arith, each_run, recursion_from_All, rests_of, lines_of_rests, rests_bytes, rests_entries, rests_dropped)

@@ -6,11 +6,9 @@ use Rattle.std.specs.List.{flat_map}
 use Rattle.echo_addr.specs.ShortLines.{line_room, entry_text, entries_text, line_front, line_of, IsFull, AddsLines, AreRuns, ShortLines}
 use Rattle.echo_addr.specs.declared.address.NetNode.{NetNode}
 
--- an entry to read past the end of a list
 abbrev nowhere : NetNode
 nowhere = record { net = 0; node = 0 }
 
--- a run that leaves no room for the next entry
 full_run : (prefix : List ℕ) (xs : List NetNode) (k : ℕ) → (k < length xs → line_room < length (line_front prefix (take (k + 1) xs)))
     → IsFull prefix (take k xs) (drop k xs)
 full_run prefix xs k full = elim (cases_lt k (length xs)) [
@@ -20,7 +18,6 @@ full_run prefix xs k full = elim (cases_lt k (length xs)) [
   | inr all ↦ subst (IsFull prefix (take k xs)) (sym (drop_all k xs all)) tt
 ]
 
--- the line of a run, then the lines of the later entries
 pub ShortLines-cons : (prefix : List ℕ) (xs : List NetNode) (k : ℕ) (tail : List ℕ) → 0 < k → k ≤ length xs
     → length (line_front prefix (take k xs)) ≤ line_room
     → (k < length xs → line_room < length (line_front prefix (take (k + 1) xs)))
@@ -40,11 +37,9 @@ ShortLines-cons prefix xs k tail some within room full later = record {
   );
 }
 
--- no entries, no lines
 pub ShortLines-nil : (prefix : List ℕ) → ShortLines prefix [] []
 ShortLines-nil prefix = record { runs = []; cut = refl; lines = refl; each = tt }
 
--- a longer list takes no fewer bytes
 longer : (before : Option ℕ) (s t : List NetNode) → length (entries_text before s) ≤ length (entries_text before (s ++ t))
 longer before [] t = omega arith
 longer before (e ∷ s) t =
@@ -55,7 +50,6 @@ longer before (e ∷ s) t =
       length-append (entry_text before e) (entries_text (Some e.net) (s ++ t)),
     )
 
--- a run that leaves no room for the next entry is no part of a longer one
 no_longer : (prefix : List ℕ) (r x q y : List NetNode) → r ++ x ≡ q ++ y → IsFull prefix r x → length (line_front prefix q) ≤ line_room
     → length q ≤ length r
 no_longer prefix r [] q y e full room =
@@ -90,14 +84,12 @@ one_cut prefix (r ∷ rs) (q ∷ qs) e hr hq =
     let later : x ≡ y = sym (drop_at r x (length q) same) ∙ ap (drop (length q)) e ∙ drop_at q y (length q) refl in
     ap (λ l. l ∷ rs) first ∙ ap (λ l. q ∷ l) (one_cut prefix rs qs later hr.1 hq.1)
 
--- a list has one spelling
 pub one_spelling : (prefix : List ℕ) (list : List NetNode) (b c : List ℕ) → ShortLines prefix list b → ShortLines prefix list c → b ≡ c
 one_spelling prefix list b c hb hc = grind (arith, one_cut)
 
 pub nothing_written : (prefix b : List ℕ) → ShortLines prefix [] b → b ≡ []
 nothing_written prefix b h = one_spelling prefix [] b [] h (ShortLines-nil prefix)
 
--- finished lines behind a text, which the lines of the other entries complete
 abbrev pub Completes : List ℕ → List NetNode → List NetNode → List ℕ → List ℕ → Type 0
 Completes prefix xs rest before text = (tail : List ℕ) → ShortLines prefix rest tail → AddsLines prefix xs before (text ++ tail)
 

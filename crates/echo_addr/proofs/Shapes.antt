@@ -14,11 +14,9 @@ no_colon b none = grind (arith, position_none, position_or_len-le, and_right, le
 pub no_slash : (b : List ℕ) → position is_slash b ≡ None → has_shape b ≡ false
 no_slash b none = grind (arith, count_none, position_none, and_left, and_right, ne_eqb)
 
--- no element passes
 abbrev pub NonePass : (ℕ → Bool) → List ℕ → Type 0
 NonePass p s = AllByRecursion (λ x. p x ≡ false) s
 
--- the position of the first element that passes, after elements that do not
 pub position_at : (p : ℕ → Bool) (s : List ℕ) (x : ℕ) (r : List ℕ) → NonePass p s → p x ≡ true → position_or_len p (s ++ x ∷ r) ≡ length s
 position_at p [] x r none passes = ap (λ t. cond (not t) (1 + position_or_len p r) 0) passes
 position_at p (y ∷ s) x r none passes =
@@ -29,7 +27,6 @@ count_of_none p [] none = refl
 count_of_none p (y ∷ s) none =
     sum_by-cons (λ b. cond (p b) 1 0) y s ∙ ap (λ t. cond t 1 0 + count_by p s) none.0 ∙ ap (λ n. 0 + n) (count_of_none p s none.1)
 
--- exactly one element passes
 pub count_of_one : (p : ℕ → Bool) (s : List ℕ) (x : ℕ) (r : List ℕ) → NonePass p s → p x ≡ true → NonePass p r → count_by p (s ++ x ∷ r) ≡ 1
 count_of_one p s x r before passes after =
     let front = count_of_none p s before in
@@ -50,14 +47,12 @@ no_colon_in ds h = weaker IsDigit (λ b. is_colon b ≡ false) digit_no_colon ds
 no_slash_in : (ds : List ℕ) → IsNumeral 10 ds → NonePass is_slash ds
 no_slash_in ds h = weaker IsDigit (λ b. is_slash b ≡ false) digit_no_slash ds (each_digit ds h.1)
 
--- three numbers with colon and slash between them
 pub record Spelled (b z n d : List ℕ) : Type 0 where
   pub zone : IsNumeral 10 z
   pub net : IsNumeral 10 n
   pub node : IsNumeral 10 d
   pub bytes : b ≡ z ++ 58 ∷ (n ++ 47 ∷ d)
 
--- the same bytes, seen from the slash
 from_slash : (b z n d : List ℕ) → Spelled b z n d → b ≡ (z ++ 58 ∷ n) ++ 47 ∷ d
 from_slash b z n d h = h.bytes ∙ sym (append_assoc z (58 ∷ n) (47 ∷ d))
 
@@ -68,7 +63,6 @@ no_slash_before b z n d h =
 no_colon_after : (b z n d : List ℕ) → Spelled b z n d → NonePass is_colon (n ++ 47 ∷ d)
 no_colon_after b z n d h = joined (λ x. is_colon x ≡ false) n (47 ∷ d) (no_colon_in n h.net) (refl, no_colon_in d h.node)
 
--- the positions of the colon and the slash
 pub colon_place : (b z n d : List ℕ) → Spelled b z n d → position_or_len is_colon b ≡ length z
 colon_place b z n d h = ap (position_or_len is_colon) h.bytes ∙ position_at is_colon z 58 (n ++ 47 ∷ d) (no_colon_in z h.zone) refl
 
@@ -87,7 +81,6 @@ spelled_shape b z n d h =
     let second = slash_place b z n d h in
     and_from _ _ (and_from _ _ (eq-eqb _ _ colons) (eq-eqb _ _ slashes)) (lt-ltb _ _ (omega arith))
 
--- its parts are the three numbers
 pub spelled_zone : (b z n d : List ℕ) → Spelled b z n d → zone_part b ≡ z
 spelled_zone b z n d h =
     ap (λ k. take k b) (colon_place b z n d h) ∙ ap (take (length z)) h.bytes ∙ take_at z (58 ∷ (n ++ 47 ∷ d)) (length z) refl
@@ -112,7 +105,6 @@ spelled_net b z n d h =
     ∙ ap (take (length n)) (drop_at (z ++ 58 ∷ []) (n ++ 47 ∷ d) k front)
     ∙ take_at n (47 ∷ d) (length n) refl
 
--- bytes of that shape are their parts, with colon and slash between them
 pub shape_parts : (b : List ℕ) → has_shape b ≡ true → b ≡ zone_part b ++ 58 ∷ (net_part b ++ 47 ∷ node_part b)
 shape_parts b shape =
     let c = position_or_len is_colon b in

@@ -6,11 +6,9 @@ use Rattle.echo_addr.specs.ShortLines.{line_room, entry_text, entries_text, line
 use Rattle.echo_addr.specs.declared.address.NetNode.{NetNode}
 use Rattle.echo_addr.proofs.Runs.{ShortLines-cons, ShortLines-nil}
 
--- how many bytes the first k entries take
 abbrev width : List NetNode → ℕ → ℕ
 width xs k = length (entries_text None (take k xs))
 
--- as many entries from the front as have room
 record Longest (room : ℕ) (xs : List NetNode) : Type 0 where
   count : ℕ
   some : 0 < count
@@ -26,7 +24,6 @@ longest room xs k (suc left) all some fits = elim (cases_lt room (width xs (k + 
   | inr more ↦ longest room xs (k + 1) left (omega arith) (omega arith) more
 ]
 
--- one entry takes at most 12 bytes
 first_width : (e : NetNode) (es : List NetNode) → IsNetNode e → width (e ∷ es) 1 ≤ 12
 first_width e es h =
     let net = length-decimal-le 5 e.net (omega arith) (omega (arith, h.net)) (omega (arith, h.net)) in

@@ -1,15 +1,12 @@
--- Cutting bytes at blanks, and a token at its slash.
 use Rattle.std.proofs.Common.{◌≡◌, ℕ, ◌+◌, ◌<◌, nat_lt, not, cond, true, false, List, [], ◌∷◌, ◌++◌, length, take, refl, ap, ◌∙◌, arith}
 use Rattle.std.proofs.{Math.Seq.drop-append-add, lemmas.List.append-nil, lemmas.List.take_at, lemmas.List.drop_all, lemmas.List.Elements.All-from_recursion}
 use Rattle.std.proofs.lemmas.{List.Splits.slice_split_none, List.Splits.slice_split_at, Bool.lt-ltb, Bool.cond-true}
 use Rattle.std.specs.List.{filter, slice_split, AllByRecursion, position_or_len, before_first, after_first}
 use Rattle.echo_addr.specs.{Address.is_slash, Entries.is_blank, Entries.tokens}
 
--- a byte that is no blank
 abbrev pub IsInk : ℕ → Type 0
 IsInk b = is_blank b ≡ false
 
--- bytes that end, or go on with a blank 20
 abbrev pub IsEnded : List ℕ → Type 0
 IsEnded [] = Unit {0}
 IsEnded (b ∷ bs) = b ≡ 32
@@ -18,19 +15,16 @@ kept : (t : List ℕ) (ts : List (List ℕ)) → 0 < length t
     → filter (λ u. nat_lt 0 (length u)) (t ∷ ts) ≡ t ∷ filter (λ u. nat_lt 0 (length u)) ts
 kept t ts some = cond-true (nat_lt 0 (length t)) _ _ (lt-ltb 0 (length t) some)
 
--- a blank in front makes no token
 pub tokens_blank : (b : ℕ) (s : List ℕ) → is_blank b ≡ true → tokens (b ∷ s) ≡ tokens s
 unfolding tokens
 tokens_blank b s blank =
     ap (filter (λ u. nat_lt 0 (length u))) (cond-true (is_blank b) ([] ∷ slice_split is_blank s) _ blank)
 
--- one token alone
 pub tokens_one : (t : List ℕ) → 0 < length t → AllByRecursion IsInk t → tokens t ≡ t ∷ []
 unfolding tokens
 tokens_one t some ink =
     ap (filter (λ u. nat_lt 0 (length u))) (slice_split_none is_blank t (All-from_recursion IsInk t ink)) ∙ kept t [] some
 
--- a token, then the bytes after its blank
 pub tokens_more : (t : List ℕ) (b : ℕ) (s : List ℕ) → 0 < length t → AllByRecursion IsInk t → is_blank b ≡ true
     → tokens (t ++ b ∷ s) ≡ t ∷ tokens (b ∷ s)
 unfolding tokens
@@ -40,11 +34,9 @@ pub tokens_nil : [] ≡ tokens []
 unfolding tokens
 tokens_nil = refl
 
--- a blank, a token, and the bytes after it
 pub tokens_cons : (t s : List ℕ) → 0 < length t → AllByRecursion IsInk t → IsEnded s → tokens (32 ∷ (t ++ s)) ≡ t ∷ tokens s
 tokens_cons t s h1 h2 h3 = grind (arith, tokens_blank, append-nil, tokens_one, tokens_nil, tokens_more)
 
--- the first slash comes after bytes without one
 pub slash_at : (s r : List ℕ) → AllByRecursion (λ b. is_slash b ≡ false) s → position_or_len is_slash (s ++ 47 ∷ r) ≡ length s
 slash_at [] r none = refl
 slash_at (b ∷ s) r none =

@@ -27,7 +27,6 @@ pub record AddressOf (b : List ℕ) (a : Address) : Type 0 where
 abbrev pub net_node_text : NetNode → List ℕ
 net_node_text e = decimal e.net ++ (codes "/" ++ decimal e.node)
 
--- The net and the node of an address.
 abbrev pub net_node_of : Address → NetNode
 net_node_of a = record { net = a.net; node = a.node }
 
@@ -35,7 +34,6 @@ net_node_of a = record { net = a.net; node = a.node }
 abbrev pub address_text : Address → List ℕ
 address_text a = decimal a.zone ++ (codes ":" ++ net_node_text (net_node_of a))
 
--- `:` and `/`.
 abbrev pub is_colon : ℕ → Bool
 is_colon b = b == 58
 
@@ -92,11 +90,9 @@ address_in b = record {
   node = digits_value 10 (node_part b);
 }
 
--- The address, or the refusal if there is one.
 abbrev pub answer_of : Option AddrFault → Address → Result Address AddrFault
 answer_of None a = Ok a
 answer_of (Some f) a = Err f
 
--- The first refusal that applies, or the address of the parts.
 abbrev pub outcome : List ℕ → Result Address AddrFault
 outcome b = answer_of (refusal b) (address_in b)

@@ -11,17 +11,14 @@ is_blank b = (b == 32) || (b == 9) || (b == 10)
 unfoldable pub tokens : List ℕ → List (List ℕ)
 tokens s = filter (λ t. nat_lt 0 (length t)) (slice_split is_blank s)
 
--- A net or a node.
 abbrev pub part_of : List ℕ → Option ℕ
 part_of digits = number_within 65535 digits
 
--- The entry of a net and a node, if both are valid.
 abbrev pub entry_from : Option ℕ → Option ℕ → Option NetNode
 entry_from None _ = None
 entry_from (Some net) None = None
 entry_from (Some net) (Some node) = Some (record { net = net; node = node })
 
--- The entry of a token `net/node`.
 unfoldable pub pair_of : List ℕ → Option NetNode
 pair_of token = entry_from (part_of (before_first is_slash token)) (part_of (after_first is_slash token))
 
@@ -39,7 +36,6 @@ abbrev pub judged : List (List ℕ) → List (List ℕ) → List (Option NetNode
 judged earlier [] = []
 judged earlier (token ∷ more) = entry_of earlier token ∷ judged (token ∷ earlier) more
 
--- The entries, in order.
 unfoldable pub entries : List ℕ → List NetNode
 entries s = filter_map (λ e. e) (judged [] (tokens s))
 

@@ -1,7 +1,6 @@
 -- The lines of a text, each ended by a byte.
 use Rattle.std.specs.Prelude.{ℕ, ◌==◌, Bool, List, [], ◌∷◌, length, if◌then◌else◌}
 
--- 0A.
 abbrev pub is_feed : ℕ → Bool
 is_feed b = b == 10
 

@@ -7,7 +7,6 @@ use Rattle.echo_addr.specs.{declared.address.NetNode.NetNode, Address.net_node_t
 abbrev pub line_room : ℕ
 line_room = 79
 
--- The prefixes of the two kinds of lines.
 abbrev pub seen_prefix : List ℕ
 seen_prefix = codes "SEEN-BY:"
 
@@ -24,7 +23,6 @@ abbrev pub entry_token : Option ℕ → NetNode → List ℕ
 entry_token before e =
     if shows_net before e.net then net_node_text e else decimal e.node
 
--- The same after a blank.
 abbrev pub entry_text : Option ℕ → NetNode → List ℕ
 entry_text before e = 32 ∷ entry_token before e
 
@@ -33,11 +31,9 @@ abbrev pub entries_text : Option ℕ → List NetNode → List ℕ
 entries_text before [] = []
 entries_text before (e ∷ more) = entry_text before e ++ entries_text (Some e.net) more
 
--- A line without its 0D.
 abbrev pub line_front : List ℕ → List NetNode → List ℕ
 line_front prefix run = prefix ++ entries_text None run
 
--- A line of the prefix and the given bytes.
 abbrev pub line_of : List ℕ → List ℕ → List ℕ
 line_of prefix rest = prefix ++ (rest ++ 13 ∷ [])
 
@@ -64,7 +60,6 @@ pub record ShortLines (prefix : List ℕ) (list : List NetNode) (b : List ℕ) :
   pub lines : b ≡ flat_map (λ run. line_of prefix (entries_text None run)) runs
   pub each : AreRuns prefix runs
 
--- Lines of the list were added to a text.
 pub record AddsLines (prefix : List ℕ) (list : List NetNode) (old new : List ℕ) : Type 0 where
   pub added : List ℕ
   pub lines : ShortLines prefix list added

@@ -73,7 +73,6 @@ impl Address {
     }
 }
 
-/// The first refusal that applies, or else the address.
 fn judged(bytes: &[u8]) -> Result<Address, AddrFault>
     ensures { result ≡ outcome bytes.now }
 {
@@ -89,7 +88,6 @@ fn judged(bytes: &[u8]) -> Result<Address, AddrFault>
     in_range(zone, net, node)
 }
 
-/// The numbers of three parts, each at most 32,768.
 fn numbers(zone: &[u8], net: &[u8], node: &[u8]) -> Option<(u32, u32, u32)>
     ensures none { IsNone result ↔ ((is_number zone.now && is_number net.now && is_number node.now) ≡ false) }
     ensures zone { IfSome result (λ p. p.0 ≡ min (digits_value 10 zone.now) 32768) }
@@ -103,7 +101,6 @@ fn numbers(zone: &[u8], net: &[u8], node: &[u8]) -> Option<(u32, u32, u32)>
     ))
 }
 
-/// The bytes before the colon, between colon and slash, and after the slash.
 fn parts_of(bytes: &[u8]) -> Option<(&[u8], &[u8], &[u8])>
     ensures none { IsNone result ↔ (has_shape bytes.now ≡ false) }
     ensures zone { IfSome result (λ p. p.0.now ≡ zone_part bytes.now) }
@@ -125,7 +122,6 @@ fn parts_of(bytes: &[u8]) -> Option<(&[u8], &[u8], &[u8])>
     ))
 }
 
-/// The address of these numbers, where each is in its range.
 fn in_range(zone: u32, net: u32, node: u32) -> Result<Address, AddrFault>
     ensures { result ≡ address_within zone net node }
 {

@@ -1,5 +1,4 @@
-//! Laws about the definitions. Each law is the contract of a function that does nothing. The law
-//! about the derived order is the contract of a function that compares.
+//! Laws about the definitions. Each is the contract of a function that does nothing, or that compares (the order).
 
 ghost use Rattle.std.specs.Prelude.{◌≡◌, ◌≤◌, ◌↔◌, ℕ, List, [], length, All};
 ghost use Rattle.std.specs.Ordering.{nat_cmp, ordering_then};

@@ -1,21 +1,6 @@
-//! Addresses of FidoNet systems and the shortened lists of SEEN-BY and PATH lines (FTS-0004). It
-//! also holds what all formats share: decimal numbers, blanks, sorted lists, and a small type for
-//! lists.
-//!
-//! Promise: `read_list` of a written line gives its entries, none dropped
-//! (`written_lines_read_back`).
-//!
-//! Begin with `address`. `listing` reads lists, `shortening` writes them, `laws` states the
-//! promise. `fault` has the refusals; `digits`, `blanks` and `places` are small helpers. `items` is
-//! a list that no later call grows, `ascending` sorts.
-//!
-//! A caller:
-//!
-//! ```
-//! let boss = Address::parse(b"2:450/128")?;
-//! let (entries, dropped) = read_list(alloc, b"450/128 129 451/1")?;
-//! let known = entries.contains(&boss.net_node());
-//! ```
+//! Addresses of FidoNet systems and the shortened lists of SEEN-BY and PATH lines (FTS-0004), with what all formats
+//! share: decimal numbers, blanks, sorted lists, a small type for lists. `read_list` of a written line gives its
+//! entries, none dropped. Begin with `address`, then `listing` and `shortening`.
 #![tactic(auto)]
 
 mod address;

@@ -14,9 +14,8 @@ const MOST: u32 = 65535;
 /// How many bytes most tokens have at least, each with its blank.
 const TOKEN_LEN: usize = 4;
 
-/// The entries after the colon of a SEEN-BY or PATH line (FTS-0004), in order, and the number of
-/// dropped tokens. A token is `net/node`, or a node with the net of the nearest such token before
-/// it. Each number is decimal and at most 65,535.
+/// The entries after the colon of a SEEN-BY or PATH line (FTS-0004), in order, and how many tokens were dropped. A
+/// token is `net/node`, or a node with the net of the nearest such token before it. Each is decimal, at most 65,535.
 pub fn read_list(alloc: Global, bytes: &[u8]) -> Result<(Vec<NetNode>, usize), AllocError>
     ensures entries { IfOk result (λ r. r.0.items ≡ entries bytes.now) }
     ensures dropped { IfOk result (λ r. r.1 ≡ dropped bytes.now) }
@@ -26,8 +25,7 @@ pub fn read_list(alloc: Global, bytes: &[u8]) -> Result<(Vec<NetNode>, usize), A
     Ok((found, dropped))
 }
 
-/// Adds those entries to a list, and answers how many tokens were dropped. Out of memory leaves the
-/// list as it was.
+/// Adds those entries, and answers how many tokens were dropped. Out of memory leaves the list as it was.
 pub fn add_list(found: &mut Vec<NetNode>, bytes: &[u8]) -> Result<usize, AllocError>
     ensures entries { OnOk result (found.new.items ≡ found.old.items ++ entries bytes.now) }
     ensures dropped { IfOk result (λ n. n ≡ dropped bytes.now) }
@@ -41,7 +39,7 @@ pub fn add_list(found: &mut Vec<NetNode>, bytes: &[u8]) -> Result<usize, AllocEr
     dropped
 }
 
-/// The same, but out of memory leaves some first entries appended to the list.
+/// Out of memory leaves some first entries appended to the list.
 #[tactic(auto, using(crate::proofs::Carrying::kept_behind))]
 fn add_entries(found: &mut Vec<NetNode>, bytes: &[u8]) -> Result<usize, AllocError>
     ensures entries { OnOk result (found.new.items ≡ found.old.items ++ entries bytes.now) }
@@ -82,15 +80,13 @@ fn first_blank(bytes: &[u8]) -> Option<usize>
     bytes.iter().position(|b| is_blank(*b))
 }
 
-/// The index of the first byte that is no blank.
 fn first_other(bytes: &[u8]) -> Option<usize>
     ensures { result ≡ position (λ b. not (is_blank b)) bytes.now }
 {
     bytes.iter().position(|b| !is_blank(*b))
 }
 
-/// The entry of the token, where `net` is that of the nearest `net/node` before it. Most tokens are a
-/// node alone.
+/// `net` is that of the nearest `net/node` before the token. Most tokens are a node alone.
 fn entry(net: Option<u16>, token: &[u8]) -> Option<NetNode>
     ensures { result ≡ option_or (pair_of token.now) (entry_from net (part_of token.now)) }
 {
@@ -116,7 +112,6 @@ fn alone(net: Option<u16>, node: u16) -> Option<NetNode>
     Some(NetNode { net, node })
 }
 
-/// A net or a node.
 fn part(digits: &[u8]) -> Option<u16>
     ensures { result ≡ part_of digits.now }
 {

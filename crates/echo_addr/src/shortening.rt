@@ -8,8 +8,7 @@ use std::alloc::AllocError;
 /// The most bytes of a line before its 0D.
 const LINE_ROOM: usize = 79;
 
-/// Adds the SEEN-BY lines of the entries to a text (FTS-0004), each with its 0D. The entries ascend by net and node,
-/// without repeats.
+/// Adds the SEEN-BY lines of the entries (FTS-0004), each with its 0D. The entries ascend by net and node, each once.
 pub fn push_seen(text: &mut Vec<u8>, entries: &[NetNode]) -> Result<(), AllocError>
     requires { AllPairs ComesBefore entries.now }
     ensures { OnOk result (AddsLines seen_prefix entries.now text.old.items text.new.items) }
@@ -24,7 +23,6 @@ pub fn push_path(text: &mut Vec<u8>, entries: &[NetNode]) -> Result<(), AllocErr
     push_lines(text, b"\x01PATH:", entries)
 }
 
-/// A line for each run of entries that one line has room for. Each is made in a buffer.
 fn push_lines(text: &mut Vec<u8>, prefix: &[u8], entries: &[NetNode]) -> Result<(), AllocError>
     requires { length prefix.now ≤ 8 }
     ensures { OnOk result (AddsLines prefix.now entries.now text.old.items text.new.items) }
@@ -42,7 +40,6 @@ fn push_lines(text: &mut Vec<u8>, prefix: &[u8], entries: &[NetNode]) -> Result<
     Ok(())
 }
 
-/// Ends the line here with 0D, and adds it to a text.
 fn push_ended(text: &mut Vec<u8>, line: &mut [u8], end: usize) -> Result<(), AllocError>
     requires { end < length line.old }
     ensures text { OnOk result (text.new.items ≡ text.old.items ++ (take end line.old ++ 13 ∷ [])) }
@@ -77,14 +74,12 @@ fn write_run(line: &mut [u8], begun: usize, entries: &[NetNode]) -> (usize, usiz
     (entries.len(), at)
 }
 
-/// Whether an entry is written with its net, after one with the net `before`.
 fn shows_net(before: Option<u16>, net: u16) -> bool
     ensures { result ≡ shows_net before net }
 {
     before != Some(net)
 }
 
-/// How many bytes the entry takes, its blank among them.
 fn entry_len(before: Option<u16>, entry: NetNode) -> usize
     ensures exact { result ≡ length (entry_text before entry) }
     ensures small { result ≤ 12 }
@@ -96,7 +91,6 @@ fn entry_len(before: Option<u16>, entry: NetNode) -> usize
     }
 }
 
-/// How many digits the number has.
 fn decimal_len(n: u16) -> usize
     ensures exact { result ≡ length (decimal n) }
     ensures small { result ≤ 5 }
@@ -110,7 +104,6 @@ fn decimal_len(n: u16) -> usize
     }
 }
 
-/// Writes the entry with its blank, so that it ends at `end`.
 fn write_entry(line: &mut [u8], end: usize, before: Option<u16>, entry: NetNode)
     requires room { length (entry_text before entry) ≤ end }
     requires end { end ≤ length line.old }

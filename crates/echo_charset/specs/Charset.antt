@@ -5,7 +5,6 @@ use Rattle.echo_charset.specs.declared.charset.Charset.TheVariants.{Ascii, Cp437
 use Rattle.echo_charset.specs.declared.tables.TheConstants.{CP437, CP850, CP866, CP1251, KOI8_R}
 use Rattle.echo_charset.specs.declared.charset.Charset.{Charset}
 
--- Two names are equal, in letters of either case.
 abbrev pub is_called : List ℕ → List ℕ → Bool
 is_called name word = bytes_eq (map to_ascii_lowercase name) (map to_ascii_lowercase word)
 
@@ -44,11 +43,9 @@ upper_half Koi8R above = slice_index KOI8_R above
 upper_half Latin1 above = above + 128
 upper_half Utf8 above = 0xFFFD
 
--- The character of a byte.
 abbrev pub character : Charset → ℕ → ℕ
 character charset byte = if nat_lt byte 128 then byte else upper_half charset (byte - 128)
 
--- Bytes one by one, in UTF-8.
 abbrev pub characters : Charset → List ℕ → List ℕ
 characters charset bytes = flat_map (λ byte. encode_utf8 (character charset byte)) bytes
 

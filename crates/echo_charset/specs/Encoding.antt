@@ -11,6 +11,6 @@ IsLacked charset c = (c ≡ 0xFFFD) ⊎ ((byte : ℕ) → byte < 256 → charact
 abbrev pub LacksOne : Charset → List ℕ → Type 0
 LacksOne charset text = (c : ℕ) × Contains (chars text) c × IsLacked charset c
 
--- The same, but never for UTF-8, which has all characters.
+-- The charset is not UTF-8, and lacks a character of the text.
 abbrev pub Lacks : Charset → List ℕ → Type 0
 Lacks charset text = (is_utf8 charset ≡ false) × LacksOne charset text

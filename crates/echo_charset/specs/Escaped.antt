@@ -18,7 +18,6 @@ escaped_byte b =
     else if b == 92 then codes "\\\\"
     else hexed b
 
--- The printed form of the bytes.
 abbrev pub escaped : List ℕ → List ℕ
 escaped bytes = flat_map escaped_byte bytes
 

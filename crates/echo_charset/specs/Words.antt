@@ -2,7 +2,6 @@
 use Rattle.std.specs.Prelude.{ℕ, zero, suc, ◌+◌, ◌-◌, List, [], ◌∷◌, ◌++◌, codes, length, nat_le, nat_lt, not, slice_index, Bool, true, ◌&&◌, ◌||◌, ◌==◌, if◌then◌else◌}
 use Rattle.echo_charset.specs.Escaped.{hexed}
 
--- The number lies between two others, both included.
 abbrev pub is_within : ℕ → ℕ → ℕ → Bool
 is_within low high n = nat_le low n && nat_le n high
 
@@ -46,7 +45,7 @@ abbrev pub visible_of : ℕ → ℕ → ℕ → ℕ → ℕ
 visible_of a b c d =
     if is_one a then 1 else if is_two a b then 2 else if is_three a b c then 3 else if is_four a b c d then 4 else 0
 
--- The same for the bytes from an index on. A byte past the end belongs to no character.
+-- The length of the visible character at an index. A byte past the end belongs to no character.
 abbrev pub visible_at : List ℕ → ℕ → ℕ
 visible_at word i = visible_of (slice_index word i) (slice_index word (i + 1)) (slice_index word (i + 2)) (slice_index word (i + 3))
 
@@ -63,7 +62,6 @@ abbrev pub are_shown : List ℕ → ℕ → Bool
 are_shown word zero = true
 are_shown word (suc n) = are_shown word n && is_shown word n
 
--- A byte unchanged, the backslash twice.
 abbrev pub doubled : ℕ → List ℕ
 doubled b = if b == 92 then codes "\\\\" else b ∷ []
 

@@ -4,10 +4,8 @@ ghost use Rattle.echo_charset.specs.Escaped.{escaped, escaped_byte, escaped_line
 
 use std::alloc::AllocError;
 
-/// The digits of a byte that is not printed unchanged.
 const DIGITS: [u8; 16] = *b"0123456789abcdef";
 
-// A byte by `\x` and its two digits.
 pub(crate) fn push_hexed(line: &mut Vec<u8>, byte: u8) -> Result<(), AllocError>
     ensures { OnOk result (line.new.items ≡ line.old.items ++ hexed byte) }
 {
@@ -16,7 +14,6 @@ pub(crate) fn push_hexed(line: &mut Vec<u8>, byte: u8) -> Result<(), AllocError>
     line.extend_from_slice(&[b'\\', b'x', high, low])
 }
 
-// Adds a byte: unchanged, the backslash twice, any other one as `\x` and two digits.
 fn push_byte(line: &mut Vec<u8>, byte: u8) -> Result<(), AllocError>
     ensures { OnOk result (line.new.items ≡ line.old.items ++ escaped_byte byte) }
 {

@@ -95,7 +95,6 @@ impl Charset {
         Ok(text)
     }
 
-    // The character of a byte, U+FFFD where there is none.
     fn character(self, byte: u8) -> char
         ensures { result ≡ character self byte }
     {
@@ -106,7 +105,6 @@ impl Charset {
         }
     }
 
-    // The character of the byte 80 plus `above`.
     #[tactic(auto, unfolding(crate::specs::Charset::upper_half))]
     pub(crate) fn upper_half(self, above: u8) -> char
         requires { above < 128 }
@@ -125,7 +123,6 @@ impl Charset {
     }
 }
 
-// Whether these are the same letters, of either case.
 fn is_called(name: &[u8], word: &[u8]) -> bool
     ensures { result ≡ bytes_eq (map to_ascii_lowercase name.now) (map to_ascii_lowercase word.now) }
 {

@@ -1,4 +1,3 @@
-//! How many U+FFFD a text has.
 ghost use Rattle.std.specs.Prelude.{◌≡◌, ◌≤◌, length, slice_index};
 ghost use Rattle.echo_charset.specs.Losses.{begins_lost, lost};
 
@@ -18,14 +17,12 @@ pub fn lost(text: &[u8]) -> usize
     count
 }
 
-// Whether the bytes begin with the three bytes of U+FFFD.
 fn begins_lost(bytes: &[u8]) -> bool
     ensures { result ≡ begins_lost bytes.now }
 {
     byte_at(bytes, 0) == 239 && byte_at(bytes, 1) == 191 && byte_at(bytes, 2) == 189
 }
 
-// The byte at an index, 0 past the end.
 fn byte_at(bytes: &[u8], i: usize) -> u8
     ensures { result ≡ slice_index bytes.now i }
 {

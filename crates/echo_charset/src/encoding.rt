@@ -1,4 +1,3 @@
-//! A text as the bytes of a charset.
 ghost use Rattle.std.specs.Prelude.{◌≡◌, ◌+◌, ◌<◌, ◌≤◌, IfOk, MatchOption};
 ghost use Rattle.echo_charset.specs.{Charset.character as byte_char, Charset.characters, Charset.decoded_text, Encoding.IsLacked, Encoding.Lacks, Encoding.LacksOne};
 
@@ -18,7 +17,6 @@ impl Charset {
         }
     }
 
-    // The same, a byte for each character.
     fn single_bytes(self, alloc: Global, text: &str) -> Result<Option<Vec<u8>>, AllocError>
         ensures { IfOk result (λ found. MatchOption found (LacksOne self text.now) (λ bytes. characters self bytes.items ≡ text.now)) }
     {
@@ -32,7 +30,6 @@ impl Charset {
         Ok(Some(bytes))
     }
 
-    // The byte that is a character.
     fn byte_of(self, character: char) -> Option<u8>
         ensures { MatchOption result (IsLacked self character) (λ byte. byte_char self byte ≡ character) }
     {
@@ -43,7 +40,6 @@ impl Charset {
         }
     }
 
-    // The same of a character above 7F.
     fn upper_byte(self, character: char) -> Option<u8>
         requires { 128 ≤ character }
         ensures { MatchOption result (IsLacked self character) (λ byte. byte_char self byte ≡ character) }

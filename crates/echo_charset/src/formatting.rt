@@ -1,4 +1,3 @@
-//! Lines that are written by a format.
 ghost use Rattle.std.specs.Prelude.{IsOk, OnOk};
 
 use std::alloc::AllocError;

@@ -1,32 +1,27 @@
-//! Words of the command line as they are printed.
 ghost use Rattle.std.specs.Prelude.{◌≡◌, ◌++◌, ◌<◌, length, slice_index, OnOk};
 ghost use Rattle.echo_charset.specs.Words.{are_shown, begins_four, begins_three, doubled, follows, is_covered, is_direction, is_four, is_one, is_shown, is_three, is_two, printed_word, spelled, spelled_at, visible_at, visible_of};
 
 use crate::bytes::push_hexed;
 use std::alloc::AllocError;
 
-// A byte that follows another one of its character.
 fn follows(byte: u8) -> bool
     ensures { result ≡ follows byte }
 {
     128 <= byte && byte <= 191
 }
 
-// A character of one byte: visible ASCII and the blank.
 fn is_one(a: u8) -> bool
     ensures { result ≡ is_one a }
 {
     32 <= a && a <= 126
 }
 
-// One of two bytes, except the controls C2 80 to C2 9F.
 fn is_two(a: u8, b: u8) -> bool
     ensures { result ≡ is_two a b }
 {
     194 <= a && a <= 223 && follows(b) && !(a == 194 && b <= 159)
 }
 
-// The marks that turn the direction of a text.
 fn is_direction(a: u8, b: u8, c: u8) -> bool
     ensures { result ≡ is_direction a b c }
 {
@@ -35,7 +30,6 @@ fn is_direction(a: u8, b: u8, c: u8) -> bool
             || (b == 129 && 166 <= c && c <= 169))
 }
 
-// The first two of three bytes.
 fn begins_three(a: u8, b: u8) -> bool
     ensures { result ≡ begins_three a b }
 {
@@ -44,14 +38,12 @@ fn begins_three(a: u8, b: u8) -> bool
         || (((225 <= a && a <= 236) || (238 <= a && a <= 239)) && follows(b))
 }
 
-// A character of three bytes, except the marks of direction.
 fn is_three(a: u8, b: u8, c: u8) -> bool
     ensures { result ≡ is_three a b c }
 {
     begins_three(a, b) && follows(c) && !is_direction(a, b, c)
 }
 
-// The first two of four bytes.
 fn begins_four(a: u8, b: u8) -> bool
     ensures { result ≡ begins_four a b }
 {
@@ -66,7 +58,6 @@ fn is_four(a: u8, b: u8, c: u8, d: u8) -> bool
     begins_four(a, b) && follows(c) && follows(d)
 }
 
-// The length in bytes of the visible character at the front, 0 where there is none.
 fn visible_of(a: u8, b: u8, c: u8, d: u8) -> usize
     ensures { result ≡ visible_of a b c d }
 {
@@ -83,7 +74,6 @@ fn visible_of(a: u8, b: u8, c: u8, d: u8) -> usize
     }
 }
 
-// The byte at an index, 0 past the end.
 fn byte_at(word: &[u8], i: usize) -> u8
     ensures { result ≡ slice_index word.now i }
 {
@@ -93,7 +83,6 @@ fn byte_at(word: &[u8], i: usize) -> u8
     }
 }
 
-// How many bytes the visible character takes that begins at an index.
 fn visible_at(word: &[u8], i: usize) -> usize
     requires { i < length word.now }
     ensures { result ≡ visible_at word.now i }
@@ -106,7 +95,6 @@ fn visible_at(word: &[u8], i: usize) -> usize
     )
 }
 
-// Whether the byte at an index belongs to a visible character that begins `before` bytes before it.
 fn is_covered(word: &[u8], i: usize, before: usize) -> bool
     requires { i < length word.now }
     ensures { result ≡ is_covered word.now i before }
@@ -136,7 +124,6 @@ pub fn are_shown(word: &[u8]) -> bool
     all
 }
 
-// Adds a byte unchanged, the backslash twice.
 fn push_doubled(text: &mut Vec<u8>, byte: u8) -> Result<(), AllocError>
     ensures { OnOk result (text.new.items ≡ text.old.items ++ doubled byte) }
 {
@@ -147,7 +134,6 @@ fn push_doubled(text: &mut Vec<u8>, byte: u8) -> Result<(), AllocError>
     Ok(())
 }
 
-// Adds the byte at an index of a word that has a hidden one.
 fn push_spelled_at(text: &mut Vec<u8>, word: &[u8], i: usize) -> Result<(), AllocError>
     requires { i < length word.now }
     ensures { OnOk result (text.new.items ≡ text.old.items ++ spelled_at word.now i) }

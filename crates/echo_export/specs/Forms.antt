@@ -5,12 +5,10 @@ use Rattle.echo_filed.specs.Filed.{Filed}
 use Rattle.echo_export.specs.{declared.form.Form.Form, declared.form.Form.TheVariants.Json, declared.form.Form.TheVariants.Mailbox, declared.json_line.State.State, JsonLine.json_line}
 use Rattle.echo_export.specs.MailText.{mail_lost, mail_text}
 
--- The message of this number in a form.
 abbrev pub message_text : Form → ℕ → State → Filed → List ℕ
 message_text Mailbox i state m = mail_text m
 message_text Json i state m = json_line i state m
 
--- The number of U+FFFD in that form.
 abbrev pub message_lost : Form → ℕ → State → Filed → ℕ
 message_lost Mailbox i state m = mail_lost m
 message_lost Json i state m = lost (json_line i state m)

@@ -15,7 +15,6 @@ abbrev pub mail_charset : Option Charset → List ℕ
 mail_charset None = codes "unknown-8bit"
 mail_charset (Some charset) = codes "UTF-8"
 
--- Letters and digits.
 abbrev pub is_alphanumeric : ℕ → Bool
 is_alphanumeric b = is_in_range 48 57 b || (is_in_range 65 90 b || is_in_range 97 122 b)
 
@@ -39,7 +38,6 @@ hex_byte b = codes "=" ++ (slice_index upper_digits (b / 16) ∷ slice_index upp
 abbrev pub q_byte : ℕ → List ℕ
 q_byte b = if is_alphanumeric b then b ∷ [] else if b == 32 then codes "_" else hex_byte b
 
--- The front of an encoded word.
 abbrev pub q_front : Option Charset → List ℕ
 q_front charset = codes "=?" ++ (mail_charset charset ++ codes "?Q?")
 
@@ -74,7 +72,6 @@ abbrev pub q_text : Option Charset → ℕ → List ℕ → List ℕ
 q_text charset room [] = []
 q_text charset room (b ∷ rest) = next_text charset room b ++ q_text charset (next_room charset room b) rest
 
--- Bytes as encoded words.
 abbrev pub encoded_words : Option Charset → List ℕ → List ℕ
 encoded_words charset bytes = q_front charset ++ (q_text charset word_room (mail_bytes charset bytes) ++ codes "?=")
 
@@ -91,11 +88,10 @@ name_text charset name =
 abbrev pub name_line : List ℕ → Option Charset → List ℕ → List ℕ
 name_line field charset name = field ++ (codes ": " ++ (name_text charset name ++ codes " <fido@fido.invalid>\n"))
 
--- The line of another field.
 abbrev pub field_line : List ℕ → Option Charset → List ℕ → List ℕ
 field_line field charset bytes = field ++ (codes ": " ++ (header_text charset bytes ++ codes "\n"))
 
--- The same for an optional value, without blanks at both ends.
+-- The line of a field with an optional value, without blanks at both ends.
 abbrev pub found_line : List ℕ → Option Charset → Option (List ℕ) → List ℕ
 found_line field charset None = []
 found_line field charset (Some bytes) = field_line field charset (trimmed bytes)

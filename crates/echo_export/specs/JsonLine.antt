@@ -10,30 +10,24 @@ use Rattle.echo_text.specs.Echo.{EchoText, msgid_of, origin_of, reply_of, tear_o
 use Rattle.echo_export.specs.declared.json_line.State.{State, TheVariants.Purged, TheVariants.Scanned, TheVariants.Waiting}
 use Rattle.echo_export.specs.Label.{charset_for, label_of, text_as, without_zeros}
 
--- A string, or null if it is absent.
 abbrev pub string_or_null : Option (List ℕ) → Token
 string_or_null None = null
 string_or_null (Some text) = string text
 
--- A member of one token.
 abbrev pub member_of : List ℕ → Token → List Token
 member_of name token = key name ∷ token ∷ []
 
--- A member with bytes of a message as text.
 abbrev pub text_member : Option Charset → List ℕ → List ℕ → List Token
 text_member charset name bytes = member_of name (string (text_as charset bytes))
 
--- The same for bytes that may be absent.
 abbrev pub found_member : Option Charset → List ℕ → Option (List ℕ) → List Token
 found_member charset name found = member_of name (string_or_null (option_map (text_as charset) found))
 
--- The state of a message here.
 abbrev pub state_word : State → List ℕ
 state_word Scanned = codes "scanned"
 state_word Waiting = codes "waiting"
 state_word Purged = codes "purged"
 
--- The area of a message.
 abbrev pub area_member : EchoText → List Token
 area_member e = text_member (Some Ascii) (codes "area") e.tag
 
@@ -45,7 +39,6 @@ place_members i state m =
     ++ (member_of (codes "state") (string (state_word state))
     ++ member_of (codes "sender") (string_or_null (option_map address_text m.sender))))
 
--- Its names, subject and DateTime.
 abbrev pub name_members : Option Charset → Filed → List Token
 name_members charset m =
     text_member charset (codes "from") m.from_name
@@ -65,11 +58,9 @@ found_members charset kept =
     ++ (found_member charset (codes "reply") (reply_of kept)
     ++ (found_member charset (codes "tear") (tear_of kept) ++ found_member charset (codes "origin") (origin_of kept)))
 
--- A list of strings.
 abbrev pub array_of : List Token → List Token
 array_of items = begin_array ∷ (items ++ end_array ∷ [])
 
--- A member with entries as a list.
 abbrev pub entries_member : List ℕ → List NetNode → List Token
 entries_member name entries = key name ∷ array_of (flat_map (λ entry. string (net_node_text entry) ∷ []) entries)
 
@@ -81,21 +72,17 @@ list_members charset e =
     ++ (entries_member (codes "path") e.path
     ++ key (codes "lines") ∷ array_of (flat_map (λ line. string (text_as charset line) ∷ []) e.kept)))
 
--- The parts of its text.
 abbrev pub echo_members : Option Charset → EchoText → List Token
 echo_members charset e = found_members charset e.kept ++ list_members charset e
 
--- All members of the message of this number.
 abbrev pub message_members : Option (List ℕ) → ℕ → State → Filed → List Token
 message_members label i state m =
     place_members i state m
     ++ (name_members (charset_for label) m
     ++ (charset_members label ++ echo_members (charset_for label) m.echo))
 
--- The message of this number as an object of JSON.
 abbrev pub message_object : ℕ → State → Filed → List Token
 message_object i state m = begin_object ∷ (message_members (label_of m.echo.kept) i state m ++ end_object ∷ [])
 
--- The line of this message.
 abbrev pub json_line : ℕ → State → Filed → List ℕ
 json_line i state m = print (message_object i state m) ++ codes "\n"

@@ -13,7 +13,6 @@ charset_word = 1 ∷ codes "CHRS:"
 abbrev pub names_charset : List ℕ → Bool
 names_charset line = starts_with nat_eq (trimmed line) charset_word
 
--- The bytes after the colon.
 abbrev pub named_in : List ℕ → List ℕ
 named_in line = trimmed (drop (length charset_word) (trimmed line))
 
@@ -22,7 +21,6 @@ abbrev pub label_of : List (List ℕ) → Option (List ℕ)
 label_of [] = None
 label_of (line ∷ later) = if names_charset line then Some (named_in line) else label_of later
 
--- The name at the front of a label.
 abbrev pub name_in : List ℕ → List ℕ
 name_in label = take (prefix_len (λ b. not (is_blank b)) label) label
 
@@ -35,6 +33,5 @@ charset_for (Some label) = named (name_in label)
 abbrev pub text_as : Option Charset → List ℕ → List ℕ
 text_as charset bytes = decoded_text (unwrap_or charset Latin1) bytes
 
--- Bytes without the 00 at their end.
 abbrev pub without_zeros : List ℕ → List ℕ
 without_zeros bytes = take (length bytes - suffix_len (λ b. b == 0) bytes) bytes

@@ -9,31 +9,24 @@ use Rattle.echo_text.specs.Lines.{after_feeds, is_control}
 use Rattle.echo_export.specs.HeaderText.{field_line, found_line, id_line, mail_bytes, mail_charset, name_line}
 use Rattle.echo_export.specs.Label.{charset_for, label_of, without_zeros}
 
--- The byte at this index is a digit.
 abbrev pub is_digit_at : List ℕ → ℕ → Bool
 is_digit_at date i = is_in_range 48 57 (slice_index date i)
 
--- The two bytes at this index are digits.
 abbrev pub are_digits_at : List ℕ → ℕ → Bool
 are_digits_at date i = is_digit_at date i && is_digit_at date (i + 1)
 
--- The index has this byte.
 abbrev pub is_byte_at : List ℕ → ℕ → ℕ → Bool
 is_byte_at date i b = slice_index date i == b
 
--- The number of two digits.
 abbrev pub pair_at : List ℕ → ℕ → ℕ
 pair_at date i = 10 * (slice_index date i - 48) + (slice_index date (i + 1) - 48)
 
--- The index has two digits, with a number in this range.
 abbrev pub is_pair_at : List ℕ → ℕ → ℕ → ℕ → Bool
 is_pair_at date i low high = are_digits_at date i && is_in_range low high (pair_at date i)
 
--- The date has this month.
 abbrev pub is_month : List ℕ → List ℕ → Bool
 is_month date name = bytes_eq (slice_range date 3 6) name
 
--- The month is in the first half of the year, or in the second.
 abbrev pub has_early_month : List ℕ → Bool
 has_early_month date =
     is_month date (codes "Jan")
@@ -74,7 +67,6 @@ date_line charset date =
 abbrev pub mailbox_line : List ℕ
 mailbox_line = codes "From fido@fido.invalid Thu Jan  1 00:00:00 1970\n"
 
--- The lines of names, subject and date.
 abbrev pub name_lines : Option Charset → Filed → List ℕ
 name_lines charset m =
     name_line (codes "From") charset m.from_name
@@ -86,14 +78,12 @@ abbrev pub id_lines : List (List ℕ) → List ℕ
 id_lines kept =
     id_line (codes "Message-ID") (msgid_of kept) ++ (id_line (codes "In-Reply-To") (reply_of kept) ++ id_line (codes "References") (reply_of kept))
 
--- The lines with FidoNet's own values.
 abbrev pub found_lines : Option Charset → List (List ℕ) → List ℕ
 found_lines charset kept =
     found_line (codes "X-FTN-MSGID") charset (msgid_of kept)
     ++ (found_line (codes "X-FTN-REPLY") charset (reply_of kept)
     ++ (found_line (codes "X-FTN-Tear") charset (tear_of kept) ++ found_line (codes "X-FTN-Origin") charset (origin_of kept)))
 
--- The entries of a PATH.
 abbrev pub written_path : List NetNode → List ℕ
 written_path path = flat_map (λ entry. codes " " ++ net_node_text entry) path
 
@@ -136,15 +126,12 @@ abbrev pub body_line : Option Charset → List ℕ → List ℕ
 body_line charset line =
     if is_control line then [] else quoted_body true (mail_bytes charset (after_feeds line)) ++ codes "\n"
 
--- All lines of the body.
 abbrev pub body_text : Option Charset → List (List ℕ) → List ℕ
 body_text charset kept = flat_map (body_line charset) kept
 
--- The lines with the parts of the text.
 abbrev pub echo_head : Option Charset → EchoText → List ℕ
 echo_head charset e = id_lines e.kept ++ (way_lines e ++ found_lines charset e.kept)
 
--- The lines before the body of a message with this CHRS line.
 abbrev pub head_text : Option (List ℕ) → Filed → List ℕ
 head_text label m =
     mailbox_line
@@ -160,11 +147,9 @@ mail_text m =
 abbrev pub name_bytes : Option Charset → Filed → List ℕ
 name_bytes charset m = mail_bytes charset m.from_name ++ (mail_bytes charset m.to_name ++ mail_bytes charset m.subject)
 
--- The same, and a body after them.
 abbrev pub all_bytes : Option Charset → Filed → List ℕ → List ℕ
 all_bytes charset m body = name_bytes charset m ++ body
 
--- The number of U+FFFD in names, subject and body.
 abbrev pub mail_lost : Filed → ℕ
 mail_lost m =
     lost (all_bytes (charset_for (label_of m.echo.kept)) m (body_text (charset_for (label_of m.echo.kept)) m.echo.kept))

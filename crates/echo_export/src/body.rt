@@ -1,4 +1,3 @@
-//! The body of a mail.
 ghost use Rattle.std.specs.Prelude.{◌≡◌, ◌++◌, [], codes, if◌then◌else◌, true, OnOk};
 ghost use Rattle.echo_text.specs.Lines.{lines};
 ghost use Rattle.echo_export.specs.MailText.{body_line, body_text, quoted_body};
@@ -11,7 +10,6 @@ use std::alloc::{AllocError, Global};
 /// The word that no line of a mailbox may begin with.
 const FROM: &[u8] = b"From ";
 
-/// Adds the lines of a text that are no control lines.
 pub(crate) fn push_body(
     mail: &mut Vec<u8>,
     alloc: Global,
@@ -29,7 +27,6 @@ pub(crate) fn push_body(
     Ok(())
 }
 
-// Adds a line, if it is no control line.
 fn push_line(
     mail: &mut Vec<u8>,
     alloc: Global,
@@ -46,7 +43,6 @@ fn push_line(
     push_bytes(mail, b"\n")
 }
 
-// Adds bytes of a body, with `>` before each line that a mailbox may not have.
 fn push_quoted(mail: &mut Vec<u8>, text: &[u8]) -> Result<(), AllocError>
     ensures { OnOk result (mail.new.items ≡ mail.old.items ++ quoted_body true text.now) }
 {

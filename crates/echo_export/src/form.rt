@@ -1,4 +1,3 @@
-//! The forms of messages for other programs.
 ghost use Rattle.std.specs.Prelude.{◌≡◌, ◌++◌, IfOk, OnOk};
 ghost use Rattle.echo_export.specs.Forms.{message_lost, message_text};
 
@@ -14,8 +13,7 @@ pub enum Form {
     Json,
 }
 
-/// Adds the message of this number in this form. Answers how many U+FFFD replace characters that the message's
-/// charset does not have.
+/// Adds the message in this form. Answers how many U+FFFD replace characters that its charset does not have.
 pub fn push_message(
     alloc: Global,
     lines: &mut Vec<u8>,

@@ -8,7 +8,6 @@ use echo_charset::Charset;
 use echo_text::trimmed;
 use std::alloc::{AllocError, Global};
 
-/// The digits of a byte in an encoded word.
 const DIGITS: [u8; 16] = *b"0123456789ABCDEF";
 
 /// How many bytes an encoded word has at most between its marks.
@@ -23,7 +22,6 @@ pub(crate) fn push_bytes(mail: &mut Vec<u8>, bytes: &[u8]) -> Result<(), AllocEr
     mail.extend_from_slice(bytes)
 }
 
-/// Adds the line of a name, with an invalid mail address.
 pub(crate) fn push_name(
     mail: &mut Vec<u8>,
     alloc: Global,
@@ -39,7 +37,6 @@ pub(crate) fn push_name(
     push_bytes(mail, b" <fido@fido.invalid>\n")
 }
 
-/// Adds the line of another field.
 pub(crate) fn push_field(
     mail: &mut Vec<u8>,
     alloc: Global,
@@ -55,7 +52,6 @@ pub(crate) fn push_field(
     push_bytes(mail, b"\n")
 }
 
-/// Adds the same for an optional value.
 pub(crate) fn push_found(
     mail: &mut Vec<u8>,
     alloc: Global,
@@ -71,7 +67,6 @@ pub(crate) fn push_found(
     }
 }
 
-/// Adds the line of a message id, if there is one.
 pub(crate) fn push_id(
     mail: &mut Vec<u8>,
     alloc: Global,
@@ -89,7 +84,6 @@ pub(crate) fn push_id(
     }
 }
 
-// Adds the line of a message id with these digits.
 fn push_id_digits(mail: &mut Vec<u8>, field: &[u8], digits: &[u8]) -> Result<(), AllocError>
     ensures { OnOk result (mail.new.items ≡ mail.old.items ++ (field.now ++ (codes ": <" ++ (digits.now ++ codes "@fido.invalid>\n")))) }
 {
@@ -99,7 +93,6 @@ fn push_id_digits(mail: &mut Vec<u8>, field: &[u8], digits: &[u8]) -> Result<(),
     push_bytes(mail, b"@fido.invalid>\n")
 }
 
-// Adds bytes unchanged, or as encoded words.
 fn push_text(
     mail: &mut Vec<u8>,
     alloc: Global,
@@ -115,7 +108,6 @@ fn push_text(
     }
 }
 
-// Adds a name between quotes, or as encoded words.
 fn push_name_text(
     mail: &mut Vec<u8>,
     alloc: Global,
@@ -147,7 +139,6 @@ fn push_encoded(
     push_bytes(mail, b"?=")
 }
 
-/// The bytes in a mail.
 pub(crate) fn mail_bytes(
     alloc: Global,
     charset: Option<Charset>,
@@ -161,7 +152,6 @@ pub(crate) fn mail_bytes(
     }
 }
 
-/// The mail's name of the charset.
 pub(crate) fn mail_charset(charset: Option<Charset>) -> &'static [u8]
     ensures { result.now ≡ mail_charset charset }
 {
@@ -171,7 +161,6 @@ pub(crate) fn mail_charset(charset: Option<Charset>) -> &'static [u8]
     }
 }
 
-// Adds how an encoded word begins.
 fn push_front(mail: &mut Vec<u8>, charset: Option<Charset>) -> Result<(), AllocError>
     ensures { OnOk result (mail.new.items ≡ mail.old.items ++ q_front charset) }
 {
@@ -180,7 +169,6 @@ fn push_front(mail: &mut Vec<u8>, charset: Option<Charset>) -> Result<(), AllocE
     push_bytes(mail, b"?Q?")
 }
 
-// Adds the characters of a text, each within one word.
 fn push_words(mail: &mut Vec<u8>, charset: Option<Charset>, text: &[u8]) -> Result<(), AllocError>
     ensures { OnOk result (mail.new.items ≡ mail.old.items ++ q_text charset word_room text.now) }
 {
@@ -195,7 +183,6 @@ fn push_words(mail: &mut Vec<u8>, charset: Option<Charset>, text: &[u8]) -> Resu
     Ok(())
 }
 
-// Adds a byte of a text after a word with room for `room` bytes more.
 fn push_next(
     mail: &mut Vec<u8>,
     charset: Option<Charset>,
@@ -213,14 +200,12 @@ fn push_next(
     }
 }
 
-// Whether the word before a byte takes it.
 fn is_within_word(charset: Option<Charset>, room: u8, byte: u8) -> bool
     ensures { result ≡ is_within_word charset room byte }
 {
     is_following(charset, byte) || CHARACTER <= room
 }
 
-// The room of a word in bytes after a byte.
 fn next_room(charset: Option<Charset>, room: u8, byte: u8) -> u8
     ensures { result ≡ next_room charset room byte }
 {
@@ -231,7 +216,6 @@ fn next_room(charset: Option<Charset>, room: u8, byte: u8) -> u8
     }
 }
 
-// How many bytes a byte takes in an encoded word.
 fn q_size(byte: u8) -> u8
     ensures size { result ≡ q_size byte }
     ensures few { result ≤ 3 }
@@ -255,7 +239,6 @@ fn push_q(mail: &mut Vec<u8>, byte: u8) -> Result<(), AllocError>
     }
 }
 
-// Adds `=` and the digits of a byte.
 fn push_digits(mail: &mut Vec<u8>, byte: u8) -> Result<(), AllocError>
     ensures { OnOk result (mail.new.items ≡ mail.old.items ++ hex_byte byte) }
 {
@@ -312,7 +295,6 @@ fn is_alphanumeric(byte: u8) -> bool
     byte.is_ascii_alphanumeric()
 }
 
-// Whether a byte follows another one of its character.
 fn is_following(charset: Option<Charset>, byte: u8) -> bool
     ensures { result ≡ is_following charset byte }
 {

@@ -1,4 +1,3 @@
-//! A message as one line of JSON.
 ghost use Rattle.std.specs.Prelude.{◌≡◌, ◌++◌, IfOk, OnOk, option_copied};
 ghost use Rattle.json.specs.Print.{print};
 ghost use Rattle.echo_charset.specs.Losses as losses;
@@ -21,8 +20,7 @@ pub enum State {
     Purged,
 }
 
-/// Adds the message of this number as a line of JSON (RFC 8259): one object, in UTF-8. Answers how many U+FFFD
-/// replace characters that the message's charset does not have.
+/// Adds one object on one line, in UTF-8 (RFC 8259).
 pub(crate) fn push_json(
     alloc: Global,
     lines: &mut Vec<u8>,
@@ -80,7 +78,6 @@ fn write_members(
     write_echo(writer, alloc, charset, message)
 }
 
-// Writes the number, the area, the state and the sender.
 fn write_place(
     writer: &mut Writer,
     alloc: Global,
@@ -164,7 +161,6 @@ fn write_charset(writer: &mut Writer, alloc: Global, label: Option<&[u8]>) -> Re
     write_found(writer, alloc, "label", Some(Charset::Latin1), label)
 }
 
-// Writes the ids, the tear and the origin line.
 fn write_ids(
     writer: &mut Writer,
     alloc: Global,

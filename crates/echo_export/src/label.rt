@@ -10,17 +10,14 @@ use echo_filed::Filed;
 use echo_text::{split_line, trimmed};
 use std::alloc::{AllocError, Global};
 
-// The beginning of a charset's line.
 const CHRS: &[u8] = b"\x01CHRS:";
 
-/// The value of the CHRS line of a message.
 pub(crate) fn label_in(message: &Filed) -> Option<&[u8]>
     ensures { option_copied result ≡ label_of message.now.echo.kept }
 {
     label(message.echo.kept.as_text())
 }
 
-// The value of the first CHRS line of these lines.
 fn label(kept: &[u8]) -> Option<&[u8]>
     ensures { option_copied result ≡ label_of (lines kept.now) }
 {

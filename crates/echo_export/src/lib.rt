@@ -1,10 +1,6 @@
-//! Exports messages of a base in the forms that other programs read: mailbox and JSON.
-//!
-//! Promise: a call that succeeds appends just the text that the definitions in specs/ give for the message. It
-//! answers how many U+FFFD replace characters that the charset does not have.
-//!
-//! Begin with `form` (a message in one of these forms). `json_line` writes a message as one object on one line,
-//! with `members` and `lists`. `mail` writes it as a mail, with `header` and `body`. `label` finds its charset.
+//! Exports messages of a base in the forms that other programs read: mailbox and JSON. A call that succeeds appends
+//! just the text that the definitions in specs/ give. It answers how many U+FFFD replace characters that the charset
+//! does not have. Begin with `form`.
 #![tactic(auto)]
 
 mod body;

@@ -1,4 +1,3 @@
-//! Lists in an object of JSON.
 ghost use Rattle.std.specs.Prelude.{◌≡◌, ◌++◌, ◌∷◌, [], codes, OnOk};
 ghost use Rattle.std.specs.List.{flat_map};
 ghost use Rattle.json.specs.Token.{key, string};
@@ -14,7 +13,6 @@ use echo_text::{Echo, split_line};
 use json::Writer;
 use std::alloc::{AllocError, Global};
 
-/// Writes how many entries SEEN-BY has, these, the PATH, and the kept lines.
 pub(crate) fn write_lists(
     writer: &mut Writer,
     alloc: Global,
@@ -30,7 +28,6 @@ pub(crate) fn write_lists(
     write_lines(writer, alloc, charset, echo.kept.as_text())
 }
 
-// Writes a member with entries of SEEN-BY or PATH as a list.
 fn write_nodes(
     writer: &mut Writer,
     alloc: Global,
@@ -57,7 +54,6 @@ fn write_entries(writer: &mut Writer, alloc: Global, path: &[NetNode]) -> Result
     Ok(())
 }
 
-// Writes the lines of a text as a list.
 fn write_lines(
     writer: &mut Writer,
     alloc: Global,

@@ -1,4 +1,3 @@
-//! A message as one of a mailbox.
 ghost use Rattle.std.specs.Prelude.{◌≡◌, ◌==◌, ◌++◌, ◌<◌, IfOk, OnOk, codes, length, option_copied, slice_index};
 ghost use Rattle.std.specs.List.{flat_map, list_any};
 ghost use Rattle.echo_charset.specs.Losses as losses;
@@ -16,8 +15,7 @@ use echo_text::Echo;
 use std::alloc::{AllocError, Global};
 use std::io::Write;
 
-/// Adds the message as one of a mailbox (RFC 4155). Answers how many U+FFFD in its names, subject and body
-/// replace characters that its charset does not have.
+/// Adds the message as one of a mailbox (RFC 4155).
 pub(crate) fn push_mail(
     alloc: Global,
     mail: &mut Vec<u8>,
@@ -35,7 +33,6 @@ pub(crate) fn push_mail(
     lost_with(alloc, charset, message, &body)
 }
 
-// Adds the lines before the body.
 fn push_head(
     mail: &mut Vec<u8>,
     alloc: Global,
@@ -52,7 +49,6 @@ fn push_head(
     push_form(mail, charset)
 }
 
-// Adds the lines of names, subject and date.
 fn push_names(
     mail: &mut Vec<u8>,
     alloc: Global,
@@ -83,7 +79,6 @@ fn push_date(
     }
 }
 
-// Adds the line of a date that has its customary form.
 fn push_customary(mail: &mut Vec<u8>, date: &[u8]) -> Result<(), AllocError>
     requires { length date.now ≡ 20 }
     ensures { OnOk result (mail.new.items ≡ mail.old.items ++ customary_line date.now) }
@@ -97,7 +92,6 @@ fn push_customary(mail: &mut Vec<u8>, date: &[u8]) -> Result<(), AllocError>
     push_bytes(mail, b" -0000\n")
 }
 
-// Whether a DateTime has its customary form.
 #[tactic(auto, unfolding(crate::specs::MailText::is_customary))]
 fn is_customary(date: &[u8]) -> bool
     requires { length date.now ≡ 20 }
@@ -156,7 +150,6 @@ fn has_time(date: &[u8]) -> bool
         && is_pair_at(date, 17, 0, 59)
 }
 
-// Whether an index has two digits, of a number in this range.
 fn is_pair_at(date: &[u8], i: usize, low: u16, high: u16) -> bool
     requires { i < 100 }
     ensures { result ≡ is_pair_at date.now i low high }
@@ -197,7 +190,6 @@ fn is_byte_at(date: &[u8], i: usize, byte: u8) -> bool
     byte_at(date, i) == byte
 }
 
-// The byte at an index, 0 past the end.
 fn byte_at(bytes: &[u8], i: usize) -> u8
     ensures { result ≡ slice_index bytes.now i }
 {
@@ -239,7 +231,6 @@ fn push_ids(mail: &mut Vec<u8>, alloc: Global, echo: &Echo) -> Result<(), AllocE
     push_id(mail, alloc, b"References", echo.reply())
 }
 
-// Adds the lines of the area, of SEEN-BY and of PATH.
 fn push_way(mail: &mut Vec<u8>, echo: &Echo) -> Result<(), AllocError>
     ensures { OnOk result (mail.new.items ≡ mail.old.items ++ way_lines echo.now) }
 {
@@ -250,7 +241,6 @@ fn push_way(mail: &mut Vec<u8>, echo: &Echo) -> Result<(), AllocError>
     push_bytes(mail, b"\n")
 }
 
-// Adds the newsgroup of an area, and its tag if that differs.
 fn push_area(mail: &mut Vec<u8>, tag: &[u8]) -> Result<(), AllocError>
     ensures { OnOk result (mail.new.items ≡ mail.old.items ++ area_text tag.now) }
 {
@@ -267,7 +257,6 @@ fn push_group(mail: &mut Vec<u8>, tag: &[u8]) -> Result<(), AllocError>
     Ok(())
 }
 
-// Adds a byte of it; a comma would end a newsgroup, so it is written by its digits.
 fn push_group_byte(mail: &mut Vec<u8>, byte: u8) -> Result<(), AllocError>
     ensures { OnOk result (mail.new.items ≡ mail.old.items ++ group_byte byte) }
 {
@@ -278,7 +267,6 @@ fn push_group_byte(mail: &mut Vec<u8>, byte: u8) -> Result<(), AllocError>
     }
 }
 
-// Adds the line of a tag that is no newsgroup.
 fn push_tag(mail: &mut Vec<u8>, tag: &[u8]) -> Result<(), AllocError>
     ensures { OnOk result (mail.new.items ≡ mail.old.items ++ tag_line tag.now) }
 {
@@ -302,7 +290,6 @@ fn has_comma(tag: &[u8]) -> bool
     tag.iter().any(|b| *b == b',')
 }
 
-// Adds how many entries SEEN-BY has, and how the line of the PATH begins.
 fn push_seen(mail: &mut Vec<u8>, seen: usize) -> Result<(), AllocError>
     ensures { OnOk result (mail.new.items ≡ mail.old.items ++ seen_line seen) }
 {
@@ -318,7 +305,6 @@ fn push_path(mail: &mut Vec<u8>, path: &[NetNode]) -> Result<(), AllocError>
     Ok(())
 }
 
-// Adds the lines of ids, the tear line and the origin line, unchanged.
 fn push_kept(
     mail: &mut Vec<u8>,
     alloc: Global,
@@ -333,7 +319,6 @@ fn push_kept(
     push_found(mail, alloc, b"X-FTN-Origin", charset, echo.origin())
 }
 
-// Adds the description of the body, and the empty line before the body.
 fn push_form(mail: &mut Vec<u8>, charset: Option<Charset>) -> Result<(), AllocError>
     ensures { OnOk result (mail.new.items ≡ mail.old.items ++ form_lines charset) }
 {
@@ -353,7 +338,6 @@ fn body_of(alloc: Global, charset: Option<Charset>, message: &Filed) -> Result<V
     Ok(body)
 }
 
-// The number of U+FFFD in names, subject and body.
 fn lost_with(
     alloc: Global,
     charset: Option<Charset>,
@@ -368,7 +352,6 @@ fn lost_with(
     Ok(lost(&all))
 }
 
-// Adds names and subject as a mail has them.
 fn push_each(
     all: &mut Vec<u8>,
     alloc: Global,

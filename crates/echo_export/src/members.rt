@@ -26,7 +26,6 @@ pub(crate) fn write_number(writer: &mut Writer, name: &str, n: u64) -> Result<()
     writer.u64(n)
 }
 
-/// Writes a member that is bytes of a message as text.
 pub(crate) fn write_text(
     writer: &mut Writer,
     alloc: Global,
@@ -41,7 +40,6 @@ pub(crate) fn write_text(
     write_string(writer, name, text.as_str())
 }
 
-/// Writes a member with these bytes, or null without them.
 pub(crate) fn write_found(
     writer: &mut Writer,
     alloc: Global,
@@ -66,7 +64,6 @@ fn write_null(writer: &mut Writer, name: &str) -> Result<(), AllocError>
     writer.null()
 }
 
-/// Writes a member with an address, or null without one.
 pub(crate) fn write_address(
     writer: &mut Writer,
     alloc: Global,

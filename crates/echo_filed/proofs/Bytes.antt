@@ -60,7 +60,6 @@ word_no_zero (b ∷ word) h =
     let low = ltb-true 0 b parts.0 in
     (λ e. omega arith, word_no_zero word parts.1)
 
--- the text of an echo
 pub text_no_zero : (e : EchoText) → IsEcho e → NoZero (text_of e)
 unfolding text_of
 text_no_zero e h = grind (arith, short_no_zero, word_no_zero, seen_short, recursion_from_All, path_short, tag_no_zero, and_parts, nat_lt, nat_le, all_append, ended_no_zero, lines_no_zero)

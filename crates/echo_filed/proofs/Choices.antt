@@ -3,7 +3,6 @@ use Rattle.std.proofs.Common.{◌≡◌, ℕ, suc, zero, ◌<◌, Bool, true, fa
 use Rattle.std.proofs.lemmas.Bool.{cond_both}
 use Rattle.std.specs.{Prelude.Contains, Prelude.find, List.AllByRecursion}
 
--- one of three choices
 pub of_three : {A : Type 0} (P : A → Type 0) (p q : Bool) (a b c : A)
     → (p ≡ true → P a) → (p ≡ false → q ≡ true → P b) → (p ≡ false → q ≡ false → P c)
     → P (if p then a else if q then b else c)
@@ -12,7 +11,6 @@ of_three P p q a b c h1 h2 h3 = grind arith
 pub same_some : {A : Type 0} (x y : A) → Some x ≡ Some y → x ≡ y
 same_some x y h = cc
 
--- a member of a list
 abbrev pub IsIn : {X : Type 0} → X → List X → Type 0
 IsIn x [] = ⊥
 IsIn x (y ∷ ys) = (x ≡ y) ⊎ IsIn x ys
@@ -44,7 +42,6 @@ pub all_map : {X Y : Type 0} (P : Y → Type 0) (Q : X → Type 0) (f : X → Y)
 all_map P Q f image [] all = tt
 all_map P Q f image (x ∷ xs) all = (image x all.0, all_map P Q f image xs all.1)
 
--- what a search returns passes the test, and a fact about all elements holds for it
 pub found_is : {X : Type 0} (P : X → Type 0) (p : X → Bool) (xs : List X) → AllByRecursion P xs → (x : X) → find p xs ≡ Some x → (p x ≡ true) × P x
 found_is P p [] all x h = absurd (cc)
 found_is {X} P p (y ∷ ys) all x h =

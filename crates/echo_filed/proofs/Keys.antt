@@ -41,14 +41,12 @@ same_own (ByContent tag date to from subject kept) =
     (and_from (bytes_eq from from) _ ((bytes_decides from from).1 refl)
     (and_from (bytes_eq subject subject) (pointwise bytes_eq kept kept) ((bytes_decides subject subject).1 refl) ((lines_decide kept kept).1 refl)))))
 
--- the test of two keys
 pub same_key_decides : (k l : Key) → (same_key k l ≡ true → k ≡ l) × (k ≡ l → same_key k l ≡ true)
 same_key_decides k l = (same_if k l, λ e. let P : Key → Type 0 = λ x. same_key k x ≡ true in subst P e (same_own k))
 
 abbrev some_bytes : List ℕ → Bool
 some_bytes found = nat_lt 0 (length found)
 
--- an id has a byte, and no blank at an end
 pub record IsIdText (id : List ℕ) : Type 0 where
   pub some : 0 < length id
   pub trim : IsTrim id
@@ -67,7 +65,6 @@ msgid_is_id kept id h =
       trim = found.1;
     }
 
--- a first line MSGID has the id
 line_begins : (id : List ℕ) → begins msgid_word (id_line msgid_word id) ≡ true
 unfolding begins
 line_begins id = refl
@@ -84,7 +81,6 @@ stub_key : (m : Filed) (id : Option (List ℕ)) → msgid_of m.echo.kept ≡ id 
 unfolding key_of
 stub_key m id h1 = grind (arith, msgid_first, msgid_is_id)
 
--- a purge keeps keys
 pub stub_keeps_key : (m : Filed) → key_of (stub_of m) ≡ key_of m
 unfolding stub_of
 stub_keeps_key m = stub_key m (msgid_of m.echo.kept) refl
@@ -94,12 +90,10 @@ unfolding stub_of
 stub_twice m None h = ap (stub_with m) h
 stub_twice m (Some id) h = ap (stub_with (stub_with m (Some id))) (msgid_first id [] (msgid_is_id m.echo.kept id h))
 
--- a second purge changes nothing
 pub stub_of_stub : (m : Filed) → stub_of (stub_of m) ≡ stub_of m
 unfolding stub_of
 stub_of_stub m = stub_twice m (msgid_of m.echo.kept) refl
 
--- the key of a message, by its id
 pub key_reported : (m : Filed) (has : Option (List ℕ)) → has ≡ msgid_of m.echo.kept → key_with m has ≡ key_of m
 unfolding key_of
 key_reported m has h = ap (key_with m) h

@@ -8,7 +8,6 @@ use Rattle.echo_filed.specs.Stored.{long, long_at}
 pub use Rattle.echo_filed.specs.Fields.{EndsIn, HasLength, IsByte, IsLong, IsWord, itself, one_byte}
 use Rattle.echo_filed.proofs.Choices.{same_some}
 
--- a value of the field, and the bytes after it
 pub record Took (X : Type 0) (Fits : X → Type 0) (write : X → List ℕ) (bytes : List ℕ) (found : X × List ℕ) : Type 0 where
   pub fits : Fits found.0
   pub whole : bytes ≡ write found.0 ++ found.1
@@ -23,7 +22,6 @@ pub record Layout (X : Type 0) (Fits : X → Type 0) (write : X → List ℕ) : 
   pub any : X
   pub any_fits : Fits any
 
--- bytes that end inside a field have no value of it in front
 pub inside_unread : (X : Type 0) (Fits : X → Type 0) (write : X → List ℕ) (field : Layout X Fits write) (bytes : List ℕ) → AreBytes bytes
     → (o : Option (X × List ℕ)) → field.read bytes ≡ o → EndsIn X Fits write bytes → o ≡ None
 inside_unread X Fits write field bytes are None e h = refl
@@ -39,7 +37,6 @@ inside_unread X Fits write field bytes are (Some found) e h =
     let some = h.some in
     absurd (omega (arith, ap length rests, length-append found.1 h.missing))
 
--- one byte
 read_byte : List ℕ → Option (ℕ × List ℕ)
 read_byte [] = None
 read_byte (b ∷ rest) = Some (b, rest)
@@ -58,7 +55,6 @@ byte_field = record { read = read_byte; takes = takes; again = λ b rest h. refl
     cuts [] are h = record { value = 0; fits = lit< tt; missing = 0 ∷ []; some = lit< tt; cut = refl }
     cuts (b ∷ rest) are h = absurd (cc)
 
--- two bytes
 read_word : List ℕ → Option (ℕ × List ℕ)
 read_word (a ∷ (b ∷ rest)) = Some (a + 256 * b, rest)
 read_word _ = None
@@ -92,23 +88,19 @@ word_field = record { read = read_word; takes = takes; again = again; cuts = cut
         record { value = a; fits = omega arith; missing = 0 ∷ []; some = lit< tt; cut = λ i. first i ∷ (second i ∷ []) }
     cuts (a ∷ (b ∷ rest)) are h = absurd (cc)
 
--- four bytes
 read_long : List ℕ → Option (ℕ × List ℕ)
 read_long (a ∷ (b ∷ (c ∷ (d ∷ rest)))) = Some (a + 256 * b + 65536 * (c + 256 * d), rest)
 read_long _ = None
 
--- the bytes of a number of four bytes
 long_is : (a b c d : ℕ) → a < 256 → b < 256 → c < 256 → d < 256 → a ∷ (b ∷ (c ∷ (d ∷ []))) ≡ long (a + 256 * b + 65536 * (c + 256 * d))
 long_is a b c d ha hb hc hd = grind arith
 
 long_size : (a b c d : ℕ) → a < 256 → b < 256 → c < 256 → d < 256 → a + 256 * b + 65536 * (c + 256 * d) < 2 ^ 32
 long_size a b c d ha hb hc hd = omega arith
 
--- the number that the first four bytes are
 pub long_front : (bytes : List ℕ) → AreBytes bytes → 4 ≤ length bytes → (bytes ≡ long (long_at 0 bytes) ++ drop 4 bytes) × (long_at 0 bytes < 2 ^ 32)
 long_front bytes h1 h2 = grind (arith, long_is, long_size)
 
--- the number of these four bytes
 pub long_value : (n : ℕ) → n % 65536 % 256 + 256 * (n % 65536 / 256) + 65536 * (n / 65536 % 256 + 256 * (n / 65536 / 256)) ≡ n
 long_value n = grind arith
 
@@ -149,7 +141,6 @@ long_field = record { read = read_long; takes = takes; again = again; cuts = cut
     cuts (a ∷ (b ∷ (c ∷ []))) are h = inside a b c 0 (are 0) (are 1) (are 2) (lit< tt) (a ∷ (b ∷ (c ∷ []))) (0 ∷ []) (lit< tt) refl
     cuts (a ∷ (b ∷ (c ∷ (d ∷ rest)))) are h = absurd (cc)
 
--- no byte at all
 abbrev pub IsNothing : List ℕ → Type 0
 IsNothing t = t ≡ []
 
@@ -166,7 +157,6 @@ nothing_field = record {
   any_fits = refl;
 }
 
--- this many bytes from the front, if there are as many
 abbrev front_of : ℕ → List ℕ → Option (List ℕ × List ℕ)
 front_of n bytes = cond (nat_lt (length bytes) n) None (Some (take n bytes, drop n bytes))
 
@@ -180,7 +170,6 @@ front_none n bytes h =
 front_again : (n : ℕ) (s rest : List ℕ) → length s ≡ n → front_of n (s ++ rest) ≡ Some (s, rest)
 front_again n s rest e = grind (arith, length-append, take_at, drop_at, cond-false, nat_lt, le-ltb)
 
--- as many bytes more as are missing
 filled : (n : ℕ) (bytes : List ℕ) → length bytes < n → length (bytes ++ replicate (n - length bytes) 0) ≡ n
 filled n bytes short = omega (arith, length-append bytes (replicate (n - length bytes) 0), length-replicate {A = ℕ} (n - length bytes) 0)
 
@@ -205,7 +194,6 @@ fixed_field n = record {
   any_fits = length-replicate {A = ℕ} n 0;
 }
 
--- one field after another, which the first one may decide
 second_read : {X Y : Type 0} → X → Option (Y × List ℕ) → Option ((X × Y) × List ℕ)
 second_read x None = None
 second_read x (Some found) = Some ((x, found.0), found.1)
@@ -214,7 +202,6 @@ both_read : {X Y : Type 0} → (X → List ℕ → Option (Y × List ℕ)) → O
 both_read next None = None
 both_read next (Some found) = second_read found.0 (next found.0 found.1)
 
--- the values of two fields, and their bytes
 abbrev pub BothFit : {X Y : Type 0} → (X → Type 0) → (X → Y → Type 0) → X × Y → Type 0
 BothFit F G p = F p.0 × G p.0 p.1
 
@@ -243,7 +230,6 @@ both_takes X Y F w G v first second bytes found are (Some one) e h =
           rest_bytes = more.rest_bytes;
         })
 
--- bytes that end inside the first of two fields, or inside the second
 pub ends_first : {X Y : Type 0} {F : X → Type 0} {w : X → List ℕ} {G : X → Y → Type 0} {v : X → Y → List ℕ} → Layout X F w → ((x : X) → Layout Y (G x) (v x))
     → (bytes : List ℕ) → EndsIn X F w bytes → EndsIn (X × Y) (BothFit F G) (both_bytes w v) bytes
 ends_first {X} {Y} {F} {w} {G} {v} first second bytes inside =
@@ -302,19 +288,16 @@ both_by {X} {Y} {F} {w} {G} {v} first second = record {
         ∙ ap (both_read (λ x. (second x).read)) (first.again p.0 (v p.0 p.1 ++ rest) h.0)
         ∙ ap (second_read p.0) ((second p.0).again p.1 rest h.1)
 
--- one field after another
 pub both : {X Y : Type 0} {F : X → Type 0} {w : X → List ℕ} {G : Y → Type 0} {v : Y → List ℕ} → Layout X F w → Layout Y G v
     → Layout (X × Y) (BothFit F (λ x. G)) (both_bytes w (λ x. v))
 both first second = both_by first (λ x. second)
 
--- bytes after their length
 abbrev pub LengthFits : (ℕ → Type 0) → List ℕ → Type 0
 LengthFits F s = F (length s)
 
 abbrev pub length_first : (ℕ → List ℕ) → List ℕ → List ℕ
 length_first w s = w (length s) ++ s
 
--- the bytes that follow a length
 counted_read : Option (ℕ × List ℕ) → Option (List ℕ × List ℕ)
 counted_read None = None
 counted_read (Some found) = front_of found.0 found.1
@@ -336,7 +319,6 @@ counted_takes F w number bytes found are (Some one) e h =
       rest_bytes = AreBytes-drop one.0 one.1 took.rest_bytes;
     })
 
--- bytes that end inside the length, or inside the counted bytes
 pub ends_length : (F : ℕ → Type 0) (w : ℕ → List ℕ) (bytes : List ℕ) → EndsIn ℕ F w bytes → EndsIn (List ℕ) (LengthFits F) (length_first w) bytes
 ends_length F w bytes inside =
     let n : ℕ = inside.value in
@@ -381,12 +363,10 @@ counted_field F w zero_fits number = record {
         ∙ ap counted_read (number.again (length s) (s ++ rest) h)
         ∙ front_again (length s) s rest refl
 
--- a field with its values in another form
 reported_read : {X Y : Type 0} → (X → Y) → Option (X × List ℕ) → Option (Y × List ℕ)
 reported_read f None = None
 reported_read f (Some found) = Some (f found.0, found.1)
 
--- the two ways to tell a value
 pub record Tells (X Y : Type 0) (F : X → Type 0) (w : X → List ℕ) (G : Y → Type 0) (v : Y → List ℕ) : Type 0 where
   pub to : X → Y
   pub from : Y → X

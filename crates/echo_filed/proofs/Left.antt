@@ -1,16 +1,13 @@
--- A message that a purge changes, after the purge.
 use Rattle.std.proofs.Common.{◌≡◌, ℕ, false, List, [], ◌∷◌, Option, Some, None, refl, sym, ap, ◌∙◌}
 use Rattle.std.proofs.lemmas.Bool.{true≢false}
 use Rattle.std.specs.{Prelude.option_copied, Prelude.unwrap_or, Borrow.Bor}
 use Rattle.echo_text.specs.{Lines.msgid_word, Echo.msgid_of}
 use Rattle.echo_filed.specs.{Filed.Filed, Filed.id_line, Stubs.is_stub, Stubs.is_stub_with, Stubs.stub_of, Stubs.stub_with}
 
--- the test of a message, by its id
 pub is_stub_reported : (m : Filed) (has : Option (List ℕ)) → has ≡ msgid_of m.echo.kept → is_stub m ≡ is_stub_with m has
 unfolding is_stub
 is_stub_reported m has h = ap (is_stub_with m) (sym h)
 
--- a message with only these lines left
 abbrev pub with_lines : Filed → List (List ℕ) → Filed
 with_lines m lines = record {
   sender = m.sender;
@@ -25,7 +22,6 @@ left_with : (m : Filed) (has : Option (List ℕ)) → is_stub_with m has ≡ fal
 left_with m None h = absurd (true≢false h)
 left_with m (Some id) h = refl
 
--- it keeps all but its lines and entries
 pub left : (m : Filed) → is_stub m ≡ false → stub_of m ≡ with_lines m (stub_of m).echo.kept
 unfolding is_stub stub_of
 left m h = left_with m (msgid_of m.echo.kept) h
@@ -34,14 +30,12 @@ line_with : (m : Filed) (has : Option (List ℕ)) → is_stub_with m has ≡ fal
 line_with m None h = absurd (true≢false h)
 line_with m (Some id) h = refl
 
--- its one line carries its id
 pub left_line : (m : Filed) (has : Option (List ℕ)) → has ≡ msgid_of m.echo.kept → is_stub m ≡ false
     → id_line msgid_word (unwrap_or has []) ∷ [] ≡ (stub_of m).echo.kept
 unfolding is_stub stub_of
 left_line m has reported h =
     ap (λ o. id_line msgid_word (unwrap_or o []) ∷ []) reported ∙ line_with m (msgid_of m.echo.kept) h
 
--- the bytes of the found value, or else of the default
 pub copied_or : (o : Option (Bor (List ℕ))) (d : Bor (List ℕ)) → (unwrap_or o d).now ≡ unwrap_or (option_copied o) d.now
 copied_or None d = refl
 copied_or (Some x) d = refl

@@ -1,4 +1,3 @@
--- The one line that carries an id, and lines that are that one alone.
 use Rattle.std.proofs.Common.{◌≡◌, ◌≢◌, ℕ, ◌<◌, ◌&&◌, true, false, List, [], ◌∷◌, ◌++◌, length, refl, sym, ap, ◌∙◌, arith}
 use Rattle.std.proofs.lemmas.{Bool.and_right, Bool.ne_eqb, List.append-nil, List.Elements.All-weaker}
 use Rattle.std.specs.{Prelude.bytes_eq, Cmp.Lexicographic.pointwise}
@@ -6,7 +5,6 @@ use Rattle.echo_text.specs.{Lines.is_return, Lines.lines, Lines.msgid_word, Echo
 use Rattle.echo_text.proofs.{EndedLines.PutTogether, EndedLines.whole_text, TextLines.IsPiece, TextLines.no_lines, TextLines.some_lines}
 use Rattle.echo_filed.specs.Filed.{id_line}
 
--- a line has no 0D
 pub line_piece : (line : List ℕ) → IsLine line → IsPiece line
 line_piece line h = All-weaker (λ b. (b ≢ 0) × (b ≢ 13)) (λ b. is_return b ≡ false) (λ b parts. ne_eqb b 13 parts.1) line h
 
@@ -17,7 +15,6 @@ id_text none word text id n w t line =
     (t ∙ ap (λ s. s ++ ended id) (w ∙ ap (λ s. s ++ (msgid_word ++ 32 ∷ [])) n) ∙ sym (append-nil (ended (id_line msgid_word id))))
     (line_piece (id_line msgid_word id) line, tt)
 
--- no line, and more than one
 pub none_alone : (text line : List ℕ) (kept : List (List ℕ)) → lines text ≡ kept → length text ≡ 0 → pointwise bytes_eq kept (line ∷ []) ≡ false
 none_alone text line kept is none = ap (λ ls. pointwise bytes_eq ls (line ∷ [])) (sym is ∙ no_lines text none)
 

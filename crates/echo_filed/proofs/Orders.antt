@@ -9,7 +9,6 @@ use Rattle.echo_filed.specs.Sets.{address_before, entry_before, entry_set, same_
 use Rattle.echo_filed.proofs.Sets.{IsOrder, Ascending, ascending_pairs, set_ascending, set_keeps, set_only, same_set}
 use Rattle.echo_filed.proofs.Choices.{contained_in, in_contained}
 
--- one number is less, or they are equal and a test passes
 abbrev first_then : ℕ → ℕ → Bool → Bool
 first_then a b rest = nat_lt a b || ((a == b) && rest)
 
@@ -26,7 +25,6 @@ chain_then a b c p q r chain h g = grind (arith, decided, decide)
 apart_then : (a : ℕ) (p : Bool) → p ≡ false → first_then a a p ≡ false
 apart_then a p h = or_from (nat_lt a a) ((a == a) && p) (le-ltb a a (omega arith)) (and_right (a == a) p h)
 
--- two equal numbers, where neither test passes
 record Tied (a b : ℕ) (p q : Bool) : Type 0 where
   same : a ≡ b
   one : p ≡ false
@@ -73,7 +71,6 @@ same_entry_decides x y = grind (arith, and_parts, eqb-true, and_from, eq-eqb)
 pairs_weaker : {X : Type 0} (R S : X → X → Type 0) → ((x y : X) → R x y → S x y) → (xs : List X) → AllPairs R xs → AllPairs S xs
 pairs_weaker R S weaker xs h = λ i j d less inside. weaker (get_or xs i d) (get_or xs j d) (h i j d less inside)
 
--- the entries of a list, ascending and without repeats
 pub entry_set_is_set : (all : List NetNode) → IsSetOf (entry_set all) all
 unfolding entry_set
 entry_set_is_set all = record {
@@ -85,7 +82,6 @@ entry_set_is_set all = record {
   );
 }
 
--- ascending pairs, seen from the first
 ascending_from_pairs : (xs : List NetNode) → AllPairs ComesBefore xs → Ascending entry_before xs
 ascending_from_pairs [] up = tt
 ascending_from_pairs (x ∷ xs) up = (
@@ -93,7 +89,6 @@ ascending_from_pairs (x ∷ xs) up = (
   ascending_from_pairs xs (λ i j d less inside. up (suc i) (suc j) d (omega arith) (omega arith)),
 )
 
--- a list has one set
 pub one_set : (xs ys all : List NetNode) → IsSetOf xs all → IsSetOf ys all → xs ≡ ys
 one_set xs ys all h g =
     same_set entry_before entry_order xs ys (ascending_from_pairs xs h.ascending) (ascending_from_pairs ys g.ascending)

@@ -9,7 +9,6 @@ use Rattle.echo_addr.proofs.Decimals.{IsDigit, digits_of_decimal}
 use Rattle.echo_text.specs.{Lines.is_return, Lines.lines, Lines.without_empty_last, Echo.IsLine, Ids.is_line_byte, Ids.is_zero}
 use Rattle.echo_filed.proofs.Choices.{all_weaker}
 
--- a byte other than 00 and 0D
 abbrev pub IsLineByte : ℕ → Type 0
 IsLineByte b = (b ≢ 0) × (b ≢ 13)
 
@@ -37,7 +36,6 @@ plain_digits n small =
 pub plain_address : (a : Address) → IsAddress a → Plain (address_text a)
 plain_address a h = grind (arith, all_append, plain_digits, plain_if)
 
--- a byte before the first of some pieces
 onto_plain : (b : ℕ) → IsLineByte b → (pieces : List (List ℕ)) → AllByRecursion Plain pieces → AllByRecursion Plain (onto_first b pieces)
 onto_plain b h [] all = ((h, tt), tt)
 onto_plain b h (piece ∷ more) all = ((h, all.0), all.1)
@@ -58,7 +56,6 @@ last_plain [] all = tt
 last_plain (piece ∷ []) all = cond_both (length piece == 0) [] (piece ∷ []) (AllByRecursion Plain) (λ empty. tt) (λ some. all)
 last_plain (piece ∷ (next ∷ more)) all = (all.0, last_plain (next ∷ more) all.1)
 
--- the lines of a text without 00
 pub lines_plain : (text : List ℕ) → AllByRecursion (λ b. b ≢ 0) text → AllByRecursion Plain (lines text)
 unfolding lines
 lines_plain text h = last_plain (slice_split is_return text) (split_plain text h)
@@ -69,7 +66,6 @@ no_zero (b ∷ bytes) h =
     let parts = or_parts (is_zero b) (list_any is_zero bytes) h in
     (eqb-false b 0 parts.0, no_zero bytes parts.1)
 
--- bytes without a 00
 pub some_bytes : (bytes : List ℕ) → list_any is_zero bytes ≡ false → HasNoZero bytes
 some_bytes bytes h = All-from_recursion (λ b. b ≢ 0) bytes (no_zero bytes h)
 

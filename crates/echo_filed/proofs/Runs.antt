@@ -6,12 +6,10 @@ use Rattle.echo_addr.specs.ShortLines.{AreRuns, IsFull, IsNetNode, ShortLines, e
 use Rattle.echo_addr.specs.declared.address.NetNode.{NetNode}
 use Rattle.echo_filed.specs.Written.{runs_after, runs_of, short_lines}
 
--- the runs are the list cut up, each as long as has room
 record AreCut (prefix : List ℕ) (list : List NetNode) (runs : List (List NetNode)) : Type 0 where
   joined : flat_map (λ run. run) runs ≡ list
   each : AreRuns prefix runs
 
--- an entry alone has room in a line
 abbrev HasRoom : List ℕ → NetNode → Type 0
 HasRoom prefix e = length (line_front prefix (e ∷ [])) ≤ line_room
 
@@ -62,7 +60,6 @@ each_has_room : (prefix : List ℕ) → length prefix ≤ 8 → (list : List Net
 each_has_room prefix short [] all = tt
 each_has_room prefix short (e ∷ more) all = (one_has_room prefix e short all.0, each_has_room prefix short more all.1)
 
--- entries of two bytes a part are written as SEEN-BY and as PATH lines
 pub seen_short : (list : List NetNode) → AllByRecursion IsNetNode list → ShortLines seen_prefix list (short_lines seen_prefix list)
 seen_short list all = written_short seen_prefix list (each_has_room seen_prefix (lit≤ tt) list all)
 

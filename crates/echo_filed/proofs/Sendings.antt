@@ -10,27 +10,22 @@ use Rattle.echo_filed.specs.Stored.{Second, after_length, after_long_length, has
 use Rattle.echo_filed.specs.{Written.text_of, Filed.Filed, Sending.front_bytes, Sending.strings_bytes}
 use Rattle.echo_filed.proofs.Texts.{text_is_text}
 
--- the sink took no byte
 pub SendsFront-none : (a : Option (List ℕ)) (bytes : List ℕ) (s : ℕ) → 0 < length bytes → s < 2 ^ 64 → SendsFront a a bytes s s
 SendsFront-none a bytes s some fits = (0, some, Appends-nil a, omega arith)
 
--- the tag and the id of an echo
 abbrev pub id_sent : EchoText → List ℕ
 id_sent e = after_length e.tag ++ after_long_length (unwrap_or (msgid_of e.kept) [])
 
--- the bytes sent after the subject
 abbrev pub last_sent : Bool → Filed → List ℕ
 last_sent true m = id_sent m.echo
 last_sent false m = after_long_length (text_of m.echo)
 
--- the first byte gives the sender and the form
 pub tagged : (short : Bool) (sender : Option Address) → has_tag Second (kind_of short sender) ≡ short
 tagged short sender = grind arith
 
 last_is : (short : Bool) (m : Filed) → last_bytes Second (stored_as short m) ≡ last_sent short m
 last_is short m = grind (arith, cond-true, tagged, cond-false)
 
--- the strings and the bytes after them
 strings_then : (to from subject last : List ℕ)
     → strings_bytes to from subject ++ last ≡ after_length to ++ (after_length from ++ (after_length subject ++ last))
 strings_then to from subject last = grind (arith, append_assoc)
@@ -40,11 +35,9 @@ pub stored_parts : (short : Bool) (m : Filed)
 unfolding stored_bytes
 stored_parts short m = grind (arith, strings_then, last_is)
 
--- bytes that are known by another name
 pub Sends-as : {E A : Type 0} (a b : Option (List ℕ)) (r : Result A E) (bs cs : List ℕ) (n m : ℕ) → bs ≡ cs → Sends a b r bs n m → Sends a b r cs n m
 Sends-as a b r bs cs n m e sent = subst (λ l. Sends a b r l n m) e sent
 
--- the text that was written is the one that is defined
 pub written_is : {E : Type 0} (e f : EchoText) (r : Result (Vec ℕ Global) E) → e ≡ f → IsEcho e → IfOk r (λ text. TextOf e text.items)
     → IfOk r (λ text. text.items ≡ text_of f)
 written_is e f (Ok text) same is h = one_text e text.items (text_of e) h (text_is_text e is) ∙ ap text_of same

@@ -5,13 +5,11 @@ use Rattle.std.specs.{Prelude.⊤, List.AllByRecursion, List.AllPairs}
 use Rattle.echo_filed.specs.Sets.{put_in, set_of}
 use Rattle.echo_filed.proofs.Choices.{IsIn, all_at, all_weaker, of_three}
 
--- a test that decides which of two is first
 pub record IsOrder {X : Type 0} (before : X → X → Bool) : Type 0 where
   pub chain : (x y z : X) → before x y ≡ true → before y z ≡ true → before x z ≡ true
   pub tied : (x y : X) → before x y ≡ false → before y x ≡ false → x ≡ y
   pub apart : (x : X) → before x x ≡ false
 
--- each member is before all later ones
 abbrev pub Ascending : {X : Type 0} → (X → X → Bool) → List X → Type 0
 Ascending before [] = ⊤
 Ascending before (x ∷ xs) = AllByRecursion (λ y. before x y ≡ true) xs × Ascending before xs
@@ -76,12 +74,10 @@ ascending_pairs before [] up = λ i j d h g. absurd (omega arith)
 ascending_pairs {X} before (x ∷ xs) up =
     AllPairs-cons (λ (a b : X). before a b ≡ true) x xs (All-from_recursion (λ (y : X). before x y ≡ true) xs up.0) (ascending_pairs before xs up.1)
 
--- the first members of two ascending lists with the same members
 same_first : {X : Type 0} (before : X → X → Bool) → IsOrder before → (x y : X) (xs ys : List X)
     → Ascending before (x ∷ xs) → Ascending before (y ∷ ys) → IsIn x (y ∷ ys) → IsIn y (x ∷ xs) → x ≡ y
 same_first {X} before o x y xs ys up up' h g = grind (arith, all_at, true≢false)
 
--- a later member of an ascending list is a later member of the other
 in_rest : {X : Type 0} (before : X → X → Bool) → IsOrder before → (z x y : X) (xs ys : List X)
     → Ascending before (x ∷ xs) → x ≡ y → IsIn z xs → IsIn z (y ∷ ys) → IsIn z ys
 in_rest {X} before o z x y xs ys up e h g = grind (arith, all_at, true≢false)

@@ -1,4 +1,3 @@
--- The fields of a stored message, as they are laid out.
 use Rattle.std.proofs.Common.{◌≡◌, ℕ, ◌^◌, ◌<◌, Bool, true, false, List, [], ◌++◌, length, refl, sym, subst, Option, Some, None, lit<, arith}
 use Rattle.echo_addr.specs.declared.address.Address.{Address}
 use Rattle.echo_packet.specs.Header.{AreBytes, word}
@@ -17,7 +16,6 @@ pub last_field : (with_tag : Bool) → Layout (List ℕ × List ℕ) (LastFits w
 last_field true = both short_field text_field
 last_field false = both nothing_field text_field
 
--- zone, net and node
 pub address_field : Layout Address IsSmall address_bytes
 address_field = reported_field tells (both word_field (both word_field word_field))
   where
@@ -31,7 +29,6 @@ address_field = reported_field tells (both word_field (both word_field word_fiel
       same = λ p. refl;
     }
 
--- the fields of a stored message in order
 abbrev pub Fields : Type 0
 Fields = ℕ × (Address × (List ℕ × (List ℕ × (List ℕ × (List ℕ × (List ℕ × List ℕ))))))
 
@@ -45,7 +42,6 @@ fields_bytes version =
     both_bytes one_byte (λ kind. both_bytes address_bytes (λ _. both_bytes itself (λ _.
     both_bytes after_length (λ _. both_bytes after_length (λ _. both_bytes after_length (λ _. last_of (has_tag version kind)))))))
 
--- the fields from the subject on, from the two names on, from the DateTime on, and from the sender on
 abbrev pub from_subject : (b : Bool) → Layout (List ℕ × (List ℕ × List ℕ)) (BothFit IsShortString (λ _. LastFits b)) (both_bytes after_length (λ _. last_of b))
 from_subject b = both short_field (last_field b)
 
@@ -115,7 +111,6 @@ pub bytes_are : (version : Version) (p : Fields) → fields_bytes version p ≡ 
 unfolding stored_bytes
 bytes_are version p = refl
 
--- a stored message
 pub stored_field : (version : Version) → Layout Stored (IsStored version) (stored_bytes version)
 stored_field version = reported_field tells (all_fields version)
   where
@@ -129,13 +124,11 @@ stored_field version = reported_field tells (all_fields version)
       same = bytes_are version;
     }
 
--- a stored message and the bytes after it
 pub record Stands (version : Version) (bytes : List ℕ) (next : Stored) (rest : List ℕ) : Type 0 where
   pub size : IsStored version next
   pub whole : bytes ≡ stored_bytes version next ++ rest
   pub rest_bytes : AreBytes rest
 
--- the message at the front of bytes, and the bytes after it
 pub stored_in : Version → List ℕ → Option (Stored × List ℕ)
 stored_in version bytes = (stored_field version).read bytes
 

@@ -6,7 +6,6 @@ use Rattle.echo_text.specs.{Lines.msgid_word, Echo.msgid_of}
 use Rattle.echo_filed.specs.{Filed.Filed, Filed.id_line, Stubs.is_stub, Stubs.is_stub_with, Stubs.stub_of, Stubs.stub_with}
 use Rattle.echo_filed.proofs.Keys.{lines_decide}
 
--- a message that is a stub with this id is left as it is
 left_alone : (m : Filed) (id : Option (List ℕ)) → is_stub_with m id ≡ true → stub_with m id ≡ m
 left_alone m None h = refl
 left_alone m (Some id) h =
@@ -34,7 +33,6 @@ reported m (Some id) h =
     and_from (pointwise bytes_eq m.echo.kept (id_line msgid_word id ∷ [])) _ ((lines_decide m.echo.kept (id_line msgid_word id ∷ [])).1 kept)
     (and_from (length m.echo.seen == 0) (length m.echo.path == 0) (subst S (sym seen) refl) (subst S (sym path) refl))
 
--- a message that is a stub is left as it is
 pub stays : (m : Filed) → is_stub m ≡ true → stub_of m ≡ m
 unfolding is_stub stub_of
 stays m h = left_alone m (msgid_of m.echo.kept) h

@@ -8,7 +8,6 @@ use Rattle.echo_filed.specs.{Filed.Filed, Filed.IsFiled, Filed.id_line, Stubs.ba
 use Rattle.echo_filed.proofs.Plain.{IsLineByte, Plain, all_append, plain_drop, plain_if, plain_line, plain_take}
 use Rattle.echo_filed.proofs.Choices.{all_map, all_weaker, found_is}
 
--- an id is a part of a kept line
 part_plain : (line : List ℕ) → Plain line → Plain (trimmed (after_word msgid_word line))
 unfolding trimmed after_word
 part_plain line h = grind (arith, plain_take, plain_drop)
@@ -28,7 +27,6 @@ id_line_stays : (id : List ℕ) → AllByRecursion (λ line. not (is_shed line) 
 unfolding begins
 id_line_stays id = (refl, tt)
 
--- a tag and an id of a line are echomail
 pub bare_echo : (area_tag id : List ℕ) → is_tag area_tag ≡ true → Plain id → IsEcho (bare area_tag id)
 bare_echo area_tag id tagged plain = grind (arith, all_append, plain_if, All-from_recursion, plain_line, id_line_stays)
 
@@ -51,7 +49,6 @@ stub_filed_with m (Some id) e h = record {
   is_echo = bare_is_echo m id h.is_echo e;
 }
 
--- a stub is a message that a base may have
 pub stub_filed : (m : Filed) → IsFiled m → IsFiled (stub_of m)
 unfolding stub_of
 stub_filed m h = stub_filed_with m (msgid_of m.echo.kept) refl h

@@ -7,7 +7,6 @@ use Rattle.echo_text.specs.{Lines.area_word, Lines.is_tag, Echo.EchoText, Echo.I
 use Rattle.echo_filed.specs.Written.{text_of}
 use Rattle.echo_filed.proofs.Texts.{text_is_text}
 
--- each line has an entry or more, and at most 80 bytes
 lines_len : (prefix : List ℕ) (runs : List (List NetNode)) → AreRuns prefix runs
     → length (flat_map (λ run. line_of prefix (entries_text None run)) runs) ≤ 80 * length (flat_map (λ r. r) runs)
 lines_len prefix [] each = omega arith
@@ -46,6 +45,5 @@ pub text_len : (e : EchoText) → IsEcho e
     → length (text_of e) ≤ 6 + length e.tag + length (flat_map ended e.kept) + 80 * length e.seen + 80 * length e.path
 text_len e h = whole_len e (text_of e) (text_is_text e h)
 
--- a tag has at most 60 bytes
 pub tag_len : (tag : List ℕ) → is_tag tag ≡ true → length tag ≤ 60
 tag_len tag h = grind (arith, and_parts, nat_lt, nat_le, leb-true)

@@ -8,23 +8,19 @@ use Rattle.echo_text.proofs.Written.{written_read_back}
 use Rattle.echo_filed.specs.{Sets.entry_set, Written.echo_of, Written.echo_of_lines, Written.text_of}
 use Rattle.echo_filed.proofs.{Orders.entry_set_is_set, Orders.one_set, Runs.path_short, Runs.seen_short}
 
--- the function and the definition write the same text of an echo
 pub text_is_text : (e : EchoText) → IsEcho e → TextOf e (text_of e)
 unfolding text_of
 text_is_text e h = grind (arith, seen_short, recursion_from_All, path_short)
 
--- two echoes of the same parts
 same_echo : (e f : EchoText) → e.tag ≡ f.tag → e.kept ≡ f.kept → e.seen ≡ f.seen → e.path ≡ f.path → e ≡ f
 same_echo e f tag kept seen path = λ i. record { tag = tag i; kept = kept i; seen = seen i; path = path i }
 
--- a text says one thing at most
 pub says_one : (bytes : List ℕ) (e : EchoText) (dropped : ℕ) → EchoOf bytes e dropped → echo_of bytes ≡ e
 unfolding echo_of
 says_one bytes e dropped h =
     let entries : List NetNode = all_entries (seen_lists (later_lines (lines bytes))) in
     same_echo (echo_of_lines (lines bytes)) e (sym h.tag) (sym h.kept) (one_set (entry_set entries) e.seen entries (entry_set_is_set entries) h.seen) (sym h.path)
 
--- the first line is an AREA line of a tag
 record IsAreaLine (line : List ℕ) : Type 0 where
   area : is_area line ≡ true
   tag : is_tag (area_tag line) ≡ true
@@ -35,7 +31,6 @@ accepted line h = grind (arith, cond-false, not_from_true)
 area_line : (line : List ℕ) → refusal_of line ≡ None → IsAreaLine line
 area_line line none = grind (arith, cond_both, not-false)
 
--- an accepted text has the parts that a reader returns
 pub says_read : (bytes : List ℕ) → text_refusal bytes ≡ None → (dropped : ℕ) × EchoOf bytes (echo_of bytes) dropped
 unfolding text_refusal echo_of
 says_read bytes none =
@@ -52,12 +47,10 @@ says_read bytes none =
       },
     )
 
--- a text that says something is not refused
 pub says_accepted : (bytes : List ℕ) (e : EchoText) (dropped : ℕ) → EchoOf bytes e dropped → text_refusal bytes ≡ None
 unfolding text_refusal
 says_accepted bytes e dropped h = grind (arith, accepted)
 
--- the written text of an echo has its parts and no others
 pub written_says : (e : EchoText) → IsEcho e → EchoOf (text_of e) e 0
 written_says e h = written_read_back e (text_of e) h (text_is_text e h)
 

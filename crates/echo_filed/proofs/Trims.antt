@@ -6,7 +6,6 @@ use Rattle.std.specs.List.{prefix_len, suffix_len}
 use Rattle.echo_addr.specs.Entries.{is_blank}
 use Rattle.echo_text.specs.Lines.{trimmed, without_back_blanks}
 
--- bytes without a blank at either end
 pub record IsTrim (bytes : List ℕ) : Type 0 where
   pub front : prefix_len is_blank bytes ≡ 0
   pub back : suffix_len is_blank bytes ≡ 0
@@ -18,7 +17,6 @@ none_left p (x ∷ xs) =
     cond_both (p x) (1 + prefix_len p xs) 0 (λ n. prefix_len p (drop n (x ∷ xs)) ≡ 0) (λ passes. ap (λ n. prefix_len p (drop n (x ∷ xs))) next ∙ none_left p xs)
     (λ fails. cond-false (p x) (1 + prefix_len p xs) 0 fails)
 
--- a test that fails at the first element fails there for another list too
 still_none : (b : Bool) (m n : ℕ) → cond b (1 + m) 0 ≡ 0 → cond b (1 + n) 0 ≡ 0
 still_none true m n is = absurd (omega arith)
 still_none false m n is = refl
@@ -26,7 +24,6 @@ still_none false m n is = refl
 none_in_front : (p : ℕ → Bool) (n : ℕ) (xs : List ℕ) → prefix_len p xs ≡ 0 → prefix_len p (take n xs) ≡ 0
 none_in_front p n xs h1 = grind (arith, still_none)
 
--- the bytes before the last k
 take_back : (k : ℕ) (xs : List ℕ) → k ≤ length xs → take (length xs - k) xs ≡ reverse (drop k (reverse xs))
 take_back k xs within =
     let r : List ℕ = reverse xs in
@@ -48,13 +45,11 @@ trimmed_trim bs = grind (arith, none_in_front, none_left, trimmed_back)
 no_back : (bs : List ℕ) → suffix_len is_blank bs ≡ 0 → without_back_blanks bs ≡ bs
 no_back bs none = take_all (length bs - suffix_len is_blank bs) bs (omega arith)
 
--- trimming removes a blank at the front
 pub after_blank : (bs : List ℕ) → IsTrim bs → trimmed (32 ∷ bs) ≡ bs
 unfolding trimmed
 after_blank bs h =
     ap (λ (n : ℕ). without_back_blanks (drop (1 + n) (32 ∷ bs))) h.front ∙ no_back bs h.back
 
--- a front of bytes and an end, neither empty
 pub joined_trim : (front back : List ℕ) → 0 < length front → 0 < length back → prefix_len is_blank front ≡ 0 → suffix_len is_blank back ≡ 0
     → IsTrim (front ++ back)
 joined_trim front back some some' begin finish = record {
@@ -67,7 +62,6 @@ joined_trim front back some some' begin finish = record {
     begins_so [] ys some none = absurd (omega arith)
     begins_so (x ∷ xs) ys some none = still_none (is_blank x) (prefix_len is_blank xs) (prefix_len is_blank (xs ++ ys)) none
 
--- trimming changes nothing
 pub trimmed_same : (bs : List ℕ) → IsTrim bs → trimmed bs ≡ bs
 unfolding trimmed
 trimmed_same bs h = ap (λ (n : ℕ). without_back_blanks (drop n bs)) h.front ∙ no_back bs h.back

@@ -38,7 +38,6 @@ StepsSized size had has old new (Ok _) =
     (t : List ℕ) × (has ≡ had ++ t) × Consumes old new t × (0 < length t) × (length has ≤ size)
 StepsSized size had has old new (Err e) = BreaksSized (size - length had) old new e
 
--- One byte, and numbers of two and four bytes.
 abbrev pub IsByte : ℕ → Type 0
 IsByte b = b < 2 ^ 8
 
@@ -51,21 +50,18 @@ IsWord n = n < 2 ^ 16
 abbrev pub IsLong : ℕ → Type 0
 IsLong n = n < 2 ^ 32
 
--- Bytes of a known length.
 abbrev pub HasLength : ℕ → List ℕ → Type 0
 HasLength n s = length s ≡ n
 
 abbrev pub itself : List ℕ → List ℕ
 itself s = s
 
--- A string with a length of one byte, or of four bytes.
 abbrev pub IsShortString : List ℕ → Type 0
 IsShortString s = IsByte (length s)
 
 abbrev pub IsLongString : List ℕ → Type 0
 IsLongString s = IsLong (length s)
 
--- A sender: zone, net and node.
 pub record IsSmall (a : Address) : Type 0 where
   pub zone : IsWord a.zone
   pub net : IsWord a.net
@@ -82,6 +78,5 @@ LastFits false p = (p.0 ≡ []) × (length p.1 < 2 ^ 32)
 abbrev pub last_of : Bool → List ℕ × List ℕ → List ℕ
 last_of with_tag p = if with_tag then after_length p.0 ++ after_long_length p.1 else after_long_length p.1
 
--- The bytes end inside the next message.
 abbrev pub StopsIn : Version → List ℕ → Type 0
 StopsIn version = EndsIn Stored (IsStored version) (stored_bytes version)

@@ -28,7 +28,6 @@ key_with m None = ByContent m.echo.tag m.date m.to_name m.from_name m.subject m.
 unfoldable pub key_of : Filed → Key
 key_of m = key_with m (msgid_of m.echo.kept)
 
--- Two keys are equal, byte for byte.
 abbrev pub same_key : Key → Key → Bool
 same_key (ById tag msgid) (ById tag' msgid') = bytes_eq tag tag' && bytes_eq msgid msgid'
 same_key (ByContent tag date to from subject kept) (ByContent tag' date' to' from' subject' kept') =
@@ -38,7 +37,6 @@ same_key (ByContent tag date to from subject kept) (ByContent tag' date' to' fro
 same_key (ById tag msgid) (ByContent tag' date to from subject kept) = false
 same_key (ByContent tag date to from subject kept) (ById tag' msgid) = false
 
--- The message has this id.
 abbrev pub has_id : List ℕ → Filed → Bool
 has_id id m = unwrap_or (option_map (bytes_eq id) (msgid_of m.echo.kept)) false
 

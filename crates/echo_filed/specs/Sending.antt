@@ -15,6 +15,5 @@ CountsUnsent (Ok _) old new = new ≡ old
 abbrev pub front_bytes : Stored → List ℕ
 front_bytes s = s.kind ∷ (word s.zone ++ (word s.net ++ (word s.node ++ s.date)))
 
--- The bytes of its names and its subject.
 abbrev pub strings_bytes : List ℕ → List ℕ → List ℕ → List ℕ
 strings_bytes to_name from_name subject = after_length to_name ++ (after_length from_name ++ after_length subject)

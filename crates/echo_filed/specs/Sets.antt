@@ -25,14 +25,11 @@ address_before a b =
     nat_lt a.zone b.zone
     || ((a.zone == b.zone) && (nat_lt a.net b.net || ((a.net == b.net) && nat_lt a.node b.node)))
 
--- Two entries are equal.
 abbrev pub same_entry : NetNode → NetNode → Bool
 same_entry x y = (x.net == y.net) && (x.node == y.node)
 
--- The entries of a list as a set.
 unfoldable pub entry_set : List NetNode → List NetNode
 entry_set all = set_of entry_before all
 
--- The addresses of a list as a set.
 unfoldable pub address_set : List Address → List Address
 address_set all = set_of address_before all

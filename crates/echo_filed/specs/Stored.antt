@@ -41,18 +41,15 @@ abbrev pub has_tag : Version → ℕ → Bool
 has_tag First kind = false
 has_tag Second kind = (kind == 2) || (kind == 3)
 
--- The bytes after the subject.
 abbrev pub last_bytes : Version → Stored → List ℕ
 last_bytes version s =
     if has_tag version s.kind then after_length s.tag ++ after_long_length s.last else after_long_length s.last
 
--- The bytes of a message.
 unfoldable pub stored_bytes : Version → Stored → List ℕ
 stored_bytes version s =
     s.kind ∷ (word s.zone ++ (word s.net ++ (word s.node ++ (s.date
     ++ (after_length s.to_name ++ (after_length s.from_name ++ (after_length s.subject ++ last_bytes version s)))))))
 
--- Each field fits its place.
 pub record IsStored (version : Version) (s : Stored) : Type 0 where
   pub kind : s.kind < 2 ^ 8
   pub zone : s.zone < 2 ^ 16
@@ -70,15 +67,12 @@ pub record IsStored (version : Version) (s : Stored) : Type 0 where
 abbrev pub is_posted : ℕ → Bool
 is_posted kind = (kind == 0) || (kind == 2)
 
--- The sender of the message.
 abbrev pub sender_in : Stored → Option Address
 sender_in s = if is_posted s.kind then None else Some (record { zone = s.zone; net = s.net; node = s.node })
 
--- The parsed text of the message.
 abbrev pub echo_in : Version → Stored → EchoText
 echo_in version s = if has_tag version s.kind then bare s.tag s.last else echo_of s.last
 
--- The message with this stored form.
 unfoldable pub message_in : Version → Stored → Filed
 message_in version s = record {
   sender = sender_in s;
@@ -105,7 +99,6 @@ abbrev pub sender_or_zeros : Option Address → Address
 sender_or_zeros None = record { zone = 0; net = 0; node = 0 }
 sender_or_zeros (Some sender) = sender
 
--- The stored form of a message, short or not.
 abbrev pub stored_as : Bool → Filed → Stored
 stored_as short m = record {
   kind = kind_of short m.sender;

@@ -20,7 +20,6 @@ stub_with m (Some msgid) = record {
   echo = bare m.echo.tag msgid;
 }
 
--- The stub of a message.
 unfoldable pub stub_of : Filed → Filed
 stub_of m = stub_with m (msgid_of m.echo.kept)
 
@@ -31,7 +30,6 @@ is_stub_with m (Some msgid) =
     pointwise bytes_eq m.echo.kept (id_line msgid_word msgid ∷ [])
     && ((length m.echo.seen == 0) && (length m.echo.path == 0))
 
--- The same, with the id that the message has.
 unfoldable pub is_stub : Filed → Bool
 is_stub m = is_stub_with m (msgid_of m.echo.kept)
 

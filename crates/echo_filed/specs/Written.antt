@@ -7,7 +7,6 @@ use Rattle.echo_text.specs.Lines.{area_tag, area_word, first_line, later_lines, 
 use Rattle.echo_text.specs.{Tail.all_entries, Tail.kept_of, Tail.path_lists, Tail.seen_lists, Echo.EchoText, Echo.ended}
 use Rattle.echo_filed.specs.Sets.{entry_set}
 
--- The parts in the lines of an echomail text.
 abbrev pub echo_of_lines : List (List ℕ) → EchoText
 echo_of_lines all = record {
   tag = area_tag (first_line all);
@@ -16,7 +15,6 @@ echo_of_lines all = record {
   path = all_entries (path_lists (later_lines all));
 }
 
--- The parts of an echomail text.
 unfoldable pub echo_of : List ℕ → EchoText
 echo_of text = echo_of_lines (lines text)
 

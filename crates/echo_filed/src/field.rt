@@ -56,7 +56,6 @@ pub(crate) fn read_date<R: Source>(reader: &mut R) -> Result<[u8; 20], Broken>
     Ok(date)
 }
 
-// One more piece of a string of `size` bytes.
 fn take_piece<R: Source>(reader: &mut R, string: &mut Vec<u8>, size: usize) -> Result<(), Broken>
     requires { length string.old.items < size }
     ensures step { StepsSized size string.old.items string.new.items (R.remaining reader.old) (R.remaining reader.new) result }
@@ -73,7 +72,6 @@ fn take_piece<R: Source>(reader: &mut R, string: &mut Vec<u8>, size: usize) -> R
     Ok(())
 }
 
-// `size` bytes, in a vector. Room grows with the bytes that come.
 fn read_part<R: Source>(
     mut string: Vec<u8>,
     reader: &mut R,
@@ -89,7 +87,6 @@ fn read_part<R: Source>(
     Ok(Items::new(string))
 }
 
-// The parts in a row, `size` bytes together, in a vector.
 fn joined(mut string: Vec<u8>, parts: &[Items<u8>], size: usize) -> Result<Items<u8>, AllocError>
     ensures { IfOk result (λ string. string ≡ flat_map itself parts.now) }
 {
@@ -101,8 +98,7 @@ fn joined(mut string: Vec<u8>, parts: &[Items<u8>], size: usize) -> Result<Items
     Ok(Items::new(string))
 }
 
-// `size` bytes, in parts that are joined when all have come: growing a long string would move it at
-// each step.
+// Its parts are joined when all have come: growing a long string would move it at each step.
 fn read_long_string<R: Source>(
     string: Vec<u8>,
     reader: &mut R,
@@ -142,7 +138,6 @@ pub(crate) fn read_short<R: Source>(string: Vec<u8>, reader: &mut R) -> Result<I
     read_string(string, reader, size as usize)
 }
 
-/// Bytes after their length, of four bytes, in a vector.
 fn read_text<R: Source>(text: Vec<u8>, reader: &mut R) -> Result<Items<u8>, Broken>
     ensures read { Reads IsLongString after_long_length (R.remaining reader.old) (R.remaining reader.new) result }
     ensures device { CountsBreak result (R.failures reader.old) (R.failures reader.new) }

@@ -2,8 +2,7 @@ use echo_addr::{Address, Items};
 use echo_text::Echo;
 use std::marker::Model;
 
-/// A message of a base: its sender (none where it was posted here), its DateTime, names, subject
-/// and text. Names have at most 35 bytes and the subject 71, without 00.
+/// A message of a base; `sender` is none if it was posted here. Names have at most 35 bytes and the subject 71, no 00.
 #[derive(Debug, Drop)]
 pub struct Filed {
     pub sender: Option<Address>,

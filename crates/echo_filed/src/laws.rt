@@ -11,8 +11,7 @@ pub fn key_law()
     ensures { (k l : Key) → (same_key k l ≡ true) ↔ (k ≡ l) }
 {}
 
-/// A purge keeps keys, and a second purge changes nothing. The test of stubs passes exactly where a
-/// purge leaves the message unchanged.
+/// A purge keeps keys; a second one changes nothing. The stub test passes exactly where a purge changes nothing.
 pub fn stub_laws()
     ensures keep_keys { (m : Filed) → key_of (stub_of m) ≡ key_of m }
     ensures stay { (m : Filed) → stub_of (stub_of m) ≡ stub_of m }
@@ -24,8 +23,7 @@ pub fn set_law()
     ensures { (all : List NetNode) → IsSetOf (entry_set all) all }
 {}
 
-/// Reading and writing an echomail text are functions that agree with the definitions of texts. A
-/// written text is read back, no token dropped.
+/// Reading and writing of echomail texts agree with their definitions. A written text is read back, no token dropped.
 pub fn text_laws()
     ensures said { (text : List ℕ) → text_refusal text ≡ None → (dropped : ℕ) × EchoOf text (echo_of text) dropped }
     ensures only_said { (text : List ℕ) (e : EchoText) (dropped : ℕ) → EchoOf text e dropped → (text_refusal text ≡ None) × (echo_of text ≡ e) }

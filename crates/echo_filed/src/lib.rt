@@ -1,12 +1,6 @@
-//! A filed message: its key, which makes two messages one, its stub, which a purge leaves, and its
-//! bytes in a base file.
-//!
-//! Promise: two keys are equal exactly where their test says so. A purge keeps keys. A written text
-//! is read back. Just the bytes of a stored message are read from a source and sent to a sink.
-//!
-//! Begin with `filed` (a message of a base) and `key`. `stub` makes stubs, `stored` and `field`
-//! read a message from a source, `sending` writes one to a sink. `boxed` (a list behind one
-//! pointer) and `numbers` are helpers; `laws` states the promise.
+//! A filed message: its key, which makes two messages one, its stub, which a purge leaves, and its bytes in a base
+//! file. Two keys are equal exactly where their test says so. A purge keeps keys. A written text is read back. Begin
+//! with `filed` and `key`.
 #![tactic(auto)]
 
 mod boxed;

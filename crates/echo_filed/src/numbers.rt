@@ -3,7 +3,6 @@ ghost use Rattle.std.specs.Prelude.{◌≡◌};
 ghost use Rattle.echo_packet.specs.Header.{number_at, word};
 ghost use Rattle.echo_filed.specs.Stored.{long, long_at};
 
-/// The bytes of a number of two bytes.
 pub(crate) fn word_bytes(n: u16) -> [u8; 2]
     ensures { result ≡ word n }
 {
@@ -19,14 +18,12 @@ pub fn long_bytes(n: u32) -> [u8; 4]
     [low[0], low[1], high[0], high[1]]
 }
 
-/// The number of two bytes.
 pub(crate) fn word_of(bytes: [u8; 2]) -> u16
     ensures { result ≡ number_at 0 bytes }
 {
     u16::from(bytes[0]) + 256 * u16::from(bytes[1])
 }
 
-/// The number of four bytes.
 pub(crate) fn long_of(bytes: [u8; 4]) -> u32
     ensures { result ≡ long_at 0 bytes }
 {

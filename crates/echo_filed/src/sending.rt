@@ -17,9 +17,7 @@ use std::alloc::{AllocError, AllocFailed, Global};
 /// Why not all bytes went out.
 #[derive(Clone, Copy, Debug, PartialEq, Eq)]
 pub enum Unsent {
-    /// The device failed.
     Device,
-    /// A growth was refused.
     Memory,
 }
 
@@ -63,7 +61,6 @@ pub fn is_short(message: &Filed, place: usize, cursor: usize) -> bool
     place < cursor && message.echo.msgid().is_some() && is_stub(message)
 }
 
-// The first byte of a message, in short or not.
 fn kind_of(short: bool, sender: Option<Address>) -> u8
     ensures { result ≡ kind_of short sender }
 {
@@ -101,7 +98,6 @@ fn front_bytes(message: &Filed, short: bool) -> [u8; FRONT_BYTES]
     bytes
 }
 
-// Bytes after their length, of one byte.
 fn send_string<W: Sink>(writer: &mut W, string: &[u8], sent: &mut u64) -> Result<(), Failure>
     requires { length string.now < 2 ^ 8 }
     ensures bytes { Sends (W.contents writer.old) (W.contents writer.new) result (after_length string.now) sent.old sent.new }
@@ -112,7 +108,6 @@ fn send_string<W: Sink>(writer: &mut W, string: &[u8], sent: &mut u64) -> Result
     send(writer, string, sent)
 }
 
-// Bytes after their length, of four bytes.
 fn send_long<W: Sink>(writer: &mut W, bytes: &[u8], sent: &mut u64) -> Result<(), Failure>
     requires { length bytes.now < 2 ^ 32 }
     ensures bytes { Sends (W.contents writer.old) (W.contents writer.new) result (after_long_length bytes.now) sent.old sent.new }
@@ -156,7 +151,6 @@ fn text_of(alloc: Global, message: &Filed) -> Result<Vec<u8>, AllocError>
     write_text(alloc, &message.echo)
 }
 
-// The text after its length.
 fn send_text<W: Sink>(
     alloc: Global,
     writer: &mut W,
@@ -196,7 +190,6 @@ pub fn send_message<W: Sink>(
     }
 }
 
-// Whether so little is written for the echo that four bytes count it, found without writing it.
 fn is_little(echo: &Echo) -> bool
     ensures { IsTrue result → length (text_of echo.now) < 2 ^ 32 }
 {

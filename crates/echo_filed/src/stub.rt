@@ -12,14 +12,12 @@ use std::alloc::{AllocError, Global};
 // The beginning of an id's line (FTS-0009).
 const ID_LINE: &[u8] = b"\x01MSGID: ";
 
-// Whether the line is the one that carries the id.
 fn is_id_line(line: &[u8], id: &[u8]) -> bool
     ensures { result ≡ bytes_eq line.now (id_line msgid_word id.now) }
 {
     line.strip_prefix(ID_LINE) == Some(id)
 }
 
-// Whether the lines are the one that carries the id.
 fn is_alone(kept: &Lines, id: &[u8]) -> bool
     ensures { result ≡ pointwise bytes_eq kept.now (id_line msgid_word id.now ∷ []) }
 {
@@ -34,7 +32,6 @@ fn is_alone(kept: &Lines, id: &[u8]) -> bool
     is_id_line(line, id)
 }
 
-// Whether there is nothing but the line of the id.
 fn is_bare(id: &[u8], kept: &Lines, seen: &[NetNode], path: &[NetNode]) -> bool
     ensures { result ≡ (pointwise bytes_eq kept.now (id_line msgid_word id.now ∷ [])
         && ((length seen.now == 0) && (length path.now == 0))) }

@@ -3,12 +3,10 @@ use Rattle.std.proofs.Common.{◌≡◌, Bool, ℕ, List, ◌++◌, length, Resu
 use Rattle.echo_filed.specs.Filed.{Filed}
 use Rattle.echo_jam.specs.{Fields.body_of, Fields.fields_of, JamMessage.header_back, JamMessage.header_front, JamMessage.header_ids, JamMessage.header_of}
 
--- a property that always holds, holds after success
 pub anyhow : {T E P : Type 0} (r : Result T E) → P → OnOk r P
 anyhow (Ok x) p = p
 anyhow (Err e) p = tt
 
--- a header with its subfields, the place and the length of its text
 pub header_is : (scanned : Bool) (m : Filed) (number place there size : ℕ) (fields : List ℕ) → place ≡ there → size ≡ length (body_of m) → fields ≡ fields_of m
     → header_front (length fields) ++ (header_ids m ++ (header_back scanned m number place size ++ fields)) ≡ header_of scanned m number there
 header_is scanned m number place there size fields place_is size_is fields_are =

@@ -12,7 +12,6 @@ use Rattle.echo_text.specs.Echo.{EchoText, ended}
 abbrev pub subfield : ℕ → List ℕ → List ℕ
 subfield kind bytes = word kind ++ (word 0 ++ (long (length bytes) ++ bytes))
 
--- The subfield of an address.
 abbrev pub address_field : Address → List ℕ
 address_field a = subfield 0 (address_text a)
 
@@ -39,11 +38,9 @@ pub record Content : Type 0 where
 abbrev pub content : ℕ → ℕ → List ℕ → Option Content
 content kind most bytes = Some (record { kind = kind; most = most; bytes = trimmed bytes })
 
--- The greatest length of an id.
 abbrev pub most_of_id : ℕ
 most_of_id = 100
 
--- The greatest number in four bytes.
 abbrev pub most_of_all : ℕ
 most_of_all = 4294967295
 
@@ -66,12 +63,10 @@ content_field (Some c) = subfield c.kind (take c.most c.bytes)
 abbrev pub line_field : List ℕ → List ℕ
 line_field line = content_field (content_of line)
 
--- 1 if the content is cut.
 abbrev pub content_cut : Option Content → ℕ
 content_cut None = 0
 content_cut (Some c) = if nat_lt c.most (length c.bytes) then 1 else 0
 
--- The number of lines that are cut.
 abbrev pub cuts_in : List (List ℕ) → ℕ
 cuts_in ls = sum_by (λ line. content_cut (content_of line)) ls
 
@@ -89,10 +84,8 @@ fields_of m =
     origin_field (address_in_origin m.echo) m.sender
     ++ (name_fields m ++ flat_map line_field (lines_behind m.echo))
 
--- The number of subfields that are cut.
 abbrev pub cuts_of : Filed → ℕ
 cuts_of m = cuts_in (lines_behind m.echo)
 
--- The text of the message.
 abbrev pub body_of : Filed → List ℕ
 body_of m = flat_map body_line (lines_behind m.echo)

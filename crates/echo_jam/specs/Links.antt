@@ -7,7 +7,6 @@ use Rattle.echo_jam.specs.Standing.{place_in}
 abbrev pub field_at : List ℕ → ℕ → ℕ
 field_at headers at = if nat_le (at + 4) (length headers) then long_at at headers else 0
 
--- A field of an entry's message, at this offset in its header.
 abbrev pub field_in : List ℕ → List ℕ → ℕ → ℕ → ℕ
 field_in headers index offset i = field_at headers (place_in index i + offset)
 

@@ -3,7 +3,6 @@ use Rattle.std.specs.Prelude.{ℕ, zero, suc, ◌+◌, ◌-◌, ◌*◌, ◌/◌
 use Rattle.echo_filed.specs.Stored.{long_at}
 use Rattle.echo_jam.specs.{declared.standing.Last.Last, declared.standing.Standing.Standing, Fixed.jam_mark}
 
--- Whether the mark of JAM is at this place.
 abbrev pub has_mark : List ℕ → ℕ → Bool
 has_mark headers at = bytes_eq (slice_range headers at (at + 4)) jam_mark
 
@@ -48,7 +47,6 @@ abbrev pub written_in : List ℕ → ℕ → ℕ
 written_in index zero = 0
 written_in index (suc n) = written_behind index (written_in index n) n
 
--- The number of entries of the index.
 abbrev pub entries_in : List ℕ → ℕ
 entries_in index = written_in index (length index / 8)
 
@@ -70,7 +68,6 @@ are_entries headers index texts (suc n) =
 abbrev pub active_at : List ℕ → ℕ → ℕ
 active_at headers place = if is_gone place || is_deleted_at headers place then 0 else 1
 
--- The number of active messages among the first `n` entries.
 abbrev pub active_in : List ℕ → List ℕ → ℕ → ℕ
 active_in headers index zero = 0
 active_in headers index (suc n) = active_in headers index n + active_at headers (place_in index n)

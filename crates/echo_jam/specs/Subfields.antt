@@ -22,11 +22,9 @@ first_within kind (suc n) bytes =
     (if field_kind bytes == kind then Some (field_content bytes) else first_within kind n (behind_field bytes))
     else None
 
--- The content of the first subfield of this kind.
 abbrev pub first_field : ℕ → List ℕ → Option (List ℕ)
 first_field kind bytes = first_within kind (length bytes) bytes
 
--- This content, or no bytes.
 abbrev pub field_or_none : ℕ → List ℕ → List ℕ
 field_or_none kind bytes = unwrap_or (first_field kind bytes) []
 

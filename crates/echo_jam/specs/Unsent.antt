@@ -21,7 +21,6 @@ is_unsent headers at =
 abbrev pub sent_attribute : List ℕ → ℕ → Option ℕ
 sent_attribute headers at = if is_unsent headers at then Some (slice_index headers (at + 52) + 16) else None
 
--- The unsent message of an entry, if it is one.
 abbrev pub unsent_at : List ℕ → List ℕ → ℕ → ℕ → Option Last
 unsent_at headers index texts i =
     if nat_lt i (entries_in index) && is_unsent headers (place_in index i) then last_at headers texts (place_in index i) else None

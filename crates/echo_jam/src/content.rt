@@ -27,7 +27,6 @@ pub(crate) struct LineContent<'a> {
     pub(crate) bytes: &'a [u8],
 }
 
-/// The content of a line.
 pub(crate) fn content_of(line: &[u8]) -> Option<LineContent<'_>>
     ensures { MatchOption result (content_of line.now ≡ None) (λ c. content_of line.now ≡ Some (record { kind = c.kind; most = c.most; bytes = c.bytes.now })) }
 {
@@ -48,7 +47,6 @@ pub(crate) fn content_of(line: &[u8]) -> Option<LineContent<'_>>
     }
 }
 
-// Bytes without the blanks at both ends.
 fn content(kind: u16, most: usize, bytes: &[u8]) -> LineContent<'_>
     ensures { Some (record { kind = result.kind; most = result.most; bytes = result.bytes.now }) ≡ contents.content kind most bytes.now }
 {
@@ -59,14 +57,12 @@ fn content(kind: u16, most: usize, bytes: &[u8]) -> LineContent<'_>
     }
 }
 
-/// The first `most` bytes.
 pub(crate) fn front(bytes: &[u8], most: usize) -> &[u8]
     ensures { result.now ≡ take most bytes.now }
 {
     &bytes[..most.min(bytes.len())]
 }
 
-/// How many of the lines of a text are cut.
 pub(crate) fn cuts_in(text: &[u8]) -> Result<u64, AllocError>
     ensures { IfOk result (λ n. n ≡ cuts_in (lines text.now)) }
 {
@@ -80,7 +76,6 @@ pub(crate) fn cuts_in(text: &[u8]) -> Result<u64, AllocError>
     Ok(count)
 }
 
-// 1 where the line is cut.
 fn cut(line: &[u8]) -> u64
     ensures { result ≡ content_cut (content_of line.now) }
 {

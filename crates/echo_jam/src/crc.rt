@@ -1,4 +1,3 @@
-//! The CRC-32 of names and ids.
 ghost use Rattle.std.specs.{Prelude.◌≡◌, Prelude.◌^◌, Char.to_ascii_lowercase};
 ghost use Rattle.echo_jam.specs.Crc.{crc_bit, crc_byte, jam_crc};
 

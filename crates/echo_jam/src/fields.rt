@@ -26,14 +26,12 @@ pub(crate) fn push_subfield(fields: &mut Vec<u8>, kind: u16, bytes: &[u8]) -> Re
     fields.extend_from_slice(bytes)
 }
 
-// Adds a word, the low byte first.
 pub(crate) fn push_word(bytes: &mut Vec<u8>, number: u16) -> Result<(), AllocError>
     ensures { OnOk result (bytes.new.items ≡ bytes.old.items ++ word number) }
 {
     bytes.extend_from_slice(&[(number % 256) as u8, (number / 256) as u8])
 }
 
-/// Adds the subfields of the lines of a text.
 pub(crate) fn push_line_fields(fields: &mut Vec<u8>, text: &[u8]) -> Result<(), AllocError>
     ensures { OnOk result (fields.new.items ≡ fields.old.items ++ flat_map line_field (lines text.now)) }
 {
@@ -46,7 +44,6 @@ pub(crate) fn push_line_fields(fields: &mut Vec<u8>, text: &[u8]) -> Result<(), 
     Ok(())
 }
 
-// Adds the subfield of a line, if it has one.
 fn push_line_field(fields: &mut Vec<u8>, line: &[u8]) -> Result<(), AllocError>
     ensures { OnOk result (fields.new.items ≡ fields.old.items ++ line_field line.now) }
 {
@@ -85,7 +82,6 @@ pub(crate) fn push_names(fields: &mut Vec<u8>, message: &Filed) -> Result<(), Al
     push_subfield(fields, 6, message.subject.as_slice())
 }
 
-/// Adds the subfield of the address that the message is from.
 pub(crate) fn push_origin(
     alloc: Global,
     fields: &mut Vec<u8>,

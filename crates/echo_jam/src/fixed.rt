@@ -19,7 +19,6 @@ pub fn new_fixed(alloc: Global, created: u32) -> Result<Vec<u8>, AllocError>
     Ok(bytes)
 }
 
-// Adds it.
 fn push_fixed(bytes: &mut Vec<u8>, created: u32) -> Result<(), AllocError>
     ensures { OnOk result (bytes.new.items ≡ bytes.old.items ++ new_fixed created) }
 {
@@ -31,8 +30,7 @@ fn push_fixed(bytes: &mut Vec<u8>, created: u32) -> Result<(), AllocError>
     push_bytes(bytes, &RESERVED)
 }
 
-/// The counts of a base after `added` more messages. Counts that four bytes do not hold are refused as out of
-/// memory.
+/// The counts of a base after `added` more messages. Counts beyond four bytes are refused as out of memory.
 pub fn counts_after(alloc: Global, standing: Standing, added: usize) -> Result<Vec<u8>, AllocError>
     ensures { IfOk result (λ bytes. bytes.items ≡ counts ((standing.changes + 1) % 2 ^ 32) (standing.counted + added)) }
 {
@@ -43,7 +41,6 @@ pub fn counts_after(alloc: Global, standing: Standing, added: usize) -> Result<V
     Ok(bytes)
 }
 
-// Adds how often a base was changed, and how many messages are active.
 fn push_counts(bytes: &mut Vec<u8>, changes: u32, active: u32) -> Result<(), AllocError>
     ensures { OnOk result (bytes.new.items ≡ bytes.old.items ++ counts changes active) }
 {

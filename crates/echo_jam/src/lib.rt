@@ -1,13 +1,6 @@
-//! JAM bases (JAM-001): messages of a base as headers with subfields, texts and index entries, and the state of
-//! an existing JAM base.
-//!
-//! Promise: a call that succeeds appends just the bytes that the definitions give for a message. The state of
-//! an existing base is what its bytes say. Damaged files are refused. A message of an editor is read field by field.
-//!
-//! Begin with `message` (a message in the files). `fields` makes subfields and the text by `content` (a line),
-//! `fixed` is the fixed header. `crc` and `moment` convert names, ids and dates. `standing` reads an existing
-//! base, `same` finds out whether it has a message, `links` sets replies. `unsent` reads the messages that an editor
-//! wrote, by `subfields`.
+//! JAM bases (JAM-001): messages of a base as headers with subfields, texts and index entries, and the state of an
+//! existing JAM base. A call that succeeds appends just the bytes that the definitions give. Damaged files are
+//! refused. Begin with `message`; `standing` reads an existing base, `unsent` what an editor wrote.
 #![tactic(auto)]
 
 mod content;

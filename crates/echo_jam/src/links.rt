@@ -31,7 +31,6 @@ pub fn link_replies(headers: &mut [u8], index: &[u8], from: usize, count: usize)
     }
 }
 
-// Links the message of an entry to the last one before it that has the id to which it replies.
 fn link_at(headers: &mut [u8], index: &[u8], i: usize)
     requires { 8 * i + 8 ≤ length index.now }
     ensures { headers.new ≡ linked_at headers.old index.now i }
@@ -44,7 +43,6 @@ fn link_at(headers: &mut [u8], index: &[u8], i: usize)
     link_to(headers, index, i, found);
 }
 
-// Links it to the message of an entry before it.
 fn link_to(headers: &mut [u8], index: &[u8], i: usize, found: Option<usize>)
     requires room { 8 * i + 8 ≤ length index.now }
     requires before { IfSome found (λ k. k < i) }
@@ -59,7 +57,6 @@ fn link_to(headers: &mut [u8], index: &[u8], i: usize, found: Option<usize>)
     set_in(headers, index, REPLY_TO_AT, i, number);
 }
 
-// Links the last reply, or else the message that is replied to, to this one.
 fn link_behind(headers: &mut [u8], index: &[u8], i: usize, k: usize, last: Option<usize>)
     requires room { 8 * i + 8 ≤ length index.now }
     requires before { k < i }
@@ -73,7 +70,6 @@ fn link_behind(headers: &mut [u8], index: &[u8], i: usize, k: usize, last: Optio
     }
 }
 
-// The last entry with this number in the field, of `count` entries from one on.
 fn last_with(
     headers: &[u8],
     index: &[u8],
@@ -97,7 +93,6 @@ fn last_with(
     None
 }
 
-// A field of the message of an entry.
 fn field_in(headers: &[u8], index: &[u8], offset: usize, i: usize) -> u32
     requires room { 8 * i + 8 ≤ length index.now }
     requires small { offset ≤ 72 }
@@ -106,7 +101,6 @@ fn field_in(headers: &[u8], index: &[u8], offset: usize, i: usize) -> u32
     field_at(headers, place_in(index, i) as usize + offset)
 }
 
-// The four bytes at a place, 0 past the end of the headers.
 fn field_at(headers: &[u8], at: usize) -> u32
     requires { at < 2 ^ 33 }
     ensures { result ≡ field_at headers.now at }
@@ -118,7 +112,6 @@ fn field_at(headers: &[u8], at: usize) -> u32
     }
 }
 
-// Sets a field of an entry's message, if it is 0.
 fn set_in(headers: &mut [u8], index: &[u8], offset: usize, i: usize, number: u32)
     requires room { 8 * i + 8 ≤ length index.now }
     requires small { offset ≤ 72 }
@@ -127,7 +120,6 @@ fn set_in(headers: &mut [u8], index: &[u8], offset: usize, i: usize, number: u32
     set_at(headers, place_in(index, i) as usize + offset, number);
 }
 
-// Sets the four bytes at a place, where they are 0.
 fn set_at(headers: &mut [u8], at: usize, number: u32)
     requires { at < 2 ^ 33 }
     ensures { headers.new ≡ with_field headers.old at number }
@@ -137,7 +129,6 @@ fn set_at(headers: &mut [u8], at: usize, number: u32)
     }
 }
 
-// Writes a number over the four bytes at a place.
 fn put_long(headers: &mut [u8], at: usize, number: u32)
     requires { at + 4 ≤ length headers.old }
     ensures { headers.new ≡ take at headers.old ++ (long number ++ drop (at + 4) headers.old) }

@@ -5,7 +5,6 @@ ghost use Rattle.echo_filed.specs.Stored.{long};
 use echo_filed::long_bytes;
 use std::alloc::AllocError;
 
-/// Adds a number of four bytes, the low one first.
 pub(crate) fn push_long(bytes: &mut Vec<u8>, number: u32) -> Result<(), AllocError>
     ensures { OnOk result (bytes.new.items ≡ bytes.old.items ++ long number) }
 {
@@ -19,7 +18,6 @@ pub(crate) fn count_of(bytes: &[u8]) -> Result<u32, AllocError>
     u32::try_from(bytes.len()).map_err(|_| AllocError)
 }
 
-/// The place after bytes that begin at this one.
 pub(crate) fn place_behind(start: u32, bytes: &[u8]) -> Result<u32, AllocError>
     ensures { IfOk result (λ place. place ≡ start + length bytes.now) }
 {

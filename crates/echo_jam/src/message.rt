@@ -25,7 +25,6 @@ pub struct Jam {
     pub cuts: u64,
 }
 
-/// The subfields and the text of a message, and how many of its subfields were cut.
 #[derive(Drop)]
 pub(crate) struct Parts {
     pub(crate) fields: Vec<u8>,
@@ -67,7 +66,6 @@ pub fn push_jam(
     push_entry(&mut jam.index, message, entry)
 }
 
-/// The subfields and the text of a message.
 pub(crate) fn parts_of(alloc: Global, message: &Filed) -> Result<Parts, AllocError>
     ensures fields { IfOk result (λ parts. parts.fields.items ≡ fields_of message.now) }
     ensures body { IfOk result (λ parts. parts.body.items ≡ body_of message.now) }
@@ -81,7 +79,6 @@ pub(crate) fn parts_of(alloc: Global, message: &Filed) -> Result<Parts, AllocErr
     Ok(Parts { fields, body, cuts })
 }
 
-/// Adds the header of a message of this number and its subfields. Its text has this place and size.
 pub(crate) fn push_header(
     header: &mut Vec<u8>,
     message: &Filed,
@@ -99,7 +96,6 @@ pub(crate) fn push_header(
     push_bytes(header, fields)
 }
 
-// Adds how a header begins.
 fn push_front(header: &mut Vec<u8>, count: u32) -> Result<(), AllocError>
     ensures { OnOk result (header.new.items ≡ header.old.items ++ header_front count) }
 {
@@ -110,7 +106,6 @@ fn push_front(header: &mut Vec<u8>, count: u32) -> Result<(), AllocError>
     push_long(header, 0)
 }
 
-// Adds the CRCs of ids, and no links.
 fn push_ids(header: &mut Vec<u8>, message: &Filed) -> Result<(), AllocError>
     ensures { OnOk result (header.new.items ≡ header.old.items ++ header_ids message.now) }
 {
@@ -121,7 +116,6 @@ fn push_ids(header: &mut Vec<u8>, message: &Filed) -> Result<(), AllocError>
     push_long(header, 0)
 }
 
-// The CRC of an id, as its subfield has it; all bits set without an id.
 fn id_crc(id: Option<&[u8]>) -> u32
     ensures { result ≡ id_crc (option_copied id.entry) }
 {
@@ -141,7 +135,6 @@ fn jam_attribute(scanned: bool, sender: Option<Address>) -> u32
     }
 }
 
-// Adds the dates, the number, the attribute, and the place of the text.
 fn push_back(
     header: &mut Vec<u8>,
     message: &Filed,
@@ -157,7 +150,6 @@ fn push_back(
     push_place(header, place, size)
 }
 
-// Adds the date when it was written, and that it was neither received nor processed.
 fn push_moments(header: &mut Vec<u8>, written: u32) -> Result<(), AllocError>
     ensures { OnOk result (header.new.items ≡ header.old.items ++ (long written ++ (long 0 ++ long 0))) }
 {
@@ -174,7 +166,6 @@ fn push_number(header: &mut Vec<u8>, number: u32, attribute: u32) -> Result<(), 
     push_long(header, 0)
 }
 
-// Adds the place and size of the text, no password and no cost.
 fn push_place(header: &mut Vec<u8>, place: u32, size: u32) -> Result<(), AllocError>
     ensures { OnOk result (header.new.items ≡ header.old.items ++ (long place ++ (long size ++ (long 4294967295 ++ long 0)))) }
 {

@@ -1,4 +1,3 @@
-//! A DateTime as seconds since the beginning of 1970.
 ghost use Rattle.std.specs.Prelude.{◌≡◌, ◌≤◌, ◌+◌, true};
 ghost use Rattle.echo_jam.specs.Moment as moments;
 ghost use Rattle.echo_jam.specs.Moment.{days_at, days_before, early_month, is_laid_out, is_pair, late_month, month_of, pair, time_of, year_of, day_of};
@@ -14,7 +13,6 @@ pub fn seconds_of(date: &[u8; 20]) -> u32
     }
 }
 
-// Whether the DateTime is laid out as `03 Jul 26  12:34:56`.
 fn is_laid_out(date: &[u8; 20]) -> bool
     ensures { result ≡ is_laid_out date.now }
 {
@@ -23,7 +21,6 @@ fn is_laid_out(date: &[u8; 20]) -> bool
     of_day && of_time
 }
 
-// Whether two digits are there.
 fn is_pair(date: &[u8; 20], i: usize) -> bool
     requires { i ≤ 18 }
     ensures { result ≡ is_pair date.now i }
@@ -31,7 +28,6 @@ fn is_pair(date: &[u8; 20], i: usize) -> bool
     date[i].is_ascii_digit() && date[i + 1].is_ascii_digit()
 }
 
-// The number that they write.
 fn pair(date: &[u8; 20], i: usize) -> u32
     requires place { i ≤ 18 }
     requires digits { is_pair date.now i ≡ true }
@@ -41,7 +37,6 @@ fn pair(date: &[u8; 20], i: usize) -> u32
     u32::from(date[i] - b'0') * 10 + u32::from(date[i + 1] - b'0')
 }
 
-// The seconds of the time of day.
 fn time_of(date: &[u8; 20]) -> u32
     requires { is_laid_out date.now ≡ true }
     ensures value { result ≡ time_of date.now }
@@ -50,7 +45,6 @@ fn time_of(date: &[u8; 20]) -> u32
     pair(date, 11) * 3600 + (pair(date, 14) * 60 + pair(date, 17))
 }
 
-// The day, counted from 0 for the first of 1970.
 fn day_of(date: &[u8; 20]) -> u32
     requires { is_laid_out date.now ≡ true }
     ensures value { result ≡ day_of date.now }
@@ -68,7 +62,6 @@ fn year_of(pair: u32) -> u32
     if pair < 80 { 2000 + pair } else { 1900 + pair }
 }
 
-// The days from the beginning of 1970 to that of the month.
 fn days_at(year: u32, month: u32) -> u32
     requires least { 1980 ≤ year }
     requires most { year ≤ 2079 }

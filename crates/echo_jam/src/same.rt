@@ -1,4 +1,3 @@
-//! Whether a JAM base has a message already.
 ghost use Rattle.std.specs.Prelude.{◌≡◌, ◌==◌, ◌+◌, ◌&&◌, ◌≤◌, IfOk, bytes_eq, length};
 ghost use Rattle.echo_jam.specs.Moment as moments;
 ghost use Rattle.echo_jam.specs.Same.{fields_at, is_same, written_at};
@@ -10,8 +9,7 @@ use crate::standing::long_at;
 use echo_filed::Filed;
 use std::alloc::{AllocError, Global};
 
-/// Whether the header at this place, and this text, are those of the message, except for what readers change:
-/// numbers, attributes and links.
+/// Whether this header and text are those of the message, but for what readers change: numbers, attributes, links.
 pub fn is_same(
     alloc: Global,
     headers: &[u8],
@@ -32,14 +30,12 @@ pub fn is_same(
     Ok(has_parts(fields_at(headers, at), text, &parts))
 }
 
-// Whether these are the subfields and the text.
 fn has_parts(fields: &[u8], text: &[u8], parts: &Parts) -> bool
     ensures { result ≡ (bytes_eq fields.now parts.now.fields.items && bytes_eq text.now parts.now.body.items) }
 {
     fields == parts.fields.as_slice() && text == parts.body.as_slice()
 }
 
-// Whether the header there has the date of the message.
 fn is_written_then(headers: &[u8], at: usize, message: &Filed) -> bool
     requires { at + 76 ≤ length headers.now }
     ensures { result ≡ (written_at headers.now at == moments.seconds_of message.now.date) }
@@ -47,7 +43,6 @@ fn is_written_then(headers: &[u8], at: usize, message: &Filed) -> bool
     long_at(headers, at + 36) == seconds_of(&message.date)
 }
 
-/// The subfields of the header there.
 pub(crate) fn fields_at(headers: &[u8], at: usize) -> &[u8]
     requires { at + 76 ≤ length headers.now }
     ensures { result.now ≡ fields_at headers.now at }

@@ -1,4 +1,3 @@
-//! The state of the files of a JAM base.
 ghost use Rattle.std.specs.Prelude.{◌≡◌, ◌+◌, ◌*◌, ◌/◌, ◌≤◌, ◌<◌, ◌^◌, IsTrue, length};
 ghost use Rattle.echo_filed.specs.Stored as numbers;
 ghost use Rattle.echo_packet.specs.Header as words;
@@ -12,9 +11,8 @@ pub struct Last {
     pub size: u32,
 }
 
-/// The state of a JAM base: the number of index entries without those of zeros at the end, the number of the
-/// next message, and the count of changes. Then the number of active messages as stated and as counted, and the
-/// last message, unless it is gone.
+/// The state of a JAM base: index entries without those of zeros at the end, the next number, the count of changes,
+/// the active messages as stated and as counted, and the last message, unless it is gone.
 #[derive(Clone, Copy, Debug, PartialEq, Eq)]
 pub struct Standing {
     pub entries: u32,
@@ -25,8 +23,7 @@ pub struct Standing {
     pub last: Option<Last>,
 }
 
-/// The state of the base of these headers and this index, with this many bytes of texts. None if they are
-/// damaged, or no JAM base.
+/// The state of the base, with so many bytes of texts. None if the files are damaged, or no JAM base.
 pub fn standing_in(headers: &[u8], index: &[u8], texts: u64) -> Option<Standing>
     ensures { result ≡ standing_in headers.now index.now texts }
 {
@@ -44,7 +41,6 @@ pub fn standing_in(headers: &[u8], index: &[u8], texts: u64) -> Option<Standing>
     })
 }
 
-// Whether these are the headers and the index of a base.
 fn is_base(headers: &[u8], index: &[u8], texts: u64) -> bool
     ensures value { result ≡ is_base headers.now index.now texts }
     ensures room { IsTrue result → 1024 ≤ length headers.now }
@@ -57,7 +53,6 @@ fn is_base(headers: &[u8], index: &[u8], texts: u64) -> bool
     next < 1 << 32 && are_entries(headers, index, texts) && is_counted(headers, index)
 }
 
-// Whether the count of active messages includes no entry of zeros at the end of the index.
 fn is_counted(headers: &[u8], index: &[u8]) -> bool
     requires room { 1024 ≤ length headers.now }
     requires small { entries_in index.now < 2 ^ 32 }
@@ -66,7 +61,6 @@ fn is_counted(headers: &[u8], index: &[u8]) -> bool
     entries_in(index) == index.len() / 8 || long_at(headers, 12) <= active_in(headers, index)
 }
 
-/// The number of index entries, without those of zeros at its end.
 pub(crate) fn entries_in(index: &[u8]) -> usize
     ensures value { result ≡ entries_in index.now }
     ensures within { result ≤ length index.now / 8 }
@@ -78,7 +72,6 @@ pub(crate) fn entries_in(index: &[u8]) -> usize
     entries
 }
 
-// The number of entries up to index `i`, without those of zeros at their end.
 fn written_behind(index: &[u8], before: usize, i: usize) -> usize
     requires room { 8 * i + 8 ≤ length index.now }
     requires few { before ≤ i }
@@ -99,7 +92,6 @@ fn is_unwritten(index: &[u8], i: usize) -> bool
     long_at(index, 8 * i) == 0 && place_in(index, i) == 0
 }
 
-/// The number of two bytes at a place.
 pub(crate) fn number_at(bytes: &[u8], at: usize) -> u32
     requires { at + 2 ≤ length bytes.now }
     ensures value { result ≡ words.number_at at bytes.now }
@@ -108,7 +100,6 @@ pub(crate) fn number_at(bytes: &[u8], at: usize) -> u32
     u32::from(bytes[at]) + 256 * u32::from(bytes[at + 1])
 }
 
-/// That of four.
 pub(crate) fn long_at(bytes: &[u8], at: usize) -> u32
     requires { at + 4 ≤ length bytes.now }
     ensures { result ≡ numbers.long_at at bytes.now }
@@ -136,7 +127,6 @@ fn is_header(headers: &[u8], texts: u64, place: u32) -> bool
         && has_text(headers, texts, at)
 }
 
-// The end of the subfields of the header.
 fn fields_end(headers: &[u8], at: usize) -> usize
     requires room { at + 76 ≤ length headers.now }
     requires small { at < 2 ^ 32 }
@@ -145,7 +135,6 @@ fn fields_end(headers: &[u8], at: usize) -> usize
     at + 76 + long_at(headers, at + 8) as usize
 }
 
-// Whether its text lies within the texts, or the message is deleted.
 fn has_text(headers: &[u8], texts: u64, at: usize) -> bool
     requires room { at + 76 ≤ length headers.now }
     requires small { at < 2 ^ 32 }
@@ -182,14 +171,12 @@ fn are_entries(headers: &[u8], index: &[u8], texts: u64) -> bool
     whole
 }
 
-// Whether the message is gone or has its header.
 fn is_entry(headers: &[u8], texts: u64, place: u32) -> bool
     ensures { result ≡ is_entry headers.now texts place }
 {
     place == u32::MAX || is_header(headers, texts, place)
 }
 
-// How many messages are neither gone nor deleted.
 fn active_in(headers: &[u8], index: &[u8]) -> u32
     requires { entries_in index.now < 2 ^ 32 }
     ensures { result ≡ active_in headers.now index.now (entries_in index.now) }
@@ -201,7 +188,6 @@ fn active_in(headers: &[u8], index: &[u8]) -> u32
     count
 }
 
-// 1 for a message that is neither.
 fn active_at(headers: &[u8], place: u32) -> u32
     ensures value { result ≡ active_at headers.now place }
     ensures small { result ≤ 1 }
@@ -213,7 +199,6 @@ fn active_at(headers: &[u8], place: u32) -> u32
     }
 }
 
-// The last message.
 fn last_in(headers: &[u8], index: &[u8], texts: u64) -> Option<Last>
     ensures { result ≡ last_in headers.now index.now texts }
 {

@@ -32,7 +32,6 @@ fn first_field(fields: &[u8], kind: u32) -> Option<&[u8]>
     None
 }
 
-/// The control lines that the subfields hold. Each ends in 0D.
 pub(crate) fn controls_of(alloc: Global, fields: &[u8]) -> Result<Vec<u8>, AllocError>
     ensures { IfOk result (λ lines. lines.items ≡ controls_of fields.now) }
 {
@@ -47,7 +46,6 @@ pub(crate) fn controls_of(alloc: Global, fields: &[u8]) -> Result<Vec<u8>, Alloc
     Ok(lines)
 }
 
-// Adds the control line of a subfield, if it holds one.
 fn push_control(lines: &mut Vec<u8>, kind: u32, content: &[u8]) -> Result<(), AllocError>
     ensures { OnOk result (lines.new.items ≡ lines.old.items ++ control_line kind content.now) }
 {
@@ -62,7 +60,6 @@ fn push_control(lines: &mut Vec<u8>, kind: u32, content: &[u8]) -> Result<(), Al
     }
 }
 
-// Adds a line that begins so.
 fn push_begun(lines: &mut Vec<u8>, begin: &[u8], content: &[u8]) -> Result<(), AllocError>
     ensures { OnOk result (lines.new.items ≡ lines.old.items ++ subfields.begun begin.now content.now) }
 {

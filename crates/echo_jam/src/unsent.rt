@@ -15,8 +15,8 @@ use std::alloc::{AllocError, Global};
 /// The offset in a header of the byte with the bits Local and Sent.
 pub const ATTRIBUTE_AT: usize = 52;
 
-/// The parts that an editor wrote: names, subject, ids and the lines of the text. The ids are those of the message replied
-/// to and of the message; an id may be empty. Lines that posting makes or a scan adds are left out. Each line ends in 0D.
+/// The parts that an editor wrote: names, subject, the id of the message replied to and its own (each may be empty),
+/// and lines that end in 0D. Lines that posting makes or a scan adds are left out.
 #[derive(Debug, Drop)]
 pub struct JamDraft<'a> {
     pub from_name: &'a [u8],
@@ -27,8 +27,7 @@ pub struct JamDraft<'a> {
     pub body: Items<u8>,
 }
 
-/// The message of an index entry, if it was written here, not sent yet and not deleted. The file of texts has so many
-/// bytes.
+/// The message of an index entry, if it was written here, not sent yet and not deleted. `texts` is in bytes.
 pub fn unsent_at(headers: &[u8], index: &[u8], texts: u64, i: usize) -> Option<Last>
     ensures { result ≡ unsent.unsent_at headers.now index.now texts i }
 {

@@ -10,7 +10,6 @@ use Rattle.echo_addr.specs.declared.address.Address.{Address}
 use Rattle.echo_links.specs.{Links.Area, Links.same_address, Found.HaveTheSame, Found.IsNumberOf, Found.LeadToAreas, Found.address_order}
 use Rattle.echo_links.proofs.{Addresses.same_address_decides, Addresses.same_is, LinkLoops.any_last}
 
--- a test of two texts, turned
 pub bytes_turned : (s t : List ℕ) → bytes_eq s t ≡ bytes_eq t s
 bytes_turned s t = by (cases_Bool (bytes_eq s t)) (cases_Bool (bytes_eq t s))
   where
@@ -20,7 +19,6 @@ bytes_turned s t = by (cases_Bool (bytes_eq s t)) (cases_Bool (bytes_eq t s))
     by (inr h) (inl g) = absurd (true≢false (sym ((bytes_decides s t).1 (sym ((bytes_decides t s).0 g))) ∙ h))
     by (inr h) (inr g) = h ∙ sym g
 
--- a test of two addresses, turned
 address_turned : (a b : Address) → same_address a b ≡ same_address b a
 address_turned a b = grind (arith, cases_Bool, true≢false, same_address_decides)
 
@@ -28,32 +26,26 @@ either : (b c : Bool) → cond b true c ≡ (b || c)
 either true c = refl
 either false c = refl
 
--- one more address on both sides
 pub link_found : (sorted more links : List Address) (a : Address)
     → ((b : Address) → list_any (λ k. is_eq (address_order b k)) more ≡ cond (is_eq (address_order a b)) true (list_any (λ k. is_eq (address_order b k)) sorted))
     → HaveTheSame sorted links → HaveTheSame more (links ++ a ∷ [])
 link_found sorted more links a updates same b = grind (arith, same_is, address_turned, either, any_last)
 
--- whether an area has the tag
 abbrev has_tag : List ℕ → Area → Bool
 has_tag tag area = bytes_eq area.tag tag
 
--- a number is found exactly if there is such an area
 number_is : (areas : List Area) (tag : List ℕ) (found : Option ℕ) → IsNumberOf areas tag found → is_some found ≡ is_some (find (has_tag tag) areas)
 number_is areas tag None is = sym (ap is_some is)
 number_is [] tag (Some i) is = absurd (omega (arith, is.0))
 number_is (area ∷ areas) tag (Some i) is = sym (ap is_some (is.1 ∙ slice_get-get_or (area ∷ areas) i area is.0))
 
--- two equal keys: the new value replaces the old one
 tied : {X : Type 0} (b c : Bool) (x y z : Option X) → c ≡ b → cond c x z ≡ cond b x (cond c y z)
 tied b c x y z h1 = grind (arith, true≢false)
 
--- two keys of which one at most passes
 apart : {X : Type 0} (b c : Bool) (x y z : Option X) → (b ≡ true → c ≡ true → ⊥) → cond c y (cond b x z) ≡ cond b x (cond c y z)
 apart b c x y z h1 = grind arith
 
 module _ {K : Type 0} (tag_of : K → List ℕ) where
-  -- whether a key is the tag
   abbrev is_key : List ℕ → K → Bool
   is_key tag k = is_eq (slice_cmp nat_cmp tag (tag_of k))
 
@@ -61,23 +53,18 @@ module _ {K : Type 0} (tag_of : K → List ℕ) where
   is_key_exact tag k h = (bytes_decides tag (tag_of k)).0 (sym (is_eq-slice_cmp tag (tag_of k)) ∙ h)
 
   module _ (es : List (K × ℕ)) (areas : List Area) (leads : LeadToAreas tag_of es areas) (tag : List ℕ) where
-    -- whether an area has the tag
     pub area_found : is_some (lookup (is_key tag) es) ≡ is_some (find (has_tag tag) areas)
     area_found = number_is areas tag (lookup (is_key tag) es) (leads tag)
 
-    -- no area has the tag
     pub no_area : lookup (is_key tag) es ≡ None → find (has_tag tag) areas ≡ None
     no_area e = subst (IsNumberOf areas tag) e (leads tag)
 
-    -- the area of this number has it
     pub area_at : (i : ℕ) → lookup (is_key tag) es ≡ Some i → find (has_tag tag) areas ≡ slice_get areas i
     area_at i e = (subst (IsNumberOf areas tag) e (leads tag)).1
 
-  -- keys in the order of their tags
   abbrev pub tag_order : K → K → Ordering
   tag_order x y = slice_cmp nat_cmp (tag_of x) (tag_of y)
 
-  -- a look-up after an entry was put in
   pub lookup_inserted : {X : Type 0} (tag : List ℕ) (es : List (K × X)) (k : K) (v : X)
       → lookup (is_key tag) (insert_entry tag_order es k v) ≡ cond (is_key tag k) (Some v) (lookup (is_key tag) es)
   lookup_inserted tag [] k v = refl
@@ -99,7 +86,6 @@ module _ {K : Type 0} (tag_of : K → List ℕ) where
           ∙ apart (is_key tag k) (is_key tag e.0) (Some v) (Some e.1) (lookup (is_key tag) es)
           (λ h g. true≢false (sym (both h g) ∙ ap is_eq is))
 
-  -- an area with a new tag becomes the last one
   pub area_added : (es : List (K × ℕ)) (areas : List Area) (k : K) (a : Area) → a.tag ≡ tag_of k
       → find (λ area. bytes_eq area.tag (tag_of k)) areas ≡ None → LeadToAreas tag_of es areas
       → LeadToAreas tag_of (insert_entry tag_order es k (length areas)) (areas ++ a ∷ [])

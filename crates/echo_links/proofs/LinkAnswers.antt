@@ -6,7 +6,6 @@ use Rattle.echo_links.specs.LinkLines.{LinksOf, after_first_of, area_fault, file
 use Rattle.echo_links.specs.{declared.fault.LinkFault.LinkFault, Links.LinkFile, Links.same_address}
 use Rattle.echo_links.specs.declared.fault.LinkFault.TheVariants as fault
 
--- the answer for bytes with this fault, or without one
 abbrev answer_with : List ℕ → Option LinkFault → Result LinkFile LinkFault
 answer_with bytes None = Ok (file_of bytes)
 answer_with bytes (Some refused) = Err refused
@@ -27,7 +26,6 @@ unfolding link_answer
 link_only bytes (Ok file) h = ap (λ (f : LinkFile). Ok f) h.1 ∙ ap (answer_with bytes) (sym h.0)
 link_only bytes (Err refused) h = ap (answer_with bytes) (sym h)
 
--- a fault of the lines, or none
 abbrev IsOfLines : Option LinkFault → Type 0
 IsOfLines (Some fault.Memory) = ⊥
 IsOfLines _ = ⊤
@@ -66,7 +64,6 @@ all_lines earlier number [] = tt
 all_lines earlier number (line ∷ later) =
     first_or (line_fault earlier number line) (first_fault (line ∷ earlier) (number + 1) later) (each_line earlier number line) (all_lines (line ∷ earlier) (number + 1) later)
 
--- out of memory is no fault of the bytes
 pub no_memory_fault : (bytes : List ℕ) → LinksOf bytes (Err fault.Memory) → ⊥
 unfolding file_fault
 no_memory_fault bytes h = grind (arith, first_or, all_lines, either_way)

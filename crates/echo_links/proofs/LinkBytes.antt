@@ -12,7 +12,6 @@ use Rattle.echo_text.specs.Lines.{is_feed, trimmed}
 use Rattle.echo_links.specs.LinkLines.{ended_pieces, file_lines, first_of, is_control_byte, is_skipped, is_space_or_tab, name_in, without_return, without_spaces, words}
 use Rattle.echo_links.specs.LinkReading.{IsWordOf}
 
--- the address of a word, as it was read
 pub word_read : (word : List ℕ) (r : Result Address AddrFault) → ((a : Address) → r ≡ Ok a → AddressOf word a)
     → ((f : AddrFault) → r ≡ Err f → refusal word ≡ Some f) → IsWordOf word (result_ok r)
 word_read word (Ok a) ok err =
@@ -28,13 +27,11 @@ word_read word (Err f) ok err =
 ended_first : (piece : List ℕ) (pieces : List (List ℕ)) → HasFirst pieces → ended_pieces (piece ∷ pieces) ≡ without_return piece ∷ ended_pieces pieces
 ended_first piece pieces h = ap (λ ps. ended_pieces (piece ∷ ps)) h.is ∙ ap (λ ps. without_return piece ∷ ended_pieces ps) (sym h.is)
 
--- the first line, if it has an end, and the later lines
 pub line_ended : (bytes line rest : List ℕ) (end : ℕ) → IsFirstByte (is_byte 10) bytes (Some end) → line ≡ without_return (take end bytes)
     → rest ≡ drop (end + 1) bytes → file_lines bytes ≡ line ∷ file_lines rest
 unfolding file_lines
 line_ended bytes line rest end found line-is rest-is = grind (arith, position_or_len_is, false_from_ne_true, get_or, slice_split_first, ended_first, first_of_split)
 
--- a last line without an end
 pub line_unended : (bytes rest : List ℕ) → 0 < length bytes → IsFirstByte (is_byte 10) bytes None → rest ≡ [] → file_lines bytes ≡ bytes ∷ file_lines rest
 unfolding file_lines
 line_unended bytes rest some none nothing =
@@ -106,12 +103,10 @@ pub tokens_words : (line : List ℕ) → NoFeed line → words line ≡ tokens l
 unfolding words tokens
 tokens_words line h = ap (filter (λ w. nat_lt 0 (length w))) (sym (split_same line h))
 
--- both ways of trimming agree
 trimmed_same : (bytes : List ℕ) → NoFeed bytes → trimmed bytes ≡ without_spaces bytes
 unfolding trimmed
 trimmed_same bytes h = grind (arith, front_same, no_feed_reverse, no_feed_drop)
 
--- the name of a NAME line
 pub name_trimmed : (line word rest : List ℕ) → NoFeed line → word ≡ codes "NAME" → rest ≡ drop (length word) (drop (position_or_len (λ b. not (is_blank b)) line) line)
     → trimmed rest ≡ name_in line
 name_trimmed line word rest h word-is rest-is = grind (arith, first_other, trimmed_same, no_feed_drop)
@@ -143,6 +138,5 @@ note_word (b ∷ line) h =
           ∙ ap first_of (cond-true (nat_lt 0 (length (59 ∷ first.first))) ((59 ∷ first.first) ∷ filter (λ w. nat_lt 0 (length w)) first.more) _ (lt-ltb 0 (length (59 ∷ first.first)) some)),
     )
 
--- the first word of a skipped line is neither SYSTEM nor NAME nor AREA
 pub skipped_word : (line : List ℕ) (b : ℕ) (word : List ℕ) → (59 == b) ≡ false → is_skipped line ≡ true → bytes_eq (first_of (words line)) (b ∷ word) ≡ false
 skipped_word line b word other h = grind (arith, cases_Bool, blank_words, nat_eq, note_word)

@@ -13,7 +13,6 @@ use Rattle.echo_links.specs.Links.{Area, IsArea, IsFile, same_address}
 use Rattle.echo_links.proofs.Plain.{IsLineByte, Plain, plain_drop, plain_if, plain_line, plain_take}
 use Rattle.echo_links.proofs.Addresses.{same_address_decides}
 
--- addresses that were read are in range
 ok_refusal : (o : Option AddrFault) (a : Address) → is_ok (answer_of o a) ≡ true → o ≡ None
 ok_refusal None a h = refl
 ok_refusal (Some f) a h = absurd (true≢false (sym h))
@@ -31,7 +30,6 @@ link_read word h = (AddressOf-from_refusal word (no_err_refusal (refusal word) (
 one_address : (words : List (List ℕ)) → is_one_address words ≡ true → IsAddress (address_in (first_of words))
 one_address words h1 = grind (arith, true≢false, address_read)
 
--- a chain of refusals that do not apply
 pub passed : {F : Type 0} (b : Bool) (f : F) (rest : Option F) → cond b (Some f) rest ≡ None → (b ≡ false) × (rest ≡ None)
 passed true f rest h = absurd (cc)
 passed false f rest h = (refl, h)
@@ -46,7 +44,6 @@ either_none : {F : Type 0} (a b : Option F) → option_or a b ≡ None → (a �
 either_none None b h = (refl, h)
 either_none (Some f) b h = absurd (cc)
 
--- the links of a line: each in range, and different from the earlier ones
 links_read : (number : ℕ) (before words : List (List ℕ)) → links_fault number before words ≡ None → AllByRecursion IsAddress (map address_in words)
 links_read number before [] h = tt
 links_read number before (word ∷ more) h =
@@ -54,14 +51,12 @@ links_read number before (word ∷ more) h =
     let p2 = passed (list_any (same_address (address_in word)) (map address_in before)) (fault.RepeatedLink number) (links_fault number (word ∷ before) more) p1.1 in
     (link_read word p1.0, links_read number (word ∷ before) more p2.1)
 
--- an address is not among some
 not_among : (a : Address) (all : List Address) → list_any (same_address a) all ≡ false → AllByRecursion (λ b. a ≢ b) all
 not_among a [] h = tt
 not_among a (b ∷ all) h =
     let parts = or_parts (same_address a b) (list_any (same_address a) all) h in
     (λ e. true≢false (sym ((same_address_decides a b).1 e) ∙ parts.0), not_among a all parts.1)
 
--- each link differs from the earlier ones
 links_apart : (number : ℕ) (before words : List (List ℕ)) → links_fault number before words ≡ None
     → AllByRecursion (λ b. AllByRecursion (λ a. b ≢ a) (map address_in before)) (map address_in words)
 links_apart number before [] h = tt
@@ -89,7 +84,6 @@ links_once number before (word ∷ more) h =
     firsts [] k = tt
     firsts (b ∷ all) k = (λ e. k.0.0 (sym e), firsts all k.1)
 
--- the bytes of a line without control bytes
 line_plain : (line : List ℕ) → list_any is_control_byte line ≡ false → Plain line
 line_plain [] h = tt
 line_plain (b ∷ line) h =
@@ -105,13 +99,11 @@ line_plain (b ∷ line) h =
 name_plain : (line : List ℕ) → Plain line → Plain (name_in line)
 name_plain line h = grind (arith, plain_drop, plain_take)
 
--- a line has only one kind
 pub other_word : (w one other : List ℕ) → bytes_eq one other ≡ false → bytes_eq w one ≡ true → bytes_eq w other ≡ false
 other_word w one other apart h =
     let P : List ℕ → Type 0 = λ x. bytes_eq x other ≡ false in
     subst P (sym ((bytes_decides w one).0 h)) apart
 
--- no refusal applies to a line
 record IsFine (earlier : List (List ℕ)) (number : ℕ) (line : List ℕ) : Type 0 where
   plain : Plain line
   system : is_system_line line ≡ true → is_one_address (after_first_of (words line)) ≡ true
@@ -143,7 +135,6 @@ fine earlier number line read h =
           taken (is_area_line line) (area_fault earlier number line) (Some (fault.UnknownWord number)) is rest';
     }
 
--- the tags of some lines
 abbrev tags_of : List (List ℕ) → List (List ℕ)
 tags_of lines = map tag_in (filter is_area_line lines)
 
@@ -151,14 +142,12 @@ area_fine : (earlier : List (List ℕ)) (number : ℕ) (line : List ℕ) → are
     → IsArea (area_in line) × (list_any (bytes_eq (tag_in line)) (tags_of earlier) ≡ false)
 area_fine earlier number line h = grind (arith, passed, not-false, links_read, links_once)
 
--- the lines that are read, of some lines
 abbrev kept_lines : List (List ℕ) → List (List ℕ)
 kept_lines lines = filter (λ line. not (is_skipped line)) lines
 
 abbrev areas_of : List (List ℕ) → List Area
 areas_of kept = map area_in (filter is_area_line kept)
 
--- facts about the lines that a reader keeps, after the earlier lines
 record AreFine (earlier kept : List (List ℕ)) : Type 0 where
   system : (line : List ℕ) → find is_system_line kept ≡ Some line → IsAddress (system_in line)
   name : (line : List ℕ) → find is_name_line kept ≡ Some line → Plain (name_in line) × (length (name_in line) ≤ 40)
@@ -166,7 +155,6 @@ record AreFine (earlier kept : List (List ℕ)) : Type 0 where
   new : AllByRecursion (λ (b : Area). list_any (bytes_eq b.tag) (tags_of earlier) ≡ false) (areas_of kept)
   once : AllPairs (λ (a b : Area). a.tag ≢ b.tag) (areas_of kept)
 
--- a tag that is new after a line is new before it
 new_before : (line : List ℕ) (earlier : List (List ℕ)) (all : List Area)
     → AllByRecursion (λ (b : Area). list_any (bytes_eq b.tag) (tags_of (line ∷ earlier)) ≡ false) all
     → AllByRecursion (λ (b : Area). list_any (bytes_eq b.tag) (tags_of earlier) ≡ false) all
@@ -183,7 +171,6 @@ new_before line earlier (b ∷ all) h = (one (cases_Bool (is_area_line line)), n
         ap (map tag_in) (cond-false (is_area_line line) (line ∷ filter is_area_line earlier) (filter is_area_line earlier) isnt) in
         sym (ap (list_any (bytes_eq b.tag)) same) ∙ h.0
 
--- and it is not the tag of that line
 new_other : (line : List ℕ) (earlier : List (List ℕ)) → is_area_line line ≡ true → (all : List Area)
     → AllByRecursion (λ (b : Area). list_any (bytes_eq b.tag) (tags_of (line ∷ earlier)) ≡ false) all
     → AllByRecursion (λ (b : Area). tag_in line ≢ b.tag) all
@@ -197,7 +184,6 @@ new_other line earlier is (b ∷ all) h =
 no_lines : (earlier : List (List ℕ)) → AreFine earlier []
 no_lines earlier = grind arith
 
--- a line that is not read
 line_skipped : (earlier : List (List ℕ)) (line : List ℕ) (kept : List (List ℕ)) → AreFine (line ∷ earlier) kept → AreFine earlier kept
 line_skipped earlier line kept h = record {
   system = h.system;
@@ -207,12 +193,10 @@ line_skipped earlier line kept h = record {
   once = h.once;
 }
 
--- the first line that passes
 found_first : (p : List ℕ → Bool) (P : List ℕ → Type 0) (line : List ℕ) (kept : List (List ℕ)) → (p line ≡ true → P line)
     → ((found : List ℕ) → find p kept ≡ Some found → P found) → (found : List ℕ) → find p (line ∷ kept) ≡ Some found → P found
 found_first p P line kept one more found h = grind (arith, cases_Bool, cond-true, cond-false)
 
--- a line that is read
 line_read : (earlier : List (List ℕ)) (number : ℕ) (line : List ℕ) (kept : List (List ℕ)) → IsFine earlier number line → AreFine (line ∷ earlier) kept → AreFine earlier (line ∷ kept)
 line_read earlier number line kept f h =
     record {
@@ -267,7 +251,6 @@ all_fine earlier number (line ∷ later) h =
           (line_read earlier number line (kept_lines later) (fine earlier number line read none.0) rec)
     ]
 
--- one of some lines passes, so one is found
 pub some_found : (p : List ℕ → Bool) (lines : List (List ℕ)) → list_any p lines ≡ true → (line : List ℕ) × (find p lines ≡ Some line)
 some_found p [] h = absurd (true≢false (sym h))
 some_found p (line ∷ later) h = elim (cases_Bool (p line)) [
@@ -282,7 +265,6 @@ name_right : (o : Option (List ℕ)) → ((line : List ℕ) → o ≡ Some line 
 name_right None h = (plain_if (codes "echonet") refl, lit≤ tt)
 name_right (Some line) h = h line refl
 
--- a link file without a fault follows the rules of one
 pub file_is_file : (bytes : List ℕ) → file_fault bytes ≡ None → IsFile (file_of bytes)
 unfolding file_fault file_of
 file_is_file bytes h = grind (arith, either_none, all_fine, cases_Bool, left, some_found, name_right, plain_line)

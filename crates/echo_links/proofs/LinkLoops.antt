@@ -6,7 +6,6 @@ use Rattle.echo_addr.specs.{declared.address.Address.Address, Address.address_in
 use Rattle.echo_links.specs.declared.fault.LinkFault.TheVariants as fault
 use Rattle.echo_links.specs.{Links.same_address, LinkLines.links_fault, LinkReading.IsWordOf}
 
--- these links were read of the words, and these words are left
 pub record LinksRead (number : ℕ) (all later : List (List ℕ)) (links : List Address) : Type 0 where
   pub before : List (List ℕ)
   pub faults : links_fault number [] all ≡ links_fault number before later
@@ -24,22 +23,18 @@ any_last a b (c ∷ links) = ap (λ t. same_address a c || t) (any_last a b link
     turned false false z = refl
 
 module _ (number : ℕ) (all : List (List ℕ)) (word : List ℕ) (more : List (List ℕ)) (links : List Address) where
-  -- one more link
   pub links_more : (later : List (List ℕ)) (a : Address) → LinksRead number all later links → later ≡ word ∷ more → IsWordOf word (Some a)
       → list_any (same_address a) links ≡ false → LinksRead number all more (links ++ a ∷ [])
   links_more later a h next is new = grind (arith, cond-false, append_assoc, any_last)
 
-  -- a word that is no address
   pub links_bad : (later : List (List ℕ)) → LinksRead number all later links → later ≡ word ∷ more → IsWordOf word None
       → links_fault number [] all ≡ Some (fault.BadAddress number)
   links_bad later h next is = h.faults ∙ ap (links_fault number h.before) next ∙ cond-true (is_err (outcome word)) (Some (fault.BadAddress number)) _ is.1
 
-  -- an address that is a link already
   pub links_again : (later : List (List ℕ)) (a : Address) → LinksRead number all later links → later ≡ word ∷ more → IsWordOf word (Some a)
       → list_any (same_address a) links ≡ true → links_fault number [] all ≡ Some (fault.RepeatedLink number)
   links_again later a h next is old = grind (arith, cond-false, cond-true)
 
--- no words are left
 pub links_done : (number : ℕ) (all later : List (List ℕ)) (links : List Address) → LinksRead number all later links → later ≡ []
     → (links_fault number [] all ≡ None) × (links ≡ map address_in all)
 links_done number all later links h none = grind (arith, append-nil)

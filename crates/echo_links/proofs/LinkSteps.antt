@@ -19,7 +19,6 @@ or_assoc (Some x) b c = refl
 some_or : {X : Type 0} (a b : Option X) → is_some (option_or a b) ≡ (is_some b || is_some a)
 some_or a b = grind arith
 
--- the first match is in this line, or else in the later ones
 found_next : {X : Type 0} (say : List ℕ → X) (p : List ℕ → Bool) (skipped : Bool) (line : List ℕ) (later : List (List ℕ))
     → option_map say (find p (cond (not skipped) (line ∷ later) later))
     ≡ option_or (option_map say (find p (cond (not skipped) (line ∷ []) []))) (option_map say (find p later))
@@ -45,7 +44,6 @@ module _ (line : List ℕ) (later : List (List ℕ)) where
 
 -- ---- the content of the earlier lines
 
--- the kind of a line determines its content
 module _ (line : List ℕ) where
   unread : is_skipped line ≡ true → (system_of (line ∷ []) ≡ None) × (name_of (line ∷ []) ≡ None) × (areas_of (line ∷ []) ≡ [])
   unfolding system_of name_of areas_of
@@ -93,7 +91,6 @@ knows_more earlier line old new knows adds = grind (arith, says_system, some_or,
 
 -- ---- all lines
 
--- the reader has read `number` lines, and `rest` has the remaining bytes
 pub record LinesRead (bytes : List ℕ) (number : ℕ) (rest : List ℕ) (r : Reading) : Type 0 where
   pub earlier : List (List ℕ)
   pub knows : Knows earlier r
@@ -104,7 +101,6 @@ pub record LinesRead (bytes : List ℕ) (number : ℕ) (rest : List ℕ) (r : Re
 
 module _ (bytes : List ℕ) (number : ℕ) (rest line after : List ℕ) (old : Reading) (h : LinesRead bytes number rest old)
     (next : file_lines rest ≡ line ∷ file_lines after) where
-  -- a line that adds something
   pub lines_more : (new : Reading) → (line_fault h.earlier (number + 1) line ≡ None) × Adds (line ∷ []) old new → LinesRead bytes (number + 1) after new
   lines_more new takes = record {
     earlier = line ∷ h.earlier;
@@ -122,12 +118,10 @@ module _ (bytes : List ℕ) (number : ℕ) (rest line after : List ℕ) (old : R
         ∙ ap (λ all. all ++ areas_of (file_lines after)) (sym takes.1.areas);
   }
 
-  -- the first faulty line
   pub lines_bad : (refused : LinkFault) → (refused ≡ fault.Memory) ⊎ (line_fault h.earlier (number + 1) line ≡ Some refused)
       → (refused ≡ fault.Memory) ⊎ (first_fault [] 1 (file_lines bytes) ≡ Some refused)
   lines_bad refused h1 = grind arith
 
--- the reader has read all lines
 pub lines_done : (bytes : List ℕ) (number : ℕ) (rest : List ℕ) (r : Reading) → LinesRead bytes number rest r → rest ≡ []
     → (first_fault [] 1 (file_lines bytes) ≡ None) × Holds (file_lines bytes) r
 unfolding system_of name_of areas_of
@@ -163,7 +157,6 @@ module _ (bytes : List ℕ) where
     pub file_homeless : r.system ≡ None → file_fault bytes ≡ Some (fault.NoSystem 0)
     file_homeless none = of_system false (ap is_some none)
 
-    -- the name of the NAME line, or else the default name
     pub file_said : (own : Address) (name : List ℕ) → r.system ≡ Some own → name ≡ unwrap_or r.name (codes "echonet")
         → (file_fault bytes ≡ None) × (record { system = own; name = name; areas = r.areas } ≡ file_of bytes)
     unfolding file_of system_of name_of areas_of

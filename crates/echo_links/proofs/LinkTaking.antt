@@ -61,7 +61,6 @@ unfolding line_fault
 control_refused earlier number line h control = cond-false (is_skipped line) None _ h ∙ cond-true (list_any is_control_byte line) _ _ control
 
 module _ (earlier : List (List ℕ)) (number : ℕ) (line : List ℕ) (h : is_skipped line ≡ false) (plain : list_any is_control_byte line ≡ false) where
-  -- of any other line the first word decides
   of_kind : line_fault earlier number line ≡
       cond (is_system_line line) (system_fault earlier number line)
       (cond (is_name_line line) (name_fault earlier number line)
@@ -83,13 +82,11 @@ module _ (earlier : List (List ℕ)) (number : ℕ) (line : List ℕ) (h : is_sk
       → line_fault earlier number line ≡ Some (fault.UnknownWord number)
   of_none not_system none never = grind (arith, of_kind, cond-false)
 
-  -- a line without a word
   pub wordless_refused : tokens line ≡ [] → line_fault earlier number line ≡ Some (fault.UnknownWord number)
   wordless_refused none = grind (arith, tokens_words, no_feed, of_none)
 
 -- ---- lines with a first word
 
--- a line that is not skipped, its first word, and the bytes after it
 pub record IsCut (line word rest : List ℕ) : Type 0 where
   pub read : is_skipped line ≡ false
   pub plain : list_any is_control_byte line ≡ false
@@ -106,14 +103,12 @@ module _ (line word rest : List ℕ) (cut : IsCut line word rest) where
   left_is : after_first_of (words line) ≡ tokens rest
   left_is = ap after_first_of both
 
-  -- a line with another first word
   pub unknown_refused : (earlier : List (List ℕ)) (number : ℕ) → bytes_eq word (codes "SYSTEM") ≡ false → bytes_eq word (codes "NAME") ≡ false
       → bytes_eq word (codes "AREA") ≡ false → line_fault earlier number line ≡ Some (fault.UnknownWord number)
   unknown_refused earlier number s n a =
       of_none earlier number line cut.read cut.plain (kind_is (codes "SYSTEM") false s) (kind_is (codes "NAME") false n) (kind_is (codes "AREA") false a)
 
   module _ (earlier : List (List ℕ)) (number : ℕ) (old new : Reading) (knows : Knows earlier old) where
-    -- a SYSTEM line
     module _ (is : bytes_eq word (codes "SYSTEM") ≡ true) where
       system_judged : line_fault earlier number line ≡ system_refusal (is_some old.system) number (tokens rest)
       system_judged = grind (arith, of_system, kind_is, left_is)
@@ -141,7 +136,6 @@ module _ (line word rest : List ℕ) (cut : IsCut line word rest) where
       system_taken (Ok t) h = (system_judged ∙ h.0, system_adds h.0 h.1)
       system_taken (Err refused) h = inr (system_judged ∙ h)
 
-    -- a NAME line
     module _ (is : bytes_eq word (codes "NAME") ≡ true) where
       no_system : has_word (codes "SYSTEM") line ≡ false
       no_system = kind_is (codes "SYSTEM") false (other_word word (codes "NAME") (codes "SYSTEM") refl is)
@@ -172,7 +166,6 @@ module _ (line word rest : List ℕ) (cut : IsCut line word rest) where
           (λ refused. (refused ≡ fault.Memory) ⊎ (name_refusal (is_some old.name) number (trimmed rest) ≡ Some refused)) → TakesLine earlier number line old new r
       name_taken r h1 = grind (arith, name_judged, name_adds)
 
-    -- an AREA line
     module _ (is : bytes_eq word (codes "AREA") ≡ true) where
       no_own : has_word (codes "SYSTEM") line ≡ false
       no_own = kind_is (codes "SYSTEM") false (other_word word (codes "AREA") (codes "SYSTEM") refl is)
@@ -208,10 +201,8 @@ module _ (areas : List Area) (number : ℕ) (all : List (List ℕ)) (word : List
   area_begun : area_refusal areas number all ≡ cond (is_area_known areas tag) (Some (fault.RepeatedArea number)) (links_fault number [] more)
   area_begun = grind (arith, cond-false, not_from_true)
 
-  -- an earlier line has the same tag
   pub area_repeated : is_area_known areas tag ≡ true → area_refusal areas number all ≡ Some (fault.RepeatedArea number)
   area_repeated h = area_begun ∙ cond-true (is_area_known areas tag) (Some (fault.RepeatedArea number)) (links_fault number [] more) h
 
-  -- or its links do
   pub area_links : is_area_known areas tag ≡ false → area_refusal areas number all ≡ links_fault number [] more
   area_links h = area_begun ∙ cond-false (is_area_known areas tag) (Some (fault.RepeatedArea number)) (links_fault number [] more) h

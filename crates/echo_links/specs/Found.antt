@@ -8,7 +8,6 @@ use Rattle.echo_links.specs.Links.{Area, same_address}
 abbrev pub address_order : Address → Address → Ordering
 address_order a b = ordering_then (nat_cmp a.zone b.zone) (ordering_then (nat_cmp a.net b.net) (nat_cmp a.node b.node))
 
--- Both lists have the same addresses.
 abbrev pub HaveTheSame : List Address → List Address → Type 0
 HaveTheSame sorted links = (a : Address) → list_any (λ b. is_eq (address_order a b)) sorted ≡ list_any (same_address a) links
 

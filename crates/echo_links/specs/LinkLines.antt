@@ -37,42 +37,33 @@ is_control_byte b = nat_lt b 32 && not (b == 9)
 unfoldable pub words : List ℕ → List (List ℕ)
 words line = filter (λ word. nat_lt 0 (length word)) (slice_split is_space_or_tab line)
 
--- The first word, or no bytes if there are no words.
 abbrev pub first_of : List (List ℕ) → List ℕ
 first_of [] = []
 first_of (word ∷ more) = word
 
--- The words after the first.
 abbrev pub after_first_of : List (List ℕ) → List (List ℕ)
 after_first_of [] = []
 after_first_of (word ∷ more) = more
 
--- The first word of the line is this one.
 abbrev pub has_word : List ℕ → List ℕ → Bool
 has_word word line = bytes_eq (first_of (words line)) word
 
--- A line of the own address.
 abbrev pub is_system_line : List ℕ → Bool
 is_system_line line = has_word (codes "SYSTEM") line
 
--- A line of the name.
 abbrev pub is_name_line : List ℕ → Bool
 is_name_line line = has_word (codes "NAME") line
 
--- A line of an area.
 abbrev pub is_area_line : List ℕ → Bool
 is_area_line line = has_word (codes "AREA") line
 
--- Bytes without the blanks at the front.
 abbrev pub without_front_spaces : List ℕ → List ℕ
 without_front_spaces bytes = drop (prefix_len is_space_or_tab bytes) bytes
 
--- Bytes without the blanks at both ends.
 abbrev pub without_spaces : List ℕ → List ℕ
 without_spaces bytes =
     take (length (without_front_spaces bytes) - suffix_len is_space_or_tab (without_front_spaces bytes)) (without_front_spaces bytes)
 
--- The address of a SYSTEM line.
 abbrev pub system_in : List ℕ → Address
 system_in line = address_in (first_of (after_first_of (words line)))
 
@@ -80,19 +71,15 @@ system_in line = address_in (first_of (after_first_of (words line)))
 abbrev pub name_in : List ℕ → List ℕ
 name_in line = without_spaces (drop 4 (without_front_spaces line))
 
--- The tag of an AREA line, in upper case.
 abbrev pub tag_in : List ℕ → List ℕ
 tag_in line = upper (first_of (after_first_of (words line)))
 
--- The words after the tag of an AREA line.
 abbrev pub links_in : List ℕ → List (List ℕ)
 links_in line = after_first_of (after_first_of (words line))
 
--- An AREA line as an area.
 abbrev pub area_in : List ℕ → Area
 area_in line = record { tag = tag_in line; links = map address_in (links_in line) }
 
--- The words are a single address.
 abbrev pub is_one_address : List (List ℕ) → Bool
 is_one_address [] = false
 is_one_address (word ∷ []) = is_ok (outcome word)
@@ -105,7 +92,7 @@ system_fault earlier number line =
     else if is_one_address (after_first_of (words line)) then None
     else Some (fault.BadAddress number)
 
--- The same for a NAME line.
+-- The first refusal that applies to a NAME line.
 abbrev pub name_fault : List (List ℕ) → ℕ → List ℕ → Option LinkFault
 name_fault earlier number line =
     if list_any is_name_line earlier then Some (fault.RepeatedSystem number)
@@ -120,14 +107,14 @@ links_fault number before (word ∷ more) =
     else if list_any (same_address (address_in word)) (map address_in before) then Some (fault.RepeatedLink number)
     else links_fault number (word ∷ before) more
 
--- The same for an AREA line.
+-- The first refusal that applies to an AREA line.
 abbrev pub area_fault : List (List ℕ) → ℕ → List ℕ → Option LinkFault
 area_fault earlier number line =
     if not (is_tag (tag_in line)) then Some (fault.BadTag number)
     else if list_any (bytes_eq (tag_in line)) (map tag_in (filter is_area_line earlier)) then Some (fault.RepeatedArea number)
     else links_fault number [] (links_in line)
 
--- The same for any line.
+-- The first refusal that applies to any line.
 unfoldable pub line_fault : List (List ℕ) → ℕ → List ℕ → Option LinkFault
 line_fault earlier number line =
     if is_skipped line then None
@@ -143,11 +130,9 @@ first_fault earlier number [] = None
 first_fault earlier number (line ∷ later) =
     option_or (line_fault earlier number line) (first_fault (line ∷ earlier) (number + 1) later)
 
--- The lines that are not skipped.
 abbrev pub read_lines : List ℕ → List (List ℕ)
 read_lines bytes = filter (λ line. not (is_skipped line)) (file_lines bytes)
 
--- The fault of a link file.
 unfoldable pub file_fault : List ℕ → Option LinkFault
 file_fault bytes =
     option_or (first_fault [] 1 (file_lines bytes))
@@ -157,7 +142,6 @@ file_fault bytes =
 abbrev pub no_address : Address
 no_address = record { zone = 0; net = 0; node = 0 }
 
--- The parts of a link file.
 unfoldable pub file_of : List ℕ → LinkFile
 file_of bytes = record {
   system = unwrap_or (option_map system_in (find is_system_line (read_lines bytes))) no_address;

@@ -19,14 +19,13 @@ system_refusal repeated number words =
     else if is_one_address words then None
     else Some (fault.BadAddress number)
 
--- The same for a NAME line with this name.
+-- The refusal of a NAME line with this name.
 abbrev pub name_refusal : Bool → ℕ → List ℕ → Option LinkFault
 name_refusal repeated number name =
     if repeated then Some (fault.RepeatedSystem number)
     else if nat_lt 40 (length name) then Some (fault.NameTooLong number)
     else None
 
--- An area has the tag.
 abbrev pub is_area_known : List Area → List ℕ → Bool
 is_area_known areas tag = is_some (find (λ area. bytes_eq area.tag tag) areas)
 
@@ -37,7 +36,6 @@ area_refusal areas number words =
     else if is_area_known areas (upper (first_of words)) then Some (fault.RepeatedArea number)
     else links_fault number [] (after_first_of words)
 
--- The lines that are not skipped.
 abbrev pub kept : List (List ℕ) → List (List ℕ)
 kept lines = filter (λ line. not (is_skipped line)) lines
 
@@ -63,7 +61,6 @@ pub record Adds (lines : List (List ℕ)) (old new : Reading) : Type 0 where
   pub name : new.name ≡ option_or old.name (name_of lines)
   pub areas : new.areas ≡ old.areas ++ areas_of lines
 
--- The answer of reading one line.
 abbrev pub TakesLine : {T : Type 0} → List (List ℕ) → ℕ → List ℕ → Reading → Reading → Result T LinkFault → Type 0
 TakesLine earlier number line old new (Ok _) = (line_fault earlier number line ≡ None) × Adds (line ∷ []) old new
 TakesLine earlier number line old new (Err refused) = (refused ≡ fault.Memory) ⊎ (line_fault earlier number line ≡ Some refused)
@@ -74,7 +71,6 @@ pub record Holds (lines : List (List ℕ)) (r : Reading) : Type 0 where
   pub name : r.name ≡ name_of lines
   pub areas : r.areas ≡ areas_of lines
 
--- The answer of reading all lines.
 abbrev pub ReadsLinkFile : List ℕ → Result Reading LinkFault → Type 0
 ReadsLinkFile bytes (Ok r) = (first_fault [] 1 (file_lines bytes) ≡ None) × Holds (file_lines bytes) r
 ReadsLinkFile bytes (Err refused) = (refused ≡ fault.Memory) ⊎ (first_fault [] 1 (file_lines bytes) ≡ Some refused)

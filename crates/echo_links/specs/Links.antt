@@ -4,11 +4,9 @@ use Rattle.std.specs.{Char.to_ascii_uppercase, List.AllByRecursion, List.list_an
 use Rattle.echo_addr.specs.{declared.address.Address.Address, Address.IsAddress}
 use Rattle.echo_text.specs.{Lines.is_tag, Echo.IsLine}
 
--- The tag with ASCII letters in upper case.
 abbrev pub upper : List ℕ → List ℕ
 upper tag = map to_ascii_uppercase tag
 
--- Two addresses are equal.
 abbrev pub same_address : Address → Address → Bool
 same_address a b = (a.zone == b.zone) && ((a.net == b.net) && (a.node == b.node))
 
@@ -37,11 +35,9 @@ pub record IsFile (file : LinkFile) : Type 0 where
   pub each_area : AllByRecursion IsArea file.areas
   pub tags_once : AllPairs (λ (a b : Area). a.tag ≢ b.tag) file.areas
 
--- The area with this tag.
 abbrev pub area_of : LinkFile → List ℕ → Option Area
 area_of file tag = find (λ area. bytes_eq area.tag tag) file.areas
 
--- The link file has an area with this tag.
 abbrev pub has_area : LinkFile → List ℕ → Bool
 has_area file tag = is_some (area_of file tag)
 
@@ -49,6 +45,5 @@ has_area file tag = is_some (area_of file tag)
 unfoldable pub links_of : LinkFile → List ℕ → List Address
 links_of file tag = unwrap_or (option_map (λ area. area.links) (area_of file tag)) []
 
--- The address is one of these links.
 abbrev pub is_link : LinkFile → List ℕ → Address → Bool
 is_link file tag address = list_any (same_address address) (links_of file tag)

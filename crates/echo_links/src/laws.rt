@@ -4,8 +4,7 @@ ghost use Rattle.std.specs.Prelude.{◌≡◌, ℕ, List, Result, Ok, Err};
 ghost use Rattle.echo_links.specs.{declared.fault.LinkFault.LinkFault, Links.IsFile, Links.LinkFile, LinkLines.LinksOf};
 ghost use Rattle.echo_links.specs.declared.fault.LinkFault.TheVariants as link;
 
-/// Bytes are a link file or have a fault, and only one of these holds; out of memory is no fault of
-/// theirs.
+/// Bytes are a link file or have one fault; out of memory is no fault of theirs.
 pub fn one_link_file_or_fault()
     ensures answered { (bytes : List ℕ) →
         (answer : Result LinkFile LinkFault) × LinksOf bytes answer × ((other : Result LinkFile LinkFault) → LinksOf bytes other → other ≡ answer) }

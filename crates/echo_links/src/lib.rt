@@ -1,10 +1,5 @@
-//! Link files: the address and name of a system, its areas and their links.
-//!
-//! Promise: bytes are one link file or have one fault. A link file that was read has its system in
-//! range, and each area and each link once.
-//!
-//! Begin with `link_file` (the system and its areas). `fault` lists the refusals, `laws` states the
-//! promise.
+//! Link files: the address and name of a system, its areas and their links. Bytes are one link file or have one fault.
+//! A link file that was read has its system in range, and each area and each link once. Begin with `link_file`.
 #![tactic(auto)]
 
 mod fault;

@@ -1,5 +1,3 @@
-//! A link file, and reading it. `lines` cuts the bytes, `reading` takes line by line, `addresses`
-//! reads the words after the first, `areas` and `links` hold the result.
 ghost use Rattle.std.specs.Prelude.{◌≡◌, ◌⊎◌, length, slice_get, option_copied, option_map, unwrap_or, codes, Result, Err, IfOk};
 ghost use Rattle.echo_links.specs.{declared.fault.LinkFault.LinkFault, LinkLines.LinksOf, Links.IsFile, Links.area_of, Links.has_area, Links.is_link};
 ghost use Rattle.echo_links.specs.declared.fault.LinkFault.TheVariants as link;
@@ -68,12 +66,9 @@ fn name_or_default(alloc: Global, given: Option<Items<u8>>) -> Result<Items<u8>,
 }
 
 impl LinkFile {
-    /// Reads a link file. A fault is that of the first faulty line. `Memory` is the only other
-    /// answer.
+    /// Reads a link file. A fault is that of the first faulty line. `Memory` is the only other answer.
     pub fn read(alloc: Global, bytes: &[u8]) -> Result<LinkFile, LinkFault>
-        // Each answer is right for the bytes.
         ensures judged { (result ≡ Err link.Memory) ⊎ LinksOf bytes.now result }
-        // The right answer is the only one.
         ensures only { (other : Result model.LinkFile LinkFault) → LinksOf bytes.now other → (result ≡ Err link.Memory) ⊎ (result ≡ other) }
     {
         judged(alloc, bytes)
@@ -94,7 +89,6 @@ impl LinkFile {
         self.name.as_slice()
     }
 
-    /// How many areas there are.
     pub fn areas(&self) -> usize
         ensures { result ≡ length self.now.areas }
     {
@@ -115,7 +109,6 @@ impl LinkFile {
         Some(self.areas.links(tag)?.as_slice())
     }
 
-    /// Whether there is an area with this tag.
     pub fn has_area(&self, tag: &[u8]) -> bool
         ensures { result ≡ has_area self.now tag.now }
     {

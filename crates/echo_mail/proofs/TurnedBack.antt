@@ -6,14 +6,12 @@ use Rattle.hex.specs.Hex.{IsBytes, decode_of, encode_lower}
 use Rattle.hex.proofs.HexLemmas.{decode_of-encode_lower}
 use Rattle.echo_mail.specs.Exported.{digits_in, exported_id, id_back, is_exported, written_id}
 
--- where the digits end
 ends_at : (hx : List ℕ) → length (60 ∷ (hx ++ id_back)) - 14 ≡ 1 + length hx
 ends_at hx = omega (arith, length-append hx id_back)
 
 long : (hx : List ℕ) → nat_lt 14 (length (60 ∷ (hx ++ id_back))) ≡ true
 long hx = grind (arith, common_steps, length-append hx id_back)
 
--- the form, and the digits
 form_is : (hx : List ℕ) → is_exported (60 ∷ (hx ++ id_back)) ≡ true
 form_is hx =
     let at : length (60 ∷ (hx ++ id_back)) - 14 ≡ suc (length hx) = ends_at hx ∙ omega arith in

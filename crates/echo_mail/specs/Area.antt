@@ -14,6 +14,5 @@ area_or (Some area) groups = Some area
 area_or None (Some groups) = Some (first_group groups)
 area_or None None = None
 
--- The area that the fields name.
 abbrev pub area_in : List Field → Option (List ℕ)
 area_in fields = area_or (value_in fields (codes "X-FTN-Area")) (value_in fields (codes "Newsgroups"))

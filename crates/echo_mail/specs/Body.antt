@@ -8,11 +8,9 @@ use Rattle.echo_mail.specs.{declared.fault.MailFault.MailFault, declared.head.Fi
 unfoldable pub value_in : List Field → List ℕ → Option (List ℕ)
 value_in fields name = option_map (λ f. f.value) (find (λ f. is_called f.name name) fields)
 
--- The charset of a body.
 abbrev pub body_charset : Mail → Result Charset MailFault
 body_charset mail = charset_of (value_in mail.fields (codes "Content-Type"))
 
--- The decoded bytes of a body.
 abbrev pub body_bytes : Mail → Result (List ℕ) MailFault
 body_bytes mail = transferred (value_in mail.fields (codes "Content-Transfer-Encoding")) mail.body
 
@@ -20,7 +18,6 @@ body_bytes mail = transferred (value_in mail.fields (codes "Content-Transfer-Enc
 abbrev pub text_with : Charset → List ℕ → List ℕ
 text_with charset bytes = decoded_text charset (returned false bytes)
 
--- The same, if there are bytes and a charset.
 abbrev pub text_or_fault : Charset → Result (List ℕ) MailFault → Result (List ℕ) MailFault
 text_or_fault charset (Err fault) = Err fault
 text_or_fault charset (Ok bytes) = Ok (text_with charset bytes)

@@ -6,7 +6,6 @@ use Rattle.echo_charset.specs.{declared.charset.Charset.Charset, Charset.is_call
 use Rattle.echo_text.specs.Lines.{trimmed}
 use Rattle.echo_mail.specs.declared.fault.MailFault.{MailFault, TheVariants.Multipart, TheVariants.NotText, TheVariants.UnknownCharset}
 
--- The byte before each parameter.
 abbrev pub is_semicolon : ℕ → Bool
 is_semicolon b = b == 59
 

@@ -16,16 +16,14 @@ space_for b = if b == 95 then 32 else b
 abbrev pub q_bytes : List ℕ → Option (List ℕ)
 q_bytes text = Some (unescaped 0 (map space_for text))
 
--- The same in Q or B.
+-- The decoded bytes of a text in the encoding Q or B.
 unfoldable pub word_bytes : List ℕ → List ℕ → Option (List ℕ)
 word_bytes encoding text =
     if is_called encoding (codes "Q") then q_bytes text else if is_called encoding (codes "B") then decoded_of standard text else None
 
--- Bytes of a charset as text.
 abbrev pub encoded_text : Charset → List ℕ → Option (List ℕ)
 encoded_text charset bytes = Some (decoded_text charset bytes)
 
--- The same, if there are bytes and a charset.
 abbrev pub text_in : Charset → Option (List ℕ) → Option (List ℕ)
 text_in charset None = None
 text_in charset (Some bytes) = encoded_text charset bytes
@@ -34,7 +32,6 @@ abbrev pub text_by : Option Charset → Option (List ℕ) → Option (List ℕ)
 text_by None bytes = None
 text_by (Some charset) bytes = text_in charset bytes
 
--- The bytes before a byte, and after it.
 abbrev pub before_byte : ℕ → List ℕ → List ℕ
 before_byte byte text = before_first (λ b. b == byte) text
 
@@ -49,7 +46,7 @@ coded charset encoding text = text_by (known_charset (before_byte 42 charset)) (
 abbrev pub ended_text : List ℕ → List ℕ → List ℕ → Option (List ℕ)
 ended_text charset encoding rest = if bytes_eq (after_byte 63 rest) (codes "=") then coded charset encoding (before_byte 63 rest) else None
 
--- The same from its charset and the other bytes, and from all bytes after the first two.
+-- The decoded text, from its charset and the other bytes, and from all bytes after the first two.
 abbrev pub typed_text : List ℕ → List ℕ → Option (List ℕ)
 typed_text charset rest = ended_text charset (before_byte 63 rest) (after_byte 63 rest)
 

@@ -15,7 +15,6 @@ written_id id = codes "<" ++ (encode_lower id ++ id_back)
 abbrev pub is_exported : List ℕ → Bool
 is_exported value = nat_lt 14 (length value) && ((slice_index value 0 == 60) && ends_with nat_eq value id_back)
 
--- The digits of such a message id.
 abbrev pub digits_in : List ℕ → List ℕ
 digits_in value = slice_range value 1 (length value - 14)
 

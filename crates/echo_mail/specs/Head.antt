@@ -23,7 +23,6 @@ unfolded (b ∷ rest) = (if is_folded b rest then [] else b ∷ []) ++ unfolded 
 abbrev pub is_name_byte : ℕ → Bool
 is_name_byte b = is_in_range 33 126 b && not (b == 58)
 
--- The number of such bytes at the front.
 abbrev pub name_len : List ℕ → ℕ
 name_len line = prefix_len is_name_byte line
 

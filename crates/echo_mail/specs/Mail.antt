@@ -30,6 +30,5 @@ unfoldable pub mail_of : List ℕ → Result Mail MailFault
 mail_of text =
     if list_all is_field (head_lines text) then Ok (record { fields = map field_of (head_lines text); body = body_of text }) else Err BadField
 
--- The mail in these bytes, or its fault.
 abbrev pub mail_in : List ℕ → Result Mail MailFault
 mail_in bytes = mail_of (without_from (returned false bytes))

@@ -43,7 +43,6 @@ is_name_part p b =
     else if p.quoted then not (b == 34) && not (b == 92)
     else not (b == 34) && not (b == 40)
 
--- The bytes of the name.
 abbrev pub bare_name : Place → List ℕ → List ℕ
 bare_name p [] = []
 bare_name p (b ∷ rest) = (if is_name_part p b then b ∷ [] else []) ++ bare_name (next_place p b) rest
@@ -59,13 +58,13 @@ local_part address = before_first is_at address
 unfoldable pub phrase : List ℕ → List ℕ
 phrase value = trimmed (bare_name start (take (name_len start value) value))
 
--- The same, or the front of the address if there is no name.
+-- The name of the first mailbox, or the front of its address if it has no name.
 unfoldable pub mailbox_name : List ℕ → List ℕ
 mailbox_name value =
     if length (phrase value) == 0 then local_part (drop (name_len start value + 1) value)
     else if slice_index value (name_len start value) == 60 then phrase value
     else local_part (phrase value)
 
--- The same as text, with its encoded words decoded.
+-- That name as text, with its encoded words decoded.
 abbrev pub person_name : List ℕ → List ℕ
 person_name value = decoded_words (mailbox_name value)

@@ -4,7 +4,6 @@ use Rattle.std.specs.List.{flat_map}
 use Rattle.hex.specs.Hex.{hex_digit_value}
 use Rattle.echo_text.specs.Lines.{lines, without_back_blanks}
 
--- The byte of two digits.
 abbrev pub byte_of : Option ℕ → Option ℕ → Option ℕ
 byte_of None low = None
 byte_of (Some high) None = None
@@ -20,7 +19,6 @@ abbrev pub next_byte : ℕ → ℕ → Option ℕ → List ℕ
 next_byte skip b None = if nat_lt 0 skip then [] else b ∷ []
 next_byte skip b (Some said) = if nat_lt 0 skip then [] else said ∷ []
 
--- The number of its digits still to come.
 abbrev pub next_skip : ℕ → Option ℕ → ℕ
 next_skip skip None = skip - 1
 next_skip skip (Some said) = if nat_lt 0 skip then skip - 1 else 2
@@ -31,7 +29,6 @@ unescaped skip [] = []
 unescaped skip (b ∷ rest) =
     next_byte skip b (escaped (b ∷ rest)) ++ unescaped (next_skip skip (escaped (b ∷ rest))) rest
 
--- The line ends with `=`.
 abbrev pub is_soft : List ℕ → Bool
 is_soft line = slice_index line (length line - 1) == 61
 
@@ -39,10 +36,8 @@ is_soft line = slice_index line (length line - 1) == 61
 unfoldable pub quoted_bare : List ℕ → List ℕ
 quoted_bare line = if is_soft line then unescaped 0 (take (length line - 1) line) else unescaped 0 line ++ 13 ∷ []
 
--- The decoded bytes of a line.
 abbrev pub quoted_line : List ℕ → List ℕ
 quoted_line line = quoted_bare (without_back_blanks line)
 
--- The decoded bytes of a body.
 abbrev pub quoted_printable : List ℕ → List ℕ
 quoted_printable body = flat_map quoted_line (lines body)

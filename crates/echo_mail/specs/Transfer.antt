@@ -21,22 +21,18 @@ abbrev pub is_base64_byte : ℕ → Bool
 is_base64_byte b =
     (is_in_range 48 57 b || (is_in_range 65 90 b || is_in_range 97 122 b)) || ((b == 43) || ((b == 47) || (b == 61)))
 
--- Decoded bytes, or the fault.
 abbrev pub bytes_or_fault : Option (List ℕ) → Result (List ℕ) MailFault
 bytes_or_fault None = Err BadBase64
 bytes_or_fault (Some bytes) = Ok bytes
 
--- The decoded bytes of a body in base64.
 abbrev pub base64_body : List ℕ → Result (List ℕ) MailFault
 base64_body body = bytes_or_fault (decoded_of standard (filter is_base64_byte body))
 
--- The decoded bytes of a body of an encoding.
 abbrev pub encoded_body : Encoding → List ℕ → Result (List ℕ) MailFault
 encoded_body Plain body = Ok body
 encoded_body QuotedPrintable body = Ok (quoted_printable body)
 encoded_body Base64 body = base64_body body
 
--- The same, if the encoding is known.
 abbrev pub by_encoding : Option Encoding → List ℕ → Result (List ℕ) MailFault
 by_encoding None body = Err UnknownEncoding
 by_encoding (Some encoding) body = encoded_body encoding body

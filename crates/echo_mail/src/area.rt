@@ -1,4 +1,3 @@
-//! The area that a mail names.
 ghost use Rattle.std.specs.Prelude.{◌≡◌, ◌==◌, ◌≤◌, length, not, option_copied, take_while};
 ghost use Rattle.echo_mail.specs.Area.{area_in, first_group};
 
@@ -19,7 +18,6 @@ pub fn area_in(fields: &[Field]) -> Option<&[u8]>
     }
 }
 
-// The first of some newsgroups, between commas.
 fn first_group(groups: &[u8]) -> &[u8]
     ensures { result.now ≡ first_group groups.now }
 {

@@ -1,4 +1,3 @@
-//! The text of a mail's body.
 ghost use Rattle.std.specs.Prelude.{◌≡◌, ◌⊎◌, option_copied, string_bytes, MatchResult};
 ghost use Rattle.echo_mail.specs.Body.{body_bytes, body_charset, text_of, text_or_fault, text_with, value_in};
 ghost use Rattle.echo_mail.specs.{declared.fault.MailFault.TheVariants.Memory, Mail.Gives};

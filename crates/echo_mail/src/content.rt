@@ -7,16 +7,13 @@ use crate::transfer::is_called;
 use echo_charset::Charset;
 use echo_text::trimmed;
 
-/// How the parameter of a charset begins.
 const CHARSET: &[u8] = b"charset=";
 
-/// How the names of types with several parts begin.
 const MULTIPART: &[u8] = b"multipart/";
 
 /// Bytes that no word of a parameter has.
 const SPECIALS: [u8; 15] = *b"()<>@,;:\\\"/[]?=";
 
-/// The charset of a body, by the value of its Content-Type.
 #[tactic(auto, unfolding(crate::specs::Content::charset_of))]
 pub(crate) fn charset_of(value: Option<&[u8]>) -> Result<Charset, MailFault>
     ensures { result ≡ charset_of (option_copied value.entry) }
@@ -34,7 +31,6 @@ pub(crate) fn charset_of(value: Option<&[u8]>) -> Result<Charset, MailFault>
     }
 }
 
-// The charset of a parameter; US-ASCII where there is none.
 fn charset_in(name: Option<&[u8]>) -> Result<Charset, MailFault>
     ensures { result ≡ charset_in (option_copied name.entry) }
 {
@@ -47,7 +43,6 @@ fn charset_in(name: Option<&[u8]>) -> Result<Charset, MailFault>
     }
 }
 
-/// The charset of a name that mails have.
 #[tactic(auto, unfolding(crate::specs::Content::known_charset))]
 pub(crate) fn known_charset(name: &[u8]) -> Option<Charset>
     ensures { result ≡ known_charset name.now }
@@ -69,14 +64,12 @@ pub(crate) fn known_charset(name: &[u8]) -> Option<Charset>
     }
 }
 
-// The type and subtype: the bytes before the first semicolon.
 fn media_type(value: &[u8]) -> &[u8]
     ensures { result.now ≡ media_type value.now }
 {
     trimmed(&value[..media_len(value)])
 }
 
-// The number of bytes before it.
 fn media_len(value: &[u8]) -> usize
     ensures exact { result ≡ length (take_while (λ b. not (is_semicolon b)) value.now) }
     ensures within { result ≤ length value.now }
@@ -109,7 +102,6 @@ fn charset_param(value: &[u8]) -> Option<&[u8]>
     None
 }
 
-// The value after `charset=`.
 fn param_value(word: &[u8]) -> &[u8]
     requires { 8 ≤ length word.now }
     ensures { result.now ≡ param_value word.now }
@@ -135,7 +127,6 @@ fn token_len(value: &[u8]) -> usize
     value.iter().take_while(|b| is_token_byte(**b)).count()
 }
 
-// The bytes before a quotation mark.
 fn quoted_value(value: &[u8]) -> &[u8]
     ensures { result.now ≡ quoted_value value.now }
 {
@@ -149,7 +140,6 @@ fn quoted_len(value: &[u8]) -> usize
     value.iter().take_while(|b| **b != b'"').count()
 }
 
-// A byte of a word: visible ASCII without the special characters.
 fn is_token_byte(byte: u8) -> bool
     ensures { result ≡ is_token_byte byte }
 {

@@ -33,7 +33,6 @@ pub fn decoded_words(alloc: Global, value: &[u8]) -> Result<String, AllocError>
     Charset::Utf8.text(alloc, &text)
 }
 
-// The value with a 0D for each blank, so that its words are lines.
 fn cut_at_blanks(alloc: Global, value: &[u8]) -> Result<Vec<u8>, AllocError>
     ensures { IfOk result (λ words. words.items ≡ cut_at_blanks value.now) }
 {
@@ -46,7 +45,6 @@ fn return_for(byte: u8) -> u8
     if is_blank(byte) { b'\r' } else { byte }
 }
 
-// Adds the words with their blanks.
 fn push_words(text: &mut Vec<u8>, alloc: Global, words: &[u8]) -> Result<(), AllocError>
     ensures { OnOk result (text.new.items ≡ text.old.items ++ words_text Nothing (lines words.now)) }
 {
@@ -62,7 +60,6 @@ fn push_words(text: &mut Vec<u8>, alloc: Global, words: &[u8]) -> Result<(), All
     Ok(())
 }
 
-// Adds a word, decoded if it is encoded, and the blank before it.
 fn push_next(
     text: &mut Vec<u8>,
     before: Before,
@@ -78,7 +75,6 @@ fn push_next(
     }
 }
 
-// The blank before a word. `joins`: the word is an encoded one, or empty.
 fn gap(before: Before, joins: bool) -> &'static [u8]
     ensures { result.now ≡ gap before joins }
 {
@@ -89,7 +85,6 @@ fn gap(before: Before, joins: bool) -> &'static [u8]
     }
 }
 
-// The text before the next word.
 fn next_before(before: Before, word: &[u8], found: &Option<Items<u8>>) -> Before
     ensures { result ≡ next_before before word.now found.now }
 {
@@ -105,7 +100,6 @@ fn next_before(before: Before, word: &[u8], found: &Option<Items<u8>>) -> Before
     }
 }
 
-// The decoded text of a word, where it is an encoded one.
 #[tactic(auto, unfolding(crate::specs::Encoded::word_text))]
 fn word_text(alloc: Global, word: &[u8]) -> Result<Option<Items<u8>>, AllocError>
     ensures { IfOk result (λ text. text ≡ word_text word.now) }
@@ -117,7 +111,6 @@ fn word_text(alloc: Global, word: &[u8]) -> Result<Option<Items<u8>>, AllocError
     }
 }
 
-// The decoded text of an encoded word, by the bytes after its first two.
 #[tactic(auto, unfolding(crate::specs::Encoded::inner_text))]
 fn inner_text(alloc: Global, inner: &[u8]) -> Result<Option<Items<u8>>, AllocError>
     ensures { IfOk result (λ text. text ≡ inner_text inner.now) }
@@ -132,7 +125,6 @@ fn inner_text(alloc: Global, inner: &[u8]) -> Result<Option<Items<u8>>, AllocErr
     }
 }
 
-// The bytes before and after the first of these bytes.
 fn cut(byte: u8, text: &[u8]) -> (&[u8], &[u8])
     ensures front { result.0.now ≡ before_first (λ b. b == byte) text.now }
     ensures back { result.1.now ≡ after_first (λ b. b == byte) text.now }
@@ -148,7 +140,6 @@ fn place_of(byte: u8, text: &[u8]) -> usize
     text.iter().take_while(|b| **b != byte).count()
 }
 
-// The decoded text, if encoding and charset are known.
 fn coded(
     alloc: Global,
     charset: &[u8],
@@ -178,7 +169,6 @@ fn encoded_text(
     Ok(Some(Items::new(text.into_bytes())))
 }
 
-// The decoded bytes of a text in an encoding.
 #[tactic(auto, unfolding(crate::specs::Encoded::word_bytes))]
 fn word_bytes(alloc: Global, encoding: &[u8], text: &[u8]) -> Result<Option<Items<u8>>, AllocError>
     ensures { IfOk result (λ bytes. bytes ≡ word_bytes encoding.now text.now) }
@@ -192,7 +182,6 @@ fn word_bytes(alloc: Global, encoding: &[u8], text: &[u8]) -> Result<Option<Item
     }
 }
 
-// The bytes of the encoding Q: `_` is a blank, and `=` and two digits are a byte.
 fn q_bytes(alloc: Global, text: &[u8]) -> Result<Option<Items<u8>>, AllocError>
     ensures { IfOk result (λ bytes. bytes ≡ q_bytes text.now) }
 {

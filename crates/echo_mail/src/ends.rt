@@ -1,4 +1,3 @@
-//! The ends of lines.
 ghost use Rattle.std.specs.Prelude.{◌≡◌, ◌++◌, ◌+◌, ◌≤◌, drop, false, length, IfOk, OnOk};
 ghost use Rattle.echo_mail.specs.Ends.{end_or_byte, returned};
 
@@ -20,7 +19,6 @@ pub(crate) fn returned(alloc: Global, bytes: &[u8]) -> Result<Vec<u8>, AllocErro
     Ok(text)
 }
 
-// Adds a byte, or a 0D for an 0A. `after` says whether a 0D comes before it.
 fn push_end_or_byte(text: &mut Vec<u8>, after: bool, byte: u8) -> Result<(), AllocError>
     ensures { OnOk result (text.new.items ≡ text.old.items ++ end_or_byte after byte) }
 {

@@ -16,7 +16,6 @@ pub struct Field {
     pub value: Items<u8>,
 }
 
-/// The number of bytes before the first empty line.
 pub(crate) fn head_len(text: &[u8]) -> usize
     ensures exact { result ≡ head_len true text.now }
     ensures within { result ≤ length text.now }
@@ -52,14 +51,12 @@ pub(crate) fn unfolded(alloc: Global, head: &[u8]) -> Result<Vec<u8>, AllocError
     Ok(text)
 }
 
-// Whether a byte is a line end before a blank.
 fn is_folded(byte: u8, rest: &[u8]) -> bool
     ensures { result ≡ is_folded byte rest.now }
 {
     byte == b'\r' && !rest.is_empty() && is_blank(rest[0])
 }
 
-/// Whether each of the lines is a header field.
 pub(crate) fn are_fields(text: &[u8]) -> bool
     ensures { result ≡ list_all is_field (lines text.now) }
 {
@@ -87,7 +84,6 @@ pub(crate) fn fields_of(alloc: Global, text: &[u8]) -> Result<Vec<Field>, AllocE
     Ok(fields)
 }
 
-// Whether a line is a header field: a name, and a colon after it.
 fn is_field(line: &[u8]) -> bool
     ensures { result ≡ is_field line.now }
 {
@@ -95,7 +91,6 @@ fn is_field(line: &[u8]) -> bool
     0 < end && end < line.len() && line[end] == b':'
 }
 
-// The name before the colon of a line, and the value after it.
 fn field_of(alloc: Global, line: &[u8]) -> Result<Field, AllocError>
     ensures { IfOk result (λ field. field ≡ field_of line.now) }
 {
@@ -108,7 +103,6 @@ fn field_of(alloc: Global, line: &[u8]) -> Result<Field, AllocError>
     })
 }
 
-// The number of bytes of a name at the front.
 fn name_len(line: &[u8]) -> usize
     ensures exact { result ≡ name_len line.now }
     ensures within { result ≤ length line.now }
@@ -116,7 +110,6 @@ fn name_len(line: &[u8]) -> usize
     line.iter().take_while(|b| is_name_byte(**b)).count()
 }
 
-// A byte of a name: visible ASCII, and no colon.
 fn is_name_byte(byte: u8) -> bool
     ensures { result ≡ is_name_byte byte }
 {

@@ -1,12 +1,5 @@
-//! Mail messages (RFC 5322), read for posting.
-//!
-//! Promise: `read_mail` and `body_text` answer what the definitions in specs/ give for the bytes,
-//! or the fault that applies.
-//!
-//! Begin with `mail` (a parsed mail) and `body` (its text). `head` reads the header fields, `ends`
-//! line ends, `fault` lists the refusals. `content`, `transfer` and `quoted` decode bodies,
-//! `encoded` decodes header words. `mailbox` finds a name, `msgid` an id, `area` the area of a
-//! mail.
+//! Mail messages (RFC 5322), read for posting. `read_mail` and `body_text` answer what the definitions in specs/ give
+//! for the bytes, or the fault that applies. Begin with `mail` (a parsed mail) and `body` (its text).
 #![tactic(auto)]
 
 mod area;

@@ -1,4 +1,3 @@
-//! A parsed mail.
 ghost use Rattle.std.specs.Prelude.{◌≡◌, ◌≤◌, length, take_while, not};
 ghost use Rattle.echo_text.specs.Lines.{is_return};
 ghost use Rattle.echo_mail.specs.Mail.{Gives, mail_in, mail_of, without_from};
@@ -12,8 +11,7 @@ use std::alloc::Global;
 /// How the line begins that a mailbox has before a mail (RFC 4155).
 const FROM: &[u8] = b"From ";
 
-/// A mail (RFC 5322): the fields of its header, and the bytes of its body, with lines that end in
-/// 0D.
+/// A mail (RFC 5322): the fields of its header, and its body with lines that end in 0D.
 #[derive(Debug, Drop, PartialEq, Eq)]
 pub struct Mail {
     pub fields: Items<Field>,
@@ -28,7 +26,6 @@ pub fn read_mail(alloc: Global, bytes: &[u8]) -> Result<Mail, MailFault>
     mail_of(alloc, without_from(&text))
 }
 
-// The text without the line that a mailbox has in front.
 fn without_from(text: &[u8]) -> &[u8]
     ensures { result.now ≡ without_from text.now }
 {

@@ -7,8 +7,7 @@ use crate::ends::behind;
 use echo_text::trimmed;
 use std::alloc::{AllocError, Global};
 
-/// The place of a byte: how deep in comments, whether in a quoted string, and whether after a
-/// backslash there.
+/// The place of a byte: its depth in comments, whether in a quoted string, whether after a backslash there.
 #[derive(Clone, Copy, Debug, PartialEq, Eq)]
 pub(crate) struct Place {
     pub depth: usize,
@@ -16,8 +15,7 @@ pub(crate) struct Place {
     pub escaped: bool,
 }
 
-/// The name of the first mailbox in the value of From or To. Without a name it is the part before
-/// the `@` of the address.
+/// The name of the first mailbox in From or To, or else the part before the `@` of its address.
 pub fn person_name(alloc: Global, value: &[u8]) -> Result<String, AllocError>
     ensures { IfOk result (λ name. string_bytes name ≡ person_name value.now) }
 {
@@ -25,7 +23,6 @@ pub fn person_name(alloc: Global, value: &[u8]) -> Result<String, AllocError>
     decoded_words(alloc, &name)
 }
 
-// The same, before encoded words are decoded.
 #[tactic(auto, unfolding(crate::specs::Mailbox::mailbox_name, crate::specs::Mailbox::phrase))]
 fn mailbox_name(alloc: Global, value: &[u8]) -> Result<Vec<u8>, AllocError>
     ensures { IfOk result (λ name. name.items ≡ mailbox_name value.now) }
@@ -42,7 +39,6 @@ fn mailbox_name(alloc: Global, value: &[u8]) -> Result<Vec<u8>, AllocError>
     }
 }
 
-// The number of bytes before the address or the next mailbox.
 fn name_len(value: &[u8]) -> usize
     ensures exact { result ≡ name_len start value.now }
     ensures within { result ≤ length value.now }
@@ -66,7 +62,6 @@ fn name_len(value: &[u8]) -> usize
     count
 }
 
-// The bytes without comments, and without the marks of quoted strings.
 fn bare_name(alloc: Global, value: &[u8]) -> Result<Vec<u8>, AllocError>
     ensures { IfOk result (λ name. name.items ≡ bare_name start value.now) }
 {
@@ -124,14 +119,12 @@ fn next_quoted(place: Place, byte: u8) -> bool
     }
 }
 
-// Whether a byte is in a quoted string or a comment.
 fn is_open(place: Place) -> bool
     ensures { result ≡ is_open place }
 {
     place.quoted || place.depth > 0
 }
 
-// Whether a byte begins the address, or ends the mailbox.
 fn ends_name(place: Place, byte: u8) -> bool
     ensures { result ≡ ends_name place byte }
 {
@@ -152,7 +145,6 @@ fn is_name_part(place: Place, byte: u8) -> bool
     }
 }
 
-// The bytes before the `@` of an address, or before its end.
 fn local_part(address: &[u8]) -> &[u8]
     ensures { result.now ≡ local_part address.now }
 {

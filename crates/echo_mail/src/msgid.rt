@@ -1,4 +1,3 @@
-//! Message ids that export made of ids of messages, decoded again.
 ghost use Rattle.std.specs.Prelude.{◌≡◌, ℕ, List, IfOk};
 ghost use Rattle.hex.specs.Hex.{IsBytes};
 ghost use Rattle.echo_mail.specs.Exported.{exported_id, is_exported, written_id};
@@ -24,7 +23,6 @@ pub fn exported_id(alloc: Global, value: &[u8]) -> Result<Option<Items<u8>>, All
     }
 }
 
-// Whether a value has the form of such a message id.
 fn is_exported(value: &[u8]) -> bool
     ensures { result ≡ is_exported value.now }
 {

@@ -9,7 +9,6 @@ use echo_addr::is_blank;
 use echo_text::split_line;
 use std::alloc::{AllocError, Global};
 
-/// The decoded bytes of a body in this encoding.
 pub(crate) fn quoted_printable(alloc: Global, body: &[u8]) -> Result<Vec<u8>, AllocError>
     ensures { IfOk result (λ text. text.items ≡ quoted_printable body.now) }
 {
@@ -23,14 +22,12 @@ pub(crate) fn quoted_printable(alloc: Global, body: &[u8]) -> Result<Vec<u8>, Al
     Ok(text)
 }
 
-// Adds the decoded bytes of a line. Blanks at its end are ignored.
 fn push_quoted_line(text: &mut Vec<u8>, line: &[u8]) -> Result<(), AllocError>
     ensures { OnOk result (text.new.items ≡ text.old.items ++ quoted_line line.now) }
 {
     push_quoted_bare(text, without_back_blanks(line))
 }
 
-// Adds the decoded bytes of a line without them. The line continues if `=` is last.
 #[tactic(auto, unfolding(crate::specs::Quoted::quoted_bare))]
 fn push_quoted_bare(text: &mut Vec<u8>, line: &[u8]) -> Result<(), AllocError>
     ensures { OnOk result (text.new.items ≡ text.old.items ++ quoted_bare line.now) }
@@ -63,7 +60,6 @@ fn back_blanks(line: &[u8]) -> usize
     line.iter().rev().take_while(|b| is_blank(**b)).count()
 }
 
-/// Adds the decoded bytes: `=` and two hexadecimal digits encode one.
 pub(crate) fn push_unescaped(text: &mut Vec<u8>, bytes: &[u8]) -> Result<(), AllocError>
     ensures { OnOk result (text.new.items ≡ text.old.items ++ unescaped 0 bytes.now) }
 {
@@ -78,7 +74,6 @@ pub(crate) fn push_unescaped(text: &mut Vec<u8>, bytes: &[u8]) -> Result<(), All
     Ok(())
 }
 
-// Adds a byte, or the one that it and the next two encode, unless it is a digit of an added one.
 fn push_next(text: &mut Vec<u8>, skip: u8, byte: u8, said: Option<u8>) -> Result<(), AllocError>
     ensures { OnOk result (text.new.items ≡ text.old.items ++ next_byte skip byte said) }
 {
@@ -91,7 +86,6 @@ fn push_next(text: &mut Vec<u8>, skip: u8, byte: u8, said: Option<u8>) -> Result
     }
 }
 
-// How many digits of an added byte are still to come.
 fn next_skip(skip: u8, said: Option<u8>) -> u8
     ensures { result ≡ next_skip skip said }
 {
@@ -105,7 +99,6 @@ fn next_skip(skip: u8, said: Option<u8>) -> u8
     }
 }
 
-// The byte that `=` and two digits at the front encode.
 fn escaped(bytes: &[u8]) -> Option<u8>
     ensures { result ≡ escaped bytes.now }
 {
@@ -118,7 +111,6 @@ fn escaped(bytes: &[u8]) -> Option<u8>
     )
 }
 
-// The byte of two digits.
 fn byte_of(high: Option<u8>, low: Option<u8>) -> Option<u8>
     requires high_in { IfSome high (λ v. v < 16) }
     requires low_in { IfSome low (λ v. v < 16) }
@@ -130,7 +122,6 @@ fn byte_of(high: Option<u8>, low: Option<u8>) -> Option<u8>
     }
 }
 
-// The value of a hexadecimal digit, in letters of either case.
 fn digit_value(byte: u8) -> Option<u8>
     ensures exact { result ≡ hex_digit_value byte }
     ensures below { IfSome result (λ v. v < 16) }
@@ -143,7 +134,6 @@ fn digit_value(byte: u8) -> Option<u8>
     }
 }
 
-// The byte at an index, 0 past the end.
 fn byte_at(bytes: &[u8], i: usize) -> u8
     ensures { result ≡ slice_index bytes.now i }
 {

@@ -21,7 +21,6 @@ pub(crate) enum Encoding {
     Base64,
 }
 
-/// The decoded bytes of a body, by the value of its Content-Transfer-Encoding.
 pub(crate) fn transferred(
     alloc: Global,
     word: Option<&[u8]>,
@@ -53,7 +52,6 @@ fn encoding_of(word: Option<&[u8]>) -> Option<Encoding>
     }
 }
 
-// The decoded bytes of a body of this encoding.
 fn encoded_body(alloc: Global, encoding: Encoding, body: &[u8]) -> Result<Items<u8>, MailFault>
     ensures { Gives result (encoded_body encoding body.now) }
 {
@@ -64,7 +62,6 @@ fn encoded_body(alloc: Global, encoding: Encoding, body: &[u8]) -> Result<Items<
     }
 }
 
-// The decoded bytes of a body's digits; its other bytes are ignored.
 fn base64_body(alloc: Global, body: &[u8]) -> Result<Items<u8>, MailFault>
     ensures { Gives result (base64_body body.now) }
 {
@@ -94,14 +91,12 @@ fn base64_digits(alloc: Global, body: &[u8]) -> Result<Vec<u8>, AllocError>
         .collect(alloc)
 }
 
-// A digit of base64, or the padding of the last group.
 fn is_base64_byte(byte: u8) -> bool
     ensures { result ≡ is_base64_byte byte }
 {
     byte.is_ascii_alphanumeric() || byte == b'+' || byte == b'/' || byte == b'='
 }
 
-/// Whether these are the same letters, of either case.
 pub(crate) fn is_called(name: &[u8], word: &[u8]) -> bool
     ensures { result ≡ charsets.is_called name.now word.now }
 {

@@ -4,7 +4,6 @@ use Rattle.std.proofs.lemmas.List.{append_assoc, append-nil, length-append}
 use Rattle.std.specs.List.{fold}
 use Rattle.echo_nodelist.specs.Crc.{added, divided, stepped, steps, sum_of, zeros}
 
--- the divisor without its leading 1
 abbrev pub poly : List Bool
 poly = false ∷ (false ∷ (false ∷ (true ∷ (false ∷ (false ∷ (false ∷ (false ∷ (false ∷ (false ∷ (true ∷ (false ∷ (false ∷ (false ∷ (false ∷ (true ∷ [])))))))))))))))
 
@@ -13,7 +12,6 @@ abbrev pub reduced : Bool → List Bool → List Bool
 reduced false bits = bits
 reduced true bits = added poly bits
 
--- the register after one more bit
 abbrev pub shifted : List Bool → Bool → List Bool
 shifted [] y = []
 shifted (x ∷ rest) y = reduced (sum_of x y) (rest ++ false ∷ [])

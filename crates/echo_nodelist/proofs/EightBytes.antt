@@ -6,7 +6,6 @@ use Rattle.echo_nodelist.specs.Crc.{added, bits_of, bits_value, crc, zeros}
 use Rattle.echo_nodelist.proofs.Division.{added_both, added_to_zeros, added_zeros, fold_sum, fold_two, shifted}
 use Rattle.echo_nodelist.proofs.Registers.{bits_of-xor, bits_of-zero, crc-lt, crc_register, cut_bits, length-bits_of, number_of_bits, register, register_bits, same_bits}
 
--- the bits of bytes, one after the other
 abbrev bits : List ℕ → List Bool
 bits = flat_map (bits_of 8)
 
@@ -77,7 +76,6 @@ crc_two bytes a b rest =
 
 -- ---- eight bytes
 
--- the checksum of a byte followed by this many bytes 00
 abbrev pub entry : ℕ → ℕ → ℕ
 entry zeros byte = crc (byte ∷ replicate zeros 0)
 
@@ -91,7 +89,6 @@ eight_of : (xs : List ℕ) → length xs ≡ 8
 eight_of (a ∷ (b ∷ (c ∷ (d ∷ (e ∷ (f ∷ (g ∷ (h ∷ [])))))))) is = refl
 eight_of xs is = absurd (omega arith)
 
--- the checksum of eight bytes more, by the tables' entries
 pub crc_eight : (bytes eight : List ℕ) (r : ℕ) → crc bytes ≡ r → length eight ≡ 8
     → crc (bytes ++ eight)
     ≡ bit_xor (entry 7 (bit_xor (r / 2 ^ 8) (get_or eight 0 0))) (bit_xor (entry 6 (bit_xor (r % 2 ^ 8) (get_or eight 1 0))) (bit_xor (entry 5 (get_or eight 2 0)) (bit_xor (entry 4 (get_or eight 3 0)) (bit_xor (entry 3 (get_or eight 4 0)) (bit_xor (entry 2 (get_or eight 5 0)) (bit_xor (entry 1 (get_or eight 6 0)) (entry 0 (get_or eight 7 0))))))))
@@ -104,7 +101,6 @@ pub one_more : (n x : ℕ) → replicate n x ++ x ∷ [] ≡ x ∷ replicate n x
 one_more zero x = refl
 one_more (suc n) x = ap (λ l. x ∷ l) (one_more n x)
 
--- the first eight bytes and those behind them
 pub first_eight : (rest : List ℕ) → 8 ≤ length rest
     → rest
     ≡ (get_or rest 0 0 ∷ (get_or rest 1 0 ∷ (get_or rest 2 0 ∷ (get_or rest 3 0 ∷ (get_or rest 4 0 ∷ (get_or rest 5 0 ∷ (get_or rest 6 0 ∷ (get_or rest 7 0 ∷ []))))))))

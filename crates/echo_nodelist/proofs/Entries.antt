@@ -1,4 +1,3 @@
--- The content of the fields of an entry.
 use Rattle.std.proofs.Common.{◌≡◌, ℕ, ◌<◌, ◌≤◌, nat_lt, List, ◌∷◌, length, sym, ap, ◌∙◌, Some, None, Ok, Err, arith}
 use Rattle.std.proofs.lemmas.{List.Splits.slice_split_first, Bool.cond-false, Bool.cond-true, Bool.le-ltb, Bool.lt-ltb}
 use Rattle.std.specs.List.{after_first, before_first, position_or_len, slice_split}

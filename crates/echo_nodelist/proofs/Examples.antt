@@ -1,4 +1,3 @@
--- Worked examples.
 use Rattle.std.proofs.Common.{◌≡◌, refl, codes}
 use Rattle.echo_nodelist.specs.Crc.{crc}
 

@@ -1,4 +1,3 @@
--- The hub over a line, looked for from the line back.
 use Rattle.std.proofs.Common.{◌≡◌, ℕ, ◌+◌, ◌<◌, nat_lt, true, false, cond, List, ◌∷◌, length, get_or, take, reverse, sym, ap, ◌∙◌, Option, None}
 use Rattle.std.proofs.lemmas.{List.length-reverse, List.take_more, Bool.cond-false, Bool.cond-true, Bool.lt-ltb}
 use Rattle.echo_addr.specs.declared.address.Address.{Address}
@@ -15,7 +14,6 @@ line_back lines m line below is =
 pub as_many : (lines : List Line) (addresses : List (Option Address)) → addresses ≡ each_back address_back (reverse lines) → length addresses ≡ length lines
 as_many lines addresses kept = ap length kept ∙ length-each_back address_back (reverse lines) ∙ length-reverse lines
 
--- a Hub line, with its address in the index
 pub hub_found : (lines : List Line) (addresses : List (Option Address)) (m : ℕ) (line : Line) (k : Keyword) (n : ℕ) (fields : List (List ℕ)) → m < length lines
     → line ≡ get_or lines m line → line ≡ Entry k n fields → begins_net k ≡ false → is_hub k ≡ true → addresses ≡ each_back address_back (reverse lines)
     → get_or addresses m None ≡ nearest_hub (reverse (take (m + 1) lines))

@@ -11,7 +11,6 @@ pub tell_none : (at : ℕ) (earlier : List Line) (k : Keyword) (n : ℕ) (fields
 tell_none at earlier k n fields line is none =
     ap (λ l. placed at earlier (Ok l)) is ∙ ap (λ z. in_zone at z (Entry k n fields)) none
 
--- an entry after a Zone line, or one itself
 pub tell_some : (at : ℕ) (earlier : List Line) (k : Keyword) (n : ℕ) (fields : List (List ℕ)) (line : Line) (here : Place) (address : Address)
     → line ≡ Entry k n fields → IsPlaceAfter (Entry k n fields ∷ earlier) (Some here) → address_back (Entry k n fields ∷ earlier) ≡ Some address
     → Locates at earlier line (Ok (record { address = Some address; place = Some here }))
@@ -20,7 +19,6 @@ tell_some at earlier k n fields line here address is stands address_is = grind a
 pub reverse-push : {A : Type 0} (xs : List A) (x : A) → reverse (xs ++ x ∷ []) ≡ x ∷ reverse xs
 reverse-push xs x = reverse-append xs (x ∷ [])
 
--- one more line
 pub follows_more : (lines : List Line) (addresses : List (Option Address)) (place : Option Place) (line : Line) (located : Located)
     → Follows lines addresses place → IsLocated (reverse lines) line located → Follows (lines ++ line ∷ []) (addresses ++ located.address ∷ []) located.place
 follows_more lines addresses place line located before now = grind (arith, reverse-push)
@@ -56,7 +54,6 @@ pub kept_at : (f : List Line → Option Address) (lines : List Line) (kept : Lis
     → get_or kept i None ≡ cond (nat_lt i (length lines)) (f (lines_back lines i)) None
 kept_at f lines kept i is = grind (arith, cond_both, nat_lt, get_or, each_back_at, length-reverse, ltb-true, reverse-reverse, get_or-eq_default, length-each_back, ltb-false)
 
--- the first address that was found is that of the first line with it
 pub finds_first : (lines : List Line) (addresses : List (Option Address)) (wanted : Address) (found : Option ℕ) → addresses ≡ each_back address_back (reverse lines)
     → MatchOption found
     ((i : ℕ) → get_or addresses i None ≢ Some wanted)

@@ -1,10 +1,8 @@
--- Reading line after line.
 use Rattle.std.proofs.Common.{◌≡◌, ℕ, ◌+◌, List, [], ◌∷◌, ◌++◌, length, reverse, sym, ap, ◌∙◌, subst, arith, inl, inr, Result, Ok}
 use Rattle.std.proofs.lemmas.List.{append_assoc, append-nil, length-reverse, nil_from_length}
 use Rattle.echo_nodelist.specs.{declared.line.Line.Line, declared.fault.NodeFault.NodeFault, Raw.lines_of, Line.line_in, Nodelist.AreRead, Nodelist.Gives, Nodelist.line_outcome, Nodelist.placed}
 use Rattle.echo_nodelist.proofs.{LookingBack.reverse-push, Pieces.lines_nil}
 
--- the lines before `rest` are parsed
 pub record Done (text : List ℕ) (lines : List Line) (rest : List ℕ) : Type 0 where
   pub front : List (List ℕ)
   pub pieces : front ++ lines_of rest ≡ lines_of text
@@ -18,7 +16,6 @@ said_ok : (line : Line) (expected : Result Line NodeFault) → Gives (Ok line) e
 said_ok line expected (inl memory) = cc
 said_ok line expected (inr is) = is
 
--- one more line
 pub done_more : (text rest raw after : List ℕ) (lines : List Line) (line : Line) (number : ℕ) → Done text lines rest → lines_of rest ≡ raw ∷ lines_of after
     → number ≡ length lines + 1 → Gives (Ok line) (line_in number raw) → placed number (reverse lines) (Ok line) ≡ Ok line
     → Done text (lines ++ line ∷ []) after

@@ -1,4 +1,3 @@
--- Bytes are one nodelist at most, or have one first fault.
 use Rattle.std.proofs.Common.{◌≡◌, ℕ, List, [], ◌∷◌, ◌++◌, reverse, refl, sym, ap, ◌∙◌, subst, Ok, Err, arith}
 use Rattle.std.proofs.lemmas.List.{append_assoc, reverse-append, reverse-reverse}
 use Rattle.echo_nodelist.specs.{declared.line.Line.Line, declared.fault.NodeFault.NodeFault, Raw.node_lines, Nodelist.AreRead, Nodelist.NodelistFaultOf, Nodelist.NodelistOf, Nodelist.line_outcome}
@@ -19,7 +18,6 @@ pub same_nodelist : (bytes : List ℕ) (some others : List Line) → NodelistOf 
 same_nodelist bytes some others s o =
     sym (reverse-reverse some) ∙ ap reverse (same_read (reverse (node_lines bytes)) (reverse some) (reverse others) s o) ∙ reverse-reverse others
 
--- the lines before a line
 record Before (raw : List ℕ) (raws : List (List ℕ)) : Type 0 where
   line : Line
   earlier : List Line
@@ -48,7 +46,6 @@ front_faulty front raw later lines earlier fault read good faulty =
 pub none_faulty : (bytes : List ℕ) (lines : List Line) (fault : NodeFault) → NodelistOf bytes lines → NodelistFaultOf bytes fault → ⊥
 none_faulty bytes lines fault read faulty = grind (arith, front_faulty)
 
--- two places in one list: the same, or one before the other
 data Places (first : List (List ℕ)) (a : List ℕ) (second : List (List ℕ)) (b : List ℕ) : Type 0 where
   together : first ≡ second → a ≡ b → Places first a second b
   earlier : (between : List (List ℕ)) → second ≡ first ++ a ∷ between → Places first a second b

@@ -1,4 +1,3 @@
--- Cutting a text into pieces.
 use Rattle.std.proofs.Common.{◌≡◌, ℕ, ◌+◌, ◌-◌, ◌<◌, ◌==◌, Bool, false, List, [], ◌∷◌, ◌++◌, length, get_or, take, drop, map, Some, None, refl, sym, ap, ◌∙◌, arith}
 use Rattle.std.proofs.lemmas.{List.append_assoc, List.drop_all, List.take_rest, List.Elements.All-from_get_or, List.Sums.fails_before_first, List.Sums.position_or_len_is, List.Splits.slice_split_first, List.Splits.slice_split_none, Bool.false_from_ne_true}
 use Rattle.std.specs.{List.All, List.after_first, List.before_first, List.position_or_len, List.slice_split, Io.BufRead.strip_last}

@@ -108,7 +108,6 @@ register_single : (byte : ℕ) → register (byte ∷ []) ≡ fold shifted (zero
 unfolding register
 register_single byte = ap (fold shifted (zeros 16)) (append-nil (bits_of 8 byte))
 
--- the bits of a register, cut in two; those of the lower half moved up
 low_bits : (n : ℕ) → bits_of 8 (n % 2 ^ 8) ≡ bits_of 8 n
 low_bits n = same_bits 8 (n % 2 ^ 8) n (λ i below. sym (ap (λ m. bit_at m i) (sym (shr_split n 8)) ∙ bit_at_cat_low (n / 2 ^ 8) 8 (n % 2 ^ 8) i below))
 

@@ -17,7 +17,6 @@ five_digits (Some n) ds short none value =
 pub states_none : (text first line : List ℕ) → first ≡ before_first is_feed text → line ≡ strip_last 13 first → states_crc line ≡ false → Absent ≡ crc_of_text text
 states_none text first line before last none = grind (arith, cond-false)
 
--- the line states a number
 pub states_some : (text first line later : List ℕ) (stated computed : ℕ) → first ≡ before_first is_feed text → line ≡ strip_last 13 first
     → later ≡ after_first is_feed text → states_crc line ≡ true → stated ≡ stated_crc line → computed ≡ crc later → compared stated computed ≡ crc_of_text text
 states_some text first line later stated computed before last behind some stated_is computed_is = grind (arith, cond-true)

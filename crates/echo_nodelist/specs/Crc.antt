@@ -12,7 +12,6 @@ abbrev pub bits_value : List Bool → ℕ
 bits_value [] = 0
 bits_value (b ∷ rest) = (if b then 2 ^ length rest else 0) + bits_value rest
 
--- This many 0 bits.
 abbrev pub zeros : ℕ → List Bool
 zeros zero = []
 zeros (suc n) = false ∷ zeros n
@@ -38,7 +37,6 @@ stepped [] = []
 stepped (false ∷ rest) = rest
 stepped (true ∷ rest) = drop 1 (added divisor (true ∷ rest))
 
--- This many steps.
 abbrev pub steps : ℕ → List Bool → List Bool
 steps zero bits = bits
 steps (suc n) bits = steps n (stepped bits)

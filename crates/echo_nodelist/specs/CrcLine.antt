@@ -28,11 +28,9 @@ abbrev pub states_crc : List ℕ → Bool
 states_crc line =
     nat_le 5 (length line) && all_ascii_digits (last_five line) && ends_with_byte 58 (without_back_spaces (before_five line))
 
--- The number of the five digits.
 abbrev pub stated_crc : List ℕ → ℕ
 stated_crc line = digits_value 10 (last_five line)
 
--- A stated number compared with the computed one.
 abbrev pub compared : ℕ → ℕ → CrcLine
 compared stated computed = if stated == computed then Match stated else Mismatch stated computed
 
@@ -40,6 +38,6 @@ compared stated computed = if stated == computed then Match stated else Mismatch
 abbrev pub crc_of_text : List ℕ → CrcLine
 crc_of_text text = if states_crc (stating_line text) then compared (stated_crc (stating_line text)) (crc (later_bytes text)) else Absent
 
--- For a nodelist, up to its first 1A.
+-- The checksum line of a nodelist, up to its first 1A.
 abbrev pub crc_line_of : List ℕ → CrcLine
 crc_line_of bytes = crc_of_text (before_end bytes)

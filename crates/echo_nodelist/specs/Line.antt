@@ -54,12 +54,10 @@ number_of k digits = if is_number digits && is_fit k (digits_value 10 digits) th
 abbrev pub is_note : List ℕ → Bool
 is_note line = (length line == 0) || (slice_index line 0 == 59)
 
--- An entry of this keyword, with the parsed number.
 abbrev pub with_number : ℕ → Keyword → Option ℕ → List (List ℕ) → Result Line NodeFault
 with_number at k None fields = Err (BadNumber at)
 with_number at k (Some n) fields = Ok (Entry k n fields)
 
--- An entry of the parsed keyword.
 abbrev pub with_keyword : ℕ → Option Keyword → List ℕ → List (List ℕ) → Result Line NodeFault
 with_keyword at None digits fields = Err (BadKeyword at)
 with_keyword at (Some k) digits fields = with_number at k (number_of k digits) fields

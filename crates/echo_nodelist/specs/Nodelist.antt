@@ -4,7 +4,6 @@ use Rattle.std.specs.List.{list_all}
 use Rattle.echo_addr.specs.declared.address.Address.{Address}
 use Rattle.echo_nodelist.specs.{declared.keyword.Keyword.Keyword, declared.line.Line.Line, declared.line.Line.TheVariants.Note, declared.line.Line.TheVariants.Entry, declared.fault.NodeFault.NodeFault, declared.fault.NodeFault.TheVariants.Memory, declared.fault.NodeFault.TheVariants.NoZone, Raw.is_comma, Raw.is_end, Raw.is_feed, Raw.node_lines, Line.is_fit, Line.is_note, Line.line_in, Back.address_back, Back.each_back, Back.zone_back}
 
--- An entry, if a Zone line is at or before it.
 abbrev pub in_zone : ℕ → Option ℕ → Line → Result Line NodeFault
 in_zone at None line = Err (NoZone at)
 in_zone at (Some zone) line = Ok line
@@ -25,7 +24,6 @@ AreRead [] [] = Unit {0}
 AreRead (raw ∷ raws) (line ∷ earlier) = (line_outcome earlier raw ≡ Ok line) × AreRead raws earlier
 AreRead _ _ = ⊥
 
--- The bytes are a nodelist of these lines.
 abbrev pub NodelistOf : List ℕ → List Line → Type 0
 NodelistOf bytes lines = AreRead (reverse (node_lines bytes)) (reverse lines)
 
@@ -47,7 +45,6 @@ abbrev pub NodelistAnswered : List ℕ → Result (List Line) NodeFault → Type
 NodelistAnswered bytes (Ok lines) = NodelistOf bytes lines
 NodelistAnswered bytes (Err fault) = NodelistFaultOf bytes fault ⊎ (fault ≡ Memory)
 
--- This answer, or out of memory.
 abbrev pub Gives : {A : Type 0} → Result A NodeFault → Result A NodeFault → Type 0
 Gives answer expected = (answer ≡ Err Memory) ⊎ (answer ≡ expected)
 
@@ -58,14 +55,12 @@ is_inner b = not (is_end b) && not (is_feed b)
 abbrev pub is_field_byte : ℕ → Bool
 is_field_byte b = is_inner b && not (is_comma b)
 
--- The rules for each entry.
 pub record IsEntry (earlier : List Line) (k : Keyword) (n : ℕ) (fields : List (List ℕ)) : Type 0 where
   pub number : is_fit k n ≡ true
   pub enough : 5 ≤ length fields
   pub bytes : list_all (list_all is_field_byte) fields ≡ true
   pub zone : IsSome (zone_back (Entry k n fields ∷ earlier))
 
--- The rules for each line after earlier ones.
 abbrev pub IsGoodLine : List Line → Line → Type 0
 IsGoodLine earlier (Note text) = (is_note text ≡ true) × (list_all is_inner text ≡ true)
 IsGoodLine earlier (Entry k n fields) = IsEntry earlier k n fields

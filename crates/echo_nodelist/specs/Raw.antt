@@ -18,6 +18,5 @@ before_end bytes = before_first is_end bytes
 unfoldable pub lines_of : List ℕ → List (List ℕ)
 lines_of text = map (strip_last 13) (without_empty_last (slice_split is_feed text))
 
--- The lines of a nodelist.
 abbrev pub node_lines : List ℕ → List (List ℕ)
 node_lines bytes = lines_of (before_end bytes)

@@ -2,7 +2,6 @@
 use Rattle.std.specs.Prelude.{◌≡◌, ℕ, ◌⊎◌, List, reverse, Result, Ok, Err}
 use Rattle.echo_nodelist.specs.{declared.reading.Reading.Reading, declared.fault.NodeFault.NodeFault, declared.fault.NodeFault.TheVariants.Memory, Nodelist.AreRead, Nodelist.FaultIn, Place.Follows}
 
--- The reader's state belongs to its lines.
 abbrev pub IsInStep : Reading → Type 0
 IsInStep r = Follows r.lines.items r.addresses.items r.place
 

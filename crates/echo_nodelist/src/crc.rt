@@ -30,7 +30,6 @@ pub fn crc16(bytes: &[u8]) -> u16
     with_bytes(register, rest)
 }
 
-/// The checksum of some bytes more than those that gave `start`.
 fn with_bytes(start: u16, more: &[u8]) -> u16
     ensures { (bytes : List ℕ) → crc bytes ≡ start → result ≡ crc (bytes ++ more.now) }
 {
@@ -41,7 +40,6 @@ fn with_bytes(start: u16, more: &[u8]) -> u16
     register
 }
 
-/// The checksum of eight bytes more than those that gave `register`.
 fn with_eight(tables: &Tables, register: u16, eight: [u8; 8]) -> u16
     requires { AreTables tables.now }
     ensures { (bytes : List ℕ) → crc bytes ≡ register → result ≡ crc (bytes ++ eight) }
@@ -58,7 +56,6 @@ fn with_eight(tables: &Tables, register: u16, eight: [u8; 8]) -> u16
                             ^ (tables.one[g as usize] ^ TABLE[h as usize]))))))
 }
 
-/// The tables, each made of the one before.
 fn tables_of_zeros() -> Tables
     ensures { AreTables result }
 {
@@ -90,7 +87,6 @@ fn after_zero(table: &[u16; 256]) -> [u16; 256]
     next
 }
 
-/// The checksum of one byte more than those that gave `register`.
 fn with_byte(register: u16, byte: u8) -> u16
     ensures { (bytes : List ℕ) → crc bytes ≡ register → result ≡ crc (bytes ++ byte ∷ []) }
 {

@@ -5,7 +5,6 @@ use memchr::memchr;
 
 const END: u8 = 0x1a;
 
-/// The pieces before and after the first of these bytes.
 pub(crate) fn cut(byte: u8, text: &[u8]) -> Option<(&[u8], &[u8])>
     ensures none { IsNone result → position_or_len (λ b. b == byte) text.now ≡ length text.now }
     ensures found { IfSome result (λ p. position_or_len (λ b. b == byte) text.now < length text.now) }
@@ -36,7 +35,6 @@ pub(crate) fn without_return(line: &[u8]) -> &[u8]
     }
 }
 
-/// The first line, and the bytes after its end.
 pub(crate) fn split_line(text: &[u8]) -> (&[u8], &[u8])
     requires { 0 < length text.now }
     ensures lines { lines_of text.now ≡ result.0.now ∷ lines_of result.1.now }

@@ -4,8 +4,7 @@ ghost use Rattle.echo_nodelist.specs.Back.{address_back, each_back, hub_at, is_b
 use crate::line::Line;
 use echo_addr::Address;
 
-/// The address of the hub over the line at an index. It goes back from there to the Hub line, or to
-/// the line that begins the net.
+/// It goes back from the line to the Hub line, or to the line that begins the net.
 pub(crate) fn hub_at(lines: &[Line], addresses: &[Option<Address>], i: usize) -> Option<Address>
     requires { addresses.now ≡ each_back address_back (reverse lines.now) }
     ensures { result ≡ hub_at lines.now i }
@@ -17,7 +16,6 @@ pub(crate) fn hub_at(lines: &[Line], addresses: &[Option<Address>], i: usize) ->
     }
 }
 
-/// Whether the line may have a hub: an entry that is neither Zone, Region, Host nor Hub.
 fn is_below_hub(line: &Line) -> bool
     ensures { result ≡ is_below_hub line.now }
 {

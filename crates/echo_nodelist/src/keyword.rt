@@ -42,7 +42,6 @@ impl Keyword {
         }
     }
 
-    /// The keyword that the bytes write, in any case.
     pub(crate) fn of(bytes: &[u8]) -> Option<Keyword>
         ensures { result ≡ keyword_of bytes.now }
     {
@@ -58,7 +57,6 @@ impl Keyword {
         matches!(self, Keyword::Zone)
     }
 
-    /// Whether the line begins a net, as Zone, Region and Host do.
     pub(crate) fn begins_net(self) -> bool
         ensures { result ≡ begins_net self }
     {

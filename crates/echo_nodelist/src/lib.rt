@@ -1,22 +1,6 @@
-//! Nodelists (FTS-5000) and their checksum.
-//!
-//! Promise: bytes are one nodelist at most, or have one first fault (`one_nodelist`). `find` gives the first line with
-//! an address. The address of a line follows from the lines before it.
-//!
-//! Begin with `nodelist`, then `line` (one line), `place` (its zone and net) and `hub` (its hub).
-//! `reading` reads a file, `stated` compares the checksum of the first line, `fault`
-//! lists the refusals, `laws` states the promise. `crc_table`, `crc`, `cutting` and `keyword` are
-//! helpers.
-//!
-//! A caller:
-//!
-//! ```
-//! let nodelist = Nodelist::read(alloc, bytes)?;
-//! if let Some(i) = nodelist.find(address) {
-//!     let line = &nodelist.lines()[i];
-//!     let hub = nodelist.hub_of(i);
-//! }
-//! ```
+//! Nodelists (FTS-5000) and their checksum. Bytes are one nodelist at most, or have one first fault (`one_nodelist`).
+//! `find` gives the first line with an address, which follows from the lines before. Begin with `nodelist`, then
+//! `line`, `place` (zone and net) and `hub`.
 #![tactic(auto)]
 
 mod crc;

@@ -27,7 +27,6 @@ const LEAST_FIELDS: usize = 5;
 /// The greatest number of an entry.
 const MOST: u32 = 32767;
 
-/// Parses the bytes of a line, apart from the lines before it. `line` is its number.
 pub(crate) fn read_line(alloc: Global, line: usize, bytes: &[u8]) -> Result<Line, NodeFault>
     ensures { Gives result (line_in line bytes.now) }
 {

@@ -31,8 +31,7 @@ impl Nodelist {
     ghost use Rattle.std.specs.Prelude.{◌≡◌};
     ghost use Rattle.echo_nodelist.specs.{Back.Finds, Back.address_at, Back.hub_at, Nodelist.NodelistAnswered, Nodelist.IsNodelist};
 
-    /// The nodelist that the bytes are, up to the first 1A. A fault is that of the first faulty line,
-    /// or `Memory`.
+    /// The nodelist in the bytes up to the first 1A, the fault of the first faulty line, or `Memory`.
     pub fn read(alloc: Global, bytes: &[u8]) -> Result<Nodelist, NodeFault>
         ensures { NodelistAnswered bytes.now result }
     {
@@ -43,7 +42,6 @@ impl Nodelist {
         })
     }
 
-    /// The lines in order.
     pub fn lines(&self) -> &[Line]
         ensures lines { result.now ≡ self.now }
         ensures whole { IsNodelist self.now }
@@ -58,9 +56,8 @@ impl Nodelist {
         kept_at(&self.addresses, i)
     }
 
-    /// The address of the Hub over the line at an index, from 0. Only an entry with the keyword
-    /// Pvt, Hold, Down or none has one: the nearest Hub line before it with no Zone, Region or Host
-    /// line between them. The search goes back to the start of its net.
+    /// The address of the Hub over the line at an index, from 0: for an entry Pvt, Hold, Down or without keyword the
+    /// nearest Hub line before it in its net. The search goes back to the start of the net.
     pub fn hub_of(&self, i: usize) -> Option<Address>
         ensures { result ≡ hub_at self.now i }
     {
@@ -75,7 +72,6 @@ impl Nodelist {
     }
 }
 
-/// The address at an index; nothing past the end.
 fn kept_at(kept: &[Option<Address>], i: usize) -> Option<Address>
     ensures { result ≡ slice_index_or kept.now i None }
 {

@@ -13,14 +13,12 @@ pub(crate) struct Place {
     net: u16,
 }
 
-/// The address of a line, and the place after it.
 #[derive(Clone, Copy)]
 pub(crate) struct Located {
     pub(crate) address: Option<Address>,
     pub(crate) place: Option<Place>,
 }
 
-/// The address of a line after a place. `number` is the line's.
 pub(crate) fn locate(place: Option<Place>, number: usize, line: &Line) -> Result<Located, NodeFault>
     ensures { (earlier : List Line) → IsPlaceAfter earlier place → Locates number earlier line.now result }
 {
@@ -44,7 +42,6 @@ pub(crate) fn locate(place: Option<Place>, number: usize, line: &Line) -> Result
     })
 }
 
-/// The place after an entry; none where no Zone line came.
 fn after(place: Option<Place>, keyword: Keyword, number: u16) -> Option<Place>
     ensures { (earlier : List Line) (fields : List (List ℕ)) → IsPlaceAfter earlier place → IsPlaceAfter (Entry keyword number fields ∷ earlier) result }
 {
@@ -61,7 +58,6 @@ fn after(place: Option<Place>, keyword: Keyword, number: u16) -> Option<Place>
     Some(here)
 }
 
-/// The address of an entry, by the place after it.
 fn address(here: Place, keyword: Keyword, number: u16) -> Address
     ensures { (earlier : List Line) (fields : List (List ℕ)) → IsPlaceAfter (Entry keyword number fields ∷ earlier) (Some here)
         → address_back (Entry keyword number fields ∷ earlier) ≡ Some result }

@@ -8,7 +8,6 @@ use crate::place::{Place, locate};
 use echo_addr::Address;
 use std::alloc::Global;
 
-/// Lines that were read, with the address of each, and the place after them.
 #[derive(Drop)]
 pub(crate) struct Reading {
     pub(crate) lines: Vec<Line>,
@@ -17,7 +16,6 @@ pub(crate) struct Reading {
 }
 
 impl Reading {
-    /// Adds a line, the one of this number.
     fn push(&mut self, number: usize, line: Line) -> Result<(), NodeFault>
         requires { IsInStep self.old }
         ensures step { OnOk result (IsInStep self.new) }

@@ -61,7 +61,6 @@ fn stated_number(line: &[u8]) -> Option<u32>
     number(TOO_LARGE, digits)
 }
 
-/// The bytes without the blanks 20 at their end.
 fn without_spaces(bytes: &[u8]) -> &[u8]
     ensures { result.now ≡ without_back_spaces bytes.now }
 {

@@ -13,7 +13,6 @@ use Rattle.echo_packet.proofs.NextNumber.{number-cut, number-other, number-many,
 use Rattle.echo_packet.proofs.Headers.{AreBytes-take, AreBytes-drop, IsHeader-header_of, header_bytes-header_of}
 use Rattle.echo_packet.proofs.MessageByMessage.{run-opens, run-gives, run-ends, run-fails}
 
--- bytes up to the first 00, and the bytes after it
 record Split (r : List ℕ) : Type 0 where
   pub string : List ℕ
   pub rest : List ℕ
@@ -30,7 +29,6 @@ first_zero (x ∷ xs) = elim (cases_eq x 0) [
   ]
 ]
 
--- a string at the front of the bytes
 record HasString (most : ℕ) (r : List ℕ) : Type 0 where
   pub string : List ℕ
   pub rest : List ℕ
@@ -41,7 +39,6 @@ record HasString (most : ℕ) (r : List ℕ) : Type 0 where
 too_long : (most : ℕ) (r : List ℕ) → HasNoZero r → most < length r → IsTooLong most r
 too_long most r none more = (more, All-take (λ b. b ≢ 0) (most + 1) r none)
 
--- the bytes up to the first 00 are too many
 long_split : (most : ℕ) (r : List ℕ) (x : Split r) → most < length x.string → IsTooLong most r
 long_split most r x more =
     let s = x.string in
@@ -71,11 +68,9 @@ string_cases most r bytes = elim (first_zero r) [
   ]
 ]
 
--- a fault of the bytes behind the number 2
 abbrev FieldsFault : Limits → ℕ → ℕ → List ℕ → Type 0
 FieldsFault limits given start r = (f : PacketFault) × NextFault limits given start (word 2 ++ r) f × (IsOfCall f → ⊥)
 
--- a message behind the number 2
 record HasWhole (limits : Limits) (start : ℕ) (r : List ℕ) : Type 0 where
   pub message : Message
   pub rest : List ℕ
@@ -146,7 +141,6 @@ date_on limits given start p all r m more bytes h = elim (cases_lt (length r) 20
       (has-date limits.text start p (place_of (p + length d)) (Some all) (Some r) (Some (drop 20 r)) m d h (AreBytes-take 20 r bytes) size (sym (take-append-drop 20 r)) refl)
 ]
 
--- the fields behind the number 2
 some_fields : (limits : Limits) (given start : ℕ) (r : List ℕ) → given < limits.messages → AreBytes r → SomeFields limits given start r
 some_fields limits given start r more bytes =
     let p = place_of (start + 2) in
@@ -164,7 +158,6 @@ some_fields limits given start r more bytes =
           (has-numbers limits.text start p (place_of (p + length ns)) (Some r) (Some (drop 12 r)) ns refl (AreBytes-take 12 r bytes) size (sym (take-append-drop 12 r)) refl)
     ]
 
--- a message at the front of the bytes
 record HasNext (limits : Limits) (given : ℕ) (r : List ℕ) : Type 0 where
   pub message : Message
   pub rest : List ℕ
@@ -173,7 +166,6 @@ record HasNext (limits : Limits) (given : ℕ) (r : List ℕ) : Type 0 where
   pub more : given < limits.messages
   pub bytes : AreBytes rest
 
--- the terminator at the front of the bytes
 record HasEnd (r : List ℕ) : Type 0 where
   pub rest : List ℕ
   pub is : r ≡ word 0 ++ rest
@@ -206,7 +198,6 @@ some_next limits given start r fits room bytes = elim (cases_lt (length r) 2) [
       ]
 ]
 
--- some answer describes the bytes
 abbrev SomeAnswer : Limits → List ℕ → Type 0
 SomeAnswer limits bs = (a : Answer) × Describes limits bs a
 
@@ -229,7 +220,6 @@ some_run (suc k) limits bs h ms r given at so bytes less =
       ]
     ]
 
--- bytes are a packet or have a fault
 pub some_answer : (limits : Limits) (bs : List ℕ) → AreBytes bs → SomeAnswer limits bs
 some_answer limits bs bytes = elim (cases_lt (length bs) 58) [
   | inl short ↦ (Err (fault.Truncated 0), ([], inl (refl, refl, short)))

@@ -10,7 +10,6 @@ use Rattle.echo_packet.specs.{declared.limits.Limits.Limits, declared.fault.Pack
 use Rattle.echo_packet.specs.declared.fault.PacketFault.TheVariants as fault
 use Rattle.echo_packet.proofs.Headers.{word-number, word_then, number_at-fits}
 
--- a message of these six numbers, its other fields empty
 abbrev pub numbered : List ℕ → Message
 numbered ns = record {
   orig_node = number_at 0 ns;
@@ -26,7 +25,6 @@ numbered ns = record {
   text = [];
 }
 
--- a list of zeros
 zeros_are_bytes : (n : ℕ) → AreBytes (replicate n 0)
 zeros_are_bytes zero i = omega arith
 zeros_are_bytes (suc n) zero = omega arith
@@ -38,13 +36,11 @@ empty_string most = record { bytes = λ i. omega arith; no_zero = All-nil (λ b.
 pub numbered-fits : (most : ℕ) (ns : List ℕ) → AreBytes ns → IsMessage most (numbered ns)
 numbered-fits most ns bytes = grind (arith, number_at-fits, zeros_are_bytes, empty_string)
 
--- the message with other fields, each of its size
 with_fields : (most : ℕ) (m : Message) (d to_name from_name subject text : List ℕ) → IsMessage most m → length d ≡ 20 → AreBytes d → IsString max_name to_name
     → IsString max_name from_name → IsString max_subject subject → IsString most text
     → IsMessage most (record m { date = d; to_name = to_name; from_name = from_name; subject = subject; text = text })
 with_fields most m d to_name from_name subject text h size bytes to_fits from_fits subject_fits text_fits = grind arith
 
--- six numbers are written as they were read
 pub numbers-numbered : (ns : List ℕ) → AreBytes ns → length ns ≡ 12 → numbers (numbered ns) ≡ ns
 unfolding numbers
 numbers-numbered ns bytes size =
@@ -53,7 +49,6 @@ numbers-numbered ns bytes size =
     (word_then 6 4 ns _ bytes (omega arith) (word_then 8 2 ns _ bytes (omega arith) last)))) in
     sym all ∙ take_all 12 ns (omega arith)
 
--- the source gave the fields before this one, up to the place
 pub record HasFields (most start : ℕ) (old new : Option (List ℕ)) (field : Part) (m : Message) (at : ℕ) : Type 0 where
   pub consumed : List ℕ
   pub is : before field m ≡ word 2 ++ consumed
@@ -61,7 +56,6 @@ pub record HasFields (most start : ℕ) (old new : Option (List ℕ)) (field : P
   pub took : Consumes old new consumed
   pub place : at ≡ place_of (start + 2 + length consumed)
 
--- the place moves past a field
 further : (s p q : ℕ) (t u : List ℕ) → p ≡ place_of (s + length t) → q ≡ place_of (p + length u) → q ≡ place_of (s + length (t ++ u))
 further s p q t u here there = omega (arith, length-append t u)
 
@@ -97,12 +91,10 @@ pub has-text : (most start p q : ℕ) (a b c : Option (List ℕ)) (m : Message) 
 unfolding numbers
 has-text most start p q a b c m s h fits took there = grind (arith, further (start + 2) p q h.consumed (zero_ended s) h.place there, with_fields, Consumes-trans a b c h.consumed (zero_ended s) h.took took)
 
--- a fact about the remaining bytes gives one about the bytes before the call
 pub Consumes-known : (a b : Option (List ℕ)) (t : List ℕ) (P Q : List ℕ → Type 0) → Consumes a b t → IfSome b P
     → ((bs r : List ℕ) → bs ≡ t ++ r → P r → Q bs) → IfSome a Q
 Consumes-known a b t P Q h1 h2 h3 = grind arith
 
--- a fact about the received bytes, for all remaining bytes, is one about the bytes before the call
 pub Consumes-front : (a b : Option (List ℕ)) (t : List ℕ) (Q : List ℕ → Type 0) → Consumes a b t → ((r : List ℕ) → Q (t ++ r)) → IfSome a Q
 Consumes-front a b t Q h1 h2 = grind arith
 
@@ -125,13 +117,11 @@ reported : (limits : Limits) (given start p : ℕ) (a b : Option (List ℕ)) (fi
     → FieldFault Cut Long LongText p r f → NextFault limits given start (word 2 ++ bs) f
 reported limits given start p a b field m Cut Long LongText Past PastText bs r f h h1 h2 h3 h4 = grind (arith, at-part)
 
--- the next field of a message is wrong
 pub next-field : (limits : Limits) (given start p : ℕ) (a b : Option (List ℕ)) (field : Part) (m : Message) (Cut Long LongText Past PastText : List ℕ → Type 0) (f : PacketFault)
     (h : HasFields limits.text start a b field m p) → Tells limits field Cut Long LongText Past PastText → given < limits.messages
     → IfSome b (λ r. FieldFault Cut Long LongText p r f) → IfSome a (λ bs. NextFault limits given start (word 2 ++ bs) f)
 next-field limits given start p a b field m Cut Long LongText Past PastText f h tells more is = grind (arith, Consumes-known, reported)
 
--- the source gave bytes of the next field after the earlier fields
 behind : (limits : Limits) (given start p : ℕ) (a b c : Option (List ℕ)) (field : Part) (m : Message) (at : ℕ) (These : List ℕ → Type 0) (Of : Part → List ℕ → Type 0)
     → HasFields limits.text start a b field m p → given < limits.messages → at ≡ p → ((r : List ℕ) → These r → Of field r) → Consumed b c These
     → LosesUpTo limits given start (word 2) a c at Of
@@ -141,7 +131,6 @@ behind limits given start p a b c field m at These Of h more here fits_in (part,
   at-part limits given start p a b field m at Of (h.consumed ++ part) part h more refl here (fits_in part these),
 )
 
--- the bytes that left the source at a fault of the next field
 inside : (limits : Limits) (given start p : ℕ) (a b c : Option (List ℕ)) (field : Part) (m : Message) (Cut Long LongText Past PastText : List ℕ → Type 0) (f : PacketFault)
     → HasFields limits.text start a b field m p → Tells limits field Cut Long LongText Past PastText → given < limits.messages → FailsInField Cut Past PastText p b c f
     → FailsInMessage limits given start (word 2) a c f
@@ -162,7 +151,6 @@ inside limits given start p a b c field m Cut Long LongText Past PastText (fault
 inside limits given start p a b c field m Cut Long LongText Past PastText (fault.TooManyMessages at) h tells more lost = absurd lost
 inside limits given start p a b c field m Cut Long LongText Past PastText (fault.BadField n) h tells more lost = absurd lost
 
--- the next field of a message is at fault, as the call that read it says
 pub field-fails : (limits : Limits) (given start p : ℕ) (a b c : Option (List ℕ)) (field : Part) (m : Message) (Cut Long LongText Past PastText : List ℕ → Type 0) (f : PacketFault)
     → HasFields limits.text start a b field m p → Tells limits field Cut Long LongText Past PastText → given < limits.messages
     → IfSome b (λ r. FieldFault Cut Long LongText p r f) → FailsInField Cut Past PastText p b c f → FailsBehind limits given start a c f
@@ -171,11 +159,9 @@ field-fails limits given start p a b c field m Cut Long LongText Past PastText f
   inside = inside limits given start p a b c field m Cut Long LongText Past PastText f h tells more lost;
 }
 
--- the error that a call returned has Q
 pub at_exit : {A : Type 0} (r : Result A PacketFault) (y : PacketFault) (Q : PacketFault → Type 0) → r ≡ Err y → Q y → IfErr r Q
 at_exit r y Q e h = subst (λ x. IfErr x Q) (sym e) h
 
--- the same of bytes that are known
 pub at_exit_if : {A : Type 0} (a : Option (List ℕ)) (r : Result A PacketFault) (y : PacketFault) (Q : List ℕ → PacketFault → Type 0) → r ≡ Err y
     → IfSome a (λ bs. Q bs y) → IfSome a (λ bs. IfErr r (Q bs))
 at_exit_if a r y Q e h = subst (λ x. IfSome a (λ bs. IfErr x (Q bs))) (sym e) h
@@ -198,7 +184,6 @@ tells-subject limits = record { cut = λ r h. h; long = λ r h. h; long_text = �
 pub tells-text : (limits : Limits) → Tells limits Text (IsOpen limits.text) Never (IsTooLong limits.text) Never (IsPast limits.text)
 tells-text limits = record { cut = λ r h. h; long = λ r h. absurd h; long_text = λ r h. (refl, h); past = λ r h. absurd h; past_text = λ r h. (h.0, omega (arith, h.1)); later = λ e. cc }
 
--- the message that was made of the fields
 pub made_of : (ns d to_name from_name subject text : List ℕ) (a b e f h i : ℕ) (m : Message)
     → m ≡ record { orig_node = a; dest_node = b; orig_net = e; dest_net = f; attribute = h; cost = i; date = d; to_name = to_name; from_name = from_name; subject = subject; text = text }
     → a ≡ number_at 0 ns → b ≡ number_at 2 ns → e ≡ number_at 4 ns → f ≡ number_at 6 ns → h ≡ number_at 8 ns → i ≡ number_at 10 ns

@@ -5,11 +5,9 @@ use Rattle.std.proofs.{Math.Seq.take-add, Math.Seq.drop-append-add, lemmas.Bool.
 use Rattle.echo_packet.specs.Header.{AreBytes, IsHeader, word, number_at, header_bytes, header_of}
 use Rattle.echo_packet.specs.declared.header.Header.{Header}
 
--- the two bytes of a number
 pub number-word : (n : ℕ) → n % 256 + 256 * (n / 256) ≡ n
 number-word n = omega arith
 
--- the number at a place, written again
 pub word-number : (i : ℕ) (bs : List ℕ) → AreBytes bs → i + 2 ≤ length bs → take 2 (drop i bs) ≡ word (number_at i bs)
 word-number i bs bytes room = grind (arith, get_or, drop-cons, add-one)
 
@@ -19,31 +17,25 @@ AreBytes-take n bs h i = grind (arith, cases_lt, get_or-take, get_or_past, lengt
 pub AreBytes-drop : (n : ℕ) (bs : List ℕ) → AreBytes bs → AreBytes (drop n bs)
 AreBytes-drop n bs h i = rw get_or-drop (h (n + i))
 
--- the next field of k bytes, and n bytes after it
 pub take_field : (i k n : ℕ) (bs : List ℕ) → take (k + n) (drop i bs) ≡ take k (drop i bs) ++ take n (drop (i + k) bs)
 take_field i k n bs = take-add k n (drop i bs) ∙ ap (λ t. take k (drop i bs) ++ take n t) (drop-drop k i bs)
 
--- dropping a string of known length and k bytes more
 pub drop_past : (n k : ℕ) (s rest : List ℕ) → length s ≡ n → drop (n + k) (s ++ rest) ≡ drop k rest
 drop_past n k s rest e = let P : ℕ → Type 0 = λ m. drop (m + k) (s ++ rest) ≡ drop k rest in subst P e (drop-append-add s rest k)
 
--- a number and the bytes after it, written again
 pub word_then : (i n : ℕ) (bs t : List ℕ) → AreBytes bs → i + 2 ≤ length bs → take n (drop (i + 2) bs) ≡ t
     → take (2 + n) (drop i bs) ≡ word (number_at i bs) ++ t
 word_then i n bs t bytes room e =
     take_field i 2 n bs ∙ ap (λ f. f ++ take n (drop (i + 2) bs)) (word-number i bs bytes room) ∙ ap (λ r. word (number_at i bs) ++ r) e
 
--- the same for a number that is known
 word_is : (i n x : ℕ) (bs t : List ℕ) → AreBytes bs → i + 2 ≤ length bs → number_at i bs ≡ x → take n (drop (i + 2) bs) ≡ t
     → take (2 + n) (drop i bs) ≡ word x ++ t
 word_is i n x bs t bytes room is e = word_then i n bs t bytes room e ∙ ap (λ m. word m ++ t) is
 
--- a byte and the bytes after it
 byte_then : (i n : ℕ) (bs t : List ℕ) → i < length bs → take n (drop (i + 1) bs) ≡ t
     → take (1 + n) (drop i bs) ≡ get_or bs i 0 ∷ t
 byte_then i n bs t room e = grind (arith, get_or, drop-cons, take_field)
 
--- a string of k bytes and the bytes after it
 string_then : (i k n : ℕ) (bs t : List ℕ) → take n (drop (i + k) bs) ≡ t → take (k + n) (drop i bs) ≡ take k (drop i bs) ++ t
 string_then i k n bs t e = take_field i k n bs ∙ ap (λ r. take k (drop i bs) ++ r) e
 
@@ -60,12 +52,10 @@ header_bytes-header_of bs bytes long type =
     sym (word_then 0 56 bs _ bytes (omega arith) (word_then 2 54 bs _ bytes (omega arith)
     (word_then 4 52 bs _ bytes (omega arith) (word_then 6 50 bs _ bytes (omega arith) moment))))
 
--- a number after a string of n bytes
 pub get_or_past_string : (n k : ℕ) (s rest : List ℕ) → length s ≡ n → get_or (s ++ rest) (n + k) 0 ≡ get_or rest k 0
 get_or_past_string n k s rest e =
     let P : ℕ → Type 0 = λ m. get_or (s ++ rest) (m + k) 0 ≡ get_or rest k 0 in subst P e (get_or-append-add s rest k 0)
 
--- the lengths of password and fill are enough
 pub header_of-parts : (h : Header) (rest : List ℕ) → length h.password ≡ 8 → length h.fill ≡ 20 → header_of (header_bytes h ++ rest) ≡ h
 unfolding header_bytes header_of
 header_of-parts h rest password_len fill_len =
@@ -122,7 +112,6 @@ IsHeader-header_of bs bytes long = record {
   fill = AreBytes-take 20 (drop 38 bs) (AreBytes-drop 38 bs bytes);
 }
 
--- a header read from bytes has the sizes of the table
 pub IsHeader-from_bytes : (h : Header) (bs : List ℕ) → bs ≡ header_bytes h → AreBytes bs → length bs ≡ 58 → length h.password ≡ 8 → length h.fill ≡ 20
     → IsHeader h
 IsHeader-from_bytes h bs is bytes size password fill =

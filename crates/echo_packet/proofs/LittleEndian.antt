@@ -4,11 +4,9 @@ use Rattle.std.specs.List.{flat_map}
 use Rattle.byteorder.specs.Endian.{little_bytes}
 use Rattle.echo_packet.specs.Header.{word}
 
--- the lowest two bytes of a number of two bytes
 pub little_bytes-word : (n : ℕ) → n < 2 ^ 16 → little_bytes 2 n ≡ word n
 little_bytes-word n fits = let high : n / 256 % 256 ≡ n / 256 = omega arith in ap (λ h. n % 256 ∷ h ∷ []) high
 
--- the same for each number of a list
 pub little_bytes-words : (ns : List ℕ) → ((i : ℕ) → get_or ns i 0 < 2 ^ 16) → flat_map (little_bytes 2) ns ≡ flat_map word ns
 little_bytes-words [] fit = refl
 little_bytes-words (n ∷ ns) fit =

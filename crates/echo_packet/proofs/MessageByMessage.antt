@@ -16,27 +16,23 @@ pub all-push : (P : Message → Type 0) (ms : List Message) (m : Message) → Al
 all-push P [] m all last = (last, tt)
 all-push P (x ∷ ms) m all last = (all.0, all-push P ms m all.1 last)
 
--- the header was read
 pub run-opens : (limits : Limits) (bs : List ℕ) (h : Header) (rest : List ℕ) → IsHeader h → bs ≡ header_bytes h ++ rest → SoFar limits bs h [] rest 0 58
 run-opens limits bs h rest fits bytes = grind arith
 
 pub past : (k n s at : ℕ) → at ≡ place_of (58 + n) → s ≡ n + k → place_of (at + k) ≡ place_of (58 + s)
 past k n s at here size = omega arith
 
--- one more message was read
 pub run-gives : (limits : Limits) (bs : List ℕ) (h : Header) (ms : List Message) (r rest : List ℕ) (given at : ℕ) (m : Message) → SoFar limits bs h ms r given at
     → r ≡ message_bytes m ++ rest → IsMessage limits.text m → given < limits.messages
     → SoFar limits bs h (ms ++ m ∷ []) rest (given + 1) (place_of (at + length (message_bytes m)))
 run-gives limits bs h ms r rest given at m so split fits more = grind (arith, messages_bytes-push, length-append, append_assoc, all-push, past)
 
--- the terminator was read
 pub run-ends : (limits : Limits) (bs : List ℕ) (h : Header) (ms : List Message) (r rest : List ℕ) (given at : ℕ) → SoFar limits bs h ms r given at
     → r ≡ word 0 ++ rest → Describes limits bs (Ok (h, ms, length (packet_bytes h ms)))
 run-ends limits bs h ms r rest given at so split =
     let whole : bs ≡ packet_bytes h ms ++ rest = grind (arith, append_assoc) in
     let size : length bs ≡ length (packet_bytes h ms) + length rest = ap length whole ∙ length-append (packet_bytes h ms) rest in grind (arith, take_at)
 
--- how many bytes a packet has
 pub length-packet_bytes : (h : Header) (ms : List Message) → IsHeader h → length (packet_bytes h ms) ≡ 58 + length (messages_bytes ms) + 2
 length-packet_bytes h ms fits =
     omega (arith, length-append (header_bytes h) (messages_bytes ms ++ word 0), length-append (messages_bytes ms) (word 0), length-header_bytes h fits)
@@ -45,7 +41,6 @@ at_field : (limits : Limits) (bs : List ℕ) (h : Header) (ms : List Message) (r
     → SoFar limits bs h ms r given start → AtPart limits given start r at Wrong → AtField limits bs ms at Wrong
 at_field limits bs h ms r given start at Wrong so a = grind arith
 
--- a message or the terminator was not read
 pub run-fails : (limits : Limits) (bs : List ℕ) (h : Header) (ms : List Message) (r : List ℕ) (given start : ℕ) (f : PacketFault)
     → SoFar limits bs h ms r given start → NextFault limits given start r f → FaultOf bs limits ms f ⊎ IsOfCall f
 run-fails limits bs h ms r given start f h1 h2 = grind (arith, at_field)

@@ -1,10 +1,8 @@
--- One field read from the front of bytes.
 use Rattle.std.proofs.Common.{◌≡◌, ◌≢◌, ℕ, zero, suc, ◌<◌, ◌≤◌, ◌==◌, nat_lt, List, [], ◌∷◌, ◌++◌, length, take, drop, refl, ap, ◌∙◌, subst, arith, add-one, cond}
 use Rattle.std.proofs.lemmas.Bool.{lt-ltb, le-ltb, ne_eqb, cond-true, cond-false}
 use Rattle.std.proofs.lemmas.List.{length-append, take_at, drop_at, Elements.All-head, Elements.All-tail}
 use Rattle.echo_packet.specs.{Message.HasNoZero, Message.zero_ended, Fault.IsTooLong}
 
--- a field and the bytes after it, or why the field is missing
 pub data FieldRead : Type 0 where
   Got : List ℕ → List ℕ → FieldRead
   Cut : FieldRead
@@ -15,14 +13,12 @@ push x (Got s r) = Got (x ∷ s) r
 push x Cut = Cut
 push x Long = Long
 
--- a string of at most this many bytes
 pub string : ℕ → List ℕ → FieldRead
 string zero [] = Cut
 string zero (x ∷ xs) = cond (x == 0) (Got [] xs) Long
 string (suc k) [] = Cut
 string (suc k) (x ∷ xs) = cond (x == 0) (Got [] xs) (push x (string k xs))
 
--- a field of a fixed size
 pub fixed : ℕ → List ℕ → FieldRead
 fixed n r = cond (nat_lt (length r) n) Cut (Got (take n r) (drop n r))
 

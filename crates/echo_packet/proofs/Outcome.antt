@@ -12,7 +12,6 @@ use Rattle.echo_packet.specs.declared.fault.PacketFault.TheVariants as fault
 use Rattle.echo_packet.proofs.Verdicts.{Verdict, Whole, End, Wrong, verdict, verdict-whole, verdict-end, Fails, fails}
 use Rattle.echo_packet.proofs.{Headers.header_of-header_bytes, Headers.length-header_bytes, Headers.number_at-header_bytes, MessageByMessage.length-packet_bytes, Slices.IsJudged}
 
--- the messages and the bytes after the terminator, or the fault of a field and the bytes from there on
 data Ending : Type 0 where
   Ends : List Message → List ℕ → Ending
   Stops : (ℕ → PacketFault) → List ℕ → Ending
@@ -30,12 +29,10 @@ go_on (Whole m r) next = put m (next r)
 go_on (End r) next = Ends [] r
 go_on (Wrong f r) next = Stops f r
 
--- at most this many messages and the terminator
 run : ℕ → Limits → ℕ → List ℕ → Ending
 run zero limits given r = Ends [] r
 run (suc k) limits given r = go_on (verdict limits given r) (λ rest. run k limits (given + 1) rest)
 
--- k steps behind the messages
 abbrev steps : List Message → ℕ → ℕ
 steps [] k = k
 steps (m ∷ ms) k = suc (steps ms k)
@@ -63,7 +60,6 @@ put_all-ends : (ms : List Message) (r : List ℕ) → put_all ms (Ends [] r) ≡
 put_all-ends [] r = refl
 put_all-ends (m ∷ ms) r = ap (put m) (put_all-ends ms r)
 
--- each message has a byte
 pub length-messages : (ms : List Message) → length ms ≤ length (messages_bytes ms)
 length-messages [] = omega arith
 length-messages (m ∷ ms) = let less = length-messages ms in omega (arith, length-append (message_bytes m) (messages_bytes ms))
@@ -77,7 +73,6 @@ outcome limits bs =
     cond (nat_lt (length bs) 58) (Err (fault.Truncated 0))
     (cond (number_at 18 bs == 2) (answer_of bs (run (length bs) limits 0 (drop 58 bs))) (Err (fault.NotType2 18)))
 
--- bytes that begin with a header and messages
 record Begins (limits : Limits) (bs : List ℕ) (h : Header) (ms : List Message) (rest : List ℕ) : Type 0 where
   pub is_header : IsHeader h
   pub are_messages : AreMessages limits ms
@@ -88,7 +83,6 @@ begins-length : (limits : Limits) (bs : List ℕ) (h : Header) (ms : List Messag
 begins-length limits bs h ms rest b =
     omega (arith, ap length b.bytes, length-append (header_bytes h) (messages_bytes ms ++ rest), length-append (messages_bytes ms) rest, length-header_bytes h b.is_header)
 
--- the outcome is that of the bytes after the messages
 outcome-behind : (limits : Limits) (bs : List ℕ) (h : Header) (ms : List Message) (rest : List ℕ) → Begins limits bs h ms rest
     → (k : ℕ) × (outcome limits bs ≡ answer_of bs (put_all ms (run (suc k) limits (length ms) rest)))
 unfolding outcome
@@ -106,7 +100,6 @@ outcome-behind limits bs h ms rest b =
       grind (arith, cond-false, nat_lt, le-ltb, cond-true, eq-eqb, answer_of, run, run-messages),
     )
 
--- a packet is the outcome
 packet_is : (limits : Limits) (bs : List ℕ) (h : Header) (ms : List Message) (n : ℕ) → n ≤ length bs → PacketOf limits h ms (take n bs)
     → Ok (h, ms, n) ≡ outcome limits bs
 unfolding answer_of run go_on
@@ -124,13 +117,11 @@ packet_is limits bs h ms n within p =
     let ends = ap (λ v. go_on v (λ t. run behind.0 limits (length ms + 1) t)) (verdict-end limits (length ms) rest) in
     sym (behind.1 ∙ ap (answer_of bs) (ap (put_all ms) ends ∙ put_all-ends ms rest) ∙ (rw (is, left) refl))
 
--- a fault of a field is the outcome
 stop_is : (limits : Limits) (bs : List ℕ) (h : Header) (ms : List Message) (r : List ℕ) (f : PacketFault) → Begins limits bs h ms r
     → Fails limits (length ms) (58 + length (messages_bytes ms)) r f → Err f ≡ outcome limits bs
 unfolding answer_of run go_on
 stop_is limits bs h ms r f b x = grind (arith, outcome-behind limits bs h ms r b, begins-length limits bs h ms r b, go_on, run, answer_of bs, put_all-stops ms x.why x.rest)
 
--- the field at fault, behind the messages
 record AtMessages (limits : Limits) (bs : List ℕ) (ms : List Message) (at : ℕ) (Bad : Part → List ℕ → Type 0) : Type 0 where
   pub header : Header
   pub rest : List ℕ
@@ -171,6 +162,5 @@ only_one limits bs (Err fault.Stopped) d = absurd d.1
 only_one limits bs (Err (fault.Write n)) d = absurd d.1
 only_one limits bs (Err (fault.BadField n)) d = absurd d.1
 
--- an answer that describes the bytes is the only one
 pub answers-one : (limits : Limits) (bs : List ℕ) (given other : Answer) → IsJudged limits bs given → Describes limits bs other → AnswersAsDescribed given other
 answers-one limits bs given other h1 h2 = grind (arith, only_one)

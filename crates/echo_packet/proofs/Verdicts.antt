@@ -31,7 +31,6 @@ then_long : (p : FieldRead) (cut long : Verdict) (go : List ℕ → List ℕ →
 unfolding then_field
 then_long p cut long go e = ap (λ q. then_field q cut long go) e
 
--- from each field on, with the fields before it
 from_text : ℕ → Message → List ℕ → Verdict
 from_text text m r = then_field (string text r) (Wrong fault.Truncated r) (Wrong fault.TextTooLong r) (λ s rest. Whole (record m { text = s }) rest)
 
@@ -55,7 +54,6 @@ from_numbers : ℕ → List ℕ → Verdict
 from_numbers text r =
     then_field (fixed 12 r) (Wrong fault.Truncated r) (Wrong fault.Truncated r) (λ s rest. from_date text (numbered s) rest)
 
--- the verdict for a number and the remaining bytes
 from_kind : Limits → ℕ → List ℕ → ℕ → List ℕ → Verdict
 from_kind limits given r kind rest =
     cond (kind == 0) (End rest) (cond (kind == 2) (cond (given == limits.messages) (Wrong fault.TooManyMessages r) (from_numbers limits.text rest)) (Wrong fault.NotMessage r))
@@ -64,7 +62,6 @@ pub verdict : Limits → ℕ → List ℕ → Verdict
 verdict limits given r =
     then_field (fixed 2 r) (Wrong fault.Truncated r) (Wrong fault.Truncated r) (λ s rest. from_kind limits given r (number_at 0 s) rest)
 
--- the message with its six numbers alone
 abbrev only_numbers : Message → Message
 only_numbers m = record m { date = replicate 20 0; to_name = []; from_name = []; subject = []; text = [] }
 
@@ -76,7 +73,6 @@ length-numbers : (m : Message) → length (numbers m) ≡ 12
 unfolding numbers
 length-numbers m = refl
 
--- from a field on, with the fields of the message before it
 part_verdict : Limits → ℕ → Message → Part → List ℕ → Verdict
 part_verdict limits given m Number r = verdict limits given r
 part_verdict limits given m Numbers r = from_numbers limits.text r
@@ -126,7 +122,6 @@ pub verdict-end : (limits : Limits) (given : ℕ) (r : List ℕ) → verdict lim
 unfolding verdict from_kind
 verdict-end limits given r = then_got (fixed 2 (word 0 ++ r)) _ _ _ (word 0) r (fixed-whole 2 (word 0) r refl)
 
--- the earlier fields lead to the field
 reach : (limits : Limits) (given : ℕ) (m : Message) (field : Part) (r : List ℕ) → IsMessage limits.text m → (field ≢ Number → given < limits.messages)
     → verdict limits given (before field m ++ r) ≡ part_verdict limits given m field r
 unfolding part_verdict
@@ -145,7 +140,6 @@ unfolding part_verdict from_text
 text_is limits given m field r h =
     subst (λ f. part_verdict limits given m f r ≡ Wrong fault.TextTooLong r) (sym h.0) (then_long (string limits.text r) _ _ _ (string-long limits.text r h.1))
 
--- bytes that are long enough begin with a number
 number_of : (limits : Limits) (given : ℕ) (r : List ℕ) → 2 ≤ length r → verdict limits given r ≡ from_kind limits given r (number_at 0 r) (drop 2 r)
 unfolding verdict
 number_of limits given r long =
@@ -163,18 +157,15 @@ many_is : (limits : Limits) (given : ℕ) (m : Message) (field : Part) (r : List
 unfolding part_verdict from_kind
 many_is limits given m field r h = grind (arith, number_of, cond-false, ne_eqb, cond-true, eq-eqb, part_verdict)
 
--- a field of these bytes that is wrong
 wrong-part : (limits : Limits) (given start at : ℕ) (bs : List ℕ) (Bad : Part → List ℕ → Type 0) (why : ℕ → PacketFault) (a : AtPart limits given start bs at Bad)
     → ((m : Message) (field : Part) (r : List ℕ) → Bad field r → part_verdict limits given m field r ≡ Wrong why r) → verdict limits given bs ≡ Wrong why a.rest
 wrong-part limits given start at bs Bad why a is =
     ap (verdict limits given) a.bytes ∙ reach limits given a.one_more a.field a.rest a.is_message a.room ∙ is a.one_more a.field a.rest a.wrong
 
--- the number of bytes before a field
 part-place : (limits : Limits) (given start at : ℕ) (bs : List ℕ) (Bad : Part → List ℕ → Type 0) (a : AtPart limits given start bs at Bad)
     → at ≡ place_of (start + (length bs - length a.rest))
 part-place limits given start at bs Bad a = grind (arith, length-append)
 
--- a fault of the bytes, as they are read from left to right
 pub record Fails (limits : Limits) (given start : ℕ) (bs : List ℕ) (f : PacketFault) : Type 0 where
   pub why : ℕ → PacketFault
   pub rest : List ℕ
@@ -206,11 +197,9 @@ fails limits given start bs fault.Stopped a = absurd a
 fails limits given start bs (fault.Write n) a = absurd a
 fails limits given start bs (fault.BadField n) a = absurd a
 
--- bytes are read from left to right in one way
 one_reading : (limits : Limits) (given start : ℕ) (bs : List ℕ) (f g : PacketFault) → Fails limits given start bs f → Fails limits given start bs g → g ≡ f
 one_reading limits given start bs f g x y = grind arith
 
--- bytes have one fault
 pub one_fault : (limits : Limits) (given start : ℕ) (bs : List ℕ) (f g : PacketFault) → NextFault limits given start bs f → NextFault limits given start bs g
     → (g ≡ f) ⊎ (IsOfCall f ⊎ IsOfCall g)
 one_fault limits given start bs f g first second = grind (arith, fails, one_reading)

@@ -8,11 +8,9 @@ use Rattle.echo_packet.specs.declared.fault.PacketFault.TheVariants as fault
 abbrev pub Found : Type 0
 Found = Header × List Message × ℕ
 
--- A packet of these bytes, or their fault.
 abbrev pub Answer : Type 0
 Answer = Result Found PacketFault
 
--- The answer of a call, with its vector as a list.
 abbrev pub answered : Result (Header × Vec Message Global × ℕ) PacketFault → Answer
 answered (Ok r) = Ok (r.0, r.1.items, r.2)
 answered (Err f) = Err f

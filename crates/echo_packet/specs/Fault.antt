@@ -15,14 +15,12 @@ IsCut limits field r = HasNoZero r × (length r ≤ most_of limits.text field)
 abbrev pub IsTooLong : ℕ → List ℕ → Type 0
 IsTooLong most r = (most < length r) × HasNoZero (take (most + 1) r)
 
--- The field is a name or the subject, and it is too long.
 abbrev pub IsLongField : Part → List ℕ → Type 0
 IsLongField ToName r = IsTooLong max_name r
 IsLongField FromName r = IsTooLong max_name r
 IsLongField Subject r = IsTooLong max_subject r
 IsLongField _ r = ⊥
 
--- The field is the text, and it is too long.
 abbrev pub IsLongText : Limits → Part → List ℕ → Type 0
 IsLongText limits field r = (field ≡ Text) × IsTooLong limits.text r
 

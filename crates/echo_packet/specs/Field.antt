@@ -10,7 +10,6 @@ use Rattle.echo_packet.specs.declared.field.Taken.TheVariants as taken
 use Rattle.echo_packet.specs.declared.fault.Field.TheVariants as field
 use Rattle.echo_packet.specs.declared.fault.PacketFault.TheVariants as fault
 
--- The source gave bytes that have P.
 abbrev pub Consumed : Option (List ℕ) → Option (List ℕ) → (List ℕ → Type 0) → Type 0
 Consumed old new P = (consumed : List ℕ) × Consumes old new consumed × P consumed
 
@@ -61,55 +60,43 @@ FailsInField Cut Past PastText place old new (fault.FieldTooLong at) = (at ≡ p
 FailsInField Cut Past PastText place old new (fault.TextTooLong at) = (at ≡ place) × Consumed old new PastText
 FailsInField Cut Past PastText place old new _ = ⊥
 
--- The bytes end inside a field of that size.
 abbrev pub IsShort : ℕ → List ℕ → Type 0
 IsShort size bs = length bs < size
 
--- No bytes satisfy this.
 abbrev pub Never : List ℕ → Type 0
 Never bs = ⊥
 
--- The fault of a field of that size.
 abbrev pub FixedFault : ℕ → ℕ → List ℕ → PacketFault → Type 0
 FixedFault size = FieldFault (IsShort size) Never Never
 
--- The fault of a name or the subject.
 abbrev pub NameFault : ℕ → ℕ → List ℕ → PacketFault → Type 0
 NameFault most = FieldFault (IsOpen most) (IsTooLong most) Never
 
--- The fault of a text.
 abbrev pub TextFault : ℕ → ℕ → List ℕ → PacketFault → Type 0
 TextFault most = FieldFault (IsOpen most) Never (IsTooLong most)
 
--- The fault of the string of a field.
 abbrev pub StringFault : Field → ℕ → ℕ → List ℕ → PacketFault → Type 0
 StringFault field.Text most = TextFault most
 StringFault _ most = NameFault most
 
--- The bytes that left the source at the fault of a field of that size.
 abbrev pub FailsInFixed : ℕ → ℕ → Option (List ℕ) → Option (List ℕ) → PacketFault → Type 0
 FailsInFixed size = FailsInField (IsShort size) Never Never
 
--- The bytes that left the source at the fault of a name or the subject.
 abbrev pub FailsInName : ℕ → ℕ → Option (List ℕ) → Option (List ℕ) → PacketFault → Type 0
 FailsInName most = FailsInField (IsOpen most) (IsPast most) Never
 
--- The bytes that left the source at the fault of a text.
 abbrev pub FailsInText : ℕ → ℕ → Option (List ℕ) → Option (List ℕ) → PacketFault → Type 0
 FailsInText most = FailsInField (IsOpen most) Never (IsPast most)
 
--- The bytes that left the source at the fault of a string field.
 abbrev pub FailsInString : Field → ℕ → ℕ → Option (List ℕ) → Option (List ℕ) → PacketFault → Type 0
 FailsInString field.Text most = FailsInText most
 FailsInString _ most = FailsInName most
 
--- The fault of a field that the reader could not finish, by its place.
 abbrev pub broken_fault_at : ℕ → Broken → PacketFault
 broken_fault_at at broken.Cut = fault.Truncated at
 broken_fault_at at broken.Device = fault.Read at
 broken_fault_at at broken.Memory = fault.Memory
 
--- The fault of a string that is too long, by its field and its place.
 abbrev pub long_fault_at : Field → ℕ → PacketFault
 long_fault_at field.Text at = fault.TextTooLong at
 long_fault_at _ at = fault.FieldTooLong at

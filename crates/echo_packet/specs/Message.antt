@@ -19,7 +19,7 @@ pub record Message : Type 0 where
   pub subject : List ℕ
   pub text : List ℕ
 
--- The same message for the system of another node and net.
+-- The message for the system of another node and net.
 abbrev pub readdressed : Message → ℕ → ℕ → Message
 readdressed m node net = record {
   orig_node = m.orig_node;
@@ -49,7 +49,6 @@ pub record IsString (most : ℕ) (s : List ℕ) : Type 0 where
   pub no_zero : HasNoZero s
   pub room : length s ≤ most
 
--- A string and the 00 that ends it.
 abbrev pub zero_ended : List ℕ → List ℕ
 zero_ended s = s ++ 0 ∷ []
 
@@ -82,12 +81,10 @@ before Text m = ((((word 2 ++ numbers m) ++ m.date) ++ zero_ended m.to_name) ++ 
 abbrev pub message_bytes : Message → List ℕ
 message_bytes m = before Text m ++ zero_ended m.text
 
--- The bytes of the messages in order.
 abbrev pub messages_bytes : List Message → List ℕ
 messages_bytes [] = []
 messages_bytes (m ∷ ms) = message_bytes m ++ messages_bytes ms
 
--- The most bytes of a string field before its 00.
 abbrev pub most_of : ℕ → Part → ℕ
 most_of text ToName = max_name
 most_of text FromName = max_name
@@ -109,7 +106,6 @@ pub record IsMessage (most : ℕ) (m : Message) : Type 0 where
   pub subject : IsString max_subject m.subject
   pub text : IsString most m.text
 
--- The messages are within the limits.
 pub record AreMessages (limits : Limits) (ms : List Message) : Type 0 where
   pub each : AllByRecursion (IsMessage limits.text) ms
   pub room : length ms ≤ limits.messages

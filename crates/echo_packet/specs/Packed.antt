@@ -1,7 +1,6 @@
 -- The parts of a `Packed`.
 use Rattle.echo_packet.specs.{declared.packed.Packed.TheInside.Inside, Message.Message}
 
--- The message that has these fields.
 abbrev pub message_of : Inside → Message
 message_of p = record {
   orig_node = p.orig_node;

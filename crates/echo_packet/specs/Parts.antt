@@ -2,7 +2,6 @@
 use Rattle.std.specs.Prelude.{ℕ, List}
 use Rattle.echo_packet.specs.{declared.packed.Buffers.Buffers, declared.packed.PackedNumbers.PackedNumbers, Message.Message}
 
--- The message of these numbers, this date and these strings.
 abbrev pub message_with : PackedNumbers → List ℕ → Buffers → Message
 message_with numbers date strings = record {
   orig_node = numbers.orig_node;

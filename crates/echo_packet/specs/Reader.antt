@@ -9,15 +9,12 @@ use Rattle.echo_packet.specs.declared.reader.Stage.TheVariants as stage
 abbrev pub reader_source : {R : Type 0} → PacketReader R → R
 reader_source p = p.source
 
--- The header of the packet.
 abbrev pub reader_header : {R : Type 0} → PacketReader R → Header
 reader_header p = p.header
 
--- The limits that the caller sets.
 abbrev pub reader_limits : {R : Type 0} → PacketReader R → Limits
 reader_limits p = p.limits
 
--- The number of messages returned.
 abbrev pub reader_given : {R : Type 0} → PacketReader R → ℕ
 reader_given p = p.given
 
@@ -29,15 +26,12 @@ reader_place p = p.place
 abbrev pub IsReading : {R : Type 0} → PacketReader R → Type 0
 IsReading p = p.stage ≡ stage.Reading
 
--- The reader passed the terminator.
 abbrev pub IsEnded : {R : Type 0} → PacketReader R → Type 0
 IsEnded p = p.stage ≡ stage.Ended
 
--- A call returned an error.
 abbrev pub IsStopped : {R : Type 0} → PacketReader R → Type 0
 IsStopped p = p.stage ≡ stage.Stopped
 
--- The header and the limits do not change.
 abbrev pub KeepsFront : {R : Type 0} → PacketReader R → PacketReader R → Type 0
 KeepsFront old new = (new.header ≡ old.header) × (new.limits ≡ old.limits)
 

@@ -3,15 +3,12 @@ use Rattle.std.specs.Prelude.{◌≡◌, ℕ, Bool, List, Option}
 use Rattle.disk_io.specs.Device.{Failed, SendsFront}
 use Rattle.echo_packet.specs.declared.{writer.PacketWriter.PacketWriter, fault.Unfinished.Unfinished, fault.PacketFault.TheVariants.Write}
 
--- The writer that takes the bytes.
 abbrev pub writer_below : {W : Type 0} → PacketWriter W → W
 writer_below p = p.writer
 
--- The number of bytes of the packet already sent.
 abbrev pub bytes_sent : {W : Type 0} → PacketWriter W → ℕ
 bytes_sent p = p.sent
 
--- An earlier call returned an error.
 abbrev pub has_stopped : {W : Type 0} → PacketWriter W → Bool
 has_stopped p = p.stopped
 

@@ -1,4 +1,3 @@
-//! A message for one system, which shares the common parts with other copies.
 ghost use Rattle.std.specs.Prelude.{◌≡◌, IfOk};
 ghost use Rattle.echo_packet.specs.Message.{readdressed};
 
@@ -7,8 +6,7 @@ use std::alloc::{AllocError, Global};
 use std::marker::Model;
 use std::rc::Rc;
 
-/// A packed message for one system. The copies of a message share all but the node and the net of
-/// their system, so each takes a few bytes.
+/// A packed message for one system. Copies share all but the node and net of their system; each takes a few bytes.
 #[derive(Debug, Drop)]
 pub struct PackedCopy {
     dest_node: u16,
@@ -36,7 +34,7 @@ impl PackedCopy {
         })
     }
 
-    /// The same message for the system of this node and net. Takes no memory.
+    /// The message for the system of this node and net. Takes no memory.
     pub fn copy_for(&self, dest_node: u16, dest_net: u16) -> Result<PackedCopy, AllocError>
         ensures { IfOk result (λ copy. copy ≡ readdressed self.now dest_node dest_net) }
     {
@@ -47,14 +45,12 @@ impl PackedCopy {
         })
     }
 
-    /// The node of the system that the copy is for.
     pub fn dest_node(&self) -> u16
         ensures { result ≡ self.now.dest_node }
     {
         self.dest_node
     }
 
-    /// The net of the system that the copy is for.
     pub fn dest_net(&self) -> u16
         ensures { result ≡ self.now.dest_net }
     {

@@ -9,7 +9,6 @@ use byteorder::{ByteOrder, LittleEndian};
 /// The number of bytes of a message before its strings.
 pub(crate) const FIXED_BYTES: usize = 34;
 
-// The numbers, the low byte of each first.
 fn write_numbers(numbers: &[u16], out: &mut [u8])
     requires { length out.old ≡ 2 * length numbers.now }
     ensures { out.new ≡ flat_map word numbers.now }
@@ -48,8 +47,7 @@ pub(crate) fn write_header(header: &Header, out: &mut [u8])
     out.copy_from_slice(&bytes);
 }
 
-/// The bytes of the message before its strings, for the system of this node and net: the number 2,
-/// the six numbers, DateTime.
+/// The bytes of the message before its strings, for the system of this node and net.
 #[tactic(auto, unfolding(crate::specs::Message::numbers))]
 pub(crate) fn fixed_bytes(message: &Packed, dest_node: u16, dest_net: u16) -> [u8; FIXED_BYTES]
     ensures { result ≡ (word 2 ++ numbers (readdressed message.now dest_node dest_net)) ++ message.now.date }

@@ -15,22 +15,18 @@ pub(crate) enum Piece {
     Whole(usize),
     /// All bytes are the string's.
     Open,
-    /// More bytes than there is room for.
     TooLong,
 }
 
 /// The part of a string that one more step took.
 #[derive(Clone, Copy, Debug, PartialEq, Eq)]
 pub(crate) enum Taken {
-    /// Some bytes, and more are to come.
     Part,
-    /// The last bytes, and the 00 after them.
     Whole,
     /// One byte more than there is room for, and no 00.
     TooLong,
 }
 
-// The string's part of the bytes. At most `room` of these are looked at, and one more.
 fn find_end(held: &[u8], room: usize) -> Piece
     ensures { IsPiece room held.now result }
 {
@@ -46,7 +42,6 @@ fn find_end(held: &[u8], room: usize) -> Piece
     }
 }
 
-// Takes one byte of the string, or its 00.
 fn take_byte<R: Source>(reader: &mut R, string: &mut Vec<u8>, room: usize) -> Result<Taken, Broken>
     ensures step { StepsString room string.old.items string.new.items (R.remaining reader.old) (R.remaining reader.new) result }
     ensures device { CountsBreak result (R.failures reader.old) (R.failures reader.new) }
@@ -66,7 +61,6 @@ fn take_byte<R: Source>(reader: &mut R, string: &mut Vec<u8>, room: usize) -> Re
     Ok(Taken::Part)
 }
 
-// Takes the string's part of the bytes that are already there.
 fn take_held<R: Source>(reader: &mut R, string: &mut Vec<u8>, room: usize) -> Result<Taken, Broken>
     requires { 0 < length (R.held reader.old) }
     ensures step { StepsString room string.old.items string.new.items (R.remaining reader.old) (R.remaining reader.new) result }

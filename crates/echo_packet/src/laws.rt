@@ -18,8 +18,7 @@ pub fn one_answer()
         (answer : Answer) × Describes limits bs answer × ((other : Answer) → Describes limits bs other → other ≡ answer) }
 {}
 
-/// A written packet is read back, whatever follows it: its bytes are described by its header, its
-/// messages and their length, where these keep the limits.
+/// A written packet is read back, whatever follows it, if its messages keep the limits.
 pub fn written_packet_reads_back()
     ensures { (limits : Limits) (h : Header) (ms : List Message) (rest : List ℕ) → IsHeader h → AreMessages limits ms →
         Describes limits (packet_bytes h ms ++ rest) (Ok (h, ms, length (packet_bytes h ms))) }
@@ -28,22 +27,17 @@ pub fn written_packet_reads_back()
 /// The bytes that are read message by message are a packet or have one fault. The calls of
 /// `PacketReader` go from one `SoFar` to the next, and end in that packet or that fault.
 pub fn whole_runs()
-    // `open` read the header.
     ensures opens { (limits : Limits) (bs : List ℕ) (h : Header) (rest : List ℕ) → IsHeader h → bs ≡ header_bytes h ++ rest → SoFar limits bs h [] rest 0 58 }
-    // `next` answered a message.
     ensures gives { (limits : Limits) (bs : List ℕ) (h : Header) (ms : List Message) (left rest : List ℕ) (given at : ℕ) (m : Message) → SoFar limits bs h ms left given at →
         left ≡ message_bytes m ++ rest → IsMessage limits.text m → given < limits.messages →
         SoFar limits bs h (ms ++ m ∷ []) rest (given + 1) (place_of (at + length (message_bytes m))) }
-    // `next` reached the terminator.
     ensures ends { (limits : Limits) (bs : List ℕ) (h : Header) (ms : List Message) (left rest : List ℕ) (given at : ℕ) → SoFar limits bs h ms left given at →
         left ≡ word 0 ++ rest → Describes limits bs (Ok (h, ms, length (packet_bytes h ms))) }
-    // `next` answered a fault: one of the bytes, of the device or of memory.
     ensures fails { (limits : Limits) (bs : List ℕ) (h : Header) (ms : List Message) (left : List ℕ) (given at : ℕ) (f : PacketFault) → SoFar limits bs h ms left given at →
         NextFault limits given at left f → FaultOf bs limits ms f ⊎ IsOfCall f }
 {}
 
-/// Bytes that begin with no whole message and no terminator have one fault of `next`. So a fault of
-/// the reader has one place, too: where the bytes that came would be truncated.
+/// Bytes that begin with no whole message and no terminator have one fault of `next`, with one place.
 pub fn one_next_fault()
     ensures { (limits : Limits) (given start : ℕ) (bs : List ℕ) (f other : PacketFault) → NextFault limits given start bs f → NextFault limits given start bs other →
         (other ≡ f) ⊎ (IsOfCall f ⊎ IsOfCall other) }

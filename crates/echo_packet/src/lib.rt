@@ -1,22 +1,6 @@
-//! FidoNet packets of type 2 (FTS-0001).
-//!
-//! Promise: `read_packet` accepts exactly the packets and answers their length in bytes. Otherwise
-//! it answers the one fault of the input, with its place. A `PacketReader` does the same over any
-//! source, message by message, and takes no byte after the packet.
-//!
-//! Begin with `packed` (one message) and `header` (the 58 bytes in front). `reader` reads a packet message by
-//! message, `reading` reads one in a slice; both use `message` and `field`. `writer`, `sending` and `encoding`
-//! write one, `copy` is a message for one system. `limits` and `fault` define refusals, `laws` states the
-//! promise.
-//!
-//! A caller, who reads a packet message by message:
-//!
-//! ```
-//! let mut reader = PacketReader::open(alloc, source, Limits::NONE)?;
-//! while let Some(message) = reader.next()? {
-//!     file(message.text())?;
-//! }
-//! ```
+//! FidoNet packets of type 2 (FTS-0001). `read_packet` accepts exactly the packets and answers their length in bytes,
+//! or the one fault of the input with its place. `PacketReader` does so over any source, message by message, and takes
+//! no byte after the packet. Begin with `packed` (one message) and `header`.
 #![tactic(auto)]
 
 mod copy;

@@ -12,7 +12,6 @@ use crate::limits::{Limits, MAX_NAME, MAX_SUBJECT};
 use crate::packed::{Buffers, Packed, PackedNumbers};
 use disk_io::{Broken, Source, read_fixed};
 
-/// The fault of a field that was not read, by its place.
 pub(crate) fn broken_fault(broken: Broken, at: u64) -> PacketFault
     ensures { result ≡ broken_fault_at at broken }
 {
@@ -23,7 +22,6 @@ pub(crate) fn broken_fault(broken: Broken, at: u64) -> PacketFault
     }
 }
 
-// The fault of a string that is too long.
 fn long_fault(field: Field, at: u64) -> PacketFault
     ensures { result ≡ long_fault_at field at }
 {
@@ -33,14 +31,12 @@ fn long_fault(field: Field, at: u64) -> PacketFault
     }
 }
 
-// Past a string and its 00. The greatest place stays.
 fn past_string(place: u64, string: &[u8]) -> u64
     ensures { result ≡ place_of (place + length (zero_ended string.now)) }
 {
     place.saturating_add(string.len() as u64).saturating_add(1)
 }
 
-// Fills a field that begins at the place, which moves past it.
 fn fixed_at<R: Source>(reader: &mut R, field: &mut [u8], place: &mut u64) -> Result<(), PacketFault>
     ensures bytes { AreBytes field.new }
     ensures taken { OnOk result (Consumes (R.remaining reader.old) (R.remaining reader.new) field.new) }
@@ -58,7 +54,6 @@ fn fixed_at<R: Source>(reader: &mut R, field: &mut [u8], place: &mut u64) -> Res
     }
 }
 
-// The string of the field, which begins at the place; the place moves past it. It fills `buffer`.
 fn string_at<R: Source>(
     buffer: Vec<u8>,
     reader: &mut R,
@@ -83,7 +78,6 @@ fn string_at<R: Source>(
     }
 }
 
-// The fields of a message after its number 2, which is just before the place.
 fn read_fields<R: Source>(
     buffers: Buffers,
     reader: &mut R,

@@ -96,11 +96,8 @@ fn first_bad(to_name: &[u8], from_name: &[u8], subject: &[u8], text: &[u8]) -> O
 }
 
 impl Packed {
-    /// The message of these parts: the two systems, the attributes and the cost, the date, and the
-    /// strings without their 00.
-    ///
-    /// It is `BadField` of the first of the names, the subject and the text that holds 00 or is too
-    /// long: a name may have `MAX_NAME` bytes, a subject `MAX_SUBJECT`, a text any number.
+    /// The message of these parts, the strings without their 00. `BadField` is the first of the names, the subject and
+    /// the text that holds 00 or is too long (`MAX_NAME`, `MAX_SUBJECT`; a text has no limit).
     #[allow(clippy::too_many_arguments)]
     pub fn new(
         orig_node: u16,
@@ -177,7 +174,6 @@ impl Packed {
         }
     }
 
-    /// The buffers of its strings.
     pub fn into_buffers(self) -> Buffers {
         Buffers {
             to_name: self.to_name.into_vec(),
@@ -194,7 +190,6 @@ impl Packed {
         self.orig_node
     }
 
-    /// The node of the system that the packet is for.
     pub fn dest_node(&self) -> u16
         ensures { result ≡ self.now.dest_node }
     {
@@ -208,7 +203,6 @@ impl Packed {
         self.orig_net
     }
 
-    /// The net of the system that the packet is for.
     pub fn dest_net(&self) -> u16
         ensures { result ≡ self.now.dest_net }
     {
@@ -222,7 +216,6 @@ impl Packed {
         self.attribute
     }
 
-    /// The cost.
     pub fn cost(&self) -> u16
         ensures { result ≡ self.now.cost }
     {
@@ -250,14 +243,12 @@ impl Packed {
         self.from_name.as_slice()
     }
 
-    /// The subject, without its 00.
     pub fn subject(&self) -> &[u8]
         ensures { result.now ≡ self.now.subject }
     {
         self.subject.as_slice()
     }
 
-    /// The text, without its 00.
     pub fn text(&self) -> &[u8]
         ensures text { result.now ≡ self.now.text }
         ensures message { IsMessage (length self.now.text) self.now }

@@ -1,4 +1,3 @@
-//! A packet read from any source, message by message.
 ghost use Rattle.std.specs.Prelude.{◌≤◌};
 
 mod calls;
@@ -8,14 +7,10 @@ use crate::limits::Limits;
 pub use calls::read_header;
 use std::alloc::Global;
 
-/// The expected next part.
 #[derive(Clone, Copy, Debug, PartialEq, Eq)]
 enum Stage {
-    /// A message or the terminator.
     Reading,
-    /// The terminator was read.
     Ended,
-    /// A call answered an error.
     Stopped,
 }
 

@@ -15,9 +15,7 @@ pub fn read_packet(
     bytes: &[u8],
     limits: Limits,
 ) -> Result<(Header, Vec<Packed>, usize), PacketFault>
-    // Each answer is right for the bytes.
     ensures judged { (answered result ≡ Err Memory) ⊎ Describes limits bytes.now (answered result) }
-    // The right answer is the only one.
     ensures only { (other : Answer) → Describes limits bytes.now other → AnswersAsDescribed (answered result) other }
 {
     read_messages(alloc, bytes, limits)

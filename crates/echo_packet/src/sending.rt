@@ -21,7 +21,6 @@ pub fn send_header<W: Sink>(writer: &mut W, header: &Header, sent: &mut u64) -> 
     send(writer, &bytes, sent)
 }
 
-// A string and the 00 that ends it.
 fn send_string<W: Sink>(writer: &mut W, string: &[u8], sent: &mut u64) -> Result<(), Failure>
     ensures bytes { Sends (W.contents writer.old) (W.contents writer.new) result (zero_ended string.now) sent.old sent.new }
     ensures ok { OnOk result (W.failures writer.new ≡ W.failures writer.old) }
@@ -31,8 +30,7 @@ fn send_string<W: Sink>(writer: &mut W, string: &[u8], sent: &mut u64) -> Result
     send(writer, &[0], sent)
 }
 
-/// Writes the bytes of the message for the system of this node and net. Adds to `sent` how many went
-/// out.
+/// Writes the message for the system of this node and net. Adds to `sent` how many bytes went out.
 pub fn send_message<W: Sink>(
     writer: &mut W,
     message: &Packed,

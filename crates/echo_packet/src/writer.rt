@@ -11,8 +11,7 @@ use crate::packed::Packed;
 use crate::sending::{send_header, send_message, send_terminator};
 use disk_io::{Failure, Sink};
 
-/// Writes a packet: its header, messages one by one, and the terminator (FTS-0001). It takes no
-/// memory.
+/// Writes a packet (FTS-0001): its header, messages one by one, and the terminator. Takes no memory.
 #[derive(Drop)]
 pub struct PacketWriter<W> {
     writer: W,
@@ -21,8 +20,7 @@ pub struct PacketWriter<W> {
 }
 
 impl<W: Sink + Drop> PacketWriter<W> {
-    /// Writes the header. A fault is `Write` with the number of bytes that were sent; the writer is
-    /// given back.
+    /// Writes the header. The fault `Write` has the number of bytes sent; the writer is given back.
     pub fn begin(writer: W, header: &Header) -> Result<PacketWriter<W>, Unfinished<W>>
         ensures bytes { IfOk result (λ packet. Appends (W.contents writer) (W.contents (writer_below packet)) (header_bytes header.now)) }
         ensures count { IfOk result (λ packet. bytes_sent packet ≡ 58) }
@@ -46,8 +44,8 @@ impl<W: Sink + Drop> PacketWriter<W> {
         }
     }
 
-    /// Writes a message. Faults: `Write` with the number of bytes that were sent since `begin`, its
-    /// own included; `Stopped` after an error of an earlier call.
+    /// Writes a message. Faults: `Write` with the number of bytes sent since `begin`; `Stopped` after an earlier
+    /// error.
     pub fn put(&mut self, message: &Packed) -> Result<(), PacketFault>
         ensures bytes { has_stopped self.old ≡ false → Sends (W.contents (writer_below self.old)) (W.contents (writer_below self.new)) result (message_bytes message.now) (bytes_sent self.old) (bytes_sent self.new) }
         ensures ok { OnOk result (has_stopped self.new ≡ false) }
@@ -75,7 +73,6 @@ impl<W: Sink + Drop> PacketWriter<W> {
         self.put_for(copy.message(), copy.dest_node(), copy.dest_net())
     }
 
-    // Writes the message for the system of this node and net.
     fn put_for(
         &mut self,
         message: &Packed,
@@ -109,8 +106,8 @@ impl<W: Sink + Drop> PacketWriter<W> {
         }
     }
 
-    /// Writes the terminator 00 00 and returns the writer, with a fault too. The owner flushes it. Faults are
-    /// those of `put`: after an error nothing is sent.
+    /// Writes the terminator 00 00 and returns the writer, not flushed, with a fault too. After an error nothing is
+    /// sent.
     pub fn finish(self) -> Result<W, Unfinished<W>>
         ensures bytes { IfOk result (λ writer. Appends (W.contents (writer_below self)) (W.contents writer) (word 0)) }
         ensures same { IfOk result (λ writer. W.failures writer ≡ W.failures (writer_below self)) }

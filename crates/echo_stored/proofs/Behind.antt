@@ -5,7 +5,6 @@ use Rattle.echo_text.specs.{Lines.area_word, Echo.EchoText, Echo.ended}
 use Rattle.echo_filed.specs.Written.{text_of}
 use Rattle.echo_stored.specs.StoredMessage.{text_behind}
 
--- how long the AREA line is
 area_len : (e : EchoText) → length (ended (area_word ++ e.tag)) ≡ length e.tag + 6
 area_len e = omega (arith, length-append (area_word ++ e.tag) (13 ∷ []), length-append area_word e.tag)
 

@@ -1,4 +1,3 @@
--- The result of parsing an address.
 use Rattle.std.proofs.Common.{◌≡◌, ℕ, List, Some, Result, Ok, Err, refl, sym}
 use Rattle.echo_addr.specs.{declared.address.Address.Address, declared.fault.AddrFault.AddrFault, Address.AddressOf, Address.outcome, Address.refusal}
 use Rattle.echo_addr.proofs.Outcomes.{outcome-written, outcome_refused}

@@ -10,7 +10,6 @@ use Rattle.echo_stored.specs.StoredMessage.{attribute_of, padded, stored_address
 use Rattle.echo_stored.specs.StoredReading.{ReadsBack, field_at, text_in, until_zero}
 use Rattle.echo_stored.proofs.Behind.{behind}
 
--- the number of bytes before a 00
 filled_len : (bytes rest : List ℕ) → AllByRecursion (λ b. b ≢ 0) bytes → prefix_len (λ b. not (b == 0)) (bytes ++ 0 ∷ rest) ≡ length bytes
 filled_len [] rest h = refl
 filled_len (b ∷ bytes) rest h =
@@ -20,7 +19,6 @@ before_zero : (bytes rest : List ℕ) → HasNoZero bytes → until_zero (bytes 
 before_zero bytes rest h =
     ap (λ n. take n (bytes ++ 0 ∷ rest)) (filled_len bytes rest (recursion_from_All (λ b. b ≢ 0) bytes h)) ∙ take_at bytes (0 ∷ rest) (length bytes) refl
 
--- a field that is filled with 00
 padded_len : (size : ℕ) (name : List ℕ) → length name < size → length (padded size name) ≡ size
 padded_len size name short = omega (arith, length-append name (replicate (size - length name) 0), length-replicate {A = ℕ} (size - length name) 0)
 
@@ -30,18 +28,15 @@ padded_back size name short h =
     let more : suc k ≡ size - length name = omega arith in
     subst (λ (n : ℕ). until_zero (name ++ replicate n 0) ≡ name) more (before_zero name (replicate k 0) h)
 
--- the field after some bytes
 field_back : (front name rest : List ℕ) (place size : ℕ) → length front ≡ place → length name < size → HasNoZero name
     → field_at place size (front ++ (padded size name ++ rest)) ≡ name
 field_back front name rest place size behind_front short h =
     ap (λ t. until_zero (take size t)) (drop_at front (padded size name ++ rest) place behind_front)
     ∙ ap until_zero (take_at (padded size name) rest size (padded_len size name short)) ∙ padded_back size name short h
 
--- the text has no 00
 behind_has_no_zero : (e : EchoText) → IsEcho e → HasNoZero (text_behind e)
 behind_has_no_zero e h = subst HasNoZero (behind e) (All-drop (λ b. b ≢ 0) (length e.tag + 6) (text_of e) (written_has_no_zero e (text_of e) h (text_is_text e h)))
 
--- four parts and the bytes after them, from the second and from the third part on
 from_second : (a b c d r : List ℕ) → (a ++ (b ++ (c ++ d))) ++ r ≡ a ++ (b ++ ((c ++ d) ++ r))
 from_second a b c d r = append_assoc a (b ++ (c ++ d)) r ∙ ap (λ t. a ++ t) (append_assoc b (c ++ d) r)
 

@@ -4,7 +4,6 @@ use Rattle.std.specs.{Result.result_ok, List.prefix_len, List.suffix_len, Int.is
 use Rattle.echo_addr.specs.{declared.address.Address.Address, Address.outcome}
 use Rattle.echo_text.specs.Echo.{EchoText, origin_of}
 
--- Digits, colons and slashes.
 abbrev pub is_address_byte : ℕ → Bool
 is_address_byte b = is_in_range 47 58 b
 
@@ -20,11 +19,10 @@ address_word bytes = take (prefix_len is_address_byte bytes) bytes
 abbrev pub origin_address : List ℕ → Option Address
 origin_address line = result_ok (outcome (address_word (behind_bracket line)))
 
--- The same for a line that may be absent.
+-- The address of an origin line that may be absent.
 abbrev pub address_found : Option (List ℕ) → Option Address
 address_found None = None
 address_found (Some line) = origin_address line
 
--- The address in the last origin line of a text.
 abbrev pub address_in_origin : EchoText → Option Address
 address_in_origin e = address_found (origin_of e.kept)

@@ -15,7 +15,6 @@ padded size bytes = bytes ++ replicate (size - length bytes) 0
 abbrev pub stored_front : Filed → List ℕ
 stored_front m = padded 36 m.from_name ++ (padded 36 m.to_name ++ (padded 72 m.subject ++ m.date))
 
--- The first of two addresses that is known, or zeros if neither is known.
 abbrev pub known_address : Option Address → Option Address → Address
 known_address (Some a) sender = a
 known_address None (Some a) = a

@@ -38,7 +38,6 @@ is_made line = begins msgid_word line || (begins reply_word line || (is_tear lin
 abbrev pub own_line : List ℕ → List ℕ
 own_line line = if is_made line then [] else ended line
 
--- The lines of a text that an editor's user wrote.
 abbrev pub body_of : List ℕ → List ℕ
 body_of text = flat_map own_line (lines text)
 
@@ -54,7 +53,6 @@ pub record IsDraft (bytes : List ℕ) (draft : StoredDraft) : Type 0 where
   pub reply_is : draft.reply.now ≡ reply_in (text_in bytes)
   pub body_is : draft.body ≡ body_of (text_in bytes)
 
--- The answer for a stored message to be posted.
 abbrev pub ReadAnswers : List ℕ → Result StoredDraft StoredFault → Type 0
 ReadAnswers bytes (Ok draft) = (is_to_post bytes ≡ true) × IsDraft bytes draft
 ReadAnswers bytes (Err BadMessage) = is_to_post bytes ≡ false

@@ -1,12 +1,6 @@
-//! Stored messages (FTS-0001): files of one message each, `*.MSG`, which editors and other tossers
-//! read and write.
-//!
-//! Promise: a call that succeeds appends just the bytes that `stored_bytes` gives for a message.
-//! The file of an editor is read field by field, or refused if it must not be posted. A written
-//! message is read back (`written_message_read_back`).
-//!
-//! Begin with `stored`, which writes one, and `reading`, which reads one for posting. `origin`
-//! finds the address in an origin line, `laws` states the promise.
+//! Stored messages (FTS-0001): files of one message each, `*.MSG`, which editors and other tossers read and write. A
+//! call that succeeds appends just the bytes that `stored_bytes` gives. The file of an editor is read for posting, or
+//! refused. A written message is read back. Begin with `stored` and `reading`.
 #![tactic(auto)]
 
 mod laws;

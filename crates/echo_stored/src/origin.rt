@@ -1,4 +1,3 @@
-//! The address in an origin line.
 ghost use Rattle.std.specs.Prelude.{◌≡◌, ◌≤◌, ◌==◌, not, length, reverse, take_while};
 ghost use Rattle.std.specs.Result.{result_ok};
 ghost use Rattle.echo_addr.specs.Address.{outcome};
@@ -20,14 +19,12 @@ fn address(word: &[u8]) -> Option<Address>
     Address::parse(word).ok()
 }
 
-// The bytes after the last `(`, or all where there is none.
 fn behind_bracket(line: &[u8]) -> &[u8]
     ensures { result.now ≡ behind_bracket line.now }
 {
     &line[line.len() - back_len(line)..]
 }
 
-// The number of bytes at the end that are no `(`.
 fn back_len(line: &[u8]) -> usize
     ensures exact { result ≡ length (take_while (λ b. not (b == 40)) (reverse line.now)) }
     ensures within { result ≤ length line.now }
@@ -35,14 +32,12 @@ fn back_len(line: &[u8]) -> usize
     line.iter().rev().take_while(|b| **b != 40).count()
 }
 
-// The digits, colons and slashes at the front.
 fn address_word(bytes: &[u8]) -> &[u8]
     ensures { result.now ≡ address_word bytes.now }
 {
     &bytes[..word_len(bytes)]
 }
 
-// How many they are.
 fn word_len(bytes: &[u8]) -> usize
     ensures exact { result ≡ length (take_while is_address_byte bytes.now) }
     ensures within { result ≤ length bytes.now }

@@ -27,9 +27,8 @@ impl From<AllocError> for StoredFault {
     }
 }
 
-/// The parts that an editor wrote: names, subject, the id of the message that is replied to or no
-/// bytes, and the lines of the text. It omits the lines that posting makes or a scan adds. Each
-/// line ends in 0D.
+/// The parts that an editor wrote: names, subject, the id of the message replied to or no bytes, and lines that end in
+/// 0D. Lines that posting makes or a scan adds are left out.
 #[derive(Debug, Drop)]
 pub struct StoredDraft<'a> {
     pub from_name: &'a [u8],
@@ -57,7 +56,6 @@ pub fn read_stored<'a>(alloc: Global, bytes: &'a [u8]) -> Result<StoredDraft<'a>
     })
 }
 
-// Whether they are a stored message that was written here and not sent yet.
 fn is_to_post(bytes: &[u8]) -> bool
     ensures value { result ≡ is_to_post bytes.now }
     ensures long { IsTrue result → 190 ≤ length bytes.now }
@@ -86,7 +84,6 @@ fn field_at(bytes: &[u8], place: usize, size: usize) -> &[u8]
     until_zero(&bytes[place..place + size])
 }
 
-// The text after the numbers.
 fn text_in(bytes: &[u8]) -> &[u8]
     requires { 190 ≤ length bytes.now }
     ensures { result.now ≡ text_in bytes.now }
@@ -107,7 +104,6 @@ fn until_zero(bytes: &[u8]) -> &[u8]
     &bytes[..filled_len(bytes)]
 }
 
-// The number of bytes before the first 00, or of all.
 fn filled_len(bytes: &[u8]) -> usize
     ensures exact { result ≡ length (take_while (λ b. not (b == 0)) bytes.now) }
     ensures within { result ≤ length bytes.now }
@@ -129,7 +125,6 @@ pub fn body_of(alloc: Global, text: &[u8]) -> Result<Vec<u8>, AllocError>
     Ok(body)
 }
 
-// Adds a line, unless it is made.
 fn push_own(body: &mut Vec<u8>, line: &[u8]) -> Result<(), AllocError>
     ensures { OnOk result (body.new.items ≡ body.old.items ++ own_line line.now) }
 {
@@ -139,7 +134,6 @@ fn push_own(body: &mut Vec<u8>, line: &[u8]) -> Result<(), AllocError>
     push_line(body, line)
 }
 
-// Whether posting makes such a line, or a scan adds it.
 fn is_made(line: &[u8]) -> bool
     ensures { result ≡ is_made line.now }
 {
@@ -182,7 +176,6 @@ pub fn is_seen(line: &[u8]) -> bool
     begins(b"SEEN-BY:", line)
 }
 
-// The id of the message that is replied to, or no bytes.
 fn reply_in(text: &[u8]) -> &[u8]
     ensures { result.now ≡ reply_in text.now }
 {
@@ -207,7 +200,6 @@ pub fn first_after<'a>(word: &[u8], text: &'a [u8]) -> Option<&'a [u8]>
     None
 }
 
-// The same of one line.
 fn value_of_line<'a>(word: &[u8], line: &'a [u8]) -> Option<&'a [u8]>
     ensures { option_copied result ≡ id_in word.now line.now }
 {

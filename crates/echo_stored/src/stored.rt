@@ -1,4 +1,3 @@
-//! Writes a message as a stored message.
 ghost use Rattle.std.specs.Prelude.{◌≡◌, ◌≤◌, ◌+◌, ◌%◌, ◌/◌, ◌++◌, IfOk, OnOk, drop, length};
 ghost use Rattle.echo_filed.specs.Written.{text_of};
 ghost use Rattle.echo_stored.specs.OriginAddress as origins;
@@ -38,14 +37,12 @@ pub fn push_stored(
     push_bytes(stored, &[0])
 }
 
-/// Adds the bytes.
 pub fn push_bytes(stored: &mut Vec<u8>, bytes: &[u8]) -> Result<(), AllocError>
     ensures { OnOk result (stored.new.items ≡ stored.old.items ++ bytes.now) }
 {
     stored.extend_from_slice(bytes)
 }
 
-// Adds names, subject and DateTime.
 fn push_front(stored: &mut Vec<u8>, message: &Filed) -> Result<(), AllocError>
     ensures { OnOk result (stored.new.items ≡ stored.old.items ++ stored_front message.now) }
 {
@@ -55,7 +52,6 @@ fn push_front(stored: &mut Vec<u8>, message: &Filed) -> Result<(), AllocError>
     push_bytes(stored, &message.date)
 }
 
-// Adds bytes, and pads them with 00 to `size` bytes.
 fn push_padded(stored: &mut Vec<u8>, bytes: &[u8], size: usize) -> Result<(), AllocError>
     requires fits { length bytes.now ≤ size }
     requires small { size ≤ 72 }
@@ -65,7 +61,6 @@ fn push_padded(stored: &mut Vec<u8>, bytes: &[u8], size: usize) -> Result<(), Al
     push_bytes(stored, &ZEROS[..size - bytes.len()])
 }
 
-// The address that the message is from: that of its origin line, else that of the system that sent it.
 fn stored_address(message: &Filed) -> Address
     ensures { result ≡ stored_address message.now }
 {
@@ -82,7 +77,6 @@ pub fn address_in_origin(echo: &Echo) -> Option<Address>
     }
 }
 
-// The first of two addresses that is known.
 fn known_address(origin: Option<Address>, sender: Option<Address>) -> Address
     ensures { result ≡ known_address origin sender }
 {
@@ -99,7 +93,6 @@ fn known_address(origin: Option<Address>, sender: Option<Address>) -> Address
     }
 }
 
-// The attribute of a message by whether it was scanned, and by who sent it.
 fn attribute_of(scanned: bool, sender: Option<Address>) -> u16
     ensures { result ≡ attribute_of scanned sender }
 {
@@ -110,8 +103,6 @@ fn attribute_of(scanned: bool, sender: Option<Address>) -> u16
     }
 }
 
-// The numbers of a message from this address: timesRead, destNode, origNode, cost, origNet, destNet, destZone,
-// origZone, destPoint, origPoint, replyTo, Attribute and nextReply.
 fn numbers(from: Address, attribute: u16) -> [u8; 26]
     ensures { result ≡ stored_numbers from attribute }
 {
@@ -137,7 +128,6 @@ fn high(number: u16) -> u8
     (number / 256) as u8
 }
 
-// Adds the text that is written for the message, without its AREA line.
 fn push_text(alloc: Global, stored: &mut Vec<u8>, message: &Filed) -> Result<(), AllocError>
     ensures { OnOk result (stored.new.items ≡ stored.old.items ++ text_behind message.now.echo) }
 {

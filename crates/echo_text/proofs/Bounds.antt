@@ -9,7 +9,6 @@ use Rattle.echo_text.specs.Lines.{after_feeds, after_word, begins, control_word,
 use Rattle.echo_text.specs.Tail.{all_dropped, lists_of, tail}
 use Rattle.echo_text.proofs.{LineKinds.control_is_not_seen, EachLine.listed_no, EachLine.listed_yes, Tails.all_tail}
 
--- how many pieces are not empty
 abbrev filled : List (List ℕ) → List (List ℕ)
 filled pieces = filter (λ t. nat_lt 0 (length t)) pieces
 
@@ -45,7 +44,6 @@ unfolding after_word
 after_within word line =
     omega (arith, length-drop (length word) (after_feeds line), length-drop (prefix_len is_feed line) line)
 
--- a PATH line begins with 01
 one_of_path : (bytes : List ℕ) → starts_with nat_eq bytes path_prefix ≡ true → starts_with nat_eq bytes control_word ≡ true
 one_of_path [] path = absurd cc
 one_of_path (b ∷ bytes) path = ap (λ t. t && true) (and_parts (1 == b) _ path).0
@@ -54,7 +52,6 @@ path_is_a_control : (line : List ℕ) → is_path line ≡ true → is_control l
 unfolding begins
 path_is_a_control line path = one_of_path (after_feeds line) path
 
--- the number of tokens in the lists of some lines that are no entry
 dropped_in : List ℕ → List (List ℕ) → ℕ
 dropped_in word ls = all_dropped (lists_of word ls)
 

@@ -1,4 +1,3 @@
--- Bytes of which each line has its 0D.
 use Rattle.std.proofs.Common.{◌≡◌, ℕ, ◌+◌, ◌-◌, ◌<◌, Bool, true, false, cond, List, [], ◌∷◌, ◌++◌, length, get_or, take, refl, sym, ap, subst, ◌∙◌, arith, inl, inr}
 use Rattle.std.proofs.lemmas.List.{append-nil, append_assoc, append_cancel_left, length-append, nil_from_length, take_all, take_more}
 use Rattle.std.proofs.lemmas.List.Elements.{All-append, All-cons, All-filter, All-from_recursion, All-nil, recursion_from_All}
@@ -7,7 +6,6 @@ use Rattle.std.specs.{List.AllByRecursion, List.filter, List.flat_map, Str.bytes
 use Rattle.echo_text.specs.{Lines.is_return, Lines.lines, Echo.HasEndedLines, Echo.ended}
 use Rattle.echo_text.proofs.TextLines.{IsPiece, lines_last, lines_nil, lines_of_ended}
 
--- a text in lines with their 0D, and the bytes after the last 0D
 record Cut (text : List ℕ) : Type 0 where
   whole : List (List ℕ)
   last : List ℕ
@@ -61,14 +59,12 @@ pieces_of_last : (last : List ℕ) → IsPiece last → AllByRecursion IsPiece (
 pieces_of_last [] piece = subst (AllByRecursion IsPiece) (sym lines_nil) tt
 pieces_of_last (b ∷ last) piece = subst (AllByRecursion IsPiece) (sym (lines_last (b ∷ last) (omega arith) piece)) (piece, tt)
 
--- no line of a text holds 0D
 pub pieces_of_lines : (text : List ℕ) → AllByRecursion IsPiece (lines text)
 pieces_of_lines text =
     let c = cut_of text in
     subst (AllByRecursion IsPiece) (sym (ap lines c.is ∙ lines_of_ended c.whole c.last c.pieces))
     (pieces_append c.whole (lines c.last) c.pieces (pieces_of_last c.last c.piece))
 
--- the lines of lines that were put together
 pub lines_back : (some : List (List ℕ)) → AllByRecursion IsPiece some → lines (flat_map ended some) ≡ some
 lines_back some pieces =
     ap lines (sym (append-nil (flat_map ended some))) ∙ lines_of_ended some [] pieces ∙ ap (λ ls. some ++ ls) lines_nil ∙ append-nil some
@@ -76,7 +72,6 @@ lines_back some pieces =
 pub put_together : (some : List (List ℕ)) → AllByRecursion IsPiece some → HasEndedLines (flat_map ended some)
 put_together some pieces = ap (flat_map ended) (lines_back some pieces)
 
--- the lines of such bytes and of the bytes after them
 pub lines_behind : (front rest : List ℕ) → HasEndedLines front → lines (front ++ rest) ≡ lines front ++ lines rest
 lines_behind front rest h = ap (λ t. lines (t ++ rest)) (sym h) ∙ lines_of_ended (lines front) rest (pieces_of_lines front)
 
@@ -89,7 +84,6 @@ ended_last whole last = grind (arith, flat_map-append, append-nil, append_assoc)
 pub nothing_is_ended : HasEndedLines []
 nothing_is_ended = ap (flat_map ended) lines_nil
 
--- bytes with 0D at their end
 pub ended_by_return : (front : List ℕ) → HasEndedLines (front ++ 13 ∷ [])
 ended_by_return front =
     let c = cut_of front in
@@ -97,7 +91,6 @@ ended_by_return front =
     let P : List ℕ → Type 0 = HasEndedLines in
     subst P (sym is) (put_together (c.whole ++ c.last ∷ []) (pieces_append c.whole (c.last ∷ []) c.pieces (c.piece, tt)))
 
--- bytes with another at their end
 lacks_return : (front : List ℕ) (b : ℕ) → is_return b ≡ false → flat_map ended (lines (front ++ b ∷ [])) ≡ (front ++ b ∷ []) ++ 13 ∷ []
 lacks_return front b other =
     let c = cut_of front in
@@ -109,12 +102,10 @@ lacks_return front b other =
     ∙ ended_last c.whole last
     ∙ ap (λ t. t ++ 13 ∷ []) (sym is)
 
--- some bytes and their last one
 pub with_last : (text : List ℕ) → 0 < length text → text ≡ take (length text - 1) text ++ get_or text (length text - 1) 0 ∷ []
 with_last text some =
     sym (take_all (length text - 1 + 1) text (omega arith)) ∙ take_more text (length text - 1) 0 (omega arith)
 
--- the lines of bytes, put together, are the bytes, or the bytes and 0D
 pub ended_or_not : (text : List ℕ) (b : Bool) → 0 < length text → is_return (get_or text (length text - 1) 0) ≡ b
     → flat_map ended (lines text) ≡ cond b text (text ++ 13 ∷ [])
 ended_or_not text true some is =
@@ -131,7 +122,6 @@ ended_or_not text false some is =
 pub ended_if_empty : (text : List ℕ) → length text ≡ 0 → HasEndedLines text
 ended_if_empty text none = let P : List ℕ → Type 0 = HasEndedLines in subst P (sym (nil_from_length text none)) nothing_is_ended
 
--- lines of a text and others of its lines, put together behind one another
 pub record PutTogether (text : List ℕ) (some : List (List ℕ)) : Type 0 where
   pub ended_is : HasEndedLines text
   pub lines_are : lines text ≡ some
@@ -148,7 +138,6 @@ kept_text p none first text body tail n f t =
     (pieces_append (lines body) (filter p (lines tail)) (pieces_of_lines body)
     (recursion_from_All IsPiece (filter p (lines tail)) (All-filter p IsPiece (lines tail) (All-from_recursion IsPiece (lines tail) (pieces_of_lines tail)))))
 
--- such bytes are equal if their lines are
 same_test : (a b : Bool) → (a ≡ true → b ≡ true) → (b ≡ true → a ≡ true) → a ≡ b
 same_test a b h1 h2 = grind arith
 

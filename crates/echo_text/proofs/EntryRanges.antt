@@ -5,12 +5,10 @@ use Rattle.std.specs.{Option.option_map, Option.option_or, List.All, List.AllByR
 use Rattle.echo_addr.specs.Entries.{entries, entry_from, judged, nearest_net, pair_of, part_of, tokens}
 use Rattle.echo_addr.specs.{declared.address.NetNode.NetNode, ShortLines.IsNetNode}
 
--- a number of two bytes, if there is one
 abbrev IsPart : Option ℕ → Type 0
 IsPart None = Unit {0}
 IsPart (Some n) = n < 2 ^ 16
 
--- an entry of such numbers, if there is one
 abbrev IsEntry : Option NetNode → Type 0
 IsEntry None = Unit {0}
 IsEntry (Some e) = IsNetNode e

@@ -8,7 +8,6 @@ use Rattle.echo_addr.specs.Entries.{is_blank}
 use Rattle.echo_text.specs.Ids.{Bare, IdParts, SpellsOrigin, before_serial, is_bare_origin, is_gap, is_hex_digit, is_id_trimmed, is_line_byte, is_quote, is_quoted_origin, without_gap}
 use Rattle.echo_text.proofs.Ids.{ends_doubled, hex_from_digits}
 
--- the tests on the bytes before the serial
 abbrev is_apart : List ℕ → Bool
 is_apart id = nat_lt (length (without_gap (before_serial id))) (length (before_serial id))
 
@@ -18,14 +17,12 @@ is_serial id = list_all is_hex_digit (drop (length id - 8) id)
 abbrev is_origin : List ℕ → Bool
 is_origin id = is_quoted_origin (without_gap (before_serial id)) || is_bare_origin (without_gap (before_serial id))
 
--- why bytes are no id
 pub no_line : (id : List ℕ) → list_all is_line_byte id ≡ false → is_id_trimmed id ≡ false
 no_line id h = and_left (list_all is_line_byte id) _ h
 
 pub no_gap : (id front : List ℕ) → front ≡ before_serial id → length (without_gap front) ≡ length front → is_id_trimmed id ≡ false
 no_gap id front is same = grind (arith, and_right, and_left, le-ltb)
 
--- the blanks 20 at the end
 gap_blanks : (front : List ℕ) → AllPass is_gap (drop (length front - suffix_len is_gap front) front)
 gap_blanks front k d within =
     let fit = suffix_len-le-length is_gap front in
@@ -38,7 +35,6 @@ gap_blanks front k d within =
     ∙ sym (get_or-reverse front mirror d (omega arith)))
     ∙ prefix_len_passes is_gap (reverse front) mirror d (omega arith)
 
--- bytes that pass the test, taken apart
 pub parts_found : (id front digits spelled origin : List ℕ) (quoted : Bool) (serial : ℕ) → 8 ≤ length id → list_all is_line_byte id ≡ true
     → front ≡ before_serial id → digits ≡ drop (length id - 8) id → spelled ≡ without_gap front → length spelled ≢ length front
     → AllDigits 16 digits → digits_value 16 digits ≡ serial → SpellsOrigin quoted spelled origin → IdParts id origin quoted serial
@@ -63,7 +59,6 @@ parts_found id front digits spelled origin quoted serial room line is_front is_d
       value = value;
     }
 
--- an origin ends in no blank 20
 ink_no_gap : (b : ℕ) → not (is_blank b) ≡ true → is_gap b ≡ false
 ink_no_gap b h =
     let parts = or_parts ((b == 32) || (b == 9)) (b == 10) (not-true (is_blank b) h) in (or_parts (b == 32) (b == 9) parts.0).0
@@ -71,7 +66,6 @@ ink_no_gap b h =
 origin_end : (quoted : Bool) (spelled origin : List ℕ) → SpellsOrigin quoted spelled origin → 0 < length spelled → is_gap (get_or spelled (length spelled - 1) 0) ≡ false
 origin_end quoted spelled origin h1 h2 = grind (arith, length-append, get_or, get_or_at, ink_no_gap)
 
--- an origin passes one of the tests
 origin_test : (quoted : Bool) (spelled origin : List ℕ) → SpellsOrigin quoted spelled origin → (is_quoted_origin spelled || is_bare_origin spelled) ≡ true
 origin_test true spelled origin h =
     or_left (is_quoted_origin spelled) (is_bare_origin spelled)
@@ -85,7 +79,6 @@ origin_test false spelled origin h = or_right (is_quoted_origin spelled) (is_bar
         (not_from_false (is_quote first) (ne_eqb first 34 b.first))
         (list_all-from_AllPass (λ x. not (is_blank x)) (first ∷ rest) b.ink)
 
--- the parts of an id, seen from its end
 pub record Seen (id spelled gap digits : List ℕ) : Type 0 where
   pub front : before_serial id ≡ spelled ++ gap
   pub serial : drop (length id - 8) id ≡ digits
@@ -110,7 +103,6 @@ seen_parts id origin quoted serial h =
       kept = ap without_gap is_front ∙ take_at h.spelled h.gap (length (h.spelled ++ h.gap) - suffix_len is_gap (h.spelled ++ h.gap)) size;
     }
 
--- the parts of an id pass the test
 pub test_passes : (id origin : List ℕ) (quoted : Bool) (serial : ℕ) → IdParts id origin quoted serial → is_id_trimmed id ≡ true
 test_passes id origin quoted serial h =
     let seen = seen_parts id origin quoted serial h in

@@ -5,7 +5,6 @@ use Rattle.std.proofs.lemmas.List.{length-append, take_at, Sums.AllPass-from_lis
 use Rattle.std.specs.{Int.is_in_range, Char.digit_value, List.list_all, Str.Parse.AllDigits}
 use Rattle.echo_text.specs.Ids.{Bare, Quoted, doubled, ends_quoted, is_bare_origin, is_hex_digit, is_quote, is_quoted_origin, undoubled}
 
--- a digit to the base 16, in both wordings
 worthless : (b : ℕ) → 128 ≤ b → digit_value b ≡ 36
 worthless b high = grind (arith, cond-false, nat_lt, le-ltb)
 
@@ -24,14 +23,12 @@ hex_from_digits [] h = refl
 hex_from_digits (d ∷ ds) h =
     and_from (is_hex_digit d) (list_all is_hex_digit ds) (sym (hex_digit_same d) ∙ lt-ltb (digit_value d) 16 h.0) (hex_from_digits ds h.1)
 
--- a text with each double quote doubled, and then a double quote
 pub ends_doubled : (plain : List ℕ) → ends_quoted false (doubled plain ++ 34 ∷ []) ≡ true
 ends_doubled [] = refl
 ends_doubled (b ∷ plain) =
     cond_both (is_quote b) (34 ∷ (34 ∷ doubled plain)) (b ∷ doubled plain) (λ bytes. ends_quoted false (bytes ++ 34 ∷ []) ≡ true) (λ quote. ends_doubled plain)
     (λ other. ap (λ t. (t || true) && ends_quoted (t && true) (doubled plain ++ 34 ∷ [])) other ∙ ends_doubled plain)
 
--- a text that doubled gives these bytes, without a double quote at their end
 record Undone (rest : List ℕ) : Type 0 where
   plain : List ℕ
   is : rest ≡ doubled plain ++ 34 ∷ []
@@ -63,7 +60,6 @@ undo (b ∷ (c ∷ rest)) h = elim (cases_Bool (is_quote b)) [
       }
 ]
 
--- a doubled text made single again
 pub undoubled_doubled : (plain : List ℕ) → undoubled false (doubled plain) ≡ plain
 undoubled_doubled [] = refl
 undoubled_doubled (b ∷ plain) =
@@ -71,7 +67,6 @@ undoubled_doubled (b ∷ plain) =
     cond_both (is_quote b) (34 ∷ (34 ∷ doubled plain)) (b ∷ doubled plain) (λ bytes. undoubled false bytes ≡ b ∷ plain) (λ quote. ap (λ bytes. 34 ∷ bytes) rest ∙ ap (λ x. x ∷ plain) (sym (eqb-true b 34 quote)))
     (λ other. ap (λ t. b ∷ undoubled t (doubled plain)) other ∙ ap (λ bytes. b ∷ bytes) rest)
 
--- quoted bytes are an origin between double quotes
 pub quoted_origin : (spelled origin : List ℕ) → is_quoted_origin spelled ≡ true → origin ≡ take (length spelled - 2) (drop 1 spelled)
     → Quoted spelled origin
 quoted_origin [] origin h is = absurd (false≢true h)
@@ -87,6 +82,5 @@ quoted_origin (first ∷ rest) origin h is =
       each_doubled = same;
     }
 
--- bare bytes are an origin
 pub bare_origin : (spelled : List ℕ) → is_bare_origin spelled ≡ true → Bare spelled spelled
 bare_origin spelled h1 = grind (arith, false≢true, and_parts, not-true, eq-eqb, AllPass-from_list_all)

@@ -11,7 +11,6 @@ use Rattle.echo_text.specs.Tail.{body, is_kept_control, is_tail_line, kept_of, t
 use Rattle.echo_text.specs.Echo.{first_after, msgid_of, origin_of, reply_of, tear_of}
 use Rattle.echo_text.proofs.{LineKinds.blanks_after_feeds, LineKinds.control_in_tail, Tails.body_and_tail, Tails.tail_is_tail}
 
--- bytes that begin with a word, taken apart behind its first byte
 record Opened (w : ℕ) (word bytes : List ℕ) : Type 0 where
   rest : List ℕ
   is : bytes ≡ w ∷ rest
@@ -20,16 +19,13 @@ record Opened (w : ℕ) (word bytes : List ℕ) : Type 0 where
 opened : (w : ℕ) (word bytes : List ℕ) → starts_with nat_eq bytes (w ∷ word) ≡ true → Opened w word bytes
 opened w word bytes h1 = grind (arith, and_parts, nat_eq, eqb-true)
 
--- MSGID and REPLY lines are kept also in the tail
 id_kept : (second : ℕ) (word line : List ℕ) → (80 == second) ≡ false → begins (1 ∷ (second ∷ word)) line ≡ true → is_kept_control line ≡ true
 unfolding begins
 id_kept second word line no_path h = grind (arith, opened, nat_eq)
 
--- a line with a byte other than a blank is no blank line
 no_blank_line : (line front : List ℕ) → after_feeds line ≡ front → list_all is_blank front ≡ false → is_blank_line line ≡ false
 no_blank_line line front is ink = grind (arith, cases_Bool, blanks_after_feeds)
 
--- tear and origin lines belong to no tail
 dashed : (line word : List ℕ) → starts_with nat_eq (after_feeds line) (45 ∷ word) ≡ true → is_tail_line line ≡ false
 unfolding begins
 dashed line word h =
@@ -53,7 +49,6 @@ origin_outside line h =
     ap (λ x. (starts_with nat_eq x seen_prefix || starts_with nat_eq x control_word) || is_blank_line line) is
     ∙ no_blank_line line (32 ∷ (42 ∷ two.rest)) is refl
 
--- a kind of lines, of which a filter loses none among lines of a kind
 only_kept : (p q r : List ℕ → Bool) → ((line : List ℕ) → p line ≡ true → r line ≡ true → q line ≡ true) → (ls : List (List ℕ)) → list_all r ls ≡ true → filter p (filter q ls) ≡ filter p ls
 only_kept p q r stays [] all = refl
 only_kept p q r stays (line ∷ more) all =
@@ -86,7 +81,6 @@ none_kept p q outside (line ∷ more) =
 outside_kept : (p : List ℕ → Bool) → ((line : List ℕ) → p line ≡ true → is_tail_line line ≡ false) → (line : List ℕ) → is_kept_control line ≡ true → p line ≡ false
 outside_kept p outside line kept = grind (arith, cases_Bool, control_in_tail)
 
--- ids of lines and of the lines of a tail that are kept
 first_of_parts : (word : List ℕ) → ((line : List ℕ) → begins word line ≡ true → is_kept_control line ≡ true) → (front ls : List (List ℕ))
     → first_after word (front ++ filter is_kept_control ls) ≡ option_or (first_after word front) (first_after word ls)
 first_of_parts word stays front ls =
@@ -104,7 +98,6 @@ pub reply_of_parts : (front ls : List (List ℕ)) → reply_of (front ++ filter 
 unfolding reply_of
 reply_of_parts front ls = first_of_parts reply_word (λ line h. id_kept 82 _ line refl h) front ls
 
--- a filter that passes no tail line finds none among the kept control lines
 only_front : (p : List ℕ → Bool) → ((line : List ℕ) → p line ≡ true → is_tail_line line ≡ false) → (front ls : List (List ℕ))
     → filter p (front ++ filter is_kept_control ls) ≡ filter p front
 only_front p outside front ls = grind (arith, filter-append, none_kept, outside_kept, append-nil)
@@ -129,7 +122,6 @@ tears_kept later = stays_kept is_tear (λ line h in_tail. let out = tear_outside
 pub origins_kept : (later : List (List ℕ)) → filter is_origin (kept_of later) ≡ filter is_origin later
 origins_kept later = stays_kept is_origin (λ line h in_tail. let out = origin_outside line h in absurd cc) later
 
--- each kept line is a line of the text, unchanged
 pub kept_are_lines : (later : List (List ℕ)) → All (Contains later) (kept_of later)
 unfolding kept_of
 kept_are_lines later =

@@ -12,7 +12,6 @@ use Rattle.echo_text.proofs.TextLines.{IsPiece, lines_cut, lines_last, lines_nil
 one_line : (ls : List (List ℕ)) (line : List ℕ) → ls ≡ line ∷ [] → ls ≡ first_line ls ∷ []
 one_line ls line is = is ∙ ap (λ l. l ∷ []) (sym (ap first_line is))
 
--- bytes among which no line ends before the last byte
 one_line_of : (text : List ℕ) → 0 < length text → IsPiece (take (length text - 1) text) → lines text ≡ first_line (lines text) ∷ []
 one_line_of text some front =
     let whole = with_last text some in
@@ -37,7 +36,6 @@ pub record Starts (text : List ℕ) (at : ℕ) : Type 0 where
   pub before : HasEndedLines (take at text)
   pub last : lines (drop at text) ≡ first_line (lines (drop at text)) ∷ []
 
--- no line ends from there up to the last byte
 last_from : (text : List ℕ) (at : ℕ) → at < length text → ((j : ℕ) → at ≤ j → j < length text - 1 → is_return (get_or text j 0) ≡ false)
     → lines (drop at text) ≡ first_line (lines (drop at text)) ∷ []
 last_from text at within none =
@@ -47,7 +45,6 @@ last_from text at within none =
     let short : i < length (drop at text) - 1 = omega (arith, below, length-take-le (length (drop at text) - 1) (drop at text) (omega arith)) in
     ap is_return (get_or-take (length (drop at text) - 1) (drop at text) i 0 short ∙ get_or-drop at text i 0) ∙ none (at + i) (omega arith) (omega arith)))
 
--- a search among all bytes but the last finds the start
 pub start_found : (text : List ℕ) (k : ℕ) → 0 < length text → IsLastByte (is_byte 13) (take (length text - 1) text) (Some k) → Starts text (k + 1)
 start_found text k some found =
     let size : length (take (length text - 1) text) ≡ length text - 1 = length-take-le (length text - 1) text (omega arith) in
@@ -73,7 +70,6 @@ start_first text some none =
           ∙ false_from_ne_true (is_return (get_or (take (length text - 1) text) j 0)) (none j low (omega arith)));
     }
 
--- the bytes from n on belong to the tail
 pub record EndsIn (text : List ℕ) (n : ℕ) : Type 0 where
   pub within : n ≤ length text
   pub tails : all_tail (lines (drop n text)) ≡ true
@@ -82,7 +78,6 @@ pub record EndsIn (text : List ℕ) (n : ℕ) : Type 0 where
 pub ends_at_end : (text : List ℕ) → EndsIn text (length text)
 ends_at_end text = grind (arith, drop_all, lines_nil)
 
--- two parts of a text
 apart_lines : (front rest : List ℕ) → HasEndedLines front ⊎ (rest ≡ []) → lines (front ++ rest) ≡ lines front ++ lines rest
 apart_lines front rest (inl h) = lines_behind front rest h
 apart_lines front rest (inr none) =
@@ -91,12 +86,10 @@ apart_lines front rest (inr none) =
 parted : (text : List ℕ) (n : ℕ) → EndsIn text n → lines text ≡ lines (take n text) ++ lines (drop n text)
 parted text n h = ap lines (sym (take-append-drop n text)) ∙ apart_lines (take n text) (drop n text) h.apart
 
--- the last of those bytes and the lines before it
 before_last : (front : List ℕ) (at : ℕ) → Starts front at → lines front ≡ lines (take at front) ++ first_line (lines (drop at front)) ∷ []
 before_last front at s =
     ap lines (sym (take-append-drop at front)) ∙ lines_behind (take at front) (drop at front) s.before ∙ ap (λ ls. lines (take at front) ++ ls) s.last
 
--- one more line of the tail
 module _ (text : List ℕ) (n at : ℕ) (h : EndsIn text n) (s : Starts (take n text) at) where
   below : at < n
   below = let size = length-take-le n text h.within in omega (arith, s.within)
@@ -141,7 +134,6 @@ module _ (text : List ℕ) (n at : ℕ) (h : EndsIn text n) (s : Starts (take n 
       sym (ap tail (parted text n h ∙ ap (λ ls. ls ++ lines (drop n text)) front_is)
       ∙ tail_behind (lines (take at (take n text))) (first_line (lines (drop at (take n text)))) (lines (drop n text)) h.tails isnt)
 
--- all lines belong to the tail
 pub no_body : (text : List ℕ) (n : ℕ) → n ≡ 0 → EndsIn text n → lines (take n text) ≡ body (lines text)
 no_body text n none h = grind (arith, lines_nil, body_none)
 

@@ -6,7 +6,6 @@ use Rattle.echo_addr.specs.{Entries.is_blank, ShortLines.path_prefix, ShortLines
 use Rattle.echo_text.specs.Lines.{after_feeds, after_word, area_word, begins, control_word, is_area, is_blank_line, is_control, is_feed, is_path, is_seen}
 use Rattle.echo_text.specs.{Tail.is_kept_control, Tail.is_tail_line, Echo.is_shed}
 
--- lines that begin with their word
 pub area_is_area : (rest : List ℕ) → is_area (area_word ++ rest) ≡ true
 unfolding begins
 area_is_area rest = refl
@@ -35,7 +34,6 @@ pub seen_is_not_path : (rest : List ℕ) → is_path (seen_prefix ++ rest) ≡ f
 unfolding begins
 seen_is_not_path rest = refl
 
--- the bytes after the word
 pub after_area : (rest : List ℕ) → after_word area_word (area_word ++ rest) ≡ rest
 unfolding after_word
 after_area rest = refl
@@ -48,7 +46,6 @@ pub after_path : (rest : List ℕ) → after_word path_prefix (path_prefix ++ re
 unfolding after_word
 after_path rest = refl
 
--- SEEN-BY and PATH lines belong to the tail, and the reader keeps neither
 pub seen_in_tail : (rest : List ℕ) → is_tail_line (seen_prefix ++ rest) ≡ true
 seen_in_tail rest = or_left _ _ (or_left _ _ (seen_is_seen rest))
 
@@ -61,7 +58,6 @@ seen_not_kept rest = ap (λ b. b && not (is_path (seen_prefix ++ rest))) (seen_i
 pub path_not_kept : (rest : List ℕ) → is_kept_control (path_prefix ++ rest) ≡ false
 path_not_kept rest = ap (λ b. is_control (path_prefix ++ rest) && not b) (path_is_path rest) ∙ ap (λ b. b && false) (path_is_control rest)
 
--- bytes that begin with 01 do not begin with SEEN-BY
 one_is_not_seen : (bytes : List ℕ) → starts_with nat_eq bytes control_word ≡ true → starts_with nat_eq bytes seen_prefix ≡ false
 one_is_not_seen bytes h1 = grind (arith, eqb-true, and_parts, nat_eq)
 
@@ -72,7 +68,6 @@ control_is_not_seen line control = one_is_not_seen (after_feeds line) control
 one_more : (n : ℕ) → 1 + n ≡ suc n
 one_more n = omega arith
 
--- the line feeds at the front of a line of blanks leave blanks
 pub blanks_after_feeds : (line : List ℕ) → list_all is_blank line ≡ true → list_all is_blank (after_feeds line) ≡ true
 blanks_after_feeds [] blank = refl
 blanks_after_feeds (b ∷ line) blank =
@@ -80,7 +75,6 @@ blanks_after_feeds (b ∷ line) blank =
     (λ y. ap (λ n. list_all is_blank (drop n (b ∷ line))) (one_more (prefix_len is_feed line)) ∙ blanks_after_feeds line (and_parts (is_blank b) (list_all is_blank line) blank).1)
     (λ n. blank)
 
--- blanks do not begin with 01
 one_is_not_blank : (bytes : List ℕ) → starts_with nat_eq bytes control_word ≡ true → list_all is_blank bytes ≡ false
 one_is_not_blank bytes h1 = grind (arith, eqb-true, and_parts)
 
@@ -91,22 +85,18 @@ control_is_not_blank line control = elim (cases_Bool (is_blank_line line)) [
   | inr n ↦ n
 ]
 
--- the reader keeps each tail line that it does not shed
 pub kept_unless_shed : (line : List ℕ) → is_tail_line line ≡ true → not (is_shed line) ≡ true → is_kept_control line ≡ true
 kept_unless_shed line tail_line left = grind arith
 
--- a kept line of the tail is not shed
 pub not_shed_if_kept : (line : List ℕ) → is_kept_control line ≡ true → not (is_shed line) ≡ true
 not_shed_if_kept line kept = grind (arith, and_parts, control_is_not_seen, control_is_not_blank)
 
--- a kept line of the tail is no SEEN-BY line and no PATH line
 pub kept_no_seen : (line : List ℕ) → is_kept_control line ≡ true → is_seen line ≡ false
 kept_no_seen line kept = control_is_not_seen line (and_parts (is_control line) (not (is_path line)) kept).0
 
 pub kept_no_path : (line : List ℕ) → is_kept_control line ≡ true → is_path line ≡ false
 kept_no_path line kept = not-true (is_path line) (and_parts (is_control line) (not (is_path line)) kept).1
 
--- a kept line of the tail is a tail line
 pub control_in_tail : (line : List ℕ) → is_kept_control line ≡ true → is_tail_line line ≡ true
 control_in_tail line kept =
     or_left _ _ (or_right (is_seen line) (is_control line) (and_parts (is_control line) (not (is_path line)) kept).0)

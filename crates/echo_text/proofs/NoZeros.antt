@@ -1,4 +1,3 @@
--- A text that is written has no 00.
 use Rattle.std.proofs.Common.{◌≡◌, ◌≢◌, ℕ, ◌==◌, not, Bool, true, false, List, [], ◌∷◌, ◌++◌, refl, sym, ap, subst, ◌∙◌, arith, inl, inr}
 use Rattle.std.proofs.lemmas.List.Elements.{All-append, All-from_recursion, All-nil, All-weaker, recursion_from_All}
 use Rattle.std.proofs.lemmas.{Bool.and_parts, Bool.eq-eqb, List.Sums.AllPass-from_list_all}
@@ -9,7 +8,6 @@ use Rattle.echo_addr.proofs.ReadBack.{read_back}
 use Rattle.echo_text.specs.Echo.{EchoText, HasNoZero, IsEcho, IsLine, TextOf, ended}
 use Rattle.echo_text.specs.Lines.{area_word, is_tag_byte}
 
--- a byte that is not 00
 abbrev IsSome : ℕ → Type 0
 IsSome b = b ≢ 0
 
@@ -32,7 +30,6 @@ some_tag_byte b h zero = let no : is_tag_byte 0 ≡ true = ap is_tag_byte (sym z
 some_line_byte : (b : ℕ) → (b ≢ 0) × (b ≢ 13) → IsSome b
 some_line_byte b h = h.0
 
--- a line and its 0D
 some_ended : (line : List ℕ) → HasNoZero line → HasNoZero (ended line)
 unfolding is_some
 some_ended line h = All-append IsSome line (13 ∷ []) h (some_word (13 ∷ []) refl)
@@ -54,7 +51,6 @@ some_entry_lines prefix begun (rest ∷ more) h =
 some_entries : (prefix : List ℕ) (list : List NetNode) (b : List ℕ) → HasNoZero prefix → ReadBack prefix list b → HasNoZero b
 some_entries prefix list b begun h = subst HasNoZero (sym h.lines) (some_entry_lines prefix begun h.rests h.bytes)
 
--- a written text has no 00
 pub written_has_no_zero : (e : EchoText) (text : List ℕ) → IsEcho e → TextOf e text → HasNoZero text
 unfolding is_some
 written_has_no_zero e text h w =

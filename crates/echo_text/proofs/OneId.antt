@@ -1,4 +1,3 @@
--- Bytes spell at most one id.
 use Rattle.std.proofs.Common.{◌≡◌, ℕ, Bool, List, get_or, sym, ap, subst, ◌∙◌, arith}
 use Rattle.std.proofs.lemmas.List.{append_cancel_right}
 use Rattle.std.specs.Str.Parse.{digits_value}

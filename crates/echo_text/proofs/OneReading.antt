@@ -8,18 +8,15 @@ use Rattle.echo_text.specs.Echo.{EchoOf, EchoText, HasNoZero, IsSetOf, TextOf, e
 use Rattle.echo_text.specs.{declared.fault.TextFault.TextFault, declared.fault.TextFault.TheVariants.Memory, Lines.area_word, Refusal.TextAnswers}
 use Rattle.echo_text.proofs.{PutTogether.same_parts, Reread.read_is_echo, SaidAfter.not_refused, Written.written_read_back}
 
--- the order of entries
 not_both : (x y : NetNode) → ComesBefore x y → ComesBefore y x → ⊥
 not_both x y h k = grind arith
 
--- the parts of an ascending list
 first_before : (x : NetNode) (xs : List NetNode) → AllPairs ComesBefore (x ∷ xs) → All (ComesBefore x) xs
 first_before x xs h k d within = h 0 (suc k) d (omega arith) (omega arith)
 
 later_ascend : (x : NetNode) (xs : List NetNode) → AllPairs ComesBefore (x ∷ xs) → AllPairs ComesBefore xs
 later_ascend x xs h i j d low high = h (suc i) (suc j) d (omega arith) (omega arith)
 
--- a member is the first or a later one
 member_cases : (x : NetNode) (xs : List NetNode) (e : NetNode) → Contains (x ∷ xs) e → (x ≡ e) ⊎ Contains xs e
 member_cases x xs e (zero, within, is) = inl is
 member_cases x xs e (suc k, within, is) = inr (k, omega arith, is)
@@ -44,7 +41,6 @@ same_first x y xs ys p q x_in y_in = elim (member_cases y ys x x_in) [
   ]
 ]
 
--- a later member of one list is a later member of the other
 later_in : (x y : NetNode) (xs ys : List NetNode) → x ≡ y → AllPairs ComesBefore (x ∷ xs) → (e : NetNode) → Contains xs e → Contains (y ∷ ys) e → Contains ys e
 later_in x y xs ys same p e here there = grind (arith, member_cases, All-contains, first_before, not_both)
 
@@ -78,7 +74,6 @@ pub one_answer : (text : List ℕ) (e : EchoText) (d : ℕ) (r : Result (EchoTex
     → (r ≡ Ok (e, d)) ⊎ (r ≡ Err Memory)
 one_answer text e d r h1 h2 = grind (arith, one_echo, one_count, not_refused)
 
--- an echo has one text
 pub one_text : (e : EchoText) (b c : List ℕ) → TextOf e b → TextOf e c → b ≡ c
 one_text e b c h k =
     h.whole
@@ -88,7 +83,6 @@ one_text e b c h k =
     (one_spelling path_prefix e.path h.path_lines k.path_lines h.path k.path)
     ∙ sym k.whole
 
--- a text that was read and written reads and writes as itself
 pub written_again : (text : List ℕ) (e f : EchoText) (d n : ℕ) (b c : List ℕ) → HasNoZero text → EchoOf text e d → TextOf e b → EchoOf b f n → TextOf f c
     → (f ≡ e) × (n ≡ 0) × (c ≡ b)
 written_again text e f d n b c no_zero read wrote again rewrote =

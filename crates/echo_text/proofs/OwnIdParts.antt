@@ -9,7 +9,6 @@ use Rattle.echo_text.specs.Ids.{IdOf, IdParts, IsWide, hex_digit, id_of, is_gap,
 use Rattle.echo_text.specs.Lines.{trimmed, without_back_blanks}
 use Rattle.echo_text.proofs.OwnIds.{hex_worth, serial_back}
 
--- a byte above the blanks and the double quote
 abbrev IsHigh : ℕ → Type 0
 IsHigh b = 47 ≤ b
 
@@ -25,7 +24,6 @@ high_decimal n small = weaker IsDigit IsHigh (λ b h. omega (arith, h.0)) (decim
 high_address : (a : Address) → IsWide a → AllByRecursion IsHigh (address_text a)
 high_address a h = grind (arith, joined, high_decimal)
 
--- a digit to the base 16 is no blank and no 00 or 0D
 hex_ink : (n : ℕ) → n < 16 → not (is_blank (hex_digit n)) ≡ true
 hex_ink n small = AllPass-from_list_all (λ b. not (is_blank b)) (codes "0123456789abcdef") refl n 0 small
 
@@ -43,7 +41,6 @@ first_no_quote : (ds : List ℕ) → 0 < length ds → AllByRecursion IsHigh ds 
 first_no_quote [] some all e = absurd (omega arith)
 first_no_quote (d ∷ ds) some all e = let high = all.0 in omega arith
 
--- bytes without blanks at their ends
 no_blanks : (bs : List ℕ) → prefix_len is_blank bs ≡ 0 → suffix_len is_blank bs ≡ 0 → trimmed bs ≡ bs
 unfolding trimmed
 no_blanks bs front back =
@@ -97,6 +94,5 @@ own_parts a s h small =
       value = serial_back s small;
     }
 
--- a written id reads back as itself
 pub own_id : (a : Address) (s : ℕ) → IsWide a → s < 2 ^ 32 → IdOf (id_of a s) (address_text a) false s
 own_id a s h small = subst (λ (b : List ℕ). IdParts b (address_text a) false s) (sym (own_trimmed a s h)) (own_parts a s h small)

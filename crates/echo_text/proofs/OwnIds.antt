@@ -6,7 +6,6 @@ use Rattle.echo_addr.specs.{declared.address.Address.Address, Address.address_te
 use Rattle.echo_addr.proofs.{Decimals.IsDigit, Decimals.digits_of_decimal, Each.joined, Each.weaker, Shapes.NonePass, Shapes.position_at}
 use Rattle.echo_text.specs.Ids.{IsWide, hex_digit, id_of, is_gap, serial_text}
 
--- bytes are cut at the first that passes in one way
 record Cut (s t r q : List ℕ) : Type 0 where
   front : s ≡ t
   rest : r ≡ q
@@ -19,7 +18,6 @@ one_cut p s t r q x hs ht passes e =
       rest = ap (drop 1) (sym (drop_at s (x ∷ r) (length s) refl) ∙ ap (drop (length s)) e ∙ drop_at t (x ∷ q) (length s) same);
     }
 
--- a number's digits are no colon, no slash and no blank
 no_colon : (n : ℕ) → n < 2 ^ 16 → NonePass is_colon (decimal n)
 no_colon n small =
     weaker IsDigit (λ b. is_colon b ≡ false) (λ b h. ne_eqb b 58 (λ e. omega (arith, h.1))) (decimal n) (digits_of_decimal n (omega arith))
@@ -49,7 +47,6 @@ same_fields a b zone net node =
 same_address : (a b : Address) → IsWide a → IsWide b → address_text a ≡ address_text b → a ≡ b
 same_address a b h k e = grind (arith, one_cut, no_colon, no_slash, same_fields, same_number)
 
--- a serial's digits write it
 pub hex_worth : (n : ℕ) → n < 16 → digit_value (hex_digit n) ≡ n
 hex_worth n small = eqb-true (digit_value (hex_digit n)) n (agree_below_at (λ k. digit_value (hex_digit k) == k) (λ k. true) 16 n refl small)
 
@@ -71,7 +68,6 @@ serial_back s small =
     ∙ digit_step (s / 16) (s / 1) [] (omega arith)
     ∙ one
 
--- one id has one address and one serial
 pub ids_differ : (a b : Address) (s t : ℕ) → IsWide a → IsWide b → s < 2 ^ 32 → t < 2 ^ 32 → id_of a s ≡ id_of b t → (a ≡ b) × (s ≡ t)
 unfolding id_of
 ids_differ a b s t h k small small' e =

@@ -13,7 +13,6 @@ digits_from_hex (d ∷ ds) h =
     let parts = and_parts (is_hex_digit d) (list_all is_hex_digit ds) h in
     (ltb-true (digit_value d) 16 (hex_digit_same d ∙ parts.0), digits_from_hex ds parts.1)
 
--- an origin that is spelled so
 record Spelling (spelled : List ℕ) : Type 0 where
   origin : List ℕ
   quoted : Bool
@@ -29,7 +28,6 @@ spelling_of spelled h = elim (or_cases (is_quoted_origin spelled) (is_bare_origi
   | inr bare ↦ record { origin = spelled; quoted = false; spelling = bare_origin spelled bare }
 ]
 
--- the parts of an id
 record Parts (id : List ℕ) : Type 0 where
   origin : List ℕ
   quoted : Bool

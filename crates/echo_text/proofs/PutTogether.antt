@@ -1,4 +1,3 @@
--- A text put together from its parts.
 use Rattle.std.proofs.Common.{◌≡◌, ℕ, List, [], ◌∷◌, ◌++◌, sym, ap, subst, ◌∙◌, arith}
 use Rattle.std.proofs.lemmas.List.{append_assoc}
 use Rattle.std.specs.List.{flat_map}
@@ -9,7 +8,6 @@ regrouped : (a b k s p : List ℕ) → (((a ++ b) ++ k) ++ s) ++ p ≡ (a ++ b) 
 regrouped a b k s p =
     append_assoc ((a ++ b) ++ k) s p ∙ append_assoc (a ++ b) k (s ++ p)
 
--- each part is written behind those before it
 pub text_of_parts : (e : EchoText) (tag : List ℕ) (kept : List (List ℕ)) (seen path : List NetNode) (t₀ t₁ t₂ t₃ t₄ t₅ s p : List ℕ)
     → t₀ ≡ [] → t₁ ≡ t₀ ++ area_word → t₂ ≡ t₁ ++ ended tag → t₃ ≡ t₂ ++ flat_map ended kept → t₄ ≡ t₃ ++ s → t₅ ≡ t₄ ++ p
     → ShortLines seen_prefix seen s → ShortLines path_prefix path p → record { tag = tag; kept = kept; seen = seen; path = path } ≡ e → TextOf e t₅
@@ -22,7 +20,6 @@ text_of_parts e tag kept seen path t₀ t₁ t₂ t₃ t₄ t₅ s p e₀ e₁ e
     let P : EchoText → Type 0 = λ said. TextOf said t₅ in
     subst P is (record { seen_lines = s; path_lines = p; seen = seen_is; path = path_is; whole = whole })
 
--- echoes with the same parts
 pub same_parts : (tag tag' : List ℕ) (kept kept' : List (List ℕ)) (seen seen' path path' : List NetNode)
     → tag ≡ tag' → kept ≡ kept' → seen ≡ seen' → path ≡ path'
     → let one : EchoText = record { tag = tag; kept = kept; seen = seen; path = path } in

@@ -9,11 +9,9 @@ use Rattle.echo_text.specs.Echo.{EchoOf, EchoText, HasNoZero, IsEcho, IsLine, Is
 use Rattle.echo_text.specs.Lines.{is_return, later_lines, lines, without_empty_last}
 use Rattle.echo_text.proofs.{EntryRanges.all_entries_in_range, LineKinds.control_in_tail, LineKinds.not_shed_if_kept, Tails.all_tail, Tails.tail-append, Tails.tail_of_body}
 
--- a byte of a line
 abbrev IsLineByte : ℕ → Type 0
 IsLineByte b = (b ≢ 0) × (b ≢ 13)
 
--- lines of bytes
 abbrev AreLines : List (List ℕ) → Type 0
 AreLines ls = AllByRecursion (AllByRecursion IsLineByte) ls
 
@@ -47,7 +45,6 @@ pub later_lines_are : (text : List ℕ) → HasNoZero text → All IsLine (later
 unfolding lines
 later_lines_are text h = grind (arith, all_lines, later_are, without_last_are, pieces_are_lines, recursion_from_All)
 
--- parts of lines
 all_in_body : (P : List ℕ → Type 0) (ls : List (List ℕ)) → AllByRecursion P ls → AllByRecursion P (body ls) × AllByRecursion P (tail ls)
 all_in_body P [] h = (tt, tt)
 all_in_body P (line ∷ more) h =
@@ -64,7 +61,6 @@ kept_are_lines later h =
     All-append IsLine (body later) (filter is_kept_control (tail later)) (All-from_recursion IsLine (body later) parts.0)
     (All-filter is_kept_control IsLine (tail later) (All-from_recursion IsLine (tail later) parts.1))
 
--- the tail of the kept lines
 kept_in_tail : (ls : List (List ℕ)) → all_tail (filter is_kept_control ls) ≡ true
 kept_in_tail ls = grind (arith, list_all-from_AllPass, All-weaker, control_in_tail, filter_passes)
 
@@ -78,7 +74,6 @@ nothing_shed later =
     (All-weaker (λ line. is_kept_control line ≡ true) (λ line. not (is_shed line) ≡ true) not_shed_if_kept (filter is_kept_control (tail later))
     (filter_passes is_kept_control (tail later)))
 
--- members of a set are members of the list
 set_in_range : (set all : List NetNode) → IsSetOf set all → All IsNetNode all → All IsNetNode set
 set_in_range set all is h =
     All-weaker (Contains set) IsNetNode (λ entry in_set. All-contains IsNetNode all entry h ((is.members entry).0 in_set)) set (All-contains_itself set)

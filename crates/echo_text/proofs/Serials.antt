@@ -1,4 +1,3 @@
--- Serials as digits to the base 16.
 use Rattle.std.proofs.Common.{◌≡◌, ℕ, ◌+◌, ◌*◌, ◌/◌, ◌%◌, ◌<◌, ◌≤◌, List, ◌∷◌, length, get_or, take, refl, sym, ap, subst, ◌∙◌, arith}
 use Rattle.std.proofs.{Math.Nat.pow-le-pow_right, lemmas.Int.Digits.digits_more, lemmas.Int.Digits.digits_value-lt, lemmas.Int.Digits.digits_value_more}
 use Rattle.std.proofs.lemmas.List.{length-take-le, take_all}
@@ -6,7 +5,6 @@ use Rattle.std.specs.{Char.digit_value, Int.to_be_bytes, Int.w32, Str.Parse.AllD
 use Rattle.hex.specs.Hex.{encode_lower, encode_with}
 use Rattle.echo_text.specs.Ids.{hex_digit, serial_text}
 
--- the first i bytes are digits, and this is their value
 pub record Valued (ds : List ℕ) (i value : ℕ) : Type 0 where
   pub each : AllDigits 16 (take i ds)
   pub value_is : digits_value 16 (take i ds) ≡ value
@@ -22,7 +20,6 @@ pub valued_all : (ds : List ℕ) (i value : ℕ) → length ds ≤ i → Valued 
 valued_all ds i value all v =
     let same = take_all i ds all in (subst (AllDigits 16) same v.each, ap (digits_value 16) (sym same) ∙ v.value_is)
 
--- the text of four bytes as the digits of their number
 both : (h l g m : ℕ) (xs ys : List ℕ) → h ≡ g → l ≡ m → xs ≡ ys → hex_digit h ∷ (hex_digit l ∷ xs) ≡ hex_digit g ∷ (hex_digit m ∷ ys)
 both h l g m xs ys e f r = ap (λ n. hex_digit n ∷ (hex_digit l ∷ xs)) e ∙ ap (λ n. hex_digit g ∷ (hex_digit n ∷ xs)) f ∙ ap (λ t. hex_digit g ∷ (hex_digit m ∷ t)) r
 

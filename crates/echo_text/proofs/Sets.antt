@@ -6,7 +6,6 @@ use Rattle.std.specs.List.{AllPairs, Sorted.IsStrictlySortedBy}
 use Rattle.echo_addr.specs.{declared.address.NetNode.NetNode, ShortLines.ComesBefore}
 use Rattle.echo_text.specs.Echo.{IsSetOf}
 
--- the order and the equality of entries, part by part
 abbrev pub order : NetNode → NetNode → Ordering
 order x y = ordering_then (nat_cmp x.net y.net) (nat_cmp x.node y.node)
 
@@ -19,7 +18,6 @@ same_entry x y net node = ap (λ n. record x { net = n }) net ∙ ap (λ n. reco
 pub same_is : (x y : NetNode) → same x y ≡ true → x ≡ y
 same_is x y is = grind (arith, and_parts, same_entry, eqb-true)
 
--- an ordering by net and then by node
 less_then : (p q : Ordering) (m n k l : ℕ) → MatchOrdering p (m < n) (m ≡ n) (n < m) → MatchOrdering q (k < l) (k ≡ l) (l < k)
     → ordering_then p q ≡ Less → (m < n) ⊎ ((m ≡ n) × (k < l))
 less_then p q m n k l h1 h2 h3 = grind arith

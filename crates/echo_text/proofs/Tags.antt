@@ -7,7 +7,6 @@ use Rattle.echo_addr.specs.Entries.{is_blank}
 use Rattle.echo_text.specs.Lines.{area_tag, area_word, is_return, is_tag, is_tag_byte, trimmed, without_back_blanks, without_front_blanks}
 use Rattle.echo_text.proofs.LineKinds.{after_area}
 
--- bytes without a blank
 abbrev IsInked : List ℕ → Type 0
 IsInked bytes = All (λ b. is_blank b ≡ false) bytes
 
@@ -21,7 +20,6 @@ pub trimmed_ink : (bytes : List ℕ) → IsInked bytes → trimmed bytes ≡ byt
 unfolding trimmed
 trimmed_ink bytes ink = ap without_back_blanks (no_front_blanks bytes ink) ∙ no_back_blanks bytes ink
 
--- the bounds of a byte of a tag
 record IsTagByte (b : ℕ) : Type 0 where
   low : 33 ≤ b
   high : b ≤ 126
@@ -43,11 +41,9 @@ tag_bytes tag is = grind (arith, and_parts, nat_lt, nat_le, All-weaker, tag_byte
 tag_byte_no_return : (b : ℕ) → IsTagByte b → is_return b ≡ false
 tag_byte_no_return b h = ne_eqb b 13 (λ e. omega (arith, h.low))
 
--- no line ends in a tag
 pub tag_piece : (tag : List ℕ) → is_tag tag ≡ true → All (λ b. is_return b ≡ false) tag
 tag_piece tag is = All-weaker IsTagByte (λ b. is_return b ≡ false) tag_byte_no_return tag (tag_bytes tag is)
 
--- the tag of an AREA line that was written
 pub area_tag_back : (tag : List ℕ) → is_tag tag ≡ true → area_tag (area_word ++ tag) ≡ tag
 area_tag_back tag is = grind (arith, tag_bytes, after_area, trimmed_ink, All-weaker, tag_byte_ink, map_fixed, tag_byte_upper)
 

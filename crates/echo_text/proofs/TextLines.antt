@@ -1,4 +1,3 @@
--- Cutting a text into lines.
 use Rattle.std.proofs.Common.{◌≡◌, ℕ, ◌+◌, ◌<◌, ◌≤◌, true, false, List, [], ◌∷◌, ◌++◌, length, get_or, take, drop, Some, None, refl, sym, ap, ◌∙◌, arith}
 use Rattle.std.proofs.lemmas.List.{append_assoc, drop_more, get_or-take, length-take-le, nil_from_length, take-append-drop}
 use Rattle.std.proofs.lemmas.{List.Elements.All-from_get_or, List.Splits.slice_split_none, List.Splits.slice_split_at, Bool.eqb-true, Bool.false_from_ne_true}
@@ -8,7 +7,6 @@ use Rattle.echo_addr.specs.Pieces.{without_empty_last}
 use Rattle.echo_addr.proofs.Pieces.{ended_piece, last_piece, some_pieces}
 use Rattle.echo_text.specs.{Lines.first_line, Lines.is_return, Lines.later_lines, Lines.lines, Echo.ended}
 
--- bytes among which no line ends
 abbrev pub IsPiece : List ℕ → Type 0
 IsPiece line = All (λ b. is_return b ≡ false) line
 
@@ -16,7 +14,6 @@ pub lines_nil : lines [] ≡ []
 unfolding lines
 lines_nil = refl
 
--- a line, its 0D and the bytes after it
 pub lines_cut : (line rest : List ℕ) → IsPiece line → lines (line ++ 13 ∷ rest) ≡ line ∷ lines rest
 unfolding lines
 lines_cut line rest piece =
@@ -25,13 +22,11 @@ lines_cut line rest piece =
 pub lines_ended : (line rest : List ℕ) → IsPiece line → lines (ended line ++ rest) ≡ line ∷ lines rest
 lines_ended line rest piece = ap lines (append_assoc line (13 ∷ []) rest) ∙ lines_cut line rest piece
 
--- a last line without 0D
 pub lines_last : (line : List ℕ) → 0 < length line → IsPiece line → lines line ≡ line ∷ []
 unfolding lines
 lines_last line some piece =
     ap without_empty_last (slice_split_none is_return line piece) ∙ last_piece line some
 
--- lines one after the other
 pub lines_of_ended : (some : List (List ℕ)) (rest : List ℕ) → AllByRecursion IsPiece some → lines (flat_map ended some ++ rest) ≡ some ++ lines rest
 lines_of_ended [] rest pieces = refl
 lines_of_ended (line ∷ more) rest pieces =
@@ -39,7 +34,6 @@ lines_of_ended (line ∷ more) rest pieces =
     ∙ lines_ended line (flat_map ended more ++ rest) pieces.0
     ∙ ap (λ ls. line ∷ ls) (lines_of_ended more rest pieces.1)
 
--- the first line of a text, and the bytes after it
 pub record Splits (text first rest : List ℕ) : Type 0 where
   pub first_is : first ≡ first_line (lines text)
   pub later_is : lines rest ≡ later_lines (lines text)
@@ -47,7 +41,6 @@ pub record Splits (text first rest : List ℕ) : Type 0 where
 splits : (text first rest : List ℕ) → lines text ≡ first ∷ lines rest → Splits text first rest
 splits text first rest is = record { first_is = sym (ap first_line is); later_is = sym (ap later_lines is) }
 
--- no line ends before the first 0D
 before_return : (text : List ℕ) (k : ℕ) → k ≤ length text → ((j : ℕ) → 0 ≤ j → j < k → is_byte 13 (get_or text j 0) ≡ true → ⊥)
     → IsPiece (take k text)
 before_return text k within none =
@@ -78,15 +71,12 @@ first_and_later : (all : List (List ℕ)) (first : List ℕ) (later : List (List
 first_and_later [] first later some f l = absurd (omega arith)
 first_and_later (line ∷ more) first later some f l = sym (ap (λ x. x ∷ later) f ∙ ap (λ ls. line ∷ ls) l)
 
--- some bytes are at least one line
 pub some_lines : (text : List ℕ) → 0 < length text → 0 < length (lines text)
 unfolding lines
 some_lines text some = some_pieces is_return text some
 
--- the lines of some bytes
 pub lines_with_first : (text first rest : List ℕ) → 0 < length text → Splits text first rest → lines text ≡ first ∷ lines rest
 lines_with_first text first rest some h = first_and_later (lines text) first (lines rest) (some_lines text some) h.first_is h.later_is
 
--- no bytes have no lines
 pub no_lines : (rest : List ℕ) → length rest ≡ 0 → lines rest ≡ []
 no_lines rest none = ap lines (nil_from_length rest none) ∙ lines_nil

@@ -14,7 +14,6 @@ use Rattle.echo_text.proofs.LineKinds.{after_path, after_seen, area_is_area, kep
 use Rattle.echo_text.proofs.Tails.{all_tail, body-append, body_and_tail, tail-append, tail_is_tail}
 use Rattle.echo_text.proofs.{TextLines.IsPiece, TextLines.lines_ended, TextLines.lines_nil, TextLines.lines_of_ended, Tags.area_tag_back, Tags.tag_piece}
 
--- lines that begin with the prefix
 abbrev prefixed : List ℕ → List (List ℕ) → List (List ℕ)
 prefixed prefix rests = map (λ rest. prefix ++ rest) rests
 
@@ -36,7 +35,6 @@ prefixed_pieces prefix piece (rest ∷ more) bytes = (
   prefixed_pieces prefix piece more bytes.1,
 )
 
--- all lines with the prefix pass, or all fail
 all_prefixed : (p : List ℕ → Bool) (prefix : List ℕ) → ((rest : List ℕ) → p (prefix ++ rest) ≡ true) → (rests : List (List ℕ))
     → list_all p (prefixed prefix rests) ≡ true
 all_prefixed p prefix passes [] = refl
@@ -62,7 +60,6 @@ after_prefixed prefix after [] = refl
 after_prefixed prefix after (rest ∷ more) =
     ap (λ r. r ∷ map (after_word prefix) (prefixed prefix more)) (after rest) ∙ ap (λ rs. rest ∷ rs) (after_prefixed prefix after more)
 
--- tail lines without a shed one
 record IsKeptEnding (ending : List (List ℕ)) : Type 0 where
   kept : filter is_kept_control ending ≡ ending
   no_seen : filter is_seen ending ≡ []
@@ -81,20 +78,17 @@ kept_ending (line ∷ more) all left =
       no_path = cond-false (is_path line) (line ∷ filter is_path more) (filter is_path more) (kept_no_path line kept) ∙ rest.no_path;
     }
 
--- the lines after the AREA line that is written: those kept, the SEEN-BY lines and the PATH lines
 abbrev laid_out : List (List ℕ) → List (List ℕ) → List (List ℕ) → List (List ℕ)
 laid_out kept seen path = kept ++ (prefixed seen_prefix seen ++ prefixed path_prefix path)
 
 shed_all_tail : (seen path : List (List ℕ)) → all_tail (prefixed seen_prefix seen ++ prefixed path_prefix path) ≡ true
 shed_all_tail seen path = grind (arith, list_all-append, and_from, all_prefixed, seen_in_tail, path_in_tail)
 
--- the SEEN-BY and PATH lines that a filter leaves
 both : (p : List ℕ → Bool) (kept left_seen left_path : List (List ℕ)) (ending seen path : List (List ℕ))
     → filter p ending ≡ kept → filter p (prefixed seen_prefix seen) ≡ left_seen → filter p (prefixed path_prefix path) ≡ left_path
     → filter p (ending ++ (prefixed seen_prefix seen ++ prefixed path_prefix path)) ≡ kept ++ (left_seen ++ left_path)
 both p kept left_seen left_path ending seen path k s t = grind (arith, filter-append)
 
--- the content of the written lines
 record Says (kept seen path : List (List ℕ)) : Type 0 where
   kept_back : kept_of (laid_out kept seen path) ≡ kept
   seen_back : seen_lists (laid_out kept seen path) ≡ seen
@@ -104,7 +98,6 @@ says : (kept seen path : List (List ℕ)) → IsKeptEnding (tail kept) → Says 
 unfolding kept_of seen_lists path_lists
 says kept seen path ending = grind (arith, tail-append, shed_all_tail, body-append, both, filter_prefixed_none, seen_not_kept, path_not_kept, append-nil, body_and_tail, filter_prefixed, seen_is_seen, path_is_not_seen, after_prefixed, after_seen, seen_is_not_path, path_is_path, after_path)
 
--- the lines of a text that was written
 line_piece : (line : List ℕ) → IsLine line → IsPiece line
 line_piece line h = All-weaker (λ b. (b ≢ 0) × (b ≢ 13)) (λ b. is_return b ≡ false) (λ b parts. ne_eqb b 13 parts.1) line h
 
@@ -148,7 +141,6 @@ none_dropped (rest ∷ more) h = omega (arith, sum_by-cons dropped rest more, h.
 itself : (list : List NetNode) → (all : List NetNode) → all ≡ list → AllPairs ComesBefore list → IsSetOf list all
 itself list all is ascending = grind arith
 
--- the lines of a text in terms of its parts
 record Begun (text first : List ℕ) (later : List (List ℕ)) : Type 0 where
   first_is : first_line (lines text) ≡ first
   later_is : later_lines (lines text) ≡ later

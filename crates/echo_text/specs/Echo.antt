@@ -59,7 +59,6 @@ pub record EchoOf (text : List ℕ) (e : EchoText) (dropped : ℕ) : Type 0 wher
   pub path : e.path ≡ all_entries (path_lists (later_lines (lines text)))
   pub dropped_tokens : dropped ≡ all_dropped (seen_lists (later_lines (lines text))) + all_dropped (path_lists (later_lines (lines text)))
 
--- A line and its 0D.
 abbrev pub ended : List ℕ → List ℕ
 ended line = line ++ 13 ∷ []
 
@@ -80,7 +79,7 @@ abbrev pub first_after : List ℕ → List (List ℕ) → Option (List ℕ)
 first_after word kept =
     find (λ found. nat_lt 0 (length found)) (map (λ line. trimmed (after_word word line)) (filter (begins word) kept))
 
--- The same for one line.
+-- The value in one line of this kind, if it has more than blanks.
 abbrev pub id_in : List ℕ → List ℕ → Option (List ℕ)
 id_in word line =
     let found = trimmed (after_word word line) in if begins word line && nat_lt 0 (length found) then Some found else None

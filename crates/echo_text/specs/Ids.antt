@@ -4,11 +4,10 @@ use Rattle.std.specs.{Int.is_in_range, List.AllPass, List.list_all, List.suffix_
 use Rattle.echo_addr.specs.{declared.address.Address.Address, Address.address_text, Entries.is_blank}
 use Rattle.echo_text.specs.Lines.{trimmed}
 
--- A hexadecimal digit in lower case.
 abbrev pub hex_digit : ℕ → ℕ
 hex_digit n = slice_index (codes "0123456789abcdef") n
 
--- A serial as eight of these digits.
+-- A serial as eight hexadecimal digits in lower case.
 abbrev pub serial_text : ℕ → List ℕ
 serial_text serial = map (λ k. hex_digit (serial / 16 ^ k % 16)) (7 ∷ (6 ∷ (5 ∷ (4 ∷ (3 ∷ (2 ∷ (1 ∷ (0 ∷ []))))))))
 
@@ -16,11 +15,9 @@ serial_text serial = map (λ k. hex_digit (serial / 16 ^ k % 16)) (7 ∷ (6 ∷ 
 unfoldable pub id_of : Address → ℕ → List ℕ
 id_of address serial = address_text address ++ (codes " " ++ serial_text serial)
 
--- A hexadecimal digit in either case.
 abbrev pub is_hex_digit : ℕ → Bool
 is_hex_digit b = is_in_range 48 57 b || (is_in_range 65 70 b || is_in_range 97 102 b)
 
--- A byte 00, a blank 20 and a double quote.
 abbrev pub is_zero : ℕ → Bool
 is_zero b = b == 0
 
@@ -30,7 +27,6 @@ is_gap b = b == 32
 abbrev pub is_quote : ℕ → Bool
 is_quote b = b == 34
 
--- A byte that a line may have: neither 00 nor 0D.
 abbrev pub is_line_byte : ℕ → Bool
 is_line_byte b = not (is_zero b || (b == 13))
 
@@ -75,7 +71,6 @@ pub record IsWide (a : Address) : Type 0 where
   pub net : a.net < 2 ^ 16
   pub node : a.node < 2 ^ 16
 
--- A text with each double quote doubled.
 abbrev pub doubled : List ℕ → List ℕ
 doubled [] = []
 doubled (b ∷ rest) = if is_quote b then 34 ∷ (34 ∷ doubled rest) else b ∷ doubled rest
@@ -99,7 +94,6 @@ pub record Quoted (spelled origin : List ℕ) : Type 0 where
   pub between : spelled ≡ 34 ∷ (origin ++ 34 ∷ [])
   pub each_doubled : origin ≡ doubled plain
 
--- The spelling of the origin.
 abbrev pub SpellsOrigin : Bool → List ℕ → List ℕ → Type 0
 SpellsOrigin true spelled origin = Quoted spelled origin
 SpellsOrigin false spelled origin = Bare spelled origin
@@ -122,15 +116,12 @@ pub record IdParts (id origin : List ℕ) (quoted : Bool) (serial : ℕ) : Type 
 abbrev pub IdOf : List ℕ → List ℕ → Bool → ℕ → Type 0
 IdOf b origin quoted serial = IdParts (trimmed b) origin quoted serial
 
--- The bytes spell some id.
 abbrev pub SpellsId : List ℕ → Type 0
 SpellsId b = (origin : List ℕ) × (quoted : Bool) × (serial : ℕ) × IdOf b origin quoted serial
 
--- The bytes spell no id.
 abbrev pub NoId : List ℕ → Type 0
 NoId b = (origin : List ℕ) (quoted : Bool) (serial : ℕ) → IdOf b origin quoted serial → ⊥
 
--- Two ids are equal.
 pub record SameId (o p : List ℕ) (quoted other : Bool) (s t : ℕ) : Type 0 where
   pub origin : o ≡ p
   pub quoting : quoted ≡ other

@@ -6,7 +6,6 @@ use Rattle.echo_addr.specs.Entries.{is_blank}
 pub use Rattle.echo_addr.specs.Pieces.{is_feed, without_empty_last}
 use Rattle.echo_addr.specs.ShortLines.{path_prefix, seen_prefix}
 
--- 0D, which ends a line.
 abbrev pub is_return : ℕ → Bool
 is_return b = b == 13
 
@@ -14,7 +13,6 @@ is_return b = b == 13
 unfoldable pub lines : List ℕ → List (List ℕ)
 lines text = without_empty_last (slice_split is_return text)
 
--- The first line, and the lines after it.
 abbrev pub first_line : List (List ℕ) → List ℕ
 first_line [] = []
 first_line (line ∷ later) = line
@@ -23,11 +21,9 @@ abbrev pub later_lines : List (List ℕ) → List (List ℕ)
 later_lines [] = []
 later_lines (line ∷ later) = later
 
--- A line without the line feeds at its front.
 abbrev pub after_feeds : List ℕ → List ℕ
 after_feeds line = drop (prefix_len is_feed line) line
 
--- The prefixes of the kinds of lines.
 abbrev pub area_word : List ℕ
 area_word = codes "AREA:"
 
@@ -54,7 +50,6 @@ begins word line = starts_with nat_eq (after_feeds line) word
 unfoldable pub after_word : List ℕ → List ℕ → List ℕ
 after_word word line = drop (length word) (after_feeds line)
 
--- The kinds of lines.
 abbrev pub is_area : List ℕ → Bool
 is_area line = begins area_word line
 

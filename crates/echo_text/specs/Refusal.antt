@@ -11,7 +11,6 @@ refusal_of first =
     else if not (is_tag (area_tag first)) then Some BadTag
     else None
 
--- The first refusal that applies to the text.
 unfoldable pub text_refusal : List ℕ → Option TextFault
 text_refusal text = refusal_of (first_line (lines text))
 

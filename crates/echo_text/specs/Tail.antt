@@ -4,7 +4,6 @@ use Rattle.std.specs.List.{flat_map, list_all}
 use Rattle.echo_addr.specs.{declared.address.NetNode.NetNode, Entries.dropped, Entries.entries, ShortLines.path_prefix, ShortLines.seen_prefix}
 use Rattle.echo_text.specs.Lines.{after_word, begins, is_blank_line, is_control, is_path, is_seen}
 
--- A line that may be in a tail.
 abbrev pub is_tail_line : List ℕ → Bool
 is_tail_line line = is_seen line || is_control line || is_blank_line line
 
@@ -13,7 +12,6 @@ abbrev pub tail : List (List ℕ) → List (List ℕ)
 tail [] = []
 tail (line ∷ later) = if list_all is_tail_line (line ∷ later) then line ∷ later else tail later
 
--- The lines before the tail.
 abbrev pub body : List (List ℕ) → List (List ℕ)
 body [] = []
 body (line ∷ later) = if list_all is_tail_line (line ∷ later) then [] else line ∷ body later
@@ -26,7 +24,6 @@ is_kept_control line = is_control line && not (is_path line)
 unfoldable pub kept_of : List (List ℕ) → List (List ℕ)
 kept_of later = body later ++ filter is_kept_control (tail later)
 
--- The bytes after the word in the lines that begin with it.
 abbrev pub lists_of : List ℕ → List (List ℕ) → List (List ℕ)
 lists_of word lines = map (after_word word) (filter (begins word) lines)
 
@@ -37,7 +34,6 @@ seen_lists later = lists_of seen_prefix (tail later)
 unfoldable pub path_lists : List (List ℕ) → List (List ℕ)
 path_lists later = lists_of path_prefix (tail later)
 
--- The entries of the lists, in order.
 abbrev pub all_entries : List (List ℕ) → List NetNode
 all_entries lists = flat_map entries lists
 

@@ -43,14 +43,12 @@ pub fn is_kept_tag(bytes: &[u8]) -> bool
     !bytes.is_empty() && bytes.len() <= MAX_TAG && has_kept_bytes(bytes)
 }
 
-/// Whether a tag in upper case may have each byte.
 fn has_kept_bytes(bytes: &[u8]) -> bool
     ensures { result ≡ list_all is_tag_byte bytes.now }
 {
     bytes.iter().all(|b| is_tag_byte(*b))
 }
 
-/// Whether a tag may have each byte, in upper case.
 fn has_tag_bytes(bytes: &[u8]) -> bool
     ensures { result ≡ list_all (λ b. is_tag_byte (to_ascii_uppercase b)) bytes.now }
 {

@@ -4,9 +4,8 @@ use echo_addr::{Items, NetNode};
 use std::alloc::Global;
 use std::marker::Model;
 
-/// A parsed echomail text (FTS-0004). The tag has 1 to 60 bytes from `!` to `~` without small
-/// letters. No kept line has 00 or 0D. The longest ending of the kept lines that has only control
-/// lines has no SEEN-BY line, no PATH line and no blank line. `seen` ascends without repeats;
+/// A parsed echomail text (FTS-0004). The tag has 1 to 60 bytes from `!` to `~` without small letters. No kept line
+/// has 00 or 0D; the control lines at their end are no SEEN-BY, PATH or blank lines. `seen` ascends without repeats;
 /// `path` has its entries in order, with repeats.
 #[derive(Debug, Drop, PartialEq, Eq, Hash)]
 pub struct Echo {
@@ -123,7 +122,6 @@ impl<'a> FrontView<'a> {
     ghost use Rattle.std.specs.Prelude.{◌≡◌, option_copied};
     ghost use Rattle.echo_text.specs.Echo.{msgid_of};
 
-    /// The id of the message, as `Echo` has it.
     pub fn msgid(&self) -> Option<&[u8]>
         ensures { option_copied result ≡ msgid_of self.now.kept }
     {
@@ -135,28 +133,24 @@ impl<'a> EchoView<'a> {
     ghost use Rattle.std.specs.Prelude.{◌≡◌, option_copied};
     ghost use Rattle.echo_text.specs.Echo.{msgid_of, origin_of, reply_of, tear_of};
 
-    /// The id of the message, as `Echo` has it.
     pub fn msgid(&self) -> Option<&[u8]>
         ensures { option_copied result ≡ msgid_of self.now.kept }
     {
         self.kept.msgid()
     }
 
-    /// The id of the message replied to, as `Echo` has it.
     pub fn reply(&self) -> Option<&[u8]>
         ensures { option_copied result ≡ reply_of self.now.kept }
     {
         self.kept.reply()
     }
 
-    /// The last tear line, as `Echo` has it.
     pub fn tear(&self) -> Option<&[u8]>
         ensures { option_copied result ≡ tear_of self.now.kept }
     {
         self.kept.tear()
     }
 
-    /// The last origin line, as `Echo` has it.
     pub fn origin(&self) -> Option<&[u8]>
         ensures { option_copied result ≡ origin_of self.now.kept }
     {

@@ -6,7 +6,6 @@ ghost use Rattle.echo_text.specs.Lines.{after_feeds, begins, is_tear, lines};
 use crate::lines::split_line;
 use crate::words::{MSGID, ORIGIN, REPLY, after_feeds, after_word, begins, is_tear, trimmed};
 
-/// The id of the message, in the text of its kept lines.
 #[tactic(auto, unfolding(crate::specs::Echo::msgid_of))]
 pub(crate) fn msgid(kept: &[u8]) -> Option<&[u8]>
     ensures { option_copied result ≡ msgid_of (lines kept.now) }
@@ -14,7 +13,6 @@ pub(crate) fn msgid(kept: &[u8]) -> Option<&[u8]>
     first_id(MSGID, kept)
 }
 
-/// The id of the message replied to.
 #[tactic(auto, unfolding(crate::specs::Echo::reply_of))]
 pub(crate) fn reply(kept: &[u8]) -> Option<&[u8]>
     ensures { option_copied result ≡ reply_of (lines kept.now) }
@@ -22,7 +20,6 @@ pub(crate) fn reply(kept: &[u8]) -> Option<&[u8]>
     first_id(REPLY, kept)
 }
 
-/// The last tear line, without the line feeds at its front.
 #[tactic(auto, unfolding(crate::specs::Echo::tear_of))]
 pub(crate) fn tear(kept: &[u8]) -> Option<&[u8]>
     ensures { option_copied result ≡ tear_of (lines kept.now) }
@@ -30,7 +27,6 @@ pub(crate) fn tear(kept: &[u8]) -> Option<&[u8]>
     last_tear(kept)
 }
 
-/// The last origin line, without the line feeds at its front.
 #[tactic(auto, unfolding(crate::specs::Echo::origin_of))]
 pub(crate) fn origin(kept: &[u8]) -> Option<&[u8]>
     ensures { option_copied result ≡ origin_of (lines kept.now) }
@@ -38,7 +34,6 @@ pub(crate) fn origin(kept: &[u8]) -> Option<&[u8]>
     last_with(ORIGIN, kept)
 }
 
-/// The text after the word in the line, if it is more than blanks, without blanks at both ends.
 fn id_in<'a>(word: &[u8], line: &'a [u8]) -> Option<&'a [u8]>
     ensures { option_copied result ≡ id_in word.now line.now }
 {
@@ -46,7 +41,6 @@ fn id_in<'a>(word: &[u8], line: &'a [u8]) -> Option<&'a [u8]>
     if id.is_empty() { None } else { Some(id) }
 }
 
-/// The text after the word in the first line where it is more than blanks.
 fn first_id<'a>(word: &[u8], kept: &'a [u8]) -> Option<&'a [u8]>
     ensures { option_copied result ≡ first_after word.now (lines kept.now) }
 {
@@ -61,7 +55,6 @@ fn first_id<'a>(word: &[u8], kept: &'a [u8]) -> Option<&'a [u8]>
     None
 }
 
-/// The last tear line, without the line feeds at its front.
 fn last_tear(kept: &[u8]) -> Option<&[u8]>
     ensures { option_copied result ≡ last_or None (map after_feeds (filter is_tear (lines kept.now))) }
 {
@@ -77,7 +70,6 @@ fn last_tear(kept: &[u8]) -> Option<&[u8]>
     found
 }
 
-/// The last line that begins with the word, without the line feeds at its front.
 fn last_with<'a>(word: &[u8], kept: &'a [u8]) -> Option<&'a [u8]>
     ensures { option_copied result ≡ last_or None (map after_feeds (filter (begins word.now) (lines kept.now))) }
 {

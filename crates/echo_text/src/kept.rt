@@ -6,8 +6,7 @@ use std::alloc::{AllocError, Global};
 use std::hash::{Hash, Hasher};
 use std::marker::Model;
 
-/// Lines one after another in one piece of memory, each with its 0D, seen by contracts as the list of
-/// the lines.
+/// Lines one after another in memory, each with its 0D. Contracts see the list of the lines.
 #[derive(Debug, Drop)]
 pub struct Lines {
     text: Items<u8>,
@@ -50,14 +49,12 @@ impl Lines {
         self.text.as_slice()
     }
 
-    /// The text of the lines.
     pub fn into_text(self) -> Vec<u8>
         ensures { result.items ≡ flat_map ended self }
     {
         self.text.into_vec()
     }
 
-    /// A copy of the lines.
     pub fn copy(&self, alloc: Global) -> Result<Lines, AllocError>
         ensures { IfOk result (λ lines. lines ≡ self.now) }
     {
@@ -128,21 +125,18 @@ impl<'a> KeptView<'a> {
     ghost use Rattle.echo_text.specs.Tail.{is_kept_control};
     ghost use Rattle.echo_text.specs.Echo.{msgid_of, origin_of, reply_of, tear_of};
 
-    /// The lines of the body, and those of the tail that are kept.
     pub(crate) fn new(body: &'a [u8], tail: &'a [u8]) -> KeptView<'a>
         ensures { result ≡ lines body.now ++ filter is_kept_control (lines tail.now) }
     {
         KeptView { body, tail }
     }
 
-    /// A copy of the lines.
     pub fn to_lines(&self, alloc: Global) -> Result<Lines, AllocError>
         ensures { IfOk result (λ lines. lines ≡ self.now) }
     {
         self.lines_into(Vec::new(alloc))
     }
 
-    /// A copy of the lines in a vector.
     pub(crate) fn lines_into(&self, mut text: Vec<u8>) -> Result<Lines, AllocError>
         ensures { IfOk result (λ lines. lines ≡ self.now) }
     {
@@ -163,7 +157,6 @@ impl<'a> KeptView<'a> {
         }
     }
 
-    /// The id of the message replied to.
     pub(crate) fn reply(&self) -> Option<&[u8]>
         ensures { option_copied result ≡ reply_of self.now }
     {
@@ -180,7 +173,6 @@ impl<'a> KeptView<'a> {
         found::tear(self.body)
     }
 
-    /// The last origin line. A tail has none.
     pub(crate) fn origin(&self) -> Option<&[u8]>
         ensures { option_copied result ≡ origin_of self.now }
     {

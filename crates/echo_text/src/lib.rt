@@ -1,20 +1,6 @@
-//! Echomail texts (FTS-0004, FTS-0009).
-//!
-//! Promise: `read_text` of the text that `write_text` made for an `Echo` gives that `Echo`, no
-//! token dropped (`written_text_read_back`).
-//!
-//! Begin with `echo` (a parsed text), then `reading` and `writing`. `area` has the tag, `kept` the kept lines,
-//! `tail` the control tail, `listed` its entries. `found` has ids, tear and origin lines, `msgid` message ids,
-//! `fault` the refusals. `words` and `lines` are helpers; `laws` and `id_laws` state the promises.
-//!
-//! A caller, who adds a system to the PATH of a text:
-//!
-//! ```
-//! let (echo, dropped) = read_text(alloc, text)?;
-//! let mut path = echo.path.into_vec();
-//! path.push(own)?;
-//! let text = write_parts(alloc, echo.tag.as_slice(), &echo.kept, echo.seen.as_slice(), &path)?;
-//! ```
+//! Echomail texts (FTS-0004, FTS-0009). `read_text` of the text that `write_text` made for an `Echo` gives that
+//! `Echo`, no token dropped (`written_text_read_back`). Begin with `echo` (a parsed text), then `reading` and
+//! `writing`; `laws` and `id_laws` state what holds.
 #![tactic(auto)]
 
 mod area;

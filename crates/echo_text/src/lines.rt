@@ -43,8 +43,7 @@ pub fn push_line(text: &mut Vec<u8>, line: &[u8]) -> Result<(), AllocError>
     push_return(text, before)
 }
 
-/// Adds the lines of the bytes to a text, each with its 0D, the last one too (FTS-0001). Out of memory
-/// leaves the text as it was.
+/// Adds the lines of the bytes to a text, each with its 0D. Out of memory leaves the text as it was.
 pub fn push_lines(text: &mut Vec<u8>, bytes: &[u8]) -> Result<(), AllocError>
     ensures ok { OnOk result (text.new.items ≡ text.old.items ++ flat_map ended (lines bytes.now)) }
     ensures err { OnErr result (text.new.items ≡ text.old.items) }
@@ -57,7 +56,6 @@ pub fn push_lines(text: &mut Vec<u8>, bytes: &[u8]) -> Result<(), AllocError>
     push_return(text, before)
 }
 
-/// Adds a 0D, or leaves the first `before` bytes alone.
 fn push_return(text: &mut Vec<u8>, before: usize) -> Result<(), AllocError>
     ensures ok { OnOk result (text.new.items ≡ text.old.items ++ 13 ∷ []) }
     ensures err { OnErr result (text.new.items ≡ take before text.old.items) }
@@ -69,7 +67,6 @@ fn push_return(text: &mut Vec<u8>, before: usize) -> Result<(), AllocError>
     Ok(())
 }
 
-/// Whether the last line, where there is one, has its 0D.
 fn is_ended(bytes: &[u8]) -> bool
     ensures { flat_map ended (lines bytes.now) ≡ (if result then bytes.now else bytes.now ++ 13 ∷ []) }
 {

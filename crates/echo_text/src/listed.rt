@@ -29,7 +29,6 @@ pub(crate) fn entries_into(
     Ok((found, dropped))
 }
 
-/// The entries in ascending order, each once.
 pub(crate) fn set_of(entries: Vec<NetNode>) -> Vec<NetNode>
     ensures { IsSetOf result.items entries.items }
 {

@@ -44,8 +44,7 @@ impl<'a> MsgId<'a> {
         }
     }
 
-    /// The id that a system gives its message of this serial: `zone:net/node`, a blank and eight
-    /// digits.
+    /// The id of a message of this system with this serial: `zone:net/node`, a blank and eight digits.
     pub fn write(alloc: Global, address: Address, serial: u32) -> Result<Vec<u8>, AllocError>
         ensures { IfOk result (λ v. v.items ≡ id_of address serial) }
     {
@@ -55,7 +54,6 @@ impl<'a> MsgId<'a> {
     }
 }
 
-/// The parts of an id that has no blanks at its ends.
 fn parts_of(id: &[u8]) -> Option<MsgId>
     ensures { MatchOption result (is_id_trimmed id.now ≡ false) (λ m. IdParts id.now m.origin.now m.quoted m.serial) }
 {
@@ -82,7 +80,6 @@ fn is_line(bytes: &[u8]) -> bool
     bytes.iter().all(|b| !(*b == 0 || *b == b'\r'))
 }
 
-/// The bytes without the blanks 20 at their end.
 fn without_gap(front: &[u8]) -> &[u8]
     ensures value { result.now ≡ without_gap front.now }
     ensures within { length result.now ≤ length front.now }
@@ -122,7 +119,6 @@ fn spelled_origin(spelled: &[u8]) -> Option<(&[u8], bool)>
     None
 }
 
-/// Whether the bytes are in double quotes, and each double quote between them is doubled.
 fn is_quoted(spelled: &[u8]) -> bool
     ensures value { result ≡ is_quoted_origin spelled.now }
     ensures room { IsTrue result → 2 ≤ length spelled.now }
@@ -136,7 +132,6 @@ fn is_quoted(spelled: &[u8]) -> bool
     ends_quoted(&spelled[1..])
 }
 
-/// Whether there are doubled double quotes and other bytes, and then one double quote.
 fn ends_quoted(rest: &[u8]) -> bool
     ensures { result ≡ ends_quoted false rest.now }
 {
@@ -163,14 +158,12 @@ fn is_bare(spelled: &[u8]) -> bool
     has_no_blank(spelled)
 }
 
-/// Whether no byte is a blank of message texts.
 fn has_no_blank(bytes: &[u8]) -> bool
     ensures { result ≡ list_all (λ b. not (is_blank b)) bytes.now }
 {
     bytes.iter().all(|b| !is_blank(*b))
 }
 
-/// The bytes with each doubled double quote made one.
 fn undoubled(alloc: Global, bytes: &[u8]) -> Result<Vec<u8>, AllocError>
     ensures { IfOk result (λ v. v.items ≡ undoubled false bytes.now) }
 {

@@ -37,7 +37,7 @@ pub fn read_text(alloc: Global, text: &[u8]) -> Result<(Echo, usize), TextFault>
     read_text_into(EchoRoom::new(alloc), text)
 }
 
-/// The same in the vectors of the room. Their content makes no difference.
+/// Reads the text into the vectors of the room. Their content makes no difference.
 pub fn read_text_into(room: EchoRoom, text: &[u8]) -> Result<(Echo, usize), TextFault>
     requires { HasNoZero text.now }
     ensures { TextAnswers text.now result }
@@ -54,7 +54,6 @@ pub fn view_front<'a>(alloc: Global, text: &'a [u8]) -> Result<FrontView<'a>, Te
     front_into(Vec::new(alloc), text)
 }
 
-/// The same with the tag in a vector.
 fn front_into<'a>(tag: Vec<u8>, text: &'a [u8]) -> Result<FrontView<'a>, TextFault>
     ensures { MatchResult result (λ front. FrontOf text.now front.tag front.kept) (IsTextFault text.now) }
 {
@@ -68,7 +67,6 @@ fn front_into<'a>(tag: Vec<u8>, text: &'a [u8]) -> Result<FrontView<'a>, TextFau
     })
 }
 
-/// The bytes in upper case, in a vector.
 fn upper_case_into(mut upper: Vec<u8>, bytes: &[u8]) -> Result<Vec<u8>, AllocError>
     ensures { IfOk result (λ upper. upper.items ≡ map to_ascii_uppercase bytes.now) }
 {
@@ -88,7 +86,6 @@ impl<'a> FrontView<'a> {
         self.echo_into(Vec::new(alloc), Vec::new(alloc), Vec::new(alloc), text)
     }
 
-    /// The same in these vectors.
     fn echo_into(
         self,
         kept: Vec<u8>,
@@ -112,7 +109,6 @@ impl<'a> FrontView<'a> {
     }
 }
 
-/// The entries of the SEEN-BY and PATH lines, and how many of their tokens are none.
 #[derive(Drop)]
 struct Lists {
     seen: Vec<NetNode>,
@@ -120,7 +116,6 @@ struct Lists {
     dropped: usize,
 }
 
-/// The lists of the text's control tail, in these vectors.
 fn lists_into(seen: Vec<NetNode>, path: Vec<NetNode>, text: &[u8]) -> Result<Lists, AllocError>
     ensures { IfOk result (λ l. ListsOf (later_lines (lines text.now)) l.seen.items l.path.items l.dropped) }
 {

@@ -33,7 +33,6 @@ fn body_len(text: &[u8]) -> usize
     end
 }
 
-/// How many bytes the lines of the tail that are kept have, each with its 0D.
 pub(crate) fn kept_len(tail: &[u8]) -> usize {
     let mut kept: usize = 0;
     let mut rest = tail;
@@ -47,7 +46,6 @@ pub(crate) fn kept_len(tail: &[u8]) -> usize {
     kept
 }
 
-/// Adds the lines of the tail that are kept, each with its 0D.
 pub(crate) fn push_kept(text: &mut Vec<u8>, tail: &[u8]) -> Result<(), AllocError>
     ensures { OnOk result (text.new.items ≡ text.old.items ++ flat_map ended (filter is_kept_control (lines tail.now))) }
 {

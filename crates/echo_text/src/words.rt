@@ -27,7 +27,6 @@ pub fn after_feeds(line: &[u8]) -> &[u8]
     &line[feed_count(line)..]
 }
 
-/// The number of line feeds at the front.
 fn feed_count(line: &[u8]) -> usize
     ensures exact { result ≡ length (take_while is_feed line.now) }
     ensures within { result ≤ length line.now }
@@ -96,14 +95,12 @@ pub fn is_tear(line: &[u8]) -> bool
     begins(b"--- ", line) || (begins(b"---", line) && after_feeds(line).len() == 3)
 }
 
-/// Whether a control tail has such lines.
 pub(crate) fn is_tail_line(line: &[u8]) -> bool
     ensures { result ≡ is_tail_line line.now }
 {
     begins(SEEN_BY, line) || begins(CONTROL, line) || is_blank_line(line)
 }
 
-/// Whether a control tail keeps the line too.
 pub(crate) fn is_kept_control(line: &[u8]) -> bool
     ensures { result ≡ is_kept_control line.now }
 {

@@ -9,8 +9,7 @@ use crate::words::AREA;
 use echo_addr::{NetNode, push_path, push_seen};
 use std::alloc::{AllocError, Global};
 
-/// The text of an echo (FTS-0004): the AREA line, the kept lines, the SEEN-BY lines and the PATH
-/// lines, each with its 0D.
+/// The text of an echo (FTS-0004): the AREA line, the kept lines, SEEN-BY and PATH lines, each with its 0D.
 pub fn write_text(alloc: Global, echo: &Echo) -> Result<Vec<u8>, AllocError>
     ensures { IfOk result (λ text. TextOf echo.now text.items) }
 {
@@ -19,7 +18,7 @@ pub fn write_text(alloc: Global, echo: &Echo) -> Result<Vec<u8>, AllocError>
     Ok(text)
 }
 
-/// The same in a vector, in place of what it held.
+/// Writes the text into a vector, in place of what it held.
 pub fn write_text_into(text: &mut Vec<u8>, echo: &Echo) -> Result<(), AllocError>
     ensures { OnOk result (TextOf echo.now text.new.items) }
 {
@@ -29,8 +28,7 @@ pub fn write_text_into(text: &mut Vec<u8>, echo: &Echo) -> Result<(), AllocError
     write_parts_into(text, tag, &echo.kept, seen, path)
 }
 
-/// The text of an echo with these parts, as `write_text` has it. The entries of SEEN-BY ascend without
-/// repeats.
+/// As `write_text`, of these parts. The entries of SEEN-BY ascend without repeats.
 pub fn write_parts(
     alloc: Global,
     tag: &[u8],
@@ -46,7 +44,6 @@ pub fn write_parts(
     Ok(text)
 }
 
-/// The same in a vector, in place of what it held.
 fn write_parts_into(
     text: &mut Vec<u8>,
     tag: &[u8],
@@ -74,7 +71,6 @@ const LINE_ROOM: usize = 80;
 
 const ENTRY_ROOM: usize = 6;
 
-/// The room in bytes that most such texts need at most.
 fn room_of(kept: &[u8], entries: usize) -> usize {
     let room = entries.saturating_mul(ENTRY_ROOM);
     room.saturating_add(3 * LINE_ROOM)

@@ -16,7 +16,6 @@ pub entries_in_order : (all set : List NetNode) → IsStrictlySortedBy Rattle.ec
     → ((entry : NetNode) → Contains set entry ↔ Contains all entry) → set ≡ entry_set all
 entries_in_order all set sorted members = one_set set (entry_set all) all (set_in_order all set sorted members) (entry_set_is_set all)
 
--- the order of addresses, part by part
 abbrev pub later_parts : Address → Address → Ordering
 later_parts a b = ordering_then (nat_cmp a.net b.net) (nat_cmp a.node b.node)
 
@@ -95,7 +94,6 @@ sets_together front one other same =
     (λ x i. ⊎_elim (λ before. in_front x front other before) (λ back. in_back x front other (over x one other same back)) (in_either x front one i))
     (λ x i. ⊎_elim (λ before. in_front x front one before) (λ back. in_back x front one (over x other one (sym same) back)) (in_either x front other i))
 
--- the same of entries
 same_entries : (one other : List NetNode) → ((x : NetNode) → IsIn x one → IsIn x other) → ((x : NetNode) → IsIn x other → IsIn x one) → entry_set one ≡ entry_set other
 unfolding entry_set
 same_entries one other there back = grind (arith, same_set, entry_order, set_ascending, set_keeps, set_only)
@@ -104,14 +102,12 @@ over : (x : NetNode) (xs ys : List NetNode) → entry_set xs ≡ entry_set ys �
 unfolding entry_set
 over x xs ys e i = set_only entry_before x ys (subst (IsIn x) e (set_keeps entry_before entry_order x xs i))
 
--- one entry more behind lists of one set
 pub entry_more : (one other : List NetNode) (x : NetNode) → entry_set one ≡ entry_set other → entry_set (one ++ x ∷ []) ≡ entry_set (other ++ x ∷ [])
 entry_more one other x same =
     same_entries (one ++ x ∷ []) (other ++ x ∷ [])
     (λ y i. ⊎_elim (λ front. in_front y other (x ∷ []) (over y one other same front)) (λ back. in_back y other (x ∷ []) back) (in_either y one (x ∷ []) i))
     (λ y i. ⊎_elim (λ front. in_front y one (x ∷ []) (over y other one (sym same) front)) (λ back. in_back y one (x ∷ []) back) (in_either y other (x ∷ []) i))
 
--- an entry between others, or behind them
 pub entry_between : (front back : List NetNode) (x : NetNode) → entry_set ((front ++ x ∷ []) ++ back) ≡ entry_set ((front ++ back) ++ x ∷ [])
 entry_between front back x =
     same_entries ((front ++ x ∷ []) ++ back) ((front ++ back) ++ x ∷ [])
@@ -124,7 +120,6 @@ entry_between front back x =
     (λ late. in_front y (front ++ x ∷ []) back (in_back y front (x ∷ []) late))
     (in_either y (front ++ back) (x ∷ []) i))
 
--- entries, and others or their set
 pub entries_twice : (all more : List NetNode) → entry_set (all ++ entry_set more) ≡ entry_set (all ++ more)
 unfolding entry_set
 entries_twice all more =
@@ -132,7 +127,6 @@ entries_twice all more =
     (λ x i. ⊎_elim (λ front. in_front x all more front) (λ back. in_back x all more (set_only entry_before x more back)) (in_either x all (entry_set more) i))
     (λ x i. ⊎_elim (λ front. in_front x all (entry_set more) front) (λ back. in_back x all (entry_set more) (set_keeps entry_before entry_order x more back)) (in_either x all more i))
 
--- one more of the added entries stands among the others
 pub union_more : (all before after rest entries added longer more : List NetNode) (n i : ℕ) (d : NetNode) → i < length added
     → before ≡ take n rest → after ≡ drop n rest → longer ≡ all ++ before → more ≡ longer ++ get_or added i d ∷ []
     → entry_set (all ++ rest) ≡ entry_set (entries ++ take i added) → entry_set (more ++ after) ≡ entry_set (entries ++ take (i + 1) added)

@@ -1,4 +1,3 @@
--- A store that holds too much, before and after other calls.
 use Rattle.std.proofs.Common.{inl, inr, Err}
 use Rattle.std.specs.Prelude.{IsErrOf}
 use Rattle.base_file.specs.Base.{Base}

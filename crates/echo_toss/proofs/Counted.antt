@@ -30,7 +30,6 @@ tally_of-push all NotLinked = grind (arith, counted_no, counted_yes)
 counted_front : (p : Outcome → Bool) (o : Outcome) (all : List Outcome) → count_by p (o ∷ all) ≡ cond (p o) 1 0 + count_by p all
 counted_front p o all = let sum = sum_by-append (λ x. cond (p x) 1 0) (o ∷ []) all in omega arith
 
--- an outcome and later ones, each counted
 counted_first : (o : Outcome) (all : List Outcome) → all_counted (tally_of (o ∷ all))
     ≡ cond (same_outcome Filed o) 1 0 + (cond (same_outcome Known o) 1 0 + (cond (same_outcome NotEcho o) 1 0 + (cond (same_outcome BadTag o) 1 0
     + (cond (same_outcome NoArea o) 1 0 + cond (same_outcome NotLinked o) 1 0)))) + all_counted (tally_of all)
@@ -52,13 +51,11 @@ pub all_counted-tally_of : (all : List Outcome) → all_counted (tally_of all) �
 all_counted-tally_of [] = refl
 all_counted-tally_of (o ∷ all) = counted_first o all ∙ ap (λ n. n + all_counted (tally_of all)) (one_outcome o) ∙ (let so = all_counted-tally_of all in omega arith)
 
--- the base after one more message
 pub tossed-push : (file : LinkFile) (base : List FiledMessage) (sender : Address) (ms : List Message) (m : Message)
     → tossed file base sender (ms ++ m ∷ []) ≡ tossed file base sender ms ++ option_to_list (tossing file (tossed file base sender ms) sender m)
 tossed-push file base sender [] m = refl
 tossed-push file base sender (x ∷ ms) m = tossed-push file (base ++ option_to_list (tossing file base sender x)) sender ms m
 
--- the outcome of one more message
 pub outcomes-push : (file : LinkFile) (base : List FiledMessage) (sender : Address) (ms : List Message) (m : Message)
     → outcomes file base sender (ms ++ m ∷ []) ≡ outcomes file base sender ms ++ toss_outcome file (tossed file base sender ms) sender m ∷ []
 outcomes-push file base sender [] m = refl

@@ -123,7 +123,6 @@ same_size m node net = refl
 pub sum_is : (r : Option ℕ) (P : Type 0) (v x : ℕ) → SomeIff r P v → r ≡ Some x → x ≡ v
 sum_is r P v x given is = (subst (λ (o : Option ℕ). SomeIff o P v) is given).1
 
--- one message more
 pub one_counted : (p : CountedPacket) (o : Outgoing) (count size n : ℕ) → goes_out p.to o ≡ true → count ≡ p.messages + 1 → n ≡ length (message_bytes o.message) → size ≡ p.bytes + n
     → record { to = p.to; messages = count; bytes = size } ≡ counted_with (o ∷ []) p
 one_counted p o count size n goes counted long sum = grind (arith, one_copy, append-nil, same_size)
@@ -191,12 +190,10 @@ outs_counted : (file : LinkFile) (stamp : Stamp) (sent : List Outgoing) (all : L
 outs_counted file stamp sent [] = refl
 outs_counted file stamp sent (a ∷ all) = let one = out_counted file stamp sent a in let rest = outs_counted file stamp sent all in λ i. one i ∷ rest i
 
--- the packets of a scan are those of the links that get some
 pub scanned_to : (file : LinkFile) (messages : List Filed) (cursor : ℕ) (sent : List Outgoing) → sent ≡ sent_of file (drop cursor messages) → (stamp : Stamp)
     → map (packet_out file stamp sent) (filter (λ a. has_messages (counted_to sent a)) (link_set file)) ≡ scanned file messages cursor stamp
 scanned_to file messages cursor sent is stamp = grind (arith, IsIn, targets_linked, kept_targets, those_that_get, scan_made)
 
--- those of all links that have messages are the packets of a scan
 pub all_counted : (file : LinkFile) (messages : List Filed) (cursor : ℕ) (sent : List Outgoing) (packets : List CountedPacket) → sent ≡ sent_of file (drop cursor messages)
     → packets ≡ map (counted_to sent) (link_set file) → (stamp : Stamp) → filter has_messages packets ≡ map counted_of (scanned file messages cursor stamp)
 all_counted file messages cursor sent packets is all stamp =

@@ -23,13 +23,11 @@ regrouped : (a r b t o : List ℕ) → (((a ++ r) ++ b) ++ t) ++ o ≡ a ++ (r +
 regrouped a r b t o =
     append_assoc ((a ++ r) ++ b) t o ∙ append_assoc (a ++ r) b (t ++ o) ∙ append_assoc a r (b ++ (t ++ o))
 
--- the text of the lines, part by part
 text_is : (id tear origin : List ℕ) (reply body : List (List ℕ)) (none first second third fourth all : List ℕ) → none ≡ [] → first ≡ none ++ ended id
     → second ≡ first ++ flat_map ended reply → third ≡ second ++ flat_map ended body → fourth ≡ third ++ ended tear → all ≡ fourth ++ ended origin
     → all ≡ flat_map ended (id ∷ (reply ++ (body ++ tear ∷ (origin ∷ []))))
 text_is id tear origin reply body none first second third fourth all e0 e1 e2 e3 e4 e5 = grind (arith, regrouped, flat_map-append, append-nil)
 
--- the text of the lines of a draft
 pub posted_text : (file : LinkFile) (draft : Draft) (serial : ℕ) (id reply body none first second third fourth all : List ℕ) → id ≡ id_of file.system serial
     → reply ≡ draft.reply → body ≡ draft.body → none ≡ [] → first ≡ none ++ ended (id_line msgid_word id) → second ≡ first ++ flat_map ended (reply_lines reply)
     → third ≡ second ++ flat_map ended (lines body) → fourth ≡ third ++ ended (codes "--- echonet") → all ≡ fourth ++ ended (origin_line file)

@@ -21,7 +21,6 @@ filter_front p x xs = elim (cases_Bool (p x)) [
   | inr goes ↦ cond-false (p x) (x ∷ filter p xs) (filter p xs) goes ∙ ap (λ l. l ++ filter p xs) (sym (cond-false (p x) (x ∷ []) [] goes))
 ]
 
--- one more of the waiting messages
 pub next_waits : {X Y : Type 0} (p : Y → Bool) (f : X → Y) (xs : List X) (i : ℕ) (x : X) (old new all : List Y) → Some x ≡ slice_get xs i
     → old ++ filter p (map f (drop i xs)) ≡ all → new ≡ old ++ filter p (map f (x ∷ [])) → new ++ filter p (map f (drop (i + 1) xs)) ≡ all
 next_waits p f xs i x old new all is so_far grown =
@@ -76,7 +75,6 @@ pub scan_made : (file : LinkFile) (stamp : Stamp) (base : List Filed) (cursor : 
 scan_made file stamp base cursor packets all e h =
     h ∙ ap (packets_out file stamp) e ∙ kept_packets file stamp (map (outgoing_of file) (drop cursor base)) ∙ packets_are file stamp base cursor
 
--- the exported text, part by part
 pub exported_is : (file : LinkFile) (e : EchoText) (tag : List ℕ) (kept : List (List ℕ)) (seen path : List NetNode) → tag ≡ e.tag → kept ≡ e.kept
     → seen ≡ entry_set (e.seen ++ net_node_of file.system ∷ map net_node_of (links_of file e.tag)) → path ≡ e.path ++ net_node_of file.system ∷ []
     → record { tag = tag; kept = kept; seen = seen; path = path } ≡ exported file e

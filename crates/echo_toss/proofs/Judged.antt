@@ -11,7 +11,6 @@ use Rattle.model_steps.specs.declared.fault.PostFault.TheVariants as fault
 use Rattle.model_steps.proofs.{FirstRefusals.refusal_first, Kept.posted_new}
 use Rattle.echo_toss.specs.Refusals.{IsPrepared, draft_refusal}
 
--- five tests in order, before the others
 abbrev five : Bool → Bool → Bool → Bool → Bool → Option PostFault → Option PostFault
 five area zero long moment reply rest =
     if not area then Some fault.NoArea
@@ -29,7 +28,6 @@ five_some true false true moment reply rest f h = h
 five_some true true long moment reply rest f h = h
 five_some false zero long moment reply rest f h = h
 
--- all five are passed
 record Five (area zero long moment reply : Bool) : Type 0 where
   area_there : area ≡ true
   no_zero : zero ≡ false
@@ -53,7 +51,6 @@ five_past true false true moment reply rest h = absurd (cc)
 five_past true true long moment reply rest h = absurd (cc)
 five_past false zero long moment reply rest h = absurd (cc)
 
--- the base's verdict on a draft that is in order
 abbrev known_serial : LinkFile → List Filed → ℕ → Option PostFault
 known_serial file base serial = if list_any (has_id (id_of file.system serial)) base then Some fault.KnownSerial else None
 
@@ -87,7 +84,6 @@ pub memory_fault : (file : LinkFile) (base : List Filed) (tag : List ℕ) (draft
     → draft_refusal file tag draft stamp ≡ None → IsPostFault file base tag draft serial stamp fault.Memory
 memory_fault file base tag draft serial stamp h = grind (arith, cases_Bool, draft_passes)
 
--- a message that is made for a draft
 pub prepared : (file : LinkFile) (base : List Filed) (tag : List ℕ) (draft : Draft) (serial : ℕ) (stamp : Stamp) (key : Key) (m : Filed) → IsFile file
     → draft_refusal file tag draft stamp ≡ None → list_any (has_id (id_of file.system serial)) base ≡ false → key ≡ key_of m → m ≡ posted file tag draft serial stamp
     → IsPrepared file base tag draft serial stamp key m

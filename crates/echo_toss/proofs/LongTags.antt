@@ -1,4 +1,3 @@
--- Tags that are too long for any area.
 use Rattle.std.proofs.Common.{◌≡◌, ℕ, ◌<◌, ◌≤◌, false, List, [], ◌∷◌, length, refl, ap, ◌∙◌, arith, Option, Some}
 use Rattle.std.proofs.lemmas.{Bool.and_parts, Bool.cond-false, Bool.false_from_ne_true, Bool.leb-true, List.length-map}
 use Rattle.std.specs.{Prelude.bytes_eq, Prelude.find, Prelude.is_some, Prelude.◌&&◌, Prelude.nat_le, Prelude.nat_lt, Cmp.Lexicographic.bytes_decides, List.AllByRecursion, List.list_all, Char.to_ascii_uppercase}

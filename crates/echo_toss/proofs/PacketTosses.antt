@@ -1,4 +1,3 @@
--- Packets are tossed message by message.
 use Rattle.std.proofs.Common.{◌≡◌, ◌≢◌, ℕ, ◌+◌, ◌<◌, List, [], ◌∷◌, ◌++◌, length, refl, sym, ap, ◌∙◌, subst, arith, length-append, Option, IfSome}
 use Rattle.std.proofs.KnownBytes.{Consumes-trans}
 use Rattle.std.specs.Io.KnownBytes.{Consumes}
@@ -11,13 +10,11 @@ use Rattle.model_steps.specs.{declared.outcome.Outcome.Outcome, SystemState.Syst
 use Rattle.echo_toss.specs.{declared.tally.Tally.Tally, Tallies.all_counted, Tallies.tally_with, PacketSteps.HasTossed, PacketSteps.cause_of, Messages.HasTaken, Messages.IsUnopened, Messages.StopsNext, Messages.TakesSome}
 use Rattle.echo_toss.proofs.Counted.{all_counted-tally_of, length-outcomes, outcomes-push, tally_of-push, tossed-push}
 
--- messages were tossed, and no read failed
 pub record HasGone (limits : Limits) (sender : Address) (old : SystemState) (before left : Option (List ℕ)) (given at : ℕ) (tally : Tally) (new : SystemState) (failed still : ℕ) : Type 0 where
   pub messages : List Message
   pub taken : HasTaken limits sender old before left messages given at tally new
   pub device : still ≡ failed
 
--- why no header was read
 pub unopened : (file : LinkFile) (before after : Option (List ℕ)) (f : PacketFault) → f ≢ fault.Memory → IfSome before (λ bs. FrontFault bs f)
     → FailsInFront before after f → IsUnopened file before after (cause_of f)
 unopened file before after fault.Memory alive front inside = absurd (alive refl)
@@ -32,19 +29,16 @@ unopened file before after (fault.Write n) alive front inside = record { fault =
 unopened file before after (fault.TooManyMessages at) alive front inside = record { fault = front; inside = inside }
 unopened file before after (fault.BadField at) alive front inside = record { fault = front; inside = inside }
 
--- each message that was tossed is counted
 pub all_given : (limits : Limits) (sender : Address) (old new : SystemState) (before left : Option (List ℕ)) (ms : List Message) (given at : ℕ) (tally : Tally)
     → HasTaken limits sender old before left ms given at tally new → all_counted tally ≡ given
 all_given limits sender old new before left ms given at tally h =
     ap all_counted h.done.counts ∙ all_counted-tally_of (outcomes old.file old.base sender ms) ∙ length-outcomes old.file old.base sender ms ∙ sym h.count
 
--- one more message was tossed
 pub one_more_tossed : (sender : Address) (old mid new : SystemState) (ms : List Message) (m : Message) (tally more : Tally) (answer : Outcome)
     → HasTossed sender ms old tally mid → (answer ≡ toss_outcome mid.file mid.base sender m) × (new ≡ state_with mid (tossing mid.file mid.base sender m))
     → more ≡ tally_with tally answer → HasTossed sender (ms ++ m ∷ []) old more new
 one_more_tossed sender old mid new ms m tally more answer h step counts = grind (arith, tossed-push, tally_of-push, outcomes-push)
 
--- one more message was taken and tossed
 pub one_more_taken : (limits : Limits) (sender : Address) (old mid new : SystemState) (before left after : Option (List ℕ)) (ms : List Message) (m : Message) (given at next : ℕ) (tally more : Tally) (answer : Outcome)
     → HasTaken limits sender old before left ms given at tally mid → IsMessage limits.text m → given < limits.messages → Consumes left after (message_bytes m) → next ≡ place_of (at + length (message_bytes m))
     → (answer ≡ toss_outcome mid.file mid.base sender m) × (new ≡ state_with mid (tossing mid.file mid.base sender m)) → more ≡ tally_with tally answer
@@ -61,7 +55,6 @@ one_more_taken limits sender old mid new before left after ms m given at next ta
       done = one_more_tossed sender old mid new ms m tally more answer h.done step counts;
     }
 
--- why the reader gave no next message
 next_stopped : (limits : Limits) (given at : ℕ) (left after : Option (List ℕ)) (f : PacketFault) → IfSome left (λ bs. NextFault limits given at bs f)
     → FailsInMessage limits given at [] left after f → StopsNext limits given at left after (cause_of f)
 next_stopped limits given at left after fault.Memory wrong lost = tt
@@ -76,7 +69,6 @@ next_stopped limits given at left after (fault.Write n) wrong lost = (wrong, los
 next_stopped limits given at left after (fault.TooManyMessages p) wrong lost = (wrong, lost)
 next_stopped limits given at left after (fault.BadField n) wrong lost = (wrong, lost)
 
--- messages were tossed, then the reader ended
 pub some_taken : (limits : Limits) (sender : Address) (old new : SystemState) (before left after : Option (List ℕ)) (ms : List Message) (given at : ℕ) (tally : Tally) (f : PacketFault)
     → HasTaken limits sender old before left ms given at tally new → IfSome left (λ bs. NextFault limits given at bs f)
     → FailsInMessage limits given at [] left after f → TakesSome limits sender old before after tally (cause_of f) new

@@ -16,7 +16,6 @@ use Rattle.echo_toss.specs.{declared.tally.Tally.Tally, declared.fault.TossCause
 use Rattle.echo_toss.specs.declared.fault.TossCause.TheVariants as stop
 use Rattle.echo_toss.proofs.PacketTosses.{HasGone, all_given, some_taken}
 
--- the store took the tossed messages and goes on, and no read failed
 pub record HasGoneIn (limits : Limits) (sender : Address) (file : LinkFile) (old mid : StoreState) (first now : ℕ) (before left : Option (List ℕ)) (given at : ℕ) (tally : Tally) (failed still : ℕ) : Type 0 where
   pub each : Honestly mid.disk ((base : Base) → old.keeps base
       → (next : Base) × HasGone limits sender (state_in file base) before left given at tally (state_in file next) failed still × mid.keeps next)
@@ -31,7 +30,6 @@ pub record HasGoneIn (limits : Limits) (sender : Address) (file : LinkFile) (old
 none_gone : (limits : Limits) (sender : Address) (s : SystemState) (before : Option (List ℕ)) (failed : ℕ) → HasGone limits sender s before before 0 58 (tally_of []) s failed failed
 none_gone limits sender s before failed = grind (arith, Consumes-nil)
 
--- before the first message
 pub begun : (limits : Limits) (sender : Address) (file : LinkFile) (old : StoreState) (first : ℕ) (before : Option (List ℕ)) (tally : Tally) (failed : ℕ) → old.is_ready → tally ≡ tally_of []
     → HasGoneIn limits sender file old old first first before before 0 58 tally failed failed
 begun limits sender file old first before tally failed ready none =
@@ -48,13 +46,11 @@ begun limits sender file old first before tally failed ready none =
       later = omega arith;
     }
 
--- the count is the number of messages
 counted_same : (limits : Limits) (sender : Address) (s t : SystemState) (before left : Option (List ℕ)) (given at : ℕ) (tried tally : Tally) (failed still : ℕ) → HasGone limits sender s before left given at tried t failed still
     → all_counted tally ≡ given → all_counted tried ≡ all_counted tally
 counted_same limits sender s t before left given at tried tally failed still gone counted =
     all_given limits sender s t before left gone.messages given at tried gone.taken ∙ sym counted
 
--- a fault of the bytes is one whatever the store holds
 pub read_faulty : {A : Type 0} (limits : Limits) (sender : Address) (file : LinkFile) (base : Base) (before left after : Option (List ℕ)) (given at : ℕ) (tally : Tally) (f : PacketFault) (failed still : ℕ)
     → (tried : Tally) × (next : Base) × HasGone limits sender (state_in file base) before left given at tried (state_in file next) failed still → all_counted tally ≡ given
     → IfSome left (λ bs. NextFault limits given at bs f) → FailsInMessage limits given at [] left after f
@@ -66,7 +62,6 @@ read_faulty limits sender file base before left after given at tally f failed st
   count = counted_same limits sender (state_in file base) (state_in file next) before left given at tried tally failed still gone counted;
 }
 
--- if the store failed, the reader had read the earlier messages
 pub read_so_far : {A : Type 0} (limits : Limits) (sender : Address) (file : LinkFile) (base : Base) (before left after : Option (List ℕ)) (given at : ℕ) (tally : Tally) (failed still : ℕ)
     → (tried : Tally) × (next : Base) × HasGone limits sender (state_in file base) before left given at tried (state_in file next) failed still → all_counted tally ≡ given
     → ReadsMessages {A = A} limits sender file base before after (all_counted tally) (Err stop.Memory)
@@ -95,7 +90,6 @@ all_counted-tally_with t BadTag = omega arith
 all_counted-tally_with t NoArea = omega arith
 all_counted-tally_with t NotLinked = omega arith
 
--- a packet that was opened was tossed to its end
 pub tossed_all : (limits : Limits) (sender : Address) (old new : SystemState) (before mid after : Option (List ℕ)) (tally : Tally)
     → IsOpened old.file before mid sender → TossesToEnd limits sender old mid after tally new → TossesAll limits old before after tally new
 tossed_all limits sender old new before mid after tally o t = grind (arith, Consumes-trans)

@@ -37,7 +37,6 @@ no_message limits given m r s is room same = grind (arith, Whole, End, verdict-w
 split : (m : Message) (ms : List Message) (r : List ℕ) → messages_bytes (m ∷ ms) ++ r ≡ message_bytes m ++ (messages_bytes ms ++ r)
 split m ms r = append_assoc (message_bytes m) (messages_bytes ms) r
 
--- messages at the front of a packet's are the first of them
 pub first_messages : (limits : Limits) (given : ℕ) (ms front : List Message) (r s : List ℕ) → AllByRecursion (IsMessage limits.text) ms → AllByRecursion (IsMessage limits.text) front
     → given + length ms ≤ limits.messages → given + length front ≤ limits.messages → messages_bytes ms ++ (word 0 ++ r) ≡ messages_bytes front ++ s
     → (n : ℕ) × (n ≤ length ms) × (front ≡ take n ms)
@@ -49,7 +48,6 @@ first_messages limits given (m ∷ ms) (n ∷ front) r s are some room more same
     let rest = first_messages limits (given + 1) ms front r s are.1 some.1 (omega arith) (omega arith) one.1 in
     (suc rest.0, omega (arith, rest.1), (λ i. one.0 i ∷ rest.2 i))
 
--- the messages of a packet are one list
 pub one_list : (limits : Limits) (given : ℕ) (ms all : List Message) (r s : List ℕ) → AllByRecursion (IsMessage limits.text) ms → AllByRecursion (IsMessage limits.text) all
     → given + length ms ≤ limits.messages → given + length all ≤ limits.messages → messages_bytes ms ++ (word 0 ++ r) ≡ messages_bytes all ++ (word 0 ++ s)
     → (all ≡ ms) × (r ≡ s)

@@ -10,7 +10,6 @@ use Rattle.model_steps.specs.{Resending.is_resent, Resending.is_whole_in, Scanni
 use Rattle.echo_toss.specs.Exports.{IsResentAt, Outgoing, copy_out, goes_out, outgoing_of}
 use Rattle.echo_toss.proofs.Exports.{same_copies}
 
--- the copies of those of some messages that are sent again
 abbrev pub copies_of : LinkFile → List ℕ → Address → List Filed → List Message
 copies_of file area to ms = map (copy_to file to) (filter (is_resent file area to) ms)
 
@@ -20,7 +19,6 @@ front_at (suc c) i [] d h w = absurd (omega arith)
 front_at (suc c) zero (x ∷ xs) d h w = refl
 front_at (suc c) (suc i) (x ∷ xs) d h w = front_at c i xs d (omega arith) (omega arith)
 
--- one message more was looked at
 pub next_resent : (file : LinkFile) (area : List ℕ) (to : Address) (messages : List Filed) (cursor i end : ℕ) (old new all : List Message)
     → end ≡ min cursor (length messages) → i < end → IsResentAt file area to messages i old new
     → old ++ copies_of file area to (drop i (take cursor messages)) ≡ all
@@ -33,7 +31,6 @@ next_resent file area to messages cursor i end old new all bound within (m, here
     rw add-one
     (grind (arith, append_assoc))
 
--- one more message, sent again if it goes to the address
 pub whole : (file : LinkFile) (area : List ℕ) (to : Address) (m : Filed) (one : Outgoing) (old new : List Message) → is_whole_in area m ≡ true
     → one ≡ outgoing_of file m → new ≡ old ++ map (copy_out to) (filter (goes_out to) (one ∷ []))
     → new ≡ old ++ copies_of file area to (m ∷ [])

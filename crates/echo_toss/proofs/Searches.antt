@@ -41,7 +41,6 @@ equal_same x y e = (same_address_decides x y).1 (sym ((same_address_decides y x)
 other : (x y : Address) → is_eq (address_cmp y x) ≡ false → same_address x y ≡ false
 other x y e = grind (arith, false_from_ne_true, true≢false, same_address_decides, ties)
 
--- the result of a search in a set
 pub searched : (all : List Address) (x : Address) (r : Result ℕ ℕ) → address_set all ≡ all → IsSearchInRange r (length all) → IsBinarySearchResult (λ y. address_cmp y x) all r
     → is_ok r ≡ list_any (same_address x) all
 searched all x (Ok at) same within found = sym (one_passes (same_address x) all at x within (equal_same x (get_or all at x) (found x)))

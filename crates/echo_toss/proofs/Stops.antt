@@ -10,14 +10,12 @@ use Rattle.model_steps.specs.SystemState.{SystemState}
 use Rattle.echo_toss.specs.{declared.tally.Tally.Tally, declared.fault.TossCause.TossCause, PacketSteps.BeginsWith, PacketSteps.HasTossed, PacketSteps.TossesPart, PacketSteps.TossesSome, Messages.HasTaken, Messages.IsOpened, Messages.TakesSome}
 use Rattle.echo_toss.specs.declared.fault.TossCause.TheVariants as stop
 
--- known bytes begin with the header and the messages that left the reader
 pub begins_with : (limits : Limits) (header : Header) (ms : List Message) (before left : Option (List ℕ)) → IsHeader header → AreMessages limits ms
     → Consumes before left (header_bytes header ++ messages_bytes ms) → IfSome before (BeginsWith limits header ms)
 begins_with limits header ms None left is are lost = tt
 begins_with limits header ms (Some bs) None is are lost = absurd lost
 begins_with limits header ms (Some bs) (Some rest) is are lost = grind (arith, append_assoc)
 
--- the packet up to the next message
 so_far : (limits : Limits) (header : Header) (ms : List Message) (bs rest : List ℕ) (sender : Address) (old new : SystemState) (mid left : Option (List ℕ)) (given at : ℕ) (tally : Tally)
     → IsHeader header → HasTaken limits sender old mid left ms given at tally new → bs ≡ header_bytes header ++ (messages_bytes ms ++ rest)
     → SoFar limits bs header ms rest given at
@@ -28,7 +26,6 @@ of_bytes : (bs : List ℕ) (limits : Limits) (ms : List Message) (f : PacketFaul
 of_bytes bs limits ms f not_call (inl wrong) = wrong
 of_bytes bs limits ms f not_call (inr call) = absurd (not_call call)
 
--- the fault of known bytes
 behind : (limits : Limits) (header : Header) (sender : Address) (old new : SystemState) (before mid left after : Option (List ℕ)) (ms : List Message) (given at : ℕ) (tally : Tally) (f : PacketFault)
     → (IsOfCall f → ⊥) → IsHeader header → Consumes before mid (header_bytes header) → HasTaken limits sender old mid left ms given at tally new
     → IfSome left (λ bs. NextFault limits given at bs f) → IfSome before (λ bs. FaultOf bs limits ms f)
@@ -37,7 +34,6 @@ behind limits header sender old new (Some bs) mid None after ms given at tally f
     absurd (Consumes-trans (Some bs) mid None (header_bytes header) (messages_bytes ms) lost h.bytes)
 behind limits header sender old new (Some bs) mid (Some rest) after ms given at tally f not_call is lost h wrong = grind (arith, Consumes-trans, append_assoc, of_bytes, run-fails, so_far)
 
--- the bytes that left the reader before the device failed
 cut : (limits : Limits) (header : Header) (sender : Address) (old new : SystemState) (before mid left after : Option (List ℕ)) (ms : List Message) (given at place : ℕ) (tally : Tally)
     → IsHeader header → Consumes before mid (header_bytes header) → HasTaken limits sender old mid left ms given at tally new
     → FailsInMessage limits given at [] left after (fault.Read place) → Consumed before after (λ consumed. FaultOf consumed limits ms (fault.Truncated place))
@@ -46,7 +42,6 @@ cut limits header sender old new before mid left after ms given at place tally i
     let all = Consumes-trans before left after (header_bytes header ++ messages_bytes ms) consumed front gone in
     grind (arith, append_assoc, of_bytes, run-fails, so_far)
 
--- the messages before the stop
 abbrev pub some_tossed : (limits : Limits) (sender : Address) (old new : SystemState) (before mid left : Option (List ℕ)) (ms : List Message) (given at : ℕ) (tally : Tally)
     → (o : IsOpened old.file before mid sender) → HasTaken limits sender old mid left ms given at tally new → TossesSome limits old before tally new
 some_tossed limits sender old new before mid left ms given at tally o h = record {
@@ -58,7 +53,6 @@ some_tossed limits sender old new before mid left ms given at tally o h = record
   done = subst (λ s. HasTossed s ms old tally new) o.origin h.done;
 }
 
--- a packet that was opened was tossed in part
 pub tossed_part : (limits : Limits) (sender : Address) (old new : SystemState) (before mid after : Option (List ℕ)) (tally : Tally) (cause : TossCause)
     → IsOpened old.file before mid sender → TakesSome limits sender old mid after tally cause new → TossesPart limits old before after tally cause new
 tossed_part limits sender old new before mid after tally (stop.NotForUs a) o t = absurd t.stops

@@ -1,4 +1,3 @@
--- The outcome of a received message.
 use Rattle.std.proofs.Common.{◌≡◌, ℕ, Bool, true, false, List, refl, subst, ◌∙◌, Option, Some, None, not, if◌then◌else◌, Result, Ok, Err, IfOk, ◌⊎◌, inl, inr, arith}
 use Rattle.echo_addr.specs.declared.address.{Address.Address, NetNode.NetNode}
 use Rattle.echo_packet.specs.Message.{Message}
@@ -37,7 +36,6 @@ front_said : (text tag : List ℕ) (kept : List (List ℕ)) → FrontOf text tag
     → record { tag = tag; kept = kept; seen = (echo_of text).seen; path = (echo_of text).path } ≡ echo_of text
 front_said text tag kept h = λ i. record { tag = tag_said text tag kept h i; kept = kept_said text tag kept h i; seen = (echo_of text).seen; path = (echo_of text).path }
 
--- the link file refuses it, or not
 abbrev choice : Bool → Bool → Option Outcome
 choice area link = if not area then Some outcome.NoArea else if not link then Some outcome.NotLinked else None
 
@@ -70,13 +68,11 @@ wanted_area : (file : LinkFile) (sender : Address) (packed : Message) (own : Lis
     → (has_area file (echo_of packed.text).tag ≡ true) × (is_link file (echo_of packed.text).tag sender ≡ true)
 wanted_area file sender packed own kept h = grind (arith, tag_said, accepted)
 
--- a message with a known key
 pub known_left : (file : LinkFile) (base : List Filed) (sender : Address) (packed : Message) (tag : List ℕ) (kept : List (List ℕ)) (key : Key) → IsWanted file sender packed tag kept → key ≡ key_of (received sender packed)
     → is_known base key ≡ true → (outcome.Known ≡ toss_outcome file base sender packed) × (None ≡ tossing file base sender packed)
 unfolding tossing
 known_left file base sender packed tag kept key h is known = grind (arith, wanted_area file sender packed tag kept h, front_accepted packed.text tag kept h.front, outcome_is_first file base sender packed outcome.Known)
 
--- a message that is new
 pub found_new : (file : LinkFile) (base : List Filed) (sender : Address) (packed : Message) (tag : List ℕ) (kept : List (List ℕ)) (key : Key) (m : Filed) → IsWanted file sender packed tag kept
     → key ≡ key_of (received sender packed) → is_known base key ≡ false → m ≡ received sender packed → IsNew file base sender packed key m
 unfolding tossing
@@ -84,12 +80,10 @@ found_new file base sender packed tag kept key m h is new made =
     let both = wanted_area file sender packed tag kept h in
     grind (arith, front_accepted packed.text tag kept h.front, outcome_is_first file base sender packed outcome.Filed)
 
--- why a text is refused
 pub refused_text : (packed : Message) (bytes : List ℕ) (f : TextFault) → bytes ≡ packed.text → (f ≡ text.Memory → ⊥)
     → (text_refusal bytes ≡ Some f) ⊎ ((text_refusal bytes ≡ None) × (f ≡ text.Memory)) → text_refusal packed.text ≡ Some f
 refused_text packed bytes f is other h = grind arith
 
--- the key of a received message
 pub key_received : {E : Type 0} (r : Result Key E) (packed : Message) (date to_name from_name subject tag : List ℕ) (kept : List (List ℕ))
     → date ≡ packed.date → to_name ≡ packed.to_name → from_name ≡ packed.from_name → subject ≡ packed.subject → FrontOf packed.text tag kept
     → IfOk r (λ key. (s : Option Address) (seen path : List NetNode)
@@ -101,7 +95,6 @@ key_received (Ok key) packed date to_name from_name subject tag kept d t f j fro
     h (Some s) (echo_of packed.text).seen (echo_of packed.text).path ∙ (λ i. key_of (record { sender = Some s; date = d i; to_name = t i; from_name = f i; subject = j i; echo = k i }))
 key_received (Err e) packed date to_name from_name subject tag kept d t f j front h = tt
 
--- a received message, part by part
 pub made_received : (sender : Address) (packed : Message) (date to_name from_name subject : List ℕ) (e : EchoText)
     → date ≡ packed.date → to_name ≡ packed.to_name → from_name ≡ packed.from_name → subject ≡ packed.subject → ((n : ℕ) × EchoOf packed.text e n)
     → record { sender = Some sender; date = date; to_name = to_name; from_name = from_name; subject = subject; echo = e } ≡ received sender packed

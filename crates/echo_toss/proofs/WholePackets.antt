@@ -14,7 +14,6 @@ use Rattle.echo_toss.proofs.Parsed.{first_messages, one_header, one_list, opens}
 parts : (h : Header) (ms : List Message) (bytes rest : List ℕ) → bytes ≡ packet_bytes h ms → bytes ++ rest ≡ header_bytes h ++ (messages_bytes ms ++ (word 0 ++ rest))
 parts h ms bytes rest is = grind (arith, append_assoc)
 
--- the bytes that left the reader are the same packet
 record IsSame (header : Header) (ms : List Message) (rest : List ℕ) (other : Header) (all : List Message) (after : Option (List ℕ)) : Type 0 where
   pub same_header : other ≡ header
   pub same_messages : all ≡ ms
@@ -38,7 +37,6 @@ same_toss limits h ms bytes rest (Some left) old new tally is step = grind (arit
 never : (f : PacketFault) → CountsCause (stop.Packet f) 0 0 → (at : ℕ) → f ≢ fault.Read at
 never f counts at e = Failed-never (subst (λ x. CountsCause (stop.Packet x) 0 0) e counts)
 
--- a fault of the header, or behind it
 pub where_failed : (limits : Limits) (old new : SystemState) (before after : Option (List ℕ)) (tally : Tally) (f : PacketFault) → TossesPart limits old before after tally (stop.Packet f) new
     → FailsInHeader old before after tally f new ⊎ TossesUpToFault limits old before after tally f new
 where_failed limits old new before after tally fault.Memory h = absurd h

@@ -26,7 +26,6 @@ pub record IsFullWhenRead {T : Type 0} (state : T → StoreState) (old : StoreSt
   pub looks : LooksOn old (state store)
   pub full : (state store).is_full
 
--- The call adds no message.
 abbrev pub AddsNone : Base → Filed → Type 0
 AddsNone base m = ⊥
 

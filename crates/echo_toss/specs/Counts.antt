@@ -17,7 +17,6 @@ pub record Group : Type 0 where
 abbrev pub IsGroupFrom : LinkFile → List Filed → ℕ → Group → Type 0
 IsGroupFrom file messages from group = group.sent ++ sent_of file (drop group.next messages) ≡ sent_of file (drop from messages)
 
--- The copies for an address.
 abbrev pub copies_out : Address → List Outgoing → List Message
 copies_out address sent = map (copy_out address) (filter (goes_out address) sent)
 
@@ -48,6 +47,5 @@ counted_with sent packet = record {
   bytes = packet.bytes + length (messages_bytes (copies_out packet.to sent));
 }
 
--- The packet has messages.
 abbrev pub has_messages : CountedPacket → Bool
 has_messages packet = nat_lt 0 packet.messages

@@ -20,12 +20,10 @@ pub record Outgoing : Type 0 where
 abbrev pub outgoing_of : LinkFile → Filed → Outgoing
 outgoing_of file m = record { message = copy_to file nowhere m; targets = address_set (targets file m) }
 
--- The list is not empty.
 abbrev pub has_some : List Address → Bool
 has_some [] = false
 has_some (address ∷ more) = true
 
--- An outgoing message has receivers.
 abbrev pub is_sent : Outgoing → Bool
 is_sent o = has_some o.targets
 
@@ -42,15 +40,12 @@ abbrev pub IsResentAt : LinkFile → List ℕ → Address → List Filed → ℕ
 IsResentAt file area to messages place old new =
     (m : Filed) × (slice_get messages place ≡ Some m) × (new ≡ old ++ map (copy_to file to) (filter (is_resent file area to) (m ∷ [])))
 
--- The copy for an address.
 abbrev pub copy_out : Address → Outgoing → Message
 copy_out address o = readdressed o.message address.node address.net
 
--- The address receives the message.
 abbrev pub goes_out : Address → Outgoing → Bool
 goes_out address o = list_any (same_address address) o.targets
 
--- The packet of outgoing messages to an address.
 abbrev pub packet_out : LinkFile → Stamp → List Outgoing → Address → Packet
 packet_out file stamp all address = record {
   header = header_to file stamp address;
@@ -61,7 +56,6 @@ packet_out file stamp all address = record {
 abbrev pub packets_out : LinkFile → Stamp → List Outgoing → List Packet
 packets_out file stamp all = map (packet_out file stamp all) (address_set (flat_map (λ o. o.targets) all))
 
--- The answer of a scan, with its packets as a list.
 abbrev pub listed : Result (Vec Packet Global) ScanFault → Result (List Packet) ScanFault
 listed (Ok packets) = Ok packets.items
 listed (Err fault) = Err fault

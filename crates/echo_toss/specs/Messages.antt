@@ -76,7 +76,6 @@ abbrev pub TossesMessages : {A : Type 0} → Limits → Address → SystemState 
 TossesMessages limits sender old before after tally (Ok done) new = TossesToEnd limits sender old before after tally new
 TossesMessages limits sender old before after tally (Err cause) new = TakesSome limits sender old before after tally cause new
 
--- The count of failures rose if the reader failed, and only then.
 abbrev pub CountsStop : {A : Type 0} → Result A TossCause → ℕ → ℕ → Type 0
 CountsStop (Ok done) before after = after ≡ before
 CountsStop (Err cause) before after = CountsCause cause before after

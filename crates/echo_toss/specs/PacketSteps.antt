@@ -8,7 +8,6 @@ use Rattle.model_steps.specs.{SystemState.SystemState, Tossing.destination_of, T
 use Rattle.echo_toss.specs.{declared.tally.Tally.Tally, declared.fault.TossCause.TossCause, declared.fault.TossFault.TossFault, Tallies.tally_of}
 use Rattle.echo_toss.specs.declared.fault.TossCause.TheVariants as stop
 
--- The cause that stops a toss at a fault of the packet's reader.
 abbrev pub cause_of : PacketFault → TossCause
 cause_of fault.Memory = stop.Memory
 cause_of other = stop.Packet other
@@ -19,7 +18,6 @@ pub record HasTossed (sender : Address) (ms : List Message) (old : SystemState) 
   pub state : new ≡ record { file = old.file; base = tossed old.file old.base sender ms; cursor = old.cursor }
   pub counts : tally ≡ tally_of (outcomes old.file old.base sender ms)
 
--- The system tossed no message.
 abbrev pub HasTossedNone : SystemState → Tally → SystemState → Type 0
 HasTossedNone old tally new = (new ≡ old) × (tally ≡ tally_of [])
 

@@ -10,7 +10,6 @@ use Rattle.echo_toss.specs.{declared.tally.Tally.Tally, declared.fault.TossCause
 use Rattle.echo_toss.specs.declared.fault.TossCause.TheVariants as cause
 use Rattle.echo_toss.specs.declared.step_error.TossStepError.TheVariants as toss
 
--- A system with this link file, and this base in its store.
 abbrev pub state_in : LinkFile → Base → SystemState
 state_in file base = record { file = file; base = base.messages; cursor = base.cursor }
 
@@ -27,12 +26,10 @@ abbrev pub packet_answer : Result Tally StoppedToss → Result Tally TossFault
 packet_answer (Ok tally) = Ok tally
 packet_answer (Err stopped) = Err (record { tally = stopped.tally; cause = cause_in stopped.stop })
 
--- The fault that stopped the toss, without its tally.
 abbrev pub stop_in : Result Tally StoppedToss → Result (Unit {0}) TossStepError
 stop_in (Ok tally) = Ok tt
 stop_in (Err stopped) = Err stopped.stop
 
--- The answer of the store.
 abbrev pub toss_answer : {A : Type 0} → Result A TossStepError → Result (Unit {0}) StoreError
 toss_answer (Ok done) = Ok tt
 toss_answer (Err (toss.Packet why)) = Ok tt
@@ -56,13 +53,11 @@ pub record TossesPacketIn (limits : Limits) (file : LinkFile) (base : Base) (bef
   pub step : PacketStep limits (state_in file base) before after (packet_answer result) (state_in file next)
   pub holds : HoldsUnlessFailed old (stop_in result) new next
 
--- For the messages after a header.
 pub record TossesMessagesIn {A : Type 0} (limits : Limits) (sender : Address) (file : LinkFile) (base : Base) (before after : Option (List ℕ)) (tally : Tally) (old : StoreState) (result : Result A TossStepError) (new : StoreState) : Type 0 where
   pub next : Base
   pub step : TossesMessages limits sender (state_in file base) before after tally (messages_answer result) (state_in file next)
   pub holds : HoldsUnlessFailed old result new next
 
--- The number of messages that an answer counts.
 abbrev pub counted_in : Result Tally TossFault → ℕ
 counted_in (Ok tally) = all_counted tally
 counted_in (Err f) = all_counted f.tally
@@ -78,7 +73,6 @@ pub record ReadsPacket (limits : Limits) (file : LinkFile) (base : Base) (before
   pub step : PacketStep limits (state_in file base) before after (with_tally tally result) (state_in file next)
   pub count : all_counted tally ≡ counted_in result
 
--- For the messages after a header, with this many counted before.
 pub record ReadsMessages {A : Type 0} (limits : Limits) (sender : Address) (file : LinkFile) (base : Base) (before after : Option (List ℕ)) (counted : ℕ) (result : Result A TossCause) : Type 0 where
   pub tally : Tally
   pub next : Base

@@ -35,7 +35,6 @@ abbrev pub LooksWhereRefused : StoreState → StoreState → PostStepError → T
 LooksWhereRefused old new (post.Refused refusal) = LooksOn old new
 LooksWhereRefused old new (post.Store cause) = Unit {0}
 
--- The answer of the store to a posting.
 abbrev pub post_answer : {T : Type 0} → Result T PostStepError → Result (Unit {0}) StoreError
 post_answer (Ok done) = Ok tt
 post_answer (Err (post.Refused refusal)) = Ok tt
@@ -46,7 +45,6 @@ abbrev pub IsScanStop : Stamp → StoreState → StoreState → ScanStepError �
 IsScanStop stamp old new scan.BadStamp = (is_stamp stamp ≡ false) × LooksOn old new
 IsScanStop stamp old new (scan.Store cause) = is_stamp stamp ≡ true
 
--- The answer of the store to a scan.
 abbrev pub scan_answer : {T : Type 0} → Result T ScanStepError → Result (Unit {0}) StoreError
 scan_answer (Ok done) = Ok tt
 scan_answer (Err scan.BadStamp) = Ok tt

@@ -3,7 +3,6 @@ use Rattle.std.specs.Prelude.{ℕ, ◌+◌, Bool, true, false, List, count_by}
 use Rattle.model_steps.specs.declared.outcome.Outcome.{TheVariants.BadTag, TheVariants.Filed, TheVariants.Known, TheVariants.NoArea, TheVariants.NotEcho, TheVariants.NotLinked, Outcome}
 use Rattle.echo_toss.specs.declared.tally.Tally.{Tally}
 
--- Two outcomes are equal.
 abbrev pub same_outcome : Outcome → Outcome → Bool
 same_outcome Filed Filed = true
 same_outcome Known Known = true
@@ -24,7 +23,6 @@ tally_of all = record {
   not_linked = count_by (same_outcome NotLinked) all;
 }
 
--- A tally with one more message.
 abbrev pub tally_with : Tally → Outcome → Tally
 tally_with t NotEcho = record t { not_echo = t.not_echo + 1 }
 tally_with t BadTag = record t { bad_tag = t.bad_tag + 1 }
@@ -33,6 +31,5 @@ tally_with t NotLinked = record t { not_linked = t.not_linked + 1 }
 tally_with t Known = record t { known = t.known + 1 }
 tally_with t Filed = record t { filed = t.filed + 1 }
 
--- The number of messages in the tally.
 abbrev pub all_counted : Tally → ℕ
 all_counted t = t.filed + (t.known + (t.not_echo + (t.bad_tag + (t.no_area + t.not_linked))))

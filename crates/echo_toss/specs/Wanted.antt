@@ -27,7 +27,6 @@ abbrev pub IsUnwanted : LinkFile → Address → Message → Outcome → Type 0
 IsUnwanted file sender packed answer =
     (base : List Filed) → (answer ≡ toss_outcome file base sender packed) × (None ≡ tossing file base sender packed)
 
--- The result of reading the message.
 abbrev pub IsRead : LinkFile → Address → Message → Reading → Type 0
 IsRead file sender packed (Wanted front) = IsWanted file sender packed front.tag front.kept
 IsRead file sender packed (Unwanted answer) = IsUnwanted file sender packed answer
@@ -39,7 +38,6 @@ pub record IsNew (file : LinkFile) (base : List Filed) (sender : Address) (packe
   pub own_key : key ≡ key_of m
   pub new : is_known base key ≡ false
 
--- This is the outcome of the message.
 abbrev pub IsVerdict : LinkFile → List Filed → Address → Message → Verdict → Type 0
 IsVerdict file base sender packed (New key m) = IsNew file base sender packed key m
 IsVerdict file base sender packed (Left answer) = (answer ≡ toss_outcome file base sender packed) × (None ≡ tossing file base sender packed)

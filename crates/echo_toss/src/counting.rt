@@ -26,7 +26,6 @@ pub struct CountedPacket {
 }
 
 impl CountedPacket {
-    /// The packet for this address, without messages.
     pub fn empty(to: Address) -> CountedPacket
         ensures { result ≡ counted_to [] to }
     {
@@ -37,7 +36,6 @@ impl CountedPacket {
         }
     }
 
-    /// The packet with the copies of the group added.
     pub fn with_group(self, group: &Group) -> Result<CountedPacket, AllocError>
         ensures { IfOk result (λ more. more ≡ counted_with group.now.sent self) }
     {
@@ -84,7 +82,6 @@ pub fn link_set(alloc: Global, links: &LinkFile) -> Result<Vec<Address>, AllocEr
     Ok(address_set(all))
 }
 
-// The links of the area of this number.
 fn links_in(links: &LinkFile, i: usize) -> &[Address]
     ensures { (area : Area) → slice_get links.now.areas i ≡ Some area → result.now ≡ links_of links.now area.tag }
 {
@@ -97,7 +94,6 @@ fn links_in(links: &LinkFile, i: usize) -> &[Address]
 // The number of bytes of a packet outside its messages: the header, and 00 00.
 const EMPTY: usize = 60;
 
-// A packet without messages for each address.
 fn none_counted(alloc: Global, addresses: &[Address]) -> Result<Vec<CountedPacket>, AllocError>
     ensures { IfOk result (λ all. all.items ≡ map (counted_to []) addresses.now) }
 {
@@ -108,7 +104,6 @@ fn none_counted(alloc: Global, addresses: &[Address]) -> Result<Vec<CountedPacke
     Ok(all)
 }
 
-// The packets, with the copies of these messages.
 fn count_group(
     alloc: Global,
     packets: &[CountedPacket],
@@ -123,7 +118,6 @@ fn count_group(
     Ok(all)
 }
 
-// The packet, with the copies of these messages.
 fn count_copies(packet: CountedPacket, sent: &[Outgoing]) -> Result<CountedPacket, AllocError>
     ensures { IfOk result (λ more. more ≡ counted_with sent.now packet) }
 {
@@ -134,8 +128,7 @@ fn count_copies(packet: CountedPacket, sent: &[Outgoing]) -> Result<CountedPacke
     Ok(more)
 }
 
-// The packet, with the copy of the message, if its address receives it. There is no memory for more than `usize::MAX`
-// bytes.
+// A packet of more than `usize::MAX` bytes counts as out of memory.
 fn count_copy(packet: CountedPacket, one: &Outgoing) -> Result<CountedPacket, AllocError>
     ensures { IfOk result (λ more. more ≡ counted_with (one.now ∷ []) packet) }
 {

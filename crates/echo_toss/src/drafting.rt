@@ -71,7 +71,6 @@ fn posted_lines(
     Ok(Lines::of_text(text))
 }
 
-// Adds a control line that carries an id.
 fn push_id(text: &mut Vec<u8>, word: &[u8], id: &[u8]) -> Result<(), AllocError>
     ensures { OnOk result (text.new.items ≡ text.old.items ++ ended (id_line word.now id.now)) }
 {
@@ -80,7 +79,6 @@ fn push_id(text: &mut Vec<u8>, word: &[u8], id: &[u8]) -> Result<(), AllocError>
     push_line(text, id)
 }
 
-// Adds the line that names the message replied to, if any.
 fn push_reply(text: &mut Vec<u8>, reply: &[u8]) -> Result<(), AllocError>
     ensures { OnOk result (text.new.items ≡ text.old.items ++ flat_map ended (reply_lines reply.now)) }
 {
@@ -90,7 +88,6 @@ fn push_reply(text: &mut Vec<u8>, reply: &[u8]) -> Result<(), AllocError>
     Ok(())
 }
 
-// Adds the origin line: ` * Origin: `, the name, and the own address in brackets.
 fn push_origin(alloc: Global, text: &mut Vec<u8>, links: &LinkFile) -> Result<(), AllocError>
     ensures { OnOk result (text.new.items ≡ text.old.items ++ ended (origin_line links.now)) }
 {

@@ -34,14 +34,12 @@ impl Model for Group {
 }
 
 impl Group {
-    /// The number of the first message after the group.
     pub fn next(&self) -> usize
         ensures { result ≡ self.now.next }
     {
         self.next
     }
 
-    /// The messages of the group.
     pub(crate) fn sent(&self) -> &[Outgoing]
         ensures { result.now ≡ self.now.sent }
     {
@@ -84,7 +82,6 @@ pub fn group_from<T: Store>(
     Ok(Group { sent, next: at })
 }
 
-// How many bytes the text of the last one has.
 fn last_text(sent: &[Outgoing]) -> usize {
     match sent {
         [.., last] => last.message.message().text().len(),
@@ -103,7 +100,6 @@ pub fn copies_in(alloc: Global, group: &Group, address: Address) -> Result<Vec<u
     Ok(bytes)
 }
 
-// How many bytes these copies have, unless they are too many.
 fn copies_len(sent: &[Outgoing], address: Address) -> usize {
     let mut bytes: usize = 0;
     'sent: for one in sent {
@@ -114,7 +110,6 @@ fn copies_len(sent: &[Outgoing], address: Address) -> usize {
     bytes
 }
 
-// Adds the copy of the message, if the address receives it.
 fn add_copy(
     alloc: Global,
     bytes: &mut Vec<u8>,

@@ -1,15 +1,6 @@
-//! The tosser: what one system does to its base.
-//!
-//! Promise: `post`, `toss_message`, `scan` and `purge` are the steps of model_steps on the whole state of the
-//! system. `toss` makes the step of each message of a packet, in order. A refused call changes nothing.
-//! `post_step`, `toss_step`, `toss_packet_in` and `scan_step` are the same steps over any store, and commit nothing.
-//! `push_resent` adds the copy of a message to a packet that is made again.
-//!
-//! Begin with `tosser` (the type) and `tossing` (one received message; `receiving` reads it). `packets` tosses
-//! a whole packet, `tally` counts outcomes. `posting` files a draft; `refusing`, `drafting` and `step_error`
-//! are its parts. `scanning` exports by `outgoing`, `packing` and `sets`; so does `resending`.
-//! `counting` counts the packets of a scan and holds none, by `grouping`, which makes their messages in groups. Then
-//! `purging`, `storing` (the base is written and read), `fault`, and `laws`.
+//! The tosser: what one system does to its base. `post`, `toss_message`, `scan` and `purge` are the steps of
+//! model_steps on the whole system; `toss` makes the step of each message of a packet. `post_step`, `toss_step`,
+//! `toss_packet_in` and `scan_step` do so over any store and commit nothing. Begin with `tosser` and `tossing`.
 #![tactic(auto)]
 
 mod counting;

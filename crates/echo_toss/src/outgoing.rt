@@ -63,7 +63,6 @@ pub(crate) fn waiting<T: Store>(
     Ok(all)
 }
 
-/// Appends the outgoing form of the message of this number, if it has receivers. It is copied while it is the current one.
 pub(crate) fn push_message<T: Store>(
     alloc: Global,
     links: &LinkFile,
@@ -86,7 +85,6 @@ pub(crate) fn push_message<T: Store>(
     }
 }
 
-/// The outgoing form of a message.
 pub(crate) fn prepared(
     alloc: Global,
     links: &LinkFile,
@@ -98,7 +96,6 @@ pub(crate) fn prepared(
     prepared_for(alloc, links, message, receivers)
 }
 
-// The outgoing form of a message with these receivers.
 #[tactic(auto, unfolding(model_steps::specs::Scanning::copy_to))]
 fn prepared_for(
     alloc: Global,
@@ -116,7 +113,6 @@ fn prepared_for(
     })
 }
 
-/// The message as it is exported, before it is addressed.
 #[tactic(auto, unfolding(model_steps::specs::Scanning::copy_to))]
 pub(crate) fn exported(
     alloc: Global,
@@ -129,7 +125,6 @@ pub(crate) fn exported(
     packed(alloc, links, message, text)
 }
 
-// Appends the outgoing form of the message, if it has receivers.
 fn push_prepared(
     alloc: Global,
     links: &LinkFile,
@@ -145,7 +140,6 @@ fn push_prepared(
     Ok(())
 }
 
-/// The links of the area; without such an area there are none.
 #[tactic(auto, unfolding(echo_links::specs::Links::links_of))]
 pub(crate) fn links_of<'a>(links: &'a LinkFile, tag: &[u8]) -> &'a [Address]
     ensures { result.now ≡ links_of links.now tag.now }
@@ -166,7 +160,6 @@ fn targets(alloc: Global, links: &LinkFile, message: &Filed) -> Result<Items<Add
     Ok(Items::new(address_set(found)))
 }
 
-// The links that are not the sender and not among the entries.
 fn meant(
     alloc: Global,
     links: &[Address],
@@ -182,7 +175,6 @@ fn meant(
         .collect(alloc)
 }
 
-// Whether the address sent the message.
 fn is_sender(sender: Option<Address>, link: Address) -> bool
     ensures { result ≡ unwrap_or (option_map (same_address link) sender) false }
 {
@@ -192,14 +184,12 @@ fn is_sender(sender: Option<Address>, link: Address) -> bool
     }
 }
 
-// Whether the entries have the net and node of the address.
 fn is_seen_by(seen: &[NetNode], link: Address) -> bool
     ensures { result ≡ list_any (same_entry (net_node_of link)) seen.now }
 {
     seen.contains(&link.net_node())
 }
 
-// The exported text: the own net/node and those of the links join SEEN-BY, the own ends PATH.
 fn exported_text(alloc: Global, links: &LinkFile, echo: &Echo) -> Result<Items<u8>, AllocError>
     ensures no_zero { IfOk result HasNoZero }
     ensures text { IfOk result (λ text. text ≡ text_of (exported links.now echo.now)) }
@@ -215,7 +205,6 @@ fn exported_text(alloc: Global, links: &LinkFile, echo: &Echo) -> Result<Items<u
     Ok(Items::new(exact))
 }
 
-// The entries, and one more behind them.
 fn path_with(alloc: Global, path: &[NetNode], own: NetNode) -> Result<Vec<NetNode>, AllocError>
     ensures { IfOk result (λ all. all.items ≡ path.now ++ own ∷ []) }
 {
@@ -225,7 +214,6 @@ fn path_with(alloc: Global, path: &[NetNode], own: NetNode) -> Result<Vec<NetNod
     Ok(all)
 }
 
-// The entries, the own and those of the links as a set.
 fn joined(
     alloc: Global,
     seen: &[NetNode],
@@ -243,7 +231,6 @@ fn joined(
     Ok(Items::new(set))
 }
 
-// The message with its text moved into it, before it is addressed.
 fn packed(
     alloc: Global,
     links: &LinkFile,

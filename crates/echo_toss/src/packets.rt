@@ -20,12 +20,9 @@ use echo_packet::{Buffers, HEADER_BYTES, Header, Limits, read_header, read_next}
 use std::alloc::Global;
 use std::hash::BuildHasher;
 
-/// Tosses the messages of the packet at the front of the reader into the store, in order. The origin in the
-/// packet's header is their sender, and a zone 0 there means the own zone. No byte after the packet is read.
-/// Nothing is committed.
-///
-/// It is `NotForUs` exactly where the header's destination is not the own address. A message before a fault stays tossed
-/// and is counted; one at which the store failed is neither filed nor counted.
+/// Tosses the messages of the packet at the front of the reader into the store, in order. Their sender is the origin
+/// in the packet's header; a zone 0 there means the own zone. Nothing is committed. `NotForUs`: the destination is not
+/// the own address. Messages before a fault stay tossed and counted; one at which the store failed does not.
 pub fn toss_packet_in<T: Store, R: Source>(
     alloc: Global,
     links: &LinkFile,
@@ -36,7 +33,6 @@ pub fn toss_packet_in<T: Store, R: Source>(
     requires { (T.state store.old).is_ready }
     ensures tossed { Honestly (T.state store.new).disk ((base : Base) → (T.state store.old).keeps base
         → TossesPacketIn limits links.now base (R.remaining reader.old) (R.remaining reader.new) (T.state store.old) result (T.state store.new)) }
-    // The answer is right for the bytes, whatever the store holds.
     ensures read { (base : Base) → ReadsPacket limits links.now base (R.remaining reader.old) (R.remaining reader.new) (packet_answer result) }
     ensures device { CountsToss (packet_answer result) (R.failures reader.old) (R.failures reader.new) }
     ensures goes_on { GoesOnUnlessFailed (T.state store.old) (stop_in result) (T.state store.new) }
@@ -59,11 +55,7 @@ pub fn toss_packet_in<T: Store, R: Source>(
 }
 
 impl<S: BuildHasher> Tosser<S> {
-    /// Tosses the messages of the packet at the front of the reader, in order. The origin in the packet's
-    /// header is their sender, and a zone 0 there means the own zone. No byte after the packet is read.
-    ///
-    /// It is `NotForUs` exactly where the header's destination is not the own address. A message before
-    /// a fault stays tossed and is counted; one that was refused memory is neither filed nor counted.
+    /// Tosses as `toss_packet_in`, into the base in memory. A message that was refused memory is not counted.
     pub fn toss<R: Source>(&mut self, reader: &mut R, limits: Limits) -> Result<Tally, TossFault>
         ensures tossed { PacketStep limits self.old (R.remaining reader.old) (R.remaining reader.new) result self.new }
         ensures device { CountsToss result (R.failures reader.old) (R.failures reader.new) }
@@ -75,7 +67,6 @@ impl<S: BuildHasher> Tosser<S> {
     }
 }
 
-// The fault of a toss over a base in memory, which fails only if memory is refused.
 fn fault_in(stopped: StoppedToss) -> TossFault
     ensures { result ≡ record { tally = stopped.tally; cause = cause_in stopped.stop } }
 {
@@ -89,7 +80,6 @@ fn fault_in(stopped: StoppedToss) -> TossFault
     }
 }
 
-// Tosses the messages up to the terminator.
 fn toss_messages<T: Store, R: Source>(
     alloc: Global,
     links: &LinkFile,
@@ -151,7 +141,6 @@ fn destination_of(links: &LinkFile, header: &Header) -> Address
     }
 }
 
-// Who sent the packet.
 fn origin_of(links: &LinkFile, header: &Header) -> Address
     ensures { result ≡ sender_of links.now header.now }
 {
@@ -162,7 +151,6 @@ fn origin_of(links: &LinkFile, header: &Header) -> Address
     }
 }
 
-// A zone of a header: 0 means the own.
 fn zone_of(links: &LinkFile, zone: u16) -> u16
     ensures { result ≡ zone_of links.now zone }
 {

@@ -31,7 +31,6 @@ pub(crate) fn packets(
 /// How many addresses are gathered before those that repeat are dropped.
 const MANY: usize = 1_024;
 
-// The addresses that get some of the messages, ascending.
 fn recipients(alloc: Global, outgoing: &[Outgoing]) -> Result<Vec<Address>, AllocError>
     ensures { IfOk result (λ all. all.items ≡ address_set (flat_map (λ o. o.targets) outgoing.now)) }
 {
@@ -56,7 +55,6 @@ fn set_when_many(all: Vec<Address>, limit: &mut usize) -> Vec<Address>
     set
 }
 
-// A packet to each of the addresses.
 fn packets_to(
     alloc: Global,
     links: &LinkFile,
@@ -74,7 +72,6 @@ fn packets_to(
     Ok(all)
 }
 
-// The packet of those that go to the address.
 fn packet_to(
     alloc: Global,
     links: &LinkFile,
@@ -95,7 +92,6 @@ fn packet_to(
     })
 }
 
-/// Appends the copy of the message, if the address receives it.
 pub(crate) fn push_copy(
     address: Address,
     one: &Outgoing,
@@ -109,7 +105,6 @@ pub(crate) fn push_copy(
     Ok(())
 }
 
-/// Whether the address receives the message.
 pub(crate) fn goes_to(one: &Outgoing, address: Address) -> bool
     ensures { result ≡ goes_out address one.now }
 {

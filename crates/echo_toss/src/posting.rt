@@ -51,8 +51,7 @@ pub fn post_step<T: Store>(
 }
 
 impl<S: BuildHasher> Tosser<S> {
-    /// Files a message of the area with this tag, whatever the case of its letters. Its id is the own
-    /// address and the serial (FTS-0009), which no message of the base may have.
+    /// Files as `post_step` does, in the base in memory.
     pub fn post(
         &mut self,
         tag: &[u8],
@@ -79,7 +78,6 @@ impl<S: BuildHasher> Tosser<S> {
     }
 }
 
-// The message and its key, where nothing refuses it.
 fn prepared<T: Store>(
     alloc: Global,
     links: &LinkFile,
@@ -104,7 +102,6 @@ fn prepared<T: Store>(
     Ok(made(alloc, links, tag, draft, serial, stamp)?)
 }
 
-// Whether a message of the store has the id of the system and the serial.
 fn is_known<T: Store>(
     alloc: Global,
     store: &mut T,
@@ -122,7 +119,6 @@ fn is_known<T: Store>(
     store.has_id(&id)
 }
 
-// The message and its key.
 fn made(
     alloc: Global,
     links: &LinkFile,

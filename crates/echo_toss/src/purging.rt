@@ -6,8 +6,7 @@ use std::alloc::AllocError;
 use std::hash::BuildHasher;
 
 impl<S: BuildHasher> Tosser<S> {
-    /// Leaves of each scanned message with an id nothing of its text but the id, so that the message
-    /// stays known. Answers how many messages changed.
+    /// Reduces each scanned message with an id to that id, so that it stays known. Answers how many changed.
     #[tactic(auto, unfolding(model_steps::specs::Purging::changed, model_steps::specs::Purging::purged))]
     pub fn purge(&mut self) -> Result<u64, AllocError>
         ensures { PurgeStep self.old result self.new }

@@ -15,16 +15,13 @@ use echo_text::{FrontView, TextFault, view_front};
 use model_steps::Outcome;
 use std::alloc::{AllocError, Global};
 
-/// The kind of a message, whatever the base.
 #[derive(Drop)]
 pub(crate) enum Reading<'a> {
     /// Its text is echomail with this front, and its sender is a link of the area.
     Wanted(FrontView<'a>),
-    /// It is not filed.
     Unwanted(Outcome),
 }
 
-/// Reads the message.
 pub(crate) fn read<'a>(
     alloc: Global,
     links: &LinkFile,

@@ -1,4 +1,3 @@
-//! Why a draft is refused, whatever the base.
 ghost use Rattle.std.specs.Prelude.{◌≡◌, ◌==◌, ◌||◌, length, Some, None, MatchResult};
 ghost use Rattle.std.specs.List.{list_any};
 ghost use Rattle.echo_text.specs.Ids.{is_zero};
@@ -77,7 +76,6 @@ fn is_too_long(draft: &Draft) -> bool
         || draft.subject.len() > MAX_SUBJECT
 }
 
-// Whether there is no reply, or an id that a REPLY line may name.
 fn is_reply(reply: &[u8]) -> bool
     ensures { result ≡ ((length reply.now == 0) || is_reply_id reply.now) }
 {

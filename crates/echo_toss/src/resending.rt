@@ -14,8 +14,7 @@ use model_steps::Stamp;
 use std::alloc::{AllocError, Global};
 use std::mem;
 
-/// A packet to make again: the area, in upper case, and its address. Its stamp, and the number of the first message that
-/// it may have.
+/// A packet to make again: the area in upper case, its address, its stamp, and the first message that it may have.
 #[derive(Clone, Copy)]
 pub struct Resend<'a> {
     pub area: &'a [u8],

@@ -43,8 +43,7 @@ pub fn scan_step<T: Store>(
 }
 
 impl<S: BuildHasher> Tosser<S> {
-    /// Makes the packets of the waiting messages: one for each address that gets some of them, ascending, with
-    /// its messages in order of filing. Then no message waits.
+    /// Makes the packets as `scan_step` does, of the base in memory. Then no message waits.
     pub fn scan(&mut self, stamp: Stamp) -> Result<Vec<Packet>, ScanFault>
         ensures { ScanStep self.old stamp (listed result) self.new }
     {
@@ -57,7 +56,6 @@ impl<S: BuildHasher> Tosser<S> {
     }
 }
 
-// The packets of the messages from the cursor on.
 fn scanned<T: Store>(
     alloc: Global,
     links: &LinkFile,

@@ -1,4 +1,3 @@
-//! Why a step of a system with its messages in a store was not done.
 ghost use Rattle.std.specs.Prelude.{◌≡◌};
 ghost use Rattle.base_store.specs.declared.store_error.StoreError.TheVariants as error;
 

@@ -1,4 +1,3 @@
-//! Writes and reads the base of a system.
 ghost use Rattle.std.specs.Prelude.{◌≡◌, IfErr, IfOk, IfSome, Result};
 ghost use Rattle.echo_packet.specs.Header.{AreBytes};
 ghost use Rattle.base_file.specs.{declared.fault.BaseFault.BaseFault as Fault, Base.IsBase, BaseFile.LoadOf, BaseFile.Loaded, BaseFile.is_countable, BaseFile.saved_bytes};
@@ -25,8 +24,7 @@ impl<S: BuildHasher> Tosser<S> {
         self.store.base().save(writer)
     }
 
-    /// The system of the link file with the base at the front of the reader. No byte after the last message is
-    /// read.
+    /// The system of the link file with the base at the front of the reader. No byte after it is read.
     pub fn load<R: Source>(
         alloc: Global,
         links: LinkFile,
@@ -36,10 +34,8 @@ impl<S: BuildHasher> Tosser<S> {
     where
         S: Drop,
         ensures links { IfOk result (λ system. system.file ≡ links) }
-        // Each answer is right for the bytes.
         ensures taken { IfOk result (λ system. TakesBase system.base system.cursor (R.remaining reader.old) (R.remaining reader.new)) }
         ensures fault { IfErr result (FailsToLoad (R.remaining reader.old) (R.remaining reader.new)) }
-        // The right answer is the only one.
         ensures only { (other : Result Loaded Fault) → IfSome (R.remaining reader.old) (λ bytes. AreBytes bytes → LoadOf bytes other → AnswersLoad (base_in result) other) }
         ensures device { CountsLoad result (R.failures reader.old) (R.failures reader.new) }
     {

@@ -16,8 +16,7 @@ use model_steps::Outcome;
 use std::alloc::{AllocError, Global};
 use std::hash::BuildHasher;
 
-/// Files a received message in the store, or answers why not. The first outcome that applies is answered. Nothing is
-/// committed.
+/// Files a received message in the store, or answers the first outcome that applies. Nothing is committed.
 pub fn toss_step<T: Store>(
     alloc: Global,
     links: &LinkFile,
@@ -60,16 +59,12 @@ impl<S: BuildHasher> Tosser<S> {
     }
 }
 
-/// The decision on a message.
 #[derive(Drop)]
 enum Verdict {
-    /// It is to be filed, with this key.
     New(Key, Filed),
-    /// It changes nothing.
     Left(Outcome),
 }
 
-// Decides on a message.
 fn judged<T: Store>(
     alloc: Global,
     links: &LinkFile,

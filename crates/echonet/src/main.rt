@@ -1,8 +1,6 @@
-//! The program `echonet`: it reads the words of the command line and calls the command that they name. The commands on
-//! nets are in `cmd_net`, those that read a base in `cmd_export` and `cmd_jam`, and those that change one in `cmd_station`.
-//!
-//! It is proved to be safe and to end, and no more. It is small, so that the crates below it are proved in parallel.
-//! Begin at `main`, the last function, then read `run_words`.
+//! The program `echonet`: it reads the words of the command line and calls the command that they name: in `cmd_net` on
+//! nets, in `cmd_export` and `cmd_jam` on a base, in `cmd_station` to change one. It is proved to be safe and to end,
+//! and no more. It is small, so that the crates below it are proved in parallel. Begin at `main`, the last function.
 #![tactic(auto)]
 
 use cmd_export::run_base;
@@ -17,7 +15,6 @@ use disk_io::{Sink, Watched};
 use std::process::ExitCode;
 use std::{env, io};
 
-// Runs the command that the words ask for.
 fn run_words<W: Sink, E: Sink>(
     rt: &HostRuntime,
     words: &Words<'_>,
@@ -50,11 +47,10 @@ fn words_given(rt: &HostRuntime) -> Result<Vec<String>, Status> {
     }
 }
 
-// Runs the command that is asked for, and prints notes on its faults after them.
 fn run_asked(rt: &HostRuntime, asked: &ParsedLine<'_>) -> Status {
     let progress = Progress::new(rt);
     let noted = ExplainedCommand::of(rt, asked);
-    let keeps = match &noted {
+    let keeps = match noted {
         Some(noted) => noted.has_noted_answer(),
         None => false,
     };
@@ -64,8 +60,8 @@ fn run_asked(rt: &HostRuntime, asked: &ParsedLine<'_>) -> Status {
     let mut errors = Watched::new(KeptLines::new(rt.alloc(), to, true));
     let status = run_words(rt, &asked.words, &progress, &mut out, &mut errors);
     let printed = errors.into_inner().into_kept();
+    let answer = out.into_inner().into_kept();
     if let Some(noted) = noted {
-        let answer = out.into_inner().into_kept();
         let mut errors = Watched::new(ErasingOutput::new(&progress, rt.stderr()));
         noted.tell(&printed, &answer, &mut errors);
     }

@@ -15,7 +15,6 @@ module _ (links : ℕ → ℕ → Bool) (simple : Simple links) (members : ℕ) 
   not_b : (b k n x : ℕ) → Hangs block top b k n x → x ≢ b
   not_b b k n x h1 = grind arith
 
-  -- the links of a member that hangs below b hang there too, except b itself
   hangs_next : (b k n x y : ℕ) → Hangs block top b k n x → IsTrue (links x y) → b ≢ y → (m : ℕ) × Hangs block top b k m y
   hangs_next b k zero x y h link apart =
       elim (are.links x y link) [
@@ -36,12 +35,10 @@ module _ (links : ℕ → ℕ → Bool) (simple : Simple links) (members : ℕ) 
             ]
       ]
 
-  -- and does not rank before b
   hangs_after : (b k n x : ℕ) → x < members → Hangs block top b k n x → rank b ≤ rank x
   hangs_after b k zero x inside h = grind arith
   hangs_after b k (suc n) x inside h = grind (arith, hangs_after b k n (top x) (are.ranks x inside).0 h.1)
 
-  -- a link of b that hangs below it hangs there by its own block
   hangs_by_itself : (b k n c : ℕ) → b < members → IsTrue (links b c) → Hangs block top b k n c → (block c ≡ k) × (top c ≡ b)
   hangs_by_itself b k zero c inside link h = (h.1, h.2)
   hangs_by_itself b k (suc n) c inside link h =
@@ -57,7 +54,6 @@ module _ (links : ℕ → ℕ → Bool) (simple : Simple links) (members : ℕ) 
       let found : Under c = Around-keeps links b Under (λ x y h link _ other. hangs_next b (block a) h.0 x y h.1 link other) a c around (0, (apart, refl, below)) in
       hangs_by_itself b (block a) found.0 c inside link_c found.1
 
-  -- so both are in one block at b
   pub one_side : (b a c : ℕ) → IsTrue (links b a) → IsTrue (links b c) → Around links b a c → OnOneSide block top b a c
   one_side b a c link_a link_c around = grind (arith, cases_eq, joined_below, Around-sym)
 
@@ -92,7 +88,6 @@ module _ (links : ℕ → ℕ → Bool) (simple : Simple links) (members : ℕ) 
       not_passed r a b c apart_a apart_b apart_c (inr (inr (inl e))) = apart_c e
       not_passed r a b c apart_a apart_b apart_c (inr (inr (inr none))) = none
 
-  -- and no pinch lies in a full block
   pub no_pinch_in_full : (full : ℕ → Bool) → AreFull links members block top full → (b a c : ℕ) → IsInFull block top full b a → ¬ IsPinch links b a c
   no_pinch_in_full full fully b a c in_full pinch =
       let lt = pinch.in_order in
@@ -110,6 +105,5 @@ module _ (links : ℕ → ℕ → Bool) (simple : Simple links) (members : ℕ) 
             ]
       ])
     where
-      -- two links of b that are not below it
       linked_above : (full : ℕ → Bool) → AreFull links members block top full → (b a c : ℕ) → IsTrue (full (block b)) → IsTrue (links b a) → IsTrue (links b c) → a ≢ c → top a ≢ b → top c ≢ b → IsTrue (links a c)
       linked_above full fully b a c known link_a link_c differ up_a up_c = grind arith

@@ -10,7 +10,6 @@ module _ {A : Type 0} (linked : A → A → Bool) where
   pub Polygons-from_no_cycle : NoCycle linked → Polygons linked
   Polygons-from_no_cycle none first rest cycle = absurd (none first rest cycle)
 
-  -- a cycle from its second member on
   pub cycle_turned : (first second : A) (rest : List A) → Cycle linked first (second ∷ rest) → Cycle linked second (rest ++ first ∷ [])
   cycle_turned first second rest cycle =
       let (last, w, closes) = cycle.closed in
@@ -26,7 +25,6 @@ module _ {A : Type 0} (linked : A → A → Bool) where
         closed = (first, walk_append linked second rest last (first ∷ []) first w.1 (closes, refl), w.0);
       }
 
-  -- the third member of a cycle reaches the first one around the second
   back_around : (first second third : A) (rest : List A) → Cycle linked first (second ∷ third ∷ rest) → Around linked second third first
   back_around first second third rest cycle =
       let (last, w, closes) = cycle.closed in
@@ -40,14 +38,12 @@ module _ {A : Type 0} (linked : A → A → Bool) where
       )
 
 module _ {A : Type 0} (linked : A → A → Bool) (simple : Simple linked) where
-  -- two links of b that are not linked, and a walk from one to the other around b, make a cycle
   pub cycle_around : (b a c : A) → IsTrue (linked b a) → IsTrue (linked b c) → a ≢ c → ¬ IsTrue (linked a c) →
       (rest : List A) → Walk linked a rest c → ¬ Among b (a ∷ rest) → Different (a ∷ rest) → Cycle linked b (a ∷ rest)
   cycle_around b a c to_a to_c other none [] w avoids different = absurd (other w)
   cycle_around b a c to_a to_c other none (d ∷ []) w avoids different = absurd (none (link_to linked a d c w.1 w.0))
   cycle_around b a c to_a to_c other none (d ∷ e ∷ rest) w avoids different = grind arith
 
-  -- if all links are parted, there is no cycle
   pub NoCycle-from_AllParted : AllParted linked → NoCycle linked
   NoCycle-from_AllParted parted first [] cycle = omega (arith, cycle.long)
   NoCycle-from_AllParted parted first (second ∷ []) cycle = omega (arith, cycle.long)
@@ -66,7 +62,6 @@ module _ {A : Type 0} (can : CanTell A) (linked : A → A → Bool) (simple : Si
       let cycle = cycle_around linked simple b a c to_a to_c other none rest w avoids different in
       none (polygons b (a ∷ rest) cycle a c (inr (inl refl)) (inr (walk_ends linked a rest c w)) other))
 
-  -- without a cycle, all links are parted
   pub AllParted-from_NoCycle : NoCycle linked → AllParted linked
   AllParted-from_NoCycle none b a c to_a to_c other =
       Beyond-from_no_around can linked b c a (λ around.
@@ -79,11 +74,9 @@ module _ {A : Type 0} (can : CanTell A) (linked : A → A → Bool) (simple : Si
           none b (a ∷ d ∷ rest) (grind arith)
 
   module _ (parted : Parted linked) where
-    -- the first member of a cycle is linked with the third
     first_third : (first second third : A) (rest : List A) → Cycle linked first (second ∷ third ∷ rest) → IsTrue (linked first third)
     first_third first second third rest cycle = grind (arith, cases_Bool, both_ways, Around-sym, back_around linked first second third rest cycle, no_around-from_Beyond)
 
-    -- so the second may be left out
     second_left_out : (first second third fourth : A) (rest : List A) → Cycle linked first (second ∷ third ∷ fourth ∷ rest) →
         Cycle linked first (third ∷ fourth ∷ rest)
     second_left_out first second third fourth rest cycle =
@@ -94,7 +87,6 @@ module _ {A : Type 0} (can : CanTell A) (linked : A → A → Bool) (simple : Si
           closed = (last, (first_third first second third (fourth ∷ rest) cycle, w.1.1), closes);
         }
 
-    -- and the first is linked with all others
     first_linked : (first : A) (rest : List A) → Cycle linked first rest → (x : A) → Among x rest → IsTrue (linked first x)
     first_linked first [] cycle x h = absurd h
     first_linked first (second ∷ []) cycle x h = absurd (omega (arith, cycle.long))
@@ -105,19 +97,16 @@ module _ {A : Type 0} (can : CanTell A) (linked : A → A → Bool) (simple : Si
           | inr t ↦ first_linked first (third ∷ fourth ∷ rest) (second_left_out first second third fourth rest cycle) x t
         ]
 
-    -- the second is linked with all after it
     second_linked : (first second : A) (rest : List A) → Cycle linked first (second ∷ rest) → (x y : A) → x ≡ second → Among y rest →
         IsTrue (linked x y)
     second_linked first second rest cycle x y e h =
         let turned = cycle_turned linked first second rest cycle in
         link_from linked second x y (sym e) (first_linked second (rest ++ first ∷ []) turned y (Among-append_left y rest (first ∷ []) h))
 
-    -- any two members after the first are linked, if any two after the second are
     after_second : (first second : A) (rest : List A) → Cycle linked first (second ∷ rest) → (x y : A) →
         (Among x rest → Among y rest → IsTrue (linked x y)) → Among x (second ∷ rest) → Among y (second ∷ rest) → x ≢ y → IsTrue (linked x y)
     after_second first second rest cycle x y later at_x at_y other = grind (arith, second_linked)
 
-    -- any two members after the first are linked
     others_linked : (first : A) (rest : List A) → Cycle linked first rest → (x y : A) → Among x rest → Among y rest → x ≢ y → IsTrue (linked x y)
     others_linked first [] cycle x y at_x at_y other = absurd at_x
     others_linked first (second ∷ []) cycle x y at_x at_y other = absurd (omega (arith, cycle.long))
@@ -132,7 +121,6 @@ module _ {A : Type 0} (can : CanTell A) (linked : A → A → Bool) (simple : Si
 
 -- The first step of a walk that is cut at the last link of its first member.
 
--- the part of a walk from the last member that passes a test
 pub record LastTaken {A : Type 0} (linked : A → A → Bool) (test : A → Bool) (b : A) (rest : List A) (u : A) (part : List A) : Type 0 where
   pub taken : IsTrue (test u)
   pub walk : Walk linked u part b
@@ -158,7 +146,6 @@ module _ {A : Type 0} (linked : A → A → Bool) where
         ]
       ]
 
-  -- a walk to another member does not pass x, if it passes no link of x after its first member
   pub past_no_link-around : (x f : A) → x ≢ f → (a : A) (rest : List A) → Walk linked a rest f →
       ((y : A) → Among y rest → ¬ IsTrue (linked x y)) → ¬ Among x rest
   past_no_link-around x f other a [] w none h = h
@@ -169,7 +156,6 @@ module _ {A : Type 0} (linked : A → A → Bool) where
         | inr t ↦ past_no_link-around x f other c (d ∷ rest) w.1 (λ y i. none y (inr i)) t
       ]
 
-  -- a walk from x to another member has a first step from x, which is nearer
   pub first_step : Simple linked → (x f : A) → x ≢ f → (rest : List A) → Walk linked x rest f →
       (step : A) × (part : List A) × FirstStep linked f x step part × (length part < length rest)
   first_step simple x f other [] w = absurd (other w)
@@ -182,12 +168,10 @@ module _ {A : Type 0} (linked : A → A → Bool) where
 -- The members beyond a member: the way to another member, and the members further out.
 
 module _ {A : Type 0} (can : CanTell A) (linked : A → A → Bool) where
-  -- Beyond is transitive: a member beyond y lies beyond x if y lies beyond x
   pub Beyond-trans : (x y f c : A) → Beyond linked y f c → Beyond linked x f y → Beyond linked x f c
   Beyond-trans x y f c beyond_y beyond_x rest w = grind (arith, part_from, Among-at)
 
 module _ {A : Type 0} (can : CanTell A) (linked : A → A → Bool) (simple : Simple linked) where
-  -- if y lies beyond u, then u reaches the other end around y
   pub Around-from_Beyond : (f y u : A) → u ≢ y → Reaches linked y f → Beyond linked u f y → Around linked y u f
   Around-from_Beyond f y u other reaches beyond =
       let (rest, p) = part_from can linked y y reaches.0 f reaches.1 (inl refl) in
@@ -198,7 +182,6 @@ module _ {A : Type 0} (can : CanTell A) (linked : A → A → Bool) (simple : Si
   pub Around-from_IsWay : (f y u : A) → Reaches linked y f → IsWay linked f y u → Around linked y u f
   Around-from_IsWay f y u reaches way = grind (arith, way, Around-from_Beyond, linked_differ)
 
-  -- there is only one way
   pub one_way : (f y u v : A) → Reaches linked y f → IsWay linked f y u → IsWay linked f y v → u ≡ v
   one_way f y u v reaches to_u to_v =
       elim (can u v) [
@@ -216,7 +199,6 @@ module _ {A : Type 0} (can : CanTell A) (linked : A → A → Bool) (simple : Si
             ]))
       ]
 
-  -- no link of the way lies beyond
   pub link_of_way-not_beyond : (f y u c : A) → Reaches linked y f → IsWay linked f y u → IsTrue (linked y c) → IsTrue (linked u c) →
       ¬ Beyond linked y f c
   link_of_way-not_beyond f y u c reaches to_u link joined beyond =
@@ -224,11 +206,9 @@ module _ {A : Type 0} (can : CanTell A) (linked : A → A → Bool) (simple : Si
       no_around-from_Beyond linked y f c beyond
       (Around-step linked y c u f (linked_differ linked simple y c link) (simple.both_ways u c joined) around)
 
-  -- nor does the member of the way
   pub way-not_beyond : (f y u : A) → Reaches linked y f → IsWay linked f y u → ¬ Beyond linked y f u
   way-not_beyond f y u reaches to_u beyond = no_around-from_Beyond linked y f u beyond (Around-from_IsWay f y u reaches to_u)
 
-  -- a member further out is neither y nor a link of y
   pub further : (f y c d : A) → Reaches linked y f → IsTrue (linked y c) → Beyond linked y f c → Beyond linked c f d → d ≢ c →
       (d ≢ y) × (¬ IsTrue (linked y d))
   further f y c d reaches link beyond_y beyond_c other =
@@ -241,7 +221,6 @@ module _ {A : Type 0} (can : CanTell A) (linked : A → A → Bool) (simple : Si
       )
 
   module _ (parted : Parted linked) where
-    -- a member lies beyond its first step
     pub step_beyond : (f x step : A) (rest : List A) → FirstStep linked f x step rest → Beyond linked step f x
     step_beyond f x step [] first = λ more w. Among-at step f (x ∷ more) first.walk (walk_ends linked x more f w)
     step_beyond f x step (e ∷ rest) first =
@@ -250,13 +229,11 @@ module _ {A : Type 0} (can : CanTell A) (linked : A → A → Bool) (simple : Si
         let joined = Around-trans linked step x f e around (Around-sym linked simple step e f after) in
         grind (arith, no_around-from_Beyond))
 
-    -- there is a way
     pub way : (f y : A) → y ≢ f → Reaches linked y f → (u : A) × IsWay linked f y u
     way f y other reaches =
         let (step, part, first, _) = first_step linked simple y f other reaches.0 reaches.1 in
         (step, record { link = first.link; passed = step_beyond f y step part first })
 
-    -- and only one
     pub has_one_way : (f y : A) → y ≢ f → Reaches linked y f → HasOneWay linked f y
     has_one_way f y other reaches =
         let (u, to_u) = way f y other reaches in
@@ -275,7 +252,6 @@ module _ {A : Type 0} (can : CanTell A) (linked : A → A → Bool) (simple : Si
               no_around-from_Beyond linked y c u apart to_c))
         ]
 
-    -- so, among the other links, exactly those lie beyond that are no links of the way
     pub beyond_or_link : (f y u c : A) → Reaches linked y f → IsWay linked f y u → IsTrue (linked y c) → c ≢ u →
         Beyond linked y f c ↔ (¬ IsTrue (linked u c))
     beyond_or_link f y u c reaches to_u link other = (

@@ -10,7 +10,6 @@ Descent-push links levels [] a z d m same e s =
     subst (λ x. ((level : ℕ) × (level_of levels x ≡ Some (suc level)) × SmallestAt links levels x level d) × (d ≡ d)) (sym same) ((m, e, s), refl)
 Descent-push links levels (c ∷ rest) a z d m h e s = (h.0, Descent-push links levels rest c z d m h.1 e s)
 
--- above level 0 there is a link one level lower
 pub lower_exists : (links : ℕ → ℕ → Bool) (without root : ℕ) (levels : List (Option ℕ)) → Simple links → Searched links without root levels → (z m : ℕ) → level_of levels z ≡ Some (suc m) → (d : ℕ) × IsTrue (links z d) × (level_of levels d ≡ Some m)
 lower_exists links without root levels simple searched z m e = grind arith
 
@@ -18,7 +17,6 @@ Walk-from_Descent : (links : ℕ → ℕ → Bool) (levels : List (Option ℕ)) 
 Walk-from_Descent links levels [] a z same = same
 Walk-from_Descent links levels (d ∷ rest) a z h = (h.0.2.link, Walk-from_Descent links levels rest d z h.1)
 
--- the members of a descent have lower and lower levels
 level_in : (links : ℕ → ℕ → Bool) (levels : List (Option ℕ)) (rest : List ℕ) (a z m x : ℕ) → Descent links levels a rest z → level_of levels a ≡ Some m → Among x rest → (n : ℕ) × (level_of levels x ≡ Some n) × (n < m)
 level_in links levels [] a z m x h e among = absurd among
 level_in links levels (d ∷ rest) a z m x h e (inl is) =
@@ -36,7 +34,6 @@ descent_differs links levels (d ∷ rest) a z m h e = (
   descent_differs links levels rest d z h.0.0 h.1 h.0.2.has_level,
 )
 
--- a walk to the root has at least as many links as the level
 levels_up : (links : ℕ → ℕ → Bool) (without root : ℕ) (levels : List (Option ℕ)) → Simple links → Searched links without root levels → (rest : List ℕ) (a : ℕ) → Walk links a rest root → ¬ Among without (a ∷ rest) → (n : ℕ) × (level_of levels a ≡ Some n) × (n ≤ length rest)
 levels_up links without root levels simple searched [] a same clear = (0, ap (level_of levels) same ∙ searched.rooted, omega arith)
 levels_up links without root levels simple searched (d ∷ rest) a walk clear =
@@ -73,7 +70,6 @@ FirstWalk-from_descent links b a c levels simple searched rest z m h e last =
       least = λ other walk clear same. descent_least links b c levels simple searched rest a z h last other walk clear same;
     }
 
--- the first link in a row with this level is the smallest
 pub SmallestAt-here : (rows : List (List ℕ)) (at level k : ℕ) (row : List ℕ) (levels : List (Option ℕ)) → IsGraph rows → row ≡ links_at rows at → k < length row →
     ((i : ℕ) → i < k → ¬ (level_of levels (get_or row i 0) ≡ Some level)) → level_of levels (get_or row k 0) ≡ Some level → SmallestAt (linked rows) levels at level (get_or row k 0)
 SmallestAt-here rows at level k row levels graph is lt earlier here = record {

@@ -27,11 +27,9 @@ unlevelled-set (Some m ∷ levels) zero level lt e = absurd (none-some m (sym e)
 unlevelled-set (None ∷ levels) (suc i) level lt e = omega (arith, unlevelled-set levels i level (omega arith) e)
 unlevelled-set (Some m ∷ levels) (suc i) level lt e = unlevelled-set levels i level (omega arith) e
 
--- a link that is left out, or that already has a level
 pub Visited-passed : (links : List ℕ) (count without level : ℕ) (old new : List (Option ℕ)) (queue longer : List ℕ) → Visited links count without level old new queue longer → (get_or links count 0 ≢ without → (m : ℕ) × (level_of new (get_or links count 0) ≡ Some m)) → Visited links (count + 1) without level old new queue longer
 Visited-passed links count without level old new queue longer v here = grind (arith, cases_eq, get_or)
 
--- a link that gets the level
 pub Visited-made : (links : List ℕ) (count without level : ℕ) (old new : List (Option ℕ)) (queue longer : List ℕ) (other : ℕ) → Visited links count without level old new queue longer → count < length links → get_or links count 0 ≡ other → other ≢ without → other < length new → level_of new other ≡ None → Visited links (count + 1) without level old (set new other (Some level)) queue (longer ++ other ∷ [])
 Visited-made links count without level old new queue longer other v lt here apart inside none =
     let differs : (i m : ℕ) → level_of new i ≡ Some m → i ≢ other =
@@ -64,19 +62,16 @@ Visited-made links count without level old new queue longer other v lt here apar
 
 -- A search by levels keeps its queue in order, and ends with all links settled.
 
--- a member has one level
 pub one_level : (levels : List (Option ℕ)) (i m n : ℕ) → level_of levels i ≡ Some m → level_of levels i ≡ Some n → m ≡ n
 one_level levels i m n a b = same_Some m n (sym a ∙ b)
 
 no_level : (levels : List (Option ℕ)) (i m : ℕ) → level_of levels i ≡ None → level_of levels i ≡ Some m → ⊥
 no_level levels i m a b = none-some m (sym a ∙ b)
 
--- the member at the head, once its links are visited, is settled
 pub Flooding-step : (rows : List (List ℕ)) (without root : ℕ) (old levels new : List (Option ℕ)) (queue longer : List ℕ) (head member level : ℕ) → IsGraph rows → IsSettledFlood (linked rows) without old → Flooding (linked rows) without root old levels queue head → head < length queue → get_or queue head 0 ≡ member → level_of levels member ≡ Some level → Visited (links_at rows member) (length (links_at rows member)) without (level + 1) levels new queue longer → Flooding (linked rows) without root old new longer (head + 1)
 Flooding-step rows without root old levels new queue longer head member level graph was f lt at has v =
     let there : level_of levels (get_or queue head 0) ≡ Some level = ap (level_of levels) at ∙ has in
     let unmade : (i : ℕ) → level_of levels i ≡ None → level_of old i ≡ None = grind (arith, level_cases, no_level) in
-    -- a level in the longer queue: an old one, or one more than the member's
     let level_at : (k n : ℕ) → k < length longer → level_of new (get_or longer k 0) ≡ Some n →
     ((k < length queue) × (level_of levels (get_or queue k 0) ≡ Some n)) ⊎ ((length queue ≤ k) × (n ≡ level + 1)) = λ k n low e.
     elim (cases_lt k (length queue)) [
@@ -153,7 +148,6 @@ Flooding-step rows without root old levels new queue longer head member level gr
 
 -- The levels of one search are the distances from its root.
 
--- a walk and one link more
 pub Walk-push : {A : Type 0} (links : A → A → Bool) (a b c : A) (rest : List A) → Walk links a rest b → IsTrue (links b c) → Walk links a (rest ++ c ∷ []) c
 Walk-push links a b c [] same link = (subst (λ x. IsTrue (links x c)) (sym same) link, refl)
 Walk-push links a b c (d ∷ rest) walk link = (walk.0, Walk-push links d b c rest walk.1 link)
@@ -168,7 +162,6 @@ Among-push_cases x y (z ∷ xs) (inr later) =
       | inr e ↦ inr e
     ]
 
--- a member with a level is reached by a walk of that many links
 reached_by : (links : ℕ → ℕ → Bool) (without root : ℕ) (old levels : List (Option ℕ)) → ((i : ℕ) → level_of old i ≡ None) → root ≢ without → Flooded links without root old levels → (m b : ℕ) → level_of levels b ≡ Some m → (rest : List ℕ) × Walk links root rest b × ¬ Among without (root ∷ rest) × (length rest ≡ m)
 reached_by links without root old levels fresh apart f zero b e = grind (arith, none-some)
 reached_by links without root old levels fresh apart f (suc m) b e =

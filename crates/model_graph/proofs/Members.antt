@@ -4,7 +4,6 @@ use Rattle.std.proofs.lemmas.Bool.{cases_eq}
 use Rattle.model_graph.specs.Walk.{Among, Different, Simple, Walk, Reaches, Connected}
 use Rattle.model_graph.specs.Beyond.{Around, Beyond}
 
--- any two members are equal or not
 abbrev pub CanTell : Type 0 → Type 0
 CanTell A = (x y : A) → (x ≡ y) ⊎ (x ≢ y)
 
@@ -22,7 +21,6 @@ Among-cases can x (y ∷ ys) =
       ]
     ]
 
--- x is in the list if y is, and they are equal
 pub Among-at : {A : Type 0} (x y : A) (xs : List A) → x ≡ y → Among y xs → Among x xs
 Among-at {A} x y xs e h = let P : A → Type 0 = λ m. Among m xs in subst P (sym e) h
 
@@ -42,7 +40,6 @@ Among-append_cases x (z ∷ xs) ys h =
       | inr t ↦ elim (Among-append_cases x xs ys t) [ inl l ↦ inl (inr l) | inr r ↦ inr r ]
     ]
 
--- a new member may follow a list without repeats
 pub Different-push : {A : Type 0} (xs : List A) (y : A) → Different xs → ¬ Among y xs → Different (xs ++ y ∷ [])
 Different-push [] y h none = (λ b. b, tt)
 Different-push (x ∷ xs) y h none = (
@@ -53,7 +50,6 @@ Different-push (x ∷ xs) y h none = (
   Different-push xs y h.1 (λ t. none (inr t)),
 )
 
--- a member has an index, and the item at an index is a member
 pub Among-index : {A : Type 0} (x d : A) (xs : List A) → Among x xs → (k : ℕ) × (k < length xs) × (get_or xs k d ≡ x)
 Among-index x d [] h = absurd h
 Among-index x d (y ∷ ys) h =
@@ -76,24 +72,19 @@ Among-from_Contains x xs h = Among-at x (get_or xs h.0 x) xs (sym h.2) (Among-ge
 -- Walks joined, reversed, and cut.
 
 module _ {A : Type 0} (linked : A → A → Bool) where
-  -- a link from a is one from b, if they are equal
   pub link_from : (a b c : A) → a ≡ b → IsTrue (linked a c) → IsTrue (linked b c)
   link_from a b c e h = let P : A → Type 0 = λ m. IsTrue (linked m c) in subst P e h
 
-  -- a link to a is one to b, if they are equal
   pub link_to : (c a b : A) → a ≡ b → IsTrue (linked c a) → IsTrue (linked c b)
   link_to c a b e h = let P : A → Type 0 = λ m. IsTrue (linked c m) in subst P e h
 
-  -- a walk from a is one from b, if they are equal
   pub walk_from : (a b : A) (rest : List A) (c : A) → a ≡ b → Walk linked a rest c → Walk linked b rest c
   walk_from a b rest c e w = let P : A → Type 0 = λ m. Walk linked m rest c in subst P e w
 
-  -- the last member of a walk is among its members
   pub walk_ends : (a : A) (rest : List A) (b : A) → Walk linked a rest b → Among b (a ∷ rest)
   walk_ends a [] b w = inl (sym w)
   walk_ends a (c ∷ rest) b w = inr (walk_ends c rest b w.1)
 
-  -- a walk from a to b, and on to c
   pub walk_append : (a : A) (rest : List A) (b : A) (more : List A) (c : A) →
       Walk linked a rest b → Walk linked b more c → Walk linked a (rest ++ more) c
   walk_append a [] b more c w v = walk_from b a more c (sym w) v
@@ -103,11 +94,9 @@ module _ {A : Type 0} (linked : A → A → Bool) where
   Reaches-trans a b c first second = (first.0 ++ second.0, walk_append a first.0 b second.0 c first.1 second.1)
 
 module _ {A : Type 0} (linked : A → A → Bool) (simple : Simple linked) where
-  -- linked members differ
   pub linked_differ : (a b : A) → IsTrue (linked a b) → a ≢ b
   linked_differ a b link e = simple.no_self a (link_to linked a b a (sym e) link)
 
-  -- a walk reversed, with the same members
   pub walk_back : (a : A) (rest : List A) (b : A) → Walk linked a rest b →
       (back : List A) × Walk linked b back a × ((x : A) → Among x (b ∷ back) → Among x (a ∷ rest))
   walk_back a [] b w = ([], sym w, λ x h. elim h [ inl e ↦ inl (e ∙ sym w) | inr t ↦ inr t ])
@@ -124,11 +113,9 @@ module _ {A : Type 0} (linked : A → A → Bool) (simple : Simple linked) where
   pub Reaches-sym : (a b : A) → Reaches linked a b → Reaches linked b a
   Reaches-sym a b reaches = let (back, w, _) = walk_back a reaches.0 b reaches.1 in (back, w)
 
-  -- a link of y reaches all that y reaches
   pub Reaches-link : (y c f : A) → IsTrue (linked y c) → Reaches linked y f → Reaches linked c f
   Reaches-link y c f link reaches = (y ∷ reaches.0, (simple.both_ways y c link, reaches.1))
 
-  -- each member of a walk after the first has a link
   pub walk_links : (a : A) (rest : List A) (b : A) → Walk linked a rest b → (x : A) → Among x rest → (y : A) × IsTrue (linked x y)
   walk_links a [] b w x h = absurd h
   walk_links a (d ∷ rest) b w x h =
@@ -137,13 +124,11 @@ module _ {A : Type 0} (linked : A → A → Bool) (simple : Simple linked) where
         | inr t ↦ walk_links d rest b w.1 x t
       ]
 
--- all members are connected, if one reaches all
 pub Connected-from_root : {A : Type 0} (IsMember : A → Type 0) (linked : A → A → Bool) → Simple linked → (root : A) →
     ((a : A) → IsMember a → Reaches linked root a) → Connected IsMember linked
 Connected-from_root IsMember linked simple root all a b at_a at_b =
     Reaches-trans linked a root b (Reaches-sym linked simple root a (all a at_a)) (all b at_b)
 
--- the part of a walk from u on, from the last place of u
 pub record PartFrom {A : Type 0} (linked : A → A → Bool) (u b : A) (rest part : List A) : Type 0 where
   pub walk : Walk linked u part b
   pub once : ¬ Among u part
@@ -152,7 +137,6 @@ pub record PartFrom {A : Type 0} (linked : A → A → Bool) (u b : A) (rest par
   pub shorter : length part ≤ length rest
 
 module _ {A : Type 0} (can : CanTell A) (linked : A → A → Bool) where
-  -- a walk that passes u has a part from u on
   pub part_from : (u a : A) (rest : List A) (b : A) → Walk linked a rest b → Among u (a ∷ rest) →
       (part : List A) × PartFrom linked u b rest part
   part_from u a [] b w h = grind arith
@@ -165,7 +149,6 @@ module _ {A : Type 0} (can : CanTell A) (linked : A → A → Bool) where
         )
       ]
 
-  -- a walk that passes u after its first member has a part from u on there
   pub part_behind : (u a : A) (rest : List A) (b : A) → Walk linked a rest b → Among u rest →
       (part : List A) × Walk linked u part b × ((x : A) → Among x (u ∷ part) → Among x rest)
   part_behind u a rest b h1 h2 = grind (arith, part_from, Among-at)
@@ -190,7 +173,6 @@ module _ {A : Type 0} (can : CanTell A) (linked : A → A → Bool) where
 -- Walks around a member.
 
 module _ {A : Type 0} (linked : A → A → Bool) where
-  -- one more link in front
   pub Around-step : (x a b c : A) → x ≢ a → IsTrue (linked a b) → Around linked x b c → Around linked x a c
   Around-step x a b c other link around =
       let (rest, w, avoids) = around in
@@ -211,7 +193,6 @@ module _ {A : Type 0} (linked : A → A → Bool) where
       let (back, v, same) = walk_back linked simple a rest b w in
       (back, v, λ h. avoids (same x h))
 
-  -- a property that links around b keep, walks around b keep too
   pub Around-keeps : (b : A) (P : A → Type 0) → ((x y : A) → P x → IsTrue (linked x y) → b ≢ x → b ≢ y → P y) →
       (a c : A) → Around linked b a c → P a → P c
   Around-keeps b P next a c around = along a around.0 around.1 around.2
@@ -221,7 +202,6 @@ module _ {A : Type 0} (linked : A → A → Bool) where
       along a (d ∷ rest) w avoids at_a =
           along d rest w.1 (λ h. avoids (inr h)) (next a d at_a w.0 (λ e. avoids (inl e)) (λ e. avoids (inr (inl e))))
 
-  -- if c lies beyond x, no walk around x leads from c to f
   pub no_around-from_Beyond : (x f c : A) → Beyond linked x f c → ¬ Around linked x c f
   no_around-from_Beyond x f c beyond around = around.2 (beyond around.0 around.1)
 
@@ -230,7 +210,6 @@ module _ {A : Type 0} (can : CanTell A) (linked : A → A → Bool) where
   Beyond-from_no_around x f c none rest w =
       elim (Among-cases can x (c ∷ rest)) [ inl h ↦ h | inr avoids ↦ absurd (none (rest, w, avoids)) ]
 
-  -- a walk around x without repeats
   pub Around-without_repeats : (x a b : A) → Around linked x a b →
       (rest : List A) × Walk linked a rest b × ¬ Among x (a ∷ rest) × Different (a ∷ rest)
   Around-without_repeats x a b around =

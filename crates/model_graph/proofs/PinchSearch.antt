@@ -9,21 +9,17 @@ use Rattle.model_graph.proofs.{Members.ℕ-can_tell, Members.Around-sym, Members
 pub Simple-from_graph : (rows : List (List ℕ)) → IsGraph rows → Simple (linked rows)
 Simple-from_graph rows graph = record { both_ways = graph.both_ways; no_self = graph.no_self }
 
--- each item of a member's row is a link
 pub row_link : (rows : List (List ℕ)) (at k : ℕ) (row : List ℕ) → row ≡ links_at rows at → k < length row → IsTrue (linked rows at (get_or row k 0))
 row_link rows at k row is lt = grind (arith, holds_at, get_or)
 
--- each link has an index in the row
 pub row_place : (rows : List (List ℕ)) (at c : ℕ) (row : List ℕ) → row ≡ links_at rows at → IsTrue (linked rows at c) → (k : ℕ) × (k < length row) × (get_or row k 0 ≡ c)
 row_place rows at c row is link = grind (arith, get_or, place_of)
 
--- a property at each index of a row holds for each link
 pub for_each_link : (rows : List (List ℕ)) (at : ℕ) (row : List ℕ) (P : ℕ → Type 0) → row ≡ links_at rows at → ((k : ℕ) → k < length row → P (get_or row k 0)) → (b : ℕ) → IsTrue (linked rows at b) → P b
 for_each_link rows at row P is each b link =
     let p = row_place rows at b row is link in
     subst P p.2 (each p.0 p.1)
 
--- items of a row ascend
 pub row_rises : (rows : List (List ℕ)) (at : ℕ) (row : List ℕ) → IsGraph rows → row ≡ links_at rows at → (i j : ℕ) → i < j → j < length row → get_or row i 0 < get_or row j 0
 row_rises rows at row graph is = grind (arith, get_or)
 
@@ -33,7 +29,6 @@ around_from_level links x root b levels are some = grind (arith, level_cases (le
 pub level_from_around : (links : ℕ → ℕ → Bool) (x root b : ℕ) (levels : List (Option ℕ)) → AreLevels links x root levels → Around links x root b → level_of levels b ≢ None
 level_from_around links x root b levels are around none = grind (arith, MatchOption-at_none)
 
--- the first suitable link makes the first pinch
 pub FirstOther-here : (rows : List (List ℕ)) (at one k : ℕ) (row : List ℕ) (levels : List (Option ℕ)) → IsGraph rows → row ≡ links_at rows at → k < length row → IsTrue (linked rows at one) → AreLevels (linked rows) at one levels →
     ((i : ℕ) → i < k → ¬ IsPinch (linked rows) at one (get_or row i 0)) →
     one < get_or row k 0 → level_of levels (get_or row k 0) ≢ None → ¬ IsTrue (linked rows one (get_or row k 0)) → FirstOther (linked rows) at one (get_or row k 0)
@@ -44,17 +39,14 @@ FirstOther-here rows at one k row levels graph is lt link are earlier order some
       grind (arith, cases_lt, cases_eq, get_or, row_rises);
 }
 
--- an unsuitable link makes no pinch
 pub not_pinch_here : (rows : List (List ℕ)) (at one c : ℕ) (levels : List (Option ℕ)) → AreLevels (linked rows) at one levels → ¬ ((one < c) × (level_of levels c ≢ None) × ¬ IsTrue (linked rows one c)) → ¬ IsPinch (linked rows) at one c
 not_pinch_here rows at one c levels are not_other pinch = grind (arith, level_from_around)
 
--- with no link left, there is no pinch
 pub no_pinch_in_row : (rows : List (List ℕ)) (at one : ℕ) (row : List ℕ) → row ≡ links_at rows at → ((i : ℕ) → i < length row → ¬ IsPinch (linked rows) at one (get_or row i 0)) → (c : ℕ) → ¬ IsPinch (linked rows) at one c
 no_pinch_in_row rows at one row is none c pinch =
     let p = row_place rows at c row is pinch.other in
     none p.0 p.1 (subst (IsPinch (linked rows) at one) (sym p.2) pinch)
 
--- the first link with a pinch makes the member's first pinch
 pub FirstHere-here : (rows : List (List ℕ)) (at k c : ℕ) (row : List ℕ) → IsGraph rows → row ≡ links_at rows at → k < length row →
     ((i f : ℕ) → i < k → ¬ IsPinch (linked rows) at (get_or row i 0) f) → FirstOther (linked rows) at (get_or row k 0) c → FirstHere (linked rows) at (get_or row k 0) c
 FirstHere-here rows at k c row graph is lt earlier found = record {
@@ -69,14 +61,12 @@ no_pinch_at rows at row is none a c pinch =
     let p = row_place rows at a row is pinch.one in
     none p.0 c p.1 (subst (λ one. IsPinch (linked rows) at one c) (sym p.2) pinch)
 
--- a graph is parted exactly if it has no pinch
 pub Parted-from_no_pinch : (links : ℕ → ℕ → Bool) → Simple links → ((b a c : ℕ) → ¬ IsPinch links b a c) → Parted links
 Parted-from_no_pinch links simple none b a c link_a link_c differ apart =
     Beyond-from_no_around ℕ-can_tell links b c a (grind (arith, cases_lt, Around-sym))
 
 -- The levels from member 0 decide which walks the whole graph has.
 
--- a walk from a member passes members only
 pub not_past_members : (rows : List (List ℕ)) → IsGraph rows → (rest : List ℕ) (a b : ℕ) → a < length rows → Walk (linked rows) a rest b → ¬ Among (length rows) (a ∷ rest)
 not_past_members rows graph rest a b lt walk (inl is) = absurd (omega arith)
 not_past_members rows graph [] a b lt walk (inr later) = absurd later

@@ -6,7 +6,6 @@ use Rattle.model_graph.specs.Loops.{FirstWalkBy, HasUnlinked, IsWrittenBy, Named
 use Rattle.model_graph.specs.{Cycle.Cycle, Cycle.Polygons, Cycle.IsCycle, Renaming.IsRenaming, Renaming.KeepsOrder, Pinches.FirstPinchBy, Pinches.IsPinchBy, Pinches.NotAfter}
 use Rattle.model_graph.proofs.{Members.link_to, Members.link_from, Members.walk_links, Turns.reverse-cons as reverse_cons}
 
--- the two graphs change places
 pub IsRenaming-swap : {A B : Type 0} (linked : A → A → Bool) (joined : B → B → Bool) (name : A → B) (back : B → A) →
     IsRenaming linked joined name back → IsRenaming joined linked back name
 IsRenaming-swap linked joined name back r = grind arith
@@ -15,7 +14,6 @@ pub Among-map : {A B : Type 0} (name : A → B) (x : A) (xs : List A) → Among 
 Among-map name x [] h = h
 Among-map name x (y ∷ ys) h = elim h [ inl e ↦ inl (ap name e) | inr t ↦ inr (Among-map name x ys t) ]
 
--- if `back` undoes the names, no two members get one name
 pub Among-from_map : {A B : Type 0} (name : A → B) (back : B → A) (x : A) → back (name x) ≡ x → (xs : List A) →
     ((y : A) → Among y xs → back (name y) ≡ y) → Among (name x) (map name xs) → Among x xs
 Among-from_map name back x own [] owns h = h
@@ -42,7 +40,6 @@ module _ {A B : Type 0} (linked : A → A → Bool) (joined : B → B → Bool) 
   pub Reaches-renamed : (a b : A) → Reaches linked a b → Reaches joined (name a) (name b)
   Reaches-renamed a b reaches = (map name reaches.0, Walk-renamed a reaches.0 b reaches.1)
 
-  -- each member of a cycle has a link
   pub cycle_owns : Simple linked → (first : A) (rest : List A) → Cycle linked first rest → (x : A) → Among x (first ∷ rest) →
       back (name x) ≡ x
   cycle_owns simple first rest cycle x h = grind (arith, link_from, walk_links)
@@ -56,11 +53,9 @@ module _ {A B : Type 0} (linked : A → A → Bool) (joined : B → B → Bool) 
         closed = (name last, Walk-renamed first rest last w, renaming.links last first closes);
       }
 
-  -- polygons of the named graph are polygons of the other
   pub Polygons-from_renamed : Simple linked → Polygons joined → Polygons linked
   Polygons-from_renamed simple polygons first rest cycle x y at_x at_y other = grind (arith, cycle_owns, Cycle-renamed, Among-map, link_from, link_to)
 
--- the members' names do not matter
 pub Polygons-renamed : {A B : Type 0} (linked : A → A → Bool) (joined : B → B → Bool) (name : A → B) (back : B → A) →
     IsRenaming linked joined name back → Simple joined → Polygons linked → Polygons joined
 Polygons-renamed linked joined name back renaming simple = grind (arith, Polygons-from_renamed, IsRenaming-swap)
@@ -75,7 +70,6 @@ map-reverse name (x ∷ xs) =
 map-turned : {A B : Type 0} (name : A → B) (k : ℕ) (xs : List A) → map name (turned k xs) ≡ turned k (map name xs)
 map-turned name k xs = map-append name (drop k xs) (take k xs) ∙ (ap (λ ys. ys ++ map name (take k xs)) (sym (drop-map name k xs)) ∙ ap (λ ys. drop k (map name xs) ++ ys) (sym (take-map name k xs)))
 
--- an item of a mapped list is the name of the item at the same index
 IsAt-map : {A B : Type 0} (name : A → B) (xs : List A) (i : ℕ) (y : B) → IsAt (map name xs) i y → (x : A) × IsAt xs i x × (name x ≡ y)
 IsAt-map name [] i y at = absurd (omega (arith, at.0))
 IsAt-map name (x ∷ xs) zero y at = (x, (omega arith, refl), at.1)
@@ -94,11 +88,9 @@ module _ {A B : Type 0} (linked : A → A → Bool) (joined : B → B → Bool) 
   own : (x y : A) → IsTrue (linked x y) → back (name x) ≡ x
   own x y link = renaming.back_name x y link
 
-  -- links of names are links
   link_back : (x y u v : A) → IsTrue (linked x u) → IsTrue (linked y v) → IsTrue (joined (name x) (name y)) → IsTrue (linked x y)
   link_back x y u v link_x link_y h = grind (arith, link_from, own, link_to)
 
-  -- each member of a walk has a link
   pub walk_owns : (a : A) (rest : List A) (c : A) → Walk linked a rest c → (u : A) → IsTrue (linked a u) → (x : A) → Among x (a ∷ rest) → (y : A) × IsTrue (linked x y)
   walk_owns a rest c walk u link x among = grind (arith, link_from, walk_links)
 
@@ -115,7 +107,6 @@ module _ {A B : Type 0} (linked : A → A → Bool) (joined : B → B → Bool) 
   pub NotAfter-renamed : (x y u v : A) → IsTrue (linked x u) → IsTrue (linked y v) → NotAfter Before x y → NotAfter Earlier (name x) (name y)
   NotAfter-renamed x y u v link_x link_y h = elim h [ inl before ↦ inl (keeps x y u v link_x link_y before) | inr is ↦ inr (ap name is) ]
 
-  -- two walks are ordered by their members
   pub NoLater-renamed : (a : A) (rest : List A) (c : A) (b : A) (other : List A) (d : A) → Walk linked a rest c → Walk linked b other d →
       NoLaterBy Before rest other → NoLaterBy Earlier (map name rest) (map name other)
   NoLater-renamed a [] c b other d walk walk_other h = tt
@@ -130,14 +121,12 @@ module _ {A B : Type 0} (linked : A → A → Bool) (joined : B → B → Bool) 
   IsCycle-renamed [] cycle = cycle
   IsCycle-renamed (first ∷ rest) cycle = Cycle-renamed linked joined name back renaming simple first rest cycle
 
-  -- each member of a cycle has a link
   cycle_links : (ring : List A) → IsCycle linked ring → (x : A) → Among x ring → (y : A) × IsTrue (linked x y)
   cycle_links ring h1 x h2 = grind (arith, walk_owns)
 
   pub HasUnlinked-renamed : (loop : List A) → IsCycle linked loop → HasUnlinked linked loop → HasUnlinked joined (map name loop)
   HasUnlinked-renamed loop cycle (x, y, at_x, at_y, differ, apart) = grind (arith, cycle_links, Among-map, own, link_back)
 
-  -- the written loop has the members of the ring, each with a link
   pub IsWritten-renamed : (ring loop : List A) → IsCycle linked loop → ((x : B) → Among x (map name ring) → (y : A) × (name y ≡ x) × Among y ring × ((z : A) × IsTrue (linked y z))) →
       IsWrittenBy Before ring loop → IsWrittenBy Earlier (map name ring) (map name loop)
   IsWritten-renamed ring loop cycle named written = record {
@@ -174,7 +163,6 @@ Among-of_names name (y ∷ ys) x among =
       | inr later ↦ (let (z, named, there) = Among-of_names name ys x later in (z, named, inr there))
     ]
 
--- both ways
 module _ {A B : Type 0} (linked : A → A → Bool) (joined : B → B → Bool) (name : A → B) (back : B → A)
     (renaming : IsRenaming linked joined name back) (simple : Simple linked) (simple_names : Simple joined)
     (Before : A → A → Type 0) (Earlier : B → B → Type 0)
@@ -182,7 +170,6 @@ module _ {A B : Type 0} (linked : A → A → Bool) (joined : B → B → Bool) 
   swapped : IsRenaming joined linked back name
   swapped = IsRenaming-swap linked joined name back renaming
 
-  -- two pinches are ordered by their names
   pub earlier_named : (b a c : A) (e d f : B) → IsPinchBy Before linked b a c → IsPinchBy Earlier joined e d f →
       Before b (back e) ⊎ ((b ≡ back e) × (Before a (back d) ⊎ ((a ≡ back d) × NotAfter Before c (back f)))) →
       Earlier (name b) e ⊎ ((name b ≡ e) × (Earlier (name a) d ⊎ ((name a ≡ d) × NotAfter Earlier (name c) f)))
@@ -196,7 +183,6 @@ module _ {A B : Type 0} (linked : A → A → Bool) (joined : B → B → Bool) 
         (found.first (back e) (back d) (back f) (IsPinch-renamed joined linked back name swapped simple_names Earlier Before keeps_back e d f pinch));
   }
 
-  -- a walk of names is a walk of members with the same length
   module _ (b a c : A) (link_a : IsTrue (linked b a)) (link_c : IsTrue (linked b c)) where
     own_b : back (name b) ≡ b
     own_b = renaming.back_name b a link_a
@@ -237,7 +223,6 @@ module _ {A B : Type 0} (linked : A → A → Bool) (joined : B → B → Bool) 
               named;
         }
 
-  -- the named loop of the members becomes, by their names, the named loop of these
   pub NamedLoop-renamed : (loop : List A) → NamedLoopBy Before linked loop → NamedLoopBy Earlier joined (map name loop)
   NamedLoop-renamed loop named =
       let (ring, (b, a, c, rest, first, walk, is), written) = named.named in

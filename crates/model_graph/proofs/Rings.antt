@@ -7,7 +7,6 @@ use Rattle.model_graph.specs.{Walk.Among, Walk.Different, Walk.IsAt, Walk.Simple
 use Rattle.model_graph.proofs.Members.{Among-index, Among-get_or, Among-append_left, Among-append_right, Among-append_cases, Different-push, walk_ends}
 use Rattle.model_graph.proofs.Turns.{IsCycle-rotated, IsCycle-turned, Cycle-reversed, reverse-cons as reverse_cons}
 
--- the pinch and the walk around it make a cycle
 pub Cycle-from_pinch : (links : ℕ → ℕ → Bool) → Simple links → (b a c : ℕ) (rest : List ℕ) → IsPinch links b a c → FirstWalk links b a c rest → Cycle links b (a ∷ rest)
 Cycle-from_pinch links simple b a c [] pinch first = let order = pinch.in_order in let same : a ≡ c = first.walk in absurd (omega arith)
 Cycle-from_pinch links simple b a c (d ∷ rest) pinch first = grind arith
@@ -18,7 +17,6 @@ turned_next ring k lt = grind (arith, drop_more, take_more, append_assoc, get_or
 turned_past : (ring : List ℕ) (k : ℕ) → length ring ≤ k → turned k ring ≡ ring
 turned_past ring k past = ap (λ (xs : List ℕ). xs ++ take k ring) (drop_all k ring past) ∙ take_all k ring past
 
--- a cycle begun at another place
 pub IsCycle-begun_at : (links : ℕ → ℕ → Bool) (ring : List ℕ) → IsCycle links ring → (k : ℕ) → IsCycle links (turned k ring)
 IsCycle-begun_at links ring cycle k =
     IsCycle-rotated links (take k ring) (drop k ring) (subst (IsCycle links) (sym (take-append-drop k ring)) cycle)
@@ -32,7 +30,6 @@ Among-reverse x (y ∷ ys) among =
       | inr later ↦ Among-append_left x (reverse ys) (y ∷ []) (Among-reverse x ys later)
     ])
 
--- a cycle gone round the other way
 pub IsCycle-reversed : (links : ℕ → ℕ → Bool) → Simple links → (ring : List ℕ) → IsCycle links ring → IsCycle links (reverse ring)
 IsCycle-reversed links simple [] cycle = cycle
 IsCycle-reversed links simple (first ∷ rest) cycle =
@@ -42,14 +39,12 @@ IsCycle-reversed links simple (first ∷ rest) cycle =
 Among-turned : (x k : ℕ) (ring : List ℕ) → Among x ring → Among x (turned k ring)
 Among-turned x k ring among = grind (arith, Among-append_cases x (take k ring) (drop k ring) (subst (Among x) (sym (take-append-drop k ring)) among), Among-append_right, Among-append_left)
 
--- the written form of a cycle is a cycle
 pub IsCycle-written : (links : ℕ → ℕ → Bool) → Simple links → (ring loop : List ℕ) → IsWritten ring loop → IsCycle links ring → IsCycle links loop
 IsCycle-written links simple ring loop written cycle = grind (arith, IsCycle-begun_at, IsCycle-reversed)
 
 pub Among-written : (x : ℕ) (ring loop : List ℕ) → IsWritten ring loop → Among x ring → Among x loop
 Among-written x ring loop written among = grind (arith, Among-turned, Among-reverse)
 
--- the written loop of a pinch is a cycle with two members that are not linked
 pub loop_cycle : (links : ℕ → ℕ → Bool) → Simple links → (b a c : ℕ) (rest ring loop : List ℕ) → IsPinch links b a c → FirstWalk links b a c rest → ring ≡ b ∷ a ∷ rest → IsWritten ring loop →
     IsCycle links loop × HasUnlinked links loop
 loop_cycle links simple b a c rest ring loop pinch walk is written =
@@ -65,13 +60,11 @@ loop_cycle links simple b a c rest ring loop pinch walk is written =
       ),
     )
 
--- the loop of the first pinch is the named one
 pub NamedLoop-written : (links : ℕ → ℕ → Bool) → Simple links → (b a c : ℕ) (rest ring loop : List ℕ) → FirstPinch links b a c → FirstWalk links b a c rest → ring ≡ b ∷ a ∷ rest → IsWritten ring loop → NamedLoop links loop
 NamedLoop-written links simple b a c rest ring loop first walk is written =
     let (cycle, unlinked) = loop_cycle links simple b a c rest ring loop first.pinch walk is written in
     record { cycle = cycle; unlinked = unlinked; named = (ring, (b, a, c, rest, first, walk, is), written) }
 
--- of two different ends of a list, the greater is second, or is first after reversal
 reversed_smaller : (x : ℕ) (xs : List ℕ) → Different (x ∷ xs) → 0 < length xs → get_or (x ∷ xs) (length xs) 0 ≤ x → get_or (reverse (x ∷ xs)) 0 0 < get_or (reverse (x ∷ xs)) (length xs) 0
 reversed_smaller x [] different long le = absurd (omega arith)
 reversed_smaller x (y ∷ ys) different long le =
@@ -91,7 +84,6 @@ pub length-turned : (ring : List ℕ) (k : ℕ) → length (turned k ring) ≡ l
 length-turned ring k =
     length-append (drop k ring) (take k ring) ∙ (omega (arith, length-append (take k ring) (drop k ring), ap length (take-append-drop k ring)))
 
--- the item at an index
 at_place : (xs : List ℕ) (i x : ℕ) → IsAt xs i x → get_or xs i 0 ≡ x
 at_place xs i x at = sym (get_or_default xs i x 0 at.0) ∙ at.1
 
@@ -104,7 +96,6 @@ smallest_first ring loop k is least m x at among =
     let p = Among-index x 0 ring among in
     split_le m x (omega (arith, least p.0 p.1, p.2, at_place loop 0 m at))
 
--- the two neighbours of the first member, as numbers
 sides : (loop : List ℕ) → get_or loop 1 0 < get_or loop (length loop - 1) 0 → (second last : ℕ) → IsAt loop 1 second → IsAt loop (length loop - 1) last → second < last
 sides loop smaller second last at_second at_last = grind (arith, at_place)
 

@@ -6,13 +6,11 @@ use Rattle.std.specs.List.{list_any}
 use Rattle.model_graph.specs.Rows.{linked, IsAscending, links_at, IsGraph, EachAnswered}
 use Rattle.model_graph.specs.Blocks.{IsInBlock, AreBlocks, IsLastBefore, LastMembers}
 
--- a number at an index of the row is among its links
 pub holds_at : (row : List ℕ) (x k : ℕ) → k < length row → get_or row k 0 ≡ x → IsTrue (list_any (λ link. link == x) row)
 holds_at [] x k lt e = absurd (omega arith)
 holds_at (y ∷ row) x zero lt e = or_left (y == x) (list_any (λ link. link == x) row) (eq-eqb y x e)
 holds_at (y ∷ row) x (suc k) lt e = or_right (y == x) (list_any (λ link. link == x) row) (holds_at row x k (omega arith) e)
 
--- and each link has an index
 pub place_of : (row : List ℕ) (x : ℕ) → IsTrue (list_any (λ link. link == x) row) → (k : ℕ) × (k < length row) × (get_or row k 0 ≡ x)
 place_of [] x h = absurd (false≢true h)
 place_of (y ∷ row) x h =
@@ -21,11 +19,9 @@ place_of (y ∷ row) x h =
       | inr later ↦ let found = place_of row x later in (suc found.0, omega (arith, found.1), found.2)
     ]
 
--- only members have links
 pub linked_within : (rows : List (List ℕ)) (a b : ℕ) → IsTrue (linked rows a b) → a < length rows
 linked_within rows a b h = grind (arith, cases_lt, false≢true, get_or_past)
 
--- a later item of an ascending list is not smaller
 pub rising : (row : List ℕ) → IsAscending row → (i j : ℕ) → i ≤ j → j < length row → get_or row i 0 ≤ get_or row j 0
 rising row up i j le lt = grind (arith, cases_eq, get_or)
 
@@ -43,11 +39,9 @@ pub AreBlocks-from_each : (rows : List (List ℕ)) (block top rank : ℕ → ℕ
     ((x : ℕ) → x < length rows → IsInBlock (linked rows) (length rows) block top rank x) → AreBlocks (linked rows) (length rows) block top rank
 AreBlocks-from_each rows block top rank each = grind (arith, linked_within)
 
--- a further member of another block
 IsLastBefore-passed : (block : ℕ → ℕ) (k x : ℕ) (last : Option ℕ) → block x ≢ k → IsLastBefore block k x last → IsLastBefore block k (x + 1) last
 IsLastBefore-passed block k x last h1 h2 = grind (arith, cases_eq)
 
--- the last members of each block, for the members before and for one more
 previous_more : (block : ℕ → ℕ) (members x : ℕ) (previous last : List (Option ℕ)) (found : Option ℕ) → LastMembers block members x previous last →
     (block x < members → IsLastBefore block (block x) x found) →
     (y : ℕ) → y < x + 1 → block y < members → IsLastBefore block (block y) y (get_or (previous ++ found ∷ []) y None)
@@ -66,7 +60,6 @@ LastMembers-left_out block members x previous last h past = record {
   last = λ k lt. IsLastBefore-passed block k x (get_or last k None) (λ (e : block x ≡ k). absurd (omega arith)) (h.last k lt);
 }
 
--- marks removed, and one more member
 pub marked_more : (P : ℕ → Type 0) (block : ℕ → ℕ) (old new : List Bool) (x : ℕ) →
     ((y : ℕ) → y < x → IsTrue (get_or old (block y) false) → P y) → ((k : ℕ) → IsTrue (get_or new k false) → IsTrue (get_or old k false)) →
     (IsTrue (get_or new (block x) false) → P x) → (y : ℕ) → y < x + 1 → IsTrue (get_or new (block y) false) → P y

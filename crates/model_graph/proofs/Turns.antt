@@ -4,7 +4,6 @@ use Rattle.std.proofs.lemmas.List.{reverse-append}
 use Rattle.model_graph.specs.{Walk.Simple, Walk.Among, Walk.Different, Walk.Walk, Cycle.Cycle, Cycle.IsCycle}
 use Rattle.model_graph.proofs.{Members.Among-append_cases, Members.Different-push, Members.link_to, Members.walk_append, Cycles.cycle_turned}
 
--- reversal puts the first member last
 pub reverse-cons : {A : Type 0} (x : A) (xs : List A) → reverse (x ∷ xs) ≡ reverse xs ++ x ∷ []
 reverse-cons x xs = reverse-append (x ∷ []) xs
 
@@ -29,12 +28,10 @@ Different-reverse {A} (x ∷ xs) h =
     subst P (sym (reverse-cons x xs)) pushed
 
 module _ {A : Type 0} (linked : A → A → Bool) where
-  -- a cycle from its second member on
   pub IsCycle-turned : (first : A) (rest : List A) → IsCycle linked (first ∷ rest) → IsCycle linked (rest ++ first ∷ [])
   IsCycle-turned first [] cycle = absurd (omega (arith, cycle.long))
   IsCycle-turned first (second ∷ rest) cycle = cycle_turned linked first second rest cycle
 
-  -- a cycle from any of its members on
   pub IsCycle-rotated : (front back : List A) → IsCycle linked (front ++ back) → IsCycle linked (back ++ front)
   IsCycle-rotated [] back cycle = let P : List A → Type 0 = λ xs. IsCycle linked xs in subst P (sym (append-nil back)) cycle
   IsCycle-rotated (first ∷ front) back cycle =
@@ -43,7 +40,6 @@ module _ {A : Type 0} (linked : A → A → Bool) where
       subst P (append_assoc back (first ∷ []) front) (IsCycle-rotated front (back ++ first ∷ []) turned)
 
   module _ (simple : Simple linked) where
-    -- a walk from s to l, reversed, after a member that is linked with l
     walk_reversed : (first s : A) (rest : List A) (l : A) → IsTrue (linked first l) → Walk linked s rest l → Walk linked first (reverse (s ∷ rest)) s
     walk_reversed first s [] l link w = (link_to linked first l s (sym w) link, refl)
     walk_reversed first s (t ∷ rest) l link w =
@@ -52,7 +48,6 @@ module _ {A : Type 0} (linked : A → A → Bool) where
         let on = walk_append linked first (reverse (t ∷ rest)) t (s ∷ []) s to_t (simple.both_ways s t w.0, refl) in
         subst P (sym (reverse-cons s (t ∷ rest))) on
 
-    -- a cycle the other way round, from the same member
     pub Cycle-reversed : (first : A) (rest : List A) → Cycle linked first rest → Cycle linked first (reverse rest)
     Cycle-reversed first [] cycle = cycle
     Cycle-reversed first (second ∷ rest) cycle =

@@ -2,7 +2,6 @@
 use Rattle.std.specs.Prelude.{◌≡◌, ◌≢◌, ◌<◌, ◌⊎◌, ℕ, Bool, false, IsTrue, Option, Some, None, List, length, slice_index, slice_index_or}
 use Rattle.model_graph.specs.declared.blocks.Blocks.{Blocks}
 
--- The number of a member's block.
 abbrev pub block_of : Blocks → ℕ → ℕ
 block_of blocks member = slice_index blocks.numbers.items member
 
@@ -14,7 +13,6 @@ top_of blocks member = slice_index blocks.tops.items member
 abbrev pub rank_of : Blocks → ℕ → ℕ
 rank_of blocks member = slice_index_or blocks.ranks.items member member
 
--- Is the block of this number known to be full?
 abbrev pub full_of : Blocks → ℕ → Bool
 full_of blocks block = slice_index_or blocks.full.items block false
 

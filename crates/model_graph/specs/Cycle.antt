@@ -8,7 +8,6 @@ pub record Cycle {A : Type 0} (linked : A → A → Bool) (first : A) (rest : Li
   pub different : Different (first ∷ rest)
   pub closed : (last : A) × Walk linked first rest last × IsTrue (linked last first)
 
--- These members, in this order, are a cycle.
 abbrev pub IsCycle : {A : Type 0} → (A → A → Bool) → List A → Type 0
 IsCycle linked [] = ⊥
 IsCycle linked (first ∷ rest) = Cycle linked first rest

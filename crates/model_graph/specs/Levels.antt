@@ -2,7 +2,6 @@
 use Rattle.std.specs.Prelude.{◌≡◌, ◌≤◌, ℕ, Bool, List, ◌∷◌, Option, None, MatchOption, length, slice_index_or}
 use Rattle.model_graph.specs.{Walk.Among, Walk.Walk, Beyond.Around}
 
--- The level of a member, if it has one.
 abbrev pub level_of : List (Option ℕ) → ℕ → Option ℕ
 level_of levels member = slice_index_or levels member None
 

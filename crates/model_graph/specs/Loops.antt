@@ -26,7 +26,6 @@ pub record IsWrittenBy {A : Type 0} (Before : A → A → Type 0) (ring loop : L
   pub smallest : (first x : A) → IsAt loop 0 first → Among x ring → NotAfter Before first x
   pub smaller_side : (second last : A) → IsAt loop 1 second → IsAt loop (length loop - 1) last → Before second last
 
--- Two of these members are not linked.
 abbrev pub HasUnlinked : {A : Type 0} → (A → A → Bool) → List A → Type 0
 HasUnlinked {A} linked loop = (x : A) × (y : A) × Among x loop × Among y loop × (x ≢ y) × ¬ IsTrue (linked x y)
 
@@ -42,7 +41,6 @@ pub record NamedLoopBy {A : Type 0} (Before : A → A → Type 0) (linked : A �
   pub unlinked : HasUnlinked linked loop
   pub named : (ring : List A) × IsFirstRing Before linked ring × IsWrittenBy Before ring loop
 
--- The definitions above for numbers.
 abbrev pub NoLater : List ℕ → List ℕ → Type 0
 NoLater xs ys = NoLaterBy (λ x y. x < y) xs ys
 

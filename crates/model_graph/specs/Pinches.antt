@@ -20,7 +20,6 @@ pub record FirstPinchBy {A : Type 0} (Before : A → A → Type 0) (linked : A �
   pub first : (e d f : A) → IsPinchBy Before linked e d f →
       Before b e ⊎ ((b ≡ e) × (Before a d ⊎ ((a ≡ d) × NotAfter Before c f)))
 
--- The definitions above for numbers.
 abbrev pub IsPinch : (ℕ → ℕ → Bool) → ℕ → ℕ → ℕ → Type 0
 IsPinch linked b a c = IsPinchBy (λ x y. x < y) linked b a c
 

@@ -6,7 +6,6 @@ use Rattle.std.specs.List.{list_any}
 abbrev pub links_at : List (List ℕ) → ℕ → List ℕ
 links_at rows member = slice_index_or rows member []
 
--- Is b among the links of a?
 abbrev pub linked : List (List ℕ) → ℕ → ℕ → Bool
 linked rows a b = list_any (λ link. link == b) (links_at rows a)
 
@@ -25,6 +24,5 @@ pub record IsGraph (rows : List (List ℕ)) : Type 0 where
 abbrev pub Answered : List (List ℕ) → ℕ → ℕ → Type 0
 Answered rows a b = (b < length rows) × (b ≢ a) × IsTrue (linked rows b a)
 
--- Each link of a is answered.
 abbrev pub EachAnswered : List (List ℕ) → ℕ → Type 0
 EachAnswered rows a = (b : ℕ) → IsTrue (linked rows a b) → Answered rows a b

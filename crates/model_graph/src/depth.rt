@@ -5,7 +5,6 @@ use crate::blocks::{Blocks, value_or};
 use crate::graph::Graph;
 use std::alloc::{AllocError, Global};
 
-/// The state of the search.
 #[derive(Drop)]
 struct Search {
     /// The blocks found. Ranks count visits from 1, and are 0 for members not visited.
@@ -14,11 +13,9 @@ struct Search {
     parents: Vec<usize>,
     /// The lowest rank that a link leads to, from each member or from those reached through it.
     lowest: Vec<usize>,
-    /// How many links of each member were followed.
     followed: Vec<usize>,
     /// The members that have no block yet, in the order of visits.
     open: Vec<usize>,
-    /// How many members were visited.
     visited: usize,
 }
 
@@ -59,8 +56,7 @@ impl Search {
         Ok(())
     }
 
-    /// Follows the next link of the member, or goes back. Answers the member where the search now
-    /// is.
+    /// Follows the next link of the member, or goes back. Answers where the search now is.
     fn step(&mut self, graph: &Graph, member: usize) -> Result<Option<usize>, AllocError> {
         let Some(other) = self.follow(graph, member) else {
             return Ok(self.leave(member));
@@ -74,7 +70,6 @@ impl Search {
         Ok(Some(member))
     }
 
-    /// Gives the member the next rank.
     fn visit(&mut self, member: usize, parent: usize) -> Result<(), AllocError> {
         self.visited = self.visited.saturating_add(1);
         put(&mut self.found.ranks, member, self.visited);
@@ -86,7 +81,6 @@ impl Search {
         Ok(())
     }
 
-    /// The next link of the member that was not followed.
     fn follow(&mut self, graph: &Graph, member: usize) -> Option<usize> {
         if member >= graph.len() {
             return None;
@@ -96,8 +90,7 @@ impl Search {
         graph.links(member).get(place).copied()
     }
 
-    /// Goes back to the previous member, and closes the block below that, where no link leads
-    /// further up.
+    /// Goes back, and closes the block below, where no link leads further up.
     fn leave(&mut self, member: usize) -> Option<usize> {
         let parent = value_or(&self.parents, member, member);
         if parent == member {
@@ -111,7 +104,6 @@ impl Search {
         Some(parent)
     }
 
-    /// Makes a block of the members without one from `first` on.
     fn close(&mut self, first: usize, top: usize) {
         for _ in 0..self.open.len() {
             let Some(member) = self.open.pop() else {
@@ -125,7 +117,6 @@ impl Search {
         }
     }
 
-    /// Notes that a link of the member leads to this rank.
     fn lower(&mut self, member: usize, rank: usize) {
         if rank < value_or(&self.lowest, member, 0) {
             put(&mut self.lowest, member, rank);
@@ -133,7 +124,6 @@ impl Search {
     }
 }
 
-/// Writes the value at this index, if there is such an index.
 fn put(values: &mut [usize], index: usize, value: usize) {
     if index < values.len() {
         values[index] = value;

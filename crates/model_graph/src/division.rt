@@ -1,5 +1,3 @@
-//! A division of a graph into blocks, tested.
-
 ghost use Rattle.std.specs.Prelude.{◌≡◌, ◌<◌, ◌↔◌, ℕ, false, IfOk, IsTrue, length};
 ghost use Rattle.model_graph.specs.Blocks.{block_of, top_of, rank_of, full_of, InOneBlock, RanksBefore, IsInBlock, AreBlocks, AreFull};
 ghost use Rattle.model_graph.specs.Rows.{linked, IsGraph};
@@ -10,8 +8,7 @@ use crate::fullness::full_blocks;
 use crate::graph::Graph;
 use std::alloc::{AllocError, Global};
 
-/// The blocks of the graph. Where those that the search in depth found fail the test, all members are
-/// put into one block.
+/// The blocks that the search in depth found or, if they fail the test, one block of all members.
 pub fn blocks_of(alloc: Global, graph: &Graph) -> Result<Blocks, AllocError>
     ensures blocks { IfOk result (λ blocks. AreBlocks (linked graph.now) (length graph.now) (block_of blocks) (top_of blocks) (rank_of blocks)) }
     ensures full { IfOk result (λ blocks. AreFull (linked graph.now) (length graph.now) (block_of blocks) (top_of blocks) (full_of blocks)) }
@@ -24,7 +21,6 @@ pub fn blocks_of(alloc: Global, graph: &Graph) -> Result<Blocks, AllocError>
     Ok(Blocks { full, ..found })
 }
 
-/// All members in one block, with the first at its top.
 fn one_block(alloc: Global) -> Blocks
     ensures block { (x : ℕ) → block_of result x ≡ 0 }
     ensures top { (x : ℕ) → top_of result x ≡ 0 }
@@ -39,7 +35,6 @@ fn one_block(alloc: Global) -> Blocks
     }
 }
 
-/// Does each link stay within a block, and does each top rank before its members?
 fn are_blocks(graph: &Graph, blocks: &Blocks) -> bool
     ensures sound { IsGraph graph.now }
     ensures blocks { IsTrue result ↔ AreBlocks (linked graph.now) (length graph.now) (block_of blocks.now) (top_of blocks.now) (rank_of blocks.now) }
@@ -52,7 +47,6 @@ fn are_blocks(graph: &Graph, blocks: &Blocks) -> bool
     true
 }
 
-/// Does each link of the member stay within a block, and does the top of its block rank before it?
 fn is_in_block(graph: &Graph, blocks: &Blocks, member: usize) -> bool
     requires { member < length graph.now }
     ensures { IsTrue result ↔ IsInBlock (linked graph.now) (length graph.now) (block_of blocks.now) (top_of blocks.now) (rank_of blocks.now) member }
@@ -60,7 +54,6 @@ fn is_in_block(graph: &Graph, blocks: &Blocks, member: usize) -> bool
     links_stay(graph, blocks, member) && top_ranks_before(graph, blocks, member)
 }
 
-/// Does each link of the member stay within a block?
 fn links_stay(graph: &Graph, blocks: &Blocks, member: usize) -> bool
     requires { member < length graph.now }
     ensures { IsTrue result ↔ ((y : ℕ) → IsTrue (linked graph.now member y) → InOneBlock (block_of blocks.now) (top_of blocks.now) member y) }
@@ -73,7 +66,6 @@ fn links_stay(graph: &Graph, blocks: &Blocks, member: usize) -> bool
     true
 }
 
-/// Is the top of the member's block a member that ranks before it, or the member itself?
 fn top_ranks_before(graph: &Graph, blocks: &Blocks, member: usize) -> bool
     ensures { IsTrue result ↔ RanksBefore (length graph.now) (top_of blocks.now) (rank_of blocks.now) member }
 {

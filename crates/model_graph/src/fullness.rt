@@ -28,7 +28,6 @@ pub fn full_blocks(alloc: Global, graph: &Graph, blocks: &Blocks) -> Result<Vec<
     Ok(full)
 }
 
-/// Is the member linked with the top of its block, and with each earlier member of it?
 fn is_fully_linked(
     graph: &Graph,
     blocks: &Blocks,

@@ -1,5 +1,3 @@
-//! The members of a graph and their links.
-
 ghost use Rattle.std.specs.Prelude.{◌≡◌, ◌<◌, ℕ, List, ◌==◌, length};
 ghost use Rattle.std.specs.List.{list_any};
 ghost use Rattle.model_graph.specs.Rows.{links_at, linked, IsGraph, IsAscending};
@@ -19,14 +17,12 @@ impl Model for Links {
 }
 
 impl Links {
-    /// The links to these members, in their order.
     pub fn new(members: Vec<usize>) -> Links
         ensures { result ≡ members.items }
     {
         Links { members }
     }
 
-    /// The indexes of the linked members.
     pub fn as_slice(&self) -> &[usize]
         ensures { result.now ≡ self.now }
     {
@@ -58,7 +54,6 @@ impl Graph {
         Graph { rows }
     }
 
-    /// How many members there are.
     pub fn len(&self) -> usize
         ensures value { result ≡ length self.now }
         ensures sound { IsGraph self.now }
@@ -66,7 +61,6 @@ impl Graph {
         self.rows.len()
     }
 
-    /// The links of a member, ascending.
     pub fn links(&self, member: usize) -> &[usize]
         requires { member < length self.now }
         ensures value { result.now ≡ links_at self.now member }
@@ -76,7 +70,6 @@ impl Graph {
         self.rows[member].as_slice()
     }
 
-    /// Is `one` linked with `other`?
     pub fn is_linked(&self, one: usize, other: usize) -> bool
         requires { one < length self.now }
         ensures { result ≡ linked self.now one other }

@@ -1,14 +1,11 @@
-//! A search by levels: the number of links between a member and the start.
-
 ghost use Rattle.std.specs.Prelude.{◌≡◌, ◌<◌, ◌≢◌, IfOk, None, OnOk, length, vec_len};
 ghost use Rattle.model_graph.specs.{Rows.links_at, Rows.linked, Rows.IsGraph, Levels.level_of, Levels.AreLevels, Visits.Visited, Floods.Flooded, Floods.Searched, Floods.IsSettledFlood};
 
 use crate::graph::Graph;
 use std::alloc::{AllocError, Global};
 
-/// The level of each member that a walk from `root` reaches without passing `without`: the fewest
-/// links of such a walk. `None` for each other member. An index past the last member for `without`
-/// leaves out none.
+/// The level of each member: the fewest links of a walk from `root` that does not pass `without`. `None` for members
+/// that no such walk reaches. A `without` past the last member leaves out none.
 pub fn levels_around(
     alloc: Global,
     graph: &Graph,
@@ -54,7 +51,6 @@ pub fn flood(
     Ok(())
 }
 
-/// Gives `level` to each link of `member` that has none yet, and appends it to the queue.
 fn visit(
     graph: &Graph,
     without: usize,

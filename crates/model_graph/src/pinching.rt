@@ -1,5 +1,3 @@
-//! Members with two links that are joined around them though not linked.
-
 ghost use Rattle.std.specs.Prelude.{◌≡◌, ◌≢◌, ◌<◌, ◌↔◌, ℕ, IsTrue, IfOk, MatchOption, None, length};
 ghost use Rattle.model_graph.specs.Blocks.{block_of, top_of, rank_of, full_of, AreBlocks, AreFull, HasUnlinkedAfter, IsCovered};
 ghost use Rattle.model_graph.specs.{Rows.linked, Rows.IsGraph, Levels.level_of, Levels.AreLevels, Pinches.IsPinch, Pinches.FirstPinch, Pinches.FirstOther, Pinches.FirstHere};
@@ -13,7 +11,6 @@ use std::alloc::{AllocError, Global};
 /// Two links of a member that are not linked, though a walk joins them that does not pass it.
 #[derive(Clone, Copy, PartialEq, Eq, Debug)]
 pub struct Pinch {
-    /// The member.
     pub at: usize,
     /// The smaller of its two links.
     pub one: usize,
@@ -21,11 +18,9 @@ pub struct Pinch {
     pub other: usize,
 }
 
-/// The first pinch of the graph: the smallest member, and of its pinches the one with the smallest
-/// links. `None` exactly where the graph has none. Fails only when out of memory.
-///
-/// A search is made only from a link that has a later one in its block at that member which it is not
-/// linked with. With the blocks that a search in depth finds it finds a pinch, so it is the only one.
+/// The first pinch: of the smallest member, with the smallest links. `None` exactly where there is none. Fails only
+/// when out of memory. A search is made only where a later link of the member, in its block there, is not linked with
+/// it. With the blocks of a search in depth it then finds a pinch, so it is the only one.
 pub fn first_pinch(alloc: Global, graph: &Graph) -> Result<Option<Pinch>, AllocError>
     ensures sound { IsGraph graph.now }
     ensures first { IfOk result (λ found. MatchOption found
@@ -75,7 +70,6 @@ fn first_pinch_at(
     Ok(None)
 }
 
-/// The first link of `at` in a block that is not known to be full, or `at` itself.
 fn chosen_link(graph: &Graph, blocks: &Blocks, at: usize) -> usize
     requires { at < length graph.now }
 {
@@ -87,7 +81,6 @@ fn chosen_link(graph: &Graph, blocks: &Blocks, at: usize) -> usize
     at
 }
 
-/// Is each link of `at` in the block of `chosen` there this one, or linked with it?
 fn is_covered(graph: &Graph, blocks: &Blocks, at: usize, chosen: usize) -> bool
     requires inside { at < length graph.now }
     requires within { chosen < length graph.now }
@@ -104,8 +97,7 @@ fn is_covered(graph: &Graph, blocks: &Blocks, at: usize, chosen: usize) -> bool
     true
 }
 
-/// The first link of `at` after `one` that is joined with it around `at`, though not linked with it. A
-/// search is made only where some link after `one`, in its block at `at`, is not linked with it.
+/// A search is made only where some link after `one`, in its block at `at`, is not linked with it.
 fn first_around(
     alloc: Global,
     graph: &Graph,
@@ -131,7 +123,6 @@ fn first_around(
     Ok(first_other(graph, at, one, &levels))
 }
 
-/// Is there a link of `at` after `one`, in its block at `at`, that is not linked with it?
 fn has_unlinked(graph: &Graph, blocks: &Blocks, at: usize, one: usize) -> bool
     requires inside { at < length graph.now }
     requires within { one < length graph.now }
@@ -145,7 +136,6 @@ fn has_unlinked(graph: &Graph, blocks: &Blocks, at: usize, one: usize) -> bool
     false
 }
 
-/// The first link of `at` after `one` that is joined with it around `at`, though not linked with it.
 fn first_other(graph: &Graph, at: usize, one: usize, levels: &[Option<usize>]) -> Option<usize>
     requires inside { at < length graph.now }
     requires link { IsTrue (linked graph.now at one) }
@@ -161,7 +151,6 @@ fn first_other(graph: &Graph, at: usize, one: usize, levels: &[Option<usize>]) -
     None
 }
 
-/// Does `other` come after `one`, have a level, and no link with `one`?
 fn is_other(graph: &Graph, one: usize, other: usize, levels: &[Option<usize>]) -> bool
     requires inside { one < length graph.now }
     requires within { other < length levels.now }

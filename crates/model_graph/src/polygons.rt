@@ -1,5 +1,3 @@
-//! Is every cycle fully linked?
-
 ghost use Rattle.std.specs.Prelude.{IfOk, MatchOption};
 ghost use Rattle.model_graph.specs.{Cycle.Polygons, Rows.linked, Loops.NamedLoop};
 
@@ -17,15 +15,12 @@ pub struct Loop {
     pub round: Vec<usize>,
 }
 
-/// `None` exactly where any two members of a cycle are linked; otherwise a cycle with two members
-/// that are not linked. Fails only when out of memory. `None` takes about the time of one search, a
-/// cycle that of a few. It can take the square of a member's links if they lie in many blocks with
-/// such cycles.
+/// `None` exactly where any two members of a cycle are linked; else a cycle with two that are not. `None` takes about
+/// the time of one search, a cycle that of a few, or the square of a member's links in many blocks.
 ///
-/// It chooses among members b with links a < c that are not linked, though a walk from a to c
-/// avoids b. It takes the smallest b, then the smallest a, then the smallest c. Of the walks it
-/// takes the shortest, and of these the least, compared member by member. The cycle is b and this
-/// walk, written from its smallest member, first to the smaller of that member's two neighbours.
+/// It takes the smallest b with links a < c that are not linked, but joined around b; then the smallest a, c and the
+/// shortest, least walk. It is written from its smallest member, first to the smaller neighbour. Fails only when out
+/// of memory.
 pub fn loop_of(alloc: Global, graph: &Graph) -> Result<Option<Loop>, AllocError>
     ensures { IfOk result (λ found. MatchOption found
         (Polygons (linked graph.now))

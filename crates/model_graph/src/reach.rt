@@ -1,5 +1,3 @@
-//! Is there a walk between any two members?
-
 ghost use Rattle.std.specs.Prelude.{◌≡◌, ◌≢◌, ◌<◌, ℕ, IfOk, MatchOption, None, length};
 ghost use Rattle.model_graph.specs.{Walk.Connected, Rows.linked, Levels.level_of, Reach.FirstUnreached};
 

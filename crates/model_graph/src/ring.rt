@@ -1,5 +1,3 @@
-//! The cycle of a pinch: the member, and the first walk around it from one link to the other.
-
 ghost use Rattle.std.specs.Prelude.{◌≡◌, ◌<◌, ◌↔◌, ℕ, IsTrue, IfOk, Some, ◌∷◌, List, length};
 ghost use Rattle.model_graph.specs.{Rows.linked, Rows.IsGraph, Levels.level_of, Pinches.IsPinch, Descents.SmallestAt, Loops.FirstWalk};
 
@@ -30,7 +28,6 @@ pub fn ring_of(alloc: Global, graph: &Graph, pinch: Pinch) -> Result<Vec<usize>,
     Ok(ring)
 }
 
-/// The smallest link of the member that has this level.
 fn smallest_at(graph: &Graph, levels: &[Option<usize>], member: usize, level: usize) -> usize
     requires inside { member < length graph.now }
     requires lengths { length levels.now ≡ length graph.now }
@@ -45,7 +42,6 @@ fn smallest_at(graph: &Graph, levels: &[Option<usize>], member: usize, level: us
     unreachable!()
 }
 
-/// Does the member have this level?
 fn has_level(levels: &[Option<usize>], member: usize, level: usize) -> bool
     requires { member < length levels.now }
     ensures { IsTrue result ↔ (level_of levels.now member ≡ Some level) }

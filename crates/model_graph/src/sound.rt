@@ -1,12 +1,9 @@
-//! Are rows of links a graph?
-
 ghost use Rattle.std.specs.Prelude.{◌≡◌, ◌<◌, ◌↔◌, ℕ, IsTrue, length};
 ghost use Rattle.model_graph.specs.Rows.{links_at, IsAscending, IsGraph, Answered, EachAnswered};
 
 use crate::graph::{Links, has_link};
 
-/// Are these rows a graph: does each row ascend, and does each link lead to another member with
-/// that link in its row?
+/// Does each row ascend, and does each link lead to another member whose row has it too?
 pub fn is_graph(rows: &[Links]) -> bool
     ensures { IsTrue result ↔ IsGraph rows.now }
 {
@@ -35,7 +32,6 @@ fn is_ascending(links: &[usize]) -> bool
     true
 }
 
-/// Does each link lead to another member with that link in its row?
 fn links_are_answered(rows: &[Links]) -> bool
     requires { (a : ℕ) → a < length rows.now → IsAscending (links_at rows.now a) }
     ensures { IsTrue result ↔ ((a : ℕ) → a < length rows.now → EachAnswered rows.now a) }
@@ -48,7 +44,6 @@ fn links_are_answered(rows: &[Links]) -> bool
     true
 }
 
-/// Does each link of this member lead to another one with that link in its row?
 fn row_is_answered(rows: &[Links], member: usize) -> bool
     requires inside { member < length rows.now }
     requires ascending { (a : ℕ) → a < length rows.now → IsAscending (links_at rows.now a) }
@@ -62,7 +57,6 @@ fn row_is_answered(rows: &[Links], member: usize) -> bool
     true
 }
 
-/// Does the link lead to another member with that link in its row?
 fn is_answered(rows: &[Links], member: usize, other: usize) -> bool
     requires { (a : ℕ) → a < length rows.now → IsAscending (links_at rows.now a) }
     ensures { IsTrue result ↔ Answered rows.now member other }

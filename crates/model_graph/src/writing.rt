@@ -5,7 +5,6 @@ ghost use Rattle.model_graph.specs.{Walk.Different, Loops.turned, Loops.IsWritte
 
 use std::alloc::{AllocError, Global};
 
-/// The ring, written from its smallest member.
 pub fn written(alloc: Global, ring: &[usize]) -> Result<Vec<usize>, AllocError>
     requires long { 3 ≤ length ring.now }
     requires different { Different ring.now }
@@ -21,7 +20,6 @@ pub fn written(alloc: Global, ring: &[usize]) -> Result<Vec<usize>, AllocError>
     Ok(back)
 }
 
-/// The ring from this place on, and round to it.
 fn turn(alloc: Global, ring: &[usize], start: usize) -> Result<Vec<usize>, AllocError>
     requires { start ≤ length ring.now }
     ensures { IfOk result (λ round. round.items ≡ turned start ring.now) }

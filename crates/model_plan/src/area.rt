@@ -5,7 +5,6 @@ use echo_links::LinkFile;
 use model_replay::Receivers;
 use std::alloc::{AllocError, Global};
 
-/// The net of link files, and the area.
 #[derive(Clone, Copy)]
 pub(crate) struct Area<'a> {
     pub(crate) alloc: Global,
@@ -15,7 +14,6 @@ pub(crate) struct Area<'a> {
 }
 
 impl<'a> Area<'a> {
-    /// The indexes of these systems.
     pub(crate) fn found(self, systems: &[Address]) -> Result<Vec<usize>, AllocError> {
         let mut all = Vec::new(self.alloc);
         for address in systems {
@@ -26,7 +24,6 @@ impl<'a> Area<'a> {
         Ok(all)
     }
 
-    /// The links of the area at the system of this index.
     pub(crate) fn links_of(self, system: usize) -> &'a [Address] {
         match self.files.get(system) {
             Some(file) => match file.links(self.tag) {
@@ -37,7 +34,6 @@ impl<'a> Area<'a> {
         }
     }
 
-    /// Whether the system of this index has the area.
     pub(crate) fn carries(self, system: usize) -> bool {
         match self.files.get(system) {
             Some(file) => file.has_area(self.tag),
@@ -45,7 +41,6 @@ impl<'a> Area<'a> {
         }
     }
 
-    /// The address of the system of this index.
     pub(crate) fn address(self, system: usize) -> Option<Address> {
         Some(self.files.get(system)?.system())
     }

@@ -42,7 +42,6 @@ fn shorter_in(ring: Ring<'_>) -> Result<Option<Vec<usize>>, AllocError> {
     Ok(Some(arc(ring.area.alloc, ring.members, hub, from, to)?))
 }
 
-// The place of each system in the loop, or none if it is no member.
 fn places(
     alloc: Global,
     systems: usize,
@@ -61,7 +60,6 @@ fn places(
 }
 
 impl<'a> Ring<'a> {
-    // The links of the member at this place.
     fn links_at(self, place: usize) -> &'a [Address] {
         match self.members.get(place) {
             Some(system) => self.area.links_of(*system),
@@ -69,7 +67,6 @@ impl<'a> Ring<'a> {
         }
     }
 
-    // The place of the link, if it is a member.
     fn place_of(self, link: Address) -> Option<usize> {
         let system = self.area.receivers.of(link)?;
         *self.places.get(system)?
@@ -113,7 +110,6 @@ impl<'a> Ring<'a> {
     }
 }
 
-// How many steps lead round the loop from one place to the other.
 fn steps_between(size: usize, from: usize, to: usize) -> usize {
     if to >= from {
         to - from

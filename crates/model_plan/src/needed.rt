@@ -1,5 +1,3 @@
-//! Which moves a guess needs.
-
 use crate::plan::Move;
 use crate::sketch::{Sent, Sketch};
 use std::alloc::{AllocError, Global};

@@ -1,5 +1,3 @@
-//! Which system posts, and which packets arrive then.
-
 use crate::area::Area;
 use crate::circle::short_loop;
 use crate::needed::moves_for;
@@ -83,7 +81,6 @@ fn round_about(area: Area<'_>, round: &[Address]) -> Result<Option<Plan>, AllocE
     }
 }
 
-// Which systems are members.
 fn marks(area: Area<'_>, members: &[usize]) -> Result<Vec<bool>, AllocError> {
     let mut marks = Vec::new(area.alloc);
     for _ in 0..area.files.len() {
@@ -118,7 +115,6 @@ fn carriers(area: Area<'_>) -> Result<Vec<usize>, AllocError> {
     Ok(all)
 }
 
-// The plan with the fewest moves, of those in which one of these systems posts.
 fn shortest(
     area: Area<'_>,
     posters: &[usize],
@@ -132,7 +128,6 @@ fn shortest(
     Ok(best)
 }
 
-// The one with fewer moves, the first where they have as many.
 fn shorter(one: Option<Plan>, other: Option<Plan>) -> Option<Plan> {
     match (one, other) {
         (None, found) => found,
@@ -147,7 +142,6 @@ fn shorter(one: Option<Plan>, other: Option<Plan>) -> Option<Plan> {
     }
 }
 
-// The plan in which this system posts.
 fn plan_of(
     area: Area<'_>,
     poster: usize,

@@ -9,10 +9,8 @@ pub(crate) const NOTHING: usize = 0;
 /// Where the way of an entry ends.
 const END: usize = 1;
 
-/// The bits of an entry.
 const BITS: usize = 32;
 
-/// The greatest bit.
 const HIGH: u32 = 0x8000_0000;
 
 // Where the way goes on: for entries with next bit 0, and for the others.
@@ -35,7 +33,6 @@ pub(crate) struct Sets {
 }
 
 impl Sets {
-    /// The set of nothing alone.
     pub(crate) fn new(alloc: Global) -> Result<Sets, AllocError> {
         let mut branches = Vec::new(alloc);
         branches.push(BARE)?;
@@ -85,7 +82,6 @@ impl Sets {
     }
 }
 
-// The entry as a number of 32 bits.
 fn number(entry: NetNode) -> u32 {
     u32::from(entry.net) * 65536 + u32::from(entry.node)
 }
@@ -99,7 +95,6 @@ fn next(branch: Branch, left: u32) -> usize {
     }
 }
 
-// The branch, from which such an entry goes on to this one.
 fn turned(branch: Branch, left: u32, to: usize) -> Branch {
     if left >= HIGH {
         Branch {

@@ -18,17 +18,14 @@ pub(crate) struct Sent {
 /// What becomes of the message at a system.
 #[derive(Drop)]
 pub(crate) struct Place {
-    /// Whether it is filed.
     filed: bool,
     /// The packet in which it came, and which of the moves is that delivery.
     pub(crate) came: Option<(usize, usize)>,
-    /// The first packet that is for the system.
     first: Option<usize>,
     /// The SEEN-BY of what it sends.
     seen: usize,
 }
 
-/// A message on its way through the net.
 #[derive(Drop)]
 pub(crate) struct Sketch<'a> {
     area: Area<'a>,
@@ -43,7 +40,6 @@ pub(crate) struct Sketch<'a> {
 }
 
 impl<'a> Sketch<'a> {
-    /// The system of index `poster` has posted.
     pub(crate) fn new(area: Area<'a>, poster: usize) -> Result<Sketch<'a>, AllocError> {
         let mut places = Vec::new(area.alloc);
         for i in 0..area.files.len() {
@@ -84,7 +80,6 @@ impl<'a> Sketch<'a> {
         self.guess_at_rest(marked.is_none())
     }
 
-    // The systems scan.
     fn scan_all(&mut self, front: &[usize]) -> Result<Option<Guess>, AllocError> {
         for system in front {
             if let Some(guess) = self.scan(*system)? {
@@ -112,7 +107,6 @@ impl<'a> Sketch<'a> {
         Ok(found)
     }
 
-    // A packet is made.
     fn send(&mut self, scan: usize, from: usize, to: Address) -> Result<Option<Guess>, AllocError> {
         let k = self.packets.len();
         self.packets.push(Sent { scan, from, to })?;
@@ -125,7 +119,6 @@ impl<'a> Sketch<'a> {
         }
     }
 
-    // A packet is for this system.
     fn note(&mut self, system: usize, k: usize) -> Result<Option<Guess>, AllocError> {
         if system >= self.places.len() {
             return Ok(None);
@@ -162,7 +155,6 @@ impl<'a> Sketch<'a> {
         Ok(front)
     }
 
-    // A packet comes. Answers which system files the message.
     fn deliver(&mut self, k: usize, marked: Option<&[bool]>) -> Result<Option<usize>, AllocError> {
         let Some(sent) = self.packets.get(k).copied() else {
             return Ok(None);
@@ -184,7 +176,6 @@ impl<'a> Sketch<'a> {
         Ok(Some(system))
     }
 
-    // Whether the system files the message that comes from this one.
     fn is_filed(&self, system: usize, from: usize) -> bool {
         match (
             self.places.get(system),
@@ -198,7 +189,6 @@ impl<'a> Sketch<'a> {
         }
     }
 
-    // The system from which the message came to this one.
     fn giver(&self, system: usize) -> Option<usize> {
         let place = self.places.get(system)?;
         let (k, _) = place.came?;
@@ -206,7 +196,6 @@ impl<'a> Sketch<'a> {
         Some(sent.from)
     }
 
-    // The SEEN-BY of the message as it came to this system.
     fn seen_before(&self, system: usize) -> usize {
         match self.giver(system) {
             Some(giver) => match self.places.get(giver) {
@@ -217,7 +206,6 @@ impl<'a> Sketch<'a> {
         }
     }
 
-    // Whom the system sends the message to, ascending.
     fn targets(&self, system: usize) -> Result<Vec<Address>, AllocError> {
         let seen = self.seen_before(system);
         let sender = match self.giver(system) {
@@ -234,7 +222,6 @@ impl<'a> Sketch<'a> {
         Ok(targets)
     }
 
-    // The SEEN-BY of what the system sends.
     fn seen_after(&mut self, system: usize) -> Result<usize, AllocError> {
         let mut seen = self.seen_before(system);
         if let Some(own) = self.area.address(system) {
@@ -281,7 +268,6 @@ impl<'a> Sketch<'a> {
     }
 }
 
-// The one with the smaller address.
 fn earlier(
     found: Option<(Address, usize)>,
     address: Address,
@@ -293,7 +279,6 @@ fn earlier(
     }
 }
 
-// Whether packets come to the system.
 fn is_marked(marked: Option<&[bool]>, system: usize) -> bool {
     match marked {
         Some(marks) => match marks.get(system) {

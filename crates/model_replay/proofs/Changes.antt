@@ -37,7 +37,6 @@ after_refusal : (o : SystemState) (tag : List ℕ) (draft : Draft) (serial : ℕ
 after_refusal o tag draft serial stamp f n e same =
     same ∙ sym (state_with-none o) ∙ ap (state_with o) (sym (posting-none o tag draft serial stamp f e))
 
--- a posting that is filed, or refused for another cause than memory, has the effect of a run's event
 pub posted-after : (o : SystemState) (tag : List ℕ) (draft : Draft) (serial : ℕ) (stamp : Stamp) (n : SystemState) → post_refusal o.file o.base tag draft serial stamp ≡ None
     → n ≡ state_with o (Some (posted o.file tag draft serial stamp)) → n ≡ after_posting tag draft serial stamp o
 posted-after o tag draft serial stamp n free h = h ∙ ap (state_with o) (sym (posting-some o tag draft serial stamp free))
@@ -52,7 +51,6 @@ set-addresses ss i s d e = map-set_same (λ (x : SystemState). x.file.system) ss
 pub with_past : (world : WorldState) (i : ℕ) (f : SystemState → SystemState) → length world.systems ≤ i → world ≡ with_change world i f
 with_past world i f h = grind (arith, change-past)
 
--- the system at the index changes
 pub with_set : (systems : List SystemState) (packets : List Exported) (world : WorldState) (i : ℕ) (f : SystemState → SystemState) (s t d : SystemState)
     → record { systems = systems; packets = packets } ≡ world → i < length systems → t ≡ get_or systems i d → s ≡ f t
     → record { systems = set systems i s; packets = packets } ≡ with_change world i f
@@ -70,7 +68,6 @@ nth-read xs i x within there = sym (nth-slice_get i xs) ∙ slice_get_read xs (l
 pub read-nth : {X : Type 0} (xs : List X) (i : ℕ) (x d : X) → nth i xs ≡ Some x → get_or xs i d ≡ x
 read-nth xs i x d there = get_or_from_slice_get xs i x d (nth-slice_get i xs ∙ there)
 
--- a system scanned, and its packets were appended
 pub scanned-set : (systems : List SystemState) (packets now : List Exported) (world : WorldState) (i : ℕ) (stamp : Stamp) (ps : List Packet) (s t : SystemState)
     → record { systems = systems; packets = packets } ≡ world → i < length systems → t ≡ get_or systems i t → s ≡ after_scan stamp t
     → ps ≡ made_by stamp t → now ≡ packets ++ map made ps
@@ -82,7 +79,6 @@ pub fits-set : (systems : List SystemState) (packets : List Exported) (world : W
     → ps ≡ made_by stamp t → All Fits ps → ScanFits stamp (nth i world.systems)
 fits-set systems packets world i stamp ps t view within there made_is fits = grind (arith, nth-read)
 
--- a packet came to a system
 pub arrived-set : (systems : List SystemState) (packets : List Exported) (world : WorldState) (i k : ℕ) (p : Packet) (s t d : SystemState) (e x y : Exported)
     → record { systems = systems; packets = packets } ≡ world → i < length systems → k < length packets
     → t ≡ get_or systems i d → s ≡ after_toss p t → x ≡ get_or packets k y → e ≡ arrived x

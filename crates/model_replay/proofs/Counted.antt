@@ -1,4 +1,3 @@
--- One event more is counted.
 use Rattle.std.proofs.Common.{◌≡◌, ◌∙◌, sym, ap, refl, ℕ, ◌+◌, ◌<◌, List, [], ◌∷◌, ◌++◌, length, get_or, map, take}
 use Rattle.std.proofs.lemmas.List.{map-append, take_more}
 use Rattle.echo_links.specs.Links.{LinkFile}

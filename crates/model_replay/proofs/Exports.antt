@@ -78,7 +78,6 @@ later_stay n k delivered (p ∷ ps) less =
     let rest = later_stay n (k + 1) delivered ps (omega arith) in
     λ i. record { bytes = encoded p; to = destination p; came = same i } ∷ rest i
 
--- the packet at an index comes: it is marked, and its index joins the delivered ones
 pub exported-came : (delivered : List ℕ) (k i n : ℕ) (ps : List Packet) → n ≡ k + i → i < length ps
     → change i arrived (exported_from delivered k ps) ≡ exported_from (with_index n delivered) k ps
 exported-came delivered k i n [] at within = absurd (omega arith)

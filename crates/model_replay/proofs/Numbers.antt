@@ -4,7 +4,6 @@ use Rattle.std.proofs.{lemmas.Bool.and_from, lemmas.Bool.and_parts, lemmas.Bool.
 use Rattle.std.specs.{Char.digit_value, List.list_all, Str.Parse.AllDigits, Str.Parse.digits_value}
 use Rattle.model_replay.specs.Script.{number_in}
 
--- the first i bytes are digits, and this is their value
 pub record Digested (radix : ℕ) (ds : List ℕ) (i value : ℕ) : Type 0 where
   pub each : list_all (λ b. nat_lt (digit_value b) radix) (take i ds) ≡ true
   pub value_is : value ≡ digits_value radix (take i ds)
@@ -39,7 +38,6 @@ next_digit radix ds i value code digit lt is below worth d =
     let P : ℕ → Type 0 = λ b. digit_value b < radix in
     subst (λ n. Digested radix ds (i + 1) (value * radix + n)) (sym (worth ∙ ap digit_value is)) (digested_more radix ds i value lt (subst P is below) d)
 
--- the value has room
 pub next_fits : (radix : ℕ) (ds : List ℕ) (i value code digit : ℕ) → 2 ≤ radix → radix ^ length ds ≤ 2 ^ 32 → i < length ds → code ≡ get_or ds i 0
     → digit_value code < radix → digit ≡ digit_value code → Digested radix ds i value → value * radix + digit < 2 ^ 32
 next_fits radix ds i value code digit least room lt is below worth d =

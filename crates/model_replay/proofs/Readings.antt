@@ -34,7 +34,6 @@ system_count world run is = ap (λ (ss : List SystemState). length ss) is.system
 pub packet_count : (world : WorldState) (run : Run) → IsWorldOf world run → length world.packets ≡ length run.packets
 packet_count world run is = ap (λ (es : List Exported). length es) is.packets ∙ exported-length run.delivered 0 run.packets
 
--- whether the message at an index belongs to the area; it is counted, and later ones are left
 abbrev pub is_of : List ℕ → List Filed → ℕ → Bool
 is_of tag base i = unwrap_or (option_map (λ m. bytes_eq m.echo.tag tag) (slice_get base i)) false
 

@@ -139,7 +139,6 @@ pub addresses-first : (files : List LinkFile) → own_addresses (map state_at_fi
 addresses-first [] = refl
 addresses-first (f ∷ files) = ap (λ (all : List Address). f.system ∷ all) (addresses-first files)
 
--- one event more
 pub event-more : (files : List LinkFile) (events : List Event) (i : ℕ) (event : Event) → i < length events → event ≡ get_or events i event
     → after_event (run_of files (map run_event (take i events))) (run_event event) ≡ run_of files (map run_event (take (i + 1) events))
 event-more files events i event within there =
@@ -160,7 +159,6 @@ first-run files = record {
     map_again [] = refl
     map_again (f ∷ fs) = ap (λ (ss : List SystemState). state_at_first f ∷ ss) (map_again fs)
 
--- a look-up led to the first system with the packet's destination
 pub record LedTo (world : WorldState) (k : ℕ) (p : Packet) (i : ℕ) : Type 0 where
   pub system : SystemState
   pub there : nth i world.systems ≡ Some system
@@ -188,7 +186,6 @@ led-to world k p i to whom place within =
           ∙ sym (cond-true (nat_lt (first_at world (destination p)) (length world.systems)) come world (lt-ltb (first_at world (destination p)) (length world.systems) reached));
     }
 
--- or to no system: the packet comes nowhere
 pub led-nowhere : (world : WorldState) (k : ℕ) (p : Packet) (to : Address) → to ≡ destination p
     → position_or_len (λ b. same_address b to) (own_addresses world.systems) ≡ length (own_addresses world.systems) → world ≡ world_after world k p
 led-nowhere world k p to whom none = grind (arith, first-map, length-map, cond-false, nat_lt, le-ltb)

@@ -28,7 +28,6 @@ module _ (number : ℕ) (line : List ℕ) where
 
 -- ---- all lines
 
--- these events were read, and these bytes are left
 pub record LinesTaken (bytes : List ℕ) (number : ℕ) (rest : List ℕ) (events : List Event) : Type 0 where
   pub faults : first_script_fault 1 (file_lines bytes) ≡ first_script_fault (number + 1) (file_lines rest)
   pub whole : events_in (file_lines bytes) ≡ events ++ events_in (file_lines rest)

@@ -5,7 +5,6 @@ use Rattle.echo_packet.specs.Message.{IsMessage, Message}
 use Rattle.echo_filed.proofs.Plain.{all_append}
 use Rattle.model_steps.proofs.Encoding.{IsWhole, one_more_message, longer}
 
--- one message more
 pub one_more_kept : (most : ℕ) (ms : List Message) (i : ℕ) (m : Message) → i < length ms → m ≡ get_or ms i m → AllByRecursion (IsMessage most) (take i ms)
     → IsWhole m → length m.text ≤ most → AllByRecursion (IsMessage most) (take (i + 1) ms)
 one_more_kept most ms i m within is all whole room =

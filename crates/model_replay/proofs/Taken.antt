@@ -20,7 +20,6 @@ use Rattle.model_run.proofs.{Targets.none_some, Targets.some_same, HarmLists.nth
 use Rattle.model_replay.specs.{Taken.AreTaken, Taken.HasTaken, Taken.NoneIsFiled, Worlds.state_of}
 use Rattle.model_replay.proofs.{Exports.below-with, Exports.within-nth, Runs.first-map, Runs.state-taking}
 
--- the second base knows each key that the first knows
 abbrev Knows : List Filed → List Filed → Type 0
 Knows base more = (key : Key) → is_known base key ≡ true → is_known more key ≡ true
 
@@ -40,7 +39,6 @@ known-last base m =
     any-to (λ n. same_key (key_of n) (key_of m)) m (base ++ m ∷ []) (Among-append_right m base (m ∷ []) (inl refl))
     ((same_key_decides (key_of m) (key_of m)).1 refl)
 
--- the outcome of a message with an echomail text, by the tests
 abbrev outcome_by : Bool → Bool → Bool → Outcome
 outcome_by area link known =
     if not area then outcome.NoArea else if not link then outcome.NotLinked else if known then outcome.Known else outcome.Filed
@@ -97,7 +95,6 @@ none_tossed file base sender (packed ∷ ms) h =
     ap (λ (o : Option Filed). tossed file (base ++ option_to_list o) sender ms) h.0
     ∙ ap (λ (b : List Filed). tossed file b sender ms) (append-nil base) ∙ none_tossed file base sender ms h.1
 
--- a system keeps its link file and its known keys
 record Grows (s z : System) : Type 0 where
   file : z.file ≡ s.file
   knows : Knows s.base z.base

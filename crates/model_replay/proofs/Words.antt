@@ -37,7 +37,6 @@ serial_of_eight word eight h = grind (arith, eq-eqb)
 
 -- ---- a posting
 
--- the first word of these bytes, and the bytes after it
 pub record Cut (bytes word rest : List ℕ) : Type 0 where
   pub words_are : tokens bytes ≡ word ∷ tokens rest
   pub after : rest ≡ drop (length word) (drop (position_or_len (λ b. not (is_blank b)) bytes) bytes)

@@ -46,7 +46,6 @@ posting_of _ body = None
 unfoldable pub posting_in : List ℕ → Option Event
 posting_in rest = posting_of (tokens rest) (drop 1 (after_first_word (after_first_word (after_first_word rest))))
 
--- The index, if it is the only word.
 abbrev pub only_index : List (List ℕ) → Option ℕ
 only_index (word ∷ []) = index_in word
 only_index _ = None
@@ -79,11 +78,9 @@ first_script_fault number (line ∷ later) = option_or (script_line_fault number
 abbrev pub events_in : List (List ℕ) → List Event
 events_in lines = filter_map event_in (filter (λ line. not (is_skipped line)) lines)
 
--- The fault of the first line of a script that has another form.
 unfoldable pub script_fault : List ℕ → Option ScriptFault
 script_fault bytes = first_script_fault 1 (file_lines bytes)
 
--- The events of a script.
 unfoldable pub events_of : List ℕ → List Event
 events_of bytes = events_in (file_lines bytes)
 

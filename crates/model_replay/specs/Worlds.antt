@@ -21,7 +21,6 @@ pub record WorldState : Type 0 where
   pub systems : List SystemState
   pub packets : List Exported
 
--- The bytes of a packet.
 abbrev pub encoded : Packet → List ℕ
 encoded packet = packet_bytes packet.header packet.messages
 
@@ -53,7 +52,6 @@ pub record IsWorldOf (world : WorldState) (run : Run) : Type 0 where
   pub fit : All Fits run.packets
   pub delivered : (k : ℕ) → Among k run.delivered → k < length run.packets
 
--- The message with a number at the system with an index.
 abbrev pub message_at : Run → ℕ → ℕ → Option Filed
 message_at run i number = unwrap_or (option_map (λ s. slice_get s.base number) (nth i run.systems)) None
 
@@ -73,11 +71,9 @@ IsFirst found passes systems =
 abbrev pub LeadsToFirst : List (Address × ℕ) → List Address → Type 0
 LeadsToFirst entries systems = (a : Address) → IsFirst (lookup (λ k. same_address a k) entries) (λ b. same_address b a) systems
 
--- The addresses of the systems.
 abbrev pub own_addresses : List SystemState → List Address
 own_addresses ss = map (λ s. s.file.system) ss
 
--- One system changes.
 abbrev pub with_change : WorldState → ℕ → (SystemState → SystemState) → WorldState
 with_change world i f = record { systems = change i f world.systems; packets = world.packets }
 
@@ -85,7 +81,6 @@ with_change world i f = record { systems = change i f world.systems; packets = w
 abbrev pub after_posting : List ℕ → Draft → ℕ → Stamp → SystemState → SystemState
 after_posting tag draft serial stamp s = state_with s (posting s.file s.base tag draft serial stamp)
 
--- A system after a purge.
 abbrev pub after_purge : SystemState → SystemState
 after_purge s = record { file = s.file; base = purged s.base s.cursor; cursor = s.cursor }
 
@@ -93,11 +88,9 @@ after_purge s = record { file = s.file; base = purged s.base s.cursor; cursor = 
 abbrev pub made_by : Stamp → SystemState → List Packet
 made_by stamp s = if is_stamp stamp then scanned s.file s.base s.cursor stamp else []
 
--- A system after a scan.
 abbrev pub after_scan : Stamp → SystemState → SystemState
 after_scan stamp s = if is_stamp stamp then record { file = s.file; base = s.base; cursor = length s.base } else s
 
--- The world after a scan of this system.
 abbrev pub scanned_world : WorldState → ℕ → Stamp → Option SystemState → WorldState
 scanned_world world i stamp None = world
 scanned_world world i stamp (Some s) = record {
@@ -110,11 +103,9 @@ abbrev pub ScanFits : Stamp → Option SystemState → Type 0
 ScanFits stamp None = Unit {0}
 ScanFits stamp (Some s) = All Fits (made_by stamp s)
 
--- A system after the toss of a packet.
 abbrev pub after_toss : Packet → SystemState → SystemState
 after_toss packet s = record { file = s.file; base = tossed s.file s.base (sender_of s.file packet.header) packet.messages; cursor = s.cursor }
 
--- A packet that came.
 abbrev pub arrived : Exported → Exported
 arrived e = record { bytes = e.bytes; to = e.to; came = true }
 

@@ -24,8 +24,7 @@ impl Write for Nowhere {
     }
 }
 
-/// Writes the packet to nowhere, in a time that does not grow with its texts. It fits where that goes well, as it
-/// always does.
+/// The packet fits if writing it to nowhere goes well, as it always does. The time does not grow with its texts.
 pub(crate) fn fit(packet: &Packet) -> Result<(), AllocError>
     ensures { OnOk result (Fits packet.now) }
 {

@@ -1,5 +1,3 @@
-//! What one event does to a net.
-
 ghost use Rattle.std.specs.Prelude.{◌≡◌, ◌≢◌, ◌++◌, ◌∷◌, [], ◌<◌, length, map, Bool, true, false, None, Some, IfOk, OnOk};
 ghost use Rattle.std.specs.List.{All};
 ghost use Rattle.model_steps.specs.declared.fault.PostFault.TheVariants as post_fault;
@@ -62,7 +60,6 @@ fn post(
     post_at(tosser, tag, draft, serial, stamp)
 }
 
-// A refused posting leaves the system as it was.
 fn post_at(
     tosser: &mut Tosser<RandomState>,
     tag: &[u8],
@@ -79,7 +76,6 @@ fn post_at(
     }
 }
 
-// Nothing is wrong where the posting was refused for another cause than memory.
 fn unless_memory(fault: PostFault) -> Result<(), AllocError>
     ensures { OnOk result (fault ≢ post_fault.Memory) }
 {
@@ -113,7 +109,6 @@ fn purge_at(tosser: &mut Tosser<RandomState>) -> Result<(), AllocError>
     Ok(())
 }
 
-// A system scans: its packets go last.
 fn scan(alloc: Global, world: &mut World, system: usize, stamp: Stamp) -> Result<(), AllocError>
     ensures addresses { own_addresses world.new.systems ≡ own_addresses world.old.systems }
     ensures scanned { OnOk result (world.new ≡ scanned_world world.old system stamp (nth system world.old.systems)) }
@@ -127,7 +122,6 @@ fn scan(alloc: Global, world: &mut World, system: usize, stamp: Stamp) -> Result
     export(alloc, &mut world.packets, packets)
 }
 
-// The packets of the scan, none where its stamp is out of range.
 fn scan_at(
     alloc: Global,
     tosser: &mut Tosser<RandomState>,
@@ -144,7 +138,6 @@ fn scan_at(
     }
 }
 
-// The packets are put last.
 fn export(
     alloc: Global,
     exported: &mut Vec<Exported>,
@@ -160,8 +153,8 @@ fn export(
     Ok(())
 }
 
-// The packet is put last: as its bytes where its scan made no other one. Else they are made when it comes, since kept
-// they would take the room of a text for each link.
+// As its bytes if its scan made no other one. Else they are made when it comes: kept, they would repeat a text for
+// each link.
 fn export_one(
     alloc: Global,
     exported: &mut Vec<Exported>,
@@ -181,8 +174,7 @@ fn export_one(
     Ok(())
 }
 
-// A packet arrives at the first system of its destination, if there is one. A packet that arrived before is refused
-// there or known, and changes nothing.
+// A packet that arrived before is refused there or known, and changes nothing.
 fn deliver(
     alloc: Global,
     receivers: &Receivers,
@@ -209,7 +201,6 @@ fn deliver(
     }
 }
 
-// The packet comes to the system, which has its destination.
 fn arrive(alloc: Global, world: &mut World, packet: usize, system: usize) -> Result<(), AllocError>
     requires packet { packet < length world.old.packets }
     requires system { system < length world.old.systems }
@@ -225,7 +216,6 @@ fn arrive(alloc: Global, world: &mut World, packet: usize, system: usize) -> Res
     Ok(())
 }
 
-// A system tosses the bytes of a packet that is for it.
 fn toss_at(tosser: &mut Tosser<RandomState>, bytes: &[u8]) -> Result<(), AllocError>
     ensures file { tosser.new.file ≡ tosser.old.file }
     ensures tossed { OnOk result ((p : Packet) → Fits p → bytes.now ≡ encoded p → destination p ≡ tosser.old.file.system → tosser.new ≡ after_toss p tosser.old) }
@@ -237,7 +227,6 @@ fn toss_at(tosser: &mut Tosser<RandomState>, bytes: &[u8]) -> Result<(), AllocEr
     }
 }
 
-// The packet came.
 fn mark(packet: &mut Exported)
     ensures { packet.new ≡ arrived packet.old }
 {

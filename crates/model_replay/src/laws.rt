@@ -1,5 +1,4 @@
-//! What holds of every replay, by the laws of runs. Each law is the contract of a function that does
-//! nothing.
+//! What holds of every replay, by the laws of runs. Each law is the contract of a function that does nothing.
 
 ghost use Rattle.std.specs.Prelude.{ℕ, ◌≤◌, List, map};
 ghost use Rattle.model_graph.specs.Walk.{Among};

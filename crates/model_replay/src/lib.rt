@@ -1,12 +1,6 @@
-//! A trial of events on a net (FTS-0004): they are replayed over the bytes of real packets.
-//!
-//! The contract for the layer above is that of `replay`. It returns the world of the run of these events on these
-//! files, and the laws of runs hold for that run.
-//!
-//! Begin with `world` (the systems and packets after the events, and how to read them) and `replaying`. They use
-//! `receivers` (which system has an address) and `fitting` (the fit of a packet without its bytes). `happening` has
-//! the effect of one event, `replay_progress` has progress reports. `script` reads events from text, and `laws` has what
-//! holds of every replay.
+//! A trial of events on a net (FTS-0004): they are replayed over the bytes of real packets. `replay` returns the world
+//! of the run of these events on these files, and the laws of runs hold for that run. Begin with `world` and
+//! `replaying`.
 #![tactic(auto)]
 
 mod fitting;

@@ -1,5 +1,3 @@
-//! Which system has an address.
-
 ghost use Rattle.std.specs.Prelude.{◌≡◌, ◌++◌, ◌∷◌, [], List, IfOk, OnOk, map, length};
 ghost use Rattle.echo_addr.specs.declared.address.Address.{Address};
 ghost use Rattle.echo_links.specs.Links.{same_address};
@@ -33,7 +31,6 @@ impl Receivers {
         Ok(Receivers { first })
     }
 
-    /// The first system of the address.
     pub fn of(&self, to: Address) -> Option<usize>
         ensures { (systems : List Address) → LeadsToFirst self.now.first.entries systems → IsFirst result (λ b. same_address b to) systems }
     {
@@ -41,7 +38,6 @@ impl Receivers {
     }
 }
 
-// The system of this index has the address; an earlier one that has it stays the first.
 fn note_system(
     first: &mut IndexMap<Address, usize, RandomState>,
     system: Address,

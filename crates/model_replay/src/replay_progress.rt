@@ -1,5 +1,3 @@
-//! Progress reports of a replay.
-
 /// Receives after each event how many happened, and how many there are in all.
 pub trait ReplayProgress {
     fn tell(&self, happened: usize, events: usize);

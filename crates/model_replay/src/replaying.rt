@@ -1,5 +1,3 @@
-//! Events, one after another.
-
 ghost use Rattle.std.specs.Prelude.{◌≡◌, IfOk, map};
 ghost use Rattle.model_run.specs.{Event.run_event, Run.run_of, Run.start};
 ghost use Rattle.model_replay.specs.{Counts.packet_counts, Worlds.IsWorldOf};
@@ -15,10 +13,9 @@ use model_run::Event;
 use std::alloc::{AllocError, Global};
 use std::hash::RandomState;
 
-/// What becomes of a net on which these events happen in this order. Each system begins with an empty base. Packets
-/// travel as their bytes and are tossed by the packet reader. A packet arrives at the first system with its
-/// destination. An event that names nothing does nothing, and so does a refused posting or scan. Look-ups go by the
-/// hasher. It fails only when out of memory.
+/// What becomes of a net on which these events happen in order. Each system begins with an empty base. A packet
+/// travels as its bytes, and arrives at the first system with its destination. An event that names nothing does
+/// nothing, and so does a refused posting or scan. Fails only when out of memory.
 pub fn replay(
     alloc: Global,
     files: Vec<LinkFile>,
@@ -81,7 +78,6 @@ fn replayed<T: ReplayProgress>(
     Ok((world, counts))
 }
 
-// The systems of these files, which have filed nothing.
 fn systems(
     alloc: Global,
     files: Vec<LinkFile>,

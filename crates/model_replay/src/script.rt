@@ -41,7 +41,6 @@ impl<T: Drop> From<AllocFailed<T>> for ScriptFault {
     }
 }
 
-/// The first words of lines.
 const POST: &[u8] = b"POST";
 
 const SCAN: &[u8] = b"SCAN";
@@ -76,9 +75,7 @@ const SERIAL_DIGITS: usize = 8;
 /// small letters. The body is the rest of the line after one blank. It is posted to All, from Sysop, with the serial's
 /// digits as subject. A fault is the first line of another form. Only `Memory` may be returned instead.
 pub fn read_script(alloc: Global, bytes: &[u8]) -> Result<Vec<Event>, ScriptFault>
-    // What it answers is so of the bytes.
     ensures judged { MatchResult result (λ events. ScriptOf bytes.now (Ok events.items)) (λ fault. (fault ≡ script.Memory) ⊎ ScriptOf bytes.now (Err fault)) }
-    // It returns each answer that is right for the bytes.
     ensures only { (other : Result (List Event) ScriptFault) → ScriptOf bytes.now other →
         MatchResult result (λ events. other ≡ Ok events.items) (λ fault. (fault ≡ script.Memory) ⊎ (other ≡ Err fault)) }
 {
@@ -100,7 +97,6 @@ fn events_in(alloc: Global, bytes: &[u8]) -> Result<Vec<Event>, ScriptFault>
     Ok(events)
 }
 
-/// Adds the event of the line of this number.
 fn take_line(
     alloc: Global,
     events: &mut Vec<Event>,
@@ -143,7 +139,6 @@ fn event_in(alloc: Global, line: &[u8]) -> Result<Option<Event>, AllocError>
     }
 }
 
-/// The scan of an index, if the line has nothing else.
 fn scan(rest: &[u8]) -> Option<Event>
     ensures { result ≡ option_map (λ i. Scan i moment) (only_index (tokens rest.now)) }
 {
@@ -154,7 +149,6 @@ fn scan(rest: &[u8]) -> Option<Event>
     })
 }
 
-/// The delivery of an index, if the line has nothing else.
 fn delivery(rest: &[u8]) -> Option<Event>
     ensures { result ≡ option_map (λ k. Deliver k) (only_index (tokens rest.now)) }
 {
@@ -162,7 +156,6 @@ fn delivery(rest: &[u8]) -> Option<Event>
     Some(Event::Deliver { packet })
 }
 
-/// The purge of an index, if the line has nothing else.
 fn purge(rest: &[u8]) -> Option<Event>
     ensures { result ≡ option_map (λ i. Purge i) (only_index (tokens rest.now)) }
 {
@@ -170,7 +163,6 @@ fn purge(rest: &[u8]) -> Option<Event>
     Some(Event::Purge { system })
 }
 
-/// The posting after the word POST.
 fn posting(alloc: Global, rest: &[u8]) -> Result<Option<Event>, AllocError>
     ensures { IfOk result (λ event. event ≡ posting_in rest.now) }
 {
@@ -199,7 +191,6 @@ fn posting(alloc: Global, rest: &[u8]) -> Result<Option<Event>, AllocError>
     }))
 }
 
-/// The rest after one blank.
 fn after_blank(bytes: &[u8]) -> &[u8]
     ensures { result.now ≡ drop 1 bytes.now }
 {
@@ -209,7 +200,6 @@ fn after_blank(bytes: &[u8]) -> &[u8]
     }
 }
 
-/// The posted message.
 fn draft(alloc: Global, digits: &[u8], body: &[u8]) -> Result<Draft, AllocError>
     ensures { IfOk result (λ draft. draft ≡ draft_of digits.now body.now) }
 {
@@ -232,7 +222,6 @@ fn only_index(rest: &[u8]) -> Option<usize>
     index(word)
 }
 
-/// An index: 1 to 9 decimal digits.
 #[tactic(auto, using(crate::proofs::Words::index_empty, crate::proofs::Words::index_long, crate::proofs::Words::index_short))]
 fn index(word: &[u8]) -> Option<usize>
     ensures { result ≡ index_in word.now }
@@ -247,7 +236,6 @@ fn index(word: &[u8]) -> Option<usize>
     Some(number as usize)
 }
 
-/// A serial: eight hexadecimal digits with small letters.
 #[tactic(auto, using(crate::proofs::Words::serial_of_other_length, crate::proofs::Words::serial_of_capitals, crate::proofs::Words::serial_of_eight))]
 fn serial(word: &[u8]) -> Option<u32>
     ensures { result ≡ serial_in word.now }
@@ -267,7 +255,6 @@ fn has_capital(word: &[u8]) -> bool
     word.iter().any(|b| b.is_ascii_uppercase())
 }
 
-/// The number that the digits write, where all of them are digits of the radix.
 fn number(radix: u32, digits: &[u8]) -> Option<u32>
     requires least { 2 ≤ radix }
     requires most { radix ≤ 36 }

@@ -38,7 +38,6 @@ impl Model for Exported {
 }
 
 impl Exported {
-    /// A packet that is the only one of its scan, as these bytes.
     pub(crate) fn alone(packet: &Packet, bytes: Vec<u8>) -> Exported
         ensures { result ≡ record { bytes = bytes.items; to = destination packet.now; came = false } }
     {
@@ -50,7 +49,6 @@ impl Exported {
         }
     }
 
-    /// A packet that shares texts with others.
     pub(crate) fn shared(alloc: Global, packet: Packet) -> Result<Exported, AllocError>
         ensures { IfOk result (λ e. e ≡ made packet) }
     {
@@ -69,7 +67,6 @@ impl Exported {
         self.to
     }
 
-    /// Whether it has still to come.
     fn is_missing(&self) -> bool
         ensures { result ≡ not self.now.came }
     {
@@ -114,8 +111,7 @@ impl Model for World {
 }
 
 impl World {
-    /// How many messages of the area the system has filed, 0 where there is no such system. Tags are
-    /// compared byte for byte.
+    /// How many messages of the area the system has filed, 0 without such a system. Tags are compared byte for byte.
     pub fn filed(&self, system: usize, tag: &[u8]) -> usize
         ensures { (run : Run) → IsWorldOf self.now run → result ≡ filed_at run system tag.now }
     {
@@ -135,7 +131,6 @@ impl World {
         }
     }
 
-    /// How many systems there are.
     pub fn systems(&self) -> usize
         ensures { (run : Run) → IsWorldOf self.now run → result ≡ length run.systems }
     {
@@ -143,7 +138,6 @@ impl World {
         systems.len()
     }
 
-    /// How many packets were made.
     pub fn packets(&self) -> usize
         ensures { (run : Run) → IsWorldOf self.now run → result ≡ length run.packets }
     {
@@ -165,7 +159,6 @@ impl World {
         all_scanned(&self.systems) && count_missing(&self.packets) == 0
     }
 
-    /// The link file of the system.
     pub fn links(&self, system: usize) -> Option<&LinkFile>
         ensures { (run : Run) → IsWorldOf self.now run → option_copied result ≡ option_map (λ s. s.file) (nth system run.systems) }
     {
@@ -179,7 +172,6 @@ impl World {
         self.systems.get(system)?.message(i)
     }
 
-    /// Whom the packet is for.
     pub fn packet_to(&self, k: usize) -> Option<Address>
         ensures { (run : Run) → IsWorldOf self.now run → result ≡ option_map destination (nth k run.packets) }
     {
@@ -193,9 +185,8 @@ impl World {
         bytes_at(alloc, &self.packets, k)
     }
 
-    /// Writes the base of the system as a base file of version 2, or returns None if there is no such system. Bytes
-    /// that the writer holds back are left to its owner. The error is `TooMany` if four bytes cannot count the
-    /// messages, or the bytes of a text or an id. It is `Write` with the number of bytes written if the writer fails.
+    /// Writes the base of the system as a base file of version 2, unflushed; None without such a system. `TooMany`:
+    /// four bytes can't count the messages, or the bytes of a text or an id. `Write` has the number of bytes written.
     pub fn save<W: Sink>(&self, system: usize, writer: &mut W) -> Option<Result<(), BaseFault>>
         ensures bytes { (run : Run) → IsWorldOf self.now run → OfSystem result (nth system run.systems) (λ saved s.
             Saves (W.contents writer.old) (W.contents writer.new) saved (saved_bytes s.base s.cursor)) }
@@ -207,7 +198,6 @@ impl World {
     }
 }
 
-// How many messages of the area there are from this one on.
 fn count_from<S: BuildHasher>(tosser: &Tosser<S>, from: usize, tag: &[u8]) -> usize
     ensures { result ≡ area_count tag.now (drop from tosser.now.base) }
 {
@@ -220,7 +210,6 @@ fn count_from<S: BuildHasher>(tosser: &Tosser<S>, from: usize, tag: &[u8]) -> us
     count
 }
 
-// Whether there is a message of this number, and it belongs to the area.
 fn is_of_area<S: BuildHasher>(tosser: &Tosser<S>, i: usize, tag: &[u8]) -> bool
     ensures { result ≡ unwrap_or (option_map (λ m. bytes_eq m.echo.tag tag.now) (slice_get tosser.now.base i)) false }
 {
@@ -233,7 +222,6 @@ fn is_of_area<S: BuildHasher>(tosser: &Tosser<S>, i: usize, tag: &[u8]) -> bool
     }
 }
 
-// How many of the packets did not come.
 fn count_missing(packets: &[Exported]) -> usize
     ensures { result ≡ count_by (λ e. not e.came) packets.now }
 {
@@ -246,14 +234,12 @@ fn count_missing(packets: &[Exported]) -> usize
     count
 }
 
-// Whether no message waits for a scan at any of the systems.
 fn all_scanned(systems: &[Tosser<RandomState>]) -> bool
     ensures { result ≡ list_all (λ s. nat_le (length s.base) s.cursor) systems.now }
 {
     systems.iter().all(|tosser| tosser.waiting() == 0)
 }
 
-// Whom the packet of this index is for.
 fn destination_at(packets: &[Exported], k: usize) -> Option<Address>
     ensures { result ≡ option_map (λ e. e.to) (slice_get packets.now k) }
 {
@@ -261,7 +247,6 @@ fn destination_at(packets: &[Exported], k: usize) -> Option<Address>
     Some(packet.to())
 }
 
-// The bytes of the packet of this index.
 fn bytes_at(alloc: Global, packets: &[Exported], k: usize) -> Result<Option<Vec<u8>>, AllocError>
     ensures { IfOk result (λ found. option_map (λ bytes. bytes.items) found ≡ option_map (λ e. e.bytes) (slice_get packets.now k)) }
 {

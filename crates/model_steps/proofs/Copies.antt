@@ -92,7 +92,6 @@ any_of : {X : Type 0} (xs : List X) → AllByRecursion (λ x. Unit {0}) xs
 any_of [] = tt
 any_of (x ∷ xs) = (tt, any_of xs)
 
--- each text of the packets is accepted
 pub scanned_accepted : (file : LinkFile) (base : List Filed) (cursor : ℕ) (stamp : Stamp) → IsFile file → IsBase base cursor
     → AllByRecursion (λ packet. AllByRecursion (λ packed. text_refusal packed.text ≡ None) packet.messages) (scanned file base cursor stamp)
 unfolding scanned packets_of packet_to

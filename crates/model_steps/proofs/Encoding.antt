@@ -6,7 +6,6 @@ use Rattle.echo_packet.specs.{Message.IsMessage, Message.Message, Message.Text, 
 use Rattle.echo_packet.proofs.{MessageByMessage.messages_bytes-push, Outcome.length-messages as counted}
 use Rattle.echo_filed.proofs.Plain.{all_append}
 
--- a message with its own text length as the limit
 abbrev pub IsWhole : Message → Type 0
 IsWhole m = IsMessage (length m.text) m
 
@@ -27,7 +26,6 @@ one_more_written ms i m front old new within is so_far grown =
 text_within : (m : Message) → length m.text < length (message_bytes m)
 text_within m = omega (arith, length-append (before Text m) (zero_ended m.text), length-append m.text (0 ∷ []))
 
--- whole messages of few bytes keep a great limit
 pub longer : (most : ℕ) (m : Message) → IsWhole m → length m.text ≤ most → IsMessage most m
 longer most m is room = grind arith
 

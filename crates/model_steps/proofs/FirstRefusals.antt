@@ -17,7 +17,6 @@ use Rattle.base_file.specs.Base.{is_known}
 use Rattle.echo_filed.proofs.Choices.{same_some}
 use Rattle.model_steps.proofs.Posted.{allowed}
 
--- the refusals of a posting in order, by the result of each test
 abbrev chain : Bool → Bool → Bool → Bool → Bool → Bool → Option PostFault
 chain area zero long moment reply known =
     cond (not area) (Some fault.NoArea)
@@ -41,7 +40,6 @@ chain_first area zero long moment reply known f h1 = grind (arith, same_some)
 first_chain : (area zero long moment reply known : Bool) (f : PostFault) → First area zero long moment reply known f → chain area zero long moment reply known ≡ Some f
 first_chain area zero long moment reply known f h1 = grind arith
 
--- by cases on the fault, both definitions have the same first refusal
 to_first : (file : LinkFile) (base : List Filed) (tag : List ℕ) (draft : Draft) (serial : ℕ) (stamp : Stamp) (f : PostFault)
     → First (has_area file (upper tag)) (holds_zero draft) (is_too_long draft) (is_stamp stamp) ((length draft.reply == 0) || is_reply_id draft.reply) (list_any (has_id (id_of file.system serial)) base) f
     → IsFirstRefusal file base tag draft serial stamp f
@@ -52,13 +50,11 @@ of_first : (file : LinkFile) (base : List Filed) (tag : List ℕ) (draft : Draft
     → First (has_area file (upper tag)) (holds_zero draft) (is_too_long draft) (is_stamp stamp) ((length draft.reply == 0) || is_reply_id draft.reply) (list_any (has_id (id_of file.system serial)) base) f
 of_first file base tag draft serial stamp f h1 = grind arith
 
--- the text_refusal of a posting is the first that applies
 pub refusal_first : (file : LinkFile) (base : List Filed) (tag : List ℕ) (draft : Draft) (serial : ℕ) (stamp : Stamp) (f : PostFault)
     → (post_refusal file base tag draft serial stamp ≡ Some f) ↔ IsFirstRefusal file base tag draft serial stamp f
 unfolding post_refusal
 refusal_first file base tag draft serial stamp f = grind (arith, to_first, chain_first, first_chain, of_first)
 
--- no refusal exactly if no test refuses
 pub refusal_none : (file : LinkFile) (base : List Filed) (tag : List ℕ) (draft : Draft) (serial : ℕ) (stamp : Stamp)
     → (post_refusal file base tag draft serial stamp ≡ None) ↔ IsAllowed file base tag draft serial stamp
 unfolding post_refusal
@@ -77,7 +73,6 @@ of_text : (bytes : List ℕ) → IsOfText (text_refusal bytes)
 unfolding text_refusal
 of_text bytes = two_refusals (is_area (first_line (lines bytes))) (is_tag (area_tag (first_line (lines bytes))))
 
--- the outcomes of a message with an echomail text, in order
 abbrev outcomes_chain : Bool → Bool → Bool → Outcome
 outcomes_chain area link known = cond (not area) outcome.NoArea (cond (not link) outcome.NotLinked (cond known outcome.Known outcome.Filed))
 
@@ -110,7 +105,6 @@ of_outcome : (file : LinkFile) (base : List Filed) (from : Address) (packed : Me
     → FirstOutcome (text_refusal packed.text) (has_area file (echo_of packed.text).tag) (is_link file (echo_of packed.text).tag from) (is_known base (key_of (received from packed))) o
 of_outcome file base from packed o h1 = grind arith
 
--- both spellings of the outcome
 one_spelling : (file : LinkFile) (base : List Filed) (from : Address) (packed : Message) (refused : Option TextFault)
     → outcome_after file base from (received from packed) refused
     ≡ after_refusal refused (outcomes_chain (has_area file (echo_of packed.text).tag) (is_link file (echo_of packed.text).tag from) (is_known base (key_of (received from packed))))

@@ -47,7 +47,6 @@ pub posted_new : (file : LinkFile) (base : List Filed) (tag : List ℕ) (draft :
 unfolding key_of
 posted_new file base tag draft serial stamp h ok = grind (arith, posted_id, none_known)
 
--- a posting keeps the rules of each base
 pub posting_keeps : (file : LinkFile) (base : List Filed) (cursor : ℕ) (tag : List ℕ) (draft : Draft) (serial : ℕ) (stamp : Stamp) (m : Filed)
     → IsFile file → IsBase base cursor → posting file base tag draft serial stamp ≡ Some m → IsBase (base ++ m ∷ []) cursor
 posting_keeps file base cursor tag draft serial stamp m h is e =
@@ -73,7 +72,6 @@ received_filed most sender packed small is text =
           is.text.no_zero said.1;
     }
 
--- a toss keeps the rules of each base
 pub tossing_keeps : (most : ℕ) (file : LinkFile) (base : List Filed) (cursor : ℕ) (sender : Address) (packed : Message) (m : Filed)
     → HasSmallSender (Some sender) → IsMessage most packed → IsBase base cursor → tossing file base sender packed ≡ Some m → IsBase (base ++ m ∷ []) cursor
 tossing_keeps most file base cursor sender packed m small is h e =

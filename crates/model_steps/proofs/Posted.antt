@@ -1,4 +1,3 @@
--- The message that a posting files.
 use Rattle.std.proofs.Common.{◌≡◌, ℕ, ◌==◌, ◌||◌, Bool, true, false, cond, not, List, [], ◌∷◌, ◌++◌, length, codes, refl, sym, ap, subst, ◌∙◌, Option, Some, None, is_none, arith, inl, inr}
 use Rattle.std.proofs.lemmas.{Bool.and_left, Bool.and_parts, Bool.and_right, Bool.cases_Bool, Bool.cond-false, Bool.cond-true, Bool.not-false, Bool.or_parts, List.Elements.All-from_recursion, List.Elements.recursion_from_All}
 use Rattle.std.specs.{Prelude.bytes_eq, Prelude.find, Prelude.is_some, List.AllByRecursion, List.AllPass, List.list_all, List.list_any, Cmp.Lexicographic.bytes_decides}
@@ -22,7 +21,6 @@ pub allowed : (file : LinkFile) (base : List Filed) (tag : List ℕ) (draft : Dr
 unfolding post_refusal
 allowed file base tag draft serial stamp h = grind (arith, passed, not-false)
 
--- a posting that files a message files just this one
 pub record IsPosted (file : LinkFile) (base : List Filed) (tag : List ℕ) (draft : Draft) (serial : ℕ) (stamp : Stamp) (m : Filed) : Type 0 where
   pub allowed : IsAllowed file base tag draft serial stamp
   pub is : m ≡ posted file tag draft serial stamp
@@ -77,7 +75,6 @@ plain_lines : (file : LinkFile) → IsFile file → (draft : Draft) (serial : �
 unfolding posted_lines
 plain_lines file h1 draft serial h2 h3 = grind (arith, plain_id_line, plain_if, plain_id, all_append, plain_reply, lines_plain, no_zero, no_zero_body, plain_origin)
 
--- lines of which the last is no line of a tail
 record HasNoTail (all : List (List ℕ)) : Type 0 where
   none : tail all ≡ []
   some : all_tail all ≡ false
@@ -107,7 +104,6 @@ no_tail file draft serial =
 none_shed : (all : List (List ℕ)) → all ≡ [] → AllPass (λ line. not (is_shed line)) all
 none_shed all empty = λ k d inside. absurd (omega (arith, ap length empty))
 
--- a posted message is echomail
 pub posted_is_echo : (file : LinkFile) (base : List Filed) (tag : List ℕ) (draft : Draft) (serial : ℕ) (stamp : Stamp)
     → IsFile file → IsAllowed file base tag draft serial stamp → IsEcho ((posted file tag draft serial stamp).echo)
 unfolding posted

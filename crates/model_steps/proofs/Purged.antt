@@ -1,4 +1,3 @@
--- A purge keeps the rules of each base.
 use Rattle.std.proofs.Common.{ℕ, List}
 use Rattle.echo_filed.specs.Filed.{Filed}
 use Rattle.base_file.specs.Base.{IsBase}

@@ -1,4 +1,3 @@
--- The message that a toss files.
 use Rattle.std.proofs.Common.{◌≡◌, Bool, true, false, cond, List, refl, Option, Some, None, arith}
 use Rattle.std.proofs.lemmas.Bool.{cond-false, not-false, not_from_true}
 use Rattle.echo_addr.specs.declared.address.Address.{Address}
@@ -13,12 +12,10 @@ use Rattle.base_file.specs.Base.{is_known}
 some_filed : (o : Outcome) (x m : Filed) → where_filed o x ≡ Some m → (o ≡ outcome.Filed) × (m ≡ x)
 some_filed o x m h1 = grind arith
 
--- a test that fails, since the answer is another one
 failed : (b : Bool) (o : Outcome) (rest : Outcome) → (o ≡ outcome.Filed → ⊥) → cond b o rest ≡ outcome.Filed → (b ≡ false) × (rest ≡ outcome.Filed)
 failed true o rest other h = absurd (other h)
 failed false o rest other h = (refl, h)
 
--- the facts about a message with the outcome Filed
 record IsToFile (file : LinkFile) (base : List Filed) (sender : Address) (m : Filed) : Type 0 where
   area : has_area file m.echo.tag ≡ true
   link : is_link file m.echo.tag sender ≡ true
@@ -31,13 +28,11 @@ after_text : (file : LinkFile) (base : List Filed) (sender : Address) (m : Filed
     → outcome_after file base sender m o ≡ outcome.Filed → (o ≡ None) × (outcome_of_filed file base sender m ≡ outcome.Filed)
 after_text file base sender m o h1 = grind arith
 
--- a toss that files a message files the one that was received
 pub tossing_received : (file : LinkFile) (base : List Filed) (sender : Address) (packed : Message) (m : Filed)
     → tossing file base sender packed ≡ Some m → IsToBeFiled file base sender packed × (m ≡ received sender packed)
 unfolding tossing toss_outcome received
 tossing_received file base sender packed m h = grind (arith, some_filed, after_text, to_file)
 
--- a message that is to be filed is filed
 pub received_tossing : (file : LinkFile) (base : List Filed) (sender : Address) (packed : Message) → IsToBeFiled file base sender packed
     → tossing file base sender packed ≡ Some (received sender packed)
 unfolding tossing toss_outcome received

@@ -16,7 +16,6 @@ use Rattle.echo_filed.specs.Filed.{Filed, id_line}
 abbrev pub reply_lines : List ℕ → List (List ℕ)
 reply_lines reply = if length reply == 0 then [] else id_line reply_word (trimmed reply) ∷ []
 
--- The origin line of a system.
 abbrev pub origin_line : LinkFile → List ℕ
 origin_line file = origin_word ++ (file.name ++ (codes " (" ++ (address_text file.system ++ codes ")")))
 
@@ -26,7 +25,6 @@ posted_lines file draft serial =
     id_line msgid_word (id_of file.system serial)
     ∷ (reply_lines draft.reply ++ (lines draft.body ++ codes "--- echonet" ∷ (origin_line file ∷ [])))
 
--- The filed message of a draft.
 unfoldable pub posted : LinkFile → List ℕ → Draft → ℕ → Stamp → Filed
 posted file tag draft serial stamp = record {
   sender = None;

@@ -23,7 +23,6 @@ scanned_from first base cursor = drop first (take cursor base)
 abbrev pub resent : LinkFile → List ℕ → Address → ℕ → List Filed → ℕ → List Message
 resent file area to first base cursor = map (copy_to file to) (filter (is_resent file area to) (scanned_from first base cursor))
 
--- The packet of these copies.
 abbrev pub resent_packet : LinkFile → Stamp → List ℕ → Address → ℕ → List Filed → ℕ → Packet
 resent_packet file stamp area to first base cursor = record {
   header = header_to file stamp to;

@@ -31,7 +31,6 @@ exported file e = record {
   path = e.path ++ net_node_of file.system ∷ [];
 }
 
--- A message with this text for an address.
 abbrev pub message_out : LinkFile → Address → Filed → List ℕ → Message
 message_out file address m text = record {
   orig_node = file.system.node;
@@ -47,11 +46,9 @@ message_out file address m text = record {
   text = text;
 }
 
--- The copy of a message for an address.
 unfoldable pub copy_to : LinkFile → Address → Filed → Message
 copy_to file address m = message_out file address m (text_of (exported file m.echo))
 
--- The header of a packet to an address.
 unfoldable pub header_to : LinkFile → Stamp → Address → Header
 header_to file stamp address = record {
   orig_node = file.system.node;
@@ -73,11 +70,9 @@ header_to file stamp address = record {
   fill = replicate 20 0;
 }
 
--- The address receives the message.
 abbrev pub goes_to : LinkFile → Address → Filed → Bool
 goes_to file address m = list_any (same_address address) (targets file m)
 
--- The packet of messages to an address.
 unfoldable pub packet_to : LinkFile → Stamp → List Filed → Address → Packet
 packet_to file stamp waiting address = record {
   header = header_to file stamp address;
@@ -88,7 +83,6 @@ packet_to file stamp waiting address = record {
 unfoldable pub recipients : LinkFile → List Filed → List Address
 recipients file waiting = address_set (flat_map (targets file) waiting)
 
--- One packet for each of these addresses.
 unfoldable pub packets_of : LinkFile → Stamp → List Filed → List Packet
 packets_of file stamp waiting = map (packet_to file stamp waiting) (recipients file waiting)
 

@@ -9,7 +9,6 @@ pub record SystemState : Type 0 where
   pub base : List Filed
   pub cursor : ℕ
 
--- A system without messages.
 abbrev pub state_at_first : LinkFile → SystemState
 state_at_first file = record { file = file; base = []; cursor = 0 }
 

@@ -10,7 +10,6 @@ use Rattle.echo_links.specs.Links.{LinkFile, has_area, is_link}
 use Rattle.echo_filed.specs.{Written.echo_of, Filed.Filed, Filed.key_of}
 use Rattle.base_file.specs.Base.{is_known}
 
--- The filed form of a received message.
 unfoldable pub received : Address → Message → Filed
 received sender packed = record {
   sender = Some sender;
@@ -21,7 +20,6 @@ received sender packed = record {
   echo = echo_of packed.text;
 }
 
--- The outcome of a message with an echomail text.
 abbrev pub outcome_of_filed : LinkFile → List Filed → Address → Filed → Outcome
 outcome_of_filed file base sender m =
     if not (has_area file m.echo.tag) then outcome.NoArea
@@ -29,7 +27,6 @@ outcome_of_filed file base sender m =
     else if is_known base (key_of m) then outcome.Known
     else outcome.Filed
 
--- The outcome of a message with a text that may be refused.
 abbrev pub outcome_after : LinkFile → List Filed → Address → Filed → Option TextFault → Outcome
 outcome_after file base sender m None = outcome_of_filed file base sender m
 outcome_after file base sender m (Some text.NotEcho) = outcome.NotEcho
@@ -40,7 +37,6 @@ unfoldable pub toss_outcome : LinkFile → List Filed → Address → Message �
 toss_outcome file base sender packed =
     outcome_after file base sender (received sender packed) (text_refusal packed.text)
 
--- The message, if its outcome is `Filed`.
 abbrev pub where_filed : Outcome → Filed → Option Filed
 where_filed outcome.Filed m = Some m
 where_filed other m = None
@@ -80,7 +76,6 @@ tossed file base sender [] = base
 tossed file base sender (packed ∷ later) =
     tossed file (base ++ option_to_list (tossing file base sender packed)) sender later
 
--- The outcome of each of these messages.
 abbrev pub outcomes : LinkFile → List Filed → Address → List Message → List Outcome
 outcomes file base sender [] = []
 outcomes file base sender (packed ∷ later) =
@@ -91,10 +86,8 @@ outcomes file base sender (packed ∷ later) =
 abbrev pub zone_of : LinkFile → ℕ → ℕ
 zone_of file zone = if zone == 0 then file.system.zone else zone
 
--- The sender of a packet.
 abbrev pub sender_of : LinkFile → Header → Address
 sender_of file header = record { zone = zone_of file header.orig_zone; net = header.orig_net; node = header.orig_node }
 
--- The destination of a packet.
 abbrev pub destination_of : LinkFile → Header → Address
 destination_of file header = record { zone = zone_of file header.dest_zone; net = header.dest_net; node = header.dest_node }

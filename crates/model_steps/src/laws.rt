@@ -32,8 +32,8 @@ pub fn posting_laws()
         posting file base tag draft serial stamp ≡ Some m → list_any (has_id (id_of file.system serial)) base ≡ false }
 {}
 
-/// A posting is refused with a reason exactly where it is the first that applies. It is filed exactly where no
-/// reason applies.
+/// A posting is refused with a reason exactly where that is the first that applies, and filed exactly where none
+/// applies.
 pub fn posting_refusals()
     ensures refused { (file : LinkFile) (base : List Filed) (tag : List ℕ) (draft : Draft) (serial : ℕ) (stamp : Stamp) (reason : PostFault) →
         (post_refusal file base tag draft serial stamp ≡ Some reason) ↔ IsFirstRefusal file base tag draft serial stamp reason }

@@ -1,10 +1,5 @@
-//! The steps of a system: how posting, tossing, scanning and purging change its base.
-//!
-//! Promise: `PostStep`, `TossStep`, `ScanStep` and `PurgeStep` of specs/. Each keeps the rules of a base.
-//!
-//! Begin with specs/Posting and specs/Tossing. `stamp` and `draft` are posted, `moment` checks and writes a stamp.
-//! `reply_ids` judges the ids that are answered. `outcome` is the result of a tossed message, a scan makes a `packet`. specs/Resending has the packets that are
-//! made again. `fault` lists the refusals, `laws` states the promise.
+//! The steps of a system: how posting, tossing, scanning and purging change its base (`PostStep`, `TossStep`,
+//! `ScanStep` and `PurgeStep` of specs/). Each keeps the rules of a base. Begin with specs/Posting and specs/Tossing.
 #![tactic(auto)]
 
 mod draft;

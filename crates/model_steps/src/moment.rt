@@ -1,4 +1,3 @@
-//! Checks a stamp, and writes it as a DateTime.
 ghost use Rattle.std.specs.{Prelude.◌≡◌, Prelude.◌+◌, Prelude.◌*◌, Prelude.◌/◌, Prelude.◌%◌, Prelude.◌-◌, Prelude.true, Int.is_in_range};
 ghost use Rattle.model_steps.specs.Stamps.{date_of, is_stamp};
 
@@ -55,7 +54,6 @@ pub fn date_of(stamp: Stamp) -> [u8; 20]
     ]
 }
 
-// The last but one decimal digit of a number.
 fn tens(number: u16) -> u8
     ensures { result ≡ 48 + number / 10 % 10 }
 {

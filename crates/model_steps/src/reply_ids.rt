@@ -1,4 +1,3 @@
-//! The ids that a REPLY line may name.
 ghost use Rattle.std.specs.Prelude.{◌≡◌, ◌≤◌, false, not, length, reverse, take_while};
 ghost use Rattle.std.specs.{Char.is_ascii_hexdigit, List.list_all};
 ghost use Rattle.echo_addr.specs.Entries.{is_blank};
@@ -18,14 +17,12 @@ pub fn is_reply_id(bytes: &[u8]) -> bool
     has_line_bytes(id) && (is_quoted(id) || is_numbered(id))
 }
 
-// Whether no byte is 00 or 0D.
 fn has_line_bytes(bytes: &[u8]) -> bool
     ensures { result ≡ list_all is_line_byte bytes.now }
 {
     bytes.iter().all(|b| !(*b == 0 || *b == b'\r'))
 }
 
-// Whether there are an origin, a gap and a number.
 fn is_numbered(id: &[u8]) -> bool
     ensures { result ≡ is_numbered id.now }
 {
@@ -34,7 +31,6 @@ fn is_numbered(id: &[u8]) -> bool
     front.len() < id.len() && spelled.len() < front.len() && is_origin(spelled)
 }
 
-// How many digits to the base 16 are at the end.
 fn digits_len(id: &[u8]) -> usize
     ensures exact { result ≡ length (take_while is_ascii_hexdigit (reverse id.now)) }
     ensures within { result ≤ length id.now }
@@ -45,7 +41,6 @@ fn digits_len(id: &[u8]) -> usize
         .count()
 }
 
-// The bytes without the blanks 20 at their end.
 fn without_gap(front: &[u8]) -> &[u8]
     ensures value { result.now ≡ without_gap front.now }
     ensures within { length result.now ≤ length front.now }
@@ -66,7 +61,6 @@ fn is_origin(spelled: &[u8]) -> bool
     is_quoted(spelled) || is_bare(spelled)
 }
 
-// Whether the bytes are in double quotes, and each double quote between them is doubled.
 fn is_quoted(spelled: &[u8]) -> bool
     ensures { result ≡ is_quoted_origin spelled.now }
 {
@@ -79,7 +73,6 @@ fn is_quoted(spelled: &[u8]) -> bool
     ends_quoted(&spelled[1..])
 }
 
-// Whether there are doubled double quotes and other bytes, and then one double quote.
 fn ends_quoted(rest: &[u8]) -> bool
     ensures { result ≡ ends_quoted false rest.now }
 {
@@ -94,7 +87,6 @@ fn ends_quoted(rest: &[u8]) -> bool
     single
 }
 
-// Whether there are bytes without blanks, of which the first is no double quote.
 fn is_bare(spelled: &[u8]) -> bool
     ensures { result ≡ is_bare_origin spelled.now }
 {

@@ -13,7 +13,6 @@ use Rattle.model_run.specs.{Orderly.copies, Orderly.count, Orderly.origin, Run.d
 use Rattle.model_why.proofs.Counting.{total}
 use Rattle.model_why.specs.Carrying.{crossing_at, crossings_from, step_of}
 
--- the sender of a packet, if it holds the message
 abbrev pub sender_if : Key → Packet → Option Address
 sender_if key p = cond (nat_lt 0 (count key (copies p))) (Some (origin p)) None
 
@@ -37,7 +36,6 @@ crossings-more counts to key k n ps old new all within next added so =
     ∙ ap (λ (t : List Packet). old ++ crossings_from counts to key k t) (sym left)
     ∙ so
 
--- the packet at an index is for the address and holds the message, or not
 pub crossing-there : (counts : List ℕ) (to from : Address) (key : Key) (k step : ℕ) (p : Packet) → same_address (destination p) to ≡ true → step ≡ step_of counts k →
     Some from ≡ sender_if key p → (let one : Crossing = record { step = step; from = from; to = to } in one ∷ []) ≡ crossing_at counts to key k p
 crossing-there counts to from key k step p for is found = grind (arith, same_address_decides)

@@ -11,7 +11,6 @@ use Rattle.model_steps.specs.{declared.packet.Packet.Packet, Tossing.received}
 use Rattle.model_replay.specs.Worlds.{Fits, encoded, unlimited}
 use Rattle.model_run.specs.{Run.destination, Run.nth, Orderly.copies, Orderly.count, Orderly.sent_count}
 
--- the number of copies in a packet for an address
 abbrev pub copies_for : Address → Key → Packet → ℕ
 copies_for to key p = if same_address (destination p) to then count key (copies p) else 0
 
@@ -29,11 +28,9 @@ sent-more to key k n p ps e h =
     let next : n ≡ suc k = omega (arith, e) in
     ap (λ (i : ℕ). sent_count to key (take i ps)) next ∙ sent-step to key k p ps h
 
--- whether a message is a copy
 abbrev pub is_one : Address → Key → Message → Bool
 is_one sender key q = is_none (text_refusal q.text) && same_key (key_of (received sender q)) key
 
--- the number of copies among messages
 abbrev pub total : Address → Key → List Message → ℕ
 total sender key ms = count key (map (received sender) (filter (λ q. is_none (text_refusal q.text)) ms))
 

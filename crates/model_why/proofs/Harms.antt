@@ -21,7 +21,6 @@ of_stub : (tag : List ℕ) (m : Filed) → IsPosting tag (stub_of m) → IsPosti
 unfolding stub_of
 of_stub tag m posting = grind (arith, stub-sender, stub-tag)
 
--- a posting that was filed
 record WasPosted (run : Run) (tag id : List ℕ) : Type 0 where
   system : System
   there : Among system run.systems
@@ -30,7 +29,6 @@ record WasPosted (run : Run) (tag id : List ℕ) : Type 0 where
   posting : IsPosting tag message
   key : key_of message ≡ ById tag id
 
--- the laws about bases
 abbrev pub AreStubs : Run → Type 0
 AreStubs run = (s : System) → Among s run.systems → (i : ℕ) (m filed : Filed) → nth i s.base ≡ Some m → nth i s.history ≡ Some filed →
     (m ≡ filed) ⊎ (m ≡ stub_of filed)

@@ -16,7 +16,6 @@ use Rattle.model_why.specs.Found.{CarriesAt, GoesToNobody, HasPosted, IsCarrierA
 use Rattle.model_why.proofs.Counting.{has_key}
 use Rattle.model_run.proofs.Lists.{and-parts as and-both}
 
--- a posting of this tag and id
 pub is_posted : (m : Filed) (tag id of : List ℕ) (found : Option (List ℕ)) → m.sender ≡ None → of ≡ m.echo.tag → found ≡ msgid_of m.echo.kept →
     bytes_eq of tag && unwrap_or (option_map (λ (f : List ℕ). bytes_eq f id) found) false ≡ true →
     IsPosting tag m × (key_of m ≡ ById tag id)
@@ -58,7 +57,6 @@ posted-at run i tag id a m carrier found is =
       key = is.1;
     }
 
--- if no message of the area is filed, no message has a key of it
 abbrev one_if : Bool → ℕ
 one_if b = cond b 1 0
 
@@ -79,7 +77,6 @@ none_of-area tag id (m ∷ ms) h =
       ap one_if (has_key m tag id),
     )
 
--- the carrier and the poster at an index are systems of the run
 abbrev carrier-there : (run : Run) (i : ℕ) (tag : List ℕ) (a : Address) → CarriesAt run i tag a → IsCarrierAt run tag a
 carrier-there run i tag a carrier = record {
   system = carrier.system;
@@ -118,7 +115,6 @@ lacking-at run i tag id a p poster settled posted carrier none =
       lacks = none_of-area tag id carrier.system.base (subst P carrier.at none);
     }
 
--- no system before this index has the address
 abbrev pub NoneBefore : Run → ℕ → Address → Type 0
 NoneBefore run n to = (j : ℕ) → j < n → (s : System) → nth j run.systems ≡ Some s → s.file.system ≢ to
 
@@ -143,7 +139,6 @@ pub none-all : (run : Run) (n : ℕ) (to : Address) → length run.systems ≤ n
     (s : System) → Among s run.systems → s.file.system ≢ to
 none-all run n to all before s h = grind (arith, in-nth)
 
--- some packet to the address holds it
 abbrev Holding : Address → List ℕ → List ℕ → List Packet → Type 0
 Holding to tag id ps = (p : Packet) × Among p ps × (destination p ≡ to) × (1 ≤ count (ById tag id) (copies p))
 

@@ -10,7 +10,6 @@ use Rattle.model_run.specs.{Orderly.copies, Orderly.count, Orderly.origin, Run.d
 use Rattle.model_why.specs.declared.shown.{Harm.Harm, Harm.TheVariants.NeverGets, Harm.TheVariants.NeverSettles, Harm.TheVariants.SentAgain, Harm.TheVariants.SentOwn, Shown.Shown}
 use Rattle.model_why.specs.Shown.{posting_and_moves, shown_run}
 
--- The system that a harm names.
 abbrev pub system_named : Harm → Option Address
 system_named (SentAgain a times) = Some a
 system_named (SentOwn a) = Some a
@@ -30,7 +29,6 @@ step_of counts k = count_by (λ n. nat_le n k) counts + 1
 abbrev pub crossing : List ℕ → ℕ → Packet → Crossing
 crossing counts k p = record { step = step_of counts k; from = origin p; to = destination p }
 
--- The packet of this index, if it brings the message.
 abbrev pub crossing_at : List ℕ → Address → Key → ℕ → Packet → List Crossing
 crossing_at counts to key k p = if brings to key p then crossing counts k p ∷ [] else []
 
@@ -39,14 +37,12 @@ abbrev pub crossings_from : List ℕ → Address → Key → ℕ → List Packet
 crossings_from counts to key k [] = []
 crossings_from counts to key k (p ∷ later) = crossing_at counts to key k p ++ crossings_from counts to key (k + 1) later
 
--- The crossings of a run, if its harm names this system.
 abbrev pub crossings_to : List LinkFile → List ℕ → Shown → Option Address → List Crossing
 crossings_to files tag shown None = []
 crossings_to files tag shown (Some to) =
     crossings_from (packet_counts (start files) (posting_and_moves shown.poster tag shown.moves)) to (ById tag shown.id) 0
     (shown_run files shown.poster tag shown.moves).packets
 
--- The crossings of a run, for the system that its harm names.
 abbrev pub shown_crossings : List LinkFile → List ℕ → Shown → List Crossing
 shown_crossings files tag shown = crossings_to files tag shown (system_named shown.harm)
 

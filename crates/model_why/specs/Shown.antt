@@ -13,6 +13,5 @@ run_move (Deliver packet) = Delivery packet
 abbrev pub posting_and_moves : ℕ → List ℕ → List Move → List RunEvent
 posting_and_moves poster tag moves = trial_posting poster tag ∷ map run_move moves
 
--- The run of these events on the link files.
 abbrev pub shown_run : List LinkFile → ℕ → List ℕ → List Move → Run
 shown_run files poster tag moves = run_of files (posting_and_moves poster tag moves)

@@ -1,7 +1,5 @@
--- The link files of some bytes.
 use Rattle.std.specs.Prelude.{ℕ, List, map}
 use Rattle.echo_links.specs.{Links.LinkFile, LinkLines.file_of}
 
--- The link file of each of these byte strings.
 abbrev pub files_of : List (List ℕ) → List LinkFile
 files_of sources = map file_of sources

@@ -66,7 +66,6 @@ fn system_named(harm: Harm) -> Option<Address>
     }
 }
 
-// The message of a harm, and the system that the harm names.
 #[derive(Clone, Copy)]
 struct HarmedMessage<'a> {
     to: Address,
@@ -74,7 +73,6 @@ struct HarmedMessage<'a> {
     id: &'a [u8],
 }
 
-// The packets of the net to the system that hold the message. The list has the number of packets after each event.
 fn crossings_to(
     alloc: Global,
     world: &World,
@@ -90,7 +88,6 @@ fn crossings_to(
     Ok(all)
 }
 
-// Adds the packet of this index, if it is one of them.
 fn add_crossing(
     alloc: Global,
     all: &mut Vec<Crossing>,
@@ -114,7 +111,6 @@ fn add_crossing(
     Ok(())
 }
 
-// Who sent the packet of this index, if it holds the message.
 fn sender_at(
     alloc: Global,
     world: &World,
@@ -131,7 +127,6 @@ fn sender_at(
     }
 }
 
-// Who sent these bytes of a packet, if they hold the message.
 fn sender_in(
     alloc: Global,
     bytes: &[u8],
@@ -149,7 +144,6 @@ fn sender_in(
     Ok(Some(origin(&header)))
 }
 
-// The header and the messages of these bytes of a packet.
 fn parts_of(alloc: Global, bytes: &[u8]) -> Result<(Header, Vec<Packed>), AllocError>
     ensures { IfOk result (λ parts. (p : Packet) → Fits p → bytes.now ≡ encoded p → (parts.0 ≡ p.header) × (parts.1.items ≡ p.messages)) }
 {
@@ -169,8 +163,6 @@ fn origin(header: &Header) -> Address
     }
 }
 
-// The number of the event that made the packet of this index. It follows all events after which the packet did not
-// exist.
 fn step_of(counts: &[usize], k: usize) -> usize
     ensures { result ≡ step_of counts.now k }
 {

@@ -1,5 +1,3 @@
-//! A guess is tried on real packets.
-
 ghost use Rattle.std.specs.Prelude.{IfOk, IfSome};
 ghost use Rattle.model_why.specs.Found.{IsShown};
 

@@ -1,5 +1,3 @@
-//! Copies of one message in the packets of a net.
-
 ghost use Rattle.std.specs.Prelude.{◌≡◌, ◌&&◌, false, IfOk, IsTrue, bytes_eq, is_none, unwrap_or, option_copied, option_map, if◌then◌else◌, map, filter};
 ghost use Rattle.echo_addr.specs.declared.address.Address.{Address as Sender};
 ghost use Rattle.echo_filed.specs.{declared.key.Key.TheVariants.ById, Filed.key_of, Filed.same_key};
@@ -16,8 +14,7 @@ use echo_text::{TextFault, view_text};
 use model_replay::World;
 use std::alloc::{AllocError, Global};
 
-/// How many copies of the message with this tag and id the packets to the address hold. Fails only when
-/// out of memory.
+/// How many copies of the message the packets to the address hold. Fails only when out of memory.
 pub(crate) fn sent_times(
     alloc: Global,
     world: &World,
@@ -38,7 +35,6 @@ pub(crate) fn sent_times(
     Ok(times)
 }
 
-// How many copies of it the packet of this index holds: 0 if the packet is for another address.
 fn copies_to(
     alloc: Global,
     world: &World,
@@ -59,7 +55,6 @@ fn copies_to(
     }
 }
 
-/// Whether the packet of this index is for the address.
 pub(crate) fn is_for(world: &World, k: usize, to: Address) -> bool
     ensures { (run : Run) → IsWorldOf world.now run → (p : Packet) → nth k run.packets ≡ Some p → result ≡ same_address (destination p) to }
 {
@@ -69,7 +64,6 @@ pub(crate) fn is_for(world: &World, k: usize, to: Address) -> bool
     }
 }
 
-// How many copies of it these bytes of a packet hold.
 fn copies_in(alloc: Global, bytes: &[u8], tag: &[u8], id: &[u8]) -> Result<usize, AllocError>
     ensures { IfOk result (λ n. (p : Packet) → Fits p → bytes.now ≡ encoded p → n ≡ count (ById tag.now id.now) (copies p)) }
 {
@@ -77,7 +71,6 @@ fn copies_in(alloc: Global, bytes: &[u8], tag: &[u8], id: &[u8]) -> Result<usize
     count_copies(alloc, &messages, tag, id)
 }
 
-// The messages of these bytes of a packet.
 fn messages_in(alloc: Global, bytes: &[u8]) -> Result<Vec<Packed>, AllocError>
     ensures { IfOk result (λ all. (p : Packet) → Fits p → bytes.now ≡ encoded p → all.items ≡ p.messages) }
 {
@@ -87,7 +80,6 @@ fn messages_in(alloc: Global, bytes: &[u8]) -> Result<Vec<Packed>, AllocError>
     }
 }
 
-/// How many of these messages are copies of it, whoever sent them.
 pub(crate) fn count_copies(
     alloc: Global,
     messages: &[Packed],
@@ -105,7 +97,6 @@ pub(crate) fn count_copies(
     Ok(count)
 }
 
-// Whether the message is echomail with this tag and id.
 fn is_copy(alloc: Global, packed: &Packed, tag: &[u8], id: &[u8]) -> Result<bool, AllocError>
     ensures { IfOk result (λ is. (sender : Sender) → is ≡ (is_none (text_refusal packed.now.text) && same_key (key_of (received sender packed.now)) (ById tag.now id.now))) }
 {
@@ -116,7 +107,6 @@ fn is_copy(alloc: Global, packed: &Packed, tag: &[u8], id: &[u8]) -> Result<bool
     }
 }
 
-// Whether a message of the area `of` with this id, if any, has this tag and id.
 fn is_of(of: &[u8], msgid: Option<&[u8]>, tag: &[u8], id: &[u8]) -> bool
     ensures { result ≡ (bytes_eq of.now tag.now && unwrap_or (option_map (λ found. bytes_eq found id.now) (option_copied msgid.entry)) false) }
 {
@@ -126,7 +116,6 @@ fn is_of(of: &[u8], msgid: Option<&[u8]>, tag: &[u8], id: &[u8]) -> bool
     }
 }
 
-/// Whether the message was posted at the system that filed it, with this tag and id.
 pub(crate) fn is_posting(message: &Filed, tag: &[u8], id: &[u8]) -> bool
     ensures { IsTrue result → (IsPosting tag.now message.now × (key_of message.now ≡ ById tag.now id.now)) }
 {

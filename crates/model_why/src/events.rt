@@ -1,5 +1,3 @@
-//! The events of a posting and of the moves after it.
-
 ghost use Rattle.std.specs.Prelude.{◌≡◌, IfOk, map};
 ghost use Rattle.model_run.specs.{Event.run_event, Postings.trial_draft, Postings.trial_posting};
 ghost use Rattle.model_why.specs.Shown.{posting_and_moves, run_move};
@@ -52,7 +50,6 @@ fn posting(alloc: Global, poster: usize, tag: &[u8]) -> Result<Event, AllocError
     })
 }
 
-// The posted message.
 fn draft(alloc: Global) -> Result<Draft, AllocError>
     ensures { IfOk result (λ draft. draft ≡ trial_draft) }
 {

@@ -1,5 +1,3 @@
-//! Why an area is not in order: a run that does harm.
-
 ghost use Rattle.std.specs.Prelude.{IfOk, IfSome};
 ghost use Rattle.model_why.specs.{Found.IsShown, Sources.files_of};
 

@@ -1,5 +1,3 @@
-//! Whether a guess of the harm is right for a net.
-
 ghost use Rattle.std.specs.Prelude.{◌≡◌, ◌≢◌, IfOk, IfSome, IsTrue, Some};
 ghost use Rattle.model_graph.specs.Walk.{Among};
 ghost use Rattle.echo_links.specs.Links.{same_address};
@@ -15,8 +13,7 @@ use model_replay::World;
 use model_run::settled_runs_settle_each_area;
 use std::alloc::{AllocError, Global};
 
-/// The harm that the guess names, if the guess is right for the net. The message has this tag and id, and the
-/// system of index `poster` posted it. Fails only when out of memory.
+/// The harm that the guess names, if it is right for the net. `poster` is the system that posted the message.
 pub(crate) fn judge(
     alloc: Global,
     world: &World,
@@ -35,7 +32,6 @@ pub(crate) fn judge(
     }
 }
 
-// Whether the carrier of this index is sent the message again.
 fn sent_again(
     alloc: Global,
     world: &World,
@@ -55,7 +51,6 @@ fn sent_again(
     Ok(Some(Harm::SentAgain(address, times)))
 }
 
-// Whether the system that posted the message is sent it.
 fn sent_own(
     alloc: Global,
     world: &World,
@@ -75,7 +70,6 @@ fn sent_own(
     Ok(Some(Harm::SentOwn(address)))
 }
 
-// Whether all has settled, and the carrier of index `system` lacks what that of index `poster` posted.
 fn never_got(world: &World, poster: usize, system: usize, tag: &[u8], id: &[u8]) -> Option<Harm>
     ensures { IfSome result (λ harm. (run : Run) → IsWorldOf world.now run → HasHarm run tag.now id.now harm) }
 {
@@ -91,7 +85,6 @@ fn never_got(world: &World, poster: usize, system: usize, tag: &[u8], id: &[u8])
     Some(Harm::NeverGets(address))
 }
 
-// Whether a packet to the address holds the message, and no system has the address.
 fn gone_to_nobody(
     alloc: Global,
     world: &World,
@@ -111,7 +104,6 @@ fn gone_to_nobody(
     Ok(Some(Harm::NeverSettles))
 }
 
-// Whether no system has the address.
 fn is_nobody(world: &World, to: Address) -> bool
     ensures { IsTrue result → (run : Run) → IsWorldOf world.now run → (s : System) → Among s run.systems → s.file.system ≢ to }
 {
@@ -123,7 +115,6 @@ fn is_nobody(world: &World, to: Address) -> bool
     true
 }
 
-// Whether the system of this index has the address.
 fn has_address(world: &World, i: usize, to: Address) -> bool
     ensures { (run : Run) → IsWorldOf world.now run → (s : System) → nth i run.systems ≡ Some s → result ≡ same_address s.file.system to }
 {
@@ -133,7 +124,6 @@ fn has_address(world: &World, i: usize, to: Address) -> bool
     }
 }
 
-// The address of the system of this index, if it has the area.
 fn carrier_at(world: &World, i: usize, tag: &[u8]) -> Option<Address>
     ensures { IfSome result (λ a. (run : Run) → IsWorldOf world.now run → CarriesAt run i tag.now a) }
 {
@@ -144,7 +134,6 @@ fn carrier_at(world: &World, i: usize, tag: &[u8]) -> Option<Address>
     Some(file.system())
 }
 
-// The address of the system of this index, if the first message of its base is the posting of this id.
 fn poster_at(world: &World, i: usize, tag: &[u8], id: &[u8]) -> Option<Address>
     ensures { IfSome result (λ a. (run : Run) → IsWorldOf world.now run → PostedAt run i tag.now id.now a) }
 {

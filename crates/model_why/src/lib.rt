@@ -1,12 +1,6 @@
-//! Why an area is not in order: a run on its link files that does harm.
-//!
-//! The contract for the layer above is that of `explain`: the run that it returns has the harm that it names. A plan of
-//! `model_plan` is tried on real packets. No clause says that a run is found.
-//!
-//! Begin with `explaining` (the whole) and `shown` (the result). `events` and `confirming` try the plan of a fault.
-//! `copies` finds one message in the packets of a net, and `judging` whether a guess is right of a net. `sources` reads
-//! link files from bytes. `carrying` finds which packets bring the message to the harm, and `laws` has what holds of the
-//! result.
+//! Why an area is not in order: a run on its link files that does harm. The run that `explain` returns has the harm
+//! that it names. A plan of `model_plan` is tried on real packets; no clause says that a run is found. Begin with
+//! `explaining` (the whole) and `shown` (the result).
 #![tactic(auto)]
 
 mod carrying;

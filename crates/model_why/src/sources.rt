@@ -1,5 +1,3 @@
-//! Link files, read from their bytes as often as they are needed.
-
 ghost use Rattle.std.specs.Prelude.{◌≡◌, IfOk};
 ghost use Rattle.echo_links.specs.LinkLines.{file_of};
 ghost use Rattle.model_why.specs.Sources.{files_of};
@@ -8,7 +6,6 @@ use echo_addr::Items;
 use echo_links::LinkFile;
 use std::alloc::{AllocError, Global};
 
-/// The link files of these bytes. Fails if some bytes are no link file, and when out of memory.
 pub(crate) fn read_files(alloc: Global, sources: &[Items<u8>]) -> Result<Vec<LinkFile>, AllocError>
     ensures { IfOk result (λ files. files.items ≡ files_of sources.now) }
 {

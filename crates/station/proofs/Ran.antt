@@ -9,7 +9,7 @@ use Rattle.base_store.proofs.Runs.{same_store}
 use Rattle.cmd_store.specs.{Answered.HasCommitted, Answered.MayMake, Answered.RepresentsMade, Answered.StaysWhereMet, Bounded.IsPast, Bounded.StaysTooMany, Stops.store_answer}
 use Rattle.cmd_store.specs.declared.command_error.CommandError.{CommandError, TheVariants.Met, TheVariants.Store}
 use Rattle.station.specs.Place.{IsOfPlace, KeepsElsewhere, Place, SameElsewhere, RepresentsAlone, RepresentsOrWasLeft}
-use Rattle.station.specs.Running.{IsKept, IsRunOn, MadeOrWasLeft, RepresentsAsBefore, RepresentsWhereMet}
+use Rattle.station.specs.Running.{IsKept, IsRunOn, MadeOrWasLeft, NeedsBase, RepresentsAsBefore, RepresentsWhereMet}
 use Rattle.station.specs.Opening.{IsOpenFor}
 use Rattle.echo_filed.specs.Filed.{Filed}
 
@@ -56,6 +56,11 @@ module _ (place : Place) (d0 : DiskState) (s0 s1 : StoreState) (looks : LooksOn 
     represented = λ base c. (λ h. (of.represented base c).0 ((looks.same.represented base c).0 h), λ h. (looks.same.represented base c).1 ((of.represented base c).1 h));
     elsewhere = elsewhere_quiet place d0 s0.disk s1.disk of.elsewhere looks.quiet;
   }
+
+-- where the files hold a base, any result is allowed
+pub needs_held : {T E : Type 0} (Holds NotRun : Type 0) (old new : DiskState) (result : Result T E) → Holds → NeedsBase Holds NotRun old new result
+needs_held Holds NotRun old new (Ok done) holds = record { whole = holds; refused = λ none. absurd (none holds); untouched = λ none. absurd (none holds) }
+needs_held Holds NotRun old new (Err why) holds = record { whole = tt; refused = λ none. absurd (none holds); untouched = λ none. absurd (none holds) }
 
 -- the reason why the store held too much
 pub past_of : {T : Type 0} (state : T → StoreState) (Adds : Base → Filed → Type 0) (May : Base → Base → Type 0) (held : Bool) (old new : StoreState) → StaysTooMany held state Adds May old new → IsPast held state Adds May old

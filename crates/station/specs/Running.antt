@@ -1,7 +1,7 @@
 -- A command is run on a station.
 use Rattle.std.specs.Prelude.{◌≡◌, ◌⊎◌, Bool, Result, Err, IfErr, OnOk, IsErrOf}
 use Rattle.base_file.specs.Base.{Base}
-use Rattle.disk_io.specs.{Disk.DiskState, Disk.Files, Runs.LeavesOnly}
+use Rattle.disk_io.specs.{Disk.DiskState, Disk.Files, Runs.ChangesNothing, Runs.LeavesOnly}
 use Rattle.echo_links.specs.Links.{LinkFile}
 use Rattle.cmd_status.specs.{declared.fault.Fault.Fault, Devices.Output}
 use Rattle.base_store.specs.{Store.StoreState, declared.store_error.StoreError.TheVariants.Damaged, declared.store_error.StoreError.TheVariants.Device}
@@ -74,6 +74,12 @@ abbrev pub RunsIn : {A : Type 0} → (LinkFile → Base → Type 0) → (LinkFil
 RunsIn IsAnswer Makes May place Reads Shut Stops failed old new old_out new_out result =
     IsRun IsAnswer Makes May place Reads failed old new result
     ⊎ (IsNotRun place Shut old new old_out new_out result ⊎ IsStopped place Stops old new old_out new_out result)
+
+-- A command ends well only where the files hold a base. Where they hold none, it is not run, and nothing changes.
+pub record NeedsBase {T E : Type 0} (Holds NotRun : Type 0) (old new : DiskState) (result : Result T E) : Type 0 where
+  pub whole : OnOk result Holds
+  pub refused : (Holds → ⊥) → NotRun
+  pub untouched : (Holds → ⊥) → ChangesNothing old new
 
 -- The store of the station held too much for a command that may add these messages. A crash leaves the base from before.
 pub record IsRefusedFull {K : Type 0} (state : K → StoreState) (held : Bool) (Adds : LinkFile → Base → Filed → Type 0) (May : LinkFile → Base → Base → Type 0) (place : Place) (Reads : LinkFile → Type 0) (old new : DiskState) : Type 0 where

@@ -2,13 +2,13 @@
 ghost use Rattle.std.specs.Prelude.{◌⊎◌, IsErrOf, OnOk};
 ghost use Rattle.disk_io.specs.{Disk.Honestly, Runs.ChangesNothing};
 ghost use Rattle.cmd_status.specs.Devices.{output_of};
-ghost use Rattle.station.specs.{Opening.AreFree, Opening.HaveFailed, Place.KeepsElsewhere, Running.IsRefusedFull, Running.RunsIn};
+ghost use Rattle.station.specs.{Opening.AreFree, Opening.HaveFailed, Place.KeepsElsewhere, Running.IsNotRun, Running.IsRefusedFull, Running.NeedsBase, Running.RunsIn};
 ghost use Rattle.base_store.specs.declared.store_error.StoreError.TheVariants.{TooMany};
 ghost use Rattle.cmd_store.specs.declared.command_error.CommandError.TheVariants.{Store};
 
 use crate::before::BeforeCommand;
 use crate::locks::Locks;
-use crate::opening::{OpenStation, Opened};
+use crate::opening::{OpenStation, Opened, lock_and_open};
 use cmd_status::FileLock;
 use cmd_store::{CommandError, StoreCommand};
 use disk_io::{Disk, Sink};
@@ -56,10 +56,14 @@ pub fn run_command<
         (output_of W.contents W.failures W.holds out.old) (output_of W.contents W.failures W.holds out.new) result.done) }
     ensures many { Honestly (D.state result.disk) (IsErrOf result.done (Store TooMany)
         → IsRefusedFull P.Kept.state (C.commits_held command.old) (C.adds command.old) (C.may command.old command.new) (P.place station) (P.reads station (D.state disk)) (D.state disk) (D.state result.disk)) }
+    ensures needs { Honestly (D.state result.disk) (NeedsBase (P.holds_base station (D.state disk).seen)
+        (IsNotRun (P.place station) (P.is_shut station (HaveFailed (D.failures disk) (D.failures result.disk) (L.failures locks.old.links) (L.failures locks.new.links) (K.failures locks.old.base) (K.failures locks.new.base))
+        (D.state disk) (D.state result.disk)) (D.state disk) (D.state result.disk) (output_of W.contents W.failures W.holds out.old) (output_of W.contents W.failures W.holds out.new) result.done)
+        (D.state disk) (D.state result.disk) result.done) }
     ensures elsewhere { KeepsElsewhere (P.place station) (D.state disk) (D.state result.disk) }
     ensures passed { OnOk result.done (Q.lets before.old) }
 {
-    match station.open(alloc, disk, locks) {
+    match lock_and_open(alloc, disk, locks, station) {
         Ok(opened) => {
             let Opened { links, kept } = opened;
             let mut kept = kept;

@@ -1,15 +1,18 @@
 -- A folder that was begun, as an open station.
-use Rattle.std.proofs.Common.{◌≤◌, ℕ, Bool, List, arith}
+use Rattle.std.proofs.Common.{◌≤◌, ◌⊎◌, ℕ, Bool, List, Result, Ok, Err, ⊎_elim, inl, inr, arith}
+use Rattle.std.specs.Prelude.{IfErr}
 use Rattle.base_file.specs.Base.{Base}
-use Rattle.disk_io.specs.{Disk.DiskState, Disk.Honestly, Runs.LeavesOnly}
+use Rattle.disk_io.specs.{Disk.DiskState, Disk.Honestly, Runs.ChangesNothing, Runs.LeavesOnly}
 use Rattle.disk_io.proofs.Moments.{weaker_run}
 use Rattle.base_log.specs.Moments.{KeepsOutside}
-use Rattle.station_bases.specs.{Opening.IsBegun, Opening.IsOfFolder, InFolder.IsFolderShut, InFolder.IsOwnLinks, InFolder.folder_place}
+use Rattle.station_bases.specs.{Opening.IsBegun, Opening.IsLockedOut, Opening.IsOfFolder, Opening.IsShut, InFolder.IsFolderShut, InFolder.IsOwnLinks, InFolder.folder_place}
+use Rattle.base_folder.specs.Wrong.{IsSound}
 use Rattle.base_folder_store.specs.Held.{RepresentsBase, RepresentsBaseOrWasLeft}
 use Rattle.echo_links.specs.Links.{LinkFile}
 use Rattle.cmd_status.specs.declared.fault.Fault.{Fault}
 use Rattle.base_store.specs.Store.{StoreState}
-use Rattle.station.specs.{Opening.IsNotOpened, Opening.IsOpened, Place.KeepsElsewhere, Place.RepresentsOrWasLeft}
+use Rattle.station.proofs.Failures.{fails_wider, no_links_wider, not_locked, nothing_done}
+use Rattle.station.specs.{Faults.FailsAt, Opening.IsNotOpened, Opening.IsOpened, Place.KeepsElsewhere, Place.RepresentsOrWasLeft}
 
 module _ (keyed : ℕ → ℕ → List ℕ → ℕ) (path : List ℕ) (d0 : DiskState) where
   elsewhere_of : (d1 : DiskState) → KeepsOutside path d0 d1 → KeepsElsewhere (folder_place keyed path) d0 d1
@@ -28,6 +31,27 @@ module _ (keyed : ℕ → ℕ → List ℕ → ℕ) (path : List ℕ) (d0 : Disk
     of_place = record { own = λ m. (of.own m).0; represented = of.represented; elsewhere = elsewhere_of s.disk of.outside };
     later = later;
   }
+
+  -- where the folder holds no base, nothing was changed
+  pub shut_untouched : (d1 : DiskState) (links base : List ℕ) (strange : Bool) (failed : Type 0) (fault : Fault) → IsFolderShut links base path strange failed d0 d1 fault
+      → (IsSound strange path d0.seen → ⊥) → ChangesNothing d0 d1
+  shut_untouched d1 links base strange failed fault shut none = ⊎_elim (λ out. out.same) (λ not. not.folder.untouched none) shut
+
+  -- the same reason for the failures of a whole run
+  pub folder_shut_wider : (d1 : DiskState) (links base : List ℕ) (strange : Bool) (P F : Type 0) (fault : Fault) → (P → F) → IsFolderShut links base path strange P d0 d1 fault → IsFolderShut links base path strange F d0 d1 fault
+  folder_shut_wider d1 links base strange P F fault more shut =
+      ⊎_elim (λ (out : IsLockedOut links base P d0 d1 fault). inl (record { same = out.same; cause = ⊎_elim (λ none. inl (no_links_wider d0 links P F fault more none)) (λ at. inr (fails_wider base P F fault more at)) out.cause }))
+      (λ (not : IsShut links base path strange P d0 d1 fault). inr (record {
+        file = not.file;
+        of_links = not.of_links;
+        folder = record { why = not.folder.why; wrong = not.folder.wrong; left = not.folder.left; recorded = not.folder.recorded; cause = λ is. more (not.folder.cause is); untouched = not.folder.untouched };
+      })) shut
+
+  -- a lock was not taken
+  pub folder_locked_out : {T : Type 0} (links base : List ℕ) (strange : Bool) (P Q F : Type 0) (result : Result T Fault) → (P → F) → (Q → F) → IfErr result (λ fault. FailsAt links P fault ⊎ FailsAt base Q fault)
+      → IfErr result (IsFolderShut links base path strange F d0 d0)
+  folder_locked_out links base strange P Q F (Ok done) first second fails = tt
+  folder_locked_out links base strange P Q F (Err fault) first second fails = inl (record { same = nothing_done d0; cause = not_locked d0 links base P Q F fault first second fails })
 
   pub is_not_opened : (d1 : DiskState) (links base : List ℕ) (strange : Bool) (failed : Type 0) (fault : Fault) → Honestly d1 (IsFolderShut links base path strange failed d0 d1 fault)
       → Honestly d1 ((b : Base) → RepresentsBase keyed path b d0.seen → LeavesOnly d0 d1 (RepresentsBaseOrWasLeft keyed path d0 b)) → KeepsOutside path d0 d1

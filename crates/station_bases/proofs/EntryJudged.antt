@@ -1,13 +1,14 @@
 -- The entries of the first messages of a base file, of one more, and of all.
-use Rattle.std.proofs.Common.{◌≡◌, ℕ, ◌+◌, ◌-◌, ◌*◌, ◌/◌, ◌<◌, ◌≤◌, ◌^◌, nat_lt, Bool, false, List, [], ◌∷◌, ◌++◌, length, map, take, drop, refl, sym, ap, subst, ◌∙◌, Ok, arith, append_assoc, length-append, length-drop}
+use Rattle.std.proofs.Common.{◌≡◌, ℕ, ◌+◌, ◌-◌, ◌*◌, ◌/◌, ◌<◌, ◌≤◌, ◌^◌, nat_lt, Bool, false, List, [], ◌∷◌, ◌++◌, length, map, take, drop, refl, sym, ap, subst, ◌∙◌, Some, arith, append_assoc, length-append, length-drop}
 use Rattle.std.proofs.lemmas.List.{append-nil, drop-append-le, drop-drop, drop_at, length-map, length-take-le, take-append-drop, take_at}
 use Rattle.std.specs.List.{AllByRecursion, flat_map}
 use Rattle.echo_filed.specs.{Filed.Filed, Stored.Stored, Stored.message_in, Stored.stored_bytes, declared.key.Key.Key, declared.stored.Version.Version, declared.stored.Version.TheVariants.Second}
-use Rattle.base_file.specs.BaseFile.{AreSound, BaseOf, Begins, LoadOf, Loaded, head_bytes, magic, stored_from}
+use Rattle.base_file.specs.BaseFile.{AreSound, BaseOf, Begins, head_bytes, magic, stored_from}
 use Rattle.base_file.specs.{Alone.MayStandAlone, Base.Base, Base.IsBase, Base.is_known, Pieces.BeginsWith, Pieces.IsJudged, declared.base.loading.Head.Head}
 use Rattle.base_file.specs.declared.piece.Next.TheVariants as next
-use Rattle.base_file.proofs.{LoneMessages.represented_alone, Loaded.all_filed, Loaded.loaded_is_base, Loading.base_is, Loading.say_more, Loading.whole_loads, Pieces.head_begins, Pieces.next_begins}
+use Rattle.base_file.proofs.{LoneMessages.represented_alone, Loaded.all_filed, Loaded.loaded_is_base, Loading.say_more, Loading.whole_loads, Pieces.head_begins, Pieces.next_begins}
 use Rattle.base_file.proofs.{SavedAgain.saved_again, SavedMessages.saved_parts}
+use Rattle.cmd_status.specs.Inputs.{IsBaseGiven}
 use Rattle.base_store.specs.{Keys.digested, Keys.digested_key, Keys.entry, Keys.keys_from, Sip.sip_digest, declared.sip.SipDigest.SipDigest}
 use Rattle.base_store.proofs.{Digests.of_key, Placed.keys_append, Placed.keys_long}
 use Rattle.station_bases.specs.Entries.{AreEntriesOf, HoldEntries, KeepForms, entry_digest, message_bytes}
@@ -117,15 +118,9 @@ module _ (file : List ℕ) (head : Head) (e f : Entries) (j : AreJudged file hea
       }
 
 -- all messages
-two_loads : (x y : Loaded) (file : List ℕ) → LoadOf file (Ok x) → LoadOf file (Ok y) → x ≡ y
-two_loads x y file one other =
-    let a = base_is file x one.0 one.1 in
-    let b = base_is file y other.0 other.1 in
-    cc (a, b)
-
 module _ (file : List ℕ) (head : Head) (e : Entries) (j : AreJudged file head e) (fits : e.end < 2 ^ 64) where
-  pub judged_holds : head.number ≤ length e.keys.items / 16 → e.cursor ≡ head.cursor → (base : Base) (size : ℕ) → LoadOf file (Ok (base.messages, base.cursor, size)) → HoldEntries file e base
-  judged_holds enough cursor base size loads =
+  pub judged_holds : head.number ≤ length e.keys.items / 16 → e.cursor ≡ head.cursor → (base : Base) × IsBaseGiven (Some file) base.messages base.cursor × HoldEntries file e base
+  judged_holds enough cursor =
       let few = j.few in
       let many : head.number ≡ length j.all = omega (arith, few, enough, count_judged file head e j) in
       let n = length file - length (drop e.end file) in
@@ -150,8 +145,7 @@ module _ (file : List ℕ) (head : Head) (e : Entries) (j : AreJudged file head 
         forms = j.forms;
         cursor = cursor;
       } in
-      let one = two_loads (messages, head.cursor, n) (base.messages, base.cursor, size) file own loads in
-      subst (λ (x : Loaded). HoldEntries file e (record { messages = x.0; cursor = x.1 })) one held
+      (record { messages = messages; cursor = head.cursor }, (n, own), held)
 
 -- a message that is whole in a piece of the file
 pub sound_here : (file : List ℕ) (piece : Piece) (cursor place at : ℕ) (bytes : List ℕ) (key : Key) (size : ℕ) (short : Bool) → IsPartOf file piece → piece.begins ≤ at → at - piece.begins ≤ length piece.bytes.items

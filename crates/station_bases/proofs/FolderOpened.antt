@@ -5,7 +5,7 @@ use Rattle.base_file.specs.Base.{Base}
 use Rattle.disk_io.specs.{Disk.DiskState, Disk.Files, Runs.ChangesNothing}
 use Rattle.disk_io.proofs.Moments.{nothing_twice}
 use Rattle.base_log.proofs.{Keeping.outside_quiet, Keeping.outside_twice, Quiet.seen_quiet as seen_same}
-use Rattle.base_folder.specs.{Ours.IsLeftAlone, Ours.IsNotOurs, Unopened.OpensOnly, declared.open_error.OpenError.OpenError}
+use Rattle.base_folder.specs.{Ours.IsLeftAlone, Ours.IsNotOurs, Unopened.OpensOnly, Wrong.IsSound, declared.open_error.OpenError.OpenError}
 use Rattle.base_folder.proofs.Openings.{opened_run_since}
 use Rattle.station_bases.specs.Opening.{IsNotOpened}
 use Rattle.cmd_status.specs.declared.fault.Fault.{Fault}
@@ -26,6 +26,7 @@ not_opened own other strange base path part failed d e f fault same more quiet s
   left = left_alone d e f shut.why quiet shut.left;
   recorded = shut.recorded;
   cause = λ is. more (shut.cause is);
+  untouched = λ none. nothing_twice d e f quiet (shut.untouched (λ sound. none (subst (λ (files : Files). IsSound strange path files) (seen_same d e quiet) sound)));
 }
 
 -- the same for a run

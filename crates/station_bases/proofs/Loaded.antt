@@ -5,7 +5,7 @@ use Rattle.base_file.specs.{Base.Base, BaseFile.Loaded, Loading.AnswersLoad, Loa
 use Rattle.base_file.specs.declared.fault.BaseFault.TheVariants as fault
 use Rattle.base_file.proofs.OneBase.{ok_no_err}
 
-abbrev base_in : Result Loaded BaseFault → Base
+abbrev pub base_in : Result Loaded BaseFault → Base
 base_in (Ok loaded) = record { messages = loaded.0; cursor = loaded.1 }
 base_in (Err why) = record { messages = []; cursor = 0 }
 

@@ -31,6 +31,12 @@ abbrev pub IsHeld : {S T : Type 0} → DiskState → List ℕ → Held S T → B
 IsHeld disk path (Apart e) b = HoldEntries (bytes_in (disk.seen path)) e b
 IsHeld disk path (Whole base) b = b ≡ base
 
+-- These files have a base at the path, which the entries, or the memory, hold.
+pub record IsReadAs {S T : Type 0} (files : Files) (disk : DiskState) (path : List ℕ) (held : Held S T) : Type 0 where
+  pub base : Base
+  pub represented : RepresentsInFile path base files
+  pub is : IsHeld disk path held base
+
 -- All messages are in memory.
 abbrev pub IsInMemory : {S T : Type 0} → Held S T → Type 0
 IsInMemory (Apart e) = ⊥

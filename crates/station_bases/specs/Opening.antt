@@ -2,7 +2,7 @@
 use Rattle.std.specs.Prelude.{◌≡◌, ◌⊎◌, ◌↔◌, ℕ, Bool, List}
 use Rattle.echo_addr.specs.declared.address.Address.{Address}
 use Rattle.base_file.specs.Base.{Base}
-use Rattle.base_folder.specs.{Ours.IsLeftAlone, Ours.IsNotOurs, Ours.IsOfOther, OpenError.IsReportedAs, declared.open_error.OpenError.OpenError}
+use Rattle.base_folder.specs.{Ours.IsLeftAlone, Ours.IsNotOurs, Ours.IsOfOther, Wrong.IsSound, OpenError.IsReportedAs, declared.open_error.OpenError.OpenError}
 use Rattle.base_folder.specs.Unopened.{HasOpened, HaveRoom, IsOpenedFor}
 use Rattle.base_folder.specs.declared.open_error.OpenError.TheVariants as unread
 use Rattle.disk_io.specs.{Disk.DiskState, Disk.Files, Disk.Honestly, Disk.IsIn, Runs.ChangesNothing, Runs.LeavesOnly}
@@ -20,6 +20,7 @@ pub record IsNotOpened (own : Address) (strange : Bool) (base path : List ℕ) (
   pub left : IsLeftAlone old new why
   pub recorded : IsReportedAs base why fault
   pub cause : why ≡ unread.Device → failed
+  pub untouched : (IsSound strange path old.seen → ⊥) → ChangesNothing old new
 
 -- Nothing was changed: there are no links, or the folder cannot be locked.
 pub record IsLockedOut (links base : List ℕ) (failed : Type 0) (old new : DiskState) (fault : Fault) : Type 0 where
@@ -36,6 +37,7 @@ pub record IsShut (links base path : List ℕ) (strange : Bool) (failed : Type 0
 pub record IsBegun (keyed : ℕ → ℕ → List ℕ → ℕ) (links path : List ℕ) (strange : Bool) (old : DiskState) (s : StoreState) (file : LinkFile) : Type 0 where
   pub of_links : AreLinks old links file
   pub ours : (address : Address) → IsOfOther file.system strange path old.seen address → ⊥
+  pub sound : IsSound strange path old.seen
   pub keeps : (base : Base) → RepresentsBase keyed path base old.seen → s.keeps base
   pub committed : (base : Base) → RepresentsBase keyed path base old.seen → s.committed base
   pub run : (base : Base) → RepresentsBase keyed path base old.seen → LeavesOnly old s.disk (RepresentsBaseOrWasLeft keyed path old base)
@@ -45,6 +47,7 @@ pub record IsOpenStation (links path : List ℕ) (strange : Bool) (first second 
   pub of_links : Honestly new (AreLinks old links file)
   pub own : IsOpenedFor path file.system first second new folder
   pub other : Honestly new ((address : Address) → IsOfOther file.system strange path old.seen address → ⊥)
+  pub sound : Honestly new (IsSound strange path old.seen)
   pub same : Honestly new ((keyed : ℕ → ℕ → List ℕ → ℕ) (base : Base) → HaveRoom keyed → RepresentsBase keyed path base old.seen → HasOpened keyed new base folder)
 
 -- The store is that of this folder, calls are allowed, and nothing outside has changed.

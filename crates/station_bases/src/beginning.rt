@@ -1,10 +1,9 @@
 //! A base folder of a station opened as a store.
-ghost use Rattle.std.specs.Prelude.{◌≡◌, ◌≤◌, ◌⊎◌, IfErr, IfOk, OnOk, Some};
+ghost use Rattle.std.specs.Prelude.{◌≡◌, ◌≤◌, IfErr, IfOk, Some};
 ghost use Rattle.base_folder.specs.{Ours.number_of, Unopened.OpensOnly};
-ghost use Rattle.disk_io.specs.{Disk.Honestly, Runs.ChangesNothing};
+ghost use Rattle.disk_io.specs.{Device.Failed, Disk.Honestly};
 ghost use Rattle.base_log.specs.Opening.{AreAlone};
-ghost use Rattle.station.specs.Opening.{AreFree, HaveFailed};
-ghost use Rattle.station_bases.specs.Opening.{IsBegun, IsLockedOut, IsOfFolder, IsShut};
+ghost use Rattle.station_bases.specs.{InFolder.IsFolderShut, Opening.IsBegun, Opening.IsOfFolder};
 
 use crate::opening::{Station, open_station};
 use crate::place::{FolderPlace, FolderProbe};
@@ -13,6 +12,7 @@ use base_store::{Digest, Store};
 use cmd_status::{Fault, FileLock};
 use disk_io::Disk;
 use echo_links::LinkFile;
+use station::Locks;
 use std::alloc::Global;
 
 /// The link file of a station, and its folder as a store.
@@ -33,26 +33,22 @@ pub(crate) struct NotBegun<'a, D> {
 pub(crate) fn open_store<'a, D: Disk + Drop, H: Digest, L: FileLock, K: FileLock>(
     alloc: Global,
     disk: D,
-    lock: &mut L,
-    held: &mut K,
+    locks: &Locks<L, K>,
     at: FolderPlace<'a>,
     found: FolderProbe,
 ) -> Result<Begun<D, H>, NotBegun<'a, D>>
-    requires free { AreFree (L.held lock.old) (K.held held.old) }
+    requires locked { (L.held locks.now.links ≡ Some at.links.now) × (K.held locks.now.base ≡ Some at.base.now) }
     requires alone { Honestly (D.state disk) (AreAlone at.path.now (D.state disk)) }
-    ensures both { OnOk result ((L.held lock.new ≡ Some at.entry.links.now) × (K.held held.new ≡ Some at.entry.base.now)) }
-    ensures locked { IfErr result (λ stopped. ((L.held lock.new ≡ Some at.entry.links.now) × (K.held held.new ≡ Some at.entry.base.now)) ⊎ ChangesNothing (D.state disk) (D.state stopped.disk)) }
     ensures begun { IfOk result (λ begun. Honestly (D.state begun.store.disk)
         (IsBegun H.keyed at.entry.links.now at.entry.path.now found.strange (D.state disk) (⟦<FolderStore<D, H> as Store>⟧.state begun.store) begun.links)) }
     ensures of_folder { IfOk result (λ begun. IsOfFolder H.keyed at.entry.path.now (D.state disk) (⟦<FolderStore<D, H> as Store>⟧.state begun.store) × (begun.store.folder.recorded.mark.owner ≡ number_of begun.links.system)) }
     ensures later { IfOk result (λ begun. D.failures disk ≤ D.failures begun.store.disk) }
     ensures run { IfErr result (λ stopped. OpensOnly at.entry.path.now (D.state disk) (D.state stopped.disk)) }
-    ensures err { IfErr result (λ stopped. Honestly (D.state stopped.disk) (
-        IsLockedOut at.entry.links.now at.entry.base.now (HaveFailed (D.failures disk) (D.failures stopped.disk) (L.failures lock.old) (L.failures lock.new) (K.failures held.old) (K.failures held.new)) (D.state disk) (D.state stopped.disk) stopped.fault
-        ⊎ IsShut at.entry.links.now at.entry.base.now at.entry.path.now found.strange (HaveFailed (D.failures disk) (D.failures stopped.disk) (L.failures lock.old) (L.failures lock.new) (K.failures held.old) (K.failures held.new)) (D.state disk) (D.state stopped.disk) stopped.fault)) }
+    ensures err { IfErr result (λ stopped. Honestly (D.state stopped.disk)
+        (IsFolderShut at.entry.links.now at.entry.base.now at.entry.path.now found.strange (Failed (D.failures disk) (D.failures stopped.disk)) (D.state disk) (D.state stopped.disk) stopped.fault)) }
 {
     let mut disk = disk;
-    match open_station(alloc, &mut disk, lock, held, at, found) {
+    match open_station(alloc, &mut disk, locks, at, found) {
         Ok(Station { links, folder }) => Ok(Begun {
             links,
             store: FolderStore::new(alloc, disk, folder),

@@ -1,11 +1,12 @@
 //! A base file of version 2 is opened: its messages are judged where they are, and their entries made.
-ghost use Rattle.std.specs.Prelude.{◌≡◌, ◌≤◌, ◌<◌, ◌+◌, ◌-◌, ◌/◌, ◌++◌, ◌||◌, ◌&&◌, not, nat_lt, min, ℕ, [], List, true, false, length, drop, IfOk, IfSome, IsSome, OnErr, OnOk, Ok};
+ghost use Rattle.std.specs.Prelude.{◌≡◌, ◌≤◌, ◌<◌, ◌+◌, ◌-◌, ◌/◌, ◌++◌, ◌||◌, ◌&&◌, not, nat_lt, min, ℕ, [], List, true, false, length, drop, IfOk, IfSome, IsSome, OnErr, OnOk};
 ghost use Rattle.disk_io.specs.{Disk.Honestly, Disk.bytes_in, Runs.ChangesNothing, Runs.HasCause};
 ghost use Rattle.echo_filed.specs.{Filed.Filed, declared.stored.Version.TheVariants.Second};
-ghost use Rattle.base_file.specs.{Base.Base, Base.is_known, BaseFile.LoadOf, Pieces.BeginsWith};
+ghost use Rattle.base_file.specs.{Base.Base, Base.is_known, Pieces.BeginsWith};
 ghost use Rattle.base_folder_store.specs.Ahead.{IsPartOf as IsReadPart};
 ghost use Rattle.base_store.specs.Keys.{digested_key, entry};
 ghost use Rattle.station_bases.specs.Entries.{AreEntriesOf, AreIndexed, CanLookUp, HoldEntries, entry_digest};
+ghost use Rattle.station_bases.specs.InFile.{RepresentsInFile};
 ghost use Rattle.station_bases.specs.EntryOpening.{AreJudged, HasJudged, IsPartOf, IsSoundIn, StaysIndexed};
 
 use crate::entries::{Entries, HEAD};
@@ -313,8 +314,8 @@ pub(crate) fn open_entries<D: Disk, T: MessageProgress>(
 ) -> Result<Option<Entries>, DiskError>
     requires there { Honestly (D.state disk.old) (IsSome ((D.state disk.old).seen path.now)) }
     ensures can { IfOk result (λ found. IfSome found (CanLookUp (D.state disk.new) path.now)) }
-    ensures held { Honestly (D.state disk.new) (IfOk result (λ found. IfSome found (λ entries. (base : Base) (size : ℕ)
-        → LoadOf (bytes_in ((D.state disk.old).seen path.now)) (Ok (base.messages, base.cursor, size)) → HoldEntries (bytes_in ((D.state disk.old).seen path.now)) entries base))) }
+    ensures held { Honestly (D.state disk.new) (IfOk result (λ found. IfSome found (λ entries. (base : Base) × RepresentsInFile path.now base (D.state disk.old).seen
+        × HoldEntries (bytes_in ((D.state disk.old).seen path.now)) entries base))) }
     ensures quiet { ChangesNothing (D.state disk.old) (D.state disk.new) }
     ensures cause { HasCause (D.failures disk.old) (D.failures disk.new) result }
 {

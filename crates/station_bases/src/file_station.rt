@@ -1,13 +1,14 @@
 //! A station with its base in a file.
 ghost use Rattle.std.specs.Prelude.{◌≡◌, Some};
+ghost use Rattle.base_file.specs.Base.{Base};
 ghost use Rattle.station.specs.Links.{AreLinks};
-ghost use Rattle.station_bases.specs.Reading.{IsShutFor, file_place};
+ghost use Rattle.station_bases.specs.{InFile.RepresentsInFile, Reading.IsShutFor, Reading.file_place};
 
 use crate::file_store::FileStore;
 use crate::loading::{Read, read_station};
-use cmd_status::{FileLock, MessageProgress};
+use cmd_status::{Fault, FileLock, MessageProgress};
 use disk_io::Disk;
-use station::{Locks, OpenStation, Opened, Stopped};
+use station::{Locks, OpenStation, Opened, Stopped, lock_both};
 use std::alloc::Global;
 use std::hash::BuildHasher;
 
@@ -27,6 +28,8 @@ impl<'a, D: Disk + Drop, S: BuildHasher + Copy + Drop, T: MessageProgress + Drop
 
     ghost place = { λ at. file_place at.base.now };
 
+    ghost holds_base = { λ at files. (base : Base) × RepresentsInFile at.base.now base files };
+
     ghost can_open = { λ at disk. Unit {0} };
 
     ghost is_locked = { λ at links base. (links ≡ Some at.links.now) × (base ≡ Some at.base.now) };
@@ -35,11 +38,19 @@ impl<'a, D: Disk + Drop, S: BuildHasher + Copy + Drop, T: MessageProgress + Drop
 
     ghost is_shut = { λ at failed old new fault. IsShutFor at.links.now at.base.now failed old new fault };
 
+    fn lock<L: FileLock, K: FileLock>(
+        &self,
+        _disk: &D,
+        locks: &mut Locks<L, K>,
+    ) -> Result<(), Fault<'a>> {
+        lock_both(locks, self.links, self.base)
+    }
+
     fn open<L: FileLock, K: FileLock>(
         self,
         alloc: Global,
         disk: D,
-        locks: &mut Locks<L, K>,
+        locks: &Locks<L, K>,
     ) -> Result<Opened<FileStore<'a, D, S>>, Stopped<'a, D>> {
         let mut disk = disk;
         let path = self.base;

@@ -1,6 +1,7 @@
 //! A station with its base in a folder.
 ghost use Rattle.std.specs.Prelude.{◌≡◌, Some};
 ghost use Rattle.disk_io.specs.Runs.{ChangesNothing};
+ghost use Rattle.base_folder.specs.Wrong.{IsSound};
 ghost use Rattle.base_log.specs.Opening.{AreAlone};
 ghost use Rattle.station_bases.specs.InFolder.{IsFolderShut, IsOwnLinks, folder_place};
 
@@ -8,9 +9,9 @@ use crate::beginning::{Begun, open_store};
 use crate::place::{FolderPlace, FolderProbe};
 use base_folder_store::FolderStore;
 use base_store::{Digest, Store};
-use cmd_status::FileLock;
+use cmd_status::{Fault, FileLock};
 use disk_io::Disk;
-use station::{Locks, OpenStation, Opened, Stopped};
+use station::{Locks, OpenStation, Opened, Stopped, lock_both};
 use std::alloc::Global;
 use std::marker::PhantomData;
 
@@ -27,6 +28,8 @@ impl<'a, D: Disk + Drop, H: Digest> OpenStation<'a, D> for FolderStation<'a, H> 
 
     ghost place = { λ station. folder_place H.keyed station.at.path.now };
 
+    ghost holds_base = { λ station files. IsSound station.found.strange station.at.path.now files };
+
     ghost can_open = { λ station disk. AreAlone station.at.path.now disk };
 
     ghost is_locked = { λ station links base. (links ≡ Some station.at.links.now) × (base ≡ Some station.at.base.now) };
@@ -35,20 +38,21 @@ impl<'a, D: Disk + Drop, H: Digest> OpenStation<'a, D> for FolderStation<'a, H> 
 
     ghost is_shut = { λ station failed old new fault. IsFolderShut station.at.links.now station.at.base.now station.at.path.now station.found.strange failed old new fault };
 
+    fn lock<L: FileLock, K: FileLock>(
+        &self,
+        _disk: &D,
+        locks: &mut Locks<L, K>,
+    ) -> Result<(), Fault<'a>> {
+        lock_both(locks, self.at.links, self.at.base)
+    }
+
     fn open<L: FileLock, K: FileLock>(
         self,
         alloc: Global,
         disk: D,
-        locks: &mut Locks<L, K>,
+        locks: &Locks<L, K>,
     ) -> Result<Opened<FolderStore<D, H>>, Stopped<'a, D>> {
-        match open_store(
-            alloc,
-            disk,
-            &mut locks.links,
-            &mut locks.base,
-            self.at,
-            self.found,
-        ) {
+        match open_store(alloc, disk, locks, self.at, self.found) {
             Ok(begun) => {
                 let Begun { links, store } = begun;
                 Ok(Opened { links, kept: store })

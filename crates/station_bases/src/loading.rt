@@ -1,10 +1,9 @@
 //! The link file of a station is read, and its base file is opened.
 ghost use Rattle.std.specs.Prelude.{◌≡◌, ◌≢◌, ◌⊎◌, ◌↔◌, All, IfErr, IfNone, IfOk, IfSome, IsSome, IsTrue, OnOk, Some, None};
-ghost use Rattle.base_file.specs.Base.{Base as TheBase};
 ghost use Rattle.disk_io.specs.{Device.Failed, Disk.Honestly, Runs.ChangesNothing, Runs.HasCause};
-ghost use Rattle.station.specs.{Links.AreLinks, Opening.AreFree, Opening.HaveFailed, Faults.IsFaultAt};
+ghost use Rattle.station.specs.{Links.AreLinks, Faults.IsFaultAt};
 ghost use Rattle.cmd_status.specs.{Ended.IsOutOfMemory, Inputs.IsBaseFault, Inputs.IsBaseGiven};
-ghost use Rattle.station_bases.specs.{InFile.IsHeld, InFile.IsWithinReach, InFile.RepresentsInFile, Reading.IsFileShut, Reading.IsSettled, Reading.IsUnreadFor, Reading.ReadsOnly};
+ghost use Rattle.station_bases.specs.{InFile.IsReadAs, InFile.IsWithinReach, InFile.RepresentsInFile, Reading.IsFileShut, Reading.IsSettled, Reading.IsUnreadFor, Reading.ReadsOnly};
 
 use crate::entry_opening::open_entries;
 use crate::file_station::FileStation;
@@ -15,7 +14,7 @@ use cmd_status::{Fault, FileLock, MessageProgress};
 use disk_io::{Disk, DiskError, folder_of, read_file};
 use echo_addr::Items;
 use echo_links::LinkFile;
-use station::{Followed, Locks, links_at, lock_at, system_name};
+use station::{Followed, Locks, links_held, system_name};
 use std::alloc::Global;
 use std::hash::BuildHasher;
 
@@ -49,7 +48,7 @@ fn loaded<'a, S: BuildHasher + Drop, T: MessageProgress>(
     hasher: S,
     watch: &T,
 ) -> Result<Base<S>, Fault<'a>>
-    ensures same { (base : TheBase) → IsBaseGiven (Some all.now) base.messages base.cursor → IfOk result (λ b. base ≡ b) }
+    ensures same { IfOk result (λ base. IsBaseGiven (Some all.now) base.messages base.cursor) }
     ensures err { IfErr result (λ fault. IsOutOfMemory fault ⊎ IsBaseFault (Some all.now) fault) }
 {
     let mut left = Followed::new(all, all.len(), watch);
@@ -79,7 +78,7 @@ fn open_apart<D: Disk, S: BuildHasher + Drop, T: MessageProgress>(
     hasher: S,
     watch: &T,
 ) -> Result<Option<Held<S>>, DiskError>
-    ensures held { Honestly (D.state disk.new) (IfOk result (λ found. IfSome found (λ held. (base : TheBase) → RepresentsInFile path.now base (D.state disk.old).seen → IsHeld (D.state disk.new) path.now held base))) }
+    ensures held { Honestly (D.state disk.new) (IfOk result (λ found. IfSome found (IsReadAs (D.state disk.old).seen (D.state disk.new) path.now))) }
     ensures reach { IfOk result (λ found. IfSome found (IsWithinReach (D.state disk.new) path.now)) }
     ensures there { Honestly (D.state disk.new) (IfOk result (λ found. IfNone found (IsSome ((D.state disk.old).seen path.now)))) }
     ensures settled { Honestly (D.state disk.new) (OnOk result (IsSettled (D.state disk.new) path.now)) }
@@ -105,7 +104,7 @@ fn open_whole<'a, D: Disk, S: BuildHasher + Drop, T: MessageProgress>(
     watch: &T,
 ) -> Result<Base<S>, Fault<'a>>
     requires there { Honestly (D.state disk.old) (IsSome ((D.state disk.old).seen path.now)) }
-    ensures same { Honestly (D.state disk.new) ((base : TheBase) → RepresentsInFile path.entry.now base (D.state disk.old).seen → IfOk result (λ b. base ≡ b)) }
+    ensures same { Honestly (D.state disk.new) (IfOk result (λ base. RepresentsInFile path.entry.now base (D.state disk.old).seen)) }
     ensures reads { ReadsOnly (D.state disk.old) (D.state disk.new) (D.failures disk.old) (D.failures disk.new) }
     ensures err { Honestly (D.state disk.new) (IfErr result (IsUnreadFor path.entry.now (Failed (D.failures disk.old) (D.failures disk.new)) (D.state disk.old))) }
 {
@@ -131,7 +130,7 @@ fn base_at<
 ) -> Result<Held<S>, Fault<'a>>
     requires links_locked { L.held _locks.now.links ≡ Some at.links.now }
     requires base_locked { K.held _locks.now.base ≡ Some at.base.now }
-    ensures same { Honestly (D.state disk.new) ((base : TheBase) → RepresentsInFile at.entry.base.now base (D.state disk.old).seen → IfOk result (λ held. IsHeld (D.state disk.new) at.entry.base.now held base)) }
+    ensures same { Honestly (D.state disk.new) (IfOk result (IsReadAs (D.state disk.old).seen (D.state disk.new) at.entry.base.now)) }
     ensures reach { IfOk result (IsWithinReach (D.state disk.new) at.entry.base.now) }
     ensures settled { Honestly (D.state disk.new) (OnOk result (IsSettled (D.state disk.new) at.entry.base.now)) }
     ensures reads { ReadsOnly (D.state disk.old) (D.state disk.new) (D.failures disk.old) (D.failures disk.new) }
@@ -153,35 +152,7 @@ fn base_at<
     }
 }
 
-// Takes the lock of the base file, after that of the link file, and reads it.
-fn locked_base<
-    'a,
-    D: Disk,
-    L: FileLock,
-    K: FileLock,
-    S: BuildHasher + Copy + Drop,
-    T: MessageProgress + Drop,
->(
-    alloc: Global,
-    disk: &mut D,
-    locks: &mut Locks<L, K>,
-    at: FileStation<'a, S, T>,
-) -> Result<Held<S>, Fault<'a>>
-    requires links_locked { L.held locks.old.links ≡ Some at.links.now }
-    requires free { K.held locks.old.base ≡ None }
-    ensures locked { OnOk result (K.held locks.new.base ≡ Some at.entry.base.now) }
-    ensures links { locks.new.links ≡ locks.old.links }
-    ensures same { Honestly (D.state disk.new) ((base : TheBase) → RepresentsInFile at.entry.base.now base (D.state disk.old).seen → IfOk result (λ held. IsHeld (D.state disk.new) at.entry.base.now held base)) }
-    ensures reach { IfOk result (IsWithinReach (D.state disk.new) at.entry.base.now) }
-    ensures settled { Honestly (D.state disk.new) (OnOk result (IsSettled (D.state disk.new) at.entry.base.now)) }
-    ensures reads { ReadsOnly (D.state disk.old) (D.state disk.new) (D.failures disk.old) (D.failures disk.new) }
-    ensures err { Honestly (D.state disk.new) (IfErr result (IsUnreadFor at.entry.base.now (Failed (D.failures disk.old) (D.failures disk.new) ⊎ Failed (K.failures locks.old.base) (K.failures locks.new.base)) (D.state disk.old))) }
-{
-    lock_at(&mut locks.base, at.base)?;
-    base_at(alloc, disk, locks, at)
-}
-
-/// Takes the lock of the link file of a station and reads it. Then it does the same with the base file.
+/// Reads the link file of a station, and its base file. Both are locked.
 pub(crate) fn read_station<
     'a,
     D: Disk,
@@ -192,22 +163,20 @@ pub(crate) fn read_station<
 >(
     alloc: Global,
     disk: &mut D,
-    locks: &mut Locks<L, K>,
+    locks: &Locks<L, K>,
     at: FileStation<'a, S, T>,
 ) -> Result<Read<S>, Fault<'a>>
-    requires { AreFree (L.held locks.old.links) (K.held locks.old.base) }
-    ensures locked { OnOk result ((L.held locks.new.links ≡ Some at.entry.links.now) × (K.held locks.new.base ≡ Some at.entry.base.now)) }
-    ensures order { K.held locks.new.base ≡ Some at.entry.base.now → L.held locks.new.links ≡ Some at.entry.links.now }
-    ensures read { Honestly (D.state disk.new) (IfOk result (λ read. AreLinks (D.state disk.old) at.entry.links.now read.links × ((base : TheBase) → RepresentsInFile at.entry.base.now base (D.state disk.old).seen → IsHeld (D.state disk.new) at.entry.base.now read.held base))) }
+    requires links_locked { L.held locks.now.links ≡ Some at.links.now }
+    requires base_locked { K.held locks.now.base ≡ Some at.base.now }
+    ensures read { Honestly (D.state disk.new) (IfOk result (λ read. AreLinks (D.state disk.old) at.entry.links.now read.links × IsReadAs (D.state disk.old).seen (D.state disk.new) at.entry.base.now read.held)) }
     ensures reach { IfOk result (λ read. IsWithinReach (D.state disk.new) at.entry.base.now read.held) }
     ensures plain { IfOk result (λ read. All (λ b. b ≢ 47) read.own) }
     ensures settled { Honestly (D.state disk.new) (OnOk result (IsSettled (D.state disk.new) at.entry.base.now)) }
     ensures reads { ReadsOnly (D.state disk.old) (D.state disk.new) (D.failures disk.old) (D.failures disk.new) }
-    ensures err { Honestly (D.state disk.new) (IfErr result (IsFileShut at.entry.links.now at.entry.base.now
-        (HaveFailed (D.failures disk.old) (D.failures disk.new) (L.failures locks.old.links) (L.failures locks.new.links) (K.failures locks.old.base) (K.failures locks.new.base)) (D.state disk.old))) }
+    ensures err { Honestly (D.state disk.new) (IfErr result (IsFileShut at.entry.links.now at.entry.base.now (Failed (D.failures disk.old) (D.failures disk.new)) (D.state disk.old))) }
 {
-    let links = links_at(alloc, disk, &mut locks.links, at.links)?;
+    let links = links_held(alloc, disk, &locks.links, at.links)?;
     let own = Items::new(system_name(alloc, &links)?);
-    let held = locked_base(alloc, disk, locks, at)?;
+    let held = base_at(alloc, disk, locks, at)?;
     Ok(Read { links, own, held })
 }

@@ -107,6 +107,9 @@ module _ (to : Sending) (planned : AreRoutes to) (base : Base) (packets : List O
   pub have_none : (c : Files) → All (IsFreeIn c) packets → All (IsFreeAt to.outbound.now c) (files_to to base)
   have_none c all = all_files (IsFreeAt to.outbound.now c) (λ k z lt. ap c (sym (for.routed k z lt).path) ∙ all k z lt)
 
+  pub none_left : (c : Files) → All (λ p. c p.staging.now ≡ None) packets → All (IsStagingGone to.outbound.now to.own.now c) (files_to to base)
+  none_left c all = all_files (IsStagingGone to.outbound.now to.own.now c) (λ k z lt. ap c (sym (for.routed k z lt).staging) ∙ all k z lt)
+
   -- the bytes of ended packets
   module _ (disk : DiskState) (honest : disk.is_honest) (grows : All (IsGrowingTo to (all_sent to base) disk) (links_to to (is_made (all_sent to base)))) where
     pub ended_has : All (λ p. ended_in disk.seen p ≡ for_address (content_of to base) p) packets

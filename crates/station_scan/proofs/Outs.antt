@@ -14,9 +14,9 @@ use Rattle.station.specs.Beneath.{IsUsedAt}
 use Rattle.station_scan.specs.Left.{AreFreeLeft, EndsLeft, IsEnded, IsLeftOf, IsOfNameOff}
 use Rattle.station_scan.specs.Scanning.{AreSentOut, CommitsScan, IsTaken, IsTouched, PreparesScan, SendsOut}
 use Rattle.station_scan.specs.{Fitting.AreTaken, Publishing.IsOnDisk, Publishing.KeepsStoreBut, Sending.HasBytes, Sending.IsAtItsPath, Sending.IsFreeAt, Sending.IsStagingGone}
-use Rattle.station_scan.specs.{Sends.AreSentOn, Sends.IsOfThese, Sends.SendsThese, Sends.WritesStaging, Stops.IsOfPlacing, Stops.most, declared.scan_error.ScanError.ScanError}
+use Rattle.station_scan.specs.{Sends.AreSentOn, Sends.IsLeftAs, Sends.IsOfThese, Sends.SendsThese, Sends.WritesStaging, Stops.IsOfPlacing, Stops.most, declared.scan_error.ScanError.ScanError}
 use Rattle.station_scan.specs.declared.scan_error.ScanError.TheVariants.{Placing}
-use Rattle.station_scan.proofs.{Published.keeps_only, Published.keeps_then, Published.keeps_wider, Stops.placing_why, Stops.put_wider}
+use Rattle.station_scan.proofs.{Published.keeps_only, Published.keeps_then, Published.keeps_wider, Stops.placing_why, Stops.put_wider, Stops.tells_as, Stops.tells_none}
 
 -- a finished packet in the files seen
 pub is_ended : (cursor : ℕ) (d0 d1 : DiskState) (l : Left) → IsOver cursor d0 d1 l → IsEnded cursor d0.seen d1.seen l
@@ -52,7 +52,14 @@ module _ (Own : List ℕ → Type 0) (outbound own : List ℕ) (is_true failed :
 
     -- it stopped before
     pub not_sent : (cause : PlacingError) → (cause ≡ Device → failed) → (cause ≡ Taken → AreFreeLeft Own outbound own s0.disk.seen → ⊥) → SendsOut is_true failed Own outbound own Stays Comes cursor files s0.disk s1.disk (Err (Placing cause))
-    not_sent cause device taken = record { found = found; each = ends.each; sent = tt; crash = ended_moments; why = placing_why failed (IsTaken Own outbound own cursor found files s0.disk.seen) (most < cursor) cause device (λ is. inl (taken is)) }
+    not_sent cause device taken = record {
+      found = found;
+      each = ends.each;
+      sent = tt;
+      crash = ended_moments;
+      why = placing_why failed (IsTaken Own outbound own cursor found files s0.disk.seen) (most < cursor) cause device (λ is. inl (taken is));
+      left = tells_none _ _ _ _ (Placing cause) (used.settled first s0.disk.seen s1.disk.seen (λ m o. used.changes.seen m (λ is. is.1 (inside m o))) (s0.shown honest0 ready first was)) (λ m at other. inr (ends.changes.seen m other));
+    }
 
     -- or staging files were written, and it stopped before the commit
     abbrev Prepared : Files → Type 0
@@ -126,13 +133,17 @@ module _ (Own : List ℕ → Type 0) (outbound own : List ℕ) (is_true failed :
     sent_if made are (Err cause) free sent = tt
 
     pub sends_out : (made : Base → List PacketFile) → made next ≡ files → (result : Result (Unit {0}) ScanError) → OnOk result (All (IsFreeAt outbound s1.disk.seen) files) → OnOk result (AreSentOn outbound own made s1 s2) → LeavesOnly s1.disk s2.disk (SendsThese s1 outbound own files first next)
-        → IfErr result (IsOfPlacing failed (AreTaken Own outbound own files s1.disk.seen) (most < cursor)) → SendsOut is_true failed Own outbound own Stays Comes cursor files s0.disk s2.disk result
-    sends_out made are result free sent run why = record {
+        → IfErr result (IsOfPlacing failed (AreTaken Own outbound own files s1.disk.seen) (most < cursor))
+        → IfErr result (IsLeftAs outbound own (s1.represented first) (s1.represented next) (λ m. ⊥) files s1.disk.seen s2.disk.seen) → SendsOut is_true failed Own outbound own Stays Comes cursor files s0.disk s2.disk result
+    sends_out made are result free sent run why left = record {
       found = these;
       each = ends.each;
       sent = sent_if made are result free sent;
       crash = sent_crash run;
       why = put_wider failed failed _ _ _ result (λ f. f) (λ taken. inr (s1.disk.seen, all_ended, ends.changes.seen, taken)) why;
+      left =
+          tells_as _ _ _ _ _ _ _ _ (used.same.represented first s2.disk.seen).0 (λ none m at other. ⊎_elim (λ gone. inl gone) (λ same. inr (same ∙ ends.changes.seen m other)) (none m at (λ never. never)))
+          (used.same.represented next s2.disk.seen).0 (λ all. all) result left;
     }
 
 -- the paths that it touches

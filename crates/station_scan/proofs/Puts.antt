@@ -20,7 +20,7 @@ use Rattle.station_scan.specs.{Fitting.AreTaken, Left.AreFreeLeft, Left.EndsLeft
 use Rattle.station_scan.specs.{Stops.IsOfPlacing, Stops.most, declared.pieces.Source.Source, declared.scan_error.ScanError.ScanError}
 use Rattle.station_scan.specs.declared.{scan_error.ScanError.TheVariants.Command, scan_error.ScanError.TheVariants.Placing, scan_error.ScanError.TheVariants.Staying, sending.Sending.Sending}
 use Rattle.station_scan.proofs.Outs.{is_ended, not_sent, sends_out, stopped_crash, stopped_only}
-use Rattle.station_scan.proofs.{Lefts.finishes_none, Lists.among, Looked.same_seen, Names.ending, Names.not_staging, Names.trial_no_path, Scans.stops_quiet, Staged.tried_after, Stops.put_wider}
+use Rattle.station_scan.proofs.{Lefts.finishes_none, Lists.among, Looked.same_seen, Names.ending, Names.not_staging, Names.trial_no_path, Scans.stops_quiet, Staged.tried_after, Stops.put_wider, Stops.tells_none}
 use Rattle.station_scan.proofs.Reports.{reported_whole, reports_wider}
 
 -- a staging path is no packet's path
@@ -92,7 +92,7 @@ module _ (Own : List ℕ → Type 0) (to : Sending) (own_is : to.own.now ≡ dot
           subst (λ (n : ℕ). SendsOut is_true failed Own outbound own (s0.represented base) (s0.represented (all_scanned base)) n files s0.disk s2.disk result) same_cursor
           (sends_out Own outbound own is_true failed cursor files s0 s1 inside used moved.ready honest0 base (all_scanned base) moved.committed ends s2 honest2 put.keeps moved.keeps (λ b. files) refl result put.free put.sent put.crash
           (subst (λ (n : ℕ). IfErr result (IsOfPlacing failed (AreTaken Own outbound own files s1.disk.seen) (most < n))) (sym same_cursor)
-          (put_wider some failed (AreTaken Own outbound own files s1.disk.seen) (AreTaken Own outbound own files s1.disk.seen) (most < base.cursor) result wider (λ t. t) put.why)))
+          (put_wider some failed (AreTaken Own outbound own files s1.disk.seen) (AreTaken Own outbound own files s1.disk.seen) (most < base.cursor) result wider (λ t. t) put.why)) put.left)
       put_made (Err why) put = subst (λ (n : ℕ). StopsScan is_true failed Own outbound own (s0.represented base) n packets s0.disk s2.disk why result) same_cursor (stops_put some wider packets why result put)
 
       pub scans_put : ScansFrom state Own to some s1 s2 out now base result → ScansOnStore to.source.stamp Own outbound IsTrue failed s0 s2 out now to.source.links.now base result
@@ -114,10 +114,20 @@ module _ (Own : List ℕ → Type 0) (to : Sending) (own_is : to.own.now ≡ dot
   -- they were not, and the lines were printed or not
   module _ (cause : PlacingError) (result1 : Result (Unit {0}) PlacingError) (ends : EndsLeft is_true Own outbound own cursor s0.disk s1.disk result1) (s2 : StoreState) (quiet : ChangesNothing s1.disk s2.disk) (honest1 : s1.disk.is_honest)
       (device : cause ≡ placing.Device → failed) (taken : cause ≡ placing.Taken → AreFreeLeft Own outbound own s0.disk.seen → ⊥) where
+    left_shown : s0.represented base s2.disk.seen
+    left_shown = (used.same.represented base s2.disk.seen).0 (subst (λ (f : Files). s1.represented base f) (sym (same_seen s1.disk s2.disk quiet)) (s1.shown honest1 used.holds.ready base (used.holds.committed base moved.committed)))
+
     left_sends : SendsOut is_true failed Own outbound own (s0.represented base) (s0.represented (all_scanned base)) cursor packets s0.disk s2.disk (Err (Placing cause))
     left_sends =
         let before = not_sent Own outbound own is_true failed cursor packets s0 s1 inside used moved.ready honest0 base (all_scanned base) moved.committed result1 ends cause device taken in
-        record { found = before.found; each = before.each; sent = tt; crash = then_nothing s0.disk s1.disk s2.disk _ before.crash quiet; why = before.why }
+        record {
+          found = before.found;
+          each = before.each;
+          sent = tt;
+          crash = then_nothing s0.disk s1.disk s2.disk _ before.crash quiet;
+          why = before.why;
+          left = tells_none _ _ _ _ (Placing cause) left_shown (λ m at other. inr (quiet.seen m ∙ ends.changes.seen m other));
+        }
 
     left_why : (stop : CommandError) → (IsErrOf (store_answer {A = Unit {0}} (Err stop)) error.Device → failed) → (why : PlacingError) → why ≡ cause → IsOfPlacing failed ⊥ ⊥ (Staying (left_cause why stop))
     left_why stop h1 why h2 = grind arith
@@ -128,7 +138,7 @@ module _ (Own : List ℕ → Type 0) (to : Sending) (own_is : to.own.now ≡ dot
       each = ends.each;
       crash =
           then_nothing s0.disk s1.disk s2.disk _ (stopped_only Own outbound own is_true failed cursor packets s0 s1 inside used moved.ready honest0 base (all_scanned base) moved.committed result1 ends) quiet;
-      shown = (used.same.represented base s2.disk.seen).0 (subst (λ (f : Files). s1.represented base f) (sym (same_seen s1.disk s2.disk quiet)) (s1.shown honest1 used.holds.ready base (used.holds.committed base moved.committed)));
+      shown = left_shown;
       others = λ m other. quiet.seen m ∙ ends.changes.seen m (λ of. other (inl of));
       reported = inr (left_cause cause stop, refl, left_why stop device_of cause refl);
     }
@@ -156,6 +166,7 @@ scans_early Own outbound source IsTrue failed s0 s2 base out now why (Ok done) m
         weaker_run s0.disk s2.disk s0.disk.may_leave _ quiet.run
         (λ c left. inl (c, left, record { between = c; ends = finishes_none base.cursor [] c; writes = λ m other. refl; represented = s0.stays honest moved.ready base moved.committed c left }));
     why = is;
+    left = tells_none _ _ _ _ why (subst (λ (f : Files). s0.represented base f) (sym (same_seen s0.disk s2.disk quiet)) (s0.shown honest moved.ready base moved.committed)) (λ m at other. inr (quiet.seen m));
   };
   whole = reported_whole why (Ok done) not whole;
 }

@@ -27,7 +27,7 @@ use Rattle.station_scan.specs.declared.scan_error.ScanError.TheVariants.{Command
 use Rattle.station_scan.specs.declared.sending.Sending.{Sending}
 use Rattle.station_scan.proofs.{Sendings.few_keeps, Sendings.sends_before, Sendings.writes_before, Files.files_are, Files.staging_files, Files.taken_files, Lefts.quiet_start}
 use Rattle.station_scan.proofs.{Passes.can_still, Passes.counts_are, Routes.staging_named, Published.keeps_nothing, Published.keeps_then, Published.keeps_wider}
-use Rattle.station_scan.proofs.Stops.{placing_why, put_whole, put_wider}
+use Rattle.station_scan.proofs.Stops.{placing_why, put_whole, put_wider, tells_none}
 
 -- ---- the printed lines
 
@@ -96,8 +96,9 @@ module _ {D : Type 0} (state : D → DiskState) (Own : List ℕ → Type 0) (to 
     scans_unprinted out now stop result answer reported whole = record { made = Err stop; answer = answer; put = stops_from stop result reported; whole = whole }
 
     -- a packet was not written
-    sends_not : (cause : PlacingError) → (cause ≡ placing.Device → failed) → (cause ≡ placing.Taken → IsTakenFor Own to base s0.disk.seen) → IsUsedAt few s0 s2 → SendsFrom state Own to.outbound.now to.own.now failed s0 s2 base files (Err (Placing cause))
-    sends_not cause device taken used = record {
+    sends_not : (cause : PlacingError) → (cause ≡ placing.Device → failed) → (cause ≡ placing.Taken → IsTakenFor Own to base s0.disk.seen) → AreGoneOrSame s0.disk.seen s2.disk.seen → IsUsedAt few s0 s2
+        → SendsFrom state Own to.outbound.now to.own.now failed s0 s2 base files (Err (Placing cause))
+    sends_not cause device taken gone used = record {
       sent = tt;
       free = tt;
       crash = sends_before to.outbound.now to.own.now files few into s0 s2 used moved.ready honest0 base (all_scanned base) moved.committed off;
@@ -105,6 +106,7 @@ module _ {D : Type 0} (state : D → DiskState) (Own : List ℕ → Type 0) (to 
       why =
           placing_why failed (AreTaken Own to.outbound.now to.own.now files s0.disk.seen) (most < base.cursor) cause device
           (λ is. subst (λ (l : List PacketFile). AreTaken Own to.outbound.now to.own.now l s0.disk.seen) (sym (files_are to base moved.at)) (taken_files to can.routes base Own s0.disk.seen (taken is)));
+      left = tells_none _ _ _ _ (Placing cause) (used.settled base s0.disk.seen s2.disk.seen (λ m o. used.changes.seen m (off m o)) (s0.shown honest0 moved.ready base moved.committed)) (λ m at other. gone m);
       tried = tt;
     }
 
@@ -112,7 +114,7 @@ module _ {D : Type 0} (state : D → DiskState) (Own : List ℕ → Type 0) (to 
         → AreGoneOrSame s0.disk.seen s1.disk.seen → IsUsedAt few s0 s2 → ScansOn to.source.stamp (state_in to.source.links.now (from_number to.source.from base)) out now (files_reported to.source (all_scanned base) reported)
         → (IsErrOf (store_answer reported) error.Damaged → ⊥) → ScansFrom state Own to failed s0 s2 out now base (reported_as (Placing cause) reported)
     scans_reported out now cause (Ok done) device taken gone used answer whole =
-        let put = sends_not cause device taken used in
+        let put = sends_not cause device taken (same_still gone) used in
         record {
           made = Ok files;
           answer = subst (λ (n : ℕ). ScansOn to.source.stamp (state_in to.source.links.now (from_number n base)) out now (Ok (packets_in to.source.stamp to.source.links.now (from_number n base)))) moved.at answer;

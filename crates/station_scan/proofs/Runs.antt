@@ -15,7 +15,7 @@ use Rattle.station.specs.Opening.{IsOpenFor}
 use Rattle.station_scan.specs.Scanning.{AreSentOut, CommitsScan, IsPutAs, IsOnItsWay, IsPreparing, IsPutIn, IsPutOn, IsScanOn, IsTaken, IsTouched, MayLeave, PreparesScan, ScansOnStore, SendsOut, StopsScan, StopsScanIn, ReportsStop, packets_in}
 use Rattle.station_scan.specs.{Fitting.AreFit, Left.AreAllLeft, Left.IsLeftOf, Publishing.IsOnDisk, Publishing.UnchangedExcept, Publishing.KeepsStoreBut, Sends.IsOfThese}
 use Rattle.station_scan.specs.declared.scan_error.ScanError.{ScanError, TheVariants.Staying}
-use Rattle.station_scan.proofs.{Lefts.finishes_none, Looked.same_seen, Published.keeps_nothing, Published.keeps_then, Published.keeps_wider, Stops.put_wider}
+use Rattle.station_scan.proofs.{Lefts.finishes_none, Looked.same_seen, Published.keeps_nothing, Published.keeps_then, Published.keeps_wider, Stops.put_wider, Stops.tells_as}
 
 -- the same for another name of the same own paths
 module _ (Own Own2 : List ℕ → Type 0) (out : (m : List ℕ) → Own2 m → Own m) (outbound own : List ℕ) where
@@ -165,6 +165,11 @@ module _ (place : Place) (d0 d2 : DiskState) (s1 s2 : StoreState) (begun : IsOpe
       sent = put_sent files (IsTrue s1.disk.seen) some result sends result sends.sent;
       crash = put_crash files (IsTrue s1.disk.seen) some result sends;
       lasts = put_lasts files (IsTrue s1.disk.seen) some result sends;
+      left =
+          tells_as _ _ _ _ _ _ _ _ (λ shown. subst Stays (sym (same_seen s2.disk d2 quiet)) ((of.represented base s2.disk.seen).0 shown))
+          (λ none m at other. ⊎_elim (λ gone. inl (quiet.seen m ∙ gone)) (λ same. inr (quiet.seen m ∙ same)) (none m at other))
+          (λ shown. subst Comes (sym (same_seen s2.disk d2 quiet)) ((of.represented (all_scanned base) s2.disk.seen).0 shown))
+          (λ all k z lt. ⊎_elim (λ at. inl (quiet.seen _ ∙ at)) (λ at. inr (quiet.seen _ ∙ at)) (all k z lt)) result sends.left;
       why = put_wider some failed _ _ _ result wider (taken_as Own place.is_own in_own outbound own base.cursor sends.found files s1.disk.seen own_in) sends.why;
     }
 

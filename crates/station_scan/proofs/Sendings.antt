@@ -1,29 +1,29 @@
 -- A scan once its cursor was moved: packets are sent out after a pass over the messages.
 use Rattle.std.proofs.Common.{◌≡◌, ◌⊎◌, inl, inr, ⊎_elim, ◌∙◌, ◌<◌, ℕ, List, [], Result, Ok, Err, get_or, length, sym, subst, ap, arith}
-use Rattle.std.proofs.lemmas.{Result.on_ok_weaker, Bool.cases_lt, List.append-nil, List.Elements.Contains-get_or, List.length-map}
+use Rattle.std.proofs.lemmas.{Result.on_ok_weaker, Bool.cases_lt, List.append-nil, List.Elements.All-contains, List.Elements.Contains-get_or, List.length-map}
 use Rattle.disk_atomic.proofs.Whole.{on_ok_any}
-use Rattle.std.specs.Prelude.{All, IfErr, IsErrOf, OnOk}
+use Rattle.std.specs.Prelude.{All, IfErr, IsErrOf, None, OnOk}
 use Rattle.base_file.specs.Base.{Base}
 use Rattle.disk_io.specs.{Device.Failed, Disk.DiskState, Disk.Files, Runs.LeavesOnly, Runs.OneStepOn}
 use Rattle.disk_io.proofs.Moments.{left_now, then_run, weaker_run}
 use Rattle.disk_io.specs.declared.disk_error.DiskError.TheVariants as disk
-use Rattle.disk_atomic.specs.{Changes.DifferAt, Outgoing.IsAtStaging, Outgoing.IsFree, Trying.WasTried, declared.outgoing.Outgoing.Outgoing, declared.placing_error.PlacingError.PlacingError}
+use Rattle.disk_atomic.specs.{Changes.DifferAt, Outgoing.IsAtStaging, Outgoing.IsFilled, Outgoing.IsFree, Trying.WasTried, declared.outgoing.Outgoing.Outgoing, declared.placing_error.PlacingError.PlacingError}
 use Rattle.disk_atomic.specs.declared.placing_error.PlacingError.TheVariants as placing
 use Rattle.model_steps.specs.PacketFiles.{PacketFile}
-use Rattle.base_store.specs.Store.{Commits, LeavesEither, MayCommit, StoreState, all_scanned}
+use Rattle.base_store.specs.Store.{Commits, IsSameStore, LeavesEither, MayCommit, StoreState, all_scanned}
 use Rattle.base_store.proofs.Runs.{same_twice}
 use Rattle.echo_toss.specs.{Counts.link_set, Exports.Outgoing as Sent}
 use Rattle.station.specs.Beneath.{HoldsAsBefore, IsUsedAt}
 use Rattle.station_scan.specs.Passing.{AreFor, AreGrowing, CanSend, HasPassed, IsGrowingTo, IsStagingTo, all_sent, is_made, links_to}
-use Rattle.station_scan.specs.Publishing.{ArePublished, HasPublishCause, IsFreeIn, IsGoingAt, IsPublishedAt, IsTriedWith, KeepsStoreBut, MayPublish, PublishesOn, ended_before}
+use Rattle.station_scan.specs.Publishing.{AreGone, ArePublished, HasPublishCause, IsFreeIn, IsGoingAt, IsPublishedAt, IsTriedWith, KeepsStoreBut, MayPublish, PublishesOn, StopsPublishing, ended_before}
 use Rattle.station_scan.specs.Sending.{HasBytes, IsAtItsPath, IsFreeAt, IsOfPacket, IsStagingGone, IsStagingOfPacket, IsWhole, for_address}
-use Rattle.station_scan.specs.Sends.{AreSentOn, IsOfThese, SendsThese, WasTriedFor, WritesStaging}
+use Rattle.station_scan.specs.Sends.{AreSentOn, IsLeftAs, IsOfThese, SendsThese, WasTriedFor, WritesStaging}
 use Rattle.station_scan.specs.{Moved.IsMoved, Moved.SendsFrom, Fitting.AreTaken, Left.IsOfNameOff, Scanning.packets_in}
 use Rattle.station_scan.specs.{Stops.IsOfBase, Stops.IsOfPlacing, Stops.most, Stops.scan_done, declared.publish_error.PublishError.PublishError}
 use Rattle.station_scan.specs.declared.{publish_error.PublishError.TheVariants.Packets, counting.LinkPacket.LinkPacket, scan_error.ScanError.TheVariants.Staying, sending.Sending.Sending}
-use Rattle.station_scan.proofs.Files.{are_whole, at_its_path, content_of, ended_has, file_to, files_are, files_bytes, files_to, growing_free, have_none, none_staging, of_packet, same_files, staging_files, staging_packet}
+use Rattle.station_scan.proofs.Files.{are_whole, at_its_path, content_of, ended_has, file_to, files_are, files_bytes, files_to, growing_free, have_none, none_left, none_staging, of_packet, same_files, staging_files, staging_packet}
 use Rattle.station_scan.proofs.Published.{bytes_as, commits_used, holds_still, keeps_only, keeps_then, keeps_wider, path_as, store_wider, whole_as}
-use Rattle.station_scan.proofs.{Lists.kept_passes, Routes.address_for, Routes.path_off, Routes.staging_at, Routes.staging_named, Staged.tried_after, Stops.sent_why}
+use Rattle.station_scan.proofs.{Lists.kept_passes, Routes.address_for, Routes.path_off, Routes.staging_at, Routes.staging_named, Staged.tried_after, Stops.sent_why, Stops.tells_alone, Stops.tells_published}
 
 -- ---- staging files are written, and then the packets are sent
 
@@ -122,6 +122,9 @@ module _ {D : Type 0} (state : D → DiskState) (Own : List ℕ → Type 0) (to 
   abbrev IsTaken : Type 0
   IsTaken = AreTaken Own out own files s0.disk.seen
 
+  shown_still : s0.represented base s1.disk.seen
+  shown_still = passed.used.settled base s0.disk.seen s1.disk.seen (λ m o. passed.used.changes.seen m (off m o)) (s0.shown honest0 moved.ready base moved.committed)
+
   -- there was no memory to end them
   pub sends_none : SendsFrom state Own out own failed s0 s1 base files (Err (Staying disk.Memory))
   sends_none = record {
@@ -130,6 +133,7 @@ module _ {D : Type 0} (state : D → DiskState) (Own : List ℕ → Type 0) (to 
     crash = sends_before out own files few into s0 s1 passed.used moved.ready honest0 base next moved.committed off;
     keeps = few_keeps out own files few into s0 s1 passed.used moved.ready honest0 base next moved.committed off;
     why = tt;
+    left = shown_still;
     tried = tt;
   }
 
@@ -172,6 +176,7 @@ module _ {D : Type 0} (state : D → DiskState) (Own : List ℕ → Type 0) (to 
             };
           });
           why = why_sent (λ e. absurd (of_base_alone done placing.Taken alone e));
+          left = tells_alone _ _ _ _ done alone (nothing (IsWhole out own s2.disk.seen));
           tried = on_ok_done (HoldsAsBefore s0 s2 ⊎ WasTriedFor state Own out own files s0.disk) done (on_ok_any done (inr (inl (sym many ∙ none))));
         }
 
@@ -221,6 +226,24 @@ module _ {D : Type 0} (state : D → DiskState) (Own : List ℕ → Type 0) (to 
           )) with.either;
     })
 
+    -- what is left of them
+    back : IsSameStore s1 s2 → (b : Base) (c : Files) → s2.represented b c → s0.represented b c
+    back same b c represented = (passed.used.same.represented b c).0 ((same.represented b c).0 represented)
+
+    left_none : AreGone packets to.trial.now s2.disk → (m : List ℕ) → IsStagingOfPacket out own files m → (⊥ → ⊥) → (s2.disk.seen m ≡ None) ⊎ (s2.disk.seen m ≡ s0.disk.seen m)
+    left_none gone m (inl (sent, has_it, plain, at)) other =
+        inl (ap s2.disk.seen at ∙ All-contains (IsStagingGone out own s2.disk.seen) files sent (as_files (λ l. All (IsStagingGone out own s2.disk.seen) l) (none_left to can.routes base packets for s2.disk.seen gone.0)) has_it)
+    left_none gone m (inr at) other = inl (ap s2.disk.seen (at ∙ sym can.routes.tried) ∙ gone.1)
+
+    left_whole : All (IsFilled (ended_before s1 next) s2.disk) packets → All (IsWhole out own s2.disk.seen) files
+    left_whole all = as_files (λ l. All (IsWhole out own s2.disk.seen) l) (are_whole to can.routes base packets for s2.disk.seen (whole_as (ended_before s1 next) content packets has s2.disk.seen (λ k z lt. inr (all k z lt).seen)))
+
+    left_sent : IsSameStore s1 s2 → IfErr done (StopsPublishing (ended_before s1) packets to.trial.now s1 s2)
+        → IfErr (scan_done done) (IsLeftAs out own (s0.represented base) (s0.represented next) (λ m. ⊥) files s0.disk.seen s2.disk.seen)
+    left_sent same stops =
+        tells_published _ _ _ _ (ended_before s1) packets to.trial.now s1 s2 next done kept (λ (h : HoldsAsBefore s1 s2). back same base s2.disk.seen (s2.shown honest2 h.ready base (h.committed base committed)))
+        (λ (c : Commits s1 s2). back same next s2.disk.seen (s2.shown honest2 c.ready next (c.committed honest2 next kept))) left_none left_whole stops
+
     at_names : 0 < length packets → (m : List ℕ) → IsAtStaging packets to.trial.now m → IsOfNameOff Own out own m
     at_names some m at = named m (staging_at to (is_made passed.sent) packets made_for some m at)
 
@@ -233,13 +256,15 @@ module _ {D : Type 0} (state : D → DiskState) (Own : List ℕ → Type 0) (to 
     ]
 
     pub sends_published : OnOk done (ArePublished (ended_before s1) packets s1 s2) → MayPublish (ended_before s1) packets to.trial.now s1 s2 → KeepsStoreBut (IsPublishedAt s1 (IsGoingAt packets to.trial.now)) s1 s2
-        → (IsErrOf done (Packets placing.Taken) → All (IsFree s1.disk) packets → ⊥) → HoldsAsBefore s1 s2 ⊎ IsTriedWith state packets to.trial.now s1.disk → SendsFrom state Own out own failed s0 s2 base files (scan_done done)
-    sends_published published may keeps taken tried = record {
+        → (IsErrOf done (Packets placing.Taken) → All (IsFree s1.disk) packets → ⊥) → HoldsAsBefore s1 s2 ⊎ IsTriedWith state packets to.trial.now s1.disk → IfErr done (StopsPublishing (ended_before s1) packets to.trial.now s1 s2)
+        → SendsFrom state Own out own failed s0 s2 base files (scan_done done)
+    sends_published published may keeps taken tried stops = record {
       sent = on_ok_done (AreSentOn out own (λ b. files) s0 s2) done (on_ok_weaker done sent_as published);
       free = on_ok_done (All (IsFreeAt out s0.disk.seen) files) done (on_ok_any done (as_files (λ l. All (IsFreeAt out s0.disk.seen) l) (have_none to can.routes base packets for s0.disk.seen free_first)));
       crash = crash_then s2 (weaker_run s1.disk s2.disk (PublishesOn s1 (ended_before s1 next) packets to.trial.now base next) (SendsThese s1 out own files base next) (may honest2 base next committed kept) moment);
       keeps = keeps_after s2 (store_wider (IsPublishedAt s1 (IsGoingAt packets to.trial.now)) (IsOfThese s1.is_own out own files) s1 s2
           (λ m is. ⊎_elim (λ o. inl o) (λ of. inr (as_files (λ l. IsOfPacket out own l m) (of_packet to can.routes base packets for m of))) is) keeps);
+      left = left_sent keeps.same stops;
       why = why_sent (λ e. absurd (taken e (growing_free to can.routes base packets for s1.disk honest1 grows)));
       tried = on_ok_done (HoldsAsBefore s0 s2 ⊎ WasTriedFor state Own out own files s0.disk) done (on_ok_any done
           (⊎_elim (λ (h : HoldsAsBefore s1 s2). inl (holds_still s0 s1 s2 passed.used.holds h)) (λ (was : IsTriedWith state packets to.trial.now s1.disk). inr (tried_first was)) tried));

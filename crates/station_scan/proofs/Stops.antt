@@ -1,13 +1,17 @@
 -- Why a scan stopped.
-use Rattle.std.proofs.Common.{◌≡◌, ◌⊎◌, inl, inr, ⊎_elim, subst, arith}
-use Rattle.std.specs.Prelude.{Err, IfErr, IsErrOf, Ok, Result}
+use Rattle.std.proofs.Common.{◌≡◌, ◌⊎◌, ℕ, List, inl, inr, ⊎_elim, subst, arith}
+use Rattle.std.specs.Prelude.{All, Err, IfErr, IsErrOf, Ok, Result}
+use Rattle.base_file.specs.Base.{Base}
 use Rattle.disk_io.specs.declared.disk_error.DiskError.TheVariants as disk
 use Rattle.disk_atomic.specs.declared.placing_error.PlacingError.{PlacingError}
 use Rattle.disk_atomic.specs.declared.placing_error.PlacingError.TheVariants as placing
+use Rattle.disk_atomic.specs.{Outgoing.IsFilled, declared.outgoing.Outgoing.Outgoing}
+use Rattle.base_store.specs.Store.{Commits, StoreState}
 use Rattle.base_store.specs.declared.store_error.StoreError.TheVariants as error
+use Rattle.station.specs.Beneath.{HoldsAsBefore}
 use Rattle.cmd_store.specs.declared.command_error.CommandError.TheVariants.{Store}
-use Rattle.station_scan.specs.{Stops.IsOfPlacing, Stops.scan_done, Stops.stop_of, declared.scan_error.ScanError.ScanError}
-use Rattle.station_scan.specs.declared.{scan_error.ScanError.TheVariants.Command, scan_error.ScanError.TheVariants.Placing, publish_error.PublishError.PublishError}
+use Rattle.station_scan.specs.{Publishing.AreGone, Publishing.StopsPublishing, Stops.IsOfBase, Stops.IsOfPlacing, Stops.TellsLeft, Stops.scan_done, Stops.stop_of, declared.scan_error.ScanError.ScanError}
+use Rattle.station_scan.specs.declared.{scan_error.ScanError.TheVariants.Command, scan_error.ScanError.TheVariants.Placing, scan_error.ScanError.TheVariants.Staying, scan_error.ScanError.TheVariants.TooFar, publish_error.PublishError.PublishError}
 use Rattle.station_scan.specs.declared.publish_error.PublishError.TheVariants.{Base as OfBase, Reading, Staging, Packets}
 
 module _ (failed taken far : Type 0) where
@@ -41,3 +45,46 @@ put_wider some more taken held far (Err why) gives free is = why_wider some more
 pub put_whole : (failed taken far : Type 0) (result : Result (Unit {0}) ScanError) → IfErr result (IsOfPlacing failed taken far) → IsErrOf result (Command (Store error.Damaged)) → ⊥
 put_whole failed taken far (Ok done) is damaged = absurd (cc damaged)
 put_whole failed taken far (Err why) is damaged = let same : why ≡ Command (Store error.Damaged) = cc damaged in subst (IsOfPlacing failed taken far) same is
+
+-- ---- what is left
+
+-- nothing was committed, and no staging file stays
+pub tells_none : (stays none comes whole : Type 0) (why : ScanError) → stays → none → TellsLeft stays none comes whole why
+tells_none stays none comes whole (Staying left) first second = first
+tells_none stays none comes whole (Placing placing.Taken) first second = inl first
+tells_none stays none comes whole (Placing placing.Device) first second = inl (first, second)
+tells_none stays none comes whole (Placing placing.Memory) first second = inl (first, second)
+tells_none stays none comes whole TooFar first second = inl (first, second)
+tells_none stays none comes whole (Command cause) first second = inl (first, second)
+
+module _ (stays none comes whole stays' none' comes' whole' : Type 0) (one : stays → stays') (two : none → none') (three : comes → comes') (four : whole → whole') where
+  tells_each : (stays × none) ⊎ (comes ⊎ whole) → (stays' × none') ⊎ (comes' ⊎ whole')
+  tells_each told = ⊎_elim (λ kept. inl (one kept.0, two kept.1)) (λ on. inr (⊎_elim (λ came. inl (three came)) (λ all. inr (four all)) on)) told
+
+  pub tells_as : (result : Result (Unit {0}) ScanError) → IfErr result (TellsLeft stays none comes whole) → IfErr result (TellsLeft stays' none' comes' whole')
+  tells_as (Ok done) told = tt
+  tells_as (Err (Staying left)) told = one told
+  tells_as (Err (Placing placing.Taken)) told = ⊎_elim (λ kept. inl (one kept)) (λ came. inr (three came)) told
+  tells_as (Err (Placing placing.Device)) told = tells_each told
+  tells_as (Err (Placing placing.Memory)) told = tells_each told
+  tells_as (Err TooFar) told = tells_each told
+  tells_as (Err (Command cause)) told = tells_each told
+
+-- without packets all are whole
+pub tells_alone : (stays none comes whole : Type 0) (done : Result (Unit {0}) PublishError) → IfErr done IsOfBase → whole → IfErr (scan_done done) (TellsLeft stays none comes whole)
+tells_alone stays none comes whole (Ok done) of all = tt
+tells_alone stays none comes whole (Err (OfBase cause)) of all = inr (inr all)
+tells_alone stays none comes whole (Err (Packets cause)) of all = absurd of
+tells_alone stays none comes whole (Err (Reading cause)) of all = absurd of
+tells_alone stays none comes whole (Err (Staging cause)) of all = absurd of
+
+-- a publishing that stopped
+pub tells_published : (stays none comes whole : Type 0) (content : Base → Outgoing → List ℕ) (packets : List Outgoing) (trial : List ℕ) (old new : StoreState) (base : Base) (done : Result (Unit {0}) PublishError) → old.keeps base → (HoldsAsBefore old new → stays)
+    → (Commits old new → comes) → (AreGone packets trial new.disk → none) → (All (IsFilled (content base) new.disk) packets → whole) → IfErr done (StopsPublishing content packets trial old new) → IfErr (scan_done done) (TellsLeft stays none comes whole)
+tells_published stays none comes whole content packets trial old new base (Ok done) kept same came gone filled stops = tt
+tells_published stays none comes whole content packets trial old new base (Err (Packets placing.Taken)) kept same came gone filled stops = ⊎_elim (λ h. inl (same h)) (λ c. inr (came c)) stops
+tells_published stays none comes whole content packets trial old new base (Err (Packets placing.Device)) kept same came gone filled stops = ⊎_elim (λ h. inl (same h.0, gone h.1)) (λ c. inr (inl (came c))) stops
+tells_published stays none comes whole content packets trial old new base (Err (Packets placing.Memory)) kept same came gone filled stops = ⊎_elim (λ h. inl (same h.0, gone h.1)) (λ c. inr (inl (came c))) stops
+tells_published stays none comes whole content packets trial old new base (Err (Reading cause)) kept same came gone filled stops = inl (same stops.0, gone stops.1)
+tells_published stays none comes whole content packets trial old new base (Err (Staging left)) kept same came gone filled stops = same stops
+tells_published stays none comes whole content packets trial old new base (Err (OfBase cause)) kept same came gone filled stops = inr (inr (filled (stops base kept)))

@@ -13,7 +13,7 @@ use Rattle.cmd_store.specs.{Scanned.ScansOn, Scanned.files_scanned, Stops.store_
 use Rattle.cmd_store.specs.declared.command_error.CommandError.TheVariants.{Met, Store}
 use Rattle.echo_toss.specs.{Bounds.IsFullWhenRead, PacketsIn.state_in}
 use Rattle.station.specs.Beneath.{HoldsAsBefore}
-use Rattle.station_scan.specs.Sends.{AreSentOn, IsOfThese, SendsThese, WasTriedFor, WritesStaging}
+use Rattle.station_scan.specs.Sends.{AreSentOn, IsLeftAs, IsOfThese, SendsThese, WasTriedFor, WritesStaging}
 use Rattle.station_scan.specs.{Beneath.IsFullOnWay, Fitting.AreTaken, Passing.AreGoneOrSame, Publishing.KeepsStoreBut, Scanning.packets_in, Sending.IsFreeAt, Sending.IsStagingOfPacket, Stops.IsOfPlacing, Stops.most}
 use Rattle.station_scan.specs.declared.{pieces.Source.Source, sending.Sending.Sending, scan_error.ScanError.ScanError}
 use Rattle.station_scan.specs.declared.scan_error.ScanError.TheVariants.{Command, Placing, Staying}
@@ -32,6 +32,7 @@ pub record SendsFrom {D : Type 0} (state : D → DiskState) (Own : List ℕ → 
   pub crash : LeavesOnly old.disk new.disk (SendsThese old outbound own files base (all_scanned base))
   pub keeps : KeepsStoreBut (IsOfThese old.is_own outbound own files) old new
   pub why : IfErr result (IsOfPlacing failed (AreTaken Own outbound own files old.disk.seen) (most < base.cursor))
+  pub left : IfErr result (IsLeftAs outbound own (old.represented base) (old.represented (all_scanned base)) (λ m. ⊥) files old.disk.seen new.disk.seen)
   pub tried : OnOk result (HoldsAsBefore old new ⊎ WasTriedFor state Own outbound own files old.disk)
 
 -- It is reported why the scan stopped, and each staging file is gone or as before. Or it is reported that staging files may be left.

@@ -12,7 +12,7 @@ use Rattle.echo_toss.specs.PacketsIn.{state_in}
 use Rattle.station.specs.{Place.Place, Place.RepresentsOrWasLeft, Running.IsNotRun, Running.IsStopped}
 use Rattle.station_scan.specs.Left.{AreAllLeft, AreFreeLeft, IsEnded, IsEndedAt, IsLeftOf, IsOfName}
 use Rattle.station_scan.specs.Sending.{HasBytes, IsAtItsPath, IsStagingOfPacket, IsFreeAt, IsStagingGone, IsWhole}
-use Rattle.station_scan.specs.{Fitting.AreTaken, Publishing.IsOnDisk, Sends.IsOfThese, Sends.WasTriedFor, Stops.IsOfPlacing, Stops.as_scan, Stops.most, declared.scan_error.ScanError.ScanError}
+use Rattle.station_scan.specs.{Fitting.AreTaken, Publishing.IsOnDisk, Sends.IsLeftAs, Sends.IsOfThese, Sends.WasTriedFor, Stops.IsOfPlacing, Stops.as_scan, Stops.most, declared.scan_error.ScanError.ScanError}
 use Rattle.station_scan.specs.declared.scan_error.ScanError.TheVariants.{Command, Staying}
 
 -- one of the station's own paths, or the path or staging path of a packet's name in the folder of packets
@@ -70,6 +70,7 @@ pub record SendsOut (is_true failed : Type 0) (Own : List ℕ → Type 0) (outbo
   pub sent : OnOk result (AreSentOut is_true Own outbound own Comes cursor found files old.seen new)
   pub crash : LeavesOnly old new (λ c. OneStepOn (PreparesScan outbound own Stays cursor found files) old c ⊎ CommitsScan Own outbound own (IsOnDisk old) Stays Comes cursor found files old.seen c)
   pub why : IfErr result (IsOfPlacing failed (IsTaken Own outbound own cursor found files old.seen) (most < cursor))
+  pub left : IfErr result (IsLeftAs outbound own Stays Comes (IsOfLeft found) files old.seen new.seen)
 
 -- The files of the packets that a scan of this base makes.
 abbrev pub packets_in : Stamp → LinkFile → Base → List PacketFile
@@ -140,6 +141,7 @@ pub record IsPutIn (place : Place) (outbound own : List ℕ) (IsTrue : Files →
   -- However it ended, the base that was read is on the disk, or the new one.
   pub lasts : (c : Files) → new.may_leave c → IsOnItsWay place outbound own old base found files opened c
   pub why : IfErr result (IsOfPlacing failed (IsTaken place.is_own outbound own base.cursor found files opened) (most < base.cursor))
+  pub left : IfErr result (IsLeftAs outbound own (place.represents base) (place.represents (all_scanned base)) (IsOfLeft found) files opened new.seen)
 
 -- The scan of this base stopped while its packets were made. The files hold the base from before, as they are seen and after any crash.
 pub record StopsScanIn (place : Place) (outbound own : List ℕ) (IsTrue : Files → Type 0) (failed : Type 0) (old new : DiskState) (base : Base) (files : List PacketFile) (why : CommandError) (result : Result (Unit {0}) ScanError) : Type 0 where
@@ -192,12 +194,13 @@ TriesOn state stamp Own outbound old new old_out new_out file base =
     (new.is_ready × new.committed base)
     ⊎ ((files : List PacketFile) × ScansOn stamp (state_in file base) old_out new_out (Ok files) × WasTriedFor state Own outbound (dotted file.system) files old.disk)
 
--- where there are packets it was tried, before anything else was done outside the station's own files
-abbrev pub IsTriedIn : {D : Type 0} → (D → DiskState) → Place → List ℕ → List ℕ → List PacketFile → DiskState → Type 0
-IsTriedIn state place outbound own files old = (length files ≡ 0) ⊎ WasTried state (IsTouched place.is_own outbound) (staging_path outbound own) old
+-- where there are packets it was tried, before anything else was done outside the station's own files, which held the base from before
+abbrev pub IsTriedIn : {D : Type 0} → (D → DiskState) → Place → List ℕ → List ℕ → Base → List PacketFile → DiskState → Type 0
+IsTriedIn state place outbound own base files old =
+    (length files ≡ 0) ⊎ ((tried : WasTried state (IsTouched place.is_own outbound) (staging_path outbound own) old) × place.represents base (state tried.after).seen)
 
 -- Where a scan ended well each crash leaves the base from before, or it was tried for the packets that were made of that.
 abbrev pub ScanTries : {D : Type 0} → (D → DiskState) → Stamp → Place → List ℕ → (LinkFile → Type 0) → DiskState → DiskState → Output → Output → Type 0
 ScanTries state stamp place outbound Reads old new old_out new_out = (base : Base) → place.represents base old.seen
     → ((c : Files) → new.may_leave c → place.represents base c)
-    ⊎ ((file : LinkFile) × Reads file × ((files : List PacketFile) × ScansOn stamp (state_in file base) old_out new_out (Ok files) × IsTriedIn state place outbound (dotted file.system) files old))
+    ⊎ ((file : LinkFile) × Reads file × ((files : List PacketFile) × ScansOn stamp (state_in file base) old_out new_out (Ok files) × IsTriedIn state place outbound (dotted file.system) base files old))

@@ -1,12 +1,12 @@
 -- The packets of a scan and the commit of a store.
-use Rattle.std.specs.Prelude.{◌≡◌, ◌⊎◌, ℕ, List, length, All}
+use Rattle.std.specs.Prelude.{◌≡◌, ◌⊎◌, ℕ, List, length, All, None}
 use Rattle.base_file.specs.Base.{Base}
 use Rattle.disk_io.specs.{Disk.DiskState, Disk.Files, Disk.Honestly, Runs.OneStepOn}
 use Rattle.disk_atomic.specs.{Changes.DifferAt, Trying.WasTried, StagingPaths.staging_path}
 use Rattle.model_steps.specs.PacketFiles.{PacketFile}
 use Rattle.base_store.specs.Store.{Commits, StoreState}
 use Rattle.station_scan.specs.Sending.{HasBytes, IsAtItsPath, IsStagingOfPacket, IsFreeAt, IsStagingGone, IsOfPacket, IsWhole}
-use Rattle.station_scan.specs.{Left.IsOfNameOff, Publishing.IsOnDisk}
+use Rattle.station_scan.specs.{Left.IsOfNameOff, Publishing.IsOnDisk, Stops.TellsLeft, declared.scan_error.ScanError.ScanError}
 
 -- one of these paths, or one of the two paths of a packet
 abbrev pub IsOfThese : (List ℕ → Type 0) → List ℕ → List ℕ → List PacketFile → List ℕ → Type 0
@@ -33,6 +33,11 @@ pub record AreSentOn (outbound own : List ℕ) (files : Base → List PacketFile
   pub packets : Honestly new.disk ((base : Base) → old.keeps base → All (IsAtItsPath outbound new.disk) (files base))
   pub gone : Honestly new.disk ((base : Base) → old.keeps base → All (IsStagingGone outbound own new.disk.seen) (files base))
   pub bytes : Honestly new.disk ((base : Base) → old.keeps base → All HasBytes (files base))
+
+-- What an error says of these packets, from the files seen before and after. Files at other paths may be left by earlier scans.
+abbrev pub IsLeftAs : List ℕ → List ℕ → (Files → Type 0) → (Files → Type 0) → (List ℕ → Type 0) → List PacketFile → Files → Files → ScanError → Type 0
+IsLeftAs outbound own Stays Comes Other files before after why =
+    TellsLeft (Stays after) ((m : List ℕ) → IsStagingOfPacket outbound own files m → (Other m → ⊥) → (after m ≡ None) ⊎ (after m ≡ before m)) (Comes after) (All (IsWhole outbound own after) files) why
 
 -- If there are packets, the first step in the folder was to try whether a file gets a second path.
 abbrev pub WasTriedFor : {D F : Type 0} → (D → DiskState) → (List ℕ → Type 0) → List ℕ → List ℕ → List F → DiskState → Type 0

@@ -1,5 +1,5 @@
 -- Why a scan stopped.
-use Rattle.std.specs.Prelude.{◌<◌, ℕ, Result, Ok, Err}
+use Rattle.std.specs.Prelude.{◌⊎◌, ◌<◌, ℕ, Result, Ok, Err}
 use Rattle.disk_io.specs.declared.disk_error.DiskError.TheVariants as disk
 use Rattle.disk_atomic.specs.declared.placing_error.PlacingError.TheVariants as placing
 use Rattle.base_store.specs.declared.store_error.StoreError.TheVariants as store
@@ -36,6 +36,13 @@ IsOfPlacing failed taken far (Placing placing.Memory) = Unit {0}
 IsOfPlacing failed taken far (Staying disk.Device) = failed
 IsOfPlacing failed taken far (Staying disk.Memory) = Unit {0}
 IsOfPlacing failed taken far TooFar = far
+
+-- What an error says of the packets that were not put. The base is as before, and no staging file stays. Or the base is committed,
+-- or each packet is whole. If a path is in use, or staging files may be left, no more is said of these.
+abbrev pub TellsLeft : Type 0 → Type 0 → Type 0 → Type 0 → ScanError → Type 0
+TellsLeft stays none comes whole (Staying left) = stays
+TellsLeft stays none comes whole (Placing placing.Taken) = stays ⊎ comes
+TellsLeft stays none comes whole _ = (stays × none) ⊎ (comes ⊎ whole)
 
 -- The packets have no paths: there was no memory, or too many messages were scanned before.
 abbrev pub IsUnplanned : ℕ → ScanError → Type 0

@@ -3,8 +3,8 @@ ghost use Rattle.std.specs.Prelude.{◌≤◌, ◌⊎◌, ℕ, List, IsErrOf, On
 ghost use Rattle.base_file.specs.Base.{Base};
 ghost use Rattle.disk_io.specs.{Device.Failed, Disk.Honestly, Runs.ChangesNothing};
 ghost use Rattle.cmd_status.specs.Devices.{output_of};
-ghost use Rattle.station.specs.{Beneath.AreSettledByOwn, Opening.AreFree, Opening.HaveFailed};
-ghost use Rattle.station_scan.specs.Scanning.{IsScanFull, IsTouched, ScanTries, ScansIn, ScansOnStore, TriesOn};
+ghost use Rattle.station.specs.{Beneath.AreSettledByOwn, Opening.AreFree, Opening.HaveFailed, Running.NeedsBase};
+ghost use Rattle.station_scan.specs.Scanning.{IsScanFull, IsScanNotRun, IsTouched, ScanTries, ScansIn, ScansOnStore, TriesOn};
 ghost use Rattle.station_scan.specs.Publishing.{UnchangedExcept, KeepsStoreBut};
 
 use crate::putting::put_moved;
@@ -17,7 +17,7 @@ use disk_atomic::ListStaged;
 use disk_io::{Disk, Sink};
 use echo_links::LinkFile;
 use model_steps::{ScanFault, Stamp, is_stamp};
-use station::{BeforeCommand, LendStation, Locks, OpenStation, Opened};
+use station::{BeforeCommand, LendStation, Locks, OpenStation, Opened, lock_and_open};
 use std::alloc::Global;
 
 /// A scan: its stamp, its folder of packets, a list of what earlier scans left there, and a progress report. The folder
@@ -74,11 +74,15 @@ pub fn run_scan<
         (output_of W.contents W.failures W.holds out.old) (output_of W.contents W.failures W.holds out.new))) }
     ensures many { Honestly (D.state result.disk) ((base : Base) → (P.place station).represents base (D.state disk).seen
         → IsErrOf result.done (ScanError.Command (CommandError.Store StoreError.TooMany)) → IsScanFull P.Kept.state base) }
+    ensures needs { Honestly (D.state result.disk) (NeedsBase (P.holds_base station (D.state disk).seen)
+        (IsScanNotRun (P.place station) (P.is_shut station (HaveFailed (D.failures disk) (D.failures result.disk) (L.failures locks.old.links) (L.failures locks.new.links) (K.failures locks.old.base) (K.failures locks.new.base))
+        (D.state disk) (D.state result.disk)) (λ fault. ⊥) (D.state disk) (D.state result.disk) (output_of W.contents W.failures W.holds out.old) (output_of W.contents W.failures W.holds out.new) result.done)
+        (D.state disk) (D.state result.disk) result.done) }
     ensures keeps { UnchangedExcept (IsTouched (P.place station).is_own scan.old.outbound.now) (D.state disk) (D.state result.disk) }
     ensures passed { OnOk result.done (Q.lets before.old) }
 {
     let paths = station.paths();
-    match station.open(alloc, disk, locks) {
+    match lock_and_open(alloc, disk, locks, station) {
         Ok(opened) => {
             let Opened { links, kept } = opened;
             let mut kept = kept;

@@ -1,4 +1,3 @@
-//! Changes of a base folder, and the base found in it.
 ghost use Rattle.std.specs.Prelude.{◌≡◌, IfOk};
 ghost use Rattle.disk_io.specs.Disk.{Honestly};
 ghost use Rattle.base_log.specs.{AtRest.IsAtRest, AtRest.IsStaged, Names.AreNames, Names.folder_of, Opening.AreAlone};
@@ -13,7 +12,6 @@ use std::alloc::{AllocError, Global};
 /// How much a test stages at most.
 const LIMIT: usize = 1 << 40;
 
-/// The bytes of a base, as a test expects them.
 #[derive(Debug, Drop)]
 pub(crate) struct Base {
     pub(crate) messages: Vec<u8>,
@@ -83,7 +81,6 @@ fn stage<D: Disk>(
     Ok(stage_bytes(disk, names, end, recorded, GrowingFile::Keys, keys)?)
 }
 
-// Stages a change in two parts, and commits it.
 fn stage_and_commit<D: Disk>(
     disk: &mut D,
     names: &Names,
@@ -107,7 +104,6 @@ fn stage_and_commit<D: Disk>(
     Ok(commit(disk, names, end, recorded)?)
 }
 
-/// Opens a base folder.
 pub(crate) fn open_folder<D: Disk>(
     alloc: Global,
     disk: &mut D,
@@ -123,7 +119,6 @@ pub(crate) fn open_folder<D: Disk>(
     Ok(log.end)
 }
 
-/// Makes one change of a base folder that is at rest.
 pub(crate) fn change_folder<D: Disk>(
     alloc: Global,
     disk: &mut D,
@@ -179,7 +174,6 @@ fn renew<D: Disk>(
     stage_and_commit(disk, &names, end, recorded, change)
 }
 
-// The first bytes of a file.
 fn read_front<D: Disk>(
     alloc: Global,
     disk: &mut D,
@@ -194,7 +188,6 @@ fn read_front<D: Disk>(
     Ok(bytes)
 }
 
-/// The base in a folder at rest.
 pub(crate) fn read_base<D: Disk>(
     alloc: Global,
     disk: &mut D,

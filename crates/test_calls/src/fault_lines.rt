@@ -8,7 +8,6 @@ use echo_packet::{Field, PacketFault};
 use echo_text::TextFault;
 use model_steps::{PostFault, ScanFault};
 
-/// Each of these faults, the line that reports it, and the status.
 const LINES: &[(Fault<'static>, &str, u8)] = &[
     (
         Fault::Packet(PacketFault::Read { at: 58 }),
@@ -69,7 +68,6 @@ const LINES: &[(Fault<'static>, &str, u8)] = &[
     (Fault::OutOfMemory, "echonet: out of memory\n", 3),
 ];
 
-/// Whether this is the fault's line, and its status.
 fn is_line_of(fault: &Fault<'_>, line: &str, status: u8) -> bool {
     let mut room = [0u8; 64];
     let mut errors = Watched::new(room.as_mut_slice());

@@ -7,10 +7,8 @@ use std::fs;
 use std::fs::OpenOptions;
 use std::test::Fail;
 
-/// The base folder of the test.
 const FOLDER: &[u8] = b"disk_tests_base/";
 
-/// The mark of a folder without an owner, and that of the folder's owner.
 const UNCLAIMED: FolderIdentity = FolderIdentity {
     owner: 0,
     first: 0,

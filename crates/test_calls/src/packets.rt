@@ -10,16 +10,13 @@ use station::{PacketReader, packets_on_disk};
 use std::cell::RefCell;
 use std::test::Fail;
 
-/// The bytes of the packet.
 const WHOLE: &[u8] = b"a packet of some bytes";
 
-/// The bytes that are left of it.
 const FRONT: &[u8] = b"a packet";
 
 /// The number of calls before which it is cut: more than are made.
 const CALLS: u64 = 16;
 
-/// A packet of this name.
 #[derive(Drop)]
 struct Named<'n> {
     name: &'n str,
@@ -35,7 +32,6 @@ impl PacketName for Named<'_> {
     }
 }
 
-/// Reads nothing of packets that are not held.
 #[derive(Drop)]
 struct Nothing;
 

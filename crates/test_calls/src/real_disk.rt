@@ -1,10 +1,8 @@
-//! The disk of the program, on files of the system.
 use disk_io::{Disk, DiskError};
 use disk_system::{NoFiles, RealDisk};
 use std::fs;
 use std::test::Fail;
 
-/// The folder of a test, empty.
 fn emptied(rt: &HostRuntime, folder: &str) -> Result<(), Fail> {
     let _ = fs::remove_dir_all(rt, folder);
     fs::create_dir(rt, folder)?;

@@ -19,7 +19,6 @@ const CALLS: u64 = 16;
 /// The staging file of the system 1:10/2.
 const BESIDE_PACKET: &str = "a.pkt.~1.10.2~.new";
 
-/// The new file at this path, by that system.
 fn new_at(path: &str) -> NewFile<'_> {
     NewFile {
         path,
@@ -43,7 +42,6 @@ fn state(
     Ok(RefCell::new(state))
 }
 
-/// Whether the file has these bytes, or does not exist.
 fn holds(state: &RefCell<State>, name: &str, bytes: Option<&[u8]>) -> Result<bool, Fail> {
     let state = state.try_borrow().map_err(|_| Fail::from("borrowed"))?;
     Ok(state.bytes(name) == bytes)
@@ -190,7 +188,6 @@ fn stops_at_a_call(rt: HostRuntime) -> Result<(), Fail> {
     Ok(())
 }
 
-/// The call that flushed the folder last.
 fn flushed_at(state: &RefCell<State>) -> Result<Option<u64>, Fail> {
     let state = state.try_borrow().map_err(|_| Fail::from("borrowed"))?;
     Ok(state.flushed_at)

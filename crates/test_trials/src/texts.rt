@@ -8,7 +8,6 @@ use anyhow::{Context, Result, bail};
 use echo_text::{Echo, read_text, view_text, write_text};
 use std::alloc::{AllocError, Global};
 
-/// How many lines the body has.
 const LINES: usize = 15;
 
 const LINE: &[u8] = b" AB> The quick brown fox jumps over the lazy dog, and back.\r";
@@ -18,7 +17,6 @@ const END: &[u8] = b"--- echonet\r * Origin: A system of the net (1:10/100)\r";
 const TAIL: &[u8] =
     b"SEEN-BY: 10/100 101 102 103 104 105 106 107 108 109 110 111 112 113 114 115 116\rSEEN-BY: 10/117 118 119 120 121 122 123 124 125 126 127 128 129 130 131 132 133\rSEEN-BY: 10/134 135 136 137 138 139 140 141 142 143 144 145 146 147 148 149 150\r\x01PATH: 10/100 101 102\r";
 
-/// A text without 00.
 #[derive(Drop)]
 struct Text {
     bytes: Vec<u8>,
@@ -33,7 +31,6 @@ fn text_of(bytes: Vec<u8>) -> Option<Text> {
     }
 }
 
-/// A message of one system.
 fn bytes_of(alloc: Global, number: usize) -> Result<Vec<u8>, AllocError> {
     let mut all = Vec::new(alloc);
     all.extend_from_slice(b"AREA:BENCH.TEXTS\r")?;
@@ -108,7 +105,6 @@ fn write_all(alloc: Global, echoes: &[Echo], rounds: usize, totals: &mut Totals)
     Ok(())
 }
 
-/// Reads each text, or adds its bytes.
 fn read_all(alloc: Global, kind: &str, texts: &[Text], totals: &mut Totals) -> Result<()> {
     for text in texts {
         match kind {
@@ -132,7 +128,6 @@ fn work(alloc: Global, kind: &str, texts: &[Text], rounds: usize) -> Result<Tota
     Ok(totals)
 }
 
-/// The number in a word, or the other one if there is no word.
 fn number(word: Option<&String>, otherwise: usize) -> Result<usize> {
     match word {
         Some(word) => word.parse::<usize>().context("a number"),
@@ -140,7 +135,6 @@ fn number(word: Option<&String>, otherwise: usize) -> Result<usize> {
     }
 }
 
-/// Runs the benchmark with the words that follow its name.
 pub(crate) fn run(rt: &HostRuntime, words: &[String]) -> Result<()> {
     let kind = words.first().map_or("view", |word| word.as_str());
     let count = number(words.get(1), 16)?;

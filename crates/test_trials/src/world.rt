@@ -27,7 +27,6 @@ fn save<W: Sink>(world: &World, system: usize, writer: &mut W) -> Result<()> {
     }
 }
 
-/// The base file of the system.
 fn base_of(alloc: Global, world: &World, system: usize) -> Result<Vec<u8>> {
     let mut writer = Watched::new(Vec::new(alloc));
     save(world, system, &mut writer)?;
@@ -43,7 +42,6 @@ fn put(rt: &HostRuntime, folder: Option<&String>, name: &String, bytes: &[u8]) -
     Ok(bytes.len() as u64)
 }
 
-/// Writes the base files, and returns the number of their bytes.
 fn put_bases(rt: &HostRuntime, folder: Option<&String>, world: &World) -> Result<u64> {
     let mut all = 0u64;
     for system in 0..world.systems() {
@@ -54,7 +52,6 @@ fn put_bases(rt: &HostRuntime, folder: Option<&String>, world: &World) -> Result
     Ok(all)
 }
 
-/// Writes the packets, and returns the number of their bytes.
 fn put_packets(rt: &HostRuntime, folder: Option<&String>, world: &World) -> Result<u64> {
     let mut all = 0u64;
     for packet in 0..world.packets() {
@@ -66,7 +63,6 @@ fn put_packets(rt: &HostRuntime, folder: Option<&String>, world: &World) -> Resu
     Ok(all)
 }
 
-/// Writes and prints the state after so many events.
 fn leave(rt: &HostRuntime, folder: Option<&String>, events: usize, world: &World) -> Result<()> {
     let bases = put_bases(rt, folder, world)?;
     let packets = put_packets(rt, folder, world)?;
@@ -78,7 +74,6 @@ fn leave(rt: &HostRuntime, folder: Option<&String>, events: usize, world: &World
     Ok(())
 }
 
-/// Replays the script on the net of these link files.
 fn run_on(
     rt: &HostRuntime,
     folder: Option<&String>,
@@ -107,7 +102,6 @@ fn small_net(alloc: Global) -> Result<Vec<LinkFile>> {
     Ok(files)
 }
 
-/// Runs with the words that follow its name.
 pub(crate) fn run(rt: &HostRuntime, words: &[String]) -> Result<()> {
     match words {
         [folder, path, links @ ..] => {

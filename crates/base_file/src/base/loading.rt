@@ -13,7 +13,6 @@ use echo_filed::{Version, read_long, read_stored};
 use std::alloc::Global;
 use std::hash::BuildHasher;
 
-// The first bytes of the two versions.
 const FIRST: &[u8] = b"ECHOBAS1";
 
 pub(super) const SECOND: &[u8] = b"ECHOBAS2";
@@ -26,7 +25,6 @@ pub struct Head {
     pub number: u32,
 }
 
-// Why a field was not read, after this many whole messages.
 fn broken_fault(broken: Broken, messages: u64) -> BaseFault
     ensures { result ≡ fault_behind broken messages }
 {
@@ -37,7 +35,6 @@ fn broken_fault(broken: Broken, messages: u64) -> BaseFault
     }
 }
 
-/// The version with these first bytes, or the fault.
 pub(crate) fn version_of(front: &[u8]) -> Result<Version, BaseFault>
     requires { length front.now ≤ 8 }
     ensures { IsVersion front.now result }
@@ -65,7 +62,6 @@ fn read_version<R: Source>(reader: &mut R) -> Result<Version, BaseFault>
     }
 }
 
-// The version, the cursor and the number of messages.
 fn read_head<R: Source>(reader: &mut R) -> Result<Head, BaseFault>
     ensures read { ReadsHead (R.remaining reader.old) (R.remaining reader.new) result }
     ensures device { CountsLoad result (R.failures reader.old) (R.failures reader.new) }
@@ -89,7 +85,6 @@ fn read_head<R: Source>(reader: &mut R) -> Result<Head, BaseFault>
     })
 }
 
-// Takes the next message, and appends it to the base.
 fn take_message<R: Source, S: BuildHasher>(
     room: &mut MessageRoom,
     reader: &mut R,
@@ -116,7 +111,6 @@ fn take_message<R: Source, S: BuildHasher>(
     })
 }
 
-// Takes the messages after the head.
 fn take_messages<R: Source, S: BuildHasher>(
     reader: &mut R,
     base: &mut Base<S>,
@@ -159,18 +153,14 @@ impl<S: BuildHasher> Base<S> {
         Ok(base)
     }
 
-    /// Reads a base file of either version, and no byte after its last message. Look-ups by key go by
-    /// the hasher.
-    ///
-    /// It is `NotBase`, `Truncated` or `Damaged` as the bytes are, and `Read` where the device failed.
-    /// While a field is read, room is made for at most 4,096 bytes more than those that came.
+    /// Reads a base file of either version, and no byte after its last message. `NotBase`, `Truncated` or `Damaged` as
+    /// the bytes are, `Read` if the device failed. A field makes room for at most 4,096 bytes more than those that
+    /// came.
     pub fn load<R: Source>(alloc: Global, reader: &mut R, hasher: S) -> Result<Base<S>, BaseFault>
     where
         S: Drop,
-        // Each answer is right for the bytes.
         ensures taken { IfOk result (λ base. TakesBase base.messages base.cursor (R.remaining reader.old) (R.remaining reader.new)) }
         ensures fault { IfErr result (FailsToLoad (R.remaining reader.old) (R.remaining reader.new)) }
-        // The right answer is the only one.
         ensures only { (other : Result Loaded Fault) → IfSome (R.remaining reader.old) (λ bytes. AreBytes bytes → LoadOf bytes other → AnswersLoad result other) }
         ensures device { CountsLoad result (R.failures reader.old) (R.failures reader.new) }
     {

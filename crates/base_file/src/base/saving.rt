@@ -33,7 +33,6 @@ fn send_head<W: Sink>(
     send(writer, &long_bytes(number), sent)
 }
 
-// Whether four bytes count the bytes of each text and id.
 fn are_short_enough<S: BuildHasher>(
     alloc: Global,
     entries: &IndexMap<Key, Filed, S>,
@@ -88,7 +87,6 @@ fn send_base<W: Sink, S: BuildHasher>(
     send_messages(alloc, writer, entries, cursor, sent)
 }
 
-// Whether four bytes count the messages, and the bytes of each text and id.
 fn are_countable<S: BuildHasher>(
     alloc: Global,
     entries: &IndexMap<Key, Filed, S>,
@@ -103,12 +101,9 @@ fn are_countable<S: BuildHasher>(
 }
 
 impl<S: BuildHasher> Base<S> {
-    /// Writes the base as a base file of version 2.
-    ///
-    /// `TooMany`: there are more than 2^32 - 1 messages, or bytes of a text or an id; nothing was
-    /// sent. `Write`: the device failed; it has the number of bytes that this call sent, at most
-    /// the greatest `u64`. Memory refused: a beginning of the bytes was sent. The owner of the
-    /// writer flushes it.
+    /// Writes the base as a base file of version 2; the owner of the writer flushes it. `TooMany`: more than 2^32 - 1
+    /// messages, or bytes of a text or an id; nothing was sent. `Write` has the number of bytes sent, at most the
+    /// greatest `u64`. If memory was refused, a beginning of the bytes was sent.
     pub fn save<W: Sink>(&self, writer: &mut W) -> Result<(), BaseFault>
         ensures base { IsBase self.now.messages self.now.cursor }
         ensures bytes { Saves (W.contents writer.old) (W.contents writer.new) result (saved_bytes self.now.messages self.now.cursor) }

@@ -15,8 +15,6 @@ fn address(word: &[u8]) -> Option<Address>
     Address::parse(word).ok()
 }
 
-/// The address of a SYSTEM line, read from `rest`, the bytes after that word. `number` is the
-/// line's.
 pub(super) fn system_in(number: u64, rest: &[u8]) -> Result<Address, LinkFault>
     ensures { MatchResult result
         (λ a. (is_one_address (tokens rest.now) ≡ true) × (a ≡ address_in (first_of (tokens rest.now))))
@@ -35,7 +33,6 @@ pub(super) fn system_in(number: u64, rest: &[u8]) -> Result<Address, LinkFault>
     Ok(address)
 }
 
-/// The links of an AREA line, read from `rest`, the bytes after its tag. `number` is the line's.
 pub(super) fn links_in(alloc: Global, number: u64, rest: &[u8]) -> Result<Links, LinkFault>
     ensures { MatchResult result
         (λ links. (links_fault number [] (tokens rest.now) ≡ None) × (links ≡ map address_in (tokens rest.now)))

@@ -19,12 +19,10 @@ impl Model for Area {
     ghost view = { λ a. record { tag = a.tag.items; links = a.links } };
 }
 
-/// The areas of a link file in order. An area is found by its tag without going through the others,
-/// whatever tags there are.
+/// An area is found by its tag without going through the others, whatever tags there are.
 #[derive(Debug, Drop)]
 pub(crate) struct Areas {
     all: Vec<Area>,
-    // The number of each area by its tag.
     numbers: BTreeMap<Vec<u8>, usize>,
 }
 
@@ -56,7 +54,6 @@ impl Areas {
         self.all.len()
     }
 
-    /// The tag of the area of this number, counted from 0.
     pub(crate) fn tag(&self, i: usize) -> Option<&[u8]>
         ensures { option_copied result ≡ option_map (λ area. area.tag) (slice_get self.now i) }
     {
@@ -71,7 +68,6 @@ impl Areas {
         self.links_at(number)
     }
 
-    // The links of the area of this number.
     fn links_at(&self, i: usize) -> Option<&Links>
         ensures { option_copied result ≡ option_map (λ area. area.links) (slice_get self.now i) }
     {
@@ -85,7 +81,6 @@ impl Areas {
         self.numbers.contains_key(tag)
     }
 
-    /// Adds an area with a new tag.
     pub(crate) fn push(&mut self, tag: Vec<u8>, links: Links) -> Result<(), AllocError>
         requires { find (λ area. bytes_eq area.tag tag.items) self.old ≡ None }
         ensures { OnOk result (self.new ≡ self.old ++ record { tag = tag.items; links = links } ∷ []) }

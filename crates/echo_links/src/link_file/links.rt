@@ -5,12 +5,11 @@ use echo_addr::Address;
 use std::collections::BTreeSet;
 use std::marker::Model;
 
-/// The links of an area in order, each once. A look-up does not go through the others, whatever
-/// addresses there are.
+/// A look-up does not go through the others, whatever addresses there are.
 #[derive(Debug, Drop)]
 pub(crate) struct Links {
     pub(super) all: Vec<Address>,
-    // The same, in ascending order.
+    // These links in ascending order.
     pub(super) sorted: BTreeSet<Address>,
 }
 

@@ -13,7 +13,6 @@ use echo_addr::{Address, Items, next_token};
 use echo_text::{is_tag, trimmed};
 use std::alloc::Global;
 
-/// The first words of lines.
 const SYSTEM: &[u8] = b"SYSTEM";
 
 const NAME: &[u8] = b"NAME";
@@ -23,7 +22,6 @@ const AREA: &[u8] = b"AREA";
 /// The most bytes of a name.
 const MOST: usize = 40;
 
-/// The parts of a link file in the lines so far.
 #[derive(Drop)]
 pub(super) struct Reading {
     pub(super) system: Option<Address>,
@@ -56,7 +54,6 @@ impl Reading {
         }
     }
 
-    /// Takes a SYSTEM line; `rest` comes after that word.
     fn take_system(&mut self, number: u64, rest: &[u8]) -> Result<(), LinkFault>
         ensures { MatchResult result
             (λ _. (system_refusal (is_some self.old.system) number (tokens rest.now) ≡ None)
@@ -70,7 +67,6 @@ impl Reading {
         Ok(())
     }
 
-    /// Takes a NAME line; `rest` comes after that word.
     fn take_name(&mut self, alloc: Global, number: u64, rest: &[u8]) -> Result<(), LinkFault>
         ensures { MatchResult result
             (λ _. (name_refusal (is_some self.old.name) number (trimmed rest.now) ≡ None)
@@ -88,7 +84,6 @@ impl Reading {
         Ok(())
     }
 
-    /// Takes an AREA line; `rest` comes after that word.
     fn take_area(&mut self, alloc: Global, number: u64, rest: &[u8]) -> Result<(), LinkFault>
         ensures { let words = tokens rest.now in MatchResult result
             (λ _. (area_refusal self.old.areas number words ≡ None)
@@ -115,7 +110,6 @@ impl Reading {
     }
 }
 
-/// The parts of a link file, each line read once.
 pub(super) fn read_lines(alloc: Global, bytes: &[u8]) -> Result<Reading, LinkFault>
     ensures { ReadsLinkFile bytes.now result }
 {

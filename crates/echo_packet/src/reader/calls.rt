@@ -1,4 +1,3 @@
-//! Opening a packet, and its next message.
 ghost use Rattle.std.specs.Prelude.{◌≡◌, ◌≢◌, ◌+◌, [], length, Err, IfOk, IfErr, IfSome};
 ghost use Rattle.std.specs.Io.KnownBytes.{Consumes};
 ghost use Rattle.echo_packet.specs.Next.{CountsFailures, FailsInMessage, IsWithin, NextFault, TakesNext, next_bytes};
@@ -14,10 +13,8 @@ use crate::reader::{PacketReader, Stage};
 use disk_io::{Source, read_fixed};
 use std::alloc::Global;
 
-/// The header at the front of the source; no byte after it is consumed.
-///
-/// It takes no memory. It is `Truncated` at 0 where fewer than 58 bytes come, `NotType2` at 18 where
-/// these hold another packet type, and `Read` at 0 where the device failed.
+/// The header at the front of the source; no byte after it is consumed. Takes no memory. `Truncated` at 0 if fewer
+/// than 58 bytes come, `NotType2` at 18 for another packet type, `Read` at 0 if the device failed.
 pub fn read_header<R: Source>(source: &mut R) -> Result<Header, PacketFault>
     ensures header { IfOk result IsHeader }
     ensures taken { IfOk result (λ h. Consumes (R.remaining source.old) (R.remaining source.new) (header_bytes h)) }
@@ -62,10 +59,8 @@ impl<R: Source> PacketReader<R> {
         })
     }
 
-    /// The next message, or `None` at the terminator and from then on.
-    ///
-    /// A fault has the place of its field, counted from the packet's start. After an error each
-    /// call answers `Stopped`.
+    /// The next message, or `None` at the terminator and from then on. A fault has the place of its field, from the
+    /// packet's start. After an error each call answers `Stopped`.
     pub fn next(&mut self) -> Result<Option<Packed>, PacketFault>
         ensures within { IsReading self.old → IfOk result (IsWithin (reader_limits self.old) (reader_given self.old)) }
         ensures taken { IsReading self.old → TakesNext (R.remaining (reader_source self.old)) (R.remaining (reader_source self.new)) result }
@@ -106,15 +101,13 @@ impl<R: Source> PacketReader<R> {
 }
 
 impl<R> PacketReader<R> {
-    /// The header of the packet.
     pub fn header(&self) -> &Header
         ensures { result.now ≡ reader_header self.now }
     {
         &self.header
     }
 
-    /// The number of bytes read: the header, the messages answered and the terminator. It stops at
-    /// the greatest `u64`.
+    /// How many bytes were read, the terminator included. It stops at the greatest `u64`.
     pub fn place(&self) -> u64
         ensures { result ≡ reader_place self.now }
     {

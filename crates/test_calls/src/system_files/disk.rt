@@ -10,10 +10,8 @@ use std::rt::Files;
 /// How many bytes a write takes at most.
 const PIECE: usize = 4;
 
-/// The folder that all files are in.
 const FOLDER: &str = ".";
 
-/// A file: its name and its bytes.
 #[derive(Drop)]
 struct Kept {
     name: String,
@@ -28,7 +26,6 @@ pub struct State {
     calls: u64,
     from: u64,
     to: u64,
-    /// The call that flushed the folder last.
     pub flushed_at: Option<u64>,
     /// Before this call another program cuts all files to so many bytes.
     pub cut: Option<(u64, usize)>,
@@ -48,7 +45,6 @@ impl State {
         }
     }
 
-    /// Puts a file there.
     pub fn put(&mut self, name: &str, bytes: &[u8]) -> Result<(), AllocError> {
         let name = String::from_str(self.alloc, name)?;
         let bytes = Vec::from_slice(self.alloc, bytes)?;
@@ -62,7 +58,6 @@ impl State {
             .position(|kept| kept.name.as_str() == name)
     }
 
-    /// The bytes of the file, if there is one.
     pub fn bytes(&self, name: &str) -> Option<&[u8]> {
         let place = self.place(name)?;
         let kept = self.files.get(place)?;
@@ -102,7 +97,6 @@ impl State {
         }
     }
 
-    // Counts a call, and answers whether it fails.
     fn count(&mut self) -> io::Result<()> {
         let call = self.calls;
         self.calls = call.saturating_add(1);
@@ -118,7 +112,6 @@ impl State {
     }
 }
 
-/// The file system of a state.
 #[derive(Clone, Copy)]
 pub struct Disk<'a> {
     state: &'a RefCell<State>,
@@ -130,7 +123,6 @@ impl<'a> Disk<'a> {
     }
 }
 
-/// The state, where the call does not fail.
 fn called<'b>(state: &'b RefCell<State>) -> io::Result<RefMut<'b, State>> {
     match state.try_borrow_mut() {
         Ok(mut state) => {
@@ -141,7 +133,6 @@ fn called<'b>(state: &'b RefCell<State>) -> io::Result<RefMut<'b, State>> {
     }
 }
 
-/// An open file of a disk.
 #[derive(Drop)]
 pub struct Opened<'a> {
     state: &'a RefCell<State>,

@@ -5,7 +5,6 @@ use Rattle.base_file.specs.Alone.{cursor_alone}
 use Rattle.base_file.proofs.LoneMessages.{none_cut, none_longer, none_wrong, read_alone}
 use Rattle.base_file.proofs.alone.read_message.Goals as goal
 
--- all bytes belong to the message if no byte remains
 whole : (bytes front rest : List ℕ) (empty : Bool) → bytes ≡ front ++ rest → empty ≡ nat_eq (length rest) 0 → empty ≡ true → bytes ≡ front
 whole bytes front rest empty same is none = same ∙ ap (λ (l : List ℕ). front ++ l) (nil_from_length rest (eqb-true (length rest) 0 (sym is ∙ none))) ∙ append-nil front
 

@@ -1,4 +1,3 @@
--- The head and the messages before this one were sent.
 use Rattle.std.proofs.Common.{ℕ, ◌≡◌, ◌≤◌, ◌++◌, length, take}
 use Rattle.std.specs.Io.KnownBytes.{Appends}
 use Rattle.base_file.specs.{Base.Base, BaseFile.head_bytes}

@@ -1,4 +1,3 @@
--- Other messages may be the current one.
 use Rattle.std.proofs.Common.{◌≤◌, ℕ}
 use Rattle.base_folder.specs.Source.{LooksAt}
 use Rattle.base_folder.proofs.distinct.judge_earlier.Given as goal

@@ -8,7 +8,6 @@ use Rattle.base_folder.proofs.filling.add_all.Goals.{After-add_from-2}
 use Rattle.base_folder.proofs.filling.add_all.Given as given
 use Rattle.base_folder.proofs.filling.add_all.Goals as goal
 
--- The scanned messages were added, and the cursor is behind them.
 scanned : (g : given.Over) (c : After-add_from-2 g)
     → FillsOnly {T = Unit {0}} g.H.Digest.keyed (c.min-scanned.result - 0) c.args.folder.now c.move_to_end.new.self (g.D.Disk.state c.args.disk.now) (g.D.Disk.state c.add_from.new.disk) (Ok tt)
 scanned g c = fills_end g.H.Digest.keyed c.args.folder.now c.add_from.new.folder c.move_to_end.new.self (g.D.Disk.state c.args.disk.now) (g.D.Disk.state c.add_from.new.disk) (c.min-scanned.result - 0) c.move_to_end.ensures c.in_ok-add_from.ensures.kept

@@ -1,4 +1,3 @@
--- The messages before this one are held.
 use Rattle.std.proofs.Common.{◌≤◌, ◌-◌, ℕ, Ok}
 use Rattle.disk_io.specs.Disk.{Honestly}
 use Rattle.base_file.specs.Base.{Base}

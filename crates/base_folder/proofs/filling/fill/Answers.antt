@@ -14,7 +14,6 @@ use Rattle.base_folder.proofs.filling.fill.Goals.{After-count, After-fill_opened
 use Rattle.base_folder.proofs.filling.fill.Given as given
 use Rattle.base_folder.proofs.filling.fill.Goals as goal
 
--- The opened folder, with its key, holds no message and is at the path.
 at : (g : given.Over) (c : After-fill_opened g) → path_of c.give_key.new.folder ≡ c.args.path.now
 at g c = ap path_of c.give_key.ensures.only ∙ c.in_ok-folder.ensures.fresh.path
 
@@ -80,7 +79,6 @@ returns-clause-filled g c = λ honest source base holds represented.
     subst (λ (p : List ℕ). OnOk c.fill_opened.result (IsKept (g.D.Disk.state c.fill_opened.new.disk) (RepresentsBase keyed p base))) (at g after)
     (c.fill_opened.ensures.filled honest source base holds (front g after (c.fill_opened.ensures.outside.honest honest) represented))
 
--- the folder has as many messages as its base
 counts : (g : given.Over) (c : After-count g) → (g.D.Disk.state c.open_base.new.disk).is_honest → (base : Base) → RepresentsBase g.H.Digest.keyed c.args.path.now base (g.D.Disk.state c.args.disk.now).seen
     → c.count.result ≡ length base.messages
 counts g c honest base represented =
@@ -88,7 +86,6 @@ counts g c honest base represented =
     let says = c.in_ok-folder.ensures in
     c.count.ensures ∙ many_messages keyed (g.D.Disk.state c.open_base.new.disk) c.in_ok-folder.folder base (says.opened honest) (says.same honest keyed base represented)
 
--- an unclaimed folder without messages gets the mark
 drawn : (g : given.Over) (c : After-fill_opened g) → (g.D.Disk.state c.open_base.new.disk).is_honest → RepresentsBase g.H.Digest.keyed c.args.path.now no_messages (g.D.Disk.state c.args.disk.now).seen
     → (recorded : CommitRecord) → IsRecordedIn c.args.strange c.args.path.now (g.D.Disk.state c.args.disk.now).seen recorded → recorded.mark.owner ≡ 0 → c.give_key.new.folder.recorded.mark ≡ drawn_mark c.args.key.0 c.args.key.1
 drawn g c honest represented recorded log free =

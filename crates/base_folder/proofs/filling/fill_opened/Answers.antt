@@ -48,7 +48,6 @@ returns-in_err-add_all-clause-any_moment g c = λ honest none front.
       filled = on_ok_none _ why c.from_residual.result c.from_residual.ensures.1;
     }
 
--- All messages are held, and the commit leaves none or all.
 held : (g : given.Over) (c : After-commit g) → (g.D.Disk.state c.commit.new.disk).is_honest → HoldsBase g.H.Digest.keyed (held_by (g.D.Disk.state c.args.disk.now) c.args.folder.now) no_messages
     → HoldsMany g.H.Digest.keyed (held_by (g.D.Disk.state c.add_all.new.disk) c.add_all.new.folder) (g.M.MessageSource.state c.args.messages.now).count
 held g c honest front =

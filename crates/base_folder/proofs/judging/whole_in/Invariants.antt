@@ -1,4 +1,3 @@
--- The messages before this one end within the bytes that are there.
 use Rattle.std.proofs.Common.{◌≡◌, ◌≤◌, ◌<◌, ℕ, List, length}
 use Rattle.base_store.specs.Keys.{place_behind}
 use Rattle.base_folder.proofs.judging.whole_in.Given as goal

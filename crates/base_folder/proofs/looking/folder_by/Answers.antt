@@ -8,7 +8,6 @@ use Rattle.base_folder.specs.Looked.{IsUnseen}
 use Rattle.base_folder.proofs.{Lookings.err_is, Lookings.looked_at, Lookings.unseen_by, Lookings.unseen_message, Openings.base_is, Readings.looked_quiet, Wrongs.sound_by}
 use Rattle.base_folder.proofs.looking.folder_by.Goals as goal
 
--- it holds the bytes that the log counts
 by_log : (path : List ℕ) (d e : DiskState) (log : Log) (f : Folder) → ChangesNothing d e → IsFresh path f → f.end ≡ log.end → held_by e f ≡ base_at d path log.end.recorded
 by_log path d e log f quiet fresh same =
     opened_bytes d e path f log.end.recorded (base_at d path log.end.recorded) quiet fresh.path (fresh.settled ∙ ap (λ (x : End). x.recorded) same) refl fresh.written

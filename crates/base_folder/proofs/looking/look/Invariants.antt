@@ -1,4 +1,3 @@
--- The earlier tries changed nothing, and on an honest disk there was no earlier one.
 use Rattle.std.proofs.Common.{◌≡◌, ◌≤◌}
 use Rattle.disk_io.specs.{Disk.Honestly, Runs.ChangesNothing}
 use Rattle.base_folder.proofs.looking.look.Given as goal

@@ -1,4 +1,3 @@
--- Each earlier message has the digest in its entry.
 use Rattle.std.proofs.Common.{◌≤◌, ◌<◌, ℕ}
 use Rattle.disk_io.specs.{Disk.Honestly, Runs.ChangesNothing}
 use Rattle.base_folder_store.specs.{Opened.held_by, Vouched.IsVouched}

@@ -16,7 +16,6 @@ stage_bytes-requires-2-clause-staged g c = grind arith
 pub stage_bytes-requires-2-clause-room : goal.stage_bytes-requires-2-clause-room
 stage_bytes-requires-2-clause-room g c = subst (λ (n : ℕ). n + length c.args.keys.now < 2 ^ 64) (sym (ap (λ (t : CommitRecord). t.keys) c.in_ok-more.ensures.recorded)) c.requires.keys_room
 
--- the bytes of the second call, after those of the first
 both : (path : List ℕ) (d e f : DiskState) (end : End) (recorded more : CommitRecord) (bytes keys : List ℕ) (r : Result CommitRecord DiskError) → (f.is_honest → e.is_honest) → more ≡ record recorded { messages = recorded.messages + length bytes }
     → Honestly e (HoldsNext e path end.recorded (base_at d path end.recorded) (and_messages (base_at d path recorded) bytes) more) → IfOk r (λ m. m ≡ record more { keys = more.keys + length keys })
     → Honestly f (IfOk r (λ m. IsStaged f path end m)) → Honestly f (IfOk r (HoldsNext f path end.recorded (base_at e path end.recorded) (and_keys (base_at e path more) keys)))

@@ -5,7 +5,6 @@ use Rattle.echo_filed.specs.{Filed.Filed, Filed.IsFiled, Stored.is_short_enough,
 use Rattle.base_folder_store.proofs.Causes.{ok_both}
 use Rattle.base_folder_store.proofs.alone.bytes_alone.Goals as goal
 
--- a message with its text is stored as in a base before its scan
 stored_whole : (m : Filed) → IsFiled m → is_short_enough (stored_as false m) ≡ true → IsStoredAlone m (stored_bytes Second (stored_as false m))
 unfolding stored_at
 stored_whole m filed room = saved_alone m 0 filed room

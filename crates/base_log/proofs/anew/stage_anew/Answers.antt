@@ -19,7 +19,6 @@ keys_made : (g : given.Over) (c : After-create-2 g) → Made (g.D.Disk.state c.c
 keys_made g c =
     subst (λ (l : List ℕ). Made (g.D.Disk.state c.create.new.self) (g.D.Disk.state c.create-2.new.self) l) (c.deref-2.ensures.value ∙ c.requires.names.keys) c.create-2.ensures.changes
 
--- a run that leaves the base at rest, and changes no files but those of the number
 record Makes (path : List ℕ) (end : End) (number : ℕ) (old new : DiskState) : Type 0 where
   run : StagesOnly path (base_at old path end.recorded) old new
   others : (m : List ℕ) → m ≢ messages_of path number → m ≢ keys_of path number → new.seen m ≡ old.seen m

@@ -8,7 +8,6 @@ use Rattle.base_log.proofs.{Keeping.outside_quiet, Paths.log_in, committing.comm
 use Rattle.base_log.proofs.committing.commit.Given as given
 use Rattle.base_log.proofs.committing.commit.Goals as goal
 
--- the record is written behind the closed gate
 record_run : (g : given.Over) (c : After-write_synced g)
     → LeavesOnly (g.D.Disk.state c.sync-2.new.self) (g.D.Disk.state c.write_synced.new.disk) (OneStepOn (ChangesFile (g.D.Disk.state c.sync-2.new.self) (log_of (folder_of c.args.names.now)) (TornWrite (c.args.end.records_len + 1) (length c.record_of.result))) (g.D.Disk.state c.sync-2.new.self))
 record_run g c = grind arith
@@ -26,7 +25,6 @@ at_record g c h0 =
     (subst (λ (l : List ℕ). d1.is_flushed l) (c.deref.ensures.value ∙ c.requires.staged.names.messages) c.in_ok-sync.ensures.durable)
     (subst (λ (l : List ℕ). d2.is_flushed l) (c.deref-2.ensures.value ∙ c.requires.staged.names.keys) c.in_ok-sync-2.ensures.durable)
 
--- the gate is opened
 gate_run : (g : given.Over) (c : After-write_synced-2 g)
     → LeavesOnly (g.D.Disk.state c.write_synced.new.disk) (g.D.Disk.state c.write_synced-2.new.disk) (OneStepOn (ChangesFile (g.D.Disk.state c.write_synced.new.disk) (log_of (folder_of c.args.names.now)) (TornWrite c.args.end.records_len 1)) (g.D.Disk.state c.write_synced.new.disk))
 gate_run g c = grind arith
@@ -57,7 +55,6 @@ at_gate g c h0 h3 =
     let written = subst (λ (l : List ℕ). IsWrittenAt (bytes_in (d2.seen l)) (end.records_len + 1) bytes (bytes_in (d3.seen l))) log c.in_ok-write_synced.ensures.written in
     subst (λ (l : List ℕ). Ready d0 path end recorded staged d3 (l ++ drop (length bytes) staged.log.rest)) c.record_of.ensures.bytes (done_record d0 path end recorded staged d2 d3 bytes at more kept on written)
 
--- everything outside the folder, after both files are synced, after the record is written, and after the gate is opened
 synced_around : (g : given.Over) (c : After-sync-2 g) → KeepsAround (folder_of c.args.names.now) (g.D.Disk.state c.args.disk.now) (g.D.Disk.state c.sync-2.new.self)
 synced_around g c = around_twice (around_quiet c.sync.ensures.quiet) (around_quiet c.sync-2.ensures.quiet)
 

@@ -1,4 +1,3 @@
--- The files of the numbers before this one have no bytes.
 use Rattle.std.proofs.Common.{◌≡◌, ◌<◌, ◌≤◌, ℕ, []}
 use Rattle.disk_io.specs.{Disk.Honestly, Disk.bytes_in, Runs.ChangesNothing}
 use Rattle.base_log.specs.Names.{messages_of, keys_of}

@@ -18,7 +18,6 @@ keys_made : (g : given.Over) (c : After-create-2 g) → Made (g.D.Disk.state c.c
 keys_made g c =
     subst (λ (l : List ℕ). Made (g.D.Disk.state c.create.new.self) (g.D.Disk.state c.create-2.new.self) l) (c.deref-2.ensures.value ∙ c.requires.names.keys) c.create-2.ensures.changes
 
--- a run that leaves the log on the disk and each base of no record, and everything outside the folder
 record Leaves (path : List ℕ) (old new : DiskState) : Type 0 where
   any_moment : Honestly new ((base : BaseBytes) → Represents path base old.seen → LeavesOnly old new (RepresentsAlone path old base))
   log : Honestly new (IsOnDisk new (log_of path))

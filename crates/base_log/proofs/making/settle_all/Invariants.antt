@@ -1,4 +1,3 @@
--- The files of the numbers before this one have their bytes on the disk.
 use Rattle.std.proofs.Common.{◌<◌, ◌≤◌, ℕ}
 use Rattle.disk_io.specs.{Disk.Honestly, Runs.ChangesNothing}
 use Rattle.base_log.specs.Names.{folder_of, messages_of, keys_of}

@@ -55,7 +55,6 @@ settle_files-requires-2 g c =
       keys = λ h2. subst (λ (l : List ℕ). IsSome (d2.seen l)) (ap (λ (t : CommitRecord). keys_of path t.number) (sym none) ∙ sym c.requires.names.keys) made.keys;
     }
 
--- a run that leaves the base of the folder, and everything outside the folder
 record Leaves (path : List ℕ) (base : BaseBytes) (old new : DiskState) : Type 0 where
   any_moment : Honestly new (LeavesOnly old new (RepresentsOrWasLeft path old base))
   outside : KeepsOutside path old new
@@ -77,7 +76,6 @@ log_settled g c =
       outside = outside_but_one path d0 (g.D.Disk.state c.settle_log.new.disk) (log_of path) (log_in path) others;
     }
 
--- the files of a folder without a record are made
 made : (g : given.Over) (c : After-make_files g)
     → Leaves (folder_of c.args.names.now) (base_at (g.D.Disk.state c.args.disk.now) (folder_of c.args.names.now) c.args.log.now.end.recorded) (g.D.Disk.state c.args.disk.now) (g.D.Disk.state c.make_files.new.disk)
 made g c =

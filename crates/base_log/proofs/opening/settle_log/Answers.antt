@@ -8,7 +8,6 @@ use Rattle.base_log.proofs.opening.settle_log.Goals.{After-make_log, After-sync}
 use Rattle.base_log.proofs.opening.settle_log.Given as given
 use Rattle.base_log.proofs.opening.settle_log.Goals as goal
 
--- a run that changes no file but the log, and leaves the base that the folder represents
 record Leaves (path : List ℕ) (old new : DiskState) : Type 0 where
   others : KeepsButOne old new (log_of path)
   any_moment : Honestly new ((base : BaseBytes) → Represents path base old.seen → LeavesOnly old new (RepresentsOrWasLeft path old base))

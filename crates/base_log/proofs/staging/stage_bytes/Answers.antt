@@ -7,7 +7,6 @@ use Rattle.base_log.proofs.{Keeping.outside_kept, Calls.Wrote, Calls.others_kept
 use Rattle.base_log.proofs.staging.stage_bytes.Given as given
 use Rattle.base_log.proofs.staging.stage_bytes.Goals as goal
 
--- the path that is written
 at_path : (g : given.Over) (c : After-counted g) → c.path_of.result.now ≡ file_of (folder_of c.args.names.now) c.args.recorded.number c.args.file
 at_path g c = c.path_of.ensures ∙ file_named c.args.names.now c.args.recorded.number c.args.file c.requires.staged.names
 
@@ -23,7 +22,6 @@ write_at-requires-clause-within g c honest =
 pub write_at-requires-clause-alone : goal.write_at-requires-clause-alone
 write_at-requires-clause-alone g c honest = grind (arith, at_path, file_alone)
 
--- the call, at the file's path and behind the bytes that the record counts
 record Writing (g : given.Over) (c : After-write_at g) : Type 0 where
   path : c.path_of.result.now ≡ file_of (folder_of c.args.names.now) c.args.recorded.number c.args.file
   call : Wrote (g.D.Disk.state c.args.disk.now) (g.D.Disk.state c.write_at.new.self) (file_of (folder_of c.args.names.now) c.args.recorded.number c.args.file) (counted c.args.recorded c.args.file) (length c.args.bytes.now)

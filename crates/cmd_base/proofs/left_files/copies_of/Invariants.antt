@@ -1,4 +1,3 @@
--- The packets up to here are copied.
 use Rattle.std.proofs.Common.{◌≡◌, take}
 use Rattle.cmd_base.proofs.left_files.copies_of.Given as goal
 

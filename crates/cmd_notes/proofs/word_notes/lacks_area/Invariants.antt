@@ -1,4 +1,3 @@
--- Another message may be fetched.
 use Rattle.std.proofs.Common.{◌≡◌}
 use Rattle.cmd_notes.proofs.word_notes.lacks_area.Given as goal
 

@@ -2,7 +2,6 @@ use Rattle.std.proofs.{Common.[], Common.refl, Common.arith, KnownBytes.Appends-
 use Rattle.cmd_numbered.proofs.Addings.{at_error}
 use Rattle.cmd_numbered.proofs.adding.export_jam.Goals as goal
 
--- Nothing was sent.
 pub returns-in_err-area-clause-begun : goal.returns-in_err-area-clause-begun
 returns-in_err-area-clause-begun g c = at_error c.from_residual.result (record { went = []; written = Appends-nil (g.W.Write.contents c.args.texts.now); front = λ honest base held. (_, refl) })
 

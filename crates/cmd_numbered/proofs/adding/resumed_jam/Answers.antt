@@ -5,7 +5,6 @@ use Rattle.echo_filed.specs.Filed.{Filed}
 use Rattle.cmd_numbered.specs.JamAdded.{is_last_jam, resumed_jam}
 use Rattle.cmd_numbered.proofs.adding.resumed_jam.Goals as goal
 
--- the number to go on from after one more message
 one_more : (area headers text : List ℕ) (first cursor i new before : ℕ) (last : Option ℕ) (base : List Filed) (found : Bool)
     → found ≡ is_last_jam area first cursor headers last text i (slice_get base i)
     → before ≡ resumed_jam area first cursor headers last text base i

@@ -1,4 +1,3 @@
--- The parts from the last message so far with the id.
 use Rattle.std.proofs.Common.{◌≡◌, ◌≤◌, ℕ}
 use Rattle.std.specs.Option.{option_map}
 use Rattle.base_file.specs.Base.{Base}

@@ -1,4 +1,3 @@
--- The answer for the messages so far.
 use Rattle.std.proofs.Common.{◌≡◌, ◌≤◌, ℕ}
 use Rattle.base_file.specs.Base.{Base}
 use Rattle.base_folder.specs.Source.{AreLegibleTo}

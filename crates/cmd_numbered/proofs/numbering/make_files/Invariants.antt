@@ -1,4 +1,3 @@
--- The files of the messages so far were made.
 use Rattle.std.proofs.Common.{◌≡◌, ◌≤◌}
 use Rattle.base_file.specs.Base.{Base}
 use Rattle.cmd_numbered.specs.Numbered.{IsMade, files_of}

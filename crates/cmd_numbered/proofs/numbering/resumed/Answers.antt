@@ -5,7 +5,6 @@ use Rattle.echo_filed.specs.Filed.{Filed}
 use Rattle.cmd_numbered.specs.Numbered.{is_last, resumed}
 use Rattle.cmd_numbered.proofs.numbering.resumed.Goals as goal
 
--- the number to go on from after one more message
 one_more : (area : List ℕ) (first cursor i new before : ℕ) (last : Option (List ℕ)) (base : List Filed) (found : Bool)
     → found ≡ is_last area first cursor last i (slice_get base i) → before ≡ resumed area first cursor last base i
     → new ≡ (if found then i + 1 else before) → new ≡ resumed area first cursor last base (i + 1)

@@ -1,4 +1,3 @@
--- The number to go on from after the messages so far.
 use Rattle.std.proofs.Common.{◌≡◌, ◌≤◌, option_copied, ℕ}
 use Rattle.base_file.specs.Base.{Base}
 use Rattle.base_folder.specs.Source.{AreLegibleTo}

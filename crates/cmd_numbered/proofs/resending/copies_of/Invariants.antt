@@ -1,4 +1,3 @@
--- The copies of the messages so far.
 use Rattle.std.proofs.Common.{ℕ, ◌≡◌, ◌≤◌, ◌-◌, ◌++◌, take, drop}
 use Rattle.base_file.specs.Base.{Base}
 use Rattle.model_steps.specs.Resending.{resent}

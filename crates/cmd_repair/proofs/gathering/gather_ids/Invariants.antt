@@ -1,4 +1,3 @@
--- The ids of the messages so far are gathered.
 use Rattle.std.proofs.Common.{ℕ, ◌≡◌, ◌≤◌, length, take}
 use Rattle.base_file.specs.Base.{Base}
 use Rattle.base_folder.specs.Source.{AreLegibleTo}

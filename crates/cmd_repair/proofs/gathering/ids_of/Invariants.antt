@@ -1,4 +1,3 @@
--- The first ids are cut off.
 use Rattle.std.proofs.Common.{List, map, ℕ}
 use Rattle.cmd_repair.specs.IdsListed.{Gathers}
 use Rattle.cmd_repair.proofs.Cutting.{IsCut}

@@ -1,4 +1,3 @@
--- The lines of the ids so far are passed on.
 use Rattle.std.proofs.Common.{◌≡◌, ◌++◌, take}
 use Rattle.std.specs.{List.flat_map, Prelude.codes}
 use Rattle.echo_charset.specs.Escaped.{escaped_line}

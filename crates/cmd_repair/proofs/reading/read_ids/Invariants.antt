@@ -1,4 +1,3 @@
--- The lines so far are right, and their words are taken.
 use Rattle.std.proofs.Common.{◌≡◌, ◌++◌, length, map}
 use Rattle.echo_links.specs.LinkLines.{file_lines}
 use Rattle.cmd_repair.specs.{declared.reading.Stage.TheVariants.Start, IdList.id_words, IdList.wrong_line, Words.area_words}

@@ -1,4 +1,3 @@
--- The copies of the messages so far are passed on, and counted.
 use Rattle.std.proofs.Common.{ℕ, ◌≡◌, ◌<◌, ◌≤◌, ◌++◌, drop, option_copied, take}
 use Rattle.base_file.specs.Base.{Base}
 use Rattle.echo_packet.specs.Message.{messages_bytes}

@@ -1,4 +1,3 @@
--- The messages so far are counted.
 use Rattle.std.proofs.Common.{◌≡◌, ◌≤◌, Global, List, Vec, take, ℕ}
 use Rattle.base_file.specs.Base.{Base}
 use Rattle.cmd_show.specs.AreasListed.{AreWithin, Ascend, HaveCounts, counts_of}

@@ -1,4 +1,3 @@
--- The lines so far, and those of the entries left, are all.
 use Rattle.std.proofs.Common.{◌≡◌, ◌++◌, length}
 use Rattle.std.specs.List.{flat_map}
 use Rattle.cmd_show.specs.AreasListed.{area_line}

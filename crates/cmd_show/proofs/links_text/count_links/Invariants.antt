@@ -1,4 +1,3 @@
--- The links of the areas so far are counted.
 use Rattle.std.proofs.Common.{◌≡◌, ◌≤◌, ◌*◌, ◌^◌, map, sum, take}
 use Rattle.cmd_show.specs.LinksShown.{area_links}
 use Rattle.cmd_show.proofs.links_text.count_links.Given as goal

@@ -1,4 +1,3 @@
--- The lines of the faults so far are added.
 use Rattle.std.proofs.Common.{◌≡◌, ◌++◌, take}
 use Rattle.std.specs.List.{flat_map}
 use Rattle.cmd_show.specs.LinksShown.{faulty_text}

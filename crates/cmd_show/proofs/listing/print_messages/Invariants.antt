@@ -1,4 +1,3 @@
--- The lines of the messages so far are passed on.
 use Rattle.std.proofs.Common.{◌≡◌, ◌≤◌, ◌++◌}
 use Rattle.base_file.specs.Base.{Base}
 use Rattle.cmd_status.specs.Lines.{PassesOn}

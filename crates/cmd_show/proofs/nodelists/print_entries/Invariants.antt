@@ -1,4 +1,3 @@
--- The lines of the entries so far are passed on.
 use Rattle.std.proofs.Common.{◌≡◌, ◌++◌}
 use Rattle.cmd_status.specs.Lines.{PassesOn}
 use Rattle.cmd_print.specs.Listed.{listed_entries}

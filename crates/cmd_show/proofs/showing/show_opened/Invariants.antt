@@ -1,4 +1,3 @@
--- The lines of the messages so far are on their way.
 use Rattle.std.proofs.Common.{◌≡◌, ◌++◌, length}
 use Rattle.echo_packet.specs.Header.{header_bytes}
 use Rattle.cmd_show.proofs.Printed.{HasPrinted}

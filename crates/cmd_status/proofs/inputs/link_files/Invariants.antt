@@ -1,4 +1,3 @@
--- The earlier inputs are link files.
 use Rattle.std.proofs.Common.{take}
 use Rattle.cmd_status.specs.Inputs.{AreLinkFiles}
 use Rattle.cmd_status.proofs.inputs.link_files.Given as goal

@@ -1,4 +1,3 @@
--- The lines have the converted earlier bytes.
 use Rattle.std.proofs.Common.{◌≡◌, ◌++◌, drop}
 use Rattle.cmd_store.specs.Drafts.{draft_after, draft_body}
 use Rattle.cmd_store.proofs.drafting.draft_body.Given as goal

@@ -1,4 +1,3 @@
--- The lines of the packets so far were added.
 use Rattle.std.proofs.Common.{◌≡◌, ◌++◌, take}
 use Rattle.std.specs.List.{flat_map}
 use Rattle.cmd_store.specs.PacketLines.{counted_line}

@@ -1,4 +1,3 @@
--- All earlier serials are in use, and no message was filed.
 use Rattle.cmd_store.proofs.FreePostings.{HasLooked}
 use Rattle.cmd_store.proofs.serials.file_free.Given as goal
 

@@ -1,4 +1,3 @@
--- The store took the earlier messages with their notes, and the reader consumed them.
 use Rattle.std.proofs.Common.{◌-◌}
 use Rattle.cmd_store.specs.Lines.{HasTallyRoom}
 use Rattle.cmd_store.proofs.NotedIn.{HasNotedIn}

@@ -1,4 +1,3 @@
--- The files of the packets up to here have their pieces, and the others are as they were.
 use Rattle.std.proofs.Common.{◌≡◌, ◌<◌, ◌≤◌, ℕ, get_or, length}
 use Rattle.std.specs.{Prelude.All, List.AllWithin}
 use Rattle.disk_io.specs.{Disk.Honestly, Runs.KeepsNamed}

@@ -1,4 +1,3 @@
--- The earlier packets have no staging files, and the later ones are unchanged.
 use Rattle.std.proofs.Common.{◌≤◌, length}
 use Rattle.std.specs.List.{AllWithin}
 use Rattle.disk_atomic.specs.{Changes.ChangesOnly, Outgoing.IsStagingOne, Outgoing.IsStagingGone, Outgoing.IsStagingNamed}

@@ -10,7 +10,6 @@ drop_each-requires-clause-named g c k z lt =
     let p = get_or packets k z in
     c.drop_one.ensures.changes.named p.staging.now (λ e. c.requires.apart (p, among packets k z lt, inl (sym e))) (c.in_ok-sync_folder_of.ensures.durable p.staging.now (c.requires.placed.each k z lt).staging_in)
 
--- up to the removal at the path that was tried
 tried : (g : given.Over) (c : After-drop_one g) → ChangesOnly (IsAtStaging c.args.packets.now c.args.trial.now) (g.D.Disk.state c.args.disk.now) (g.D.Disk.state c.drop_one.new.disk)
 tried g c =
     let at = IsAtStaging c.args.packets.now c.args.trial.now in

@@ -1,4 +1,3 @@
--- The copy has the earlier bytes.
 use Rattle.std.proofs.Common.{◌≡◌, ◌-◌, ◌≤◌, ◌++◌, take, drop}
 use Rattle.disk_io.specs.{Disk.Honestly, Disk.bytes_in, Runs.KeepsNamed}
 use Rattle.disk_atomic.specs.Changes.{ChangesOnly, IsGrowing}

@@ -8,7 +8,6 @@ use Rattle.disk_atomic.proofs.naming.name_packet.Goals as goal
 pub remove-requires : goal.remove-requires
 remove-requires g c honest = grind arith
 
--- up to the flush of the folder
 flushed : (g : given.Over) (c : After-sync_folder_of g) → Gives (g.D.Disk.state c.args.disk.now) (g.D.Disk.state c.sync_folder_of.new.disk) c.args.path.now c.args.staging.now
 flushed g c =
     gives_quiet (g.D.Disk.state c.args.disk.now) (g.D.Disk.state c.give_path.new.disk) (g.D.Disk.state c.sync_folder_of.new.disk) c.args.path.now c.args.staging.now c.give_path.ensures.gives c.sync_folder_of.ensures.quiet
@@ -19,7 +18,6 @@ returns-in_err-sync_folder_of-clause-changes g c = (flushed g (goal.at.returns-i
 pub returns-in_err-sync_folder_of-clause-any_moment : goal.returns-in_err-sync_folder_of-clause-any_moment
 returns-in_err-sync_folder_of-clause-any_moment g c honest = (flushed g (goal.at.returns-in_err-sync_folder_of-clause-any_moment g c).After-sync_folder_of).any_moment
 
--- and up to the removal
 removed : (g : given.Over) (c : After-remove g) → ChangesOnly (λ m. (m ≡ c.args.staging.now) ⊎ (m ≡ c.args.path.now)) (g.D.Disk.state c.args.disk.now) (g.D.Disk.state c.remove.new.self)
 removed g c =
     let staging = c.args.staging.now in

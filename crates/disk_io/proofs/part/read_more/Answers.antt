@@ -4,7 +4,6 @@ use borrow.Rule.Slice.PartMut.{put_mid, post_of}
 use Rattle.disk_io.specs.Disk.{bytes_in}
 use Rattle.disk_io.proofs.part.read_more.Goals as goal
 
--- the front of a part, followed by the bytes that the call read
 more_read : (file part buf : List ℕ) (from done count k : ℕ) → done < length part → count ≤ length buf → take done part ≡ take done (drop from file)
     → take count buf ≡ take count (drop (from + done) file) → take (done + count) (put_mid done k part buf) ≡ take (done + count) (drop from file)
 more_read file part buf from done count k low few front got =

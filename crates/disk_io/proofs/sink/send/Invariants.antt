@@ -1,4 +1,3 @@
--- The sink took the first bytes, and the count includes them.
 use Rattle.std.proofs.Common.{◌-◌, length}
 use Rattle.disk_io.proofs.Moving.{HasSent}
 use Rattle.disk_io.proofs.sink.send.Given as goal

@@ -1,4 +1,3 @@
--- The filled bytes are the bytes that left the source.
 use Rattle.std.proofs.Common.{◌-◌, length}
 use Rattle.disk_io.proofs.Moving.{HasFilled}
 use Rattle.disk_io.proofs.source.fill.Given as goal

@@ -1,4 +1,3 @@
--- An interruption changes no bytes.
 use Rattle.std.specs.Io.KnownBytes.{Keeps}
 use Rattle.disk_io.proofs.watched.write_retrying.Given as goal
 

@@ -1,4 +1,3 @@
--- The bytes read so far are those that left the reader.
 use Rattle.std.proofs.Common.{◌≡◌, ◌+◌, ◌-◌, length}
 use Rattle.std.specs.Io.KnownBytes.{Consumes}
 use Rattle.disk_system.proofs.input.read_whole.Given as goal

@@ -1,4 +1,3 @@
--- The count includes those before the rest.
 use Rattle.std.proofs.Common.{◌≡◌, ◌+◌, ◌≤◌, length}
 use Rattle.echo_charset.specs.Losses.{lost}
 use Rattle.echo_charset.proofs.counting.lost.Given as goal

@@ -1,4 +1,3 @@
--- The result so far and the remaining text make the whole.
 use Rattle.std.proofs.Common.{◌≡◌, ◌++◌, length, true}
 use Rattle.echo_export.specs.MailText.{quoted_body}
 use Rattle.echo_export.proofs.body.push_quoted.Given as goal

@@ -1,4 +1,3 @@
--- The result so far and the remaining text make the whole.
 use Rattle.std.proofs.Common.{◌≡◌, ◌++◌, length}
 use Rattle.echo_export.specs.HeaderText.{q_text, word_room}
 use Rattle.echo_export.proofs.header.push_words.Given as goal

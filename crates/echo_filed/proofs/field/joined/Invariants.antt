@@ -1,4 +1,3 @@
--- The string is the earlier parts in order.
 use Rattle.std.proofs.Common.{◌≡◌, take}
 use Rattle.std.specs.List.{flat_map}
 use Rattle.echo_filed.specs.Fields.{itself}

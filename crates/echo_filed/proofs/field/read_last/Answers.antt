@@ -6,7 +6,6 @@ use Rattle.echo_filed.specs.Stored.{after_length, after_long_length}
 use Rattle.echo_filed.proofs.{Layouts.ends_first, Layouts.ends_second, Layouts.nothing_field, StoredFields.short_field, StoredFields.text_field, Taken.breaks_as, Taken.breaks_behind}
 use Rattle.echo_filed.proofs.field.read_last.Goals as goal
 
--- the same break, with the test under another name
 reported : (b with_tag : Bool) → b ≡ with_tag → (old new : Option (List ℕ)) (e : Broken) → Breaks (List ℕ × List ℕ) (LastFits b) (last_of b) old new e
     → Breaks (List ℕ × List ℕ) (LastFits with_tag) (last_of with_tag) old new e
 reported b with_tag same old new e h = subst (λ t. Breaks (List ℕ × List ℕ) (LastFits t) (last_of t) old new e) same h

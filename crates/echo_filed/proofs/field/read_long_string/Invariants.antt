@@ -1,4 +1,3 @@
--- The source gave the earlier parts.
 use Rattle.std.proofs.Common.{◌≡◌, ◌+◌, length}
 use Rattle.std.specs.{Io.KnownBytes.Consumes, List.flat_map}
 use Rattle.echo_filed.specs.Fields.{itself}

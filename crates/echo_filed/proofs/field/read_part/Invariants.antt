@@ -1,4 +1,3 @@
--- The source gave the bytes of the part.
 use Rattle.std.proofs.Common.{◌≡◌, ◌-◌, ◌≤◌, length}
 use Rattle.std.specs.Io.KnownBytes.{Consumes}
 use Rattle.echo_filed.proofs.field.read_part.Given as goal

@@ -1,4 +1,3 @@
--- The count so far, and that of the lines left, is the whole count.
 use Rattle.std.proofs.Common.{◌≡◌, ◌+◌, ℕ, List, length}
 use Rattle.std.specs.List.{fold}
 use Rattle.echo_text.specs.Lines.{lines}

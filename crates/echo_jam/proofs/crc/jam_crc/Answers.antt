@@ -4,7 +4,6 @@ use Rattle.std.specs.Char.{to_ascii_lowercase}
 use Rattle.echo_jam.specs.Crc.{crc_after, crc_byte}
 use Rattle.echo_jam.proofs.crc.jam_crc.Goals as goal
 
--- one byte more
 byte_more : (crc new low whole : ℕ) (bytes : List ℕ) (k : ℕ) → k < length bytes → low ≡ to_ascii_lowercase (get_or bytes k 0) → new ≡ crc_byte crc low
     → crc_after crc (map to_ascii_lowercase (drop k bytes)) ≡ whole → crc_after new (map to_ascii_lowercase (drop (k + 1) bytes)) ≡ whole
 byte_more crc new low whole bytes k inside lowered is before =

@@ -1,4 +1,3 @@
--- The CRC so far goes on over the bytes left.
 use Rattle.std.proofs.Common.{◌≡◌, drop, map}
 use Rattle.std.specs.Char.{to_ascii_lowercase}
 use Rattle.echo_jam.specs.Crc.{crc_after}

@@ -1,4 +1,3 @@
--- The bytes so far, and those that the lines left add, are all.
 use Rattle.std.proofs.Common.{◌≡◌, ◌++◌, length}
 use Rattle.std.specs.List.{flat_map}
 use Rattle.echo_text.specs.Lines.{lines}

@@ -3,7 +3,6 @@ use Rattle.std.proofs.lemmas.Bool.{cond-false, ne_eqb}
 use Rattle.echo_jam.specs.Links.{field_in, last_with}
 use Rattle.echo_jam.proofs.links.last_with.Goals as goal
 
--- an entry with another number in its field is not the last one
 passed : (headers index : List ℕ) (offset wanted low n : ℕ) → (field_in headers index offset (low + n) ≡ wanted → ⊥)
     → last_with headers index offset wanted low (suc n) ≡ last_with headers index offset wanted low n
 passed headers index offset wanted low n other =

@@ -1,4 +1,3 @@
--- The last one is among the entries left.
 use Rattle.std.proofs.Common.{◌≡◌, ◌≤◌}
 use Rattle.echo_jam.specs.Links.{last_with}
 use Rattle.echo_jam.proofs.links.last_with.Given as goal

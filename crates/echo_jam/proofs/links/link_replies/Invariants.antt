@@ -1,4 +1,3 @@
--- The messages so far are linked.
 use Rattle.std.proofs.Common.{◌≡◌}
 use Rattle.echo_jam.specs.Links.{linked}
 use Rattle.echo_jam.proofs.links.link_replies.Given as goal

@@ -1,4 +1,3 @@
--- The number of active messages so far is at most the number of messages.
 use Rattle.std.proofs.Common.{◌≡◌, ◌≤◌}
 use Rattle.echo_jam.specs.Standing.{active_in}
 use Rattle.echo_jam.proofs.standing.active_in.Given as goal

@@ -3,7 +3,6 @@ use Rattle.echo_jam.specs.Standing.{are_entries, is_entry, place_in}
 use Rattle.echo_jam.proofs.standing.are_entries.Goals as goal
 use Rattle.echo_jam.proofs.standing.are_entries.Goals.{then-whole, else-whole}
 
--- one more entry
 one_more : (headers index : List ℕ) (texts i : ℕ) (new : Bool)
     → new ≡ are_entries headers index texts i && is_entry headers texts (place_in index i) → new ≡ are_entries headers index texts (i + 1)
 one_more headers index texts i new here = rw add-one here

@@ -1,4 +1,3 @@
--- Whether the entries so far are whole.
 use Rattle.std.proofs.Common.{◌≡◌}
 use Rattle.echo_jam.specs.Standing.{are_entries}
 use Rattle.echo_jam.proofs.standing.are_entries.Given as goal

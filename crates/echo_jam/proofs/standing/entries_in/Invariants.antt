@@ -1,4 +1,3 @@
--- The number of entries so far is at most the number of all.
 use Rattle.std.proofs.Common.{◌≡◌, ◌≤◌}
 use Rattle.echo_jam.specs.Standing.{written_in}
 use Rattle.echo_jam.proofs.standing.entries_in.Given as goal

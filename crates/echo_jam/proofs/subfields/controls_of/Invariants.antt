@@ -1,4 +1,3 @@
--- The lines so far, and those of the subfields left, are all.
 use Rattle.std.proofs.Common.{◌≡◌, ◌++◌, length}
 use Rattle.echo_jam.specs.Subfields.{controls_within}
 use Rattle.echo_jam.proofs.subfields.controls_of.Given as goal

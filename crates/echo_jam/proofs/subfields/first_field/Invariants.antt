@@ -1,4 +1,3 @@
--- The search in the rest has the answer of the whole search.
 use Rattle.std.proofs.Common.{◌≡◌, length}
 use Rattle.echo_jam.specs.Subfields.{first_within}
 use Rattle.echo_jam.proofs.subfields.first_field.Given as goal

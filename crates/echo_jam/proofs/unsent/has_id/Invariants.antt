@@ -1,4 +1,3 @@
--- Whether a message of the entries so far has the id.
 use Rattle.std.proofs.Common.{◌≡◌}
 use Rattle.echo_jam.specs.Unsent.{has_id_among}
 use Rattle.echo_jam.proofs.unsent.has_id.Given as goal

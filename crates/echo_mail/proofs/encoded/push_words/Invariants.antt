@@ -1,4 +1,3 @@
--- The result so far and the remaining words make the whole.
 use Rattle.std.proofs.Common.{◌≡◌, ◌++◌, length}
 use Rattle.echo_text.specs.Lines.{lines}
 use Rattle.echo_mail.specs.{declared.encoded.Before.TheVariants.Nothing, Encoded.words_text}

@@ -1,4 +1,3 @@
--- The result so far and the remaining bytes make the whole.
 use Rattle.std.proofs.Common.{◌≡◌, ◌++◌, length, false}
 use Rattle.echo_mail.specs.Ends.{returned}
 use Rattle.echo_mail.proofs.ends.returned.Given as goal

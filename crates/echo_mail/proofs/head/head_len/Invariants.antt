@@ -1,4 +1,3 @@
--- The count includes the bytes before the rest.
 use Rattle.std.proofs.Common.{◌≡◌, ◌+◌, length, true}
 use Rattle.echo_mail.specs.Head.{head_len}
 use Rattle.echo_mail.proofs.head.head_len.Given as goal

@@ -1,4 +1,3 @@
--- The result so far and the remaining header make the whole.
 use Rattle.std.proofs.Common.{◌≡◌, ◌++◌, length}
 use Rattle.echo_mail.specs.Head.{unfolded}
 use Rattle.echo_mail.proofs.head.unfolded.Given as goal

@@ -1,4 +1,3 @@
--- The result so far and the remaining value make the whole.
 use Rattle.std.proofs.Common.{◌≡◌, ◌++◌, ◌+◌, ◌≤◌, length}
 use Rattle.echo_mail.specs.Mailbox.{bare_name, start}
 use Rattle.echo_mail.proofs.mailbox.bare_name.Given as goal

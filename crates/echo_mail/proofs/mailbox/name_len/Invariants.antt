@@ -1,4 +1,3 @@
--- The count includes the bytes before the rest.
 use Rattle.std.proofs.Common.{◌≡◌, ◌+◌, ◌≤◌, length}
 use Rattle.echo_mail.specs.Mailbox.{name_len, start}
 use Rattle.echo_mail.proofs.mailbox.name_len.Given as goal

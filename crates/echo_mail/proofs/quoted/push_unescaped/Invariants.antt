@@ -1,4 +1,3 @@
--- The result so far and the remaining bytes make the whole.
 use Rattle.std.proofs.Common.{◌≡◌, ◌++◌, length}
 use Rattle.echo_mail.specs.Quoted.{unescaped}
 use Rattle.echo_mail.proofs.quoted.push_unescaped.Given as goal

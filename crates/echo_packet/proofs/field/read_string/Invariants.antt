@@ -1,4 +1,3 @@
--- The string already read is the bytes that left the source.
 use Rattle.std.proofs.Common.{◌-◌, length}
 use Rattle.echo_packet.proofs.Strings.{HasRead}
 use Rattle.echo_packet.proofs.field.read_string.Given as goal

@@ -1,4 +1,3 @@
--- The messages already read, and the remaining bytes of the slice.
 use Rattle.std.proofs.Common.{length}
 use Rattle.echo_packet.proofs.Slices.{HasGiven}
 use Rattle.echo_packet.proofs.reading.read_messages.Given as goal

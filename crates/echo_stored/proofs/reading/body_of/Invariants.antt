@@ -1,4 +1,3 @@
--- The result and the own lines among the rest are all own lines.
 use Rattle.std.proofs.Common.{◌≡◌, ◌++◌, length}
 use Rattle.std.specs.List.{flat_map}
 use Rattle.echo_text.specs.Lines.{lines}

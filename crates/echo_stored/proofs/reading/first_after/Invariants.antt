@@ -1,4 +1,3 @@
--- The first value in the lines that are left is that of all.
 use Rattle.std.proofs.Common.{◌≡◌, length}
 use Rattle.echo_text.specs.{Lines.lines, Echo.first_after}
 use Rattle.echo_stored.proofs.reading.first_after.Given as goal

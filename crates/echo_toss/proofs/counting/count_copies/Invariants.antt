@@ -1,4 +1,3 @@
--- The counted copies and the later ones make the whole.
 use Rattle.std.proofs.Common.{◌≡◌, drop}
 use Rattle.echo_toss.specs.Counts.{counted_with}
 use Rattle.echo_toss.proofs.counting.count_copies.Given as goal

@@ -1,4 +1,3 @@
--- The set has the links of the earlier areas.
 use Rattle.std.proofs.Common.{◌≡◌, ◌++◌, drop}
 use Rattle.std.specs.List.{flat_map}
 use Rattle.echo_links.specs.Links.{links_of}

@@ -1,4 +1,3 @@
--- The group has the outgoing forms of the earlier messages, and the calls only looked at the store.
 use Rattle.std.proofs.Common.{◌≡◌, ◌≤◌, ◌<◌, ◌-◌, ◌++◌, drop}
 use Rattle.disk_io.specs.Disk.{Honestly}
 use Rattle.base_file.specs.Base.{Base}

@@ -1,4 +1,3 @@
--- The store took the earlier messages, and the reader consumed them.
 use Rattle.std.proofs.Common.{◌-◌}
 use Rattle.echo_toss.proofs.PacketsIn.{HasGoneIn}
 use Rattle.echo_toss.proofs.packets.toss_messages.Given as goal

@@ -4,7 +4,6 @@ use Rattle.model_graph.specs.{Rows.linked, Levels.level_of, Floods.Flooding}
 use Rattle.model_graph.proofs.Floods.{level_within, Flooding-step}
 use Rattle.model_graph.proofs.levels.flood.Goals as goal
 
--- the member at the head has a level, at most its index in the queue
 at_head : (links : ℕ → ℕ → Bool) (without root : ℕ) (old levels : List (Option ℕ)) (queue : List ℕ) (head member : ℕ) → Flooding links without root old levels queue head → head < length queue → member ≡ get_or queue head member → (m : ℕ) × (level_of levels member ≡ Some m) × (m ≤ head) × (get_or queue head 0 ≡ member)
 at_head links without root old levels queue head member f lt read = grind (arith, get_or, get_or_read)
 

@@ -5,7 +5,6 @@ use Rattle.model_graph.proofs.{Rows.holds_at, Floods.none_from, Floods.some_from
 use Rattle.model_graph.proofs.levels.visit.Goals.{then-other-without+then-is_none+in_ok-push, else-other-without, else-other-without-via-then-other-without+else-is_none, else-other-without-via-else-other-without}
 use Rattle.model_graph.proofs.levels.visit.Goals as goal
 
--- a link of a graph is a member
 link_inside : (rows : List (List ℕ)) (member k : ℕ) (links : List ℕ) → IsGraph rows → links ≡ links_at rows member → k < length links → get_or links k 0 < length rows
 link_inside rows member k links graph is lt =
     graph.within member (get_or links k 0) (holds_at (links_at rows member) (get_or links k 0) k (subst (λ (row : List ℕ). k < length row) is lt) (ap (λ (row : List ℕ). get_or row k 0) (sym is)))

@@ -7,7 +7,6 @@ use Rattle.model_graph.proofs.polygons.loop_of.Goals as goal
 first_of : (links : ℕ → ℕ → Bool) (found : Option Pinch) (pinch : Pinch) → found ≡ Some pinch → MatchOption found ((b a c : ℕ) → ¬ IsPinch links b a c) (λ pinch. FirstPinch links pinch.at pinch.one pinch.other) → FirstPinch links pinch.at pinch.one pinch.other
 first_of links found pinch is = MatchOption-at_some ((b a c : ℕ) → ¬ IsPinch links b a c) (λ (pinch : Pinch). FirstPinch links pinch.at pinch.one pinch.other) pinch is
 
--- without a pinch links are parted
 none_of : (links : ℕ → ℕ → Bool) (found : Option Pinch) → ((pinch : Pinch) → found ≡ Some pinch → ⊥) → MatchOption found ((b a c : ℕ) → ¬ IsPinch links b a c) (λ pinch. FirstPinch links pinch.at pinch.one pinch.other) → (b a c : ℕ) → ¬ IsPinch links b a c
 none_of links None none h = h
 none_of links (Some pinch) none h = absurd (none pinch refl)

@@ -8,7 +8,6 @@ use Rattle.model_graph.proofs.ring.ring_of.Goals as goal
 other_end : (rows : List (List ℕ)) (b a c : ℕ) → IsGraph rows → IsPinch (linked rows) b a c → (c < length rows) × (c ≢ b)
 other_end rows b a c graph pinch = grind arith
 
--- the search from the greater link has reached the smaller
 one_has_level : (rows : List (List ℕ)) (b a c : ℕ) (levels : List (Option ℕ)) → IsGraph rows → IsPinch (linked rows) b a c → AreLevels (linked rows) b c levels → (m : ℕ) × (level_of levels a ≡ Some m)
 one_has_level rows b a c levels graph pinch are = grind (arith, Around-sym (linked rows) (Simple-from_graph rows graph) b a c pinch.around, level_cases (level_of levels a), level_from_around)
 

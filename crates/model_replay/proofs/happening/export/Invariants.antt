@@ -3,7 +3,6 @@ use Rattle.std.specs.List.{All}
 use Rattle.model_replay.specs.Worlds.{Fits, made}
 use Rattle.model_replay.proofs.happening.export.Given as goal
 
--- the packets so far were appended, and fit
 abbrev pub invariant-packets : goal.invariant-packets
 invariant-packets l = record {
   bytes : l.exported.items ≡ l.initial.exported.items ++ map made l.yielded;

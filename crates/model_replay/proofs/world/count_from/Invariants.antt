@@ -2,7 +2,6 @@ use Rattle.std.proofs.Common.{◌≡◌, ◌+◌, ◌≤◌, drop}
 use Rattle.model_run.specs.World.{area_count}
 use Rattle.model_replay.proofs.world.count_from.Given as goal
 
--- those counted and those left are all; no more are counted than were passed
 abbrev pub invariant-loop-i : goal.invariant-loop-i
 invariant-loop-i g l = record {
   so_far : l.count + area_count l.tag (drop l.i l.tosser.base) ≡ area_count l.tag (drop l.from l.tosser.base);

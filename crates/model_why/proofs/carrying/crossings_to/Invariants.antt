@@ -5,7 +5,6 @@ use Rattle.model_run.specs.Run.{Run}
 use Rattle.model_why.specs.Carrying.{crossings_from}
 use Rattle.model_why.proofs.carrying.crossings_to.Given as goal
 
--- those so far, and those of the packets left, are all
 abbrev pub invariant-packets : goal.invariant-packets
 invariant-packets l = (run : Run) → IsWorldOf l.world run →
     l.all.items ++ crossings_from l.counts l.harmed.to (ById l.harmed.tag.now l.harmed.id.now) l.k (drop l.k run.packets) ≡ crossings_from l.counts l.harmed.to (ById l.harmed.tag.now l.harmed.id.now) 0 run.packets

@@ -4,7 +4,6 @@ use Rattle.echo_filed.specs.declared.key.Key.TheVariants.{ById}
 use Rattle.model_why.proofs.Counting.{total}
 use Rattle.model_why.proofs.copies.count_copies.Given as goal
 
--- the copies so far are counted, and each is a message
 abbrev pub invariant-messages : goal.invariant-messages
 invariant-messages l = record {
   few : l.count ≤ l.packed-index;

@@ -2,6 +2,5 @@ use Rattle.std.proofs.Common.{◌≡◌, take}
 use Rattle.model_why.specs.Sources.{files_of}
 use Rattle.model_why.proofs.sources.read_files.Given as goal
 
--- the files so far are those of their bytes
 abbrev pub invariant-sources : goal.invariant-sources
 invariant-sources l = l.files.items ≡ files_of (take l.source-index l.sources)

@@ -1,5 +1,5 @@
 use Rattle.std.proofs.Common.{◌≡◌, ◌≤◌, ap, arith, inl, inr, refl}
-use Rattle.station.proofs.Ran.{elsewhere_after, looks_of, looks_open, past_of, refused_run, run_on, stopped_on}
+use Rattle.station.proofs.Ran.{elsewhere_after, looks_of, looks_open, needs_held, past_of, refused_run, run_on, stopped_on}
 use Rattle.station.proofs.Failures.{failed_wider}
 use Rattle.cmd_store.specs.Stops.{store_answer}
 use Rattle.station.proofs.running.run_command.Goals as goal
@@ -98,3 +98,23 @@ pub returns-clause-runs : goal.returns-clause-runs
 returns-clause-runs g c = λ honest.
     let shut = c.in-Err.ensures.stopped in
     inr (inl (record { fault = c.in-Err.stopped.fault; is = refl; cause = shut.cause honest; printed = refl; crash = shut.crash honest }))
+
+pub returns-in-Ok-prepare-clause-needs : goal.returns-in-Ok-prepare-clause-needs
+returns-in-Ok-prepare-clause-needs g c = λ honest.
+    let honest2 = c.into_disk-disk.ensures.quiet.honest honest in
+    let honest0 = c.prepare.ensures.looks.quiet.honest (c.run-done.ensures.crash.others.honest honest2) in
+    needs_held _ _ (g.D.Disk.state c.args.disk) (g.D.Disk.state c.into_disk-disk.result) c.run-done.result (c.in-Ok.ensures.whole honest0)
+
+pub returns-in-Ok-clause-needs : goal.returns-in-Ok-clause-needs
+returns-in-Ok-clause-needs g c = λ honest.
+    let honest0 = c.prepare.ensures.looks.quiet.honest (c.into_disk-disk-in-Err-prepare.ensures.quiet.honest honest) in
+    needs_held _ _ (g.D.Disk.state c.args.disk) (g.D.Disk.state c.into_disk-disk-in-Err-prepare.result) _ (c.in-Ok.ensures.whole honest0)
+
+pub returns-clause-needs : goal.returns-clause-needs
+returns-clause-needs g c = λ honest.
+    let shut = c.in-Err.ensures.stopped in
+    record {
+      whole = tt;
+      refused = λ none. record { fault = c.in-Err.stopped.fault; is = refl; cause = shut.cause honest; printed = refl; crash = shut.crash honest };
+      untouched = c.in-Err.ensures.untouched honest;
+    }

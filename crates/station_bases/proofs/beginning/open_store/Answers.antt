@@ -13,6 +13,7 @@ returns-in-Ok-clause-begun g c honest =
     record {
       of_links = c.in-Ok.ensures.opened.of_links h;
       ours = c.in-Ok.ensures.opened.other h;
+      sound = c.in-Ok.ensures.opened.sound h;
       keeps = λ base represented. c.new.ensures.keeps base (c.in-Ok.ensures.opened.same h keyed base g.met.H.Digest.fits represented).held;
       committed = λ base represented. c.new.ensures.committed base (c.in-Ok.ensures.opened.same h keyed base g.met.H.Digest.fits represented).committed;
       run = λ base represented. subst (λ d. LeavesOnly d0 (g.D.Disk.state d) (RepresentsBaseOrWasLeft keyed path d0 base)) (sym same) (c.open_station.ensures.run.any_moment h keyed base represented);

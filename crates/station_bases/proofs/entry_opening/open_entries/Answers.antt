@@ -3,7 +3,7 @@ use Rattle.std.specs.Prelude.{IsSome}
 use Rattle.base_file.specs.Pieces.{BeginsWith}
 use Rattle.disk_io.specs.Disk.{bytes_in}
 use Rattle.station_bases.specs.EntryOpening.{AreJudged, IsPartOf}
-use Rattle.station_bases.proofs.{EntryJudged.judged_holds, EntryJudged.judged_none, EntryJudged.piece_front, Reach.same_file}
+use Rattle.station_bases.proofs.{EntryJudged.judged_holds, EntryJudged.judged_none, EntryJudged.piece_front, Opened.given_by, Reach.same_file}
 use Rattle.station_bases.proofs.entry_opening.open_entries.Goals as goal
 
 pub take_all-requires-clause-so_far : goal.take_all-requires-clause-so_far
@@ -50,7 +50,7 @@ take_all-requires-clause-can g c = record {
 }
 
 pub returns-clause-held : goal.returns-clause-held
-returns-clause-held g c honest = λ base size loads.
+returns-clause-held g c honest =
     let d0 = g.D.Disk.state c.args.disk.now in
     let d1 = g.D.Disk.state c.len.new.self in
     let d2 = g.D.Disk.state c.fill.new.disk in
@@ -61,4 +61,5 @@ returns-clause-held g c honest = λ base size loads.
     let all : c.in_ok-take_all.field-0 ≡ true = c.if-not-branch.false in
     let same : bytes_in (d2.seen path) ≡ file = same_file d1 d2 path c.fill.ensures.quiet ∙ same_file d0 d1 path c.len.ensures.quiet in
     let j = subst (λ (l : List ℕ). AreJudged l head f) same (c.in_ok-take_all.ensures.judged honest all) in
-    judged_holds file head f j c.take_all.ensures.keeps.indexed.fits (c.in_ok-take_all.ensures.enough all) (c.take_all.ensures.keeps.cursor ∙ c.new-entries.ensures.cursor) base size loads
+    let held = judged_holds file head f j c.take_all.ensures.keeps.indexed.fits (c.in_ok-take_all.ensures.enough all) (c.take_all.ensures.keeps.cursor ∙ c.new-entries.ensures.cursor) in
+    (held.0, given_by (d0.seen path) held.0.messages held.0.cursor (c.requires.there (c.len.ensures.quiet.honest (c.fill.ensures.quiet.honest (c.take_all.ensures.quiet.honest honest)))) held.1, held.2)

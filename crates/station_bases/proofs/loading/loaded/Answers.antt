@@ -1,12 +1,9 @@
-use Rattle.std.proofs.Common.{Ok, rules, subst, sym}
-use Rattle.base_file.specs.BaseFile.{LoadOf}
-use Rattle.echo_packet.specs.Header.{AreBytes}
-use Rattle.station_bases.proofs.Opened.{same_loaded}
+use Rattle.std.proofs.Common.{List, ℕ, Option, Some, subst}
+use Rattle.base_file.specs.Loading.{TakesBase}
+use Rattle.cmd_status.proofs.Systems.{took_base}
 use Rattle.station_bases.proofs.loading.loaded.Goals as goal
 
 pub returns-clause-same : goal.returns-clause-same
-returns-clause-same g c base of =
-    let are : AreBytes c.args.all.now = search rules in
-    same_loaded (Ok c.in_ok-load.field-0) base of.0
-    (c.in_ok-load.ensures.only (Ok (base.messages, base.cursor, of.0)) (subst (λ s. AreBytes s.now) (sym c.new-left.ensures) are)
-    (subst (λ s. LoadOf s.now (Ok (base.messages, base.cursor, of.0))) (sym c.new-left.ensures) of.1))
+returns-clause-same g c =
+    let base = c.in_ok-load.field-0 in
+    took_base c.args.all.now _ base.messages base.cursor (subst (λ s. TakesBase base.messages base.cursor (Some s.now) _) c.new-left.ensures c.in_ok-load.ensures.taken)

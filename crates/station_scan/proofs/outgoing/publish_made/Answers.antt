@@ -50,7 +50,7 @@ returns-clause-sends g c = λ before passed honest base moved.
     let made_are : made ≡ made_in c.args.packets.now = c.as_slice-ended.ensures.value ∙ c.in-Ok.ensures in
     sends_published g.D.Disk.state (g.P.Paths.OwnPaths.is_own c.args.paths.now) to (Failed f1 f2) (g.P.Kept.Store.state before) s1 c.args.packets.now passed base moved c.requires.ready (did.keeps.keeps.honest honest) made
     (for_made to c.requires.ready.routes passed.sent c.args.packets.now passed.counted made made_are) (g.P.Kept.Store.state c.publish.new.store) honest f1 f2 c.publish.result g.P.Kept.Store.state did.cause (λ f. f)
-    did.published did.any_moment did.keeps (did.taken honest) did.tried
+    did.published did.any_moment did.keeps (did.taken honest) did.tried (did.left honest)
 
 pub returns-clause-keeps : goal.returns-clause-keeps
 returns-clause-keeps g c =

@@ -1,6 +1,6 @@
 use Rattle.std.proofs.Common.{◌≡◌, ◌≤◌, ◌⊎◌, Err, arith, inl, inr, refl}
 use Rattle.disk_io.specs.Device.{Failed}
-use Rattle.station.proofs.{Failures.failed_wider, Ran.looks_of, Ran.looks_open, Ran.stopped_on}
+use Rattle.station.proofs.{Failures.failed_wider, Ran.looks_of, Ran.looks_open, Ran.needs_held, Ran.stopped_on}
 use Rattle.cmd_store.specs.declared.command_error.CommandError.TheVariants.{Met}
 use Rattle.cmd_status.specs.Devices.{output_of}
 use Rattle.station.specs.Opening.{HaveFailed}
@@ -35,9 +35,9 @@ returns-in-Ok-prepare-clause-runs g c = λ honest.
     let same : f4 ≡ f3 = c.into_disk-disk.ensures.failures in
     let wider = failed_wider f0 f2 f3 f4 (omega arith) (omega (arith, same)) in
     let l0 = g.L.FileLock.failures c.args.locks.now.links in
-    let l1 = g.L.FileLock.failures c.open.new.locks.links in
+    let l1 = g.L.FileLock.failures c.lock_and_open.new.locks.links in
     let k0 = g.K.FileLock.failures c.args.locks.now.base in
-    let k1 = g.K.FileLock.failures c.open.new.locks.base in
+    let k1 = g.K.FileLock.failures c.lock_and_open.new.locks.base in
     let listed = Failed (g.G.ListStaged.failures c.args.scan.now.listing) (g.G.ListStaged.failures c.scan_kept-done.new.scan.listing) in
     let out = output_of g.W.Write.contents g.W.Sink.failures g.W.Sink.holds c.args.out.now in
     let now = output_of g.W.Write.contents g.W.Sink.failures g.W.Sink.holds c.scan_kept-done.new.out in
@@ -69,7 +69,8 @@ returns-in-Ok-prepare-clause-tried g c = λ honest.
     let out = output_of g.W.Write.contents g.W.Sink.failures g.W.Sink.holds c.args.out.now in
     let now = output_of g.W.Write.contents g.W.Sink.failures g.W.Sink.holds c.scan_kept-done.new.out in
     scan_tries g.D.Disk.state c.args.scan.now.stamp place c.args.scan.now.outbound.now (g.P.OpenStation.reads c.args.station d0) d0 d2 s1 s2 (looks_of place d0 s0 s1 looks opened.of_place) quiet did.keeps.same honest2
-    (g.P.Paths.OwnPaths.is_own c.paths-paths.result) out now c.in-Ok.opened.links (opened.read honest0) c.scan_kept-done.result
+    (g.P.Paths.OwnPaths.is_own c.paths-paths.result) (λ m o. (c.paths-paths.ensures.own m).1 ((looks_of place d0 s0 s1 looks opened.of_place).own m o)) (c.paths-paths.ensures.settled c.prepare.new.store) out now c.in-Ok.opened.links (opened.read honest0) c.scan_kept-done.result
+    (λ base represented. s1.shown (did.keeps.keeps.honest honest2) looks.ready base (begun.committed base represented))
     (λ base represented. did.tried honest2 base (begun.keeps base represented) (begun.committed base represented))
 
 pub returns-in-Ok-prepare-clause-many : goal.returns-in-Ok-prepare-clause-many
@@ -116,3 +117,27 @@ returns-clause-runs g c = λ honest.
       is = refl;
       not_run = inl (record { fault = c.in-Err.stopped.fault; is = refl; cause = shut.cause honest; printed = refl; crash = shut.crash honest });
     })
+
+pub returns-in-Ok-prepare-clause-needs : goal.returns-in-Ok-prepare-clause-needs
+returns-in-Ok-prepare-clause-needs g c = λ honest.
+    let honest2 = c.into_disk-disk.ensures.quiet.honest honest in
+    let honest0 = c.prepare.ensures.looks.quiet.honest (c.scan_kept-done.ensures.keeps.keeps.honest honest2) in
+    needs_held _ _ (g.D.Disk.state c.args.disk) (g.D.Disk.state c.into_disk-disk.result) c.scan_kept-done.result (c.in-Ok.ensures.whole honest0)
+
+pub returns-in-Ok-clause-needs : goal.returns-in-Ok-clause-needs
+returns-in-Ok-clause-needs g c = λ honest.
+    let honest0 = c.prepare.ensures.looks.quiet.honest (c.into_disk-disk-in-Err-prepare.ensures.quiet.honest honest) in
+    needs_held _ _ (g.D.Disk.state c.args.disk) (g.D.Disk.state c.into_disk-disk-in-Err-prepare.result) _ (c.in-Ok.ensures.whole honest0)
+
+pub returns-clause-needs : goal.returns-clause-needs
+returns-clause-needs g c = λ honest.
+    let shut = c.in-Err.ensures.stopped in
+    record {
+      whole = tt;
+      refused = λ none. record {
+        stopped = Err (Met c.in-Err.stopped.fault);
+        is = refl;
+        not_run = inl (record { fault = c.in-Err.stopped.fault; is = refl; cause = shut.cause honest; printed = refl; crash = shut.crash honest });
+      };
+      untouched = c.in-Err.ensures.untouched honest;
+    }

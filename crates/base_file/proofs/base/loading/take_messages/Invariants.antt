@@ -1,4 +1,3 @@
--- The messages of the base are those that were taken.
 use Rattle.std.proofs.Common.{◌≡◌, ◌-◌, ◌≤◌, length}
 use Rattle.base_file.proofs.Failing.{HasTaken}
 use Rattle.base_file.proofs.base.loading.take_messages.Given as goal

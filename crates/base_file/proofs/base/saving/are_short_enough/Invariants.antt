@@ -1,4 +1,3 @@
--- The messages before this one are short enough.
 use Rattle.std.proofs.Common.{◌≡◌, true, take}
 use Rattle.std.specs.List.{list_all}
 use Rattle.indexmap.specs.IndexMap.{values}

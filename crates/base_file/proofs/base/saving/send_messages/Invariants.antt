@@ -1,4 +1,3 @@
--- The sink took the messages before this one.
 use Rattle.std.proofs.Common.{◌≡◌, take}
 use Rattle.std.specs.List.{flat_map}
 use Rattle.disk_io.specs.Device.{SendsAll}

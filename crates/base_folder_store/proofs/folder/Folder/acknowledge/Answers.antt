@@ -11,7 +11,6 @@ use Rattle.base_folder_store.proofs.folder.Folder.acknowledge.Goals as goal
 pub returns-clause-stays : goal.returns-clause-stays
 returns-clause-stays g c = stays_twice c.tell.result c.in_ok-write_out.ensures.stays c.tell.ensures.stays
 
--- the written base is the one held before
 since : {T : Type 0} (d e f : DiskState) (one two three : Folder) (r : Result T StoreError) → (f.is_honest → e.is_honest) → Honestly e (held_by e two ≡ held_by d one) → IsAcknowledged e f two three r → IsAcknowledged d f one three r
 since d e f one two three r before held done = record {
   written = done.written;

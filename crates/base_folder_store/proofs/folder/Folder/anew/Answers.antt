@@ -18,7 +18,6 @@ returns-in_err-names-clause-run g c =
 pub stage_anew-requires-clause-settled : goal.stage_anew-requires-clause-settled
 stage_anew-requires-clause-settled g c honest = grind arith
 
--- the run, once new files were to be made
 record Made (g : given.Over) (c : After-stage_anew g) : Type 0 where
   folder : folder_of c.in_ok-names.names ≡ path_of c.args.self.now
   run : StagesOnly (path_of c.args.self.now) (base_at (g.D.Disk.state c.args.disk.now) (path_of c.args.self.now) c.args.self.now.end.recorded) (g.D.Disk.state c.args.disk.now) (g.D.Disk.state c.stage_anew.new.disk)

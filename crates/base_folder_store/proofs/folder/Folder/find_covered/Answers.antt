@@ -7,7 +7,6 @@ use Rattle.base_folder_store.specs.Opened.{held_by}
 use Rattle.base_folder_store.proofs.{Bases.recorded_quiet, Causes.answers_error, Legible.keys_all, Legible.legible_quiet, Looked.none_found, Looked.passed_on, Looked.some_message, Looked.stored_of}
 use Rattle.base_folder_store.proofs.folder.Folder.find_covered.Goals as goal
 
--- the number of messages below a bound
 few : (below count place : ℕ) (keys : List ℕ) (base : List Filed) → length keys ≡ count → length keys ≡ 16 * length base → below ≤ count / 16 → place < below → place < length base
 few below count place keys base all many within under = omega (arith, all, many, within, under)
 

@@ -10,7 +10,6 @@ use Rattle.base_folder_store.proofs.folder.Folder.leave_all.Goals as goal
 pub messages-init : goal.messages-init
 messages-init g c = grind (arith, run_none)
 
--- the run up to the call for one more message
 left : (g : given.Over) (c : After-leave_next g)
     → StagesOnly (path_of c.args.next.now) (committed_by (g.D.Disk.state c.args.disk.now) c.args.next.now) (g.D.Disk.state c.args.disk.now) (g.D.Disk.state c.leave_next.new.disk)
 left g c =

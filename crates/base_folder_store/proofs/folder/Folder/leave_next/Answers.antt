@@ -19,11 +19,9 @@ use Rattle.base_folder_store.proofs.folder.Folder.leave_next.Goals as goal
 pub stored-requires-clause-legible : goal.stored-requires-clause-legible
 stored-requires-clause-legible g c honest = (c.requires.purged.paired.readable honest).legible
 
--- the run after the read of the message
 read : (g : given.Over) (c : After-stored g) → StagesOnly (path_of c.args.next.now) (committed_by (g.D.Disk.state c.args.disk.now) c.args.next.now) (g.D.Disk.state c.args.disk.now) (g.D.Disk.state c.stored.new.disk)
 read g c = run_quiet (g.D.Disk.state c.args.disk.now) (g.D.Disk.state c.stored.new.disk) c.args.next.now c.requires.purged.opened c.stored.ensures.quiet
 
--- the run after staging the purged message
 left : (g : given.Over) (c : After-stage_left g) → StagesOnly (path_of c.args.next.now) (committed_by (g.D.Disk.state c.args.disk.now) c.args.next.now) (g.D.Disk.state c.args.disk.now) (g.D.Disk.state c.stage_left.new.disk)
 left g c =
     let n = c.args.next.now in
@@ -32,7 +30,6 @@ left g c =
     let quiet = c.stored.ensures.quiet in
     run_twice (path_of n) (path_of n) d0 d1 (g.D.Disk.state c.stage_left.new.disk) (committed_by d0 n) (committed_by d1 n) refl (run_quiet d0 d1 n c.requires.purged.opened quiet) c.stage_left.ensures.run (λ honest. base_quiet d0 d1 (path_of n) n.end.recorded quiet)
 
--- the message of the number, in a base that is held
 record Message (d : DiskState) (f n : Folder) (place : ℕ) (keyed : ℕ → ℕ → List ℕ → ℕ) (base : Base) : Type 0 where
   holds : HoldsBase keyed (committed_by d f) base
   recorded : AreWhereRecorded base.messages (held_by d f).messages (held_by d f).keys
@@ -56,7 +53,6 @@ message d f n place purged inside honest keyed base holds =
 pub stage_left-requires : goal.stage_left-requires
 stage_left-requires g c = grind (arith, open_quiet)
 
--- the message that was read, and its purged form
 record Here (g : given.Over) (c : After-stage_left g) (base : Base) : Type 0 where
   s : Stored
   is : (d : Filed) → get_or base.messages c.args.place d ≡ message_in Second s
@@ -150,7 +146,6 @@ returns-in_err-stage_left-clause-cause g c =
 pub returns-clause-same : goal.returns-clause-same
 returns-clause-same g c honest = grind (arith, base_quiet)
 
--- whether the message was scanned
 scanned_below : (d : DiskState) (f : Folder) (place : ℕ) (keyed : ℕ → ℕ → List ℕ → ℕ) (base : Base) → HoldsBase keyed (committed_by d f) base → IsBelow (nat_lt place f.end.recorded.cursor) place base.cursor
 scanned_below d f place keyed base holds = subst (λ (n : ℕ). IsBelow (nat_lt place f.end.recorded.cursor) place n) holds.cursor (is_below place f.end.recorded.cursor)
 

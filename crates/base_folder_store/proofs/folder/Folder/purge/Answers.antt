@@ -28,7 +28,6 @@ leave_all-requires g c =
       };
     }
 
--- the run up to the call that stages the purged messages
 record Left (g : given.Over) (c : After-leave_all g) : Type 0 where
   same : Honestly (g.D.Disk.state c.leave_all.new.disk) (committed_by (g.D.Disk.state c.anew.new.disk) c.in_ok-next.next ≡ held_by (g.D.Disk.state c.args.disk.now) c.args.self.now)
   run : CommitsOnly (path_of c.args.self.now) (committed_by (g.D.Disk.state c.args.disk.now) c.args.self.now) (held_by (g.D.Disk.state c.args.disk.now) c.args.self.now) (g.D.Disk.state c.args.disk.now) (g.D.Disk.state c.leave_all.new.disk)
@@ -92,7 +91,6 @@ returns-in_err-changed-clause-cause g c =
           cause.damaged honest (handed_on _ _ c.from_residual-in_err-changed.result c.from_residual-in_err-changed.ensures.1 is) keyed base (subst (λ (b : BaseBytes). HoldsBase keyed b base) (sym same) holds);
     }
 
--- it keeps its path, its owner and its key at an error
 pub returns-in_err-commit-clause-stays : goal.returns-in_err-commit-clause-stays
 returns-in_err-commit-clause-stays g c = grind (arith, on_ok_none)
 

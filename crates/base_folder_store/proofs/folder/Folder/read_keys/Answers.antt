@@ -4,7 +4,6 @@ use Rattle.base_folder_store.specs.{Opened.IsLegible, Opened.held_by, declared.f
 use Rattle.base_folder_store.proofs.{Legible.keys_all, Numbered.piece_of}
 use Rattle.base_folder_store.proofs.folder.Folder.read_keys.Goals as goal
 
--- the bytes that were read are a part of the keys
 part_of : (d : DiskState) (f : Folder) (path waits piece : List ℕ) (from to : ℕ) → IsLegible d f → path ≡ f.names.keys.items → waits ≡ f.waiting.keys.items
     → piece ≡ drop (16 * from) (take (16 * to) (take f.recorded.keys (bytes_in (d.seen path)) ++ waits)) → piece ≡ drop (16 * from) (take (16 * to) (held_by d f).keys)
 part_of d f path waits piece from to legible same all read = grind arith

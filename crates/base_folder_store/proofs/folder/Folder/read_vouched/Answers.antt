@@ -8,7 +8,6 @@ use Rattle.base_log.specs.Standing.{BaseBytes}
 use Rattle.base_folder_store.proofs.{Causes.answers_error, Vouchings.bytes_there}
 use Rattle.base_folder_store.proofs.folder.Folder.read_vouched.Goals as goal
 
--- the bytes of an existing message
 alone_there : (held : BaseBytes) (i : ℕ) (s : Stored) (bytes file : List ℕ) → IsThere held i s → file ≡ bytes → bytes ≡ stored_bytes Second s → IsStoredAlone (message_in Second s) file
 alone_there held i s bytes file there is same = record { s = s; size = there.size; alone = there.alone; is = refl; same = is ∙ same }
 

@@ -7,14 +7,12 @@ use Rattle.base_folder_store.proofs.{Staged.outside_same, folder.Folder.remove_f
 use Rattle.base_folder_store.proofs.folder.Folder.remove_former.Given as given
 use Rattle.base_folder_store.proofs.folder.Folder.remove_former.Goals as goal
 
--- the run before its first call
 nothing : (d : DiskState) (f : Folder) → Honestly d (IsAtRest d (path_of f) f.end) → StagesOnly (path_of f) (committed_by d f) d d
 nothing d f rest = record {
   any_moment = λ honest. alone_run d (path_of f) f.end (rest honest) d (alone_first d (path_of f) f.end (rest honest));
   outside = outside_same (path_of f) d;
 }
 
--- the run, once the files were to be removed
 record Removed (g : given.Over) (c : After-remove_files g) : Type 0 where
   folder : folder_of c.in_ok-names.names ≡ path_of c.args.self.now
   same : committed_by (g.D.Disk.state c.remove_files.new.disk) c.args.self.now ≡ committed_by (g.D.Disk.state c.args.disk.now) c.args.self.now

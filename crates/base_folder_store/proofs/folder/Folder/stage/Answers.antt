@@ -7,7 +7,6 @@ use Rattle.base_folder_store.proofs.folder.Folder.stage.Goals.{After-add}
 use Rattle.base_folder_store.proofs.folder.Folder.stage.Given as given
 use Rattle.base_folder_store.proofs.folder.Folder.stage.Goals as goal
 
--- the folder while the message waits
 record Added (g : given.Over) (c : After-add g) : Type 0 where
   named : IsNamed c.add.new.self
   path : path_of c.add.new.self ≡ path_of c.args.self.now

@@ -9,7 +9,6 @@ use Rattle.base_folder_store.proofs.folder.Folder.stored.Goals.{After-stored_by}
 use Rattle.base_folder_store.proofs.folder.Folder.stored.Given as given
 use Rattle.base_folder_store.proofs.folder.Folder.stored.Goals as goal
 
--- the entry that was read
 record Entry (g : given.Over) (c : After-stored_by g) : Type 0 where
   piece : IsPieceOf (held_by (g.D.Disk.state c.args.disk.now) c.args.self.now).keys c.args.place c.deref.result.now
   inside : c.args.place < length (held_by (g.D.Disk.state c.args.disk.now) c.args.self.now).keys / 16
@@ -29,7 +28,6 @@ returns-in_err-entry-clause-there g c honest = λ s has.
 pub stored_by-requires-clause-within : goal.stored_by-requires-clause-within
 stored_by-requires-clause-within g c = grind arith
 
--- the bytes of the message, by its entry
 has_entry : (g : given.Over) (c : After-stored_by g) → (g.D.Disk.state c.stored_by.new.disk).is_honest → (s : Stored) → HasBytesOf (held_by (g.D.Disk.state c.args.disk.now) c.args.self.now).messages (held_by (g.D.Disk.state c.args.disk.now) c.args.self.now).keys c.args.place s
     → HasBytesOf (held_by (g.D.Disk.state c.entry_at.new.disk) c.args.self.now).messages c.deref.result.now 0 s
 has_entry g c honest s has = grind (arith, entry, held_quiet, piece_has)

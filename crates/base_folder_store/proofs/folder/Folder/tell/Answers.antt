@@ -20,7 +20,6 @@ returns-clause-stays g c =
 pub returns-clause-done : goal.returns-clause-done
 returns-clause-done g c = grind (arith, committed_held, written_held, committed_recorded)
 
--- a commit of a folder without waiting bytes, as a run
 run_of : (d e : DiskState) (f : Folder) → IsWritten f → Honestly e (LeavesOnly d e (IsBeforeOrAfter (path_of f) d (committed_by d f) (base_at d (path_of f) f.recorded))) → KeepsOutside (path_of f) d e
     → CommitsOnly (path_of f) (committed_by d f) (held_by d f) d e
 run_of d e f none run kept = subst (λ (b : BaseBytes). CommitsOnly (path_of f) (committed_by d f) b d e) (sym (written_held d f none)) (record { any_moment = run; outside = kept })

@@ -4,7 +4,6 @@ use Rattle.base_store.specs.{Chains.AreChains, Index.IsIndexOf, Index.covered, K
 use Rattle.base_store.proofs.{Found.none_map, Found.own_digest, Found.some_map, index.Index.find_below.Goals.After-find_below-2}
 use Rattle.base_store.proofs.index.Index.find_below.Goals as goal
 
--- it covers its own keys
 own : (c : After-find_below-2) → covered c.args.self.now c.args.digest ≡ length c.args.self.now.keys.items / 16
 own c = grind (arith, cond-false)
 

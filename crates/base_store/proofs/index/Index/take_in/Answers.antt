@@ -11,7 +11,6 @@ returns-then-has-clause-index c = λ keys at is was.
     let passed = sym (cond-true (is_expected index.expected c.args.digest) index.expected.passed (length index.keys.items / 16) expected) ∙ at in
     record { rest = was.rest; front = was.front; even = was.even; chains = was.chains; found = c.go_over.ensures.found keys passed is was.found }
 
--- for an unexpected digest, the index covers its own keys
 own : (c : After-extend_from_slice) → covered c.args.self.now c.args.digest ≡ length c.args.self.now.keys.items / 16
 own c = grind (arith, cond-false)
 

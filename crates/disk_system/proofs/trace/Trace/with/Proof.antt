@@ -1,4 +1,3 @@
--- A trace with one call more, empty at run time.
 use Rattle.std.proofs.{Common.List, Common.[], Common.◌∷◌, Common.refl, raw_atomic.Walks.proved}
 use base.Fml.{ftrue}
 use mir.Syntax.{named}

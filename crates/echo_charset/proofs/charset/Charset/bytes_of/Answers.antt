@@ -4,7 +4,6 @@ use Rattle.std.specs.Str.{IsUtf8}
 use Rattle.echo_charset.specs.{declared.charset.Charset.Charset, Charset.decoded_text, Charset.is_utf8}
 use Rattle.echo_charset.proofs.charset.Charset.bytes_of.Goals as goal
 
--- UTF-8 is itself
 says_itself : (charset : Charset) (text : List ℕ) → is_utf8 charset ≡ true → IsUtf8 text → decoded_text charset text ≡ text
 unfolding decoded_text
 says_itself charset text is whole = rw is (utf8_lossy-IsUtf8 text whole)

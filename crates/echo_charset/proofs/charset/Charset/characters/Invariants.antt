@@ -1,4 +1,3 @@
--- The text has the characters of the earlier bytes.
 use Rattle.std.proofs.Common.{◌≡◌, take, string_bytes}
 use Rattle.echo_charset.specs.Charset.{characters}
 use Rattle.echo_charset.proofs.charset.Charset.characters.Given as goal

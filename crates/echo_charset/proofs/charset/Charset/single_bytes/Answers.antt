@@ -5,21 +5,17 @@ use Rattle.std.specs.{List.Contains, Str.IsUtf8, Str.chars, Str.encode_utf8_all}
 use Rattle.echo_charset.specs.{declared.charset.Charset.Charset, Charset.character, Charset.characters}
 use Rattle.echo_charset.proofs.charset.Charset.single_bytes.Goals as goal
 
--- one more byte says one more character
 one_more : (charset : Charset) (bytes said : List ℕ) (byte c : ℕ) → characters charset bytes ≡ encode_utf8_all said → character charset byte ≡ c → characters charset (bytes ++ byte ∷ []) ≡ encode_utf8_all (said ++ c ∷ [])
 one_more charset bytes said byte c so is = rw (flat_map-append, encodes-append, so, is) refl
 
--- the next character follows the earlier ones
 next_char : (said after all : List ℕ) (c : ℕ) (rest : List ℕ) → said ++ chars rest ≡ all → chars rest ≡ c ∷ after → (said ++ c ∷ []) ++ after ≡ all
 next_char said after all c rest so next = append_assoc said (c ∷ []) after ∙ sym (ap (λ cs. said ++ cs) next) ∙ so
 
--- the text contains it
 is_one : (said after all : List ℕ) (c : ℕ) → (said ++ c ∷ []) ++ after ≡ all → Contains all c
 is_one said after all c so =
     let P : List ℕ → Type 0 = λ cs. Contains cs c in
     subst P so (Contains-append_left (said ++ c ∷ []) after c (Contains-push said c))
 
--- after the last character, the bytes encode the text
 all_said : (charset : Charset) (bytes said rest text : List ℕ) → IsUtf8 text → characters charset bytes ≡ encode_utf8_all said → said ++ chars rest ≡ chars text → length rest ≡ 0 → characters charset bytes ≡ text
 all_said charset bytes said [] text whole so left none =
     so ∙ ap (λ cs. encode_utf8_all cs) (sym (append-nil said) ∙ (sym (ap (λ cs. said ++ cs) chars-nil) ∙ left)) ∙ encodes-chars text whole

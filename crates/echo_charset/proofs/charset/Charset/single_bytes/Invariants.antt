@@ -1,4 +1,3 @@
--- The bytes encode the earlier characters, and the rest of the text has the others.
 use Rattle.std.proofs.Common.{◌≡◌, ◌++◌}
 use Rattle.std.specs.Str.{IsUtf8, chars, encode_utf8_all}
 use Rattle.echo_charset.specs.Charset.{characters}

@@ -1,4 +1,3 @@
--- No earlier byte is the character.
 use Rattle.std.proofs.Common.{◌≡◌, ℕ, ◌<◌}
 use Rattle.echo_charset.specs.Charset.{upper_half}
 use Rattle.echo_charset.proofs.charset.Charset.upper_byte.Given as goal

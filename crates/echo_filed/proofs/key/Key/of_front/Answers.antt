@@ -5,7 +5,6 @@ use Rattle.echo_filed.specs.{declared.key.Key.Key, declared.key.Key.TheVariants.
 use Rattle.echo_filed.proofs.Keys.{key_reported}
 use Rattle.echo_filed.proofs.key.Key.of_front.Goals as goal
 
--- a key that depends on no further part is the key of each such message
 each : {A B C E : Type 0} (r : Result Key E) (k : Key) (of : A → B → C → Key) → ((a : A) (b : B) (c : C) → k ≡ of a b c) → IfOk r (λ key. key ≡ k)
     → IfOk r (λ key. (a : A) (b : B) (c : C) → key ≡ of a b c)
 each (Ok key) k of all h = λ a b c. h ∙ all a b c

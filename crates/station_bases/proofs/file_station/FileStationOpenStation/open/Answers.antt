@@ -1,7 +1,8 @@
-use Rattle.std.proofs.Common.{◌≢◌, All, List, ℕ, subst, sym}
-use Rattle.station.specs.{Links.AreLinks, Opening.IsOpened}
+use Rattle.std.proofs.Common.{◌≢◌, All, List, ℕ, inl, subst, sym}
+use Rattle.disk_io.specs.Device.{Failed}
+use Rattle.station.specs.{Links.AreLinks, Opening.HaveFailed, Opening.IsOpened}
 use Rattle.station_bases.specs.{InFile.IsHeld, InFile.IsWithinReach, InFile.file_state, Reading.file_place}
-use Rattle.station_bases.proofs.Opened.{is_not_opened, is_opened}
+use Rattle.station_bases.proofs.Opened.{file_shut_wider, is_not_opened, is_opened, read_only}
 use Rattle.station_bases.proofs.file_station.FileStationOpenStation.open.Goals as goal
 
 pub returns-in-Ok-clause-opened : goal.returns-in-Ok-clause-opened
@@ -20,9 +21,22 @@ returns-in-Ok-clause-opened g c =
     (is_opened d0 d1 path s.own s.held s.place c.read_station.ensures.reads.quiet links file f0 f1 c.read_station.ensures.reads.later
     (subst (λ (o : List ℕ). All (λ b. b ≢ 47) o) (sym c.new.ensures.own) read.plain)
     (subst (λ h. IsWithinReach d1 path h) (sym c.new.ensures.held) read.reach) (λ honest. (read.read honest).0) read.settled
-    (λ honest b represented. subst (λ h. IsHeld d1 path h b) (sym c.new.ensures.held) ((read.read honest).1 b represented))))
+    (λ honest b represented. subst (λ h. IsHeld d1 path h b) (sym c.new.ensures.held) (read_only d0.seen d1 path c.in-Ok.read.held (read.read honest).1 b represented))))
 
 pub returns-in-Err-clause-stopped : goal.returns-in-Err-clause-stopped
-returns-in-Err-clause-stopped g c =
-    is_not_opened c.args.self.links.now c.args.self.base.now _ (g.D.Disk.state c.args.disk) (g.D.Disk.state c.read_station.new.disk) c.in-Err.fault c.read_station.ensures.reads.quiet
-    c.in-Err.ensures.err
+returns-in-Err-clause-stopped g c = λ links links_now base base_now.
+    let own = c.args.self in
+    let d0 = g.D.Disk.state c.args.disk in
+    let f0 = g.D.Disk.failures c.args.disk in
+    let f1 = g.D.Disk.failures c.read_station.new.disk in
+    let failed = HaveFailed f0 f1 links links_now base base_now in
+    is_not_opened own.links.now own.base.now failed d0 (g.D.Disk.state c.read_station.new.disk) c.in-Err.fault c.read_station.ensures.reads.quiet
+    (λ honest. file_shut_wider own.links.now own.base.now (Failed f0 f1) failed d0 c.in-Err.fault (λ one. inl one) (c.in-Err.ensures.err honest))
+
+pub returns-in-Ok-clause-whole : goal.returns-in-Ok-clause-whole
+returns-in-Ok-clause-whole g c honest =
+    let read = (c.in-Ok.ensures.read (subst (λ d. (g.D.Disk.state d).is_honest) c.new.ensures.disk honest)).1 in
+    (read.base, read.represented)
+
+pub returns-in-Err-clause-untouched : goal.returns-in-Err-clause-untouched
+returns-in-Err-clause-untouched g c honest none = c.read_station.ensures.reads.quiet
