@@ -10,7 +10,7 @@ use Rattle.model_steps.specs.declared.packet.Packet.{Packet}
 use Rattle.model_run.specs.{Orderly.sent_count, Orderly.tag_of, Run.nth, Tidy.Joined, Tidy.lists}
 use Rattle.model_run.proofs.{Lists.and-from, Lists.and-parts, Lists.filter-no, Lists.filter-yes, Lists.not_both, Lists.nth-append, Lists.yes_or_no, HarmLists.among-nth, HarmLists.nth-map, Targets.none_some, Targets.some_same}
 use Rattle.law_stations.specs.AnyDisks.{HeadlineFromAnyDisks, KeyHasSettled, KeyInOrderOverCrashes, KeyIsNotLostOverCrashes, NoneIsLostFromAnyDisks, all_packets, disks_at, is_below, waits_for_name}
-use Rattle.law_stations.specs.{AnyNets.IsNewTo, AnyNets.IsSomeNet, AnyNets.KeyInOrder, AnyNets.KeyIsNotLost, AnyNets.KeyIsSettled, AnyNets.links_at, AnyNets.net_at, Commands.CommandEvent, Disks.Disks, Disks.StagingFile, Disks.cursors, InOrder.ReadsAs, InOrder.StationHolds, Nets.Net, Nets.Paired, Nets.Station, OverCrashes.HasNet, OverCrashes.IsLikeEvent}
+use Rattle.law_stations.specs.{AnyNets.IsNewTo, AnyNets.IsSomeNet, AnyNets.KeyInOrder, AnyNets.KeyIsNotLost, AnyNets.KeyIsSettled, AnyNets.links_at, AnyNets.net_at, Commands.CommandEvent, Disks.Disks, Disks.StagingFile, Disks.cursors, InOrder.ReadsAs, InOrder.StationHolds, Nets.Net, Nets.Paired, Nets.Station, OverCrashes.HasNet, OverCrashes.IsLikeEvent, Stopping.MayHappenAll}
 use Rattle.law_stations.proofs.{Counting.IsItem, Counting.below, Counting.below-step, Counting.times, Counting.waits, AnyNets.in-order as key-in-order, AnyNets.not-lost as key-not-lost, AnyNets.packets-read, EachCommand.crashes-from, Headline.checked, Pairs.paired-back, Shown.holds-too, Shown.sent-less, Shown.unchanged-too, Tracking.IsTagged, Tracking.Tracks}
 
 -- the indexes of the packets with names

@@ -1,7 +1,7 @@
 -- A new message of a checked area is in order, from any state of a net of stations on.
-use Rattle.std.proofs.Common.{◌≡◌, inl, inr, refl, sym, subst, ap, ◌∙◌, ℕ, ◌≤◌, List, [], ◌∷◌, length, map, Option, Some, None, Ok, arith}
-use Rattle.std.specs.{Prelude.Bool, Prelude.IsTrue, Prelude.true, Prelude.is_none, List.AllByRecursion}
-use Rattle.cmd_status.specs.{Devices.Output, declared.fault.Fault.Fault, declared.status.Status.TheVariants.Good, Inputs.AreLinkFiles}
+use Rattle.std.proofs.Common.{◌≡◌, inl, inr, refl, sym, subst, ap, ◌∙◌, ℕ, ◌≤◌, List, [], ◌∷◌, length, map, Option, Some, None, arith}
+use Rattle.std.specs.{Prelude.IsTrue, Prelude.true, Prelude.is_none, List.AllByRecursion}
+use Rattle.cmd_status.specs.{Inputs.AreLinkFiles}
 use Rattle.model_graph.specs.{Walk.Among, Walk.Different, Cycle.Polygons}
 use Rattle.echo_packet.specs.Message.{HasNoZero, IsMessage, Message}
 use Rattle.echo_links.specs.Links.{LinkFile, has_area, upper}
@@ -10,7 +10,6 @@ use Rattle.base_file.specs.Base.{Base, IsBase}
 use Rattle.model_steps.specs.declared.packet.Packet.{Packet}
 use Rattle.model_run.specs.{Orderly.FiledUnchanged, Orderly.SameContent, Orderly.count, Orderly.sent_count, Orderly.tag_of, AnyState.HasSettled, AnyState.IsNew, AnyState.IsNotLost, AnyState.IsOrderly, Run.Run, Run.System, Run.after_events, Run.nth, States.IsState, Tidy.Joined, Tidy.Tidy, Tidy.lists}
 use Rattle.model_run.proofs.{Lists.nth-among, Lists.Among-filter_from, Lists.Among-filter_to, Lists.Among-flat_map_from, Lists.Among-flat_map_to, AnyState.new-not_lost, AnyState.new-orderly, HarmLists.among-nth, States.any-state, States.later-state, TosserLaws.the_laws}
-use Rattle.cmd_check.specs.Checking.{CheckAnswers}
 use Rattle.law_stations.specs.{AnyNets.HeadlineFromAnyState, AnyNets.IsNewTo, AnyNets.IsSomeNet, AnyNets.KeyInOrder, AnyNets.KeyIsNotLost, AnyNets.KeyIsSettled, AnyNets.links_at, AnyNets.net_at, AnyNets.own_of, Agreement.Agrees, Agreement.HasSystem, Agreement.IsPacketFile, Agreement.file_address, Commands.CommandEvent, Commands.Happen, InOrder.HasUnchanged, InOrder.IsUnchanged, InOrder.ReadsAs, Nets.Net, Nets.Paired, Nets.Station}
 use Rattle.law_stations.proofs.{EachEvent.LedAll, EachEvent.led-all, Headline.all-read, Headline.checked, Moving.nth-middle, Pairs.paired-among, Pairs.paired-back, Places.addresses-of, Sound.reads, Sound.represented, Systems.file-fits, Systems.says-so, Unpurged.kept-where}
 

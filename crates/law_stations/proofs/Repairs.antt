@@ -1,12 +1,12 @@
 -- Rounds of repair on a net of stations are rounds of the model.
-use Rattle.std.proofs.Common.{◌≡◌, ◌≢◌, ◌⊎◌, inl, inr, refl, sym, subst, ap, ◌∙◌, ℕ, zero, suc, ◌≤◌, arith, List, [], ◌∷◌, ◌++◌, length, map, Option, Some}
+use Rattle.std.proofs.Common.{◌≡◌, ◌≢◌, inl, inr, refl, sym, subst, ap, ◌∙◌, ℕ, zero, suc, ◌≤◌, arith, List, [], ◌∷◌, ◌++◌, length, map, Option, Some}
 use Rattle.std.proofs.lemmas.List.{length-map}
 use Rattle.std.specs.{Prelude.IsTrue, Prelude.filter, List.AllByRecursion}
 use Rattle.echo_addr.specs.{declared.address.Address.Address, Address.IsAddress}
 use Rattle.cmd_status.specs.Inputs.{AreLinkFiles}
 use Rattle.model_graph.specs.Walk.{Among, Different}
 use Rattle.echo_packet.specs.Header.{AreBytes}
-use Rattle.echo_links.specs.Links.{IsFile, LinkFile, has_area, is_link, links_of}
+use Rattle.echo_links.specs.Links.{LinkFile, has_area, is_link, links_of}
 use Rattle.echo_filed.specs.{declared.key.Key.Key, Filed.Filed, Filed.IsFiled, Filed.key_of}
 use Rattle.echo_filed.proofs.Plain.{all_append}
 use Rattle.base_file.specs.Base.{Base, is_known}
@@ -15,10 +15,10 @@ use Rattle.model_steps.proofs.Copies.{all_filter, links_are_addresses}
 use Rattle.model_run.specs.{Event.RunEvent, Orderly.count, Orderly.origin, Run.Run, Run.System, Run.after_events, Run.destination, Run.nth, States.IsState}
 use Rattle.model_run.specs.Repair.{AreJoined, AreLinked, AreRepairRounds, AreRounds, Besides, HasReached, HasWhole, IsNoPurge, IsNowhereStub, IsRepairRound, IsRound, RepairEvent, ResendAll, after_repair, after_repairs, is_lacking, rest_packet, resending}
 use Rattle.model_run.specs.Repair as model
-use Rattle.model_run.proofs.{Areas.address_of, Areas.link-among, Bases.filed-once, HarmLists.among-nth, Lists.nth-among, OneMessage.has-one, Repair.differ-files, Repair.enough-rounds, Repair.later-at, Repair.later-itself, Repairs.mended-by, Repairs.rounds-of, Targets.some_same, TosserLaws.the_laws}
-use Rattle.law_stations.specs.Commands.{Command, CommandEvent, Post, Purge, Scan, Toss}
-use Rattle.law_stations.specs.{Agreement.Agrees, Agreement.AreEventsOf, Agreement.AreTossesOf, Agreement.HasSystem, Agreement.IsPacketFile, Agreement.IsTossOf, Agreement.base_of, Agreement.file_address, Agreement.own_address, AnyNets.IsSomeNet, AnyNets.links_at, AnyNets.net_at, Disks.with_packet, InOrder.StationHolds, Nets.Net, Nets.Paired, Nets.Station}
-use Rattle.law_stations.specs.Repairs.{AreStationRounds, Calls, CallsNoPurge, FilesNothing, HasNoStubs, HaveWhole, IsStationRound, RepairsHappen, RepairCommand, RepairHappens, Resend, Resends, RoundsBringAll, RoundsEnd, bytes_sent}
+use Rattle.model_run.proofs.{Areas.link-among, Bases.filed-once, HarmLists.among-nth, OneMessage.has-one, Repair.differ-files, Repair.enough-rounds, Repair.later-at, Repair.later-itself, Repairs.mended-by, Repairs.rounds-of, Targets.some_same, TosserLaws.the_laws}
+use Rattle.law_stations.specs.Commands.{Command, Post, Purge, Scan, Toss}
+use Rattle.law_stations.specs.{Agreement.Agrees, Agreement.AreEventsOf, Agreement.AreTossesOf, Agreement.HasSystem, Agreement.IsPacketFile, Agreement.IsTossOf, Agreement.file_address, Agreement.own_address, AnyNets.IsSomeNet, AnyNets.links_at, AnyNets.net_at, Disks.with_packet, InOrder.StationHolds, Nets.Net, Nets.Paired, Nets.Station}
+use Rattle.law_stations.specs.Repairs.{AreStationRounds, Calls, CallsNoPurge, HasNoStubs, HaveWhole, IsStationRound, RepairsHappen, RepairCommand, RepairHappens, Resend, Resends, RoundsBringAll, RoundsEnd, bytes_sent}
 use Rattle.law_stations.proofs.{AnyNets.begins, AnyNets.first, AnyNets.state, AnyNets.systems-files, EachEvent.event-is-events, Headline.read-once, Packets.copies-packet, Pairs.paired-append, Pairs.paired-back, Pairs.paired-nth, Places.addresses-of, Places.addresses-stay, Sound.represented, Systems.file-fits, Systems.one-file, Systems.says-so}
 
 paired-length : {X Y : Type 0} (R : X → Y → Type 0) (xs : List X) (ys : List Y) → Paired R xs ys → length xs ≡ length ys
