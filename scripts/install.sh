@@ -14,7 +14,7 @@ install -d "$to/share/man/man1"
 install -m 644 docs/*.1 "$to/share/man/man1"
 install -d "$to/share/echonet/echonet_station" "$to/share/echonet/move" "$to/share/doc/echonet/pictures" "$to/share/doc/echonet/examples"
 install -m 755 station/*.sh station/jam-lock "$to/share/echonet"
-chmod 644 "$to/share/echonet/station.sh" "$to/share/echonet/count.sh"
+chmod 644 "$to/share/echonet/"{station,count,reading}.sh
 install -m 755 station/echonet-station "$to/share/echonet"
 install -m 644 station/echonet_station/*.py "$to/share/echonet/echonet_station"
 ln -sfn ../share/echonet/echonet-station "$to/bin/echonet-station"

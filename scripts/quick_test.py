@@ -13,7 +13,7 @@ import time
 
 TOP = os.path.dirname(os.path.dirname(os.path.abspath(__file__)))
 # The sessions of docs/OPERATORS.md that need no mailer.
-HEADINGS = ["By hand", "Link files", "Harm and pictures"]
+HEADINGS = ["The files", "Link files", "Harm and pictures"]
 COUNTS = re.compile(r"(\d+) (?:checks )?passed, (\d+) failed|(\d+) commands printed what the document says, (\d+) did not")
 LONGEST = "60m"
 

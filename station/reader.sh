@@ -42,33 +42,14 @@ if [ $# -ne 3 ]; then
   echo "usage: reader.sh [--jam [--unlocked]] STATION AREA DIR, or reader.sh STATION FILE" >&2
   exit 4
 fi
-work=
-
-# Removes the files of this run. A failed command of the shell ends it with 1, which then is the fault of a device.
-clean_up() {
-  ended=$?
-  if [ -n "$work" ]; then rm -rf "$work"; fi
-  if [ $ended -eq 1 ]; then exit 3; fi
-}
-trap clean_up EXIT
-trap 'exit 3' HUP INT TERM
-station=$(CDPATH='' cd -- "$1" && pwd) || exit 3
-case $1$station$3 in
-  *[[:cntrl:]]*)
-    echo "reader.sh: control byte in a path" >&2
-    exit 4
-    ;;
-esac
-area=$2
-jam=$3
-program=${ECHONET:-echonet}
+station=$1 area=$2 path=$3
+. "$here/reading.sh"
 . "$here/count.sh"
-work=$(mktemp -d) || exit 3
 
 # Runs a command, on a JAM base under the lock of JAM programs.
 run_locked() {
-  if [ $form = --jam ] && [ -z "$unlocked" ] && [ -e "$jam.jhr" ]; then
-    "$here/jam-lock" "$jam.jhr" "$@"
+  if [ $form = --jam ] && [ -z "$unlocked" ] && [ -e "$path.jhr" ]; then
+    "$here/jam-lock" "$path.jhr" "$@"
   else
     "$@"
   fi

@@ -24,27 +24,10 @@ if [ $# -ne 3 ]; then
   echo "usage: readers.sh [--unlocked | --areadef] STATION FILE" >&2
   exit 4
 fi
-work=
-
-# Removes the files of this run. A failed command of the shell ends it with 1, which then is the fault of a device.
-clean_up() {
-  ended=$?
-  if [ -n "$work" ]; then rm -rf "$work"; fi
-  if [ $ended -eq 1 ]; then exit 3; fi
-}
-trap clean_up EXIT
-trap 'exit 3' HUP INT TERM
-station=$(CDPATH='' cd -- "$2" && pwd) || exit 3
-file=$3
-case $2$station$file in
-  *[[:cntrl:]]*)
-    echo "readers.sh: control byte in a path" >&2
-    exit 4
-    ;;
-esac
 here=$(CDPATH='' cd -- "$(dirname "$0")" && pwd)
-program=${ECHONET:-echonet}
-work=$(mktemp -d) || exit 3
+station=$2 path=$3
+. "$here/reading.sh"
+file=$3
 tab=$(printf '\t')
 
 # Writes the areas to `areas`: tag, kind and whole path, with tabs between. A faulty line ends the run with 2.

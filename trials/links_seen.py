@@ -5,7 +5,8 @@ The areas are trees of polygons, one of them with a further link that makes a lo
 areas, and all scan and toss until nothing moves. Two systems have CrashMail II, if it is here, one with bases of *.MSG
 and one of JAM. The trial notes who sent each message to whom, by the packets that it moves. Then it reads the bases of
 all systems, and of some, as JAM bases, stored messages, JSON or packets. Each link has to have the count of messages
-that took it. SEED makes the same net again. Argument: how many systems (30).
+that took it. The packets have the second copies that come over a loop, too. SEED makes the same net again. Argument: how
+many systems (30).
 """
 import os
 import random
@@ -139,7 +140,7 @@ class CrashMail(Station):
 
 
 class Net:
-    """All systems, and for each message the system from which each other one has it first."""
+    """All systems, for each message the system from which each other one has it first, and all copies that came."""
 
     def __init__(self, place, chance, count):
         self.place, self.chance = place, chance
@@ -157,7 +158,7 @@ class Net:
         with_crashmail = chance.sample(systems, 2) if shutil.which("crashmail") else []
         self.stations = {system: CrashMail(place, system, of[system], "MSG" if system == with_crashmail[0] else "JAM") if system in with_crashmail
                          else Station(place, system, of[system]) for system in systems}
-        self.first, self.packets = {}, 0
+        self.first, self.copies, self.packets = {}, set(), 0
 
     def deliver(self, content):
         """Puts a packet into the inbound folder of its destination, and notes its messages."""
@@ -171,6 +172,7 @@ class Net:
             echo = reading.read_text(message.text)
             key = echo.tag.decode(), reading.first_id(echo.kept), goal
             self.first.setdefault(key, origin)
+            self.copies.add((key, origin))
 
     def move(self):
         """All post, and then scan and toss until nothing moves."""
@@ -194,10 +196,12 @@ class Net:
                 sys.exit("links_seen.py: %s: %r" % (tag, found))
 
     def taken(self, systems):
-        """The links of the ways by which messages came to some systems, each with its count of messages."""
+        """The links of the ways by which messages came to some systems, each with its count of messages. CrashMail keeps no
+        packets, so only its first copies are seen."""
         links = set()
-        for (tag, found, goal), origin in self.first.items():
-            if goal in systems:
+        for (tag, found, goal), origin in self.copies:
+            is_first = self.first[tag, found, goal] == origin
+            if goal in systems and (is_first or not isinstance(self.stations[goal], CrashMail)):
                 while origin is not None:
                     links.add((tag, min(origin, goal), max(origin, goal), found))
                     origin, goal = self.first.get((tag, found, origin)), origin

@@ -20,7 +20,7 @@ make -s install DESTDIR="$root/one" PREFIX=/usr > /dev/null || exit 1
 for file in bin/echonet bin/echonet-station share/man/man1/echonet.1 share/man/man1/echonet-station.1 \
   share/echonet/echonet-station share/echonet/echonet_station/{start,gate,unpacking}.py \
   share/bash-completion/completions/echonet-station share/zsh/site-functions/_echonet-station \
-  share/fish/vendor_completions.d/echonet-station.fish share/echonet/{post,reader,readers,toss-inbound,scan-outbound,station}.sh \
+  share/fish/vendor_completions.d/echonet-station.fish share/echonet/{post,reader,readers,reading,toss-inbound,scan-outbound,station,count}.sh \
   share/echonet/{jam-lock,printable.awk,echonet.service,echonet.timer,echonet.logrotate,settings} share/doc/echonet/{README,OPERATORS,FORMATS}.md \
   share/bash-completion/completions/echonet share/zsh/site-functions/_echonet \
   share/fish/vendor_completions.d/echonet.fish share/echonet/move/{packets.py,net-page.css,net-page.js} \

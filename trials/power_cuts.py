@@ -266,7 +266,11 @@ class Scripts(Plain):
         judge.texts(self.name + ": base", texts_of(join(folder, "base")), self.filed(done), may)
         packets = {name: packet for name, (step, packet) in self.mailed.items() if step in done or step is opened}
         packets.update(files_of(join(folder, "packets"), ".pkt"))
-        judge.packets(self.name, packets, self.filed(before_last(done, "scan")), may)
+        judge.packets(self.name, self.undressed(judge, packets), self.filed(before_last(done, "scan")), may)
+
+    def undressed(self, _, packets):
+        """The packets as a scan made them."""
+        return packets
 
     def again(self, judge, folder, done, opened):
         texts = {number_of(text) for text in texts_of(join(folder, "base"))}
@@ -399,15 +403,10 @@ class Peered(Scripts):
             make(join(folder, "inbound", "%08x.mo0" % serial), bundle.getvalue())
         return 0
 
-    def look(self, judge, folder, done, opened):
-        may = all_of(done) + opened.messages
-        judge.texts(self.name + ": base", texts_of(join(folder, "base")), self.filed(done), may)
-        packets = {name: packet for name, (step, packet) in self.mailed.items() if step in done or step is opened}
-        packets.update(files_of(join(folder, "packets"), ".pkt"))
+    def undressed(self, judge, packets):
         for name, packet in packets.items():
             judge.expect("%s: the password of %s" % (self.name, name), packet[26:34] == self.password)
-            packets[name] = packet[:26] + bytes(8) + packet[34:]
-        judge.packets(self.name, packets, self.filed(before_last(done, "scan")), may)
+        return {name: packet[:26] + bytes(8) + packet[34:] for name, packet in packets.items()}
 
     def again(self, judge, folder, done, opened):
         if not opened.messages or opened.what != "arrive":

@@ -4,7 +4,6 @@ from __future__ import annotations
 import os
 import re
 import struct
-from hashlib import sha256
 from os.path import exists, join
 from typing import Iterator, Optional
 
@@ -58,6 +57,8 @@ class Filing:
 
     def file(self, mark: str, packet: Packet, message: Message, route: Route) -> None:
         """Files a letter. The file `mark` gets a second name in netmail/, so a repeated run sees that it was filed."""
+        from hashlib import sha256
+
         known = self.begin()
         content = stored(message, packet, route, self.station.is_own(route.to))
         digest = sha256(content).hexdigest().encode()

@@ -12,10 +12,8 @@ from .bad_files import bad_files, first_line, new_areas
 from .bundles import BUNDLE_NAME
 from .calls import call, program
 from .faults import Status
-from .filing import FORM, IN_TRANSIT, STORED_NAME
 from .flows import flows, size_of
 from .inbound import is_mine, is_packet_name
-from .letters import ATTRIBUTES_AT, LOCAL, SENT
 from .printing import shown_age, shown_path
 from .station import Station, names_in
 
@@ -158,8 +156,14 @@ class Report:
             self.hand("unsent letters")
 
     def unsent(self) -> Iterator[str]:
-        """The names of letters that wait for some time."""
-        for name in filter(STORED_NAME.fullmatch, names_in(self.station.at("netmail"))):
+        """The names of letters that wait for some time. Without letters the modules on them are not imported."""
+        names = names_in(self.station.at("netmail"))
+        if not names:
+            return
+        from .filing import FORM, IN_TRANSIT, STORED_NAME
+        from .letters import ATTRIBUTES_AT, LOCAL, SENT
+
+        for name in filter(STORED_NAME.fullmatch, names):
             path = self.station.at("netmail", name)
             with open(path, "rb") as file:
                 head = file.read(FORM.size)

@@ -220,16 +220,23 @@ class Rounds(Net):
                                                     "new 0, lacking 0; 1 did not answer"]))
         self.assertEqual(self.round_of(2)[0], 0)
 
-    def test_stopped_toss(self):
-        """A toss that was stopped does not hide what was new."""
+    def answered_packet(self) -> str:
+        """The packet in the inbound of station 2 that answers its question for a message that it lost."""
         self.post(1, "one")
         self.run_all(lost=(2,))
         self.call(2, "repair")
-        while not any(name.endswith(".pkt") for name in build.names_in(self.of(2, "inbound"))):
+        while True:
+            packets = [name for name in build.names_in(self.of(2, "inbound")) if name.endswith(".pkt")]
+            if packets:
+                [name] = packets
+                return name
             self.deliver()
             for number in (1, 3):
                 self.good(number, "scan")
-        [name] = [name for name in build.names_in(self.of(2, "inbound")) if name.endswith(".pkt")]
+
+    def test_stopped_toss(self):
+        """A toss that was stopped does not hide what was new."""
+        name = self.answered_packet()
         words = ("toss", self.of(2, "links"), self.of(2, "base"), self.of(2, "inbound", name))
         subprocess.run([build.program(), *words], stdout=subprocess.DEVNULL, check=True)
         build.put(self.of(2, "repair", "tossing"), b"")
@@ -240,14 +247,7 @@ class Rounds(Net):
 
     def test_repeated_packet(self):
         """The packet of an answer comes twice. What the first one brought counts."""
-        self.post(1, "one")
-        self.run_all(lost=(2,))
-        self.call(2, "repair")
-        while not any(name.endswith(".pkt") for name in build.names_in(self.of(2, "inbound"))):
-            self.deliver()
-            for number in (1, 3):
-                self.good(number, "scan")
-        [name] = [name for name in build.names_in(self.of(2, "inbound")) if name.endswith(".pkt")]
+        name = self.answered_packet()
         packet = build.content(self.of(2, "inbound", name))
         self.run_all()
         build.put(self.of(2, "inbound", name), packet)

@@ -48,7 +48,7 @@ fn put_stub<S: BuildHasher>(
     leave(alloc, &mut entries[i], lines);
 }
 
-/// Puts these lines' stubs in place of the messages before the cursor. Those before `start` are stubs.
+/// Replaces the messages before the cursor by stubs with these lines. Those before `start` are stubs already.
 pub(crate) fn put_stubs<S: BuildHasher>(
     alloc: Global,
     entries: &mut IndexMap<Key, Filed, S>,

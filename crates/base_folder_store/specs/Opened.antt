@@ -20,7 +20,8 @@ pub record IsWritten (folder : Folder) : Type 0 where
   pub messages : folder.waiting.messages.items ≡ []
   pub keys : folder.waiting.keys.items ≡ []
 
--- Its files exist and are as long as its record says. Its count of keys includes those in the file and those that wait.
+-- The folder's files exist and are as long as its record says. Its count of keys includes those in the file and those
+-- that wait.
 pub record IsLegible (disk : DiskState) (folder : Folder) : Type 0 where
   pub names : AreNames folder.names folder.recorded.number
   pub messages_there : IsSome (disk.seen (messages_of (path_of folder) folder.recorded.number))

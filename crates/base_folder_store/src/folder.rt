@@ -55,6 +55,7 @@ impl Folder {
         })
     }
 
+    /// How many messages it has.
     pub fn count(&self) -> usize
         ensures { result ≡ self.now.keys / 16 }
     {

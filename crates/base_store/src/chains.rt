@@ -8,9 +8,9 @@ use std::alloc::{AllocError, Global};
 /// How many messages are chained at most: each, counted from 1, is a number of four bytes.
 const MOST: usize = 4_294_967_294;
 
-/// Chains by the low bits of digests: to the last message with these bits, and from each message to the previous one,
-/// counted from 1, and 0 for none. They take 6 to 8 bytes a message. The caller holds the keys, and passes to each
-/// call the same ones, or the same and more behind them.
+/// Chains by the low bits of digests: to the last message with these bits, and from each message to the previous one.
+/// Messages count from 1, and 0 is none. Chains take 6 to 8 bytes a message. The caller holds the keys, and passes to
+/// each call the same ones, or the same and more behind them.
 #[derive(Drop)]
 pub struct Chains {
     heads: Vec<u32>,

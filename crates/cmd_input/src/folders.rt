@@ -90,6 +90,7 @@ pub fn check_base<'a>(rt: &HostRuntime, base: &'a str) -> Result<(), Fault<'a>> 
     Ok(())
 }
 
+/// Why the messages of the base with this path were not read as a base file.
 pub fn messages_fault(fault: BaseFault, base: &str) -> Fault<'_> {
     match fault {
         BaseFault::Read => Fault::CannotUse(base),

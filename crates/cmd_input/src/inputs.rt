@@ -30,6 +30,7 @@ pub fn output_fault(fault: OutputFault, path: &str) -> Fault<'_> {
     }
 }
 
+/// The bytes of a file, if they are at most `most`.
 pub fn read_file<'a>(rt: &HostRuntime, path: &'a str, most: usize) -> Result<Vec<u8>, Fault<'a>> {
     disk_system::read_file(rt.alloc(), rt, path, most).map_err(|fault| input_fault(fault, path))
 }

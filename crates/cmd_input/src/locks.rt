@@ -14,7 +14,7 @@ use std::io::{ErrorKind, IsTerminal};
 use std::os::unix::fs::MetadataExt;
 use std::{fs, io};
 
-/// After so many locked files that had lost their path the file cannot be used.
+/// A file can't be used if so many files that were locked for it had lost their path.
 const MOST_TRIES: u32 = 1_000;
 
 /// The lock of a link file. It is held until this value is dropped.

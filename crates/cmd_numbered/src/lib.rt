@@ -1,6 +1,6 @@
-//! Messages of a base for the readers of the field: as numbered files of a folder, each a stored message (FTS-0001),
-//! or added to a JAM base; and a packet of scanned messages that is made again. Just the messages asked for are
-//! exported, in order. Begin with `numbering`, `adding` and `resending`.
+//! Messages of a base for the readers of the field. They become numbered files of a folder, each a stored message
+//! (FTS-0001), or are added to a JAM base. A packet of scanned messages can be made again. Just the messages asked for
+//! are exported, in order. Begin with `numbering`, `adding` and `resending`.
 #![tactic(auto)]
 
 mod adding;

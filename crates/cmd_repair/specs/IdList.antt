@@ -7,7 +7,7 @@ use Rattle.cmd_status.specs.{declared.fault.Fault.Fault, declared.fault.Fault.Th
 use Rattle.cmd_repair.specs.declared.reading.Stage.{Stage, TheVariants.Start, TheVariants.Ids, TheVariants.Ended, TheVariants.Wrong}
 use Rattle.cmd_repair.specs.{Ids.IsId, Words.area_words, Words.end_words, Words.id_word, Words.is_end_line, Words.is_id_line, Words.most_messages}
 
--- The next stage of a list of this area after a line. It had so many ids before.
+-- The next stage of a list of this area after a line, with this many ids before it.
 abbrev pub stage_after : List ℕ → ℕ → Stage → List ℕ → Stage
 stage_after area ids Start line = if bytes_eq line (area_words area) then Ids else Wrong
 stage_after area ids Ids line = if is_id_line line then Ids else if is_end_line ids line then Ended else Wrong

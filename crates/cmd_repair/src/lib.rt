@@ -1,6 +1,6 @@
 //! Repair: a packet of all messages of an area for one link, and lists of the ids that a base has. The packet has
-//! exact copies, whoever sent them and whatever their SEEN-BY lists, but for those that the given list names. A list
-//! is refused exactly at its first wrong line. Begin with `sending` (the packet).
+//! exact copies, whoever sent them and whatever their SEEN-BY lists. It leaves out messages whose ids the given list
+//! names. A list is refused exactly at its first wrong line. Begin with `sending` (the packet).
 #![tactic(auto)]
 
 mod gathering;

@@ -98,7 +98,7 @@ fn show_opened<'a, W: Sink>(
     Ok(Status::Good)
 }
 
-// They are made by themselves first, so that out of memory adds no line.
+// The lines are made by themselves first, so that out of memory adds none.
 fn add_header(alloc: Global, lines: &mut Vec<u8>, header: &Header) -> Result<(), AllocError>
     ensures lines { OnOk result (lines.new.items ≡ lines.old.items ++ header_lines header.now) }
     ensures kept { OnErr result (lines.new.items ≡ lines.old.items) }

@@ -1,4 +1,4 @@
--- The output and the effect of `post`.
+-- The draft that the words and the body of `post` make, and why it is refused.
 use Rattle.std.specs.Prelude.{ℕ, ◌==◌, List, [], ◌∷◌, ◌++◌, if◌then◌else◌, Option}
 use Rattle.model_steps.specs.{declared.draft.Draft.Draft, declared.fault.PostFault.PostFault, Posting.post_refusal, SystemState.SystemState}
 use Rattle.cmd_store.specs.declared.drafting.NewMessage.{NewMessage}

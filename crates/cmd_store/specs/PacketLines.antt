@@ -1,4 +1,4 @@
--- The output and the effect of `scan`, and the name of a packet made again.
+-- The names of packets, and their lines.
 use Rattle.std.specs.Prelude.{ℕ, ◌==◌, List, ◌++◌, length, codes, decimal, if◌then◌else◌}
 use Rattle.echo_addr.specs.declared.address.Address.{Address}
 use Rattle.echo_packet.specs.Packet.{packet_bytes}

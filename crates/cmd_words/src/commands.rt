@@ -7,14 +7,14 @@ macro_rules! ending_with {
     };
 }
 
-// The same for a command that never has status 1.
+// The end of a command that never has status 1.
 macro_rules! ending {
     ($example:literal) => {
         ending_with!($example, "")
     };
 }
 
-// The same for a command that prints a verdict.
+// The end of a command that prints a verdict.
 macro_rules! judging {
     ($example:literal) => {
         ending_with!($example, "  1  the verdict is no\n")

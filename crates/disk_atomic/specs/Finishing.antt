@@ -1,4 +1,4 @@
--- Packets that a stopped publication left in staging files, and how they are finished.
+-- Packets that a stopped scan left in staging files, and how they are finished.
 use Rattle.std.specs.Prelude.{◌≡◌, ◌≢◌, ◌⊎◌, ◌<◌, ◌≤◌, ℕ, List, All, AllPairs, Contains, None, IsSome}
 use Rattle.disk_io.specs.Disk.{DiskState, Files, IsIn}
 use Rattle.disk_atomic.specs.{Changes.DifferAt, Naming.HasMoved, declared.finishing.Left.Left}

@@ -8,6 +8,6 @@ watched_device w = w.device
 abbrev pub watched_failures : {D : Type 0} → Watched D → ℕ
 watched_failures w = w.failures
 
--- It may hold bytes that it did not pass on.
+-- The writer may hold bytes that it did not pass on.
 abbrev pub watched_holds : {D : Type 0} → Watched D → Bool
 watched_holds w = w.holds

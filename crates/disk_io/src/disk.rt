@@ -55,7 +55,7 @@ pub trait Disk {
         ensures changes { ChangesAt (ThisPath path.now) (ThisPath path.now) (ThisPath path.now) (ChangesFile (state self.old) path.now TornMaking) (state self.old) (state self.new) }
         ensures cause { HasCause (failures self.old) (failures self.new) result };
 
-    /// Gives a file another path, in the place of the file that had it. The file's bytes have to be on the disk.
+    /// Gives a file another path, and replaces the file that had it. The file's bytes have to be on the disk.
     fn rename(&mut self, from: &[u8], to: &[u8]) -> Result<(), DiskError>
         requires there { Honestly (state self.old) (IsSome ((state self.old).seen from.now)) }
         requires durable { Honestly (state self.old) ((state self.old).is_flushed from.now) }

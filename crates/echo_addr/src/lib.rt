@@ -1,6 +1,6 @@
-//! Addresses of FidoNet systems and the shortened lists of SEEN-BY and PATH lines (FTS-0004), with what all formats
-//! share: decimal numbers, blanks, sorted lists, a small type for lists. `read_list` of a written line gives its
-//! entries, none dropped. Begin with `address`, then `listing` and `shortening`.
+//! Addresses of FidoNet systems, and the shortened lists of SEEN-BY and PATH lines (FTS-0004). All formats share its
+//! decimal numbers, blanks, sorted lists and a small type for lists. `read_list` of a written line gives its entries,
+//! none dropped. Begin with `address`, then `listing` and `shortening`.
 #![tactic(auto)]
 
 mod address;

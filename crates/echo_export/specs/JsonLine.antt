@@ -31,7 +31,7 @@ state_word Purged = codes "purged"
 abbrev pub area_member : EchoText → List Token
 area_member e = text_member (Some Ascii) (codes "area") e.tag
 
--- Its number in the base, its state, and the system that sent it. A posting of this system has no sender.
+-- The message's number in the base, its state, and the system that sent it. A posting of this system has no sender.
 abbrev pub place_members : ℕ → State → Filed → List Token
 place_members i state m =
     member_of (codes "number") (number (decimal i))

@@ -98,7 +98,7 @@ fn joined(mut string: Vec<u8>, parts: &[Items<u8>], size: usize) -> Result<Items
     Ok(Items::new(string))
 }
 
-// Its parts are joined when all have come: growing a long string would move it at each step.
+// The parts of the string are joined when all have come: growing a long one would move it at each step.
 fn read_long_string<R: Source>(
     string: Vec<u8>,
     reader: &mut R,

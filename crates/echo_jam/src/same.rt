@@ -9,7 +9,7 @@ use crate::standing::long_at;
 use echo_filed::Filed;
 use std::alloc::{AllocError, Global};
 
-/// Whether this header and text are those of the message, but for what readers change: numbers, attributes, links.
+/// Whether this header and text are those of the message, except numbers, attributes and links: readers change these.
 pub fn is_same(
     alloc: Global,
     headers: &[u8],

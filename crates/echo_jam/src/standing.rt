@@ -11,8 +11,8 @@ pub struct Last {
     pub size: u32,
 }
 
-/// The state of a JAM base: index entries without those of zeros at the end, the next number, the count of changes,
-/// the active messages as stated and as counted, and the last message, unless it is gone.
+/// The state of a JAM base. `entries` leaves out index entries of zeros at the end. `active` is the count of active
+/// messages that the base states, `counted` that of those found. `last` is none if that message is gone.
 #[derive(Clone, Copy, Debug, PartialEq, Eq)]
 pub struct Standing {
     pub entries: u32,

@@ -15,8 +15,8 @@ use std::alloc::{AllocError, Global};
 /// The offset in a header of the byte with the bits Local and Sent.
 pub const ATTRIBUTE_AT: usize = 52;
 
-/// The parts that an editor wrote: names, subject, the id of the message replied to and its own (each may be empty),
-/// and lines that end in 0D. Lines that posting makes or a scan adds are left out.
+/// The parts that an editor wrote: names, subject, ids and lines that end in 0D. The ids are those of the message
+/// replied to and of the message; each may be empty. Lines that posting makes or a scan adds are left out.
 #[derive(Debug, Drop)]
 pub struct JamDraft<'a> {
     pub from_name: &'a [u8],

@@ -56,8 +56,8 @@ impl Nodelist {
         kept_at(&self.addresses, i)
     }
 
-    /// The address of the Hub over the line at an index, from 0: for an entry Pvt, Hold, Down or without keyword the
-    /// nearest Hub line before it in its net. The search goes back to the start of the net.
+    /// The address of the Hub over the line at an index, from 0. Only entries Pvt, Hold, Down or without keyword have
+    /// one: the nearest Hub line before them in their net. The search goes back to the start of the net.
     pub fn hub_of(&self, i: usize) -> Option<Address>
         ensures { result ≡ hub_at self.now i }
     {

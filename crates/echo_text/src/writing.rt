@@ -18,7 +18,7 @@ pub fn write_text(alloc: Global, echo: &Echo) -> Result<Vec<u8>, AllocError>
     Ok(text)
 }
 
-/// Writes the text into a vector, in place of what it held.
+/// Writes the text into a vector, and replaces the old content.
 pub fn write_text_into(text: &mut Vec<u8>, echo: &Echo) -> Result<(), AllocError>
     ensures { OnOk result (TextOf echo.now text.new.items) }
 {

@@ -17,7 +17,7 @@ use std::alloc::{AllocError, Global};
 
 #[derive(Drop)]
 pub(crate) enum Reading<'a> {
-    /// Its text is echomail with this front, and its sender is a link of the area.
+    /// The text is echomail with this front, and the sender is a link of the area.
     Wanted(FrontView<'a>),
     Unwanted(Outcome),
 }

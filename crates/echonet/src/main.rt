@@ -1,6 +1,6 @@
-//! The program `echonet`: it reads the words of the command line and calls the command that they name: in `cmd_net` on
-//! nets, in `cmd_export` and `cmd_jam` on a base, in `cmd_station` to change one. It is proved to be safe and to end,
-//! and no more. It is small, so that the crates below it are proved in parallel. Begin at `main`, the last function.
+//! The program `echonet`: it reads the words of the command line and calls the command that they name. The commands
+//! are in `cmd_net`, `cmd_export`, `cmd_jam` and `cmd_station`. It is proved to be safe and to end, and no more. It is
+//! small, so that the crates below it are proved in parallel. Begin at `main`, the last function.
 #![tactic(auto)]
 
 use cmd_export::run_base;

@@ -1,11 +1,11 @@
 -- A net goes on by a scan, and by a toss that ended well.
-use Rattle.std.proofs.Common.{inl, inr, ⊎_elim, refl, append_assoc, ℕ, List, Some, None, Result, arith}
+use Rattle.std.proofs.Common.{◌≡◌, ◌⊎◌, inl, inr, ⊎_elim, refl, append_assoc, ℕ, List, Some, None, Result, arith}
 use Rattle.base_file.specs.Base.{Base}
 use Rattle.disk_io.specs.Disk.{DiskState, Files}
 use Rattle.model_steps.specs.declared.stamp.Stamp.{Stamp}
 use Rattle.station.specs.Place.{Place}
 use Rattle.station_scan.specs.{Scanning.IsTouched, declared.scan_error.ScanError.ScanError}
-use Rattle.law_stations.specs.{Commands.Scan, Disks.Disks, OnDisks.LeavesElsewhere, OnDisks.ShowsStation, Scans.AreAfterScan, Scans.ScansAsEvent, Scans.with_packets_in, Asked.GoesOnCut, Scanned.IsScan, Scanned.ScanGoesOn, Scanned.ScansGoOn, Scanned.TossesGoOn, Seats.Seat, Seats.reach, Steps.IsAllOnDisk}
+use Rattle.law_stations.specs.{Commands.Scan, Disks.Disks, OnDisks.LeavesElsewhere, OnDisks.ShowsStation, Scans.AreAfterScan, Scans.ScansAsEvent, Scans.with_packets_in, Asked.GoesOnCut, Scanned.HavePackets, Scanned.IsScan, Scanned.ScanGoesOn, Scanned.ScansGoOn, Scanned.TossesGoOn, Seats.Seat, Seats.reach, Steps.IsAllOnDisk}
 use Rattle.law_stations.proofs.GoingOn.{reaches-by}
 
 touched : {Kept : Type 0} (place : Kept → Place) (seat : Seat Kept) (m : List ℕ) → IsTouched (place seat.kept).is_own seat.outbound m → (reach place seat).is_own m
@@ -18,38 +18,49 @@ module _ {D Kept : Type 0} (state : D → DiskState) (place : Kept → Place) (s
   elsewhere = reaches-by (with_packets_in seat.outbound (place seat.kept)) (reach place seat) (state old) (state whole) (touched place seat) does.elsewhere
 
   module _ (begun : D) (left : (state whole).left_since (state old).moment (state begun).seen) (all : IsAllOnDisk (state begun)) where
-    still : ShowsStation (place seat.kept) seat.links i (state begun).seen d → GoesOnCut (IsScan stamp) place seat i d (state old) (state whole) (state begun)
-    still shows =
-        record { command = None; is = tt; next = d; cut = record { left = left; begins = all; may = refl; shows = shows; elsewhere = elsewhere } }
+    abbrev Goes : Type 0
+    Goes = (goes : GoesOnCut (IsScan stamp) place seat i d (state old) (state whole) (state begun))
+        × ((goes.command ≡ None) ⊎ HavePackets stamp (place seat.kept) seat.links seat.outbound i d ended base (state begun).seen goes.next)
 
-    cut : GoesOnCut (IsScan stamp) place seat i d (state old) (state whole) (state begun)
+    still : ShowsStation (place seat.kept) seat.links i (state begun).seen d → Goes
+    still shows = (
+      record { command = None; is = tt; next = d; cut = record { left = left; begins = all; may = refl; shows = shows; elsewhere = elsewhere } },
+      inl refl,
+    )
+
+    cut : Goes
     cut = elim (does.crash (state begun).seen left) [
       | inl was ↦ still (on_disk (state begun).seen was)
       | inr since ↦ ⊎_elim still
-          (λ (may : AreAfterScan stamp (place seat.kept) seat.links seat.outbound i d ended base (state begun).seen). record {
-            command = Some (Scan stamp);
-            is = refl;
-            next = may.after;
-            cut = record { left = left; begins = all; may = may.leads; shows = may.shows; elsewhere = elsewhere };
-          })
+          (λ (may : AreAfterScan stamp (place seat.kept) seat.links seat.outbound i d ended base (state begun).seen). (
+            record {
+              command = Some (Scan stamp);
+              is = refl;
+              next = may.after;
+              cut = record { left = left; begins = all; may = may.leads; shows = may.shows; elsewhere = elsewhere };
+            },
+            inr (may, refl),
+          ))
           since
     ]
 
-  goes-on : ScanGoesOn state place seats seat i stamp d old whole result
+  goes-on : ScanGoesOn state place seats seat i stamp d ended base old whole result
   goes-on = record {
     cut = cut;
     ended = λ ok kept.
-        let after = does.done ok in
-        record {
-          command = Scan stamp;
-          is = refl;
-          next = after.scan.after;
-          ended = record {
-            may = after.scan.leads;
-            represented = record { at = after.at; on_disk = after.on_disk; kept = λ shared. kept shared after.at.shows.station.base after.at.shows.represented };
-            elsewhere = elsewhere;
-          };
-        };
+        let after = does.done ok in (
+          record {
+            command = Scan stamp;
+            is = refl;
+            next = after.scan.after;
+            ended = record {
+              may = after.scan.leads;
+              represented = record { at = after.at; on_disk = after.on_disk; kept = λ shared. kept shared after.at.shows.station.base after.at.shows.represented };
+              elsewhere = elsewhere;
+            };
+          },
+          (after.scan, refl),
+        );
     none = λ was kept. record {
       may = refl;
       represented = record { at = was.at; on_disk = was.on_disk; kept = λ shared. kept shared was.at.shows.station.base was.at.shows.represented };

@@ -4,7 +4,7 @@ use Rattle.std.proofs.lemmas.Bool.{cases_eq}
 use Rattle.disk_io.specs.Disk.{DiskState, Files}
 use Rattle.model_run.specs.Run.{change, nth}
 use Rattle.station.specs.Place.{Place}
-use Rattle.law_stations.specs.{Seats.AreNeighbours, Seats.AreSeated, Seats.IsShared, Seats.Seat, Seats.RepresentsSeat, Seats.reach, Commands.Command, Commands.CommandEvent, Commands.Purge, Disks.Disks, Stopping.MayHappen, Neighbours.RepresentsOnDisk, Neighbours.StaysOnDisk, OnDisks.LeavesElsewhere, OnDisks.ShowsStation, Steps.HasCrashed, Steps.HasEnded, Steps.IsAllOnDisk, Steps.IsOn, Steps.MayLead, Steps.WasCut}
+use Rattle.law_stations.specs.{Seats.AreNeighbours, Seats.AreSeated, Seats.IsShared, Seats.Seat, Seats.RepresentsSeat, Seats.reach, Commands.Command, Commands.CommandEvent, Commands.Purge, Disks.Disks, Stopping.MayHappen, Neighbours.RepresentsOnDisk, Neighbours.StaysOnDisk, OnDisks.LeavesElsewhere, OnDisks.ShowsStation, Steps.HasCrashed, Steps.HasEnded, Steps.IsAllOnDisk, Steps.IsOn, Steps.MayLead, Steps.WasCut, Steps.WereOthers}
 use Rattle.law_stations.proofs.{Elsewhere.change-other, Elsewhere.elsewhere, Neighbours.others-stay}
 use Rattle.model_run.proofs.{HarmLists.nth-changed as changed-there, Targets.some_same}
 
@@ -108,4 +108,9 @@ module _ {D Kept : Type 0} (state : D → DiskState) (place : Kept → Place) (s
         (λ j b is here was.
         anew j b (state then) next is was.at.outside h.begins (shows-too (place b.kept) b.links j (state then).seen d next (ap (λ (x : Disks). nth j x.net.stations) same)
         (was.on_disk (state then).seen h.left)))
+        (λ j b is other. ap (λ (x : Disks). nth j x.net.stations) same)
+
+    pub changed : next ≡ d → WereOthers place seats number d (state old) (state then) → AreSeated state place seats (change number (λ x. then) disks) next
+    changed same h = renewed
+        (λ j b is here was. moved j b (state then) d next (ap (λ (x : Disks). nth j x.net.stations) same) (h j b (record { there = is; on = here }) was))
         (λ j b is other. ap (λ (x : Disks). nth j x.net.stations) same)

@@ -2,9 +2,9 @@
 use Rattle.std.proofs.Common.{inr, sym, subst, ℕ, List, [], ◌∷◌, Option, Some, None}
 use Rattle.disk_io.specs.Disk.{DiskState}
 use Rattle.station.specs.Place.{Place}
-use Rattle.law_stations.specs.Steps.{Crashes, Ends, Goes, GoesBy, GoesOn, Happening, IsCut, MayLead, Step, after, after_all, commands_by, commands_of, with_command}
+use Rattle.law_stations.specs.Steps.{Crashes, Ends, Goes, GoesBy, GoesOn, Happening, IsCut, MayLead, OthersChange, Step, after, after_all, commands_by, commands_of, with_command}
 use Rattle.law_stations.specs.{AnyDisks.disks_at, Commands.Command, Commands.CommandEvent, Disks.Disks, Stopping.MayHappenAll, Seats.AreNeighbours, Seats.AreSeated, Seats.Seat, Sequences.HeadlineFromAnySequences, Sequences.SequencesAreAmong}
-use Rattle.law_stations.proofs.{AnyDisks.headline-from-any-disks, Seated.crashed, Seated.cut, Seated.ended}
+use Rattle.law_stations.proofs.{AnyDisks.headline-from-any-disks, Seated.changed, Seated.crashed, Seated.cut, Seated.ended}
 
 module _ {D Kept : Type 0} (state : D → DiskState) (place : Kept → Place) (seats : List (Seat Kept)) (near : AreNeighbours place seats) where
   stepped : (step : Step D) (disks : List D) (d next : Disks) → AreSeated state place seats disks d → Goes state place seats step disks d next
@@ -15,6 +15,7 @@ module _ {D Kept : Type 0} (state : D → DiskState) (place : Kept → Place) (s
       by (Ends i command) (seat, on, h) = ended state place seats near step.disk goes.old step.then disks d next goes.there seated i command seat on h
       by (IsCut i command whole) (seat, on, w) = cut state place seats near step.disk goes.old step.then disks d next goes.there seated i command whole seat on w
       by Crashes (same, h) = crashed state place seats near step.disk goes.old step.then disks d next goes.there seated same h
+      by OthersChange (same, h) = changed state place seats near step.disk goes.old step.then disks d next goes.there seated same h
 
   led : (i : ℕ) (command : Option Command) (later : List CommandEvent) (d next last : Disks) → MayLead command i d next → MayHappenAll later next last
       → MayHappenAll (with_command i command later) d last
@@ -26,6 +27,7 @@ module _ {D Kept : Type 0} (state : D → DiskState) (place : Kept → Place) (s
   commanded number (Ends i command) old then later d next last (seat, on, h) rest = led i command later d next last h.may rest
   commanded number (IsCut i command whole) old then later d next last (seat, on, w) rest = led i command later d next last w.may rest
   commanded number Crashes old then later d next last (same, h) rest = led 0 None later d next last same rest
+  commanded number OthersChange old then later d next last (same, h) rest = led 0 None later d next last same rest
 
   gone : (steps : List (Step D)) (disks : List D) (d last : Disks) → AreSeated state place seats disks d → GoesOn state place seats steps disks d last
       → MayHappenAll (commands_of steps) d last × AreSeated state place seats (after_all steps disks) last

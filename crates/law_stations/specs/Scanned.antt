@@ -1,12 +1,13 @@
 -- The contracts of a scan and of a toss that ended well, as statements about the steps of a net.
-use Rattle.std.specs.Prelude.{◌≡◌, ℕ, List, Option, None, Result, Ok}
-use Rattle.disk_io.specs.Disk.{DiskState}
+use Rattle.std.specs.Prelude.{◌≡◌, ◌⊎◌, ℕ, List, Option, None, Result, Ok}
+use Rattle.base_file.specs.Base.{Base}
+use Rattle.disk_io.specs.Disk.{DiskState, Files}
 use Rattle.cmd_status.specs.declared.fault.Fault.{Fault}
 use Rattle.model_steps.specs.declared.stamp.Stamp.{Stamp}
 use Rattle.cmd_store.specs.{Coming.Coming, declared.command_error.CommandError.CommandError}
 use Rattle.station.specs.Place.{Place}
 use Rattle.station_scan.specs.declared.scan_error.ScanError.{ScanError}
-use Rattle.law_stations.specs.{Commands.Command, Commands.Scan, Commands.whole_of, Kinds.IsToss, Nets.with_indexes, Disks.Disks, OnDisks.IsAsBefore, OnDisks.TossesAsEvent, Scans.ScansAsEvent, Asked.GoesOnCut, Asked.GoesOnEnded, Asked.IsKeptWhereShared, Seats.Seat, Seats.RepresentsSeat, Steps.HasEnded, Steps.IsAllOnDisk}
+use Rattle.law_stations.specs.{Commands.Command, Commands.Scan, Commands.whole_of, Kinds.IsToss, Nets.with_indexes, Disks.Disks, OnDisks.IsAsBefore, OnDisks.TossesAsEvent, Scans.AreAfterScan, Scans.ScansAsEvent, Asked.GoesOnCut, Asked.GoesOnEnded, Asked.IsKeptWhereShared, Seats.Seat, Seats.RepresentsSeat, Steps.HasEnded, Steps.IsAllOnDisk}
 
 -- The packets that a toss tossed whole are delivered.
 pub record GoesOnTossed {Kept : Type 0} (place : Kept → Place) (seats : List (Seat Kept)) (seat : Seat Kept) (i : ℕ) (indexes : List ℕ) (answer : Option Fault) (left : List Coming) (d : Disks) (old new : DiskState) : Type 0 where
@@ -23,12 +24,19 @@ TossesGoOn {D} {Kept} state place = (seats : List (Seat Kept)) (seat : Seat Kept
 abbrev pub IsScan : Stamp → Command → Type 0
 IsScan stamp command = command ≡ Scan stamp
 
--- If a crash cuts a scan, or if the scan ends well, the net goes on by its command event. If the station is unchanged, as
--- after a fault, the net goes on by no event.
-pub record ScanGoesOn {D Kept : Type 0} (state : D → DiskState) (place : Kept → Place) (seats : List (Seat Kept)) (seat : Seat Kept) (i : ℕ) (stamp : Stamp) (d : Disks) (old whole : D) (result : Result (Unit {0}) ScanError) : Type 0 where
+-- The files have the packets of the scan as the net has them after it: at their paths, or waiting at their staging paths.
+abbrev pub HavePackets : Stamp → Place → List ℕ → List ℕ → ℕ → Disks → Disks → Base → Files → Disks → Type 0
+HavePackets stamp place links outbound i d ended base c next = (after : AreAfterScan stamp place links outbound i d ended base c) × (after.after ≡ next)
+
+-- If a crash cuts a scan, or if the scan ends well, the net goes on by its command event, and the files have its packets.
+-- If the station is unchanged, as after a fault, the net goes on by no event.
+pub record ScanGoesOn {D Kept : Type 0} (state : D → DiskState) (place : Kept → Place) (seats : List (Seat Kept)) (seat : Seat Kept) (i : ℕ) (stamp : Stamp) (d ended : Disks) (base : Base) (old whole : D) (result : Result (Unit {0}) ScanError) : Type 0 where
   pub cut : (begun : D) → (state whole).left_since (state old).moment (state begun).seen → IsAllOnDisk (state begun)
-      → GoesOnCut (IsScan stamp) place seat i d (state old) (state whole) (state begun)
-  pub ended : result ≡ Ok tt → IsKeptWhereShared place seats seat i (state whole) → GoesOnEnded (IsScan stamp) place seats seat i d (state old) (state whole)
+      → (goes : GoesOnCut (IsScan stamp) place seat i d (state old) (state whole) (state begun))
+      × ((goes.command ≡ None) ⊎ HavePackets stamp (place seat.kept) seat.links seat.outbound i d ended base (state begun).seen goes.next)
+  pub ended : result ≡ Ok tt → IsKeptWhereShared place seats seat i (state whole)
+      → (goes : GoesOnEnded (IsScan stamp) place seats seat i d (state old) (state whole))
+      × HavePackets stamp (place seat.kept) seat.links seat.outbound i d ended base (state whole).seen goes.next
   pub none : IsAsBefore (place seat.kept) seat.links i d (state whole) → IsKeptWhereShared place seats seat i (state whole)
       → HasEnded place seats seat i None d d (state old) (state whole)
 
@@ -36,4 +44,4 @@ abbrev pub ScansGoOn : {D Kept : Type 0} → (D → DiskState) → (Kept → Pla
 ScansGoOn {D} {Kept} state place = (seats : List (Seat Kept)) (seat : Seat Kept) (i : ℕ) (stamp : Stamp) (d ended : Disks) (old whole : D) (result : Result (Unit {0}) ScanError)
     → (represented : RepresentsSeat place seats i seat (state old) d)
     → ScansAsEvent stamp (place seat.kept) seat.links seat.outbound i d ended represented.at.shows.station.base (state old) (state whole) result
-    → ScanGoesOn state place seats seat i stamp d old whole result
+    → ScanGoesOn state place seats seat i stamp d ended represented.at.shows.station.base old whole result

@@ -1,4 +1,4 @@
--- Steps at stations: commands that end or that a crash cuts, and crashes between commands.
+-- Steps at stations: commands that end or that a crash cuts, crashes between commands, and changes by others.
 use Rattle.std.specs.Prelude.{◌≡◌, ℕ, List, [], ◌∷◌, Option, Some, None}
 use Rattle.disk_io.specs.Disk.{DiskState}
 use Rattle.model_run.specs.Run.{change, nth}
@@ -6,11 +6,13 @@ use Rattle.station.specs.Place.{Place}
 use Rattle.law_stations.specs.{Commands.Command, Commands.CommandEvent, Disks.Disks, Stopping.PartialEffect, OnDisks.LeavesElsewhere, OnDisks.ShowsStation, Seats.Seat, Seats.RepresentsSeat, Seats.reach}
 
 -- A command at a station ends. Or a crash cuts it; without the crash it would have led to this disk. Or there is a crash
--- between commands. `None` is a command without an effect.
+-- between commands. Or others change the disk, as a mailer that takes packets away and brings some. `None` is a command
+-- without an effect.
 pub data Happening (D : Type 0) : Type 0 where
   Ends : (station : ℕ) (command : Option Command) → Happening D
   IsCut : (station : ℕ) (command : Option Command) (whole : D) → Happening D
   Crashes : Happening D
+  OthersChange : Happening D
 
 -- The possible effects of the command.
 abbrev pub MayLead : Option Command → ℕ → Disks → Disks → Type 0
@@ -57,12 +59,17 @@ pub record IsOn {Kept : Type 0} (seats : List (Seat Kept)) (number i : ℕ) (sea
   pub there : nth i seats ≡ Some seat
   pub on : seat.disk ≡ number
 
+-- Others changed the disk, and left the link file and the base of each station on it.
+abbrev pub WereOthers : {Kept : Type 0} → (Kept → Place) → List (Seat Kept) → ℕ → Disks → DiskState → DiskState → Type 0
+WereOthers {Kept} place seats number d old then = (i : ℕ) (seat : Seat Kept) → IsOn seats number i seat → RepresentsSeat place seats i seat old d → RepresentsSeat place seats i seat then d
+
 -- The net goes from these disks to the next by an event on the disk with the number.
 abbrev pub GoesBy : {D Kept : Type 0} → (D → DiskState) → (Kept → Place) → List (Seat Kept) → ℕ → Happening D → Disks → Disks → DiskState → DiskState → Type 0
 GoesBy state place seats number (Ends i command) d next old then = (seat : Seat _) × IsOn seats number i seat × HasEnded place seats seat i command d next old then
 GoesBy state place seats number (IsCut i command whole) d next old then =
     (seat : Seat _) × IsOn seats number i seat × WasCut place seat i command d next old (state whole) then
 GoesBy state place seats number Crashes d next old then = (next ≡ d) × HasCrashed old then
+GoesBy state place seats number OthersChange d next old then = (next ≡ d) × WereOthers place seats number d old then
 
 -- The net goes so by a step.
 pub record Goes {D Kept : Type 0} (state : D → DiskState) (place : Kept → Place) (seats : List (Seat Kept)) (step : Step D) (disks : List D) (d next : Disks) : Type 0 where
@@ -89,6 +96,7 @@ abbrev pub commands_by : {D : Type 0} → Happening D → List CommandEvent → 
 commands_by (Ends i command) later = with_command i command later
 commands_by (IsCut i command whole) later = with_command i command later
 commands_by Crashes later = later
+commands_by OthersChange later = later
 
 abbrev pub commands_of : {D : Type 0} → List (Step D) → List CommandEvent
 commands_of [] = []

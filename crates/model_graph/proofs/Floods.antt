@@ -185,7 +185,7 @@ reached_by links without root old levels fresh apart f (suc m) b e =
           ]
     ]
 
--- and each walk that does not pass the member left out meets members with levels that rise by one at most
+-- each walk that does not pass the member left out meets members with levels that rise by one at most
 levels_along : (links : ℕ → ℕ → Bool) (without : ℕ) (levels : List (Option ℕ)) → IsSettledFlood links without levels → (rest : List ℕ) (a b m : ℕ) → level_of levels a ≡ Some m → Walk links a rest b → ¬ Among without rest → (n : ℕ) × (level_of levels b ≡ Some n) × (n ≤ m + length rest)
 levels_along links without levels s [] a b m e same clear = (m, ap (level_of levels) (sym same) ∙ e, omega arith)
 levels_along links without levels s (c ∷ rest) a b m e walk clear =

@@ -12,8 +12,8 @@ use std::alloc::{AllocError, Global};
 pub struct Pieces {
     /// The first member of each part, ascending.
     pub parts: Vec<usize>,
-    /// The loop of each block that has one: the loop that `loop_of` would name if the graph had this
-    /// block alone. They come by their first pinches, ascending.
+    /// The loop of each block that has one: the loop of `loop_of` for the graph of this block alone. They come by
+    /// their first pinches, ascending.
     pub loops: Vec<Vec<usize>>,
 }
 

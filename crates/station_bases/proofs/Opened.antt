@@ -17,7 +17,7 @@ use Rattle.station_bases.specs.Reading.{IsFileShut, IsSettled, IsShutFor, IsUnre
 -- the base in the bytes of an existing file
 pub given_by : (f : Option (List ℕ)) (messages : List Filed) (cursor : ℕ) → IsSome f → IsBaseGiven (Some (bytes_in f)) messages cursor → IsBaseGiven f messages cursor
 given_by (Some bytes) messages cursor some given = given
-given_by None messages cursor some given = absurd some
+given_by None messages cursor some given = grind arith
 
 -- a file has one base
 one_given : (f : Option (List ℕ)) (a b : Base) → IsBaseGiven f a.messages a.cursor → IsBaseGiven f b.messages b.cursor → a ≡ b
@@ -39,7 +39,7 @@ read_since d0 d1 disk path held quiet read = record {
 }
 
 -- a base in memory
-pub read_whole : {S T : Type 0} (d0 d1 disk : DiskState) (path : List ℕ) (base : Base) → ChangesNothing d0 d1 → RepresentsInFile path base d1.seen → IsReadAs d0.seen disk path (Whole {S} {T} base)
+pub read_whole : {S T : Type 0} (d0 d1 disk : DiskState) (path : List ℕ) (base : Base) → ChangesNothing d0 d1 → RepresentsInFile path base d1.seen → IsReadAs {S = S} {T = T} d0.seen disk path (Whole base)
 read_whole d0 d1 disk path base quiet represented = record {
   base = base;
   represented = subst (λ (f : Option (List ℕ)). IsBaseGiven f base.messages base.cursor) (quiet.seen path) represented;

@@ -1,7 +1,7 @@
 -- The packets of a pass as the files of a scan.
 use Rattle.std.proofs.Common.{◌≡◌, inl, inr, ⊎_elim, ◌∙◌, ℕ, List, [], ◌∷◌, map, refl, sym, subst, ap, append_assoc, arith}
 use Rattle.std.proofs.lemmas.List.Elements.{All-contains, All-map}
-use Rattle.std.specs.Prelude.{All, Contains}
+use Rattle.std.specs.Prelude.{All, Contains, None}
 use Rattle.base_file.specs.Base.{Base}
 use Rattle.disk_io.specs.Disk.{DiskState, Files}
 use Rattle.disk_atomic.specs.{ListStaged.IsNameByte, Naming.HasItsPath, Naming.IsWholeAtEither, Outgoing.IsAtStaging, Outgoing.IsFree, Outgoing.SendsBytes, declared.outgoing.Outgoing.Outgoing}

@@ -8,7 +8,7 @@ use Rattle.cmd_store.specs.declared.command_error.CommandError.{CommandError}
 use Rattle.model_steps.specs.PacketFiles.{PacketFile}
 use Rattle.station_scan.specs.Scanning.{AreSentOut, CommitsScan, IsTaken, PreparesScan, SendsOut, StopsScan}
 use Rattle.station_scan.specs.{Left.IsLeftOf, Publishing.IsOnDisk, declared.scan_error.ScanError.ScanError, declared.scan_error.ScanError.TheVariants.Staying}
-use Rattle.station_scan.proofs.{Lefts.finishes_none, Stops.put_wider}
+use Rattle.station_scan.proofs.{Lefts.finishes_none, Stops.put_wider, Stops.tells_as}
 
 -- the same files are seen
 pub same_seen : (a b : DiskState) → ChangesNothing a b → b.seen ≡ a.seen
@@ -78,6 +78,9 @@ looked_out Own outbound own Stays Comes Stayed Came cursor files d0 d1 d2 quiet 
           (looked_sent Own outbound own Stays Comes Stayed Came cursor files d0 d1 d2 quiet stays comes stood found (IsTrue d1.seen) result sends.sent);
       crash = looked_moments Own outbound own Stays Comes Stayed Came cursor files d0 d1 d2 quiet stays comes stood found sends.crash;
       why = put_wider some failed _ _ _ result wider (λ taken. subst (IsTaken Own outbound own cursor found files) seen taken) sends.why;
+      left =
+          tells_as _ _ _ _ _ _ _ _ (stays d2.seen) (λ none m at other. ⊎_elim (λ gone. inl gone) (λ same. inr (same ∙ quiet.seen m)) (none m at other))
+          (comes d2.seen) (λ all. all) result sends.left;
     }
 
 -- or the scan stopped

@@ -5,7 +5,7 @@ use Rattle.std.specs.Prelude.{All, IfErr, IsErrOf, None, OnOk}
 use Rattle.base_file.specs.Base.{Base}
 use Rattle.disk_io.specs.{Disk.DiskState, Disk.Files, Runs.ChangesNothing}
 use Rattle.disk_io.proofs.Moments.{then_nothing, weaker_run}
-use Rattle.disk_atomic.specs.{StagingPaths.dotted, StagingPaths.staging_path, ListStaged.IsNameByte, declared.finishing.Left.Left, declared.placing_error.PlacingError.PlacingError}
+use Rattle.disk_atomic.specs.{Finishing.IsOfLeft, StagingPaths.dotted, StagingPaths.staging_path, ListStaged.IsNameByte, declared.finishing.Left.Left, declared.placing_error.PlacingError.PlacingError}
 use Rattle.disk_atomic.specs.declared.placing_error.PlacingError.TheVariants as placing
 use Rattle.cmd_status.specs.Devices.{Output}
 use Rattle.cmd_store.specs.{Scanned.ScansOn, Stops.store_answer, declared.command_error.CommandError.CommandError}
@@ -16,7 +16,7 @@ use Rattle.base_store.specs.declared.store_error.StoreError.TheVariants as error
 use Rattle.station.specs.Beneath.{IsUsedAt}
 use Rattle.station_scan.specs.Moved.{IsMoved, IsPutFrom, ScansFrom, StopsFrom, ReportsFrom, files_reported, from_number, left_cause, left_reported, reported_as}
 use Rattle.station_scan.specs.Scanning.{IsPutOn, IsTaken, ScansOnStore, SendsOut, StopsScan, TriesOn, packets_in}
-use Rattle.station_scan.specs.{Fitting.AreTaken, Left.AreFreeLeft, Left.EndsLeft, Left.IsLeftOf, Left.IsOfNameOff, Sending.IsStagingOfPacket, Sends.WasTriedFor}
+use Rattle.station_scan.specs.{Fitting.AreTaken, Left.AreFreeLeft, Left.EndsLeft, Left.IsLeftOf, Left.IsOfNameOff, Sending.IsStagingOfPacket, Sends.IsLeftAs, Sends.WasTriedFor}
 use Rattle.station_scan.specs.{Stops.IsOfPlacing, Stops.most, declared.pieces.Source.Source, declared.scan_error.ScanError.ScanError}
 use Rattle.station_scan.specs.declared.{scan_error.ScanError.TheVariants.Command, scan_error.ScanError.TheVariants.Placing, scan_error.ScanError.TheVariants.Staying, sending.Sending.Sending}
 use Rattle.station_scan.proofs.Outs.{is_ended, not_sent, sends_out, stopped_crash, stopped_only}
@@ -126,7 +126,7 @@ module _ (Own : List ℕ → Type 0) (to : Sending) (own_is : to.own.now ≡ dot
           sent = tt;
           crash = then_nothing s0.disk s1.disk s2.disk _ before.crash quiet;
           why = before.why;
-          left = tells_none _ _ _ _ (Placing cause) left_shown (λ m at other. inr (quiet.seen m ∙ ends.changes.seen m other));
+          left = subst (λ (f : Files). IsLeftAs outbound own (s0.represented base) (s0.represented (all_scanned base)) (IsOfLeft before.found) packets s0.disk.seen f (Placing cause)) (sym (same_seen s1.disk s2.disk quiet)) before.left;
         }
 
     left_why : (stop : CommandError) → (IsErrOf (store_answer {A = Unit {0}} (Err stop)) error.Device → failed) → (why : PlacingError) → why ≡ cause → IsOfPlacing failed ⊥ ⊥ (Staying (left_cause why stop))

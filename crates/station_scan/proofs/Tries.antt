@@ -1,5 +1,5 @@
 -- That a scan tries whether a file gets a second path.
-use Rattle.std.proofs.Common.{◌⊎◌, inl, inr, ℕ, List, Result, Ok, Err, arith}
+use Rattle.std.proofs.Common.{◌⊎◌, ◌∙◌, inl, inr, ℕ, List, Result, Ok, Err, arith}
 use Rattle.std.specs.Prelude.{OnOk}
 use Rattle.base_file.specs.Base.{Base}
 use Rattle.disk_io.specs.{Disk.DiskState, Disk.Files, Runs.ChangesNothing}
@@ -38,7 +38,19 @@ module _ {D : Type 0} (state : D → DiskState) (stamp : Stamp) (place : Place) 
   tried_open base shown files (inl none) = inl none
   tried_open base shown files (inr was) =
       let own = dotted file.system in
-      inr (tried_after state (IsOfNameOff Own outbound own) (IsTouched place.is_own outbound) (staging_path outbound own) d0 s1.disk (λ m is. inr (own, is.0)) (λ m off. of.elsewhere.seen m (λ o. off (inl o))) was, tried_shown base shown own was)
+      inr (
+        record {
+          from = was.from;
+          before = was.before;
+          after = was.after;
+          free = was.free;
+          given = was.given;
+          stays = was.stays;
+          at_once = was.at_once;
+          elsewhere = λ m off. was.elsewhere m (λ is. off (inr (own, is.0))) ∙ of.elsewhere.seen m (λ o. off (inl o));
+        },
+        tried_shown base shown own was,
+      )
 
   tries_in : (base : Base) → s1.represented base s1.disk.seen → TriesOn state stamp Own outbound s1 s2 out now file base
       → ((c : Files) → d2.may_leave c → place.represents base c)

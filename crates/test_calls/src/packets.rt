@@ -45,7 +45,7 @@ impl<'a> StreamPackets<'a> for Nothing {
     fn tell(&self, _number: usize) {}
 }
 
-/// It is held whole if it is cut before its size is known or after it was read, and never with other bytes.
+/// A packet is held whole if it is cut before its size is known or after it was read, and never with other bytes.
 #[test]
 fn a_packet_that_is_cut_is_not_filled_up(rt: HostRuntime) -> Result<(), Fail> {
     let alloc = rt.alloc();
