@@ -1,17 +1,16 @@
 -- A new message of a checked area is in order, from any state of a net of stations on.
-use Rattle.std.proofs.Common.{◌≡◌, inl, inr, refl, sym, subst, ap, ◌∙◌, ℕ, ◌≤◌, List, [], ◌∷◌, length, map, Option, Some, None, Ok, arith}
-use Rattle.std.specs.{Prelude.Bool, Prelude.IsTrue, Prelude.true, Prelude.is_none, List.AllByRecursion}
-use Rattle.cmd_status.specs.{Devices.Output, declared.fault.Fault.Fault, declared.status.Status.TheVariants.Good, Inputs.AreLinkFiles}
-use Rattle.model_graph.specs.Walk.{Among, Different}
+use Rattle.std.proofs.Common.{◌≡◌, inl, inr, refl, sym, subst, ap, ◌∙◌, ℕ, ◌≤◌, List, [], ◌∷◌, length, map, Option, Some, None, arith}
+use Rattle.std.specs.{Prelude.IsTrue, Prelude.true, Prelude.is_none, List.AllByRecursion}
+use Rattle.cmd_status.specs.{Inputs.AreLinkFiles}
+use Rattle.model_graph.specs.{Walk.Among, Walk.Different, Cycle.Polygons}
 use Rattle.echo_packet.specs.Message.{HasNoZero, IsMessage, Message}
 use Rattle.echo_links.specs.Links.{LinkFile, has_area, upper}
 use Rattle.echo_filed.specs.{declared.key.Key.Key, Filed.Filed, Filed.key_of}
 use Rattle.base_file.specs.Base.{Base, IsBase}
 use Rattle.model_steps.specs.declared.packet.Packet.{Packet}
-use Rattle.model_run.specs.{Orderly.FiledUnchanged, Orderly.SameContent, Orderly.count, Orderly.sent_count, Orderly.tag_of, AnyState.HasSettled, AnyState.IsNew, AnyState.IsOrderly, Run.Run, Run.System, Run.after_events, Run.nth, States.IsState, Tidy.Tidy}
-use Rattle.model_run.proofs.{Lists.nth-among, Lists.Among-filter_from, Lists.Among-filter_to, Lists.Among-flat_map_from, Lists.Among-flat_map_to, AnyState.new-orderly, HarmLists.among-nth, States.any-state, States.later-state, TosserLaws.the_laws}
-use Rattle.cmd_check.specs.Checking.{CheckAnswers}
-use Rattle.law_stations.specs.{AnyNets.HeadlineFromAnyState, AnyNets.IsNewTo, AnyNets.IsSomeNet, AnyNets.KeyInOrder, AnyNets.KeyIsSettled, AnyNets.links_at, AnyNets.net_at, AnyNets.own_of, Agreement.Agrees, Agreement.HasSystem, Agreement.IsPacketFile, Agreement.file_address, Commands.CommandEvent, Commands.Happen, InOrder.HasUnchanged, InOrder.IsUnchanged, InOrder.ReadsAs, Nets.Net, Nets.Paired, Nets.Station}
+use Rattle.model_run.specs.{Orderly.FiledUnchanged, Orderly.SameContent, Orderly.count, Orderly.sent_count, Orderly.tag_of, AnyState.HasSettled, AnyState.IsNew, AnyState.IsNotLost, AnyState.IsOrderly, Run.Run, Run.System, Run.after_events, Run.nth, States.IsState, Tidy.Joined, Tidy.Tidy, Tidy.lists}
+use Rattle.model_run.proofs.{Lists.nth-among, Lists.Among-filter_from, Lists.Among-filter_to, Lists.Among-flat_map_from, Lists.Among-flat_map_to, AnyState.new-not_lost, AnyState.new-orderly, HarmLists.among-nth, States.any-state, States.later-state, TosserLaws.the_laws}
+use Rattle.law_stations.specs.{AnyNets.HeadlineFromAnyState, AnyNets.IsNewTo, AnyNets.IsSomeNet, AnyNets.KeyInOrder, AnyNets.KeyIsNotLost, AnyNets.KeyIsSettled, AnyNets.links_at, AnyNets.net_at, AnyNets.own_of, Agreement.Agrees, Agreement.HasSystem, Agreement.IsPacketFile, Agreement.file_address, Commands.CommandEvent, Commands.Happen, InOrder.HasUnchanged, InOrder.IsUnchanged, InOrder.ReadsAs, Nets.Net, Nets.Paired, Nets.Station}
 use Rattle.law_stations.proofs.{EachEvent.LedAll, EachEvent.led-all, Headline.all-read, Headline.checked, Moving.nth-middle, Pairs.paired-among, Pairs.paired-back, Places.addresses-of, Sound.reads, Sound.represented, Systems.file-fits, Systems.says-so, Unpurged.kept-where}
 
 -- a system of each station; what its base has counts as filed
@@ -31,7 +30,7 @@ systems-pair (station ∷ stations) [] are bases = absurd are
 systems-pair (station ∷ stations) (file ∷ files) are bases =
     (record { links = are.0; base = refl; is_base = bases station (inl refl) }, systems-pair stations files are.1 (λ s h. bases s (inr h)))
 
-systems-files : (stations : List Station) (files : List LinkFile) → AreLinkFiles (links_at stations) files → map (λ (s : System). s.file) (systems_of files stations) ≡ files
+pub systems-files : (stations : List Station) (files : List LinkFile) → AreLinkFiles (links_at stations) files → map (λ (s : System). s.file) (systems_of files stations) ≡ files
 systems-files [] [] are = refl
 systems-files [] (file ∷ files) are = absurd are
 systems-files (station ∷ stations) [] are = absurd are
@@ -54,7 +53,7 @@ packed-plain limit (m ∷ ms) all q i =
     ]
 
 module _ (stations : List Station) (packets : List (List ℕ)) (some : IsSomeNet stations packets) (files : List LinkFile) (are : AreLinkFiles (links_at stations) files) where
-  abbrev first : Run
+  abbrev pub first : Run
   first = record { systems = systems_of files stations; packets = some.read_as; delivered = [] }
 
   pairs : Paired HasSystem stations first.systems
@@ -78,7 +77,7 @@ module _ (stations : List Station) (packets : List (List ℕ)) (some : IsSomeNet
   is-none : {X : Type 0} (o : Option X) → is_none o ≡ true → o ≡ None
   is-none o e = grind arith
 
-  begins : Agrees (net_at stations packets) first
+  pub begins : Agrees (net_at stations packets) first
   begins = record {
     stations = pairs;
     packets = some.files;
@@ -103,7 +102,7 @@ module _ (stations : List Station) (packets : List (List ℕ)) (some : IsSomeNet
         (Among-filter_to (λ n. is_none n.sender) m station.base.messages in_base (none-is m.sender posting.own));
   }
 
-  state : IsState first
+  pub state : IsState first
   state = any-state the_laws first
       (λ s h. (let (station, there, has) = station-of s h in file-fits station.links s.file has.links))
       (λ s h. (let (station, there, has) = station-of s h in has.is_base))
@@ -149,11 +148,11 @@ module _ (stations : List Station) (packets : List (List ℕ)) (some : IsSomeNet
           (m, subst P (keeps (λ t there. sym (systems-filed stations files t (nth-among i t first.systems there))) s at) h, refl, λ posting same. inl same))
     ]
 
-    module _ (tag : List ℕ) (tidy : Tidy files tag) (key : Key) (of_area : tag_of key ≡ tag) (is_new : IsNewTo stations packets key) where
-      orderly : IsOrderly run tag key
-      orderly =
-          let P : List LinkFile → Type 0 = λ fs. Tidy fs tag in
-          new-orderly the_laws first tag state.0 state.1 (subst P (sym (systems-files stations files are)) tidy) key of_area (new key is_new) led.events
+    module _ (tag : List ℕ) (joined : Joined files tag) (key : Key) (of_area : tag_of key ≡ tag) (is_new : IsNewTo stations packets key) where
+      lost : IsNotLost run tag key
+      lost =
+          let P : List LinkFile → Type 0 = λ fs. Joined fs tag in
+          new-not_lost the_laws first tag state.0 state.1 (subst P (sym (systems-files stations files are)) joined) key of_area (new key is_new) led.events
 
       settled : KeyIsSettled net key → HasSettled run key
       settled is = record {
@@ -176,11 +175,26 @@ module _ (stations : List Station) (packets : List (List ℕ)) (some : IsSomeNet
             kept posting (is.unchanged filed was (sym same_key ∙ e));
       }
 
-      pub in-order : KeyInOrder commands net tag key
-      in-order = record {
+      pub not-lost : KeyIsNotLost commands net tag key
+      not-lost = record {
         filed_once = λ i file messages cursor holds.
             let at = represented net run led.agrees i file messages cursor holds in
-            at.same (λ f ms c. count key ms ≤ 1) (orderly.filed_once at.s at.among);
+            at.same (λ f ms c. count key ms ≤ 1) (lost.filed_once at.s at.among);
+        no_others = λ read paired i file messages cursor holds without.
+            let at = represented net run led.agrees i file messages cursor holds in
+            let P : List Packet → Type 0 = λ ps. (sent_count file.system key ps ≡ 0) × (count key messages ≡ 0) in
+            subst P (sym (all-read net.packets run.packets read led.agrees.packets paired))
+            (at.same (λ f ms c. (¬ IsTrue (has_area f tag)) → (sent_count f.system key run.packets ≡ 0) × (count key ms ≡ 0)) (lost.no_others at.s at.among) without);
+        all_came = λ is posting among_postings e i file messages cursor holds has.
+            let at = represented net run led.agrees i file messages cursor holds in
+            let (f, at_f, posted) = led.agrees.postings posting among_postings in
+            at.same (λ f ms c. IsTrue (has_area f tag) → HasUnchanged commands i ms c posting) (λ has_tag. unchanged i at.s at.at posting
+            (lost.all_came (settled is) f at_f posting posted.filed posted.own e at.s at.among has_tag)) has;
+      }
+
+      pub in-order : Polygons (lists files tag) → KeyInOrder commands net tag key
+      in-order cycles = record {
+        filed_once = not-lost.filed_once;
         sent_once = λ read paired i file messages cursor holds.
             let at = represented net run led.agrees i file messages cursor holds in
             let P : List Packet → Type 0 = λ ps. sent_count file.system key ps ≤ 1 in
@@ -191,30 +205,25 @@ module _ (stations : List Station) (packets : List (List ℕ)) (some : IsSomeNet
             let P : List Packet → Type 0 = λ ps. sent_count file.system key ps ≡ 0 in
             subst P (sym (all-read net.packets run.packets read led.agrees.packets paired))
             (at.same (λ f ms c. Among m ms → sent_count f.system key run.packets ≡ 0) (λ there. orderly.never_own at.s at.among m there own e) in_it);
-        no_others = λ read paired i file messages cursor holds without.
-            let at = represented net run led.agrees i file messages cursor holds in
-            let P : List Packet → Type 0 = λ ps. (sent_count file.system key ps ≡ 0) × (count key messages ≡ 0) in
-            subst P (sym (all-read net.packets run.packets read led.agrees.packets paired))
-            (at.same (λ f ms c. (¬ IsTrue (has_area f tag)) → (sent_count f.system key run.packets ≡ 0) × (count key ms ≡ 0)) (orderly.no_others at.s at.among) without);
-        all_came = λ is posting among_postings e i file messages cursor holds has.
-            let at = represented net run led.agrees i file messages cursor holds in
-            let (f, at_f, posted) = led.agrees.postings posting among_postings in
-            at.same (λ f ms c. IsTrue (has_area f tag) → HasUnchanged commands i ms c posting) (λ has_tag. unchanged i at.s at.at posting
-            (orderly.all_came (settled is) f at_f posting posted.filed posted.own e at.s at.among has_tag)) has;
+        no_others = not-lost.no_others;
+        all_came = not-lost.all_came;
       }
+        where
+          orderly : IsOrderly run tag key
+          orderly =
+              let P : List LinkFile → Type 0 = λ fs. Tidy fs tag in
+              new-orderly the_laws first tag state.0 state.1 (subst P (sym (systems-files stations files are)) (record { joined = joined; cycles = cycles })) key of_area
+              (new key is_new) led.events
 
 pub headline-from-any-state : HeadlineFromAnyState
 headline-from-any-state nodelist more tag stations packets stopped old new good some key of_area is_new commands net happen =
     let (files, are, tidy) = checked nodelist more tag (links_at stations) stopped old new good in
-    in-order stations packets some files are tidy.joined.one_file commands net happen (upper tag) tidy key of_area is_new
+    in-order stations packets some files are tidy.joined.one_file commands net happen (upper tag) tidy.joined key of_area is_new tidy.cycles
 
-pub packets-read : (nodelist : Option (List ℕ)) (more : Bool) (tag : List ℕ) (stations : List Station) (packets : List (List ℕ)) (stopped : Option Fault) (old new : Output)
-    → CheckAnswers nodelist more tag (links_at stations) stopped old new (Ok Good) → IsSomeNet stations packets
-    → (commands : List CommandEvent) (net : Net) → Happen commands (net_at stations packets) net → (ps : List Packet) × Paired ReadsAs net.packets ps
-packets-read nodelist more tag stations packets stopped old new good some commands net happen =
-    let (files, are, tidy) = checked nodelist more tag (links_at stations) stopped old new good in
-    let l = led stations packets some files are tidy.joined.one_file commands net happen in
-    (ps-of net (run stations packets some files are tidy.joined.one_file commands net happen) l.agrees)
+pub packets-read : (stations : List Station) (packets : List (List ℕ)) → IsSomeNet stations packets → (files : List LinkFile) → AreLinkFiles (links_at stations) files
+    → Different (map file_address files) → (commands : List CommandEvent) (net : Net) → Happen commands (net_at stations packets) net → (ps : List Packet) × Paired ReadsAs net.packets ps
+packets-read stations packets some files are apart commands net happen =
+    ps-of net (run stations packets some files are apart commands net happen) (led stations packets some files are apart commands net happen).agrees
   where
     each : (files : List (List ℕ)) (ps : List Packet) → Paired IsPacketFile files ps → Paired ReadsAs files ps
     each [] [] is = tt

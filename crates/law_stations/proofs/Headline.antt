@@ -9,7 +9,7 @@ use Rattle.cmd_check.specs.Checking.{CheckAnswers}
 use Rattle.law_stations.specs.{Agreement.IsPacketFile, Agreement.limits_of, InOrder.ReadsAs, Nets.Paired}
 use Rattle.law_stations.proofs.Readings.{one-packet}
 
-read-once : (bytes : List ℕ) (p q : Packet) → IsPacketFile bytes p → ReadsAs bytes q → q ≡ p
+pub read-once : (bytes : List ℕ) (p q : Packet) → IsPacketFile bytes p → ReadsAs bytes q → q ≡ p
 read-once bytes p q is (limits, other) =
     let one = one-packet (limits_of bytes) limits p.header q.header p.messages q.messages bytes bytes [] is.packet other (sym (append-nil bytes)) in
     λ i. record { header = one.0 i; messages = one.1 i }

@@ -14,6 +14,7 @@ pub mod Sound
 pub mod Headline
 pub mod AnyNets
 pub mod AnyDisks
+pub mod Repairs
 pub mod AnyReader
 pub mod Counting
 pub mod Tracking

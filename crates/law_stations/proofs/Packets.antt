@@ -10,7 +10,7 @@ use Rattle.echo_links.specs.Links.{IsFile, LinkFile, links_of}
 use Rattle.echo_filed.specs.{Filed.Filed, Filed.IsFiled, Sets.address_before, Sets.address_set}
 use Rattle.echo_filed.proofs.{Bytes.text_no_zero, Plain.all_append, Sets.set_all}
 use Rattle.base_file.specs.Base.{IsBase}
-use Rattle.model_steps.specs.{Scanning.copy_to, Scanning.goes_to, Scanning.header_to, Scanning.packet_to, Scanning.packets_of, Scanning.recipients, Scanning.scanned, Scanning.targets, declared.stamp.Stamp.Stamp, PacketFiles.PacketFile}
+use Rattle.model_steps.specs.{Scanning.copy_to, Scanning.goes_to, Scanning.header_to, Scanning.packet_to, Scanning.packets_of, Scanning.recipients, Scanning.scanned, Scanning.targets, declared.packet.Packet.Packet, declared.stamp.Stamp.Stamp, PacketFiles.PacketFile}
 use Rattle.model_steps.proofs.Copies.{exported_is_echo, links_are_addresses, all_filter as all-filter, all_later as all-drop}
 use Rattle.model_steps.proofs.Encoding.{IsWhole, written_packet, header_size as header-long}
 use Rattle.cmd_store.specs.PacketLines.{file_sent}
@@ -70,21 +70,27 @@ zone-named : (file : LinkFile) (stamp : Stamp) (address : Address) → IsAddress
 unfolding header_to
 zone-named file stamp address to = λ e. let least = to.zone.0 in omega (arith, e, least)
 
--- the packet to an address
+-- a packet of copies to an address
+pub copies-packet : (file : LinkFile) (stamp : Stamp) (address : Address) → IsFile file → IsAddress address → (ms : List Filed) → AllByRecursion IsFiled ms
+    → (let p : Packet = record { header = header_to file stamp address; messages = map (copy_to file address) ms } in
+    AreBytes (packet_bytes p.header p.messages) → IsPacketFile (packet_bytes p.header p.messages) p)
+copies-packet file stamp address fits to ms all bytes =
+    let header = header_to file stamp address in
+    let copies = map (copy_to file address) ms in
+    let front = bytes-front (header_bytes header) (messages_bytes copies ++ word 0) bytes in
+    let middle = bytes-front (messages_bytes copies) (word 0) (bytes-behind (header_bytes header) (messages_bytes copies ++ word 0) bytes) in
+    record {
+      packet = written_packet (length (packet_bytes header copies)) header copies (packet_bytes header copies) (header-fits file stamp address front)
+          (copies-fit file address fits to ms all middle) refl (omega arith);
+      zone = zone-named file stamp address to;
+    }
+
+-- the packet of a scan to an address
 packet-fits : (file : LinkFile) (stamp : Stamp) (waiting : List Filed) (address : Address) → IsFile file → IsAddress address → AllByRecursion IsFiled waiting
     → (let p = packet_to file stamp waiting address in AreBytes (packet_bytes p.header p.messages) → IsPacketFile (packet_bytes p.header p.messages) p)
 unfolding packet_to
 packet-fits file stamp waiting address fits to all bytes =
-    let header = header_to file stamp address in
-    let some = filter (goes_to file address) waiting in
-    let ms = map (copy_to file address) some in
-    let front = bytes-front (header_bytes header) (messages_bytes ms ++ word 0) bytes in
-    let middle = bytes-front (messages_bytes ms) (word 0) (bytes-behind (header_bytes header) (messages_bytes ms ++ word 0) bytes) in
-    record {
-      packet = written_packet (length (packet_bytes header ms)) header ms (packet_bytes header ms) (header-fits file stamp address front)
-          (copies-fit file address fits to some (all-filter IsFiled (goes_to file address) waiting all) middle) refl (omega arith);
-      zone = zone-named file stamp address to;
-    }
+    copies-packet file stamp address fits to (filter (goes_to file address) waiting) (all-filter IsFiled (goes_to file address) waiting all) bytes
 
 -- all packets
 packets-fit : (file : LinkFile) (stamp : Stamp) (waiting : List Filed) (n : ℕ) → IsFile file → AllByRecursion IsFiled waiting → (addresses : List Address)

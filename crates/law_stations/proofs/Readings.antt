@@ -2,7 +2,6 @@
 use Rattle.std.proofs.Common.{◌≡◌, ◌⊎◌, inl, inr, sym, ◌∙◌, ℕ, ◌+◌, ◌≤◌, arith, append-nil, append_assoc, List, [], ◌∷◌, ◌++◌, length, take, Option, Some, None, Result, Ok, Err}
 use Rattle.std.specs.List.{AllByRecursion}
 use Rattle.echo_packet.specs.{declared.header.Header.Header, declared.limits.Limits.Limits, Header.header_bytes, Header.word, Message.AreMessages, Message.IsMessage, Message.Message, Message.messages_bytes, Packet.PacketOf}
-use Rattle.echo_packet.specs.declared.fault.PacketFault.TheVariants as fault
 use Rattle.model_steps.specs.{SystemState.SystemState, Tossing.sender_of, Tossing.tossed}
 use Rattle.echo_toss.specs.PacketSteps.{BeginsWith, IsForUs, PacketStep, TossesAll, TossesPart, TossesSome}
 use Rattle.echo_toss.specs.declared.{fault.TossCause.TossCause, fault.TossFault.TossFault, tally.Tally.Tally}

@@ -9,6 +9,7 @@ pub mod Stopping
 pub mod CanEnd
 pub mod OverCrashes
 pub mod AnyDisks
+pub mod Repairs
 pub mod LoneStations
 pub mod AloneInOrder
 pub mod LoneDisks

@@ -1,6 +1,6 @@
 //! Laws about the definitions. Each law is the contract of a function that does nothing.
 
-ghost use Rattle.law_stations.specs.{AnyDisks.HeadlineFromAnyDisks, CanEnd.LeftCanEnd, OverCrashes.CrashesAreNone, OverCrashes.SoundOverCrashes, OverCrashes.WholeAreAmong};
+ghost use Rattle.law_stations.specs.{AnyDisks.HeadlineFromAnyDisks, AnyDisks.NoneIsLostFromAnyDisks, CanEnd.LeftCanEnd, OverCrashes.CrashesAreNone, OverCrashes.SoundOverCrashes, OverCrashes.WholeAreAmong};
 
 /// Whatever stops commands at any time, the disks have the bases and postings of a net with such commands, all
 /// of them whole. Each of its packets has its name, or is a temporary file that the next scan of its station
@@ -33,4 +33,10 @@ pub fn nets_are_sound_over_crashes()
 /// that none of them has is in order once it is posted.
 pub fn new_messages_are_in_order_over_crashes()
     ensures { HeadlineFromAnyDisks }
+{}
+
+/// The same if the links have loops and no other fault, as after a V8 of `check`: a message may then be sent more than once,
+/// but none is lost, and no base has one twice.
+pub fn loops_lose_nothing_over_crashes()
+    ensures { NoneIsLostFromAnyDisks }
 {}

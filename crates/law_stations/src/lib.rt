@@ -3,10 +3,10 @@
 //!
 //! Promise: a net of stations keeps what the model promises (`laws`). If crashes stop commands, the disks show what
 //! they would show without crashes (`crash_laws`). One station alone keeps its part, whatever bytes `toss` gets
-//! (`lone_laws`).
+//! (`lone_laws`). Rounds of repair bring each message everywhere (`repair_laws`).
 //!
 //! Begin with specs/: `Nets` (stations, packet files) and `Commands` (the effect of a command on them). `Agreement`
-//! says when a net and a run agree, `InOrder` is the promise about a net.
+//! says when a net and a run agree, `InOrder` is the promise about a net. `Repairs` has packets of repairs, and rounds.
 //!
 //! For crashes, `Disks` has files under their names, and temporary files. `Stopping` says how far a command gets, `CanEnd`
 //! treats the files of stopped scans, and `OverCrashes` is the promise about the disks. For one station: `LoneStations`
@@ -26,13 +26,15 @@ mod crash_laws;
 mod disk_laws;
 mod laws;
 mod lone_laws;
+mod repair_laws;
 mod scanning;
 mod sequence_laws;
 
 pub use commands::{mail_as_may, post_as_may, purge_as_may, reply_as_may, toss_as_may};
 pub use crash_laws::{
-    crashes_are_none, left_packets_can_end, nets_are_sound_over_crashes,
-    new_messages_are_in_order_over_crashes, whole_commands_are_among_them,
+    crashes_are_none, left_packets_can_end, loops_lose_nothing_over_crashes,
+    nets_are_sound_over_crashes, new_messages_are_in_order_over_crashes,
+    whole_commands_are_among_them,
 };
 pub use disk_laws::{others_stay, shown_packets_are_known};
 pub use laws::{
@@ -44,6 +46,7 @@ pub use lone_laws::{
     lone_stations_are_in_order_over_crashes, what_lone_stations_show_stays,
     what_lone_stations_show_stays_over_crashes,
 };
+pub use repair_laws::{repairs_bring_all_everywhere, what_is_mended_is_everywhere};
 pub use scanning::scan_as_may;
 pub use sequence_laws::{
     commands_go_on, new_messages_are_in_order_over_sequences, scans_go_on, sequences_are_among,

@@ -1,4 +1,3 @@
-use Rattle.std.proofs.Common.{arith}
 use Rattle.law_stations.proofs.Runs.{post-does, stays-where-met}
 use Rattle.law_stations.proofs.commands.post_as_may.Goals as goal
 
@@ -9,4 +8,6 @@ returns-clause-does g c = λ honest.
     post-does (g.P.OpenStation.place c.args.station) _ _ _ _ _ _ ran.elsewhere _ _ post.free post.words post.body.now c.run_command.result.done (ran.runs honest)
 
 pub returns-clause-stays : goal.returns-clause-stays
-returns-clause-stays g c = grind (arith, stays-where-met)
+returns-clause-stays g c = λ honest.
+    let ran = c.run_command.ensures in
+    stays-where-met (g.P.OpenStation.place c.args.station) _ _ _ _ _ _ ran.elsewhere _ _ _ _ _ c.run_command.result.done (ran.runs honest)

@@ -1,4 +1,3 @@
-use Rattle.std.proofs.Common.{arith}
 use Rattle.law_stations.proofs.{AnyReader.tosses-answered, AnyReader.tosses-known, Runs.toss-does, Runs.stays-where-met}
 use Rattle.law_stations.proofs.commands.toss_as_may.Goals as goal
 
@@ -11,4 +10,6 @@ returns-clause-does g c = λ honest fit.
     (λ file files left base next answer to. tosses-answered _ fit _ toss.noting toss.limits file files left base next _ _ answer to) _ _ c.run_command.result.done (ran.runs honest)
 
 pub returns-clause-stays : goal.returns-clause-stays
-returns-clause-stays g c = grind (arith, stays-where-met)
+returns-clause-stays g c = λ honest.
+    let ran = c.run_command.ensures in
+    stays-where-met (g.P.OpenStation.place c.args.station) _ _ _ _ _ _ ran.elsewhere _ _ _ _ _ c.run_command.result.done (ran.runs honest)
