@@ -30,13 +30,13 @@ HavePackets stamp place links outbound i d ended base c next = (after : AreAfter
 
 -- If a crash cuts a scan, or if the scan ends well, the net goes on by its command event, and the files have its packets.
 -- If the station is unchanged, as after a fault, the net goes on by no event.
-pub record ScanGoesOn {D Kept : Type 0} (state : D → DiskState) (place : Kept → Place) (seats : List (Seat Kept)) (seat : Seat Kept) (i : ℕ) (stamp : Stamp) (d ended : Disks) (base : Base) (old whole : D) (result : Result (Unit {0}) ScanError) : Type 0 where
+pub record ScanGoesOn {D Kept : Type 0} (state : D → DiskState) (place : Kept → Place) (seats : List (Seat Kept)) (seat : Seat Kept) (i : ℕ) (stamp : Stamp) (d finished : Disks) (base : Base) (old whole : D) (result : Result (Unit {0}) ScanError) : Type 0 where
   pub cut : (begun : D) → (state whole).left_since (state old).moment (state begun).seen → IsAllOnDisk (state begun)
       → (goes : GoesOnCut (IsScan stamp) place seat i d (state old) (state whole) (state begun))
-      × ((goes.command ≡ None) ⊎ HavePackets stamp (place seat.kept) seat.links seat.outbound i d ended base (state begun).seen goes.next)
+      × ((goes.command ≡ None) ⊎ HavePackets stamp (place seat.kept) seat.links seat.outbound i d finished base (state begun).seen goes.next)
   pub ended : result ≡ Ok tt → IsKeptWhereShared place seats seat i (state whole)
       → (goes : GoesOnEnded (IsScan stamp) place seats seat i d (state old) (state whole))
-      × HavePackets stamp (place seat.kept) seat.links seat.outbound i d ended base (state whole).seen goes.next
+      × HavePackets stamp (place seat.kept) seat.links seat.outbound i d finished base (state whole).seen goes.next
   pub none : IsAsBefore (place seat.kept) seat.links i d (state whole) → IsKeptWhereShared place seats seat i (state whole)
       → HasEnded place seats seat i None d d (state old) (state whole)
 
