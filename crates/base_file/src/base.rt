@@ -53,6 +53,7 @@ impl<S: BuildHasher> Base<S> {
         }
     }
 
+    /// How many messages there are.
     pub fn len(&self) -> usize
         ensures count { result ≡ length self.now.messages }
         ensures base { IsBase self.now.messages self.now.cursor }
@@ -76,6 +77,7 @@ impl<S: BuildHasher> Base<S> {
         Some(message)
     }
 
+    /// Whether a message has the key.
     pub fn knows(&self, key: &Key) -> bool
         ensures { result ≡ is_known self.now.messages key.now }
     {

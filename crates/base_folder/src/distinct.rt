@@ -24,6 +24,7 @@ pub struct Distinct<M: MessageSource, S: BuildHasher> {
 }
 
 impl<M: MessageSource, S: BuildHasher> Distinct<M, S> {
+    /// The messages of this source.
     pub fn new(alloc: Global, source: M, hasher: S) -> Distinct<M, S>
         ensures source { result.source ≡ source }
         ensures ready { (M.state source).is_ready → (⟦<Distinct<M, S> as MessageSource>⟧.state result).is_ready }

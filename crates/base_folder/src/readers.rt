@@ -102,6 +102,7 @@ impl<D: Disk, H: Digest> FolderReader<D, H> {
         }
     }
 
+    /// The disk, taken out.
     pub fn into_disk(self) -> D
         ensures { result ≡ self.disk }
     {

@@ -10,6 +10,7 @@ use echo_filed::Key;
 use std::alloc::{AllocError, Global};
 
 impl Folder {
+    /// Its owner; none if it has no owner.
     pub fn owner(&self) -> Option<u64>
         ensures { result ≡ owner_of self.now.recorded.mark }
     {

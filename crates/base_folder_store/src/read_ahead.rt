@@ -17,6 +17,7 @@ pub struct ReadAhead {
 }
 
 impl ReadAhead {
+    /// No bytes.
     pub fn new(alloc: Global) -> ReadAhead
         ensures { (file : List ℕ) → IsPartOf file result }
     {

@@ -26,6 +26,7 @@ fn head_of(heads: usize, digest: u64) -> usize
 }
 
 impl Chains {
+    /// Those of no message.
     pub fn new(alloc: Global) -> Chains
         ensures { (keys : List ℕ) → AreChains keys result }
     {

@@ -22,6 +22,7 @@ pub struct Index {
 }
 
 impl Index {
+    /// One that has no message yet.
     pub fn new(alloc: Global) -> Index
         ensures { (keys : List ℕ) → IsIndexOf keys result }
     {

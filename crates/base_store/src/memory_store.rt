@@ -15,12 +15,14 @@ pub struct MemoryStore<S: BuildHasher> {
 }
 
 impl<S: BuildHasher> MemoryStore<S> {
+    /// The base as a store.
     pub fn new(base: Base<S>) -> MemoryStore<S>
         ensures { (⟦<MemoryStore<S> as Store>⟧.state result).keeps base }
     {
         MemoryStore { base, place: 0 }
     }
 
+    /// The base.
     pub fn base(&self) -> &Base<S>
         ensures { (⟦<MemoryStore<S> as Store>⟧.state self.now).keeps result.now }
     {

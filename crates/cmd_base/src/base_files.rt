@@ -14,6 +14,7 @@ use std::{fs, io};
 /// The end of a staging path.
 const BESIDE: &str = "~.new";
 
+/// The files of the system.
 #[derive(Drop)]
 pub struct BaseFiles<'r> {
     rt: &'r HostRuntime,

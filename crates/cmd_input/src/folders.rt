@@ -12,6 +12,7 @@ use std::fs::DirEntry;
 use std::hash::{BuildHasher, Hasher};
 use std::{fs, io};
 
+/// Whether the path is that of a folder.
 pub fn is_folder(rt: &HostRuntime, path: &str) -> bool {
     match fs::metadata(rt, path) {
         Ok(found) => found.is_dir(),

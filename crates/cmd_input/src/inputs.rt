@@ -15,6 +15,7 @@ pub const MAX_TEXT_FILE: usize = 1_048_576;
 /// The first bytes of every base file.
 pub const BASE_START: &[u8] = b"ECHOBAS";
 
+/// Why the file with this path was not read.
 pub fn input_fault(fault: InputFault, path: &str) -> Fault<'_> {
     match fault {
         InputFault::TooLarge => Fault::TooLarge(path),
@@ -23,6 +24,7 @@ pub fn input_fault(fault: InputFault, path: &str) -> Fault<'_> {
     }
 }
 
+/// Why the file with this path was not written.
 pub fn output_fault(fault: OutputFault, path: &str) -> Fault<'_> {
     match fault {
         OutputFault::Device => Fault::CannotUse(path),
@@ -35,6 +37,7 @@ pub fn read_file<'a>(rt: &HostRuntime, path: &'a str, most: usize) -> Result<Vec
     disk_system::read_file(rt.alloc(), rt, path, most).map_err(|fault| input_fault(fault, path))
 }
 
+/// The bytes of a file, if one is given.
 pub fn read_if_given<'a>(
     rt: &HostRuntime,
     path: Option<&'a str>,
@@ -55,6 +58,7 @@ pub fn read_given<'a>(rt: &HostRuntime, path: &'a str, most: usize) -> Result<Ve
     }
 }
 
+/// The bytes of standard input.
 pub fn read_standard_input<'a>(rt: &HostRuntime, most: usize) -> Result<Vec<u8>, Fault<'a>> {
     read_whole(rt.alloc(), &mut Watched::new(rt.reader()), most).map_err(|fault| input_fault(
         fault, "-",
@@ -85,6 +89,7 @@ fn push_links<'a>(
     Ok(())
 }
 
+/// The bytes of the link file with this name.
 pub fn read_link_file<'a>(rt: &HostRuntime, name: &'a PathName) -> Result<Vec<u8>, Fault<'a>> {
     read_file(rt, name.path()?, MAX_TEXT_FILE)
 }

@@ -235,6 +235,7 @@ pub fn locked_folder<'a>(rt: &HostRuntime, folder: &'a str) -> Result<File, Faul
     Ok(file)
 }
 
+/// Why the folder cannot be read.
 pub fn folder_fault<'a>(error: &io::Error, folder: &'a str) -> Fault<'a> {
     match error.kind() {
         io::ErrorKind::OutOfMemory => Fault::OutOfMemory,

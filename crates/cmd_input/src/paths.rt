@@ -19,10 +19,12 @@ pub struct PathName {
 }
 
 impl PathName {
+    /// The path as it is printed.
     pub fn shown(&self) -> &str {
         self.shown.as_str()
     }
 
+    /// The path to open.
     pub fn path(&self) -> Result<&str, Fault<'_>> {
         PacketName::path(self)
     }
@@ -50,6 +52,7 @@ pub struct PathNames<'a> {
     pub stopped: Option<Fault<'a>>,
 }
 
+/// The files that are named by words or by a list.
 pub fn names_of<'a>(rt: &HostRuntime, paths: &Paths<'a>) -> PathNames<'a> {
     let found = match paths.from {
         Some(list) => listed_names(rt, list),

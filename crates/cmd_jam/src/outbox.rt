@@ -37,6 +37,7 @@ pub struct OutboxMessage {
 }
 
 impl OutboxMessage {
+    /// Its number in the JAM base.
     pub fn number(&self) -> u64 {
         self.number
     }
@@ -59,6 +60,7 @@ impl<'a> Outbox<'a> {
         })
     }
 
+    /// How many entries the index has.
     pub fn entries(&self) -> usize {
         self.contents.standing.entries as usize
     }
@@ -113,6 +115,7 @@ impl<'a> Outbox<'a> {
         )?)
     }
 
+    /// Marks the message as sent.
     pub fn mark(&mut self, unsent: &OutboxMessage) -> Result<(), Fault<'a>> {
         let at = u64::from(unsent.place) + ATTRIBUTE_AT as u64;
         match sent_attribute(self.found.as_slice(), unsent.place) {

@@ -62,12 +62,14 @@ pub struct WrongLine<'a> {
     pub word: &'a [u8],
 }
 
+/// A path and its state.
 #[derive(Clone, Copy)]
 pub struct PathState<'a> {
     pub path: &'a str,
     pub state: State,
 }
 
+/// The state of a path.
 #[derive(Clone, Copy, Debug, PartialEq, Eq)]
 pub enum State {
     NoFile,
@@ -92,6 +94,7 @@ pub struct PacketPlace<'a> {
     pub path: &'a str,
 }
 
+/// A packet for another system than this one.
 #[derive(Clone, Copy)]
 pub struct Misdelivered<'a> {
     pub packet: PacketPlace<'a>,
@@ -99,6 +102,7 @@ pub struct Misdelivered<'a> {
     pub own: Address,
 }
 
+/// A packet with a fault.
 #[derive(Clone, Copy)]
 pub struct FaultyPacket<'a> {
     pub packet: PacketPlace<'a>,
@@ -124,6 +128,7 @@ pub enum WordForm {
     NodeAddress,
 }
 
+/// A word that is not of this form.
 #[derive(Clone, Copy)]
 pub struct WrongWord<'a> {
     pub form: WordForm,

@@ -29,6 +29,7 @@ impl<'a> KnownIds<'a> {
         KnownIds { sorted }
     }
 
+    /// Whether the word is one of them.
     pub fn has(&self, word: &[u8]) -> bool
         ensures { result ≡ list_any (bytes_eq word.now) self.now }
     {

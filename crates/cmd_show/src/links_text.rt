@@ -111,6 +111,7 @@ fn push_fault(
     push_escaped(lines, fault_code(line.fault), &word)
 }
 
+/// Adds the number of a line.
 pub fn push_number(lines: &mut Vec<u8>, number: u64) -> Result<(), AllocError>
     ensures { OnOk result (lines.new.items ≡ lines.old.items ++ (codes ":" ++ (decimal number ++ codes ": "))) }
 {
@@ -143,6 +144,7 @@ fn fault_code(fault: LinkFault) -> &'static [u8]
     }
 }
 
+/// The number of the faulty line.
 pub fn fault_number(fault: LinkFault) -> u64
     ensures { result ≡ fault_number fault }
 {

@@ -32,6 +32,7 @@ pub struct Toss<'a, P> {
 }
 
 impl<'a, P: PacketFiles<'a>> Toss<'a, P> {
+    /// Of these files.
     pub fn new(limits: Limits, noting: bool, packets: P) -> Toss<'a, P>
         ensures limits { result.limits ≡ limits }
         ensures noting { result.noting ≡ noting }

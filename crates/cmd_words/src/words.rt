@@ -82,6 +82,7 @@ pub struct CheckWords<'a> {
     pub links: Paths<'a>,
 }
 
+/// The words of `picture`.
 #[derive(Drop)]
 pub struct PictureWords<'a> {
     pub why: bool,
@@ -92,6 +93,7 @@ pub struct PictureWords<'a> {
     pub links: Paths<'a>,
 }
 
+/// The words of `why`.
 #[derive(Drop)]
 pub struct WhyWords<'a> {
     pub assume: Vec<&'a str>,
@@ -100,6 +102,7 @@ pub struct WhyWords<'a> {
     pub links: Paths<'a>,
 }
 
+/// The words of `post`.
 #[derive(Drop)]
 pub struct PostWords<'a> {
     pub area: &'a str,
@@ -112,6 +115,7 @@ pub struct PostWords<'a> {
     pub place: Place<'a>,
 }
 
+/// The words of `post --mail`.
 #[derive(Drop)]
 pub struct PostMailWords<'a> {
     pub charset: Option<&'a str>,
@@ -125,6 +129,7 @@ pub struct PostMailWords<'a> {
     pub place: Place<'a>,
 }
 
+/// The words of `post --msg`.
 #[derive(Drop)]
 pub struct PostStoredWords<'a> {
     pub area: &'a str,
@@ -134,6 +139,7 @@ pub struct PostStoredWords<'a> {
     pub place: Place<'a>,
 }
 
+/// The words of `post --jam`.
 #[derive(Drop)]
 pub struct PostJamWords<'a> {
     pub area: &'a str,
@@ -143,6 +149,7 @@ pub struct PostJamWords<'a> {
     pub place: Place<'a>,
 }
 
+/// The words of `reply`.
 #[derive(Drop)]
 pub struct ReplyWords<'a> {
     pub from: &'a str,
@@ -152,6 +159,7 @@ pub struct ReplyWords<'a> {
     pub place: Place<'a>,
 }
 
+/// The words of `list`.
 #[derive(Drop)]
 pub struct ListWords<'a> {
     pub short: bool,
@@ -162,6 +170,7 @@ pub struct ListWords<'a> {
     pub base: &'a str,
 }
 
+/// The words of `export`.
 #[derive(Drop)]
 pub struct ExportWords<'a> {
     pub json: bool,
@@ -171,6 +180,7 @@ pub struct ExportWords<'a> {
     pub base: &'a str,
 }
 
+/// The words of `export --msg`.
 #[derive(Drop)]
 pub struct ExportStoredWords<'a> {
     pub folder: &'a str,
@@ -179,6 +189,7 @@ pub struct ExportStoredWords<'a> {
     pub base: &'a str,
 }
 
+/// The words of `export --jam`.
 #[derive(Drop)]
 pub struct ExportJamWords<'a> {
     pub jam: &'a str,
@@ -196,6 +207,7 @@ pub struct TossWords<'a> {
     pub packets: Paths<'a>,
 }
 
+/// The words of `scan`.
 #[derive(Clone, Copy)]
 pub struct ScanWords<'a> {
     pub at: &'a str,

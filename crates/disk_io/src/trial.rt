@@ -33,6 +33,7 @@ impl<D> Trial<D> {
         }
     }
 
+    /// The device.
     pub fn into_inner(self) -> D
         ensures { result ≡ trial_device self }
     {

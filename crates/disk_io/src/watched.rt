@@ -35,12 +35,14 @@ impl<D> Watched<D> {
         }
     }
 
+    /// The device.
     pub fn into_inner(self) -> D
         ensures { result ≡ watched_device self }
     {
         self.device
     }
 
+    /// How often the device failed.
     pub fn failures(&self) -> u64
         ensures { result ≡ watched_failures self.now }
     {

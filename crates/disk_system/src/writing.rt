@@ -149,6 +149,7 @@ fn start_of(bytes: &[u8], known_by: usize) -> &[u8]
     &bytes[..known_by.min(bytes.len())]
 }
 
+/// The folder of the file with this path.
 pub fn folder_of(path: &str) -> &str {
     match path.rsplit_once('/') {
         Some(("", _)) => "/",

@@ -23,30 +23,35 @@ impl<T> Model for Items<T> {
 }
 
 impl<T> Items<T> {
+    /// The items of the `Vec`.
     pub fn new(all: Vec<T>) -> Items<T>
         ensures { result ≡ all.items }
     {
         Items { all }
     }
 
+    /// The `Vec` with these items.
     pub fn into_vec(self) -> Vec<T>
         ensures { result.items ≡ self }
     {
         self.all
     }
 
+    /// The items in order.
     pub fn as_slice(&self) -> &[T]
         ensures { result.now ≡ self.now }
     {
         self.all.as_slice()
     }
 
+    /// How many items there are.
     pub fn len(&self) -> usize
         ensures { result ≡ length self.now }
     {
         self.all.len()
     }
 
+    /// Whether there are none.
     pub fn is_empty(&self) -> bool
         ensures { IsTrue result ↔ (self.now ≡ []) }
     {

@@ -22,6 +22,7 @@ impl<T> Model for Boxed<T> {
 }
 
 impl<T: Drop> Boxed<T> {
+    /// The items of the `Vec`.
     pub fn new(alloc: Global, all: Vec<T>) -> Result<Boxed<T>, AllocError>
         ensures { IfOk result (λ boxed. boxed ≡ all.items) }
     {
@@ -31,6 +32,7 @@ impl<T: Drop> Boxed<T> {
 }
 
 impl<T> Boxed<T> {
+    /// The items in order.
     pub fn as_slice(&self) -> &[T]
         ensures { result.now ≡ self.now }
     {
@@ -83,6 +85,7 @@ impl Model for BoxedLines {
 }
 
 impl BoxedLines {
+    /// The lines.
     pub fn new(alloc: Global, lines: Lines) -> Result<BoxedLines, AllocError>
         ensures { IfOk result (λ boxed. boxed ≡ lines) }
     {
@@ -90,6 +93,7 @@ impl BoxedLines {
         Ok(BoxedLines { lines })
     }
 
+    /// The lines one after another, as `Lines` has them.
     pub fn lines(&self) -> &Lines
         ensures { result.now ≡ self.now }
     {

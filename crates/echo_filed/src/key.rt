@@ -27,6 +27,7 @@ pub enum Key {
 }
 
 impl Key {
+    /// The key of the message.
     pub fn of_message(alloc: Global, message: &Filed) -> Result<Key, AllocError>
         ensures { IfOk result (λ key. key ≡ key_of message.now) }
     {
@@ -69,6 +70,7 @@ impl Key {
     }
 }
 
+/// The key of a message with this tag and id.
 pub fn by_id(alloc: Global, tag: &[u8], msgid: &[u8]) -> Result<Key, AllocError>
     ensures { IfOk result (λ key. key ≡ ById tag.now msgid.now) }
 {

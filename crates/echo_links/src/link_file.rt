@@ -89,6 +89,7 @@ impl LinkFile {
         self.name.as_slice()
     }
 
+    /// How many areas there are.
     pub fn areas(&self) -> usize
         ensures { result ≡ length self.now.areas }
     {
@@ -109,6 +110,7 @@ impl LinkFile {
         Some(self.areas.links(tag)?.as_slice())
     }
 
+    /// Whether there is an area with this tag.
     pub fn has_area(&self, tag: &[u8]) -> bool
         ensures { result ≡ has_area self.now tag.now }
     {

@@ -42,6 +42,7 @@ impl Nodelist {
         })
     }
 
+    /// The lines in order.
     pub fn lines(&self) -> &[Line]
         ensures lines { result.now ≡ self.now }
         ensures whole { IsNodelist self.now }

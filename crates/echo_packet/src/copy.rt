@@ -45,12 +45,14 @@ impl PackedCopy {
         })
     }
 
+    /// The node of the system that the copy is for.
     pub fn dest_node(&self) -> u16
         ensures { result ≡ self.now.dest_node }
     {
         self.dest_node
     }
 
+    /// The net of the system that the copy is for.
     pub fn dest_net(&self) -> u16
         ensures { result ≡ self.now.dest_net }
     {

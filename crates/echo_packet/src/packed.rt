@@ -174,6 +174,7 @@ impl Packed {
         }
     }
 
+    /// The buffers of its strings.
     pub fn into_buffers(self) -> Buffers {
         Buffers {
             to_name: self.to_name.into_vec(),
@@ -190,6 +191,7 @@ impl Packed {
         self.orig_node
     }
 
+    /// The node of the system that the packet is for.
     pub fn dest_node(&self) -> u16
         ensures { result ≡ self.now.dest_node }
     {
@@ -203,6 +205,7 @@ impl Packed {
         self.orig_net
     }
 
+    /// The net of the system that the packet is for.
     pub fn dest_net(&self) -> u16
         ensures { result ≡ self.now.dest_net }
     {
@@ -216,6 +219,7 @@ impl Packed {
         self.attribute
     }
 
+    /// The cost.
     pub fn cost(&self) -> u16
         ensures { result ≡ self.now.cost }
     {
@@ -243,12 +247,14 @@ impl Packed {
         self.from_name.as_slice()
     }
 
+    /// The subject, without its 00.
     pub fn subject(&self) -> &[u8]
         ensures { result.now ≡ self.now.subject }
     {
         self.subject.as_slice()
     }
 
+    /// The text, without its 00.
     pub fn text(&self) -> &[u8]
         ensures text { result.now ≡ self.now.text }
         ensures message { IsMessage (length self.now.text) self.now }

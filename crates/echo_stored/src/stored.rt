@@ -37,6 +37,7 @@ pub fn push_stored(
     push_bytes(stored, &[0])
 }
 
+/// Adds the bytes.
 pub fn push_bytes(stored: &mut Vec<u8>, bytes: &[u8]) -> Result<(), AllocError>
     ensures { OnOk result (stored.new.items ≡ stored.old.items ++ bytes.now) }
 {

@@ -122,6 +122,7 @@ impl<'a> FrontView<'a> {
     ghost use Rattle.std.specs.Prelude.{◌≡◌, option_copied};
     ghost use Rattle.echo_text.specs.Echo.{msgid_of};
 
+    /// The id of the message, as `Echo` has it.
     pub fn msgid(&self) -> Option<&[u8]>
         ensures { option_copied result ≡ msgid_of self.now.kept }
     {
@@ -133,24 +134,28 @@ impl<'a> EchoView<'a> {
     ghost use Rattle.std.specs.Prelude.{◌≡◌, option_copied};
     ghost use Rattle.echo_text.specs.Echo.{msgid_of, origin_of, reply_of, tear_of};
 
+    /// The id of the message, as `Echo` has it.
     pub fn msgid(&self) -> Option<&[u8]>
         ensures { option_copied result ≡ msgid_of self.now.kept }
     {
         self.kept.msgid()
     }
 
+    /// The id of the message replied to, as `Echo` has it.
     pub fn reply(&self) -> Option<&[u8]>
         ensures { option_copied result ≡ reply_of self.now.kept }
     {
         self.kept.reply()
     }
 
+    /// The last tear line, as `Echo` has it.
     pub fn tear(&self) -> Option<&[u8]>
         ensures { option_copied result ≡ tear_of self.now.kept }
     {
         self.kept.tear()
     }
 
+    /// The last origin line, as `Echo` has it.
     pub fn origin(&self) -> Option<&[u8]>
         ensures { option_copied result ≡ origin_of self.now.kept }
     {

@@ -49,12 +49,14 @@ impl Lines {
         self.text.as_slice()
     }
 
+    /// The text of the lines.
     pub fn into_text(self) -> Vec<u8>
         ensures { result.items ≡ flat_map ended self }
     {
         self.text.into_vec()
     }
 
+    /// A copy of the lines.
     pub fn copy(&self, alloc: Global) -> Result<Lines, AllocError>
         ensures { IfOk result (λ lines. lines ≡ self.now) }
     {
@@ -131,6 +133,7 @@ impl<'a> KeptView<'a> {
         KeptView { body, tail }
     }
 
+    /// A copy of the lines.
     pub fn to_lines(&self, alloc: Global) -> Result<Lines, AllocError>
         ensures { IfOk result (λ lines. lines ≡ self.now) }
     {

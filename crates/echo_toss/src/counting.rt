@@ -26,6 +26,7 @@ pub struct CountedPacket {
 }
 
 impl CountedPacket {
+    /// The packet for this address, without messages.
     pub fn empty(to: Address) -> CountedPacket
         ensures { result ≡ counted_to [] to }
     {
@@ -36,6 +37,7 @@ impl CountedPacket {
         }
     }
 
+    /// The packet with the copies of the group added.
     pub fn with_group(self, group: &Group) -> Result<CountedPacket, AllocError>
         ensures { IfOk result (λ more. more ≡ counted_with group.now.sent self) }
     {

@@ -34,6 +34,7 @@ impl Model for Group {
 }
 
 impl Group {
+    /// The number of the first message after the group.
     pub fn next(&self) -> usize
         ensures { result ≡ self.now.next }
     {

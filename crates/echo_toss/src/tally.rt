@@ -15,6 +15,7 @@ pub struct Tally {
 }
 
 impl Tally {
+    /// Of no message.
     pub const NONE: Tally = Tally {
         filed: 0,
         known: 0,
@@ -24,6 +25,7 @@ impl Tally {
         not_linked: 0,
     };
 
+    /// One more message.
     pub fn count(&mut self, outcome: Outcome)
         requires { all_counted self.old + 1 < 2 ^ 64 }
         ensures { self.new ≡ tally_with self.old outcome }

@@ -39,12 +39,14 @@ impl<S: BuildHasher> Tosser<S> {
         }
     }
 
+    /// The link file.
     pub fn links(&self) -> &LinkFile
         ensures { result.now ≡ self.now.file }
     {
         &self.links
     }
 
+    /// How many messages the base has.
     pub fn filed(&self) -> usize
         ensures count { result ≡ length self.now.base }
         ensures base { IsBase self.now.base self.now.cursor }

@@ -19,24 +19,28 @@ pub struct Blocks {
 }
 
 impl Blocks {
+    /// The number of the member's block.
     pub fn block(&self, member: usize) -> usize
         ensures { result ≡ block_of self.now member }
     {
         value_or(&self.numbers, member, 0)
     }
 
+    /// The member at the top of the member's block.
     pub fn top(&self, member: usize) -> usize
         ensures { result ≡ top_of self.now member }
     {
         value_or(&self.tops, member, 0)
     }
 
+    /// The rank of the member.
     pub fn rank(&self, member: usize) -> usize
         ensures { result ≡ rank_of self.now member }
     {
         value_or(&self.ranks, member, member)
     }
 
+    /// Is the block of this number known to be full?
     pub fn is_full(&self, block: usize) -> bool
         ensures { result ≡ full_of self.now block }
     {
@@ -91,6 +95,7 @@ pub struct BlockLists {
     pub last: Vec<Option<usize>>,
 }
 
+/// The members of each block.
 pub fn block_lists(alloc: Global, members: usize, blocks: &Blocks) -> Result<BlockLists, AllocError>
     ensures { IfOk result (λ lists. LastMembers (block_of blocks.now) members members lists.previous.items lists.last.items) }
 {

@@ -17,12 +17,14 @@ impl Model for Links {
 }
 
 impl Links {
+    /// The links to these members, in their order.
     pub fn new(members: Vec<usize>) -> Links
         ensures { result ≡ members.items }
     {
         Links { members }
     }
 
+    /// The indexes of the linked members.
     pub fn as_slice(&self) -> &[usize]
         ensures { result.now ≡ self.now }
     {
@@ -54,6 +56,7 @@ impl Graph {
         Graph { rows }
     }
 
+    /// How many members there are.
     pub fn len(&self) -> usize
         ensures value { result ≡ length self.now }
         ensures sound { IsGraph self.now }
@@ -61,6 +64,7 @@ impl Graph {
         self.rows.len()
     }
 
+    /// The links of a member, ascending.
     pub fn links(&self, member: usize) -> &[usize]
         requires { member < length self.now }
         ensures value { result.now ≡ links_at self.now member }
@@ -70,6 +74,7 @@ impl Graph {
         self.rows[member].as_slice()
     }
 
+    /// Is `one` linked with `other`?
     pub fn is_linked(&self, one: usize, other: usize) -> bool
         requires { one < length self.now }
         ensures { result ≡ linked self.now one other }

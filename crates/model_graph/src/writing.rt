@@ -5,6 +5,7 @@ ghost use Rattle.model_graph.specs.{Walk.Different, Loops.turned, Loops.IsWritte
 
 use std::alloc::{AllocError, Global};
 
+/// The ring, written from its smallest member.
 pub fn written(alloc: Global, ring: &[usize]) -> Result<Vec<usize>, AllocError>
     requires long { 3 ≤ length ring.now }
     requires different { Different ring.now }

@@ -31,6 +31,7 @@ impl Receivers {
         Ok(Receivers { first })
     }
 
+    /// The first system of the address.
     pub fn of(&self, to: Address) -> Option<usize>
         ensures { (systems : List Address) → LeadsToFirst self.now.first.entries systems → IsFirst result (λ b. same_address b to) systems }
     {

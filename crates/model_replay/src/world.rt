@@ -131,6 +131,7 @@ impl World {
         }
     }
 
+    /// How many systems there are.
     pub fn systems(&self) -> usize
         ensures { (run : Run) → IsWorldOf self.now run → result ≡ length run.systems }
     {
@@ -138,6 +139,7 @@ impl World {
         systems.len()
     }
 
+    /// How many packets were made.
     pub fn packets(&self) -> usize
         ensures { (run : Run) → IsWorldOf self.now run → result ≡ length run.packets }
     {
@@ -159,6 +161,7 @@ impl World {
         all_scanned(&self.systems) && count_missing(&self.packets) == 0
     }
 
+    /// The link file of the system.
     pub fn links(&self, system: usize) -> Option<&LinkFile>
         ensures { (run : Run) → IsWorldOf self.now run → option_copied result ≡ option_map (λ s. s.file) (nth system run.systems) }
     {
@@ -172,6 +175,7 @@ impl World {
         self.systems.get(system)?.message(i)
     }
 
+    /// Whom the packet is for.
     pub fn packet_to(&self, k: usize) -> Option<Address>
         ensures { (run : Run) → IsWorldOf self.now run → result ≡ option_map destination (nth k run.packets) }
     {

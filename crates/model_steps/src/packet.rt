@@ -23,6 +23,7 @@ fn size_beside(header: Header) -> usize
 // The number of bytes of a message outside its strings, with the 00 after each.
 const FIXED: usize = 38;
 
+/// How many bytes a message has.
 pub fn message_size(copy: &PackedCopy) -> usize
     ensures { result ≡ length (message_bytes copy.now) }
 {

@@ -101,6 +101,7 @@ impl<R: Source> PacketReader<R> {
 }
 
 impl<R> PacketReader<R> {
+    /// The header of the packet.
     pub fn header(&self) -> &Header
         ensures { result.now ≡ reader_header self.now }
     {

@@ -45,6 +45,7 @@ impl State {
         }
     }
 
+    /// Puts a file there.
     pub fn put(&mut self, name: &str, bytes: &[u8]) -> Result<(), AllocError> {
         let name = String::from_str(self.alloc, name)?;
         let bytes = Vec::from_slice(self.alloc, bytes)?;
@@ -58,6 +59,7 @@ impl State {
             .position(|kept| kept.name.as_str() == name)
     }
 
+    /// The bytes of the file, if there is one.
     pub fn bytes(&self, name: &str) -> Option<&[u8]> {
         let place = self.place(name)?;
         let kept = self.files.get(place)?;
@@ -112,6 +114,7 @@ impl State {
     }
 }
 
+/// The file system of a state.
 #[derive(Clone, Copy)]
 pub struct Disk<'a> {
     state: &'a RefCell<State>,
@@ -133,6 +136,7 @@ fn called<'b>(state: &'b RefCell<State>) -> io::Result<RefMut<'b, State>> {
     }
 }
 
+/// An open file of a disk.
 #[derive(Drop)]
 pub struct Opened<'a> {
     state: &'a RefCell<State>,
