@@ -77,7 +77,8 @@ class Station:
         """Its messages as sources, each area in one form, or all by packets."""
         found = []
         for tag in sorted(self.areas):
-            kind, path = chance.choice(("jam", "msg", "json")), self.path("as." + tag)
+            kind = chance.choice(("jam", "msg", "json"))
+            path = self.path("%s.%s" % (kind, tag))
             if kind == "json":
                 write(path, run(PROGRAM, "export", "--json", "--area", tag, self.path("base")).encode())
                 found.append("json:" + path)

@@ -6,13 +6,12 @@ systems each area has (100).
 """
 import os
 import random
-import resource
-import subprocess
 import sys
 import tempfile
 
 import fixtures
 import making
+import running
 import topologies
 
 MOST_SECONDS, MOST_MEGABYTES = {"links-seen": 10, "net-page": 60}, {"links-seen": 200, "net-page": 2000}
@@ -20,15 +19,12 @@ MOST_OF_A_PAGE = 20_000_000
 
 
 def used(tool, *words):
-    """Runs a tool. Returns its seconds of processor time, and its megabytes."""
-    before = resource.getrusage(resource.RUSAGE_CHILDREN)
-    done = subprocess.run([sys.executable, os.path.join(fixtures.TOOLS, tool), *words], stdout=subprocess.DEVNULL,
-                          env={**os.environ, "ECHONET": fixtures.PROGRAM}, check=False)
-    after = resource.getrusage(resource.RUSAGE_CHILDREN)
-    seconds, megabytes = after.ru_utime + after.ru_stime - before.ru_utime - before.ru_stime, after.ru_maxrss / 1024
-    print("%s: %.1f s, %.0f MB" % (tool, seconds, megabytes), flush=True)
-    if done.returncode or seconds > MOST_SECONDS[tool] or megabytes > MOST_MEGABYTES[tool]:
-        sys.exit("limits.py: %s: status %d, %.1f s, %.0f MB" % (tool, done.returncode, seconds, megabytes))
+    """Runs a tool. Compares its seconds of processor time and its megabytes with the limits."""
+    status, seconds, kilobytes, fault = running.measured([sys.executable, os.path.join(fixtures.TOOLS, tool), *words])
+    line = "%s: status %d, %.1f s, %.0f MB" % (tool, status, seconds, kilobytes / 1024)
+    print(line, flush=True)
+    if status or seconds > MOST_SECONDS[tool] or kilobytes / 1024 > MOST_MEGABYTES[tool]:
+        sys.exit("limits.py: %s, %s" % (line, fault))
 
 
 def jam_base(chance, path, count):
@@ -63,6 +59,7 @@ def main():
     """Both tools."""
     count, carriers = [int(word) for word in sys.argv[1:3]] + [100_000, 100][len(sys.argv) - 1:]
     chance = random.Random(1)
+    os.environ["ECHONET"] = fixtures.PROGRAM
     with tempfile.TemporaryDirectory() as place:
         jam_base(chance, os.path.join(place, "base"), count)
         used("links-seen", os.path.join(place, "seen"), "--own", "2:5020/1000", "jam:TEST:" + os.path.join(place, "base"))
