@@ -12,8 +12,9 @@ use Rattle.cmd_print.specs.Pushed.{Pushes}
 use Rattle.cmd_check.specs.{Assuming.assumed_line, CheckingAll.IsAreaChecked, CheckingAll.verdicts_status, Leaving.first_unknown, Leaving.texts_left}
 use Rattle.cmd_check.specs.JudgedAreas.{AreAreasJudged, AreCutWithout, AreNetLines, AreTailLines, CutsShown, IsAreaJudged, IsVerdictLeft, JudgedNet, alone_line, cut_line, is_alone, judged_areas_line, supposed_here, tail_lines, unseen_line, without_line}
 use Rattle.cmd_check.specs.SupposedFiles.{AreSupposed, AreUnseen, IsSupposedFile, ReadsSupposed}
-use Rattle.cmd_check.specs.Supposing.{AreJudgedTags, EndsOrUnknown, IsFirstUnknown, IsJudged, IsJudgingFault, IsKnownFault, IsKnownJudged, IsLeftShown, IsNetShown, IsSupposingShown, IsWhole, IsWrittenFault, SupposingAnswers, ended_as}
-use Rattle.cmd_check.specs.declared.supposing.Judged.{Judged}
+use Rattle.cmd_check.specs.Supposing.{AreJudgedTags, EndsOrUnknown, IsFirstUnknown, IsJudged, IsJudgingFault, IsKnownFault, IsKnownJudged, IsLeftShown, IsNetShown, IsPromisedSupposing, IsSupposingShown, IsWhole, IsWrittenFault, SupposingAnswers, ended_as}
+use Rattle.cmd_check.specs.declared.supposing.Judged.{Judged, TheVariants.Ended, TheVariants.Unknown}
+use Rattle.cmd_check.proofs.Checks.{one_reading}
 use Rattle.cmd_check.proofs.Printing.{answers_as}
 use Rattle.cmd_check.proofs.AllAreas.{all_yes, area_in_order, area_tidy, each_tag, in_order, of_tag, status_good}
 
@@ -177,3 +178,31 @@ supposing_ended nodelist list more tag inputs files named missing out stopped ol
     (λ fault. IsFirstFaultGiven nodelist inputs stopped fault ⊎ IsWrittenFault tag inputs named missing out fault) old new answer result
     (λ lines status shown. (record { files = files; are_files = are; list = list; is_list = is_list; known = known; judged = shown }, whole))
     (λ fault refused. inr (record { files = files; are_files = are; fault_is = refused })) judged is
+
+-- a 0 holds for each run
+promised_at : (files : List LinkFile) (list : Option (List Line)) (more : Bool) (tag : Option (List ℕ)) (named : List Address) (missing : Bool) (out : List Address) (lines : List ℕ)
+    (status : Status) → IsKnownJudged files list more tag named missing out lines status → status ≡ Good → IsPromisedSupposing files tag named missing out
+promised_at files list more tag named missing out lines status (tags, are, judged) good =
+    let (left, are_left, shown) = judged.shown in
+    record {
+      tags = tags;
+      are_tags = are;
+      assumed = judged.assumed;
+      whole = judged.whole;
+      is_whole = judged.is_whole;
+      left = left;
+      are_left = are_left;
+      tidy = shown.tidy.0 good;
+      orderly = shown.orderly good;
+    }
+
+pub headline_supposing : (nodelist : Option (List ℕ)) (more : Bool) (tag : Option (List ℕ)) (inputs : List (List ℕ)) (named : List Address) (missing : Bool) (out : List Address)
+    (stopped : Option Fault) (old new : Output) (answer : Result Judged Fault) → SupposingAnswers nodelist more tag inputs named missing out stopped old new answer
+    → answer ≡ Ok (Ended Good) → (links : List LinkFile) → AreLinkFiles inputs links → IsPromisedSupposing links tag named missing out
+headline_supposing nodelist more tag inputs named missing out stopped old new (Ok (Ended status)) is good links are =
+    let done = is.right.0 in
+    let ended : status ≡ Good = cc in
+    subst (λ (f : List LinkFile). IsPromisedSupposing f tag named missing out) (one_reading inputs done.files links done.are_files are)
+    (promised_at done.files done.list more tag named missing out is.lines status done.judged ended)
+headline_supposing nodelist more tag inputs named missing out stopped old new (Ok (Unknown a)) is good links are = absurd cc
+headline_supposing nodelist more tag inputs named missing out stopped old new (Err fault) is good links are = absurd cc

@@ -8,7 +8,6 @@ pub mod Reasons
 pub mod WorldLines
 pub mod Replays
 pub mod PicturesWhy
-pub mod Assumed
 pub mod Zips
 pub mod SupposedTexts
 pub mod Leftovers

@@ -1,9 +1,11 @@
 -- Which systems are supposed, and their link files.
-use Rattle.std.proofs.Common.{◌≡◌, ◌↔◌, ◌⊎◌, ℕ, ◌+◌, ◌<◌, ◌≤◌, Bool, true, false, cond, IsTrue, not, List, [], ◌∷◌, ◌++◌, Contains, codes, length, take, get_or, map, filter, refl, sym, ap, subst, ◌∙◌, inl, inr, arith, append_assoc, append-nil}
+use Rattle.std.proofs.Common.{Ok, Err, Result, ◌≡◌, ◌↔◌, ◌⊎◌, ℕ, ◌+◌, ◌<◌, ◌≤◌, Bool, true, false, cond, IsTrue, not, List, [], ◌∷◌, ◌++◌, Contains, codes, length, take, get_or, map, filter, refl, sym, ap, subst, ◌∙◌, inl, inr, arith, append_assoc, append-nil}
 use Rattle.std.proofs.lemmas.{Bool.cases_Bool, Grind.flat_map-append, List.map-append, List.take_more, List.Elements.filter-append}
 use Rattle.std.specs.List.{AllByRecursion, AllZip, flat_map, Sorted.IsStrictlySortedBy}
 use Rattle.echo_addr.specs.declared.address.Address.{Address}
-use Rattle.echo_links.specs.{Found.address_order, Links.Area, Links.LinkFile, Links.upper}
+use Rattle.echo_links.specs.{declared.fault.LinkFault.LinkFault, Found.address_order, LinkLines.LinksOf, Links.Area, Links.LinkFile, Links.upper}
+use Rattle.echo_links.specs.declared.fault.LinkFault.TheVariants as link
+use Rattle.cmd_status.proofs.Giving.{read_more}
 use Rattle.model_graph.proofs.Members.{Among-from_Contains, Contains-from_Among}
 use Rattle.model_run.specs.Tidy.{lists}
 use Rattle.model_run.proofs.Lists.{Among-filter_from, Among-filter_to}
@@ -12,9 +14,26 @@ use Rattle.echo_net.proofs.Drawings.{address_held}
 use Rattle.cmd_status.specs.{declared.fault.Fault.Fault, Ended.IsOutOfMemory, Inputs.AreLinkFiles, Inputs.IsLinkFault}
 use Rattle.cmd_print.specs.Pushed.{Pushes}
 use Rattle.cmd_check.specs.{Assuming.link_word, JudgedAreas.unseen_line, JudgedAreas.unseen_note, Leaving.stays}
-use Rattle.cmd_check.specs.SupposedFiles.{AddsSupposed, AreExactly, AreMissing, AreSupposed, AreSupposedLines, AreUnseen, IsMissing, IsSupposedFile, Supposes, SupposesIn, area_line, has_supposed, line_of, system_line}
-use Rattle.cmd_check.proofs.Assumed.{behind_none}
+use Rattle.cmd_check.specs.SupposedFiles.{AddsSupposed, AreExactly, AreMissing, AreSupposed, AreSupposedLines, AreUnseen, IsMissing, IsSupposedFile, ReadsMore, Supposes, SupposesIn, area_line, has_supposed, line_of, system_line}
 use Rattle.cmd_check.proofs.Zips.{zip_from, zip_next, zip_to}
+
+pub not_so : (b : Bool) → b ≡ false → b ≡ true → ⊥
+not_so true is h = cc
+not_so false is h = cc
+
+-- the items after an empty list
+pub behind_none : {X : Type 0} (none all more : List X) → none ≡ [] → all ≡ none ++ more → all ≡ more
+behind_none none all more nothing whole = whole ∙ ap (λ n. n ++ more) nothing
+
+-- no further file so far
+pub read_none : (old : List LinkFile) → ReadsMore [] old old
+read_none old = record { files = []; are = tt; whole = sym (append-nil old) }
+
+-- the next file too
+pub text_read : (texts : List (List ℕ)) (k : ℕ) (text : List ℕ) (file : LinkFile) (old mid new : List LinkFile) → k < length texts → text ≡ get_or texts k text
+    → ReadsMore (take k texts) old mid → (let read : Result LinkFile LinkFault = Ok file in read ≡ Err link.Memory) ⊎ LinksOf text (Ok file)
+    → new ≡ mid ++ file ∷ [] → ReadsMore (take (k + 1) texts) old new
+text_read texts k text file old mid new inside is before read pushed = grind (arith, read_more, append_assoc)
 
 -- the missing systems of the listings are those of the areas
 pub were_missing : (files : List LinkFile) (tags : List (List ℕ)) (listings : List (List Link)) (named all : List Address)

@@ -3,7 +3,6 @@ pub mod Further
 pub mod Checking
 pub mod CheckingAll
 pub mod Assuming
-pub mod CheckingAssumed
 pub mod SupposedFiles
 pub mod Leaving
 pub mod JudgedAreas

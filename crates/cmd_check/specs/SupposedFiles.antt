@@ -6,7 +6,7 @@ use Rattle.echo_links.specs.{Found.address_order, Links.Area, Links.LinkFile, Li
 use Rattle.model_run.specs.Tidy.{lists}
 use Rattle.echo_net.specs.{Faults.IsCarried, Listings.is_listed, Nets.systems}
 use Rattle.cmd_status.specs.Inputs.{AreLinkFiles}
-use Rattle.cmd_check.specs.{Assuming.link_word, CheckingAssumed.ReadsMore}
+use Rattle.cmd_check.specs.Assuming.{link_word}
 
 -- Exactly these addresses, ascending, each once.
 pub record AreExactly (IsMember : Address → Type 0) (all : List Address) : Type 0 where
@@ -75,6 +75,12 @@ pub record AddsSupposed (listed : Bool) (files : List LinkFile) (tags : List (Li
 -- The supposed systems behind which nothing was seen: if some file has the area, all but those that are left out.
 abbrev pub AreUnseen : List LinkFile → List ℕ → List Address → List Address → List Address → Type 0
 AreUnseen files tag out here unseen = AreExactly (λ a. IsCarried files tag × Contains here a × (¬ Contains out a)) unseen
+
+-- Further link files are read after others.
+pub record ReadsMore (texts : List (List ℕ)) (old new : List LinkFile) : Type 0 where
+  pub files : List LinkFile
+  pub are : AreLinkFiles texts files
+  pub whole : new ≡ old ++ files
 
 -- The link files of the supposed systems are read after others.
 abbrev pub ReadsSupposed : Bool → List LinkFile → List (List ℕ) → List Address → List LinkFile → Type 0

@@ -116,3 +116,16 @@ SupposingAnswers nodelist more tag inputs named missing out stopped old new answ
     EndsOrUnknown (λ lines status. IsSupposingShown nodelist more tag inputs named missing out lines status × (stopped ≡ None))
     (λ a. IsFirstUnknown nodelist inputs out a × (stopped ≡ None))
     (λ fault. IsFirstFaultGiven nodelist inputs stopped fault ⊎ IsWrittenFault tag inputs named missing out fault) old new answer
+
+-- The promise of a 0: each judged area that has a verdict is tidy in what is left of the files and of those of the
+-- supposed systems, and each new message of it is in order.
+pub record IsPromisedSupposing (files : List LinkFile) (tag : Option (List ℕ)) (named : List Address) (missing : Bool) (out : List Address) : Type 0 where
+  pub tags : List (List ℕ)
+  pub are_tags : AreJudgedTags files tag out tags
+  pub assumed : List Address
+  pub whole : List LinkFile
+  pub is_whole : IsWhole files tags named missing (is_none tag) assumed whole
+  pub left : List LinkFile
+  pub are_left : AreLeft out whole left
+  pub tidy : InEachArea (judged_net files whole left assumed out) tags (Tidy left)
+  pub orderly : InEachArea (judged_net files whole left assumed out) tags (NewMessagesAreInOrder left)

@@ -8,19 +8,17 @@
 //! The crate `cmd_print` has the lines of a verdict or a drawing, and `cmd_status` how a command ends.
 //!
 //! Begin with `checking` (`check`: is an area in order). `further_text` has the lines of `check --more`. `area_tags`
-//! (which areas there are) and `checking_all` are for `check --all`. `assuming` and `checking_assumed` are for one system
-//! that sent no file. `supposing` judges nets with several of these (`supposed_files`, `supposed_areas`), and without
-//! some systems (`leaving`). `picturing` (`picture`) draws an area as a graph, and `picturing_parts` what is left of it.
-//! `reasoning`, `why_text` and `who_text` (`why`) print a run that does harm, and name the systems in it.
-//! `picturing_why` (`picture --why`) draws such a run. `replaying` and `replay_text` (`replay`) print the results of a
-//! script.
+//! (which areas there are) and `checking_all` are for `check --all`. `supposing` judges nets with systems that sent no
+//! file (`supposed_files`, `supposed_areas`, `assuming`), and without some systems (`leaving`). `picturing` (`picture`)
+//! draws an area as a graph, and `picturing_parts` what is left of it. `reasoning`, `why_text` and `who_text` (`why`)
+//! print a run that does harm, and name the systems in it. `picturing_why` (`picture --why`) draws such a run.
+//! `replaying` and `replay_text` (`replay`) print the results of a script.
 #![tactic(auto)]
 
 mod area_tags;
 mod assuming;
 mod checking;
 mod checking_all;
-mod checking_assumed;
 mod further_text;
 mod leaving;
 mod picturing;
@@ -35,10 +33,8 @@ mod supposing;
 mod who_text;
 mod why_text;
 
-pub use assuming::{assume, print_assumed};
 pub use checking::{Besides, check, status_of};
 pub use checking_all::check_all;
-pub use checking_assumed::check_assuming;
 pub use leaving::unknown_in;
 pub use picturing::{picture, print_picture};
 pub use picturing_parts::picture_without;

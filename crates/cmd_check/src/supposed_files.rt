@@ -5,12 +5,11 @@ ghost use Rattle.echo_links.specs.Links.{LinkFile, upper};
 ghost use Rattle.echo_net.specs.Listings.{IsListing, is_listed};
 ghost use Rattle.cmd_status.specs.{Ended.IsOutOfMemory, Inputs.IsLinkFault};
 ghost use Rattle.cmd_print.specs.Pushed.{Pushes};
-ghost use Rattle.cmd_check.specs.SupposedFiles.{AddsSupposed, AreMissing, AreSupposed, AreSupposedLines, AreUnseen, IsSupposedFile, ReadsSupposed, Supposes, SupposesIn};
+ghost use Rattle.cmd_check.specs.SupposedFiles.{AddsSupposed, AreMissing, AreSupposed, AreSupposedLines, AreUnseen, IsSupposedFile, ReadsMore, ReadsSupposed, Supposes, SupposesIn};
 ghost use Rattle.cmd_check.specs.SupposedFiles as supposed;
 ghost use Rattle.cmd_check.specs.JudgedAreas.{supposed_here, unseen_line};
 
 use crate::assuming::{is_carried, push_links};
-use crate::checking_assumed::read_more;
 use crate::leaving::{push_area, push_system, staying};
 use cmd_status::{Fault, link_files};
 use echo_addr::{Address, Items, put_in_order};
@@ -156,6 +155,22 @@ pub(crate) fn read_supposed<'a>(
     let mut texts = Vec::new(alloc);
     push_files(alloc, &mut texts, links.as_slice(), areas, listed, assumed)?;
     read_more(alloc, links, &texts)?;
+    Ok(())
+}
+
+// Reads further link files, and appends them to those that were read.
+fn read_more<'a>(
+    alloc: Global,
+    links: &mut Vec<LinkFile>,
+    texts: &[Items<u8>],
+) -> Result<(), Fault<'a>>
+    ensures ok { OnOk result (ReadsMore texts.now links.old.items links.new.items) }
+    ensures err { IfErr result (λ fault. IsOutOfMemory fault ⊎ IsLinkFault texts.now fault) }
+{
+    'texts: for text in texts {
+        let file = LinkFile::read(alloc, text.as_slice())?;
+        links.push(file)?;
+    }
     Ok(())
 }
 

@@ -1,12 +1,13 @@
 //! What `check` answers with several assumed systems, and with `--without`.
-ghost use Rattle.std.specs.Prelude.{◌≡◌, ◌∷◌, [], List, None, IfOk, filter, is_none, length, map, option_copied};
+ghost use Rattle.std.specs.Prelude.{◌≡◌, ◌∷◌, [], List, None, Ok, IfOk, filter, is_none, length, map, option_copied};
 ghost use Rattle.std.specs.List.{AllZip};
 ghost use Rattle.echo_links.specs.Links.{LinkFile, upper};
 ghost use Rattle.echo_net.specs.Listings.{IsListing};
-ghost use Rattle.cmd_status.specs.{Devices.output_of, Ended.Answers, Inputs.IsLinkFault};
+ghost use Rattle.cmd_status.specs.{Devices.output_of, declared.status.Status.TheVariants.Good, Ended.Answers, Inputs.AreLinkFiles, Inputs.IsLinkFault};
 ghost use Rattle.cmd_check.specs.JudgedAreas.{judged_net};
 ghost use Rattle.cmd_check.specs.Leaving.{is_judged, texts_left};
-ghost use Rattle.cmd_check.specs.Supposing.{AreJudgedTags, IsJudged, IsJudgingFault, IsKnownFault, IsKnownJudged, IsLeftShown, IsNetShown, SupposingAnswers, ended_as};
+ghost use Rattle.cmd_check.specs.declared.supposing.Judged.TheVariants.{Ended};
+ghost use Rattle.cmd_check.specs.Supposing.{AreJudgedTags, IsJudged, IsJudgingFault, IsKnownFault, IsKnownJudged, IsLeftShown, IsNetShown, IsPromisedSupposing, SupposingAnswers, ended_as};
 
 use crate::area_tags::area_tags;
 use crate::checking::Besides;
@@ -36,6 +37,22 @@ pub enum Judged {
 /// assumed system of it, one for those behind which nothing was seen, one for each part that is cut off, and one for each
 /// left out system. An assumed system is judged as if it listed exactly those who list it.
 pub fn check_supposing<'a, W: Sink>(
+    alloc: Global,
+    besides: Besides<'_>,
+    tag: Option<&[u8]>,
+    files: &[Items<u8>],
+    supposed: Supposed<'_>,
+    stopped: Option<Fault<'a>>,
+    out: &mut W,
+) -> Result<Judged, Fault<'a>>
+    ensures answer { SupposingAnswers (option_copied besides.entry.nodelist) besides.entry.more (option_copied tag.entry) files.now supposed.entry.named.now supposed.entry.missing supposed.entry.without.now stopped.entry (output_of W.contents W.failures W.holds out.old) (output_of W.contents W.failures W.holds out.new) result }
+    // What a 0 promises: each judged area that has a verdict is tidy in what is left, and each new message of it is in order.
+    ensures headline { result ≡ Ok (Ended Good) → (links : List LinkFile) → AreLinkFiles files.now links → IsPromisedSupposing links (option_copied tag.entry) supposed.entry.named.now supposed.entry.missing supposed.entry.without.now }
+{
+    check_given(alloc, besides, tag, files, supposed, stopped, out)
+}
+
+fn check_given<'a, W: Sink>(
     alloc: Global,
     besides: Besides<'_>,
     tag: Option<&[u8]>,

@@ -1,7 +1,6 @@
 use cmd_check::{
-    Besides, Judged, Supposed, SupposedHere, assume, check, check_all, check_assuming,
-    check_supposing, picture, picture_why, picture_without, print_assumed, print_supposed, replay,
-    suppose, unknown_in, why,
+    Besides, Judged, Supposed, SupposedHere, check, check_all, check_supposing, picture,
+    picture_why, picture_without, print_supposed, replay, suppose, unknown_in, why,
 };
 use cmd_input::{
     MAX_INPUT, MAX_TEXT_FILE, PathNames, Progress, read_file, read_if_given, read_links,
@@ -76,40 +75,19 @@ fn check_files<'a, W: Sink>(
 ) -> Result<Judged, Fault<'a>> {
     let (files, stopped) = read_links(rt, links);
     let tag = tag.map(|tag| tag.as_bytes());
-    let Some(tag) = tag else {
-        if supposes(supposed) {
-            return check_supposing(rt.alloc(), besides, None, &files, supposed, stopped, out);
-        }
-        let status = check_all(rt.alloc(), besides, &files, stopped, out)?;
-        return Ok(Judged::Ended(status));
+    if supposes(supposed) {
+        return check_supposing(rt.alloc(), besides, tag, &files, supposed, stopped, out);
+    }
+    let status = match tag {
+        Some(tag) => check(rt.alloc(), besides, tag, &files, stopped, out)?,
+        None => check_all(rt.alloc(), besides, &files, stopped, out)?,
     };
-    if !supposes(supposed) {
-        let status = check(rt.alloc(), besides, tag, &files, stopped, out)?;
-        return Ok(Judged::Ended(status));
-    }
-    if !assumes_one(supposed) {
-        return check_supposing(
-            rt.alloc(),
-            besides,
-            Some(tag),
-            &files,
-            supposed,
-            stopped,
-            out,
-        );
-    }
-    let alloc = rt.alloc();
-    let status = check_assuming(alloc, besides, tag, &files, supposed.named, stopped, out)?;
     Ok(Judged::Ended(status))
 }
 
 // Whether a system is judged without its file, or left out.
 fn supposes(supposed: Supposed<'_>) -> bool {
     supposed.missing || !supposed.named.is_empty() || !supposed.without.is_empty()
-}
-
-fn assumes_one(supposed: Supposed<'_>) -> bool {
-    !supposed.missing && supposed.named.len() == 1 && supposed.without.is_empty()
 }
 
 fn addresses_in<'a>(rt: &HostRuntime, words: &[&str]) -> Result<Vec<Address>, Fault<'a>> {
@@ -148,7 +126,7 @@ fn read_net<'a>(
     let here = if stopped.is_none() {
         add_supposed(rt, tag, &mut files, supposed)?
     } else {
-        assumed_systems(rt, &[])?
+        nobody(rt)
     };
     Ok(ShownNet {
         files,
@@ -163,21 +141,17 @@ fn add_supposed<'a>(
     files: &mut Vec<Items<u8>>,
     supposed: Supposed<'_>,
 ) -> Result<SupposedHere, Fault<'a>> {
-    if assumes_one(supposed) {
-        assume(rt.alloc(), tag.as_bytes(), files, supposed.named)?;
-        return Ok(assumed_systems(rt, supposed.named)?);
-    }
     if !supposes(supposed) {
-        return Ok(assumed_systems(rt, &[])?);
+        return Ok(nobody(rt));
     }
     suppose(rt.alloc(), tag.as_bytes(), files, supposed)
 }
 
-fn assumed_systems(rt: &HostRuntime, systems: &[Address]) -> Result<SupposedHere, AllocError> {
-    Ok(SupposedHere {
-        systems: Vec::from_slice(rt.alloc(), systems)?,
+fn nobody(rt: &HostRuntime) -> SupposedHere {
+    SupposedHere {
+        systems: Vec::new(rt.alloc()),
         unseen: Vec::new(rt.alloc()),
-    })
+    }
 }
 
 fn noted<'a, W: Sink>(
@@ -187,9 +161,7 @@ fn noted<'a, W: Sink>(
     status: Status,
     out: &mut W,
 ) -> Result<Status, Fault<'a>> {
-    if here.systems.len() == 1 {
-        print_assumed(rt.alloc(), begin, &here.systems, out)?;
-    } else if !here.systems.is_empty() {
+    if !here.systems.is_empty() {
         print_supposed(rt.alloc(), begin, here, &[], out)?;
     }
     Ok(status)

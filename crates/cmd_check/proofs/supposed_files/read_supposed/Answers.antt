@@ -1,6 +1,6 @@
 use Rattle.std.proofs.{Common.◌∙◌, Common.List, Common.subst, Common.ℕ, lemmas.Result.err_from_is_err_and}
-use Rattle.cmd_check.specs.CheckingAssumed.{ReadsMore}
-use Rattle.cmd_check.proofs.{Assumed.behind_none, SupposedTexts.texts_refused}
+use Rattle.cmd_check.specs.SupposedFiles.{ReadsMore}
+use Rattle.cmd_check.proofs.SupposedTexts.{behind_none, texts_refused}
 use Rattle.cmd_check.proofs.supposed_files.read_supposed.Goals as goal
 
 pub push_files-requires : goal.push_files-requires

@@ -1,5 +1,5 @@
 use Rattle.std.proofs.Common.{◌∙◌, sym}
-use Rattle.cmd_check.proofs.{Assumed.not_so, SupposedTexts.none_unseen, SupposedTexts.were_unseen}
+use Rattle.cmd_check.proofs.SupposedTexts.{none_unseen, not_so, were_unseen}
 use Rattle.cmd_check.proofs.supposed_files.unseen.Goals as goal
 
 pub returns-in_ok-unseen : goal.returns-in_ok-unseen

@@ -1,7 +1,7 @@
 use Rattle.std.proofs.{Common.arith, lemmas.Result.err_from_is_err_and}
 use Rattle.cmd_status.proofs.Giving.{link_refused}
-use Rattle.cmd_check.proofs.Assumed.{read_none, text_read}
-use Rattle.cmd_check.proofs.checking_assumed.read_more.Goals as goal
+use Rattle.cmd_check.proofs.SupposedTexts.{read_none, text_read}
+use Rattle.cmd_check.proofs.supposed_files.read_more.Goals as goal
 
 pub texts-init : goal.texts-init
 texts-init c = read_none c.args.links.now.items
