@@ -1,9 +1,9 @@
 #!/usr/bin/env bash
 # tool_completions.sh TOOL bash|zsh|fish: prints completions of a tool of examples/move. Its options are the words with
-# two hyphens in the description at its beginning.
+# two hyphens in the description at its beginning. Commands in backquotes have options of their own.
 set -eu
 name=$(basename "$1")
-options=$(awk '/"""/ { marks++ } marks == 1' "$1" | grep -o -- '--[a-z][a-z-]*' | sort -u)
+options=$(awk '/"""/ { marks++ } marks == 1' "$1" | sed 's/`[^`]*`//g' | grep -o -- '--[a-z][a-z-]*' | sort -u)
 case $2 in
   bash) echo "complete -o default -W '$(echo $options)' $name" ;;
   zsh)

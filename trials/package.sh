@@ -53,6 +53,8 @@ in_fish() {
   HOME=$root fish -c 'source $argv[1]; complete -C "echonet $argv[2]"' \
     "$root/one/usr/share/fish/vendor_completions.d/echonet.fish" "$1" | cut -f 1 | sort
 }
+# The options of a help text.
+options_of() { sed -n '/^Options:/,/^$/p' <<< "$1" | sed -nE 's/^ +(-., )?(--[a-z-]+).*/\2/p' | sort -u; }
 help=$(bin/echonet --help) || exit 1
 commands=$(sed -n '/^Commands:/,/^$/s/^  \([a-z]*\) .*/\1/p' <<< "$help")
 check 'there are commands' "$([ "$(wc -w <<< "$commands")" -ge 12 ] && echo yes)" yes
@@ -61,7 +63,7 @@ check 'a command begun' "$(complete ch)" check
 for command in $commands; do
   [ "$command" = help ] && continue
   help=$(bin/echonet "$command" --help) || exit 1
-  wanted=$(sed -n '/^Options:/,/^$/p' <<< "$help" | grep -o -- '--[a-z][a-z-]*' | sort -u)
+  wanted=$(options_of "$help")
   check "options of $command" "$(complete "$command" --)" "$wanted"
   if command -v fish > /dev/null; then check "options of $command in fish" "$(in_fish "$command --")" "$wanted"; fi
   for shell in zsh/site-functions/_echonet fish/vendor_completions.d/echonet.fish; do
@@ -84,7 +86,7 @@ check 'there are words' "$([ "$(wc -w <<< "$commands")" -ge 13 ] && echo yes)" y
 check 'words' "$(station_complete one '')" "$(sort <<< "$commands")"
 for command in $commands; do
   check "options of echonet-station $command" "$(station_complete one "$command" --)" \
-    "$("$tool" "$command" --help | sed -n '/^Options:/,/^$/p' | grep -o -- '--[a-z][a-z-]*' | sort -u)"
+    "$(options_of "$("$tool" "$command" --help)")"
 done
 mkdir -p "$root/folders/one"
 check 'folders of stations' "$(cd "$root/folders" && station_complete o)" one
