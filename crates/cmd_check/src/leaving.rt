@@ -1,5 +1,5 @@
 //! Link files as if some systems had none and no file listed them.
-ghost use Rattle.std.specs.Prelude.{◌≡◌, ◌++◌, ◌⊎◌, IfErr, IfOk, OnOk, Some, filter, map, slice_get};
+ghost use Rattle.std.specs.Prelude.{◌≡◌, ◌++◌, ◌⊎◌, IfErr, IfOk, OnOk, Some, filter, slice_get};
 ghost use Rattle.std.specs.List.{flat_map, list_any};
 ghost use Rattle.echo_links.specs.Links.{Area, is_link, links_of};
 ghost use Rattle.echo_net.specs.Drawn.{has_address};

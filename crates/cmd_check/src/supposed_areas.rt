@@ -1,11 +1,10 @@
 //! The lines of `check` with `--assume`, `--assume-missing` and `--without`.
-ghost use Rattle.std.specs.Prelude.{◌≡◌, ◌≤◌, ◌++◌, ◌&&◌, ℕ, List, IfOk, OnOk, length, option_copied};
+ghost use Rattle.std.specs.Prelude.{◌≡◌, ◌≤◌, ◌++◌, ◌&&◌, List, IfOk, OnOk, length, option_copied};
 ghost use Rattle.std.specs.List.{AllZip, count_by, flat_map};
 ghost use Rattle.echo_links.specs.Links.{LinkFile};
 ghost use Rattle.echo_net.specs.Listings.{IsListing};
 ghost use Rattle.cmd_status.specs.{Devices.output_of};
 ghost use Rattle.cmd_print.specs.Pushed.{Pushes};
-ghost use Rattle.cmd_check.specs.Assuming.{assumed_note};
 ghost use Rattle.cmd_check.specs.CheckingAll.{IsAreaChecked};
 ghost use Rattle.cmd_check.specs.JudgedAreas.{AreAreasJudged, AreNetLines, AreTailLines, CutsShown, IsAreaJudged, IsVerdictLeft, PrintsSupposed, alone_line, cut_line, judged_areas_line, judged_net, supposed_notes, unseen_note, without_line, without_note};
 ghost use Rattle.cmd_check.specs.JudgedAreas as judged;
