@@ -86,8 +86,9 @@ class Net:
             self.wrong.append("post: %r" % run.stderr)
 
     def scan(self, x, kill=False):
-        out = self.run("scan", "--at", MOMENT, self.at(x, "links"), self.at(x, "base"), self.at(x, "out"), kill=kill)
-        for name in sorted(os.listdir(self.at(x, "out"))) if out is not None else ():
+        """A scan. A packet that has its name is whole, also after a kill."""
+        self.run("scan", "--at", MOMENT, self.at(x, "links"), self.at(x, "base"), self.at(x, "out"), kill=kill)
+        for name in sorted(os.listdir(self.at(x, "out"))):
             path = self.at(x, "out", name)
             if name.endswith(".pkt"):
                 moved = os.path.join(self.folder, "%d.%d.pkt" % (len(self.packets), x))
