@@ -269,10 +269,11 @@ report_left() {
   mv "$station/left.new" "$station/left"
 }
 
-# Whether the gate has anything to do. Most runs bring nothing, and start nothing.
+# Whether the gate has anything to do: received files, or what a stopped run left. Most runs bring nothing, and start
+# nothing.
 has_gate_work() {
   is_any "$inbound"/*.[pP][kK][tT] "$inbound"/*.[mM][oO]? "$inbound"/*.[tT][uU]? "$inbound"/*.[wW][eE]? \
-    "$inbound"/*.[tT][hH]? "$inbound"/*.[fF][rR]? "$inbound"/*.[sS][aA]? "$inbound"/*.[sS][uU]? "$station"/gate/*.in
+    "$inbound"/*.[tT][hH]? "$inbound"/*.[fF][rR]? "$inbound"/*.[sS][aA]? "$inbound"/*.[sS][uU]? "$station"/gate/*
 }
 
 # The gate takes the files in. Its status is 1 if it put something aside. The lines that say so go to standard error, as

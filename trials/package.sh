@@ -158,12 +158,13 @@ if command -v dpkg-deb > /dev/null; then
     fresh=$root/fresh
     mkdir -p "$fresh"/var/lib/dpkg/{info,updates,triggers} "$fresh/tmp"
     touch "$fresh/var/lib/dpkg/status"
+    # The scripts of the package need a shell and rm.
+    for file in /bin/sh /bin/rm $(ldd bin/echonet /bin/sh /bin/rm | grep -o '/[^ :]*\.so[^ ]*' | sort -u); do
+      mkdir -p "$fresh$(dirname "$file")"
+      cp -L "$file" "$fresh$file"
+    done
     dpkg --root="$fresh" --force-depends --install "$package" > "$root/dpkg.log" 2>&1
     check 'dpkg installs it' "$?" 0
-    for library in $(ldd bin/echonet | grep -o '/[^ ]*'); do
-      mkdir -p "$fresh$(dirname "$library")"
-      cp -L "$library" "$fresh$library"
-    done
     check 'its version under the fresh root' "$(chroot "$fresh" /usr/bin/echonet --version)" "$(bin/echonet --version)"
     cp "$root/station/links" "$fresh/tmp/links"
     check 'a posting under the fresh root' "$(echo Hello | chroot "$fresh" /usr/bin/echonet post --area TEST --to All --from Ann \

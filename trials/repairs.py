@@ -42,7 +42,7 @@ class Net:
         else:
             self.pairs = tree_of_polygons(self.chance, self.systems)
         self.packets, self.copies, self.lists, self.lives = [], [], [], dict.fromkeys(self.systems, 0)
-        self.serial, self.wrong, self.longest = 0, [], 0
+        self.serial, self.moved, self.wrong, self.longest = 0, 0, [], 0
         for x in self.systems:
             os.makedirs(self.at(x, "out"))
             if self.chance.random() < 0.5:
@@ -86,11 +86,13 @@ class Net:
             self.wrong.append("post: %r" % run.stderr)
 
     def scan(self, x, kill=False):
-        out = self.run("scan", "--at", MOMENT, self.at(x, "links"), self.at(x, "base"), self.at(x, "out"), kill=kill)
-        for name in sorted(os.listdir(self.at(x, "out"))) if out is not None else ():
+        """A scan. A packet that has its name is whole, also after a kill."""
+        self.run("scan", "--at", MOMENT, self.at(x, "links"), self.at(x, "base"), self.at(x, "out"), kill=kill)
+        for name in sorted(os.listdir(self.at(x, "out"))):
             path = self.at(x, "out", name)
             if name.endswith(".pkt"):
-                moved = os.path.join(self.folder, "%d.%d.pkt" % (len(self.packets), x))
+                self.moved += 1
+                moved = os.path.join(self.folder, "%d.pkt" % self.moved)
                 os.rename(path, moved)
                 self.packets.append((int(name.split(".")[2]), moved))
 
