@@ -1,12 +1,12 @@
 -- The words that are accepted as ids are those of ids.
-use Rattle.std.proofs.Common.{◌≡◌, ◌⊎◌, ℕ, zero, suc, ◌+◌, ◌-◌, ◌<◌, ◌≤◌, Bool, true, false, Option, Some, None, List, [], ◌∷◌, ◌++◌, length, inl, inr, refl, sym, ap, subst, ◌∙◌, ⊎_elim, arith}
+use Rattle.std.proofs.Common.{◌≡◌, ◌⊎◌, ℕ, zero, suc, ◌+◌, ◌-◌, ◌<◌, ◌≤◌, Bool, true, false, Option, Some, None, List, [], ◌∷◌, ◌++◌, length, inl, inr, refl, sym, ap, subst, ◌∙◌, arith}
 use Rattle.std.proofs.lemmas.{Bool.cases_Bool, Bool.cond-false, Bool.cond-true, Bool.eqb-true, Grind.fold-append}
-use Rattle.std.specs.Prelude.{◌==◌, ◌&&◌, ◌||◌, ◌/◌, ◌%◌, ◌*◌, not, nat_lt, bytes_eq, codes, if◌then◌else◌, slice_index}
-use Rattle.std.specs.{Cmp.Lexicographic.bytes_decides, List.fold, List.flat_map, List.list_all}
+use Rattle.std.specs.Prelude.{◌==◌, ◌&&◌, ◌*◌, not, nat_lt, bytes_eq, codes, if◌then◌else◌, slice_index}
+use Rattle.std.specs.{Cmp.Lexicographic.bytes_decides, List.fold, List.list_all}
 use Rattle.echo_addr.specs.Entries.{is_blank}
 use Rattle.echo_charset.specs.Escaped.{escaped, escaped_byte, is_plain}
 use Rattle.cmd_repair.specs.Ids.{IsId, IsWordOfId, is_text_byte}
-use Rattle.cmd_repair.specs.Words.{at_byte, at_escape, at_first_digit, at_second_digit, at_value, behind_first, behind_second, hex_digit, is_hidden, is_id_word, read_on}
+use Rattle.cmd_repair.specs.Words.{at_byte, at_escape, at_first_digit, at_second_digit, behind_second, hex_digit, is_hidden, is_id_word, read_on}
 
 -- ---- tests
 

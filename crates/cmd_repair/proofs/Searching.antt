@@ -2,7 +2,7 @@
 use Rattle.std.proofs.Common.{◌≡◌, ℕ, zero, suc, ◌+◌, ◌<◌, Bool, true, false, List, [], ◌∷◌, length, map, get_or, Result, Ok, Err, is_ok, refl, sym, ap, ◌∙◌, inl, inr, arith}
 use Rattle.std.proofs.lemmas.Bool.{cases_Bool, ltb-false, ltb-true, or_from, or_left, or_right}
 use Rattle.std.proofs.lemmas.{Cmp.nat_list_cmp_total, Cmp.nat_list_eq_equiv, List.get_or-map, List.length-map, List.Sorted.searchable_from_sorted, Map.Text.is_eq-slice_cmp}
-use Rattle.std.specs.{declared.cmp.Ordering.Ordering, declared.cmp.Ordering.TheVariants.Equal, Cmp.Lexicographic.slice_cmp, Ordering.is_eq, Ordering.is_lt, Ordering.nat_cmp, List.list_any}
+use Rattle.std.specs.{Cmp.Lexicographic.slice_cmp, Ordering.is_eq, Ordering.is_lt, Ordering.nat_cmp, List.list_any}
 use Rattle.std.specs.{Prelude.bytes_eq, Prelude.nat_lt, List.Sorted.IsBinarySearchResult, List.Sorted.IsSearchInRange, List.Sorted.IsSorted, List.Sorted.IsSortedBy}
 
 none_passes : {X : Type 0} (p : X → Bool) (xs : List X) → ((k : ℕ) (d : X) → k < length xs → p (get_or xs k d) ≡ false) → list_any p xs ≡ false

@@ -1,5 +1,5 @@
 -- A packet of all messages of an area, message by message.
-use Rattle.std.proofs.Common.{◌≡◌, ℕ, ◌+◌, ◌<◌, ◌≤◌, List, [], ◌∷◌, ◌++◌, length, map, take, drop, Option, Some, true, inl, refl, sym, ap, subst, ◌∙◌, ⊎_elim, arith, append_assoc, append-nil, length-append}
+use Rattle.std.proofs.Common.{◌≡◌, ℕ, ◌+◌, ◌<◌, ◌≤◌, List, [], ◌∷◌, ◌++◌, length, map, take, drop, Option, true, inl, sym, ap, subst, ◌∙◌, ⊎_elim, arith, append_assoc, length-append}
 use Rattle.std.proofs.lemmas.{Bool.cases_lt, List.drop_all, List.drop-append-le, List.length-take, List.length-take-le, List.map-append, List.Elements.filter-append}
 use Rattle.std.proofs.KnownBytes.{Appends-trans}
 use Rattle.std.specs.{Io.KnownBytes.Appends, Prelude.filter, Prelude.slice_get}
@@ -10,7 +10,7 @@ use Rattle.disk_io.specs.Device.{Failed}
 use Rattle.echo_addr.specs.declared.address.Address.{Address}
 use Rattle.echo_filed.specs.Filed.{Filed}
 use Rattle.echo_links.specs.Links.{LinkFile, upper}
-use Rattle.echo_packet.specs.{Header.header_bytes, Header.word, Message.Message, Message.messages_bytes, Packet.packet_bytes}
+use Rattle.echo_packet.specs.{Header.header_bytes, Header.word, Message.Message, Message.messages_bytes}
 use Rattle.echo_toss.proofs.Counts.{messages_append}
 use Rattle.echo_toss.specs.declared.counting.CountedPacket.{CountedPacket}
 use Rattle.model_steps.proofs.Encoding.{header_size, packet_size}

@@ -1,5 +1,5 @@
 -- What `list --ids` prints.
-use Rattle.std.specs.Prelude.{◌≡◌, ℕ, ◌-◌, Bool, List, [], ◌∷◌, ◌++◌, codes, length, map, filter, bytes_eq, Option, Some, None, Result}
+use Rattle.std.specs.Prelude.{◌≡◌, ℕ, ◌-◌, Bool, List, [], ◌∷◌, ◌++◌, codes, length, map, filter, bytes_eq, Option, Some, None}
 use Rattle.std.specs.{Cmp.Lexicographic.slice_cmp, List.filter_map, List.flat_map, List.Sorted.IsPermutation, List.Sorted.IsSorted, Ordering.nat_cmp}
 use Rattle.base_file.specs.Base.{Base}
 use Rattle.echo_charset.specs.Escaped.{escaped_line}

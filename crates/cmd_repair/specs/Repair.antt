@@ -13,7 +13,7 @@ use Rattle.echo_text.specs.Echo.{msgid_of}
 use Rattle.echo_toss.specs.declared.counting.CountedPacket.{CountedPacket}
 use Rattle.model_steps.specs.{declared.fault.ScanFault.TheVariants.BadStamp, declared.packet.Packet.Packet, declared.stamp.Stamp.Stamp, Resending.is_whole_in, Scanning.copy_to, Scanning.header_to}
 use Rattle.model_steps.specs.Stamps.{is_stamp}
-use Rattle.cmd_status.specs.{declared.fault.Fault.Fault, declared.fault.Fault.TheVariants.Scan, Ended.IsOutOfMemory}
+use Rattle.cmd_status.specs.{declared.fault.Fault.TheVariants.Scan, Ended.IsOutOfMemory}
 use Rattle.cmd_repair.specs.declared.send_fault.SendFault.{SendFault, TheVariants.Messages, TheVariants.Device}
 
 -- Whether a list of words names the id. A message without an id is in no list.

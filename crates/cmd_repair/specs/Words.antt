@@ -1,5 +1,5 @@
 -- The lines of a list of ids.
-use Rattle.std.specs.Prelude.{ℕ, ◌+◌, ◌-◌, ◌*◌, ◌%◌, ◌==◌, ◌&&◌, ◌||◌, not, nat_le, nat_lt, nat_eq, Bool, List, [], ◌∷◌, ◌++◌, length, take, drop, codes, decimal, fold, if◌then◌else◌, bytes_eq, min, ◌^◌, Option, Some, None}
+use Rattle.std.specs.Prelude.{ℕ, ◌+◌, ◌-◌, ◌*◌, ◌%◌, ◌==◌, ◌&&◌, ◌||◌, not, nat_le, nat_lt, nat_eq, Bool, List, ◌++◌, take, drop, codes, decimal, fold, if◌then◌else◌, bytes_eq, min, ◌^◌, Option, Some, None}
 use Rattle.std.specs.List.{prefix_len, starts_with}
 use Rattle.echo_charset.specs.{Escaped.is_plain, Words.printed_word}
 

@@ -9,12 +9,12 @@ use Rattle.model_run.proofs.Lists.{Among-filter_from, Among-filter_to}
 use Rattle.echo_filed.specs.Sets.{address_before}
 use Rattle.model_run.specs.Tidy.{carries, lists}
 use Rattle.echo_net.specs.declared.verdict.NetFault.TheVariants.{NoSuchArea, TwoFiles, SelfLink, Unknown, OneSided, SameNetNode, Apart, Loop}
-use Rattle.echo_net.specs.AllFaults.{AddsLinkFaults, AddsTwoFiles, AppliesTo, AreAllFaults, AreFurther, AreLinkFaults, fault_where, in_preference, is_one_sided, is_self_link, is_unknown}
-use Rattle.echo_net.specs.Faults.{AllAreAnswered, AllAreKnown, AreSoundLinks, HaveOneFileEach, IsFirstFault, NoneListsItself}
+use Rattle.echo_net.specs.AllFaults.{AddsLinkFaults, AddsTwoFiles, AppliesTo, AreAllFaults, AreFurther, AreLinkFaults, fault_where, is_one_sided, is_self_link, is_unknown}
+use Rattle.echo_net.specs.Faults.{AllAreAnswered, AllAreKnown, HaveOneFileEach, IsFirstFault, NoneListsItself}
 use Rattle.echo_net.specs.{declared.link.Link.Link, declared.verdict.NetFault.NetFault, declared.verdict.Verdict.TheVariants.No, Drawn.AreLinksInOrder, Drawn.back, Drawn.has_address, Drawn.has_link}
 use Rattle.echo_net.specs.{Firsts.HasTwin, Firsts.pair_before, Nets.link, Nets.systems}
 use Rattle.echo_net.proofs.Collected.{is_carried, not_carried, twin_from, twin_to, Different-apart}
-use Rattle.echo_net.proofs.{Drawings.carriers_held, Drawings.links_held, Drawings.links_in_order, Orders.link_order, Orders.not_before_itself, Orders.same_exact, Orders.same_itself}
+use Rattle.echo_net.proofs.{Drawings.carriers_held, Drawings.links_held, Drawings.links_in_order, Orders.link_order, Orders.same_exact, Orders.same_itself}
 use Rattle.echo_net.specs.declared.each_fault.Kind.TheVariants as kinds
 
 -- one more item of a filtered list

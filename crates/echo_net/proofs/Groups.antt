@@ -1,5 +1,5 @@
 -- The parts of an area, as groups of carriers with one label.
-use Rattle.std.proofs.Common.{◌≡◌, ◌≢◌, ◌<◌, ◌≤◌, ◌+◌, ◌==◌, ◌&&◌, ◌↔◌, ◌⊎◌, inl, inr, ℕ, Bool, true, false, IsTrue, if◌then◌else◌, List, [], ◌∷◌, ◌++◌, length, filter, take, get_or, refl, sym, ap, subst, ◌∙◌, arith}
+use Rattle.std.proofs.Common.{◌≡◌, ◌<◌, ◌+◌, ◌==◌, ◌↔◌, inl, inr, ℕ, Bool, true, IsTrue, if◌then◌else◌, List, [], ◌∷◌, ◌++◌, length, filter, take, get_or, refl, sym, ap, subst, ◌∙◌, arith}
 use Rattle.std.specs.{Prelude.Contains, List.remove, List.Sorted.IsStrictlySortedBy}
 use Rattle.std.proofs.lemmas.Bool.{and_from, and_parts, cases_Bool, cases_lt, eq-eqb, eqb-true}
 use Rattle.std.proofs.lemmas.List.{get_or_append_left, get_or_default, get_or_push, length-append, take_more}
@@ -7,12 +7,12 @@ use Rattle.std.proofs.lemmas.List.Elements.{Contains-append_left, Contains-get_o
 use Rattle.echo_addr.specs.declared.address.Address.{Address}
 use Rattle.echo_links.specs.{LinkLines.no_address, Links.LinkFile}
 use Rattle.echo_filed.specs.Sets.{address_before}
-use Rattle.model_graph.specs.{Rows.IsAscending, Walk.IsAt, Walk.Reaches, Walk.Walk}
+use Rattle.model_graph.specs.{Walk.IsAt, Walk.Reaches, Walk.Walk}
 use Rattle.model_graph.proofs.Members.{Among-from_Contains, Contains-from_Among, Reaches-trans}
 use Rattle.model_run.proofs.{Lists.Among-filter_from, Lists.Among-filter_to, Places.lister-carries}
 use Rattle.model_run.specs.Tidy.{carries, lists}
 use Rattle.echo_net.specs.{declared.link.Link.Link, Drawn.back, Drawn.has_link, Faults.AreInOrder, Nets.link, Rows.system_at}
-use Rattle.echo_net.specs.Parts.{AreBothWays, AreGrouped, AreLabels, AreOthers, ArePaired, AreParts, AreRelabeled, AreSettled, IsGroup, IsLargestAt, IsPart, JoinsEnds, JoinsLabels, linked_both, relabeled}
+use Rattle.echo_net.specs.Parts.{AreBothWays, AreGrouped, AreLabels, AreOthers, ArePaired, AreParts, AreSettled, IsGroup, IsLargestAt, JoinsEnds, JoinsLabels, linked_both, relabeled}
 use Rattle.echo_net.proofs.{Drawings.links_held, Owned.before_back, Owned.in_order_from_sorted}
 use Rattle.echo_net.proofs.Orders.{address_order, address_total, at_place, before_is, earlier_less, not_before_itself, one_place}
 use Rattle.std.specs.Ordering.{is_lt}

@@ -1,6 +1,6 @@
 -- The systems that an area lists, and those that list them.
-use Rattle.std.proofs.Common.{◌≡◌, ◌↔◌, ◌⊎◌, ◌&&◌, inl, inr, ◌==◌, Bool, true, false, not, IsTrue, List, [], ◌∷◌, ◌++◌, length, map, filter, ℕ, refl, sym, ap, subst, ◌∙◌, arith}
-use Rattle.std.specs.{Prelude.Contains, List.flat_map, List.list_any}
+use Rattle.std.proofs.Common.{◌≡◌, ◌↔◌, ◌&&◌, inl, inr, ◌==◌, Bool, true, not, IsTrue, List, [], ◌∷◌, ◌++◌, length, map, filter, ℕ, refl, sym, ap, subst, ◌∙◌, arith}
+use Rattle.std.specs.{Prelude.Contains, List.flat_map}
 use Rattle.std.proofs.lemmas.Bool.{and_from, and_parts, cases_Bool, ne_eqb}
 use Rattle.std.proofs.lemmas.List.Elements.{Contains-append_cases, Contains-append_left, Contains-append_right}
 use Rattle.echo_addr.specs.declared.address.Address.{Address}

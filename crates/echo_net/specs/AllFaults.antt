@@ -6,7 +6,7 @@ use Rattle.echo_links.specs.Links.{LinkFile, has_area, same_address}
 use Rattle.model_run.specs.Tidy.{Carries, lists}
 use Rattle.echo_net.specs.declared.verdict.NetFault.TheVariants.{NoSuchArea, TwoFiles, SelfLink, Unknown, OneSided, SameNetNode, Apart, Loop}
 use Rattle.echo_net.specs.declared.{each_fault.Kind.Kind, link.Link.Link, verdict.NetFault.NetFault, verdict.Verdict.Verdict, verdict.Verdict.TheVariants.Yes, verdict.Verdict.TheVariants.No}
-use Rattle.echo_net.specs.{Drawn.AreLinksInOrder, Drawn.back, Drawn.has_address, Drawn.has_link, Firsts.HasTwin, Firsts.OccursTwice, Nets.link, Nets.systems}
+use Rattle.echo_net.specs.{Drawn.AreLinksInOrder, Drawn.back, Drawn.has_address, Drawn.has_link, Firsts.HasTwin, Firsts.OccursTwice, Nets.systems}
 use Rattle.echo_net.specs.declared.each_fault.Kind.TheVariants as kinds
 
 -- The fault of this kind between the two ends of a link.

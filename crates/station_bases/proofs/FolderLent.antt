@@ -5,7 +5,7 @@ use Rattle.std.specs.Prelude.{IsSome}
 use Rattle.echo_filed.specs.Filed.{Filed}
 use Rattle.disk_io.specs.{Disk.DiskState, Disk.Files, Disk.IsIn, Disk.bytes_in, Runs.OneStepOn, Synced.IsOnDisk}
 use Rattle.disk_io.proofs.Moments.{left_now}
-use Rattle.base_log.specs.{AtRest.IsStaged, Log.opened, Names.keys_of, Names.log_of, Names.messages_of, Standing.BaseBytes, Standing.IsEnded, Standing.Represents, Standing.base_at}
+use Rattle.base_log.specs.{AtRest.IsStaged, Names.keys_of, Names.log_of, Names.messages_of, Standing.BaseBytes, Standing.IsEnded, Standing.Represents, Standing.base_at}
 use Rattle.base_log.specs.declared.log.{End.End, CommitRecord.CommitRecord}
 use Rattle.base_log.proofs.{Paths.keys_in, Paths.log_in, Paths.messages_in, Same.AreThere-same, Same.RecordsBase-same}
 use Rattle.base_folder_store.specs.{Ahead.AreParts, Held.HoldsBase, Opened.and_waiting, Opened.held_by, Opened.path_of, State.IsCached, State.state_of, State.where_so, declared.folder.Folder.Folder, declared.read_ahead.Buffers.Buffers}

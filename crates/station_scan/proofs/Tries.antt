@@ -12,7 +12,7 @@ use Rattle.model_steps.specs.{PacketFiles.PacketFile, declared.stamp.Stamp.Stamp
 use Rattle.base_store.specs.Store.{IsSameStore, StoreState}
 use Rattle.cmd_store.specs.Scanned.{ScansOn}
 use Rattle.echo_toss.specs.PacketsIn.{state_in}
-use Rattle.station_scan.specs.{Left.IsOfNameOff, Scanning.IsTouched, Scanning.IsTriedIn, Scanning.ScanTries, Scanning.TriesOn, Sends.WasTriedFor, declared.scan_error.ScanError.ScanError}
+use Rattle.station_scan.specs.{Left.IsOfNameOff, Scanning.IsTriedIn, Scanning.ScanTries, Scanning.TriesOn, Sends.WasTriedFor, declared.scan_error.ScanError.ScanError}
 use Rattle.station_scan.proofs.Staged.{tried_after}
 
 -- it was tried on the disk as it was before the store was looked through

@@ -1,5 +1,5 @@
 -- Packets that are written group by group, while their store is read.
-use Rattle.std.proofs.Common.{◌≡◌, inl, inr, ℕ, List, arith, get_or}
+use Rattle.std.proofs.Common.{inl, inr, ℕ, List, arith, get_or}
 use Rattle.std.specs.Prelude.{All, Err, IfOk, Ok, OnOk, Result}
 use Rattle.disk_io.specs.{Disk.DiskState, Disk.Honestly, Disk.IsIn, Runs.KeepsNamed, declared.disk_error.DiskError.DiskError}
 use Rattle.disk_atomic.specs.Outgoing.{ArePlaced, CanGrowStaging, IsAtStaging, IsLonger, IsMade, IsFree, IsStagingOne, SendsBytes}

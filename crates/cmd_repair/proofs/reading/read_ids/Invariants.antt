@@ -1,6 +1,6 @@
 use Rattle.std.proofs.Common.{◌≡◌, ◌++◌, length, map}
 use Rattle.echo_links.specs.LinkLines.{file_lines}
-use Rattle.cmd_repair.specs.{declared.reading.Stage.TheVariants.Start, IdList.id_words, IdList.wrong_line, Words.area_words}
+use Rattle.cmd_repair.specs.{declared.reading.Stage.TheVariants.Start, IdList.id_words, IdList.wrong_line}
 use Rattle.cmd_repair.proofs.reading.read_ids.Given as goal
 
 abbrev pub invariant-lines : goal.invariant-lines

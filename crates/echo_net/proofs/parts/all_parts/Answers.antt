@@ -1,7 +1,5 @@
-use Rattle.std.proofs.Common.{◌≡◌, ◌<◌, ℕ, Bool, List, IsTrue, get_or, length, arith, refl}
-use Rattle.std.proofs.lemmas.Bool.{and_parts}
+use Rattle.std.proofs.Common.{List, refl}
 use Rattle.echo_addr.specs.declared.address.Address.{Address}
-use Rattle.model_run.specs.Tidy.{lists}
 use Rattle.echo_net.specs.{declared.link.Link.Link, Parts.AreBothWays, Parts.linked_both}
 use Rattle.echo_net.proofs.Groups.{both_held, ends_carry, labels_below, parts_grouped}
 use Rattle.echo_net.proofs.parts.all_parts.Goals as goal

@@ -1,4 +1,4 @@
-use Rattle.station.proofs.Failures.{never_opened, nothing_done}
+use Rattle.station.proofs.Failures.{never_opened}
 use Rattle.station.proofs.opening.lock_and_open.Goals as goal
 
 pub returns-in-Ok-clause-stopped : goal.returns-in-Ok-clause-stopped

@@ -1,4 +1,4 @@
-use Rattle.std.proofs.Common.{List, ℕ, Option, Some, subst}
+use Rattle.std.proofs.Common.{Some, subst}
 use Rattle.base_file.specs.Loading.{TakesBase}
 use Rattle.cmd_status.proofs.Systems.{took_base}
 use Rattle.station_bases.proofs.loading.loaded.Goals as goal

@@ -2,7 +2,6 @@ use Rattle.std.proofs.Common.{◌⊎◌, ◌≤◌, ⊎_elim, arith, inl, inr}
 use Rattle.disk_io.specs.Device.{Failed}
 use Rattle.station.proofs.Failures.{failed_wider}
 use Rattle.cmd_status.specs.Devices.{output_of}
-use Rattle.cmd_store.specs.declared.command_error.CommandError.TheVariants.{Store}
 use Rattle.station_scan.specs.Moved.{IsMoved}
 use Rattle.station_scan.proofs.{Lefts.quiet_start, Published.keeps_nothing, Scans.moved_keeps, Scans.scans_moved, Scans.scans_stopped, Tries.tries_moved}
 use Rattle.station_scan.proofs.scanning.scan_kept.Goals as goal

@@ -1,6 +1,4 @@
-use Rattle.std.proofs.Common.{◌≡◌, ◌↔◌, List, refl, subst, sym}
-use Rattle.std.specs.Prelude.{Contains}
-use Rattle.echo_net.specs.declared.link.Link.{Link}
+use Rattle.std.proofs.Common.{refl}
 use Rattle.echo_net.proofs.Listers.{run_reports}
 use Rattle.echo_net.proofs.listing.Listing.has.Goals as goal
 

@@ -1,6 +1,4 @@
-use Rattle.std.proofs.Common.{◌≡◌, ◌↔◌, List, map}
-use Rattle.std.specs.Prelude.{Contains}
-use Rattle.echo_addr.specs.declared.address.Address.{Address}
+use Rattle.std.proofs.Common.{List, map}
 use Rattle.echo_net.specs.declared.link.Link.{Link}
 use Rattle.echo_net.proofs.{Drawings.held_again, Listers.run_ends}
 use Rattle.echo_net.proofs.listing.Listing.listers.Goals as goal
